@@ -1,0 +1,32 @@
+-- The checks that several steps make, each a refusal or none.
+use Rattle.std.specs.Prelude.{ℕ, Bool, ◌&&◌, ◌<◌, ◌^◌, Option, None, Some, is_some, nat_lt, nat_le, List, if◌then◌else◌}
+use Rattle.std.specs.Option.{option_map_or}
+use Rattle.vlm_words.specs.declared.conditions.Cond.{Cond}
+use Rattle.vlm_words.specs.declared.conditions.Cond.TheVariants.{Departed, Nonexpr, Accvio, Nolockid}
+use Rattle.vlm_words.specs.State.{State, Node, Process, node_at, process_of}
+use Rattle.vlm_words.specs.Steps.{node_of_pid}
+
+-- the first check that refuses decides
+abbrev pub or_else : Option Cond → Option Cond → Option Cond
+or_else None later = later
+or_else (Some refusal) later = Some refusal
+
+-- the node is one of the machine's, and has departed
+abbrev pub has_departed : List Node → ℕ → Bool
+has_departed nodes node = nat_lt 0 node && (node_at nodes node).departed
+
+-- the caller's node has departed, or no living process has the identification
+unfoldable pub caller_refusal : State → ℕ → Option Cond
+caller_refusal s pid =
+    if has_departed s.nodes (node_of_pid pid) then Some Departed
+    else (if is_some (process_of s.processes pid) then None else Some Nonexpr)
+
+-- the process has no status block of this number
+unfoldable pub block_refusal : State → ℕ → ℕ → Option Cond
+block_refusal s pid block =
+    if nat_lt 0 block && nat_le block (option_map_or (λ p. p.blocks) (process_of s.processes pid) 0) then None
+    else Some Accvio
+
+-- the identifications or the request numbers are used up
+unfoldable pub numbers_refusal : State → Option Cond
+numbers_refusal s = if nat_lt s.next_lkid (2 ^ 32) && nat_lt s.next_request (2 ^ 64) then None else Some Nolockid

@@ -1,0 +1,42 @@
+-- The step that declares a process.
+use Rattle.std.specs.Prelude.{ℕ, Bool, ◌&&◌, ◌+◌, ◌-◌, ◌*◌, not, nat_lt, nat_le, Option, None, Some, List, [], ◌∷◌, ◌++◌, slice_set, if◌then◌else◌}
+use Rattle.vlm_words.specs.declared.conditions.Cond.{Cond}
+use Rattle.vlm_words.specs.declared.conditions.Cond.TheVariants.{Badparam, Departed}
+use Rattle.vlm_words.specs.declared.steps.Declaration.{Declaration}
+use Rattle.vlm_words.specs.State.{State, Node, Process, node_at}
+use Rattle.vlm_words.specs.Checks.{has_departed}
+
+-- the number is that of a node, 1 to 8
+abbrev pub is_node : ℕ → Bool
+is_node node = nat_le 1 node && nat_le node 8
+
+-- no such node, a departed one, or one that has given all its ordinals
+unfoldable pub declare_refusal : State → Declaration → Option Cond
+declare_refusal s d =
+    if not (is_node d.node) then Some Badparam
+    else (
+    if has_departed s.nodes d.node then Some Departed
+    else (if nat_lt (node_at s.nodes d.node).declared 65535 then None else Some Badparam)
+    )
+
+-- the identification that the node's next process gets
+abbrev pub next_pid : State → ℕ → ℕ
+next_pid s node = node * 65536 + ((node_at s.nodes node).declared + 1)
+
+-- the new process
+abbrev pub declared_process : State → Declaration → Process
+declared_process s d = record {
+  pid = next_pid s d.node;
+  group = d.group;
+  syslck = d.syslck;
+  quota = d.quota;
+  blocks = d.blocks;
+}
+
+-- the node has declared one more
+abbrev pub counted : List Node → ℕ → List Node
+counted nodes node = slice_set nodes (node - 1) (record (node_at nodes node) { declared = (node_at nodes node).declared + 1 })
+
+-- the process lives, and its node has declared one more
+unfoldable pub declare_change : State → Declaration → State
+declare_change s d = record s { nodes = counted s.nodes d.node; processes = s.processes ++ declared_process s d ∷ [] }

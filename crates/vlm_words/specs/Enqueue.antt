@@ -1,0 +1,126 @@
+-- The step that asks for a new lock.
+use Rattle.std.specs.Prelude.{ℕ, Bool, true, false, ◌&&◌, ◌==◌, ◌+◌, List, [], ◌∷◌, ◌++◌, replicate, Option, None, Some, is_none, if◌then◌else◌}
+use Rattle.std.specs.Option.{option_map_or}
+use Rattle.std.specs.List.{list_any}
+use Rattle.std.specs.Cmp.Lexicographic.{pointwise}
+use Rattle.std.specs.Result.{result_err}
+use Rattle.vlm_words.specs.declared.conditions.Cond.{Cond}
+use Rattle.vlm_words.specs.declared.conditions.Cond.TheVariants.{Badparam}
+use Rattle.vlm_words.specs.declared.locks.Request.{Request}
+use Rattle.vlm_words.specs.declared.locks.Row.{Row}
+use Rattle.vlm_words.specs.declared.resources.Domain.{Domain}
+use Rattle.vlm_words.specs.declared.resources.Domain.TheVariants.{Group, System}
+use Rattle.vlm_words.specs.declared.steps.NewRequest.{NewRequest}
+use Rattle.vlm_words.specs.declared.steps.Which.{Which}
+use Rattle.vlm_words.specs.declared.steps.Which.TheVariants.{Id, Block}
+use Rattle.vlm_words.specs.Names.{name_of}
+use Rattle.vlm_words.specs.State.{State, Resource, Process, process_of}
+use Rattle.vlm_words.specs.Checks.{or_else, caller_refusal, block_refusal, numbers_refusal}
+use Rattle.vlm_words.specs.Grants.{is_empty, fits, grant, swept}
+
+-- the identification 0 names no parent
+abbrev pub is_no_parent : Which → Bool
+is_no_parent (Id lkid) = lkid == 0
+is_no_parent (Block number) = false
+
+-- an argument that is not built yet: any flag, a routine, a parent
+unfoldable pub enq_argument_refusal : NewRequest → Option Cond
+enq_argument_refusal e =
+    if (e.flags == 0) && is_none e.ast && is_none e.bast && is_no_parent e.parent then None else Some Badparam
+
+-- the bytes are no resource name
+unfoldable pub name_refusal : List ℕ → Option Cond
+name_refusal bytes = result_err (name_of bytes)
+
+-- the checks of a new request, in their order
+unfoldable pub enq_refusal : State → NewRequest → Option Cond
+enq_refusal s e =
+    or_else (caller_refusal s e.pid)
+    (or_else (enq_argument_refusal e)
+    (or_else (block_refusal s e.pid e.block)
+    (or_else (name_refusal e.name) (numbers_refusal s))))
+
+-- where a resource stands: below its parent, or as a root in its domain
+pub record Key : Type 0 where
+  pub parent : ℕ
+  pub domain : Domain
+  pub name : List ℕ
+
+-- the same domain
+abbrev pub is_domain : Domain → Domain → Bool
+is_domain (Group a) (Group b) = a == b
+is_domain (Group a) System = false
+is_domain System (Group b) = false
+is_domain System System = true
+
+-- the resource stands under this key
+abbrev pub is_at : Key → Resource → Bool
+is_at key r = (r.parent == key.parent) && is_domain r.domain key.domain && pointwise ◌==◌ r.name key.name
+
+-- a root is in the group of its caller
+abbrev pub key_of : State → NewRequest → Key
+key_of s e = record { parent = 0; domain = Group (option_map_or (λ p. p.group) (process_of s.processes e.pid) 0); name = e.name }
+
+-- what is asked for, under the next request number
+abbrev pub request_of : State → NewRequest → Request
+request_of s e = record {
+  number = s.next_request;
+  mode = e.mode;
+  block = e.block;
+  completion = e.ast;
+  blocking = e.bast;
+  param = e.param;
+}
+
+-- the lock, under the next identification, with nothing granted yet
+abbrev pub row_of : State → NewRequest → Row
+row_of s e = record {
+  lkid = s.next_lkid;
+  pid = e.pid;
+  parent = 0;
+  held = None;
+  want = Some (request_of s e);
+  armed = false;
+}
+
+-- a resource at its making: no locks, and a valid value block of zeros
+abbrev pub new_resource : ℕ → Key → Resource
+new_resource serial key = record {
+  serial = serial;
+  parent = key.parent;
+  domain = key.domain;
+  name = key.name;
+  value = replicate 16 0;
+  valid = true;
+  granted = [];
+  converting = [];
+  waiting = [];
+}
+
+-- at once: the mode fits, and nobody is queued
+abbrev pub is_free_for : Request → Resource → Bool
+is_free_for request r = fits request.mode r.granted r.converting && is_empty r.converting && is_empty r.waiting
+
+-- the lock is granted at once, or goes to the end of the waiting queue
+unfoldable pub entered : Row → Request → Resource → Resource
+entered row request r =
+    if is_free_for request r then grant r row else record r { waiting = r.waiting ++ row ∷ [] }
+
+-- some resource stands under the key
+abbrev pub is_known : Key → List Resource → Bool
+is_known key resources = list_any (is_at key) resources
+
+-- the lock enters the resource under the key, a new one at the end where none is there
+abbrev pub entered_among : ℕ → Key → Row → Request → List Resource → List Resource
+entered_among serial key row request [] = entered row request (new_resource serial key) ∷ []
+entered_among serial key row request (r ∷ rest) =
+    if is_at key r then entered row request r ∷ rest else r ∷ entered_among serial key row request rest
+
+-- the lock enters, and the numbers that it took are used up
+unfoldable pub enq_change : State → NewRequest → State
+enq_change s e = record s {
+  resources = entered_among s.next_serial (key_of s e) (row_of s e) (request_of s e) s.resources;
+  next_lkid = s.next_lkid + 1;
+  next_request = s.next_request + 1;
+  next_serial = if is_known (key_of s e) s.resources then s.next_serial else s.next_serial + 1;
+}

@@ -1,0 +1,69 @@
+-- How queued requests are granted: fits, grant, serve, sweep.
+use Rattle.std.specs.Prelude.{ℕ, Bool, true, false, not, ◌&&◌, List, [], ◌∷◌, ◌++◌, map, filter, Option, None, Some, is_some, if◌then◌else◌}
+use Rattle.std.specs.List.{list_all}
+use Rattle.vlm_words.specs.declared.modes.Mode.{Mode}
+use Rattle.vlm_words.specs.declared.locks.Request.{Request}
+use Rattle.vlm_words.specs.declared.locks.Row.{Row}
+use Rattle.vlm_words.specs.Modes.{is_compatible}
+use Rattle.vlm_words.specs.State.{Resource}
+
+-- no lock stands in the queue
+abbrev pub is_empty : List Row → Bool
+is_empty [] = true
+is_empty (row ∷ rows) = false
+
+-- the mode may be held beside what the row holds, if it holds anything
+abbrev pub is_beside : Mode → Option Request → Bool
+is_beside mode None = true
+is_beside mode (Some held) = is_compatible mode held.mode
+
+-- the mode fits: it is compatible with the held mode of every other row, granted or converting
+unfoldable pub fits : Mode → List Row → List Row → Bool
+fits mode granted converting =
+    list_all (λ row. is_beside mode row.held) granted && list_all (λ row. is_beside mode row.held) converting
+
+-- the request that a row wants fits beside the other rows; a row that wants nothing has none
+abbrev pub wanted_fits : Option Request → List Row → List Row → Bool
+wanted_fits None granted converting = false
+wanted_fits (Some request) granted converting = fits request.mode granted converting
+
+-- a grant arms the lock where its request has a blocking routine
+abbrev pub is_arming : Option Request → Bool
+is_arming None = false
+is_arming (Some request) = is_some request.blocking
+
+-- the row holds what it wanted
+abbrev pub granted_row : Row → Row
+granted_row row = record row { held = row.want; want = None; armed = is_arming row.want }
+
+-- grant: the row goes to the end of the granted queue
+abbrev pub grant : Resource → Row → Resource
+grant r row = record r { granted = r.granted ++ granted_row row ∷ [] }
+
+-- while the first converting row fits, it is granted
+abbrev pub serve_converting : Resource → List Row → Resource
+serve_converting r [] = r
+serve_converting r (row ∷ rows) =
+    if wanted_fits row.want r.granted rows then serve_converting (record (grant r row) { converting = rows }) rows else r
+
+-- while the first waiting row fits, it is granted
+abbrev pub serve_waiting : Resource → List Row → Resource
+serve_waiting r [] = r
+serve_waiting r (row ∷ rows) =
+    if wanted_fits row.want r.granted r.converting then serve_waiting (record (grant r row) { waiting = rows }) rows else r
+
+-- once no conversion is queued, the waiting queue is served too
+abbrev pub serve_new_requests : Resource → Resource
+serve_new_requests r = if is_empty r.converting then serve_waiting r r.waiting else r
+
+-- serve: conversions first, then new requests, each queue up to the first that does not fit
+unfoldable pub served : Resource → Resource
+served r = serve_new_requests (serve_converting r r.converting)
+
+-- no lock is left on the resource
+abbrev pub is_vacant : Resource → Bool
+is_vacant r = is_empty r.granted && is_empty r.converting && is_empty r.waiting
+
+-- sweep: every resource is served, and dropped if it has no lock
+unfoldable pub swept : List Resource → List Resource
+swept resources = filter (λ r. not (is_vacant r)) (map served resources)

@@ -1,0 +1,230 @@
+-- The lines and words of a script.
+use Rattle.std.specs.Prelude.{ℕ, Bool, true, false, not, ◌&&◌, ◌||◌, ◌==◌, ◌+◌, ◌-◌, ◌*◌, nat_lt, nat_le, List, [], ◌∷◌, filter, take, drop, length, codes, fold, Option, None, Some, is_some, Result, Ok, Err, if◌then◌else◌}
+use Rattle.std.specs.List.{list_all, starts_with}
+use Rattle.std.specs.Cmp.Lexicographic.{pointwise}
+use Rattle.std.specs.Char.{is_ascii_digit, is_ascii_alphabetic, is_ascii_alphanumeric}
+use Rattle.vlm_words.specs.declared.modes.Mode.{Mode}
+use Rattle.vlm_words.specs.declared.modes.Mode.TheVariants.{Nl, Cr, Cw, Pr, Pw, Ex}
+use Rattle.vlm_words.specs.declared.steps.Declaration.{Declaration}
+use Rattle.vlm_words.specs.declared.steps.Which.TheVariants.{Id}
+use Rattle.vlm_words.specs.declared.scripts.DeclareWords.{DeclareWords}
+use Rattle.vlm_words.specs.declared.scripts.EnqWords.{EnqWords}
+use Rattle.vlm_words.specs.declared.scripts.EnqLine.{EnqLine}
+use Rattle.vlm_words.specs.declared.scripts.Line.{Line}
+use Rattle.vlm_words.specs.declared.scripts.Line.TheVariants.{Empty, Declare, Enq, Deq, Show}
+use Rattle.vlm_words.specs.declared.scripts.LineFault.{LineFault}
+use Rattle.vlm_words.specs.declared.scripts.LineFault.TheVariants.{TooLong, UnknownCommand, WrongWord, NumberOutOfRange}
+
+-- the byte goes to the front of the first piece
+abbrev pub onto : ℕ → List (List ℕ) → List (List ℕ)
+onto byte [] = (byte ∷ []) ∷ []
+onto byte (piece ∷ pieces) = (byte ∷ piece) ∷ pieces
+
+-- what each separator ends, and what follows the last one if anything does
+abbrev pub pieces : (ℕ → Bool) → List ℕ → List (List ℕ)
+pieces ends [] = []
+pieces ends (byte ∷ bytes) = if ends byte then [] ∷ pieces ends bytes else onto byte (pieces ends bytes)
+
+-- a line ends at a line feed
+abbrev pub is_line_feed : ℕ → Bool
+is_line_feed byte = byte == 10
+
+-- the lines of a script
+abbrev pub lines_of : List ℕ → List (List ℕ)
+lines_of bytes = pieces is_line_feed bytes
+
+-- space, tab and carriage return part words
+abbrev pub is_blank : ℕ → Bool
+is_blank byte = (byte == 32) || (byte == 9) || (byte == 13)
+
+-- no byte
+abbrev pub is_nothing : List ℕ → Bool
+is_nothing [] = true
+is_nothing (byte ∷ bytes) = false
+
+-- the words of a line: the longest runs of bytes that are no blanks
+abbrev pub words_of : List ℕ → List (List ℕ)
+words_of bytes = filter (λ word. not (is_nothing word)) (pieces is_blank bytes)
+
+-- the two texts are the same
+abbrev pub is_text : List ℕ → List ℕ → Bool
+is_text a b = pointwise ◌==◌ a b
+
+-- a reading goes on with what was read, or ends at its first fault
+infixl 10 ◌>>=◌
+abbrev pub ◌>>=◌ : {A B : Type 0} → Result A LineFault → (A → Result B LineFault) → Result B LineFault
+(Ok x) >>= f = f x
+(Err fault) >>= f = Err fault
+
+-- the number that decimal digits stand for
+abbrev pub decimal_value : List ℕ → ℕ
+decimal_value digits = fold (λ n digit. 10 * n + (digit - 48)) 0 digits
+
+-- one or more decimal digits
+abbrev pub is_number : List ℕ → Bool
+is_number word = not (is_nothing word) && list_all is_ascii_digit word
+
+-- a number of at most ten digits and at most this limit
+unfoldable pub number_within : ℕ → List ℕ → Result ℕ LineFault
+number_within limit word =
+    if is_number word then (
+    if nat_le (length word) 10 then (
+    if nat_le (decimal_value word) limit then Ok (decimal_value word) else Err NumberOutOfRange
+    ) else Err NumberOutOfRange
+    ) else Err WrongWord
+
+-- a byte of a process's name
+abbrev pub is_name_byte : ℕ → Bool
+is_name_byte byte = is_ascii_alphanumeric byte || (byte == 95)
+
+-- it begins with a letter
+abbrev pub begins_with_letter : List ℕ → Bool
+begins_with_letter [] = false
+begins_with_letter (byte ∷ bytes) = is_ascii_alphabetic byte
+
+-- a process's name in a script: 1 to 15 letters, digits and underscores, the first a letter
+unfoldable pub process_name : List ℕ → Result (List ℕ) LineFault
+process_name word =
+    if begins_with_letter word && nat_le (length word) 15 && list_all is_name_byte word then Ok word else Err WrongWord
+
+-- the word for a mode
+unfoldable pub mode_of : List ℕ → Result Mode LineFault
+mode_of word =
+    if is_text word (codes "NL") then Ok Nl
+    else if is_text word (codes "CR") then Ok Cr
+    else if is_text word (codes "CW") then Ok Cw
+    else if is_text word (codes "PR") then Ok Pr
+    else if is_text word (codes "PW") then Ok Pw
+    else if is_text word (codes "EX") then Ok Ex
+    else Err WrongWord
+
+-- the word has this key in front
+abbrev pub has_key : List ℕ → List ℕ → Bool
+has_key key word = starts_with ◌==◌ word key
+
+-- what stands behind the key
+abbrev pub behind : List ℕ → List ℕ → List ℕ
+behind key word = drop (length key) word
+
+-- a number behind a key, which is given once
+unfoldable pub number_once : Option ℕ → ℕ → List ℕ → Result (Option ℕ) LineFault
+number_once None limit digits = number_within limit digits >>= λ n. Ok (Some n)
+number_once (Some earlier) limit digits = Err WrongWord
+
+-- a resource's name as its bytes, of at most the 32 that count; a hexadecimal one is not read yet
+unfoldable pub resource_once : Option (List ℕ) → List ℕ → Result (Option (List ℕ)) LineFault
+resource_once None bytes = if has_key (codes "x:") bytes then Err WrongWord else Ok (Some (take 32 bytes))
+resource_once (Some earlier) bytes = Err WrongWord
+
+-- nothing of a declare line's keyed words is read yet
+abbrev pub no_declare_words : DeclareWords
+no_declare_words = record { node = None; group = None; quota = None; blocks = None; syslck = false }
+
+-- one more keyed word of a declare line
+unfoldable pub declare_word : DeclareWords → List ℕ → Result DeclareWords LineFault
+declare_word d word =
+    if has_key (codes "node=") word then
+    number_once d.node 255 (behind (codes "node=") word) >>= (λ n. Ok (record d { node = n }))
+    else if has_key (codes "group=") word then
+    number_once d.group 65535 (behind (codes "group=") word) >>= (λ n. Ok (record d { group = n }))
+    else if has_key (codes "quota=") word then
+    number_once d.quota 65535 (behind (codes "quota=") word) >>= (λ n. Ok (record d { quota = n }))
+    else if has_key (codes "blocks=") word then
+    number_once d.blocks 255 (behind (codes "blocks=") word) >>= (λ n. Ok (record d { blocks = n }))
+    else if is_text word (codes "syslck") && not d.syslck then Ok (record d { syslck = true })
+    else Err WrongWord
+
+-- the keyed words of a declare line, in any order
+abbrev pub declare_words : DeclareWords → List (List ℕ) → Result DeclareWords LineFault
+declare_words d [] = Ok d
+declare_words d (word ∷ words) = declare_word d word >>= λ e. declare_words e words
+
+-- a needed word
+abbrev pub given : {A : Type 0} → Option A → Result A LineFault
+given None = Err WrongWord
+given (Some value) = Ok value
+
+-- a declare line needs all four numbers
+unfoldable pub declaration_of : DeclareWords → Result Declaration LineFault
+declaration_of d =
+    given d.node >>= λ node.
+    given d.group >>= λ group.
+    given d.quota >>= λ quota.
+    given d.blocks >>= λ blocks.
+    Ok (record { node = node; group = group; syslck = d.syslck; quota = quota; blocks = blocks })
+
+-- the next word, and the words after it
+abbrev pub next_word : List (List ℕ) → Result (List ℕ × List (List ℕ)) LineFault
+next_word [] = Err WrongWord
+next_word (word ∷ words) = Ok (word, words)
+
+-- no word is left
+abbrev pub no_more : {A : Type 0} → A → List (List ℕ) → Result A LineFault
+no_more value [] = Ok value
+no_more value (word ∷ words) = Err WrongWord
+
+-- declare NAME node=N group=N quota=N blocks=N [syslck]
+unfoldable pub declare_line : List (List ℕ) → Result Line LineFault
+declare_line words =
+    next_word words >>= λ first.
+    process_name first.0 >>= λ name.
+    declare_words no_declare_words first.1 >>= λ d.
+    declaration_of d >>= λ declaration.
+    Ok (Declare name declaration)
+
+-- nothing of an enq line's keyed words is read yet
+abbrev pub no_enq_words : EnqWords
+no_enq_words = record { resource = None; block = None }
+
+-- one more keyed word of an enq line
+unfoldable pub enq_word : EnqWords → List ℕ → Result EnqWords LineFault
+enq_word e word =
+    if has_key (codes "name=") word then
+    resource_once e.resource (behind (codes "name=") word) >>= (λ r. Ok (record e { resource = r }))
+    else if has_key (codes "block=") word then
+    number_once e.block 255 (behind (codes "block=") word) >>= (λ n. Ok (record e { block = n }))
+    else Err WrongWord
+
+-- the keyed words of an enq line, in any order
+abbrev pub enq_words : EnqWords → List (List ℕ) → Result EnqWords LineFault
+enq_words e [] = Ok e
+enq_words e (word ∷ words) = enq_word e word >>= λ f. enq_words f words
+
+-- enq NAME MODE name=RES block=N
+unfoldable pub enq_line : List (List ℕ) → Result Line LineFault
+enq_line words =
+    next_word words >>= λ first.
+    process_name first.0 >>= λ name.
+    next_word first.1 >>= λ second.
+    mode_of second.0 >>= λ mode.
+    enq_words no_enq_words second.1 >>= λ e.
+    given e.resource >>= λ resource.
+    given e.block >>= λ block.
+    Ok (Enq (record { name = name; mode = mode; resource = resource; block = block }))
+
+-- deq NAME LOCK
+unfoldable pub deq_line : List (List ℕ) → Result Line LineFault
+deq_line words =
+    next_word words >>= λ first.
+    process_name first.0 >>= λ name.
+    next_word first.1 >>= λ second.
+    number_within 4294967295 second.0 >>= λ lkid.
+    no_more (Deq (record { name = name; lock = Id lkid })) second.1
+
+-- a line by its command
+unfoldable pub command_line : List ℕ → List (List ℕ) → Result Line LineFault
+command_line command words =
+    if is_text command (codes "declare") then declare_line words
+    else if is_text command (codes "enq") then enq_line words
+    else if is_text command (codes "deq") then deq_line words
+    else if is_text command (codes "show") then no_more Show words
+    else Err UnknownCommand
+
+-- a line without words, or whose first word begins with `#`, does nothing
+unfoldable pub line_of : List (List ℕ) → Result Line LineFault
+line_of [] = Ok Empty
+line_of (word ∷ words) = if has_key (codes "#") word then Ok Empty else command_line word words
+
+-- a line as it is read: its length first, then the command, then the words from left to right
+unfoldable pub line_read : List ℕ → Result Line LineFault
+line_read bytes = if nat_le (length bytes) 255 then line_of (words_of bytes) else Err TooLong

@@ -1,0 +1,12 @@
+-- The names of resources.
+use Rattle.std.specs.Prelude.{ℕ, Bool, ◌&&◌, List, length, nat_lt, nat_le, Result, Ok, Err, if◌then◌else◌}
+use Rattle.vlm_words.specs.declared.conditions.Cond.{Cond}
+use Rattle.vlm_words.specs.declared.conditions.Cond.TheVariants.{Ivbuflen}
+
+-- a resource's name has 1 to 31 bytes
+abbrev pub is_name : List ℕ → Bool
+is_name bytes = nat_lt 0 (length bytes) && nat_le (length bytes) 31
+
+-- the name that the bytes are, or why they are none
+unfoldable pub name_of : List ℕ → Result (List ℕ) Cond
+name_of bytes = if is_name bytes then Ok bytes else Err Ivbuflen

@@ -1,0 +1,18 @@
+-- Short texts that lie in an array, with zeros behind their last byte.
+use Rattle.std.specs.Prelude.{◌≡◌, ◌≤◌, ℕ, ◌-◌, List, ◌++◌, length, take, replicate}
+use Rattle.std.proofs.Common.{sym, subst}
+use Rattle.std.proofs.lemmas.List.{length-take-le}
+
+-- the cells of a text: its bytes, and then zeros
+abbrev pub padded : ℕ → List ℕ → List ℕ
+padded size text = text ++ replicate (size - length text) 0
+
+-- the cells hold a text of this length and nothing behind it
+pub record IsPadded (size len : ℕ) (cells : List ℕ) : Type 0 where
+  pub fits : len ≤ size
+  pub whole : length cells ≡ size
+  pub clear : cells ≡ padded size (take len cells)
+
+-- the text is as long as the cells say
+pub length-text : {size len : ℕ} {cells : List ℕ} → IsPadded size len cells → length (take len cells) ≡ len
+length-text {size} {len} {cells} h = length-take-le len cells (subst (λ n. len ≤ n) (sym h.whole) h.fits)

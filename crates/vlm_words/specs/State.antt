@@ -1,0 +1,63 @@
+-- What the plain lock machine keeps.
+use Rattle.std.specs.Prelude.{ℕ, Bool, true, false, List, [], ◌∷◌, Option, None, Some, ◌==◌, ◌&&◌, ◌+◌, ◌-◌, nat_lt, find, slice_index_or, replicate, IsSome}
+use Rattle.std.specs.Option.{option_map_or}
+use Rattle.vlm_words.specs.declared.locks.Row.{Row}
+use Rattle.vlm_words.specs.declared.resources.Domain.{Domain}
+
+-- a resource: its place in the tree, its value block, and its three queues of locks
+pub record Resource : Type 0 where
+  pub serial : ℕ
+  pub parent : ℕ
+  pub domain : Domain
+  pub name : List ℕ
+  pub value : List ℕ
+  pub valid : Bool
+  pub granted : List Row
+  pub converting : List Row
+  pub waiting : List Row
+
+-- a living process, with the number of its status blocks
+pub record Process : Type 0 where
+  pub pid : ℕ
+  pub group : ℕ
+  pub syslck : Bool
+  pub quota : ℕ
+  pub blocks : ℕ
+
+-- how many processes a node has declared so far, and whether it has departed
+pub record Node : Type 0 where
+  pub declared : ℕ
+  pub departed : Bool
+
+-- the machine between two steps: resources by rising serial, living processes in order of making,
+-- the eight nodes, and the numbers that come next
+pub record State : Type 0 where
+  pub nodes : List Node
+  pub processes : List Process
+  pub resources : List Resource
+  pub next_lkid : ℕ
+  pub next_request : ℕ
+  pub next_serial : ℕ
+
+-- a node that has declared nothing and has not departed
+abbrev pub new_node : Node
+new_node = record { declared = 0; departed = false }
+
+-- nothing is there yet, and each number to come is 1
+abbrev pub start : State
+start = record {
+  nodes = replicate 8 new_node;
+  processes = [];
+  resources = [];
+  next_lkid = 1;
+  next_request = 1;
+  next_serial = 1;
+}
+
+-- a node's number is 1 to 8
+abbrev pub node_at : List Node → ℕ → Node
+node_at nodes node = slice_index_or nodes (node - 1) new_node
+
+-- the living process with this identification
+abbrev pub process_of : List Process → ℕ → Option Process
+process_of processes pid = find (λ p. p.pid == pid) processes

@@ -1,0 +1,20 @@
+-- Which node a step is of.
+use Rattle.std.specs.Prelude.{ℕ, ◌/◌}
+use Rattle.vlm_words.specs.declared.steps.Step.{Step}
+use Rattle.vlm_words.specs.declared.steps.Step.TheVariants.{Declare, SetValue, Enq, Convert, Deq, Rundown, Leave, Search, Take}
+
+-- the node of a process: the upper half of its identification
+abbrev pub node_of_pid : ℕ → ℕ
+node_of_pid pid = pid / 65536
+
+-- the node that a step is of
+abbrev pub node_of : Step → ℕ
+node_of (Declare d) = d.node
+node_of (SetValue s) = node_of_pid s.pid
+node_of (Enq e) = node_of_pid e.pid
+node_of (Convert c) = node_of_pid c.pid
+node_of (Deq d) = node_of_pid d.pid
+node_of (Rundown pid) = node_of_pid pid
+node_of (Leave node) = node
+node_of (Search node) = node
+node_of (Take pid) = node_of_pid pid

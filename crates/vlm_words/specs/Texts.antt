@@ -1,0 +1,132 @@
+-- What a script's run prints.
+use Rattle.std.specs.Prelude.{ℕ, Bool, true, false, not, ◌&&◌, ◌+◌, ◌-◌, ◌/◌, ◌%◌, nat_lt, nat_le, List, [], ◌∷◌, ◌++◌, codes, decimal, flat_map, Option, None, Some, if◌then◌else◌}
+use Rattle.std.specs.List.{list_all, starts_with}
+use Rattle.std.specs.Option.{option_map}
+use Rattle.vlm_words.specs.declared.asts.Ast.{Ast}
+use Rattle.vlm_words.specs.declared.asts.AstKind.{AstKind}
+use Rattle.vlm_words.specs.declared.asts.AstKind.TheVariants.{Completion, Blocking}
+use Rattle.vlm_words.specs.declared.locks.Request.{Request}
+use Rattle.vlm_words.specs.declared.locks.Row.{Row}
+use Rattle.vlm_words.specs.declared.modes.Mode.{Mode}
+use Rattle.vlm_words.specs.declared.modes.Mode.TheVariants.{Nl, Cr, Cw, Pr, Pw, Ex}
+use Rattle.vlm_words.specs.declared.resources.Domain.{Domain}
+use Rattle.vlm_words.specs.declared.resources.Domain.TheVariants.{Group, System}
+use Rattle.vlm_words.specs.declared.steps.Answer.{Answer}
+use Rattle.vlm_words.specs.declared.steps.Answer.TheVariants.{Process as process_answer, Lock, Victim, Taken, Plain}
+use Rattle.vlm_words.specs.Conditions.{condition_name}
+use Rattle.vlm_words.specs.State.{State, Resource}
+use Rattle.vlm_words.specs.Lines.{has_key}
+
+-- the end of a line
+abbrev pub line_feed : List ℕ
+line_feed = 10 ∷ []
+
+-- a mode's name
+abbrev pub mode_name : Mode → List ℕ
+mode_name Nl = codes "NL"
+mode_name Cr = codes "CR"
+mode_name Cw = codes "CW"
+mode_name Pr = codes "PR"
+mode_name Pw = codes "PW"
+mode_name Ex = codes "EX"
+
+-- a hexadecimal digit in lower case
+abbrev pub hex_digit : ℕ → ℕ
+hex_digit n = if nat_lt n 10 then 48 + n else 87 + n
+
+-- two digits for each byte
+unfoldable pub hex_text : List ℕ → List ℕ
+hex_text [] = []
+hex_text (byte ∷ bytes) = hex_digit (byte / 16) ∷ hex_digit (byte % 16) ∷ hex_text bytes
+
+-- an AST: its kind, routine, parameter and lock
+abbrev pub ast_text : Ast → AstKind → List ℕ
+ast_text ast Completion =
+    codes "completion " ++ decimal ast.routine ++ codes " param " ++ decimal ast.param ++ codes " lock " ++ decimal ast.lkid
+ast_text ast Blocking =
+    codes "blocking " ++ decimal ast.routine ++ codes " param " ++ decimal ast.param ++ codes " lock " ++ decimal ast.lkid
+
+-- an answer without the name in front of it
+unfoldable pub answer_text : Answer → List ℕ
+answer_text (process_answer pid) = codes "process " ++ decimal pid
+answer_text (Lock cond lkid) = condition_name cond ++ codes " lock " ++ decimal lkid
+answer_text (Victim None) = codes "victim none"
+answer_text (Victim (Some lkid)) = codes "victim " ++ decimal lkid
+answer_text (Taken None) = codes "none"
+answer_text (Taken (Some ast)) = ast_text ast ast.kind
+answer_text (Plain cond) = condition_name cond
+
+-- the line that tells a process's answer under its name
+unfoldable pub answer_line : List ℕ → Answer → List ℕ
+answer_line name answer = name ++ codes ": " ++ answer_text answer ++ line_feed
+
+-- every byte can be read, and the name does not look like a hexadecimal one
+abbrev pub is_readable : List ℕ → Bool
+is_readable name = list_all (λ byte. nat_le 33 byte && nat_le byte 126) name && not (has_key (codes "x:") name)
+
+-- a resource's name as a script has it
+unfoldable pub name_text : List ℕ → List ℕ
+name_text name = if is_readable name then name else codes "x:" ++ hex_text name
+
+-- a domain: the system's, or a group's
+abbrev pub domain_text : Domain → List ℕ
+domain_text (Group group) = codes "group " ++ decimal group
+domain_text System = codes "system"
+
+-- whether a value block is valid
+abbrev pub validity : Bool → List ℕ
+validity true = codes "valid"
+validity false = codes "invalid"
+
+-- the resource's own line
+unfoldable pub resource_line : ℕ → ℕ → Domain → List ℕ → List ℕ → Bool → List ℕ
+resource_line serial parent domain name value valid =
+    codes "resource " ++ decimal serial ++ codes " in " ++ decimal parent ++ codes " " ++ domain_text domain
+    ++ codes " name " ++ name_text name ++ codes " value " ++ hex_text value ++ codes " " ++ validity valid ++ line_feed
+
+-- the mode of a request, or nothing where there is no request
+abbrev pub mode_text : Option Mode → List ℕ
+mode_text None = []
+mode_text (Some mode) = mode_name mode
+
+-- a request's mode
+abbrev pub mode_asked : Option Request → Option Mode
+mode_asked request = option_map (λ q. q.mode) request
+
+-- a lock's line begins so
+unfoldable pub lock_text : List ℕ → ℕ → ℕ → List ℕ
+lock_text queue lkid pid = codes "  " ++ queue ++ codes " " ++ decimal lkid ++ codes " process " ++ decimal pid ++ codes " "
+
+-- a granted lock
+unfoldable pub granted_line : ℕ → ℕ → Option Mode → List ℕ
+granted_line lkid pid held = lock_text (codes "granted") lkid pid ++ mode_text held ++ line_feed
+
+-- a lock that holds one mode and waits for another
+unfoldable pub converting_line : ℕ → ℕ → Option Mode → Option Mode → List ℕ
+converting_line lkid pid held want =
+    lock_text (codes "converting") lkid pid ++ mode_text held ++ codes " to " ++ mode_text want ++ line_feed
+
+-- a lock that waits to be granted for the first time
+unfoldable pub waiting_line : ℕ → ℕ → Option Mode → List ℕ
+waiting_line lkid pid want = lock_text (codes "waiting") lkid pid ++ mode_text want ++ line_feed
+
+-- the lines of each queue, in queue order
+abbrev pub granted_lines : List Row → List ℕ
+granted_lines rows = flat_map (λ row. granted_line row.lkid row.pid (mode_asked row.held)) rows
+
+abbrev pub converting_lines : List Row → List ℕ
+converting_lines rows = flat_map (λ row. converting_line row.lkid row.pid (mode_asked row.held) (mode_asked row.want)) rows
+
+abbrev pub waiting_lines : List Row → List ℕ
+waiting_lines rows = flat_map (λ row. waiting_line row.lkid row.pid (mode_asked row.want)) rows
+
+-- a resource with its three queues
+unfoldable pub resource_text : Resource → List ℕ
+resource_text r =
+    resource_line r.serial r.parent r.domain r.name r.value r.valid ++ granted_lines r.granted
+    ++ converting_lines r.converting ++ waiting_lines r.waiting
+
+-- all resources by rising serial, or that there is none
+unfoldable pub resources_text : List Resource → List ℕ
+resources_text [] = codes "no resources" ++ line_feed
+resources_text (r ∷ rest) = resource_text r ++ flat_map resource_text rest

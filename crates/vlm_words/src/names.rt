@@ -1,0 +1,86 @@
+//! Names of resources, as they are given and as they are accepted.
+
+ghost use Rattle.std.specs.Prelude.{◌≡◌, take};
+ghost use Rattle.vlm_words.specs.Names.{name_of};
+
+use crate::conditions::Cond;
+use crate::texts::Text;
+use std::marker::Model;
+
+/// A resource's name: 1 to 31 bytes.
+#[derive(Clone, Copy, Debug, PartialEq, Eq)]
+pub struct Name {
+    text: Text<31>,
+}
+
+impl Model for Name {
+    ghost use Rattle.std.specs.Prelude.{◌≡◌, ℕ, List, true};
+    ghost use Rattle.vlm_words.specs.Names.{is_name};
+
+    ghost Value = { List ℕ };
+
+    ghost view = { λ n. n.text };
+
+    ghost invariant = { λ n. is_name n.text ≡ true };
+
+    ghost inverse = { λ bytes. record { text = bytes } };
+}
+
+impl Name {
+    /// The name that the bytes are. IVBUFLEN where there are none, or more than 31 ($ENQ, resnam).
+    #[tactic(auto, unfolding(crate::specs::Names::name_of))]
+    pub fn new(bytes: &[u8]) -> Result<Name, Cond>
+        ensures { result ≡ name_of bytes.now }
+    {
+        let len = bytes.len();
+        if 0 < len && len <= 31 {
+            Ok(Name {
+                text: Text::of(bytes),
+            })
+        } else {
+            Err(Cond::Ivbuflen)
+        }
+    }
+
+    /// The name's bytes.
+    pub fn bytes(&self) -> &[u8]
+        ensures { result.now ≡ self.now }
+    {
+        self.text.bytes()
+    }
+}
+
+/// A resource name as a caller gives it, before it is checked: at most 32 bytes, of a longer text
+/// the first 32, which no name has.
+#[derive(Clone, Copy, Debug, PartialEq, Eq)]
+pub struct NameArg {
+    text: Text<32>,
+}
+
+impl Model for NameArg {
+    ghost use Rattle.std.specs.Prelude.{ℕ, List};
+
+    ghost Value = { List ℕ };
+
+    ghost view = { λ n. n.text };
+
+    ghost inverse = { λ bytes. record { text = bytes } };
+}
+
+impl NameArg {
+    /// The first 32 bytes, or all where there are no more.
+    pub fn of(bytes: &[u8]) -> NameArg
+        ensures { result ≡ take 32 bytes.now }
+    {
+        NameArg {
+            text: Text::of(bytes),
+        }
+    }
+
+    /// The name that was given. IVBUFLEN where its bytes are no name.
+    pub fn name(&self) -> Result<Name, Cond>
+        ensures { result ≡ name_of self.now }
+    {
+        Name::new(self.text.bytes())
+    }
+}

@@ -1,0 +1,51 @@
+//! Short texts that are copied as a whole.
+
+ghost use Rattle.std.specs.Prelude.{◌≡◌, take};
+
+use std::marker::Model;
+
+/// At most `N` bytes, in place.
+#[derive(Clone, Copy, Debug, PartialEq, Eq)]
+pub struct Text<const N: usize> {
+    // the bytes, and zeros behind them
+    cells: [u8; N],
+    len: usize,
+}
+
+impl<const N: usize> Model for Text<N> {
+    ghost use Rattle.std.specs.Prelude.{◌≡◌, ◌≤◌, ℕ, ◌-◌, List, ◌++◌, length, take};
+    ghost use Rattle.vlm_words.specs.Padding.{IsPadded, padded, length-text};
+    ghost use Rattle.std.proofs.Common.{sym};
+
+    ghost Value = { List ℕ };
+
+    ghost view = { λ t. take t.len t.cells };
+
+    ghost invariant = { λ t. IsPadded N t.len t.cells };
+
+    ghost inverse = { λ text. record { cells = padded N text; len = length text } };
+
+    ghost inverse_ok = { λ t h i. record {
+      cells = sym h.clear i;
+      len = length-text h i;
+    } };
+}
+
+impl<const N: usize> Text<N> {
+    /// The first `N` bytes, or all where there are no more.
+    pub fn of(bytes: &[u8]) -> Self
+        ensures { result ≡ take N bytes.now }
+    {
+        let len = bytes.len().min(N);
+        let mut cells = [0; N];
+        cells[..len].copy_from_slice(&bytes[..len]);
+        Text { cells, len }
+    }
+
+    /// The text's bytes.
+    pub fn bytes(&self) -> &[u8]
+        ensures { result.now ≡ self.now }
+    {
+        &self.cells[..self.len]
+    }
+}
