@@ -1,0 +1,22 @@
+-- What a resource of the core is in the plain machine.
+use Rattle.std.specs.Prelude.{◌+◌, ◌≤◌, vec_len, vec_capacity}
+use Rattle.vlm_words.specs.State.{Resource}
+use Rattle.vlm_core.specs.declared.resources.Resource.TheInside.{Inside}
+
+-- a resource with its queues as lists
+abbrev pub resource_shown : Inside → Resource
+resource_shown r = record {
+  serial = r.serial;
+  parent = r.parent;
+  domain = r.domain;
+  name = r.name;
+  value = r.value;
+  valid = r.valid;
+  granted = r.granted.items;
+  converting = r.converting.items;
+  waiting = r.waiting.items;
+}
+
+-- every lock of the resource can be granted without more memory
+abbrev pub HasRoomToGrant : Inside → Type 0
+HasRoomToGrant r = vec_len r.granted + vec_len r.converting + vec_len r.waiting ≤ vec_capacity r.granted

@@ -1,0 +1,71 @@
+//! The step that declares a process.
+
+ghost use Rattle.std.specs.Prelude.{◌≡◌, ◌<◌, ◌≤◌, IfOk, OnErr, OnOk};
+ghost use Rattle.std.specs.Result.{result_err};
+ghost use Rattle.vlm_words.specs.Declare.{declare_change, declare_refusal, next_pid};
+ghost use Rattle.vlm_words.specs.State.{node_at};
+ghost use Rattle.vlm_words.specs.Stepped.{Outcome};
+
+use crate::machine::Core;
+use crate::processes::{Process, has_departed};
+use std::alloc::AllocError;
+use vlm_words::conditions::Cond;
+use vlm_words::steps::{Answer, Declaration, Step};
+
+/// How many processes a node may declare in all.
+const ORDINALS: u16 = 65_535;
+
+impl Core {
+    /// Declares a process (this project's own). Refused by BADPARAM where the node is not 1 to 8,
+    /// DEPARTED, BADPARAM where the node has declared 65,535 processes, INSFMEM.
+    pub fn declare(&mut self, declaration: Declaration) -> Answer
+        ensures { Outcome self.old (Step.Declare declaration) self.new result }
+    {
+        if let Err(refusal) = self.check_declaration(&declaration) {
+            return Answer::Plain(refusal);
+        }
+        match self.add_process(&declaration) {
+            Ok(pid) => Answer::Process(pid),
+            Err(AllocError) => Answer::Plain(Cond::Insfmem),
+        }
+    }
+
+    #[tactic(auto, unfolding(vlm_words::specs::Declare::declare_refusal))]
+    fn check_declaration(&self, declaration: &Declaration) -> Result<(), Cond>
+        ensures refusal { result_err result ≡ declare_refusal self.now declaration.now }
+        ensures first { OnOk result (1 ≤ declaration.now.node) }
+        ensures last { OnOk result (declaration.now.node ≤ 8) }
+        ensures ordinal { OnOk result ((node_at self.now.nodes declaration.now.node).declared < 65535) }
+    {
+        let node = declaration.node;
+        if node < 1 || 8 < node {
+            return Err(Cond::Badparam);
+        }
+        if has_departed(&self.nodes, u32::from(node)) {
+            return Err(Cond::Departed);
+        }
+        if self.nodes[usize::from(node) - 1].declared() < ORDINALS {
+            Ok(())
+        } else {
+            Err(Cond::Badparam)
+        }
+    }
+
+    // The process lives, under the next ordinal of its node.
+    #[tactic(auto, unfolding(vlm_words::specs::Declare::declare_change))]
+    fn add_process(&mut self, declaration: &Declaration) -> Result<u32, AllocError>
+        requires first { 1 ≤ declaration.now.node }
+        requires last { declaration.now.node ≤ 8 }
+        requires ordinal { (node_at self.old.nodes declaration.now.node).declared < 65535 }
+        ensures pid { IfOk result (λ pid. pid ≡ next_pid self.old declaration.now.node) }
+        ensures change { OnOk result (self.new ≡ declare_change self.old declaration.now) }
+        ensures err { OnErr result (self.new ≡ self.old) }
+    {
+        let place = usize::from(declaration.node) - 1;
+        let node = self.nodes[place].counted();
+        let pid = u32::from(declaration.node) * 65_536 + u32::from(node.declared());
+        self.processes.push(Process::new(pid, declaration))?;
+        self.nodes[place] = node;
+        Ok(pid)
+    }
+}

@@ -1,0 +1,21 @@
+//! The lock manager's core: the steps of the plain lock machine, on records.
+//!
+//! Each step is a function of [`Core`] in three parts. Its checks only read, and answer the first
+//! refusal in the stated order. Then every growth is made, so that a refused one leaves all as it
+//! was. Then the change is made, which refuses nothing, and the sweep serves every resource.
+#![tactic(auto)]
+
+mod checks;
+mod declaring;
+mod dequeuing;
+mod enqueuing;
+mod grants;
+mod machine;
+mod processes;
+mod readers;
+mod resources;
+mod tables;
+mod views;
+
+pub use machine::Core;
+pub use views::{ResourceView, RowView};

@@ -1,0 +1,72 @@
+//! The lock machine: what it keeps, and its steps.
+
+ghost use Rattle.std.specs.Prelude.{◌≡◌};
+ghost use Rattle.vlm_words.specs.State.{start};
+ghost use Rattle.vlm_words.specs.Stepped.{Outcome};
+
+use crate::processes::{NODES, Node, Process};
+use crate::resources::Resource;
+use std::alloc::Global;
+use std::marker::Model;
+use vlm_words::conditions::Cond;
+use vlm_words::steps::{Answer, Step};
+
+/// The lock manager's core: a machine that one thread steps.
+#[derive(Drop)]
+pub struct Core {
+    // node k stands at k - 1
+    pub(crate) nodes: [Node; NODES],
+    // the living processes, in order of making
+    pub(crate) processes: Vec<Process>,
+    // the resources with locks, by rising serial
+    pub(crate) resources: Vec<Resource>,
+    // how many identifications, request numbers and serials were given
+    pub(crate) last_lkid: u32,
+    pub(crate) last_request: u64,
+    pub(crate) last_serial: u32,
+}
+
+impl Model for Core {
+    ghost use Rattle.vlm_words.specs.State.{State};
+
+    ghost Value = { State };
+
+    ghost use Rattle.vlm_core.specs.Machine.{state_shown, HasFewSerials};
+
+    ghost view = { state_shown };
+
+    ghost invariant = { HasFewSerials };
+}
+
+impl Core {
+    /// A machine at its start. It takes no memory.
+    pub fn new(alloc: Global) -> Core
+        ensures { result ≡ start }
+    {
+        Core {
+            nodes: [Node::new(); NODES],
+            processes: Vec::new(alloc),
+            resources: Vec::new(alloc),
+            last_lkid: 0,
+            last_request: 0,
+            last_serial: 0,
+        }
+    }
+
+    /// Makes one step, of whichever kind. A kind that is not built yet answers BADPARAM.
+    pub fn step(&mut self, step: Step) -> Answer
+        ensures { Outcome self.old step self.new result }
+    {
+        match step {
+            Step::Declare(declaration) => self.declare(declaration),
+            Step::Enq(request) => self.enq(request),
+            Step::Deq(dequeue) => self.deq(dequeue),
+            Step::SetValue(_)
+            | Step::Convert(_)
+            | Step::Rundown(_)
+            | Step::Leave(_)
+            | Step::Search(_)
+            | Step::Take(_) => Answer::Plain(Cond::Badparam),
+        }
+    }
+}

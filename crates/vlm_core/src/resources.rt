@@ -1,0 +1,245 @@
+//! A resource with its three queues.
+
+ghost use Rattle.std.specs.Prelude.{◌≡◌, ◌≤◌, OnOk, OnErr, slice_get, vec_len, vec_capacity};
+ghost use Rattle.std.specs.List.{list_any};
+ghost use Rattle.std.specs.Option.{option_map};
+ghost use Rattle.vlm_core.specs.Views.{resource_view, row_view, rows_in};
+ghost use Rattle.vlm_words.specs.Dequeue.{holds_lock, is_lock_of, rows_without, without};
+ghost use Rattle.vlm_words.specs.Enqueue.{entered, is_at, is_domain, is_free_for, new_resource};
+ghost use Rattle.vlm_words.specs.Grants.{is_empty, is_vacant, serve_converting, serve_waiting, served};
+
+use crate::grants::{fits, granted_row, wanted_fits};
+use crate::views::{ResourceView, RowView, row_view};
+use std::alloc::{AllocError, Global};
+use std::marker::Model;
+use vlm_words::locks::{Request, Row};
+use vlm_words::names::Name;
+use vlm_words::resources::{Domain, Queue};
+
+/// Where a resource stands: below its parent, or as a root in its domain.
+#[derive(Clone, Copy)]
+pub(crate) struct Key {
+    // the serial of the parent resource, 0 for a root
+    parent: u32,
+    domain: Domain,
+    name: Name,
+}
+
+impl Model for Key {
+    ghost use Rattle.vlm_words.specs.Enqueue.{Key as PlainKey};
+
+    ghost Value = { PlainKey };
+
+    ghost view = { λ k. record { parent = k.parent; domain = k.domain; name = k.name } };
+
+    ghost inverse = { λ k. record { parent = k.parent; domain = k.domain; name = k.name } };
+}
+
+impl Key {
+    /// The key of a root resource.
+    pub(crate) fn root(domain: Domain, name: Name) -> Self
+        ensures { result ≡ record { parent = 0; domain = domain; name = name } }
+    {
+        Key {
+            parent: 0,
+            domain,
+            name,
+        }
+    }
+}
+
+/// A resource. Its granted queue has room for all its locks, so that no grant needs memory.
+#[derive(Drop)]
+pub(crate) struct Resource {
+    serial: u32,
+    // the serial of the parent resource, 0 for a root
+    parent: u32,
+    domain: Domain,
+    name: Name,
+    value: [u8; 16],
+    valid: bool,
+    granted: Vec<Row>,
+    converting: Vec<Row>,
+    waiting: Vec<Row>,
+}
+
+impl Model for Resource {
+    ghost use Rattle.vlm_words.specs.State.{Resource as PlainResource};
+
+    ghost Value = { PlainResource };
+
+    ghost use Rattle.vlm_core.specs.Resources.{resource_shown, HasRoomToGrant};
+
+    ghost view = { resource_shown };
+
+    ghost invariant = { HasRoomToGrant };
+}
+
+impl Resource {
+    /// Whether no lock is left on it.
+    pub(crate) fn is_vacant(&self) -> bool
+        ensures { result ≡ is_vacant self.now }
+    {
+        self.granted.is_empty() && self.converting.is_empty() && self.waiting.is_empty()
+    }
+
+    // Grants conversions from the front of their queue while they fit.
+    fn serve_converting(&mut self)
+        ensures { self.new ≡ serve_converting self.old self.old.converting }
+    {
+        while let Some(row) = self.converting.first().copied() {
+            if !wanted_fits(row.want, &self.granted, &self.converting[1..]) {
+                break;
+            }
+            self.converting.remove(0);
+            self.granted.push_reserved(granted_row(row));
+        }
+    }
+
+    // Grants new requests from the front of their queue while they fit.
+    fn serve_waiting(&mut self)
+        ensures { self.new ≡ serve_waiting self.old self.old.waiting }
+    {
+        while let Some(row) = self.waiting.first().copied() {
+            if !wanted_fits(row.want, &self.granted, &self.converting) {
+                break;
+            }
+            self.waiting.remove(0);
+            self.granted.push_reserved(granted_row(row));
+        }
+    }
+
+    /// Grants what can be granted: conversions first, then new requests, each queue up to the first
+    /// that does not fit.
+    #[tactic(auto, unfolding(vlm_words::specs::Grants::served))]
+    pub(crate) fn serve(&mut self)
+        ensures { self.new ≡ served self.old }
+    {
+        self.serve_converting();
+        if self.converting.is_empty() {
+            self.serve_waiting();
+        }
+    }
+
+    /// A resource at its making: no locks, and a valid value block of zeros.
+    pub(crate) fn new(alloc: Global, serial: u32, key: &Key) -> Self
+        ensures { result ≡ new_resource serial key.now }
+    {
+        Resource {
+            serial,
+            parent: key.parent,
+            domain: key.domain,
+            name: key.name,
+            value: [0; 16],
+            valid: true,
+            granted: Vec::new(alloc),
+            converting: Vec::new(alloc),
+            waiting: Vec::new(alloc),
+        }
+    }
+
+    /// Whether it stands under this key.
+    pub(crate) fn is_at(&self, key: &Key) -> bool
+        ensures { result ≡ is_at key.now self.now }
+    {
+        self.parent == key.parent
+            && is_domain(self.domain, key.domain)
+            && self.name.bytes() == key.name.bytes()
+    }
+
+    /// Whether the request fits here and nobody is queued.
+    fn is_free_for(&self, request: &Request) -> bool
+        ensures { result ≡ is_free_for request.now self.now }
+    {
+        fits(request.mode, &self.granted, &self.converting)
+            && self.converting.is_empty()
+            && self.waiting.is_empty()
+    }
+
+    /// Takes in a new lock, which is granted at once or goes to the end of the waiting queue.
+    #[tactic(auto, unfolding(vlm_words::specs::Enqueue::entered))]
+    pub(crate) fn enter(&mut self, row: Row, request: &Request) -> Result<(), AllocError>
+        ensures ok { OnOk result (self.new ≡ entered row request.now self.old) }
+        ensures err { OnErr result (self.new ≡ self.old) }
+    {
+        self.granted
+            .reserve(self.converting.len() + self.waiting.len() + 1)?;
+        if self.is_free_for(request) {
+            self.granted.push_reserved(granted_row(row));
+        } else {
+            self.waiting.push(row)?;
+        }
+        Ok(())
+    }
+
+    /// Whether one of its queues has this lock of this process.
+    pub(crate) fn holds_lock(&self, pid: u32, lkid: u32) -> bool
+        ensures { result ≡ holds_lock pid lkid self.now }
+    {
+        has_lock(&self.granted, pid, lkid)
+            || has_lock(&self.converting, pid, lkid)
+            || has_lock(&self.waiting, pid, lkid)
+    }
+
+    /// The resource without its queues.
+    pub(crate) fn shown(&self) -> ResourceView
+        ensures { result ≡ resource_view self.now }
+    {
+        ResourceView {
+            serial: self.serial,
+            parent: self.parent,
+            domain: self.domain,
+            name: self.name,
+            value: self.value,
+            valid: self.valid,
+        }
+    }
+
+    /// The lock at a place of a queue, from 0.
+    pub(crate) fn row_at(&self, queue: Queue, place: usize) -> Option<RowView>
+        ensures { result ≡ option_map row_view (slice_get (rows_in queue self.now) place) }
+    {
+        let rows = match queue {
+            Queue::Granted => &self.granted,
+            Queue::Conversion => &self.converting,
+            Queue::Waiting => &self.waiting,
+        };
+        match rows.get(place) {
+            Some(row) => Some(row_view(row)),
+            None => None,
+        }
+    }
+
+    /// Removes a lock from every queue.
+    #[tactic(auto, unfolding(vlm_words::specs::Dequeue::without))]
+    pub(crate) fn remove(&mut self, lkid: u32)
+        ensures { self.new ≡ without lkid self.old }
+    {
+        remove_lock(&mut self.granted, lkid);
+        remove_lock(&mut self.converting, lkid);
+        remove_lock(&mut self.waiting, lkid);
+    }
+}
+
+// Whether the two domains are one.
+fn is_domain(a: Domain, b: Domain) -> bool
+    ensures { result ≡ is_domain a b }
+{
+    a == b
+}
+
+// Whether the queue has this lock of this process.
+fn has_lock(rows: &[Row], pid: u32, lkid: u32) -> bool
+    ensures { result ≡ list_any (is_lock_of pid lkid) rows.now }
+{
+    rows.iter().any(|row| row.lkid == lkid && row.pid == pid)
+}
+
+// Removes a lock from a queue.
+fn remove_lock(rows: &mut Vec<Row>, lkid: u32)
+    ensures rows { rows.new.items ≡ rows_without lkid rows.old.items }
+    ensures fewer { vec_len rows.new ≤ vec_len rows.old }
+    ensures capacity { vec_capacity rows.new ≡ vec_capacity rows.old }
+{
+    rows.retain(|row| row.lkid != lkid);
+}

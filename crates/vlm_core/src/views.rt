@@ -1,0 +1,48 @@
+//! What the readers show.
+
+ghost use Rattle.std.specs.Prelude.{◌≡◌};
+ghost use Rattle.vlm_core.specs.Views.{row_view};
+
+use vlm_words::locks::Row;
+use vlm_words::modes::Mode;
+use vlm_words::names::Name;
+use vlm_words::resources::Domain;
+
+/// A resource without its queues.
+#[derive(Clone, Copy, Debug, PartialEq, Eq)]
+pub struct ResourceView {
+    /// Its number, from 1, in order of making.
+    pub serial: u32,
+    /// The serial of its parent resource, or 0 for a root.
+    pub parent: u32,
+    pub domain: Domain,
+    pub name: Name,
+    /// Its value block.
+    pub value: [u8; 16],
+    /// Whether the value block is valid.
+    pub valid: bool,
+}
+
+/// A lock as it stands in a queue.
+#[derive(Clone, Copy, Debug, PartialEq, Eq)]
+pub struct RowView {
+    pub lkid: u32,
+    /// The process that owns it.
+    pub pid: u32,
+    /// The mode that it holds, if it holds one.
+    pub held: Option<Mode>,
+    /// The mode that it waits for, if it waits.
+    pub want: Option<Mode>,
+}
+
+/// The row without what a reader does not show.
+pub(crate) fn row_view(row: &Row) -> RowView
+    ensures { result ≡ row_view row.now }
+{
+    RowView {
+        lkid: row.lkid,
+        pid: row.pid,
+        held: row.held.map(|request| request.mode),
+        want: row.want.map(|request| request.mode),
+    }
+}
