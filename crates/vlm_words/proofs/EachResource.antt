@@ -13,21 +13,8 @@ use Rattle.vlm_words.specs.Declare.{declare_change}
 use Rattle.vlm_words.specs.Enqueue.{Key, is_at, new_resource, entered, entered_among, row_of, request_of, key_of, enq_change}
 use Rattle.vlm_words.specs.Dequeue.{without, named_lkid, deq_change}
 use Rattle.vlm_words.specs.Runs.{Run}
+use Rattle.vlm_words.proofs.Each.{each_filter, each_map, each_weaker}
 use Rattle.vlm_words.proofs.Always.{always, kept_by_outcome, kept_by_stepped}
-
--- what holds of each element holds of each that a filter keeps
-pub each_filter : {X : Type 0} (P : X → Type 0) (test : X → Bool) (xs : List X) → AllByRecursion P xs
-    → AllByRecursion P (filter test xs)
-each_filter P test [] each = each
-each_filter P test (x ∷ xs) each =
-    let rest : AllByRecursion P (filter test xs) = each_filter P test xs each.1 in
-    cond_both (test x) (x ∷ filter test xs) (filter test xs) (AllByRecursion P) (λ _. (each.0, rest)) (λ _. rest)
-
--- what each element has makes what each image has
-pub each_map : {X Y : Type 0} (P : X → Type 0) (Q : Y → Type 0) (f : X → Y) → ((x : X) → P x → Q (f x))
-    → (xs : List X) → AllByRecursion P xs → AllByRecursion Q (map f xs)
-each_map P Q f kept [] each = each
-each_map P Q f kept (x ∷ xs) each = (kept x each.0, each_map P Q f kept xs each.1)
 
 -- what serving makes of each resource holds of each after a sweep
 pub each_swept : (P Q : Resource → Type 0) → ((r : Resource) → P r → Q (served r))
@@ -60,11 +47,7 @@ each_always P Q weaker serving fresh entry removal =
     (λ s e _ each.
     each_swept P Q serving (enq_change s e).resources
     (each_entered_among P s.next_serial (key_of s e) (row_of s e) (request_of s e) (fresh s.next_serial (key_of s e)) (entry s e)
-    s.resources (each_weaker s.resources each)))
+    s.resources (each_weaker Q P weaker s.resources each)))
     (λ s d _ each.
     each_swept P Q serving (deq_change s d).resources
     (each_map Q P (without (named_lkid d.lock)) (λ r held. removal (named_lkid d.lock) r (weaker r held)) s.resources each))))
-  where
-    each_weaker : (resources : List Resource) → AllByRecursion Q resources → AllByRecursion P resources
-    each_weaker [] each = each
-    each_weaker (r ∷ rest) each = (weaker r each.0, each_weaker rest each.1)
