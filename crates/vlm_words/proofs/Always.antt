@@ -1,5 +1,5 @@
 -- From one step to every run.
-use Rattle.std.proofs.Common.{◌≡◌, ◌⊎◌, inl, inr, List, Option, None, Some, refl, sym, subst}
+use Rattle.std.proofs.Common.{◌≡◌, inl, inr, List, Option, None, Some, refl, sym, subst}
 use Rattle.vlm_words.specs.declared.conditions.Cond.{Cond}
 use Rattle.vlm_words.specs.declared.steps.Answer.{Answer}
 use Rattle.vlm_words.specs.declared.steps.Declaration.{Declaration}
@@ -22,7 +22,7 @@ always P at_start kept _ _ _ begin = at_start
 always P at_start kept _ _ last (next {steps} {answers} {old} {new} {step} {answer} run outcome) =
     kept old new step answer (always P at_start kept steps answers old run) outcome
 
--- a step that is kept where it is made is kept where memory runs out too
+-- what each made step keeps, a step that ran short of memory keeps too
 pub kept_by_outcome : (P : State → Type 0) → ((s : State) (step : Step) → P s → P (stepped s step).state)
     → (old new : State) (step : Step) (answer : Answer) → P old → Outcome old step new answer → P new
 kept_by_outcome P kept old new step answer held (inl made) = subst P (sym made.state) (kept old step held)
@@ -34,7 +34,7 @@ pub kept_by_refused_or : (P : State → Type 0) (refusal : Option Cond) (old cha
 kept_by_refused_or P None old changed answer held kept = kept refl
 kept_by_refused_or P (Some refusal) old changed answer held kept = held
 
--- what the changes of the steps keep, where no check refuses, each step keeps
+-- what each kind of step keeps where no check refuses, every step keeps
 pub kept_by_stepped : (P : State → Type 0)
     → ((s : State) (d : Declaration) → declare_refusal s d ≡ None → P s → P (declare_change s d))
     → ((s : State) (e : NewRequest) → enq_refusal s e ≡ None → P s → P (swept_state (enq_change s e)))

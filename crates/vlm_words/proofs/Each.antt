@@ -11,7 +11,7 @@ each_filter P test (x ∷ xs) each =
     let rest : AllByRecursion P (filter test xs) = each_filter P test xs each.1 in
     cond_both (test x) (x ∷ filter test xs) (filter test xs) (AllByRecursion P) (λ _. (each.0, rest)) (λ _. rest)
 
--- what each element has makes what each image has
+-- a function makes Q of P, and so it does of each element
 pub each_map : {X Y : Type 0} (P : X → Type 0) (Q : Y → Type 0) (f : X → Y) → ((x : X) → P x → Q (f x))
     → (xs : List X) → AllByRecursion P xs → AllByRecursion Q (map f xs)
 each_map P Q f kept [] each = each

@@ -1,7 +1,7 @@
 -- What each step keeps of each resource, and so every run.
-use Rattle.std.proofs.Common.{◌≡◌, ℕ, Bool, not, List, [], ◌∷◌, map}
+use Rattle.std.proofs.Common.{ℕ, not, List, [], ◌∷◌, map}
 use Rattle.std.proofs.lemmas.Bool.{cond_both}
-use Rattle.std.specs.List.{filter, AllByRecursion}
+use Rattle.std.specs.List.{AllByRecursion}
 use Rattle.vlm_words.specs.declared.locks.Request.{Request}
 use Rattle.vlm_words.specs.declared.locks.Row.{Row}
 use Rattle.vlm_words.specs.declared.steps.Answer.{Answer}
@@ -23,7 +23,7 @@ unfolding swept
 each_swept P Q serving resources each =
     each_filter Q (λ r. not (is_vacant r)) (map served resources) (each_map P Q served serving resources each)
 
--- what a new resource has, and an entry keeps, each resource has after an entry
+-- what a new resource has and an entry keeps, each resource has after an entry
 pub each_entered_among : (P : Resource → Type 0) (serial : ℕ) (key : Key) (row : Row) (request : Request)
     → P (new_resource serial key) → ((r : Resource) → P r → P (entered row request r))
     → (resources : List Resource) → AllByRecursion P resources → AllByRecursion P (entered_among serial key row request resources)
@@ -32,7 +32,7 @@ each_entered_among P serial key row request fresh entry (r ∷ rest) each =
     cond_both (is_at key r) (entered row request r ∷ rest) (r ∷ entered_among serial key row request rest) (AllByRecursion P)
     (λ _. (entry r each.0, each.1)) (λ _. (each.0, each_entered_among P serial key row request fresh entry rest each.1))
 
--- P holds of each resource that a step changed, and serving makes Q of it: so Q holds of each after every run
+-- the changes of the steps keep P, and serving makes Q of it: then Q holds of each resource after every run
 pub each_always : (P Q : Resource → Type 0) → ((r : Resource) → Q r → P r) → ((r : Resource) → P r → Q (served r))
     → ((serial : ℕ) (key : Key) → P (new_resource serial key))
     → ((s : State) (e : NewRequest) (r : Resource) → P r → P (entered (row_of s e) (request_of s e) r))

@@ -1,9 +1,9 @@
 -- After every step the held modes of each resource are compatible.
-use Rattle.std.proofs.Common.{◌≡◌, ℕ, Bool, true, List, [], ◌∷◌, ◌++◌, Option, None, Some, append_assoc, refl, sym, subst, ap, ◌∙◌}
+use Rattle.std.proofs.Common.{◌≡◌, ℕ, true, List, [], ◌∷◌, ◌++◌, Option, None, Some, append_assoc, refl, subst, ap, ◌∙◌}
 use Rattle.std.proofs.Math.Bool.{or_comm}
 use Rattle.std.proofs.Math.Path.{fun_ext}
-use Rattle.std.specs.Prelude.{AllPairs, ◌==◌, ◌&&◌, ◌||◌}
-use Rattle.std.specs.List.{AllByRecursion, list_any, list_all, filter}
+use Rattle.std.specs.Prelude.{AllPairs, ◌==◌, ◌&&◌}
+use Rattle.std.specs.List.{AllByRecursion, list_any, list_all}
 use Rattle.std.proofs.lemmas.Bool.{cond_both, and_parts}
 use Rattle.std.proofs.lemmas.List.Elements.{All-from_recursion, filter-append}
 use Rattle.vlm_words.specs.declared.locks.Request.{Request}
@@ -15,8 +15,8 @@ use Rattle.vlm_words.specs.declared.steps.Step.{Step}
 use Rattle.vlm_words.specs.Modes.{rank, is_compatible, is_pair_of, compatible_pairs}
 use Rattle.vlm_words.specs.State.{State, Resource}
 use Rattle.vlm_words.specs.Grants.{is_empty, is_beside, fits, wanted_fits, granted_row, grant, serve_converting, serve_waiting, serve_new_requests, served}
-use Rattle.vlm_words.specs.Enqueue.{new_resource, is_free_for, entered, row_of, request_of}
-use Rattle.vlm_words.specs.Dequeue.{rows_without, without}
+use Rattle.vlm_words.specs.Enqueue.{is_free_for, entered, row_of, request_of}
+use Rattle.vlm_words.specs.Dequeue.{without}
 use Rattle.vlm_words.specs.Runs.{Run}
 use Rattle.vlm_words.specs.Laws.{AreCompatible, HeldModesAreCompatible}
 use Rattle.vlm_words.proofs.Each.{each_append, each_passes, each_weaker}

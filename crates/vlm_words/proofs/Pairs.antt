@@ -1,5 +1,5 @@
 -- A relation that holds between each element of a list and each later one.
-use Rattle.std.proofs.Common.{◌≡◌, Bool, true, ℕ, ◌<◌, List, [], ◌∷◌, ◌++◌, arith}
+use Rattle.std.proofs.Common.{Bool, ℕ, ◌<◌, List, [], ◌∷◌, ◌++◌, arith}
 use Rattle.std.specs.Prelude.{⊤}
 use Rattle.std.specs.List.{AllByRecursion, AllPairs, filter}
 use Rattle.std.proofs.lemmas.Bool.{cond_both}

@@ -10,11 +10,13 @@ ghost use Rattle.vlm_words.specs.Laws.{HeldModesAreCompatible, NothingIsLeftToGr
 
 /// In each resource the held modes of any two locks are compatible.
 pub fn law_held_modes_are_compatible()
-    ensures { (steps : List Step) (answers : List Answer) (last : State) → Run steps answers last → HeldModesAreCompatible last }
+    ensures { (steps : List Step) (answers : List Answer) (last : State)
+        → Run steps answers last → HeldModesAreCompatible last }
 {}
 
 /// After every step the first conversion of a resource does not fit, and where none is queued the
 /// first new request does not.
 pub fn law_nothing_is_left_to_grant()
-    ensures { (steps : List Step) (answers : List Answer) (last : State) → Run steps answers last → NothingIsLeftToGrant last }
+    ensures { (steps : List Step) (answers : List Answer) (last : State)
+        → Run steps answers last → NothingIsLeftToGrant last }
 {}
