@@ -21,20 +21,20 @@ pub record Stepped : Type 0 where
 abbrev pub swept_state : State → State
 swept_state s = record s { resources = swept s.resources }
 
--- a refusal leaves everything as it was; else the change is made, and then the sweep
+-- a refusal leaves everything as it was; else the step is made
 abbrev pub refused_or : Option Cond → State → State → Answer → Stepped
-refused_or None old changed answer = record { state = swept_state changed; answer = answer }
+refused_or None old changed answer = record { state = changed; answer = answer }
 refused_or (Some refusal) old changed answer = record { state = old; answer = Plain refusal }
 
 -- a kind of step that is not built yet
 abbrev pub not_built : State → Stepped
 not_built s = record { state = s; answer = Plain Badparam }
 
--- the step of the plain machine: checks in order, then the change, then the sweep
+-- the step of the plain machine: checks in order, then the change, and the sweep where queues changed
 abbrev pub stepped : State → Step → Stepped
 stepped s (Declare d) = refused_or (declare_refusal s d) s (declare_change s d) (process_answer (next_pid s d.node))
-stepped s (Enq e) = refused_or (enq_refusal s e) s (enq_change s e) (Lock Normal s.next_lkid)
-stepped s (Deq d) = refused_or (deq_refusal s d) s (deq_change s d) (Plain Normal)
+stepped s (Enq e) = refused_or (enq_refusal s e) s (swept_state (enq_change s e)) (Lock Normal s.next_lkid)
+stepped s (Deq d) = refused_or (deq_refusal s d) s (swept_state (deq_change s d)) (Plain Normal)
 stepped s (SetValue v) = not_built s
 stepped s (Convert c) = not_built s
 stepped s (Rundown pid) = not_built s

@@ -1,0 +1,5 @@
+//! A script's lines, read from their bytes.
+
+pub mod cuts;
+pub mod numbers;
+pub mod words;
