@@ -1,12 +1,11 @@
 -- Where the first piece of a list ends.
-use Rattle.std.proofs.Common.{◌≡◌, zero, get_or, length-drop, ℕ, ◌+◌, ◌-◌, suc, ◌<◌, ◌≤◌, Bool, true, false, not, cond, List, [], ◌∷◌, length, take, drop, sym, refl, ap, ◌∙◌, arith, add-one, Option, Some, None, ltb, unwrap_or}
+use Rattle.std.proofs.Common.{◌≡◌, zero, get_or, length-drop, ℕ, ◌+◌, suc, ◌<◌, Bool, true, false, not, cond, List, [], ◌∷◌, length, take, drop, sym, refl, ap, ◌∙◌, arith, add-one, Option, Some, None, ltb, unwrap_or}
 use Rattle.std.proofs.lemmas.Bool.Decides.{nat_tests}
 use Rattle.std.proofs.lemmas.List.Sums.{prefix_len-le-length, passes_at_first}
 use Rattle.std.proofs.lemmas.List.{nil_from_length, get_or-drop}
 use Rattle.std.proofs.lemmas.Bool.{false≢true}
 use Rattle.std.specs.List.{position_or_len, filter}
-use Rattle.std.proofs.lemmas.Grind.{common_steps}
-use Rattle.vlm_words.specs.Lines.{pieces, onto, words_of, lines_of, is_blank, is_line_feed, is_nothing}
+use Rattle.vlm_words.specs.Lines.{pieces, onto, words_of, is_blank, is_nothing}
 
 -- what a byte in front does to the first piece
 put_front : (ends : ℕ → Bool) (byte n : ℕ) (bytes : List ℕ) (b : Bool) → pieces ends bytes ≡ take n bytes ∷ pieces ends (drop (suc n) bytes)

@@ -1,5 +1,10 @@
 //! A script's lines, read from their bytes.
 
-pub mod cuts;
-pub mod numbers;
-pub mod words;
+pub use cuts::next_line;
+pub use lines::read_line;
+
+mod cuts;
+mod keyed;
+mod lines;
+mod numbers;
+mod words;

@@ -1,4 +1,4 @@
-use Rattle.std.proofs.Common.{◌≡◌, ◌<◌, length, drop, ap, ◌∙◌, arith, rules}
+use Rattle.std.proofs.Common.{drop, ap, ◌∙◌, arith, rules}
 use Rattle.std.proofs.lemmas.Grind.{common_steps}
 use Rattle.vlm.proofs.Pieces.{no_word, first_word}
 use Rattle.vlm.proofs.reading.cuts.next_word.Goals as goal

@@ -1,7 +1,6 @@
-use Rattle.std.proofs.Common.{arith, take, length, ◌≤◌, ◌≡◌}
+use Rattle.std.proofs.Common.{arith, take, ◌≡◌}
 use Rattle.std.proofs.lemmas.List.{take_all}
 use Rattle.std.proofs.lemmas.Grind.{common_steps}
-use Rattle.std.proofs.lemmas.Bool.Decides.{nat_tests}
 use Rattle.vlm_words.specs.Lines.{process_name}
 use Rattle.vlm.proofs.reading.words.process_name.Goals as goal
 
