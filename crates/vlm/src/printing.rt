@@ -1,0 +1,12 @@
+//! What a script's run prints, put behind the bytes that are printed already.
+//!
+//! Where memory runs out, some part of the text may stand there.
+
+pub use answers::answer_line;
+pub use locks::{converting_line, granted_line, waiting_line};
+pub use resources::{no_resources, resource_line};
+
+mod answers;
+mod locks;
+mod resources;
+mod texts;

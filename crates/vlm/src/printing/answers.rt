@@ -1,0 +1,70 @@
+//! Answers under the names of their processes.
+
+ghost use Rattle.std.specs.Prelude.{◌≡◌, ◌++◌, codes, decimal, OnOk};
+ghost use Rattle.vlm_words.specs.Texts.{answer_line, answer_text, ast_text};
+
+use super::texts::{number, text};
+use std::alloc::AllocError;
+use vlm_words::asts::{Ast, AstKind};
+use vlm_words::steps::Answer;
+
+/// The line that tells a process's answer under its name.
+#[tactic(auto, unfolding(vlm_words::specs::Texts::answer_line))]
+pub fn answer_line(out: &mut Vec<u8>, name: &[u8], answer: Answer) -> Result<(), AllocError>
+    ensures { OnOk result (out.new.items ≡ out.old.items ++ answer_line name.now answer) }
+{
+    text(out, name)?;
+    text(out, b": ")?;
+    answer_text(out, answer)?;
+    text(out, b"\n")
+}
+
+/// An answer without the name in front of it.
+#[tactic(auto, unfolding(vlm_words::specs::Texts::answer_text))]
+fn answer_text(out: &mut Vec<u8>, answer: Answer) -> Result<(), AllocError>
+    ensures { OnOk result (out.new.items ≡ out.old.items ++ answer_text answer) }
+{
+    match answer {
+        Answer::Process(pid) => {
+            text(out, b"process ")?;
+            number(out, pid)
+        }
+        Answer::Lock(cond, lkid) => {
+            text(out, cond.text().as_bytes())?;
+            text(out, b" lock ")?;
+            number(out, lkid)
+        }
+        Answer::Victim(None) => text(out, b"victim none"),
+        Answer::Victim(Some(lkid)) => {
+            text(out, b"victim ")?;
+            number(out, lkid)
+        }
+        Answer::Taken(None) => text(out, b"none"),
+        Answer::Taken(Some(ast)) => ast_text(out, ast),
+        Answer::Plain(cond) => text(out, cond.text().as_bytes()),
+    }
+}
+
+/// An AST: its kind, routine, parameter and lock.
+fn ast_text(out: &mut Vec<u8>, ast: Ast) -> Result<(), AllocError>
+    ensures { OnOk result (out.new.items ≡ out.old.items ++ ast_text ast ast.kind) }
+{
+    match ast.kind {
+        AstKind::Completion => ast_numbers(out, b"completion ", ast),
+        AstKind::Blocking => ast_numbers(out, b"blocking ", ast),
+    }
+}
+
+/// The kind's text, and the numbers of the AST.
+fn ast_numbers(out: &mut Vec<u8>, kind: &[u8], ast: Ast) -> Result<(), AllocError>
+    ensures { OnOk result (out.new.items
+        ≡ out.old.items
+        ++ (kind.now ++ decimal ast.routine ++ codes " param " ++ decimal ast.param ++ codes " lock " ++ decimal ast.lkid)) }
+{
+    text(out, kind)?;
+    number(out, ast.routine)?;
+    text(out, b" param ")?;
+    number(out, ast.param)?;
+    text(out, b" lock ")?;
+    number(out, ast.lkid)
+}

@@ -1,0 +1,92 @@
+//! Resources without their queues.
+
+ghost use Rattle.std.specs.Prelude.{◌≡◌, ◌++◌, ◌&&◌, nat_le, [], OnOk};
+ghost use Rattle.std.specs.List.{list_all};
+ghost use Rattle.vlm_words.specs.Texts.{resource_line, resources_text, domain_text, name_text, is_readable, validity, line_feed};
+
+use super::texts::{hexadecimal, number, text};
+use std::alloc::AllocError;
+use vlm_words::resources::Domain;
+
+/// The resource's own line.
+#[tactic(auto, unfolding(vlm_words::specs::Texts::resource_line))]
+pub fn resource_line(
+    out: &mut Vec<u8>,
+    serial: u32,
+    parent: u32,
+    domain: Domain,
+    name: &[u8],
+    value: &[u8; 16],
+    valid: bool,
+) -> Result<(), AllocError>
+    ensures { OnOk result (out.new.items
+        ≡ out.old.items ++ resource_line serial parent domain name.now value.now valid) }
+{
+    text(out, b"resource ")?;
+    number(out, serial)?;
+    text(out, b" in ")?;
+    number(out, parent)?;
+    text(out, b" ")?;
+    domain_text(out, domain)?;
+    text(out, b" name ")?;
+    name_text(out, name)?;
+    text(out, b" value ")?;
+    hexadecimal(out, value)?;
+    text(out, b" ")?;
+    text(out, validity(valid).as_bytes())?;
+    text(out, b"\n")
+}
+
+/// The line that tells that there is no resource.
+#[tactic(auto, unfolding(vlm_words::specs::Texts::resources_text))]
+pub fn no_resources(out: &mut Vec<u8>) -> Result<(), AllocError>
+    ensures { OnOk result (out.new.items ≡ out.old.items ++ resources_text []) }
+{
+    text(out, b"no resources\n")
+}
+
+/// A domain: the system's, or a group's.
+fn domain_text(out: &mut Vec<u8>, domain: Domain) -> Result<(), AllocError>
+    ensures { OnOk result (out.new.items ≡ out.old.items ++ domain_text domain) }
+{
+    match domain {
+        Domain::Group(group) => {
+            text(out, b"group ")?;
+            number(out, u32::from(group))
+        }
+        Domain::System => text(out, b"system"),
+    }
+}
+
+/// A resource's name as a script has it.
+#[tactic(auto, unfolding(vlm_words::specs::Texts::name_text))]
+fn name_text(out: &mut Vec<u8>, name: &[u8]) -> Result<(), AllocError>
+    ensures { OnOk result (out.new.items ≡ out.old.items ++ name_text name.now) }
+{
+    if is_readable(name) {
+        return text(out, name);
+    }
+    text(out, b"x:")?;
+    hexadecimal(out, name)
+}
+
+/// Whether every byte can be read, and the name does not look like a hexadecimal one.
+fn is_readable(name: &[u8]) -> bool
+    ensures { result ≡ is_readable name.now }
+{
+    all_visible(name) && !name.starts_with(b"x:")
+}
+
+/// Whether every byte is an ASCII character that shows.
+fn all_visible(name: &[u8]) -> bool
+    ensures { result ≡ list_all (λ byte. nat_le 33 byte && nat_le byte 126) name.now }
+{
+    name.iter().all(|byte| 33 <= *byte && *byte <= 126)
+}
+
+/// Whether a value block is valid.
+fn validity(valid: bool) -> &'static str
+    ensures { result.now ≡ validity valid }
+{
+    if valid { "valid" } else { "invalid" }
+}

@@ -1,0 +1,142 @@
+//! Lines by their commands.
+
+ghost use Rattle.std.specs.Prelude.{◌≡◌, MatchResult};
+ghost use Rattle.vlm_words.specs.Lines.{line_read, line_of, command_line, declare_line, enq_line, deq_line, declaration_of, words_of, next_word, no_more, given};
+
+use super::cuts;
+use super::keyed::{declare_words, enq_words};
+use super::numbers::number;
+use super::words::{behind_key, is_text, mode, process_name};
+use vlm_words::scripts::{DeclareWords, DeqLine, EnqLine, Line, LineFault};
+use vlm_words::steps::{Declaration, Which};
+
+/// The longest line, in bytes.
+const LONGEST: usize = 255;
+
+/// A line as it is read: its length first, then the command, then the words from left to right.
+#[tactic(auto, unfolding(vlm_words::specs::Lines::line_read))]
+pub fn read_line(bytes: &[u8]) -> Result<Line, LineFault>
+    ensures { result ≡ line_read bytes.now }
+{
+    if bytes.len() > LONGEST {
+        return Err(LineFault::TooLong);
+    }
+    line_of(bytes)
+}
+
+/// A line without words, or whose first word begins with `#`, does nothing.
+#[tactic(auto, unfolding(vlm_words::specs::Lines::line_of))]
+fn line_of(line: &[u8]) -> Result<Line, LineFault>
+    ensures { result ≡ line_of (words_of line.now) }
+{
+    let Some((word, rest)) = cuts::next_word(line) else {
+        return Ok(Line::Empty);
+    };
+    if behind_key(b"#", word).is_some() {
+        return Ok(Line::Empty);
+    }
+    command_line(word, rest)
+}
+
+/// A line by its command.
+#[tactic(auto, unfolding(vlm_words::specs::Lines::command_line))]
+fn command_line(command: &[u8], rest: &[u8]) -> Result<Line, LineFault>
+    ensures { result ≡ command_line command.now (words_of rest.now) }
+{
+    if is_text(command, b"declare") {
+        declare_line(rest)
+    } else if is_text(command, b"enq") {
+        enq_line(rest)
+    } else if is_text(command, b"deq") {
+        deq_line(rest)
+    } else if is_text(command, b"show") {
+        no_more(Line::Show, rest)
+    } else {
+        Err(LineFault::UnknownCommand)
+    }
+}
+
+/// The words of a declare line: NAME node=N group=N quota=N blocks=N [syslck].
+#[tactic(auto, unfolding(vlm_words::specs::Lines::declare_line))]
+fn declare_line(line: &[u8]) -> Result<Line, LineFault>
+    ensures { result ≡ declare_line (words_of line.now) }
+{
+    let (first, rest) = needed_word(line)?;
+    let name = process_name(first)?;
+    let words = declare_words(rest)?;
+    let declaration = declaration_of(words)?;
+    Ok(Line::Declare(name, declaration))
+}
+
+/// A declare line needs all four numbers.
+#[tactic(auto, unfolding(vlm_words::specs::Lines::declaration_of))]
+fn declaration_of(words: DeclareWords) -> Result<Declaration, LineFault>
+    ensures { result ≡ declaration_of words }
+{
+    let node = words.node.ok_or(LineFault::WrongWord)?;
+    let group = words.group.ok_or(LineFault::WrongWord)?;
+    let quota = words.quota.ok_or(LineFault::WrongWord)?;
+    let blocks = words.blocks.ok_or(LineFault::WrongWord)?;
+    Ok(Declaration {
+        node,
+        group,
+        syslck: words.syslck,
+        quota,
+        blocks,
+    })
+}
+
+/// The words of an enq line: NAME MODE name=RES block=N.
+#[tactic(auto, unfolding(vlm_words::specs::Lines::enq_line))]
+fn enq_line(line: &[u8]) -> Result<Line, LineFault>
+    ensures { result ≡ enq_line (words_of line.now) }
+{
+    let (first, after_name) = needed_word(line)?;
+    let name = process_name(first)?;
+    let (second, rest) = needed_word(after_name)?;
+    let mode = mode(second)?;
+    let words = enq_words(rest)?;
+    let resource = words.resource.ok_or(LineFault::WrongWord)?;
+    let block = words.block.ok_or(LineFault::WrongWord)?;
+    Ok(Line::Enq(EnqLine {
+        name,
+        mode,
+        resource,
+        block,
+    }))
+}
+
+/// The words of a deq line: NAME LOCK.
+#[tactic(auto, unfolding(vlm_words::specs::Lines::deq_line))]
+fn deq_line(line: &[u8]) -> Result<Line, LineFault>
+    ensures { result ≡ deq_line (words_of line.now) }
+{
+    let (first, after_name) = needed_word(line)?;
+    let name = process_name(first)?;
+    let (second, rest) = needed_word(after_name)?;
+    let lkid = number(u32::MAX, second)?;
+    no_more(
+        Line::Deq(DeqLine {
+            name,
+            lock: Which::Id(lkid),
+        }),
+        rest,
+    )
+}
+
+/// The next word, which the line needs, and the bytes behind it.
+fn needed_word(line: &[u8]) -> Result<(&[u8], &[u8]), LineFault>
+    ensures { MatchResult result (λ p. next_word (words_of line.now) ≡ Ok (p.0.now, words_of p.1.now)) (λ fault. next_word (words_of line.now) ≡ Err fault) }
+{
+    cuts::next_word(line).ok_or(LineFault::WrongWord)
+}
+
+/// The line, which no word may follow.
+fn no_more(line: Line, rest: &[u8]) -> Result<Line, LineFault>
+    ensures { result ≡ no_more line (words_of rest.now) }
+{
+    if cuts::next_word(rest).is_some() {
+        return Err(LineFault::WrongWord);
+    }
+    Ok(line)
+}

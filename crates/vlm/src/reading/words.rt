@@ -1,0 +1,84 @@
+//! Words that stand for names and modes.
+
+ghost use Rattle.std.specs.Prelude.{◌≡◌, codes, MatchOption, length, drop, true, false};
+ghost use Rattle.std.specs.List.{list_all};
+ghost use Rattle.vlm_words.specs.Lines.{process_name, begins_with_letter, mode_of, is_name_byte, is_text, has_key, behind};
+
+use vlm_words::modes::Mode;
+use vlm_words::scripts::{LineFault, ProcessName};
+
+/// A process's name: 1 to 15 letters, digits and underscores, the first a letter.
+#[tactic(auto, unfolding(vlm_words::specs::Lines::process_name))]
+pub fn process_name(word: &[u8]) -> Result<ProcessName, LineFault>
+    ensures { result ≡ process_name word.now }
+{
+    if begins_with_letter(word) && word.len() <= 15 && all_name_bytes(word) {
+        Ok(ProcessName::of(word))
+    } else {
+        Err(LineFault::WrongWord)
+    }
+}
+
+/// Whether it begins with a letter.
+fn begins_with_letter(word: &[u8]) -> bool
+    ensures { result ≡ begins_with_letter word.now }
+{
+    match word {
+        [] => false,
+        [first, ..] => first.is_ascii_alphabetic(),
+    }
+}
+
+/// Whether a name may have each byte.
+fn all_name_bytes(word: &[u8]) -> bool
+    ensures { result ≡ list_all is_name_byte word.now }
+{
+    word.iter().all(|byte| is_name_byte(*byte))
+}
+
+/// Whether a name may have the byte.
+fn is_name_byte(byte: u8) -> bool
+    ensures { result ≡ is_name_byte byte }
+{
+    byte.is_ascii_alphanumeric() || byte == b'_'
+}
+
+/// Whether the word is this text.
+pub fn is_text(word: &[u8], text: &[u8]) -> bool
+    ensures { result ≡ is_text word.now text.now }
+{
+    word == text
+}
+
+/// The mode that the word stands for.
+#[tactic(auto, unfolding(vlm_words::specs::Lines::mode_of))]
+pub fn mode(word: &[u8]) -> Result<Mode, LineFault>
+    ensures { result ≡ mode_of word.now }
+{
+    if is_text(word, b"NL") {
+        Ok(Mode::Nl)
+    } else if is_text(word, b"CR") {
+        Ok(Mode::Cr)
+    } else if is_text(word, b"CW") {
+        Ok(Mode::Cw)
+    } else if is_text(word, b"PR") {
+        Ok(Mode::Pr)
+    } else if is_text(word, b"PW") {
+        Ok(Mode::Pw)
+    } else if is_text(word, b"EX") {
+        Ok(Mode::Ex)
+    } else {
+        Err(LineFault::WrongWord)
+    }
+}
+
+/// What stands behind the key, if the word has it in front.
+pub fn behind_key<'a>(key: &[u8], word: &'a [u8]) -> Option<&'a [u8]>
+    ensures { MatchOption result (has_key key.now word.now ≡ false) (λ rest. (has_key key.now word.now ≡ true) × (rest.now ≡ behind key.now word.now)) }
+{
+    if word.starts_with(key) {
+        Some(&word[key.len()..])
+    } else {
+        None
+    }
+}
