@@ -1,3 +1,4 @@
 pub mod Hexadecimal
 pub mod Pieces
 pub mod Words
+mod Shown

@@ -1,6 +1,6 @@
 //! The readers: they show the resources and their queues, take no memory and change nothing.
 
-ghost use Rattle.std.specs.Prelude.{◌≡◌, length, slice_get};
+ghost use Rattle.std.specs.Prelude.{◌≡◌, ◌<◌, ◌^◌, length, slice_get, OnSome};
 ghost use Rattle.std.specs.Option.{option_map};
 ghost use Rattle.vlm_core.specs.Views.{resource_view, row_shown};
 
@@ -29,7 +29,8 @@ impl Core {
     /// The lock at a place, from 0, of a queue of the resource at its place. None where one of the
     /// places is past the last.
     pub fn row_at(&self, resource: usize, queue: Queue, place: usize) -> Option<RowView>
-        ensures { result ≡ row_shown (slice_get self.now.resources resource) queue place }
+        ensures row { result ≡ row_shown (slice_get self.now.resources resource) queue place }
+        ensures bound { OnSome result (place < 2 ^ 63) }
     {
         match self.resources.get(resource) {
             Some(resource) => resource.row_at(queue, place),

@@ -1,6 +1,6 @@
 //! A resource with its three queues.
 
-ghost use Rattle.std.specs.Prelude.{◌≡◌, ◌≤◌, OnOk, OnErr, slice_get, vec_len, vec_capacity};
+ghost use Rattle.std.specs.Prelude.{◌≡◌, ◌≤◌, OnOk, OnErr, slice_get, vec_len, vec_capacity, ◌<◌, ◌^◌, OnSome};
 ghost use Rattle.std.specs.List.{list_any};
 ghost use Rattle.std.specs.Option.{option_map};
 ghost use Rattle.vlm_core.specs.Views.{resource_view, row_view, rows_in};
@@ -197,7 +197,8 @@ impl Resource {
 
     /// The lock at a place of a queue, from 0.
     pub(crate) fn row_at(&self, queue: Queue, place: usize) -> Option<RowView>
-        ensures { result ≡ option_map row_view (slice_get (rows_in queue self.now) place) }
+        ensures row { result ≡ option_map row_view (slice_get (rows_in queue self.now) place) }
+        ensures bound { OnSome result (place < 2 ^ 63) }
     {
         let rows = match queue {
             Queue::Granted => &self.granted,
