@@ -1,5 +1,7 @@
 //! Streams that fail, and one read and one write that do not.
 
+ghost use Rattle.std.specs.Prelude.{◌≤◌, IfOk};
+
 use super::{LIMIT, read_whole, write_whole};
 use crate::faults::PlayFault;
 use std::io::{Error, ErrorKind, Read, Result, Write};
@@ -11,7 +13,9 @@ struct Failing {
 }
 
 impl Failing {
-    fn step(&mut self, len: usize) -> Result<usize> {
+    fn step(&mut self, len: usize) -> Result<usize>
+        ensures { IfOk result (λ count. count ≤ len) }
+    {
         if self.left == 0 || len == 0 {
             return Err(Error::from(ErrorKind::Interrupted));
         }

@@ -1,6 +1,5 @@
-use Rattle.std.proofs.Common.{ℕ, ◌+◌, ◌≤◌, ◌++◌, List, length, vec_len, Result, Ok, Err, OnErr, arith, length-append}
+use Rattle.std.proofs.Common.{◌≤◌, ◌++◌, length, Result, Ok, Err, OnErr, arith, length-append}
 use Rattle.std.proofs.KnownBytes.{Consumes-trans}
-use Rattle.std.specs.Io.KnownBytes.{Consumes}
 use Rattle.vlm.proofs.streams.readers.read_whole.Goals as goal
 
 -- what holds anyway holds on an error
