@@ -36,7 +36,7 @@ mapped-None (Some row) h = cc
 
 module _ (queue : Queue) (next : ℕ) where
   row-Some : (o : Option Resource) (view : RowView) → row_shown o queue next ≡ Some view
-    → (row : Row) × (slice_get (option_map_or (rows_in queue) o []) next ≡ Some row) × (row_view row ≡ view)
+      → (row : Row) × (slice_get (option_map_or (rows_in queue) o []) next ≡ Some row) × (row_view row ≡ view)
   row-Some None view h = cc
   row-Some (Some r) view h = mapped-Some (slice_get (rows_in queue r) next) view h
 
@@ -46,7 +46,7 @@ module _ (queue : Queue) (next : ℕ) where
 
 -- the lock that is shown is the first of what is left of the queue
 pub left-Some : (rs : List Resource) (place : ℕ) (queue : Queue) (next : ℕ) (view : RowView) → row_shown (slice_get rs place) queue next ≡ Some view
-  → (row : Row) × (drop next (rows_at rs place queue) ≡ row ∷ drop (next + 1) (rows_at rs place queue)) × (row_view row ≡ view)
+    → (row : Row) × (drop next (rows_at rs place queue) ≡ row ∷ drop (next + 1) (rows_at rs place queue)) × (row_view row ≡ view)
 unfolding rows_at
 left-Some rs place queue next view h =
     let shown = row-Some queue next (slice_get rs place) view h in
@@ -54,29 +54,29 @@ left-Some rs place queue next view h =
 
 -- nothing is left of the queue where no lock is shown
 pub left-None : (rs : List Resource) (place : ℕ) (queue : Queue) (next : ℕ) → row_shown (slice_get rs place) queue next ≡ None
-  → drop next (rows_at rs place queue) ≡ []
+    → drop next (rows_at rs place queue) ≡ []
 unfolding rows_at
 left-None rs place queue next h = drop-None (rows_at rs place queue) next (row-None queue next (slice_get rs place) h)
 
 -- what is left to print of the queue begins with the lock that is shown
 pub lines_left-Some : (rs : List Resource) (place : ℕ) (queue : Queue) (next : ℕ) (view : RowView) → row_shown (slice_get rs place) queue next ≡ Some view
-  → queue_lines queue (drop next (rows_at rs place queue)) ≡ view_line queue view ++ queue_lines queue (drop (next + 1) (rows_at rs place queue))
+    → queue_lines queue (drop next (rows_at rs place queue)) ≡ view_line queue view ++ queue_lines queue (drop (next + 1) (rows_at rs place queue))
 lines_left-Some rs place queue next view h =
     let left = left-Some rs place queue next view h in
     rw left.1 (ap (λ v. view_line queue v ++ queue_lines queue (drop (next + 1) (rows_at rs place queue))) left.2)
 
 -- fewer locks are left once one was shown
 pub length-left : (rs : List Resource) (place : ℕ) (queue : Queue) (next : ℕ) (view : RowView) → row_shown (slice_get rs place) queue next ≡ Some view
-  → length (drop (next + 1) (rows_at rs place queue)) < length (drop next (rows_at rs place queue))
+    → length (drop (next + 1) (rows_at rs place queue)) < length (drop next (rows_at rs place queue))
 length-left rs place queue next view h = let left = left-Some rs place queue next view h in rw left.1 (omega arith)
 
 -- a resource's own line and its three queues, put one behind another, are its text
 resource-printed : (o : Option Resource) (view : ResourceView) (a b c d e : List ℕ) → option_map resource_view o ≡ Some view
-  → b ≡ a ++ resource_line view.serial view.parent view.domain view.name view.value view.valid
-  → c ≡ b ++ queue_lines Granted (option_map_or (rows_in Granted) o [])
-  → d ≡ c ++ queue_lines Conversion (option_map_or (rows_in Conversion) o [])
-  → e ≡ d ++ queue_lines Waiting (option_map_or (rows_in Waiting) o [])
-  → IfSome o (λ r. e ≡ a ++ resource_text r)
+    → b ≡ a ++ resource_line view.serial view.parent view.domain view.name view.value view.valid
+    → c ≡ b ++ queue_lines Granted (option_map_or (rows_in Granted) o [])
+    → d ≡ c ++ queue_lines Conversion (option_map_or (rows_in Conversion) o [])
+    → e ≡ d ++ queue_lines Waiting (option_map_or (rows_in Waiting) o [])
+    → IfSome o (λ r. e ≡ a ++ resource_text r)
 unfolding resource_text
 resource-printed None view a b c d e shown line granted converting waiting = tt
 resource-printed (Some r) view a b c d e shown line granted converting waiting =
@@ -85,18 +85,18 @@ resource-printed (Some r) view a b c d e shown line granted converting waiting =
     rw (waiting, converting, granted, own) (simp append_assoc)
 
 pub resource_at-printed : (rs : List Resource) (place : ℕ) (view : ResourceView) (a b c d e : List ℕ) → option_map resource_view (slice_get rs place) ≡ Some view
-  → b ≡ a ++ resource_line view.serial view.parent view.domain view.name view.value view.valid
-  → c ≡ b ++ queue_lines Granted (rows_at rs place Granted)
-  → d ≡ c ++ queue_lines Conversion (rows_at rs place Conversion)
-  → e ≡ d ++ queue_lines Waiting (rows_at rs place Waiting)
-  → IfSome (slice_get rs place) (λ r. e ≡ a ++ resource_text r)
+    → b ≡ a ++ resource_line view.serial view.parent view.domain view.name view.value view.valid
+    → c ≡ b ++ queue_lines Granted (rows_at rs place Granted)
+    → d ≡ c ++ queue_lines Conversion (rows_at rs place Conversion)
+    → e ≡ d ++ queue_lines Waiting (rows_at rs place Waiting)
+    → IfSome (slice_get rs place) (λ r. e ≡ a ++ resource_text r)
 unfolding rows_at
 resource_at-printed rs place view a b c d e shown line granted converting waiting =
     resource-printed (slice_get rs place) view a b c d e shown line granted converting waiting
 
 -- what is left of the resources begins with the one that was printed
 pub resources_left : (rs : List Resource) (place : ℕ) (a b : List ℕ) → place < length rs → IfSome (slice_get rs place) (λ r. b ≡ a ++ resource_text r)
-  → b ++ flat_map resource_text (drop (place + 1) rs) ≡ a ++ flat_map resource_text (drop place rs)
+    → b ++ flat_map resource_text (drop (place + 1) rs) ≡ a ++ flat_map resource_text (drop place rs)
 resources_left [] place a b within printed = absurd (omega arith)
 resources_left (r ∷ rs) zero a b within printed = rw printed (append_assoc a (resource_text r) (flat_map resource_text rs))
 resources_left (r ∷ rs) (suc place) a b within printed = rw (add-one) (rw add-one at (resources_left rs place a b (omega arith) printed))

@@ -1,0 +1,167 @@
+//! A session: the machine, and the names that the script has bound.
+
+ghost use Rattle.std.specs.Prelude.{◌≡◌, ◌++◌, MatchResult};
+ghost use Rattle.vlm_words.specs.Scripts.{dequeue_made, opening, request_made};
+ghost use Rattle.vlm_words.specs.Texts.{answer_line};
+ghost use Rattle.vlm.specs.Sessions.{IsRun, IsTold, StopsBytes, StopsLine};
+
+use crate::names::{Binding, bound_to};
+use crate::printing::answer_line;
+use crate::reading::read_line;
+use crate::show::show;
+use crate::stops::Stop;
+use std::alloc::Global;
+use std::marker::Model;
+use vlm_core::Core;
+use vlm_words::scripts::{DeqLine, EnqLine, Line, LineFault, ProcessName};
+use vlm_words::steps::{Answer, Declaration, Dequeue, NewRequest, Which};
+
+/// The machine, and the names that are bound to its processes.
+#[derive(Drop)]
+pub struct Session {
+    core: Core,
+    // in the order of their declarations
+    names: Vec<Binding>,
+}
+
+impl Model for Session {
+    ghost use Rattle.vlm_words.specs.Scripts.{Session as PlainSession};
+
+    ghost Value = { PlainSession };
+
+    ghost view = { λ s. record { names = s.names.items; state = s.core } };
+}
+
+impl Session {
+    /// A session in which nothing has happened.
+    pub fn new(alloc: Global) -> Self
+        ensures { result ≡ opening }
+    {
+        Session {
+            core: Core::new(alloc),
+            names: Vec::new(alloc),
+        }
+    }
+
+    /// Runs a line of a script, and prints what it tells at the end of `out`. Where memory is
+    /// refused the line may have run without its print.
+    pub fn run(&mut self, bytes: &[u8], out: &mut Vec<u8>) -> Result<(), Stop>
+        ensures { MatchResult result
+            (λ _. IsTold self.old bytes.now self.new out.old.items out.new.items)
+            (λ stop. StopsBytes self.old.names bytes.now stop) }
+    {
+        match read_line(bytes) {
+            Ok(line) => self.run_line(line, out),
+            Err(fault) => Err(Stop::Fault(fault)),
+        }
+    }
+
+    // Runs a line that was read.
+    fn run_line(&mut self, line: Line, out: &mut Vec<u8>) -> Result<(), Stop>
+        ensures { MatchResult result
+            (λ _. IsRun self.old line self.new out.old.items out.new.items)
+            (λ stop. StopsLine self.old.names line stop) }
+    {
+        match line {
+            Line::Empty => Ok(()),
+            Line::Declare(name, declaration) => self.declare(name, declaration, out),
+            Line::Enq(line) => self.enq(line, out),
+            Line::Deq(line) => self.deq(line, out),
+            Line::Show => match show(&self.core, out) {
+                Ok(()) => Ok(()),
+                Err(_) => Err(Stop::Memory),
+            },
+        }
+    }
+
+    // Declares a process, prints the answer, and binds the name where it is accepted.
+    fn declare(
+        &mut self,
+        name: ProcessName,
+        declaration: Declaration,
+        out: &mut Vec<u8>,
+    ) -> Result<(), Stop>
+        ensures { MatchResult result
+            (λ _. IsRun self.old (Line.Declare name declaration) self.new out.old.items out.new.items)
+            (λ stop. StopsLine self.old.names (Line.Declare name declaration) stop) }
+    {
+        if bound_to(&self.names, &name).is_some() {
+            return Err(Stop::Fault(LineFault::NameUsed));
+        }
+        if self.names.reserve(1).is_err() {
+            return Err(Stop::Memory);
+        }
+        let answer = self.core.declare(declaration);
+        if let Answer::Process(pid) = answer {
+            self.names.push_reserved(Binding::new(name, pid));
+        }
+        told(name, answer, out)
+    }
+
+    // Asks for a new lock of the process that the name is bound to, and prints the answer.
+    fn enq(&mut self, line: EnqLine, out: &mut Vec<u8>) -> Result<(), Stop>
+        ensures { MatchResult result
+            (λ _. IsRun self.old (Line.Enq line) self.new out.old.items out.new.items)
+            (λ stop. StopsLine self.old.names (Line.Enq line) stop) }
+    {
+        let Some(pid) = bound_to(&self.names, &line.name) else {
+            return Err(Stop::Fault(LineFault::UnknownName));
+        };
+        let answer = self.core.enq(request_made(pid, &line));
+        told(line.name, answer, out)
+    }
+
+    // Gives up a lock of the process that the name is bound to, and prints the answer.
+    fn deq(&mut self, line: DeqLine, out: &mut Vec<u8>) -> Result<(), Stop>
+        ensures { MatchResult result
+            (λ _. IsRun self.old (Line.Deq line) self.new out.old.items out.new.items)
+            (λ stop. StopsLine self.old.names (Line.Deq line) stop) }
+    {
+        let Some(pid) = bound_to(&self.names, &line.name) else {
+            return Err(Stop::Fault(LineFault::UnknownName));
+        };
+        let answer = self.core.deq(dequeue_made(pid, &line));
+        told(line.name, answer, out)
+    }
+}
+
+// Prints an answer under its name.
+fn told(name: ProcessName, answer: Answer, out: &mut Vec<u8>) -> Result<(), Stop>
+    ensures { MatchResult result
+        (λ _. out.new.items ≡ out.old.items ++ answer_line name answer)
+        (λ stop. stop ≡ Stop.Memory) }
+{
+    match answer_line(out, name.bytes(), answer) {
+        Ok(()) => Ok(()),
+        Err(_) => Err(Stop::Memory),
+    }
+}
+
+// The request that an enq line makes of a process.
+fn request_made(pid: u32, line: &EnqLine) -> NewRequest
+    ensures { result ≡ request_made pid line.now }
+{
+    NewRequest {
+        pid,
+        mode: line.mode,
+        name: line.resource,
+        block: line.block,
+        parent: Which::Id(0),
+        flags: 0,
+        ast: None,
+        bast: None,
+        param: 0,
+    }
+}
+
+// The dequeue that a deq line makes of a process.
+fn dequeue_made(pid: u32, line: &DeqLine) -> Dequeue
+    ensures { result ≡ dequeue_made pid line.now }
+{
+    Dequeue {
+        pid,
+        lock: line.lock,
+        value: None,
+        flags: 0,
+    }
+}
