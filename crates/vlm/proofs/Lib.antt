@@ -2,3 +2,4 @@ pub mod Hexadecimal
 pub mod Pieces
 pub mod Words
 mod Shown
+mod Progress

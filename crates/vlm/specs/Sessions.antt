@@ -1,9 +1,8 @@
 -- What a line of a script does in a session of the program, and how far a script has come.
-use Rattle.std.specs.Prelude.{◌≡◌, ℕ, List, ◌++◌, take, Option, None, Some, Result, Ok}
-use Rattle.std.specs.Io.KnownBytes.{Appends}
+use Rattle.std.specs.Prelude.{◌≡◌, ℕ, List, ◌++◌, Option, None, Some, Result, Ok}
 use Rattle.vlm_words.specs.declared.scripts.Line.{Line}
-use Rattle.vlm_words.specs.Lines.{lines_of, line_read}
-use Rattle.vlm_words.specs.Scripts.{Session, Binding, Runs, Played, name_fault, fault_of}
+use Rattle.vlm_words.specs.Lines.{line_read}
+use Rattle.vlm_words.specs.Scripts.{Session, Binding, Runs, name_fault, fault_of}
 use Rattle.vlm.specs.declared.faults.PlayFault.{PlayFault}
 use Rattle.vlm.specs.declared.faults.PlayFault.TheVariants.{Line as line_fault, Memory as memory_fault}
 use Rattle.vlm.specs.declared.stops.Stop.{Stop}
@@ -36,9 +35,3 @@ StopsBytes names bytes Memory = Unit {0}
 abbrev pub stopped_at : ℕ → Stop → PlayFault
 stopped_at number (Fault fault) = line_fault number fault
 stopped_at number Memory = memory_fault
-
--- the first lines have run; what they print is written but for what still waits to be
-pub record Reached (input : List ℕ) (count : ℕ) (begun now : Option (List ℕ)) (waiting : List ℕ) (last : Session) : Type 0 where
-  pub written : List ℕ
-  pub kept : Appends begun now written
-  pub played : Played (take count (lines_of input)) (written ++ waiting) last

@@ -3,6 +3,7 @@
 
 mod faults;
 mod names;
+mod play;
 mod printing;
 mod reading;
 mod session;
