@@ -65,18 +65,18 @@ reached-start input known = record { written = []; kept = Appends-nothing known;
 module _ (input : List ℕ) (count : ℕ) (begun now : Option (List ℕ)) where
   -- one more line has run
   pub reached-more : (waiting after : List ℕ) (last new : Session) (line : List ℕ) (rest : List (List ℕ)) → Reached input count begun now waiting last
-    → drop count (lines_of input) ≡ line ∷ rest → IsTold last line new waiting after → Reached input (count + 1) begun now after new
+      → drop count (lines_of input) ≡ line ∷ rest → IsTold last line new waiting after → Reached input (count + 1) begun now after new
   reached-more waiting after last new line rest reached next told = record {
     written = reached.written;
     kept = reached.kept;
     played =
-      rw (take-next (lines_of input) count line rest next, told.run.told, ← append_assoc)
-      (more line told.line told.run.text reached.played told.read told.run.faultless told.run.runs);
+        rw (take-next (lines_of input) count line rest next, told.run.told, ← append_assoc)
+        (more line told.line told.run.text reached.played told.read told.run.faultless told.run.runs);
   }
 
   -- a part of what waited is written
   pub reached-passed : (later : Option (List ℕ)) (waiting left : List ℕ) (last : Session) → Reached input count begun now waiting last
-    → Passes now later waiting left → Reached input count begun later left last
+      → Passes now later waiting left → Reached input count begun later left last
   reached-passed later waiting left last reached passed = record {
     written = reached.written ++ passed.part;
     kept = Appends-append begun now later reached.written passed.part reached.kept passed.wrote;
@@ -85,33 +85,40 @@ module _ (input : List ℕ) (count : ℕ) (begun now : Option (List ℕ)) where
 
   -- all that waited is written
   pub reached-written : (later : Option (List ℕ)) (waiting : List ℕ) (last : Session) → Reached input count begun now waiting last
-    → Appends now later waiting → Reached input count begun later [] last
+      → Appends now later waiting → Reached input count begun later [] last
   reached-written later waiting last reached wrote =
       reached-passed later waiting [] last reached (record { part = waiting; wrote = wrote; split = sym (append-nil waiting) })
 
   -- only a part of what waited is written
   pub stops-writing : (later : Option (List ℕ)) (waiting : List ℕ) (last : Session) (n : ℕ) → Reached input count begun now waiting last
-    → Appends now later (take n waiting) → Wrote begun later (Plays input (Err Write))
-  stops-writing later waiting last n reached wrote =
-      (reached.written ++ take n waiting, Appends-append begun now later reached.written (take n waiting) reached.kept wrote, record {
-        count = count;
-        rest = drop n waiting;
-        text = (last, rw (append_assoc, take-append-drop) reached.played);
-      })
+      → Appends now later (take n waiting) → Wrote begun later (Plays input (Err Write))
+  stops-writing later waiting last n reached wrote = (
+    reached.written ++ take n waiting,
+    Appends-append begun now later reached.written (take n waiting) reached.kept wrote,
+    record {
+      count = count;
+      rest = drop n waiting;
+      text = (last, rw (append_assoc, take-append-drop) reached.played);
+    },
+  )
 
   -- a line stops the run once all before it is written
   pub stops-at : (last : Session) (line : List ℕ) (rest : List (List ℕ)) (stop : Stop) → Reached input count begun now [] last
-    → drop count (lines_of input) ≡ line ∷ rest → StopsBytes last.names line stop → Wrote begun now (Plays input (Err (stopped_at (count + 1) stop)))
-  stops-at last line rest (Fault fault) reached next faulty = (reached.written, reached.kept, record {
-    before = count;
-    counted = refl;
-    last = last;
-    played = rw append-nil at reached.played;
-    line = line;
-    rest = rest;
-    here = next;
-    faulty = faulty;
-  })
+      → drop count (lines_of input) ≡ line ∷ rest → StopsBytes last.names line stop → Wrote begun now (Plays input (Err (stopped_at (count + 1) stop)))
+  stops-at last line rest (Fault fault) reached next faulty = (
+    reached.written,
+    reached.kept,
+    record {
+      before = count;
+      counted = refl;
+      last = last;
+      played = rw append-nil at reached.played;
+      line = line;
+      rest = rest;
+      here = next;
+      faulty = faulty;
+    },
+  )
   stops-at last line rest out_of_memory reached next faulty = (reached.written, reached.kept, (count, (last, rw append-nil at reached.played)))
 
   -- no line is left, and all is written
@@ -125,8 +132,8 @@ length-consumed input (Some rest) bytes consumed = omega (arith, ap length consu
 
 -- a fault while the script is read leaves nothing written
 pub stops-reading : (known now writer : Option (List ℕ)) (fault : PlayFault) → (fault ≡ Memory) ⊎ (fault ≡ Read) ⊎ (fault ≡ Long)
-  → (fault ≡ Long → (bytes : List ℕ) × (length bytes ≡ 2 ^ 24 + 1) × Consumes known now bytes)
-  → IfSome known (λ input. Wrote writer writer (Plays input (Err fault)))
+    → (fault ≡ Long → (bytes : List ℕ) × (length bytes ≡ 2 ^ 24 + 1) × Consumes known now bytes)
+    → IfSome known (λ input. Wrote writer writer (Plays input (Err fault)))
 stops-reading None now writer fault which long = tt
 stops-reading (Some input) now writer fault (inl memory) long = rw memory ([], Appends-nothing writer, (0, (opening, opened)))
 stops-reading (Some input) now writer fault (inr (inl read)) long = rw read ([], Appends-nothing writer, refl)

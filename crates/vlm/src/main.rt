@@ -6,9 +6,31 @@ mod names;
 mod play;
 mod printing;
 mod reading;
+mod run;
 mod session;
 mod show;
 mod stops;
 mod streams;
 
-fn main(_rt: HostRuntime) {}
+use faults::PlayFault;
+use std::process::ExitCode;
+use std::{env, io};
+
+fn main(rt: HostRuntime) -> ExitCode {
+    let status = match words_of(&rt) {
+        Ok(words) => run::run_words(
+            &rt,
+            words.as_slice(),
+            &mut rt.stdin(),
+            &mut rt.stdout(),
+            &mut rt.stderr(),
+        ),
+        Err(_) => run::failed(&PlayFault::Memory, &mut rt.stderr()),
+    };
+    ExitCode::from(status)
+}
+
+// The words that the program was given, its own name first.
+fn words_of(rt: &HostRuntime) -> io::Result<Vec<String>> {
+    Ok(env::args(rt)?.collect(rt.alloc())?)
+}

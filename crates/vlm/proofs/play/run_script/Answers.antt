@@ -19,9 +19,9 @@ loop-line-preserved g c =
       left = drop-more (lines_of input) c.loop-line.count _ _ next;
       short = omega (arith, c.in-Some.ensures.shorter, c.loop-line.invariant.short);
       reached =
-        reached-passed input (c.loop-line.count + 1) _ _ _ _ _ _ (
+          reached-passed input (c.loop-line.count + 1) _ _ _ _ _ _ (
           reached-more input c.loop-line.count _ _ _ _ _ _ _ _ c.loop-line.invariant.reached next c.in_default-run_line.ensures.run
-        ) c.in-Ok-write_when_full.ensures.passed;
+          ) c.in-Ok-write_when_full.ensures.passed;
     }
 
 -- the line's fault ends the run, and what was printed before it is written
@@ -31,8 +31,8 @@ returns-in-Ok g c =
     let next : drop c.loop-line.count (lines_of input) ≡ c.in-Some.line.now ∷ lines_of c.in-Some.after.now = sym c.loop-line.invariant.left ∙ c.in-Some.ensures.some in
     let wrote = rw (c.deref.ensures.value, c.in-Err.ensures.err) at c.in-Ok.ensures.whole in
     rw c.at.ensures (
-      stops-at input c.loop-line.count _ _ _ _ _ c.in-Err.stop
-      (reached-written input c.loop-line.count _ _ _ _ _ c.loop-line.invariant.reached wrote) next c.in-Err.ensures.run
+    stops-at input c.loop-line.count _ _ _ _ _ c.in-Err.stop
+    (reached-written input c.loop-line.count _ _ _ _ _ c.loop-line.invariant.reached wrote) next c.in-Err.ensures.run
     )
 
 pub returns-in-Err-write_whole : goal.returns-in-Err-write_whole
