@@ -14,35 +14,37 @@ put_front : (ends : ℕ → Bool) (byte n : ℕ) (bytes : List ℕ) (b : Bool) �
 put_front ends byte n bytes true e = refl
 put_front ends byte n bytes false e = let next : 1 + n ≡ suc n = omega arith in rw (next, e) refl
 
+-- a byte alone, a separator or not
 first_alone : (ends : ℕ → Bool) (byte : ℕ) (b : Bool)
     → cond b ([] ∷ []) ((byte ∷ []) ∷ []) ≡ take (cond (not b) 1 0) (byte ∷ []) ∷ pieces ends (drop (cond (not b) 1 0) [])
 first_alone ends byte true = refl
 first_alone ends byte false = refl
 
--- a list that is not empty begins with the piece before its first separator
+-- a list with a byte begins with the piece before its first separator
 first_piece : (ends : ℕ → Bool) (byte : ℕ) (bytes : List ℕ)
     → pieces ends (byte ∷ bytes) ≡ take (position_or_len ends (byte ∷ bytes)) (byte ∷ bytes) ∷ pieces ends (drop (suc (position_or_len ends (byte ∷ bytes))) (byte ∷ bytes))
 first_piece ends byte [] = first_alone ends byte (ends byte)
 first_piece ends byte (next ∷ bytes) = put_front ends byte _ (next ∷ bytes) (ends byte) (first_piece ends next bytes)
 
+-- the same of a list that is not empty
 pub pieces_first : (ends : ℕ → Bool) (bytes : List ℕ) → 0 < length bytes → pieces ends bytes ≡ take (position_or_len ends bytes) bytes ∷ pieces ends (drop (position_or_len ends bytes + 1) bytes)
 pieces_first ends [] h = absurd (omega arith)
 pieces_first ends (byte ∷ bytes) h = rw add-one (first_piece ends byte bytes)
 
+-- a blank in front changes no word
 drop_blank : (byte : ℕ) (bytes : List ℕ) (n : ℕ) (b : Bool) → is_blank byte ≡ b → words_of (drop n bytes) ≡ words_of bytes
     → words_of (drop (cond (not (not b)) (1 + n) 0) (byte ∷ bytes)) ≡ words_of (byte ∷ bytes)
 drop_blank byte bytes n true blank e = let next : 1 + n ≡ suc n = omega arith in rw (next, blank) e
 drop_blank byte bytes n false blank e = refl
 
--- blanks in front change no word
-pub words_of-drop_blanks : (bytes : List ℕ) → words_of (drop (position_or_len (λ byte. not (is_blank byte)) bytes) bytes) ≡ words_of bytes
+-- nor do all the blanks in front
+words_of-drop_blanks : (bytes : List ℕ) → words_of (drop (position_or_len (λ byte. not (is_blank byte)) bytes) bytes) ≡ words_of bytes
 words_of-drop_blanks [] = refl
 words_of-drop_blanks (byte ∷ bytes) = drop_blank byte bytes _ (is_blank byte) refl (words_of-drop_blanks bytes)
 
+-- the place of the first separator, or the length where there is none
 pub end_found : (ends : ℕ → Bool) (bytes : List ℕ) (r : Option ℕ) → r ≡ cond (ltb (position_or_len ends bytes) (length bytes)) (Some (position_or_len ends bytes)) None → unwrap_or r (length bytes) ≡ position_or_len ends bytes
 end_found ends bytes r e = let l = prefix_len-le-length (λ byte. not (ends byte)) bytes in grind (arith, nat_tests)
-
-pub ruleset cutting = (pieces_first, words_of-drop_blanks)
 
 -- a list of blanks alone has no word
 pub no_word : (bytes : List ℕ) (n : ℕ) → n ≡ position_or_len (λ byte. not (is_blank byte)) bytes → length (drop n bytes) ≡ 0 → words_of bytes ≡ []
@@ -54,6 +56,7 @@ piece_kept : (n byte : ℕ) (bytes : List ℕ) (rest : List (List ℕ)) → 0 < 
 piece_kept zero byte bytes rest h = absurd (omega arith)
 piece_kept (suc n) byte bytes rest h = refl
 
+-- a piece whose first byte is no separator has a byte
 some_byte : (n : ℕ) (b : Bool) → b ≡ false → 0 < cond (not b) (1 + n) 0
 some_byte n true e = absurd (false≢true (sym e))
 some_byte n false e = omega arith
@@ -65,6 +68,7 @@ word_in_front byte bytes h =
     ap (filter (λ word. not (is_nothing word))) (first_piece is_blank byte bytes)
     ∙ piece_kept (position_or_len is_blank (byte ∷ bytes)) byte bytes (pieces is_blank (drop (suc (position_or_len is_blank (byte ∷ bytes))) (byte ∷ bytes))) (some_byte _ (is_blank byte) h)
 
+-- what is not true is false
 false_from_not : (b : Bool) → not b ≡ true → b ≡ false
 false_from_not true e = sym e
 false_from_not false e = refl

@@ -59,7 +59,8 @@ fn ast_text(out: &mut Vec<u8>, ast: Ast) -> Result<(), AllocError>
 fn ast_numbers(out: &mut Vec<u8>, kind: &[u8], ast: Ast) -> Result<(), AllocError>
     ensures { OnOk result (out.new.items
         ≡ out.old.items
-        ++ (kind.now ++ decimal ast.routine ++ codes " param " ++ decimal ast.param ++ codes " lock " ++ decimal ast.lkid)) }
+        ++ (kind.now ++ decimal ast.routine ++ codes " param " ++ decimal ast.param
+        ++ codes " lock " ++ decimal ast.lkid)) }
 {
     text(out, kind)?;
     number(out, ast.routine)?;

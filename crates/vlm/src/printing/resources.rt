@@ -2,7 +2,7 @@
 
 ghost use Rattle.std.specs.Prelude.{◌≡◌, ◌++◌, ◌&&◌, nat_le, [], OnOk};
 ghost use Rattle.std.specs.List.{list_all};
-ghost use Rattle.vlm_words.specs.Texts.{resource_line, resources_text, domain_text, name_text, is_readable, validity, line_feed};
+ghost use Rattle.vlm_words.specs.Texts.{resource_line, resources_text, domain_text, name_text, is_readable, validity};
 
 use super::texts::{hexadecimal, number, text};
 use std::alloc::AllocError;

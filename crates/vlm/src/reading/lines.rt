@@ -1,7 +1,7 @@
 //! Lines by their commands.
 
 ghost use Rattle.std.specs.Prelude.{◌≡◌, MatchResult};
-ghost use Rattle.vlm_words.specs.Lines.{line_read, line_of, command_line, declare_line, enq_line, deq_line, declaration_of, words_of, next_word, no_more, given};
+ghost use Rattle.vlm_words.specs.Lines.{line_read, line_of, command_line, declare_line, enq_line, deq_line, declaration_of, words_of, next_word, no_more};
 
 use super::cuts;
 use super::keyed::{declare_words, enq_words};
@@ -126,7 +126,9 @@ fn deq_line(line: &[u8]) -> Result<Line, LineFault>
 
 /// The next word, which the line needs, and the bytes behind it.
 fn needed_word(line: &[u8]) -> Result<(&[u8], &[u8]), LineFault>
-    ensures { MatchResult result (λ p. next_word (words_of line.now) ≡ Ok (p.0.now, words_of p.1.now)) (λ fault. next_word (words_of line.now) ≡ Err fault) }
+    ensures { MatchResult result
+        (λ p. next_word (words_of line.now) ≡ Ok (p.0.now, words_of p.1.now))
+        (λ fault. next_word (words_of line.now) ≡ Err fault) }
 {
     cuts::next_word(line).ok_or(LineFault::WrongWord)
 }

@@ -1,6 +1,6 @@
 //! Words that stand for names and modes.
 
-ghost use Rattle.std.specs.Prelude.{◌≡◌, codes, MatchOption, length, drop, true, false};
+ghost use Rattle.std.specs.Prelude.{◌≡◌, MatchOption, true, false};
 ghost use Rattle.std.specs.List.{list_all};
 ghost use Rattle.vlm_words.specs.Lines.{process_name, begins_with_letter, mode_of, is_name_byte, is_text, has_key, behind};
 
@@ -74,7 +74,8 @@ pub fn mode(word: &[u8]) -> Result<Mode, LineFault>
 
 /// What stands behind the key, if the word has it in front.
 pub fn behind_key<'a>(key: &[u8], word: &'a [u8]) -> Option<&'a [u8]>
-    ensures { MatchOption result (has_key key.now word.now ≡ false) (λ rest. (has_key key.now word.now ≡ true) × (rest.now ≡ behind key.now word.now)) }
+    ensures { MatchOption result (has_key key.now word.now ≡ false)
+        (λ rest. (has_key key.now word.now ≡ true) × (rest.now ≡ behind key.now word.now)) }
 {
     if word.starts_with(key) {
         Some(&word[key.len()..])

@@ -1,6 +1,6 @@
 //! A reader read to its end.
 
-ghost use Rattle.std.specs.Prelude.{◌≡◌, ◌≤◌, ◌<◌, ◌+◌, ◌^◌, ℕ, List, ◌++◌, ◌⊎◌, length, vec_len, IfOk, OnOk, IfErr, OnErr, IfSome, IsErrOf};
+ghost use Rattle.std.specs.Prelude.{◌≡◌, ◌≤◌, ◌+◌, ◌^◌, ℕ, List, ◌++◌, ◌⊎◌, length, vec_len, IfOk, OnOk, IfErr, OnErr, IfSome, IsErrOf};
 ghost use Rattle.std.specs.Io.KnownBytes.{Consumes, IsAtEnd};
 
 use crate::faults::PlayFault;
@@ -16,7 +16,8 @@ const PIECE: usize = 8192;
 /// All the bytes that are left. Of more than the limit, one byte more than that is read, and `Long`
 /// is the fault.
 pub fn read_whole<R: Read>(alloc: Global, reader: &mut R) -> Result<Vec<u8>, PlayFault>
-    ensures whole { IfOk result (λ bytes. IfSome (R.remaining reader.old) (λ input. bytes.items ≡ input)) }
+    ensures whole { IfOk result (λ bytes.
+        IfSome (R.remaining reader.old) (λ input. bytes.items ≡ input)) }
     ensures end { OnOk result (IsAtEnd (R.remaining reader.new)) }
     ensures within { IfOk result (λ bytes. vec_len bytes ≤ 2 ^ 24) }
     ensures long { IsErrOf result PlayFault.Long → (bytes : List ℕ)

@@ -1,6 +1,6 @@
 //! Bytes written to their end.
 
-ghost use Rattle.std.specs.Prelude.{◌≡◌, ◌≤◌, ℕ, take, length, OnOk, IfErr, OnErr};
+ghost use Rattle.std.specs.Prelude.{◌≡◌, ◌≤◌, ℕ, [], take, length, IsOk, OnOk, IfErr, OnErr};
 ghost use Rattle.std.specs.Io.KnownBytes.{Appends};
 
 use crate::faults::PlayFault;
@@ -8,8 +8,12 @@ use std::io::Write;
 
 /// Writes all the bytes, or some first part of them where a write fails or takes none.
 pub fn write_whole<W: Write>(writer: &mut W, bytes: &[u8]) -> Result<(), PlayFault>
-    ensures whole { OnOk result (Appends (W.contents writer.old) (W.contents writer.new) bytes.now) }
-    ensures part { OnErr result ((n : ℕ) × (n ≤ length bytes.now) × Appends (W.contents writer.old) (W.contents writer.new) (take n bytes.now)) }
+    ensures whole { OnOk result
+        (Appends (W.contents writer.old) (W.contents writer.new) bytes.now) }
+    ensures part { OnErr result ((n : ℕ)
+        × (n ≤ length bytes.now)
+        × Appends (W.contents writer.old) (W.contents writer.new) (take n bytes.now)) }
+    ensures empty { bytes.now ≡ [] → IsOk result }
     ensures fault { IfErr result (λ fault. fault ≡ PlayFault.Write) }
 {
     let mut done = 0;
