@@ -1,6 +1,0 @@
-pub mod Each
-pub mod Pairs
-pub mod Always
-pub mod EachResource
-pub mod HeldModes
-pub mod NothingLeft

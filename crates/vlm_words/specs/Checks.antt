@@ -1,8 +1,9 @@
 -- The checks that several steps make, each a refusal or none.
-use Rattle.std.specs.Prelude.{ℕ, Bool, ◌&&◌, ◌<◌, ◌^◌, Option, None, Some, is_some, nat_lt, nat_le, List, if◌then◌else◌}
+use Rattle.std.specs.Prelude.{ℕ, Bool, not, ◌&&◌, ◌<◌, ◌^◌, Option, None, Some, is_some, nat_lt, nat_le, List, if◌then◌else◌}
 use Rattle.std.specs.Option.{option_map_or}
 use Rattle.vlm_words.specs.declared.conditions.Cond.{Cond}
-use Rattle.vlm_words.specs.declared.conditions.Cond.TheVariants.{Departed, Nonexpr, Accvio, Nolockid}
+use Rattle.vlm_words.specs.declared.conditions.Cond.TheVariants.{Normal, Synch, Departed, Nonexpr, Accvio, Nolockid, Notqueued}
+use Rattle.vlm_words.specs.Flags.{has_flag, noqueue, syncsts}
 use Rattle.vlm_words.specs.State.{State, Node, Process, node_at, process_of}
 use Rattle.vlm_words.specs.Steps.{node_of_pid}
 
@@ -30,3 +31,15 @@ block_refusal s pid block =
 -- the identifications or the request numbers are used up
 unfoldable pub numbers_refusal : State → Option Cond
 numbers_refusal s = if nat_lt s.next_lkid (2 ^ 32) && nat_lt s.next_request (2 ^ 64) then None else Some Nolockid
+
+-- the request numbers are used up
+unfoldable pub request_numbers_refusal : State → Option Cond
+request_numbers_refusal s = if nat_lt s.next_request (2 ^ 64) then None else Some Nolockid
+
+-- a request that must not queue cannot be granted at once
+abbrev pub queue_refusal : ℕ → Bool → Option Cond
+queue_refusal flags at_once = if has_flag flags noqueue && not at_once then Some Notqueued else None
+
+-- what an accepted request answers: SYNCH where it is granted at once and asks for that
+abbrev pub acceptance : ℕ → Bool → Cond
+acceptance flags at_once = if has_flag flags syncsts && at_once then Synch else Normal

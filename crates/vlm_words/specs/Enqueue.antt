@@ -1,11 +1,11 @@
 -- The step that asks for a new lock.
-use Rattle.std.specs.Prelude.{ℕ, Bool, true, false, ◌&&◌, ◌==◌, ◌+◌, List, [], ◌∷◌, ◌++◌, replicate, Option, None, Some, is_none, if◌then◌else◌}
+use Rattle.std.specs.Prelude.{ℕ, Bool, true, false, not, ◌&&◌, ◌||◌, ◌==◌, ◌+◌, List, [], ◌∷◌, ◌++◌, replicate, Option, None, Some, is_none, find, unwrap_or, if◌then◌else◌}
 use Rattle.std.specs.Option.{option_map_or}
 use Rattle.std.specs.List.{list_any}
 use Rattle.std.specs.Cmp.Lexicographic.{pointwise}
 use Rattle.std.specs.Result.{result_err}
 use Rattle.vlm_words.specs.declared.conditions.Cond.{Cond}
-use Rattle.vlm_words.specs.declared.conditions.Cond.TheVariants.{Badparam}
+use Rattle.vlm_words.specs.declared.conditions.Cond.TheVariants.{Badparam, Unsupported}
 use Rattle.vlm_words.specs.declared.locks.Request.{Request}
 use Rattle.vlm_words.specs.declared.locks.Row.{Row}
 use Rattle.vlm_words.specs.declared.resources.Domain.{Domain}
@@ -13,32 +13,32 @@ use Rattle.vlm_words.specs.declared.resources.Domain.TheVariants.{Group, System}
 use Rattle.vlm_words.specs.declared.steps.NewRequest.{NewRequest}
 use Rattle.vlm_words.specs.declared.steps.Which.{Which}
 use Rattle.vlm_words.specs.declared.steps.Which.TheVariants.{Id, Block}
+use Rattle.vlm_words.specs.Endings.{Ending, ended}
+use Rattle.vlm_words.specs.Endings.How.{by_grant}
+use Rattle.vlm_words.specs.Flags.{enq_bits, expedite, flag_bits, has_flag, is_known as is_built}
+use Rattle.vlm_words.specs.Modes.{rank}
 use Rattle.vlm_words.specs.Names.{name_of}
 use Rattle.vlm_words.specs.State.{State, Resource, Process, process_of}
-use Rattle.vlm_words.specs.Checks.{or_else, caller_refusal, block_refusal, numbers_refusal}
-use Rattle.vlm_words.specs.Grants.{is_empty, fits, grant, swept}
+use Rattle.vlm_words.specs.Checks.{or_else, caller_refusal, block_refusal, numbers_refusal, queue_refusal}
+use Rattle.vlm_words.specs.Grants.{is_empty, fits, grant, swept_grants}
 
 -- the identification 0 names no parent
 abbrev pub is_no_parent : Which → Bool
 is_no_parent (Id lkid) = lkid == 0
 is_no_parent (Block number) = false
 
--- an argument that is not built yet: any flag, a routine, a parent
+-- an unknown flag, or an argument that is not built yet: a routine, a parent
 unfoldable pub enq_argument_refusal : NewRequest → Option Cond
 enq_argument_refusal e =
-    if (e.flags == 0) && is_none e.ast && is_none e.bast && is_no_parent e.parent then None else Some Badparam
+    if is_built enq_bits e.flags && is_none e.ast && is_none e.bast && is_no_parent e.parent then None else Some Badparam
+
+-- EXPEDITE goes with NL alone
+unfoldable pub expedite_refusal : NewRequest → Option Cond
+expedite_refusal e = if has_flag e.flags expedite && not (rank e.mode == 0) then Some Unsupported else None
 
 -- the bytes are no resource name
 unfoldable pub name_refusal : List ℕ → Option Cond
 name_refusal bytes = result_err (name_of bytes)
-
--- the checks of a new request, in their order
-unfoldable pub enq_refusal : State → NewRequest → Option Cond
-enq_refusal s e =
-    or_else (caller_refusal s e.pid)
-    (or_else (enq_argument_refusal e)
-    (or_else (block_refusal s e.pid e.block)
-    (or_else (name_refusal e.name) (numbers_refusal s))))
 
 -- where a resource stands: below its parent, or as a root in its domain
 pub record Key : Type 0 where
@@ -66,6 +66,7 @@ abbrev pub request_of : State → NewRequest → Request
 request_of s e = record {
   number = s.next_request;
   mode = e.mode;
+  flags = record { 0 = e.flags };
   block = e.block;
   completion = e.ast;
   blocking = e.bast;
@@ -97,14 +98,18 @@ new_resource serial key = record {
   waiting = [];
 }
 
--- at once: the mode fits, and nobody is queued
+-- the mode fits, and nobody is queued
 abbrev pub is_free_for : Request → Resource → Bool
 is_free_for request r = fits request.mode r.granted r.converting && is_empty r.converting && is_empty r.waiting
+
+-- at once: it fits and nobody is queued, or it is expedited
+unfoldable pub is_at_once : Request → Resource → Bool
+is_at_once request r = has_flag (flag_bits request.flags) expedite || is_free_for request r
 
 -- the lock is granted at once, or goes to the end of the waiting queue
 unfoldable pub entered : Row → Request → Resource → Resource
 entered row request r =
-    if is_free_for request r then grant r row else record r { waiting = r.waiting ++ row ∷ [] }
+    if is_at_once request r then grant r row else record r { waiting = r.waiting ++ row ∷ [] }
 
 -- some resource stands under the key
 abbrev pub is_known : Key → List Resource → Bool
@@ -116,6 +121,24 @@ entered_among serial key row request [] = entered row request (new_resource seri
 entered_among serial key row request (r ∷ rest) =
     if is_at key r then entered row request r ∷ rest else r ∷ entered_among serial key row request rest
 
+-- the resource under the key as the lock finds it: a new one where none is there
+unfoldable pub found_by : State → NewRequest → Resource
+found_by s e = unwrap_or (find (is_at (key_of s e)) s.resources) (new_resource s.next_serial (key_of s e))
+
+-- the new request is granted at once
+abbrev pub enq_at_once : State → NewRequest → Bool
+enq_at_once s e = is_at_once (request_of s e) (found_by s e)
+
+-- the checks of a new request, in their order
+unfoldable pub enq_refusal : State → NewRequest → Option Cond
+enq_refusal s e =
+    or_else (caller_refusal s e.pid)
+    (or_else (enq_argument_refusal e)
+    (or_else (block_refusal s e.pid e.block)
+    (or_else (name_refusal e.name)
+    (or_else (expedite_refusal e)
+    (or_else (numbers_refusal s) (queue_refusal e.flags (enq_at_once s e)))))))
+
 -- the lock enters, and the numbers that it took are used up
 unfoldable pub enq_change : State → NewRequest → State
 enq_change s e = record s {
@@ -124,3 +147,8 @@ enq_change s e = record s {
   next_request = s.next_request + 1;
   next_serial = if is_known (key_of s e) s.resources then s.next_serial else s.next_serial + 1;
 }
+
+-- the requests that end in the step: the new one if it is granted at once, and then those of the sweep
+unfoldable pub enq_endings : State → NewRequest → List Ending
+enq_endings s e =
+    (if enq_at_once s e then ended by_grant (Some (request_of s e)) else []) ++ swept_grants (enq_change s e).resources

@@ -1,10 +1,12 @@
 -- How queued requests are granted: fits, grant, serve, sweep.
-use Rattle.std.specs.Prelude.{ℕ, Bool, true, false, not, ◌&&◌, List, [], ◌∷◌, ◌++◌, map, filter, Option, None, Some, is_some, if◌then◌else◌}
+use Rattle.std.specs.Prelude.{ℕ, Bool, true, false, not, ◌&&◌, List, [], ◌∷◌, ◌++◌, map, filter, flat_map, Option, None, Some, is_some, if◌then◌else◌}
 use Rattle.std.specs.List.{list_all}
 use Rattle.vlm_words.specs.declared.modes.Mode.{Mode}
 use Rattle.vlm_words.specs.declared.locks.Request.{Request}
 use Rattle.vlm_words.specs.declared.locks.Row.{Row}
 use Rattle.vlm_words.specs.Modes.{is_compatible}
+use Rattle.vlm_words.specs.Endings.{Ending, ended}
+use Rattle.vlm_words.specs.Endings.How.{by_grant}
 use Rattle.vlm_words.specs.State.{Resource}
 
 -- no lock stands in the queue
@@ -52,6 +54,17 @@ serve_waiting r [] = r
 serve_waiting r (row ∷ rows) =
     if wanted_fits row.want r.granted r.converting then serve_waiting (record (grant r row) { waiting = rows }) rows else r
 
+-- the requests that so end, in the order of their grants
+abbrev pub converting_grants : Resource → List Row → List Ending
+converting_grants r [] = []
+converting_grants r (row ∷ rows) =
+    if wanted_fits row.want r.granted rows then ended by_grant row.want ++ converting_grants (record (grant r row) { converting = rows }) rows else []
+
+abbrev pub waiting_grants : Resource → List Row → List Ending
+waiting_grants r [] = []
+waiting_grants r (row ∷ rows) =
+    if wanted_fits row.want r.granted r.converting then ended by_grant row.want ++ waiting_grants (record (grant r row) { waiting = rows }) rows else []
+
 -- once no conversion is queued, the waiting queue is served too
 abbrev pub serve_new_requests : Resource → Resource
 serve_new_requests r = if is_empty r.converting then serve_waiting r r.waiting else r
@@ -60,6 +73,13 @@ serve_new_requests r = if is_empty r.converting then serve_waiting r r.waiting e
 unfoldable pub served : Resource → Resource
 served r = serve_new_requests (serve_converting r r.converting)
 
+-- the requests that end as a resource is served
+abbrev pub new_request_grants : Resource → List Ending
+new_request_grants r = if is_empty r.converting then waiting_grants r r.waiting else []
+
+unfoldable pub grants_of : Resource → List Ending
+grants_of r = converting_grants r r.converting ++ new_request_grants (serve_converting r r.converting)
+
 -- no lock is left on the resource
 abbrev pub is_vacant : Resource → Bool
 is_vacant r = is_empty r.granted && is_empty r.converting && is_empty r.waiting
@@ -67,3 +87,7 @@ is_vacant r = is_empty r.granted && is_empty r.converting && is_empty r.waiting
 -- sweep: every resource is served, and dropped if it has no lock
 unfoldable pub swept : List Resource → List Resource
 swept resources = filter (λ r. not (is_vacant r)) (map served resources)
+
+-- the requests that end in a sweep, resource by resource
+unfoldable pub swept_grants : List Resource → List Ending
+swept_grants resources = flat_map grants_of resources

@@ -1,14 +1,17 @@
 pub mod Padding
 pub mod Names
 pub mod Modes
+pub mod Flags
 pub mod Conditions
 pub mod State
 pub mod Steps
+pub mod Endings
 pub mod Grants
 pub mod Checks
 pub mod Declare
 pub mod Enqueue
 pub mod Dequeue
+pub mod Convert
 pub mod Stepped
 pub mod Runs
 pub mod Laws

@@ -1,6 +1,8 @@
 -- Which lock modes may be held together.
-use Rattle.std.specs.Prelude.{ℕ, Bool, List, [], ◌∷◌, ◌==◌, ◌&&◌, ◌||◌}
+use Rattle.std.specs.Prelude.{ℕ, Bool, List, [], ◌∷◌, ◌==◌, ◌&&◌, ◌||◌, if◌then◌else◌}
 use Rattle.std.specs.List.{list_any}
+use Rattle.vlm_words.specs.declared.modes.Act.{Act}
+use Rattle.vlm_words.specs.declared.modes.Act.TheVariants.{Nothing, Return, Write}
 use Rattle.vlm_words.specs.declared.modes.Mode.{Mode}
 use Rattle.vlm_words.specs.declared.modes.Mode.TheVariants.{Nl, Cr, Cw, Pr, Pw, Ex}
 
@@ -30,3 +32,44 @@ is_pair_of a b pair =
 -- two locks of one resource may be held in these modes
 unfoldable pub is_compatible : Mode → Mode → Bool
 is_compatible a b = list_any (is_pair_of a b) compatible_pairs
+
+-- the conversions whose VALBLK returns the value block: the held mode, and the modes wanted
+abbrev pub returning_pairs : List (Mode × Mode)
+returning_pairs =
+    (Nl, Nl) ∷ (Nl, Cr) ∷ (Nl, Cw) ∷ (Nl, Pr) ∷ (Nl, Pw) ∷ (Nl, Ex)
+    ∷ (Cr, Cr) ∷ (Cr, Cw) ∷ (Cr, Pr) ∷ (Cr, Pw) ∷ (Cr, Ex)
+    ∷ (Cw, Cw) ∷ (Cw, Pr) ∷ (Cw, Pw) ∷ (Cw, Ex)
+    ∷ (Pr, Pr) ∷ (Pr, Pw) ∷ (Pr, Ex)
+    ∷ (Pw, Ex)
+    ∷ []
+
+-- the conversions whose VALBLK writes it
+abbrev pub writing_pairs : List (Mode × Mode)
+writing_pairs =
+    (Pw, Nl) ∷ (Pw, Cr) ∷ (Pw, Cw) ∷ (Pw, Pr) ∷ (Pw, Pw)
+    ∷ (Ex, Nl) ∷ (Ex, Cr) ∷ (Ex, Cw) ∷ (Ex, Pr) ∷ (Ex, Pw) ∷ (Ex, Ex)
+    ∷ []
+
+-- the conversions that QUECVT may go with
+abbrev pub queued_pairs : List (Mode × Mode)
+queued_pairs =
+    (Nl, Cr) ∷ (Nl, Cw) ∷ (Nl, Pr) ∷ (Nl, Pw) ∷ (Nl, Ex)
+    ∷ (Cr, Cw) ∷ (Cr, Pr) ∷ (Cr, Pw) ∷ (Cr, Ex)
+    ∷ (Cw, Pr) ∷ (Cw, Pw) ∷ (Cw, Ex)
+    ∷ (Pr, Cw) ∷ (Pr, Pw) ∷ (Pr, Ex)
+    ∷ (Pw, Ex)
+    ∷ []
+
+-- the pair is the held mode and the wanted mode, in this order
+abbrev pub is_conversion : Mode → Mode → Mode × Mode → Bool
+is_conversion held want pair = (rank pair.0 == rank held) && (rank pair.1 == rank want)
+
+-- what VALBLK does on a conversion
+unfoldable pub value_action : Mode → Mode → Act
+value_action held want =
+    if list_any (is_conversion held want) returning_pairs then Return
+    else (if list_any (is_conversion held want) writing_pairs then Write else Nothing)
+
+-- the conversion may be asked for with QUECVT
+unfoldable pub is_queued_legally : Mode → Mode → Bool
+is_queued_legally held want = list_any (is_conversion held want) queued_pairs

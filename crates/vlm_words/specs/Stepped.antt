@@ -1,42 +1,72 @@
 -- One step of the plain lock machine, and what else a step may come to.
-use Rattle.std.specs.Prelude.{◌≡◌, ◌⊎◌, Option, None, Some}
+use Rattle.std.specs.Prelude.{◌≡◌, ◌⊎◌, List, [], Option, None, Some}
+use Rattle.std.proofs.Common.{inl, inr}
 use Rattle.vlm_words.specs.declared.conditions.Cond.{Cond}
 use Rattle.vlm_words.specs.declared.conditions.Cond.TheVariants.{Normal, Badparam, Insfmem}
 use Rattle.vlm_words.specs.declared.steps.Answer.{Answer}
 use Rattle.vlm_words.specs.declared.steps.Answer.TheVariants.{Process as process_answer, Lock, Plain}
+use Rattle.vlm_words.specs.declared.steps.Conversion.{Conversion}
+use Rattle.vlm_words.specs.declared.steps.Declaration.{Declaration}
+use Rattle.vlm_words.specs.declared.steps.Dequeue.{Dequeue}
+use Rattle.vlm_words.specs.declared.steps.NewRequest.{NewRequest}
 use Rattle.vlm_words.specs.declared.steps.Step.{Step}
 use Rattle.vlm_words.specs.declared.steps.Step.TheVariants.{Declare, SetValue, Enq, Convert, Deq, Rundown, Leave, Search, Take}
 use Rattle.vlm_words.specs.State.{State}
 use Rattle.vlm_words.specs.Grants.{swept}
+use Rattle.vlm_words.specs.Checks.{acceptance}
 use Rattle.vlm_words.specs.Declare.{declare_refusal, declare_change, next_pid}
-use Rattle.vlm_words.specs.Enqueue.{enq_refusal, enq_change}
-use Rattle.vlm_words.specs.Dequeue.{deq_refusal, deq_change}
+use Rattle.vlm_words.specs.Enqueue.{enq_refusal, enq_change, enq_at_once, enq_endings}
+use Rattle.vlm_words.specs.Convert.{convert_refusal, convert_change, convert_at_once, convert_endings}
+use Rattle.vlm_words.specs.Dequeue.{deq_refusal, deq_change, deq_endings, named_lkid}
+use Rattle.vlm_words.specs.Endings.{Ending}
 
--- what a step comes to: the state that it leaves, and its answer
+-- what a step comes to: the state that it leaves, its answer, and the requests that end in it
 pub record Stepped : Type 0 where
   pub state : State
   pub answer : Answer
+  pub endings : List Ending
 
 -- every resource is swept
 abbrev pub swept_state : State → State
 swept_state s = record s { resources = swept s.resources }
 
 -- a refusal leaves everything as it was; else the step is made
-abbrev pub refused_or : Option Cond → State → State → Answer → Stepped
-refused_or None old changed answer = record { state = changed; answer = answer }
-refused_or (Some refusal) old changed answer = record { state = old; answer = Plain refusal }
+abbrev pub refused_or : Option Cond → State → Stepped → Stepped
+refused_or None old made = made
+refused_or (Some refusal) old made = record { state = old; answer = Plain refusal; endings = [] }
 
 -- a kind of step that is not built yet
 abbrev pub not_built : State → Stepped
-not_built s = record { state = s; answer = Plain Badparam }
+not_built s = record { state = s; answer = Plain Badparam; endings = [] }
+
+-- the steps of each kind, once no check refuses them: the change, and the sweep where queues changed
+abbrev pub declared : State → Declaration → Stepped
+declared s d = record { state = declare_change s d; answer = process_answer (next_pid s d.node); endings = [] }
+
+abbrev pub enqueued : State → NewRequest → Stepped
+enqueued s e = record {
+  state = swept_state (enq_change s e);
+  answer = Lock (acceptance e.flags (enq_at_once s e)) s.next_lkid;
+  endings = enq_endings s e;
+}
+
+abbrev pub converted_lock : State → Conversion → Stepped
+converted_lock s c = record {
+  state = swept_state (convert_change s c);
+  answer = Lock (acceptance c.flags (convert_at_once s c)) (named_lkid c.lock);
+  endings = convert_endings s c;
+}
+
+abbrev pub dequeued_lock : State → Dequeue → Stepped
+dequeued_lock s d = record { state = swept_state (deq_change s d); answer = Plain Normal; endings = deq_endings s d }
 
 -- the step of the plain machine: checks in order, then the change, and the sweep where queues changed
 abbrev pub stepped : State → Step → Stepped
-stepped s (Declare d) = refused_or (declare_refusal s d) s (declare_change s d) (process_answer (next_pid s d.node))
-stepped s (Enq e) = refused_or (enq_refusal s e) s (swept_state (enq_change s e)) (Lock Normal s.next_lkid)
-stepped s (Deq d) = refused_or (deq_refusal s d) s (swept_state (deq_change s d)) (Plain Normal)
+stepped s (Declare d) = refused_or (declare_refusal s d) s (declared s d)
+stepped s (Enq e) = refused_or (enq_refusal s e) s (enqueued s e)
+stepped s (Convert c) = refused_or (convert_refusal s c) s (converted_lock s c)
+stepped s (Deq d) = refused_or (deq_refusal s d) s (dequeued_lock s d)
 stepped s (SetValue v) = not_built s
-stepped s (Convert c) = not_built s
 stepped s (Rundown pid) = not_built s
 stepped s (Leave node) = not_built s
 stepped s (Search node) = not_built s
@@ -68,3 +98,8 @@ pub record IsShortOfMemory (old : State) (step : Step) (new : State) (answer : A
 -- what a step may come to: it is made, or a growth that it wanted was refused
 abbrev pub Outcome : State → Step → State → Answer → Type 0
 Outcome old step new answer = IsMade old step new answer ⊎ IsShortOfMemory old step new answer
+
+-- the requests that end in an outcome: those of the step if it is made
+abbrev pub outcome_endings : {old : State} {step : Step} {new : State} {answer : Answer} → Outcome old step new answer → List Ending
+outcome_endings {old} {step} (inl made) = (stepped old step).endings
+outcome_endings (inr short) = []

@@ -8,7 +8,7 @@
 pub mod asts;
 pub mod blocks;
 pub mod conditions;
-pub mod laws;
+pub mod flags;
 pub mod locks;
 pub mod modes;
 pub mod names;

@@ -1,5 +1,6 @@
 //! Locks as rows of a resource's queues.
 
+use crate::flags::EnqFlags;
 use crate::modes::Mode;
 
 /// What a process asked for: a new lock or a conversion that was accepted.
@@ -9,6 +10,8 @@ pub struct Request {
     pub number: u64,
     /// The mode that is asked for.
     pub mode: Mode,
+    /// How it is asked for.
+    pub flags: EnqFlags,
     /// The number of the caller's status block.
     pub block: u8,
     /// The completion routine.

@@ -1,0 +1,44 @@
+-- The flag bits of requests and dequeues that are built.
+use Rattle.std.specs.Prelude.{ℕ, Bool, ◌==◌}
+use Rattle.std.specs.Int.RustNames.{bit_and}
+use Rattle.vlm_words.specs.declared.flags.EnqFlags.{EnqFlags}
+
+-- a request that cannot be granted at once is refused
+abbrev pub noqueue : ℕ
+noqueue = 2
+
+-- a request that is granted at once answers SYNCH
+abbrev pub syncsts : ℕ
+syncsts = 4
+
+-- a new request at NL is granted at once, whatever is queued
+abbrev pub expedite : ℕ
+expedite = 16
+
+-- a conversion is granted at once only where none is queued
+abbrev pub quecvt : ℕ
+quecvt = 32
+
+-- the bits of new requests and conversions that are built
+abbrev pub enq_bits : ℕ
+enq_bits = 54
+
+-- a request is cancelled
+abbrev pub cancel : ℕ
+cancel = 2
+
+-- the bits of dequeues that are built
+abbrev pub deq_bits : ℕ
+deq_bits = 2
+
+-- the flag is among the bits
+unfoldable pub has_flag : ℕ → ℕ → Bool
+has_flag bits flag = bit_and bits flag == flag
+
+-- every bit is among those that are built
+unfoldable pub is_known : ℕ → ℕ → Bool
+is_known built bits = bit_and bits built == bits
+
+-- the bits of a request's flags
+abbrev pub flag_bits : EnqFlags → ℕ
+flag_bits flags = flags.0

@@ -1,0 +1,77 @@
+//! The flags of requests and dequeues, as far as they are built.
+
+ghost use Rattle.std.specs.Prelude.{⊤, [], ◌∷◌, codes};
+
+use bitflags::{Flag, Flags, bitflag_items};
+
+/// The flags of a new request or a conversion ($ENQ). The bits are this project's own.
+#[derive(Clone, Copy, Debug, PartialEq, Eq)]
+pub struct EnqFlags(u16);
+
+bitflag_items! {
+    impl EnqFlags: u16 {
+        /// A request that cannot be granted at once is refused.
+        const NOQUEUE = 2;
+        /// A request that is granted at once answers SYNCH.
+        const SYNCSTS = 4;
+        /// A new request at NL is granted at once, whatever is queued.
+        const EXPEDITE = 16;
+        /// A conversion is granted at once only where none is queued.
+        const QUECVT = 32;
+    }
+}
+
+impl Flags for EnqFlags {
+    type Bits = u16;
+
+    ghost exact = { ⊤ };
+
+    ghost table = { (codes "NOQUEUE", 2) ∷ (codes "SYNCSTS", 4) ∷ (codes "EXPEDITE", 16) ∷ (codes "QUECVT", 32) ∷ [] };
+
+    ghost set_of = { λ f. f.0 };
+
+    fn flags<'a>() -> &'a [Flag<EnqFlags>] {
+        EnqFlags::FLAGS
+    }
+
+    fn bits(&self) -> u16 {
+        self.0
+    }
+
+    fn from_bits_retain(bits: u16) -> EnqFlags {
+        EnqFlags(bits)
+    }
+}
+
+/// The flags of a dequeue ($DEQ). The bits are this project's own.
+#[derive(Clone, Copy, Debug, PartialEq, Eq)]
+pub struct DeqFlags(u16);
+
+bitflag_items! {
+    impl DeqFlags: u16 {
+        /// A request is cancelled instead of its lock given up.
+        const CANCEL = 2;
+    }
+}
+
+impl Flags for DeqFlags {
+    type Bits = u16;
+
+    ghost exact = { ⊤ };
+
+    ghost table = { (codes "CANCEL", 2) ∷ [] };
+
+    ghost set_of = { λ f. f.0 };
+
+    fn flags<'a>() -> &'a [Flag<DeqFlags>] {
+        DeqFlags::FLAGS
+    }
+
+    fn bits(&self) -> u16 {
+        self.0
+    }
+
+    fn from_bits_retain(bits: u16) -> DeqFlags {
+        DeqFlags(bits)
+    }
+}
