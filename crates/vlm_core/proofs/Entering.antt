@@ -7,7 +7,8 @@ use Rattle.std.proofs.lemmas.Iterator.Adapters.{position_from-zero}
 use Rattle.vlm_words.specs.declared.locks.Request.{Request}
 use Rattle.vlm_words.specs.declared.locks.Row.{Row}
 use Rattle.vlm_words.specs.State.{Resource}
-use Rattle.vlm_words.specs.Enqueue.{Key, entered, entered_among, is_at, is_known, new_resource}
+use Rattle.vlm_words.specs.Enqueue.{Key, entered, entered_among, is_at, is_at_once, is_known, new_resource}
+use Rattle.vlm_words.specs.Grants.{fits}
 
 module _ (serial : ℕ) (key : Key) (row : Row) (request : Request) where
   -- the resource is at this place, and not before it
@@ -55,3 +56,8 @@ entered_among-unknown serial key row request [] unknown = refl
 entered_among-unknown serial key row request (r ∷ rest) unknown =
     let parts = or-false (is_at key r) (is_known key rest) unknown in
     rw parts.0 (ap (λ rs. r ∷ rs) (entered_among-unknown serial key row request rest parts.1))
+
+-- a new resource is free for every request
+pub is_at_once-new : (serial : ℕ) (key : Key) (request : Request) → is_at_once request (new_resource serial key) ≡ true
+unfolding is_at_once fits
+is_at_once-new serial key request = grind arith

@@ -1,1 +1,3 @@
-mod Entering
+pub mod Entering
+pub mod Places
+pub mod Rows

@@ -1,5 +1,5 @@
 -- What a resource of the core is in the plain machine.
-use Rattle.std.specs.Prelude.{◌+◌, ◌≤◌, vec_len, vec_capacity}
+use Rattle.std.specs.Prelude.{ℕ, ◌+◌, ◌≤◌, vec_len, vec_capacity}
 use Rattle.vlm_words.specs.State.{Resource}
 use Rattle.vlm_core.specs.declared.resources.Resource.TheInside.{Inside}
 
@@ -17,6 +17,11 @@ resource_shown r = record {
   waiting = r.waiting.items;
 }
 
--- every lock of the resource can be granted without more memory
-abbrev pub HasRoomToGrant : Inside → Type 0
-HasRoomToGrant r = vec_len r.granted + vec_len r.converting + vec_len r.waiting ≤ vec_capacity r.granted
+-- how many locks the resource has
+abbrev pub lock_count : Inside → ℕ
+lock_count r = vec_len r.granted + vec_len r.converting + vec_len r.waiting
+
+-- every lock of the resource can be granted, or queued for a conversion, without more memory
+pub record HasRoom (r : Inside) : Type 0 where
+  pub to_grant : lock_count r ≤ vec_capacity r.granted
+  pub to_convert : lock_count r ≤ vec_capacity r.converting

@@ -1,12 +1,15 @@
-//! The checks that several steps make. They only read, and answer the refusal.
+//! What several steps share: checks, which only read and answer the refusal, and the sweep.
 
 ghost use Rattle.std.specs.Prelude.{◌≡◌, ◌<◌, ◌^◌, Some, IfOk, OnOk};
 ghost use Rattle.std.specs.Result.{result_err};
-ghost use Rattle.vlm_words.specs.Checks.{caller_refusal, numbers_refusal};
+ghost use Rattle.vlm_words.specs.Checks.{block_refusal, caller_refusal, numbers_refusal, request_numbers_refusal};
+ghost use Rattle.vlm_words.specs.Dequeue.{lock_refusal};
 ghost use Rattle.vlm_words.specs.State.{process_of};
+ghost use Rattle.vlm_words.specs.Stepped.{swept_state};
 
 use crate::machine::Core;
 use crate::processes::{Process, has_departed, process_of};
+use crate::tables::{is_held, sweep};
 use vlm_words::conditions::Cond;
 
 impl Core {
@@ -38,5 +41,50 @@ impl Core {
         } else {
             Err(Cond::Nolockid)
         }
+    }
+
+    /// NOLOCKID where the request numbers are used up.
+    #[tactic(auto, unfolding(vlm_words::specs::Checks::request_numbers_refusal))]
+    pub(crate) fn check_request_numbers(&self) -> Result<(), Cond>
+        ensures refusal { result_err result ≡ request_numbers_refusal self.now }
+        ensures request { OnOk result (self.now.next_request < 2 ^ 64) }
+    {
+        if self.last_request < u64::MAX {
+            Ok(())
+        } else {
+            Err(Cond::Nolockid)
+        }
+    }
+
+    /// ACCVIO where the caller has no status block of the number.
+    #[tactic(auto, unfolding(vlm_words::specs::Checks::block_refusal))]
+    pub(crate) fn check_block(&self, caller: &Process, pid: u32, block: u8) -> Result<(), Cond>
+        requires { process_of self.now.processes pid ≡ Some caller.now }
+        ensures { result_err result ≡ block_refusal self.now pid block }
+    {
+        if caller.has_block(block) {
+            Ok(())
+        } else {
+            Err(Cond::Accvio)
+        }
+    }
+
+    /// IVLOCKID where the identification is not that of a lock of the caller.
+    #[tactic(auto, unfolding(vlm_words::specs::Dequeue::lock_refusal))]
+    pub(crate) fn check_lock(&self, pid: u32, lkid: u32) -> Result<(), Cond>
+        ensures { result_err result ≡ lock_refusal self.now pid lkid }
+    {
+        if is_held(&self.resources, pid, lkid) {
+            Ok(())
+        } else {
+            Err(Cond::Ivlockid)
+        }
+    }
+
+    /// Serves every resource, and drops those without locks.
+    pub(crate) fn sweep(&mut self)
+        ensures { self.new ≡ swept_state self.old }
+    {
+        sweep(&mut self.resources);
     }
 }

@@ -1,26 +1,37 @@
-//! The step that gives a lock up.
+//! The step that gives a lock up, or cancels its request.
 
-ghost use Rattle.std.specs.Prelude.{◌≡◌, IfOk, map};
+ghost use Rattle.std.specs.Prelude.{◌≡◌, IfOk};
 ghost use Rattle.std.specs.Result.{result_err};
-ghost use Rattle.vlm_words.specs.Dequeue.{deq_argument_refusal, deq_change, deq_refusal, lock_refusal, named_lkid, without};
+ghost use Rattle.vlm_words.specs.Dequeue.{cancel_refusal, deq_argument_refusal, deq_change, deq_refusal, named_lkid};
+ghost use Rattle.vlm_words.specs.Flags.{cancel, has_flag};
 ghost use Rattle.vlm_words.specs.Stepped.{stepped};
 
+use crate::flags::cancels;
 use crate::machine::Core;
-use crate::tables::{is_held, remove_lock};
+use crate::tables::{dequeue_all, is_granted};
 use vlm_words::conditions::Cond;
 use vlm_words::steps::{Answer, Dequeue, Step, Which};
 
+/// A dequeue that no check refuses.
+#[derive(Clone, Copy)]
+struct Withdrawal {
+    lkid: u32,
+    // the request is cancelled, and a lock that converts stays
+    cancels: bool,
+}
+
 impl Core {
-    /// Gives a lock up ($DEQ). It takes no memory. Refused by DEPARTED, NONEXPR, BADPARAM for a flag
-    /// or an argument that is not built yet, IVLOCKID.
+    /// Gives a lock up, or with CANCEL ends its request ($DEQ). It takes no memory. Refused by
+    /// DEPARTED, NONEXPR, BADPARAM for an unknown flag or an argument that is not built yet, IVLOCKID,
+    /// CANCELGRANT where a granted lock is to be cancelled.
     #[tactic(auto, unfolding(vlm_words::specs::Dequeue::deq_change))]
     pub fn deq(&mut self, dequeue: Dequeue) -> Answer
         ensures state { self.new ≡ (stepped self.old (Step.Deq dequeue)).state }
         ensures answer { result ≡ (stepped self.old (Step.Deq dequeue)).answer }
     {
         match self.check_deq(&dequeue) {
-            Ok(lkid) => {
-                self.remove_lock(lkid);
+            Ok(withdrawal) => {
+                dequeue_all(&mut self.resources, withdrawal.lkid, withdrawal.cancels);
                 self.sweep();
                 Answer::Plain(Cond::Normal)
             }
@@ -28,49 +39,51 @@ impl Core {
         }
     }
 
-    // The checks in their order, and the lock that is given up.
+    // The checks in their order.
     #[tactic(auto, unfolding(vlm_words::specs::Dequeue::deq_refusal))]
-    fn check_deq(&self, dequeue: &Dequeue) -> Result<u32, Cond>
+    fn check_deq(&self, dequeue: &Dequeue) -> Result<Withdrawal, Cond>
         ensures refusal { result_err result ≡ deq_refusal self.now dequeue.now }
-        ensures lkid { IfOk result (λ lkid. lkid ≡ named_lkid dequeue.now.lock) }
+        ensures lkid { IfOk result (λ w. w.lkid ≡ named_lkid dequeue.now.lock) }
+        ensures cancels { IfOk result (λ w. w.cancels ≡ has_flag dequeue.now.flags cancel) }
     {
         self.caller(dequeue.pid)?;
-        let lkid = checked_lkid(dequeue)?;
-        self.check_lock(dequeue.pid, lkid)?;
-        Ok(lkid)
+        let withdrawal = checked_arguments(dequeue)?;
+        self.check_lock(dequeue.pid, withdrawal.lkid)?;
+        self.check_cancel(dequeue, &withdrawal)?;
+        Ok(withdrawal)
     }
 
-    // IVLOCKID where the identification is not that of a lock of the caller.
-    #[tactic(auto, unfolding(vlm_words::specs::Dequeue::lock_refusal))]
-    fn check_lock(&self, pid: u32, lkid: u32) -> Result<(), Cond>
-        ensures { result_err result ≡ lock_refusal self.now pid lkid }
+    // CANCELGRANT where a granted lock is to be cancelled.
+    #[tactic(auto, unfolding(vlm_words::specs::Dequeue::cancel_refusal))]
+    fn check_cancel(&self, dequeue: &Dequeue, withdrawal: &Withdrawal) -> Result<(), Cond>
+        requires lkid { withdrawal.now.lkid ≡ named_lkid dequeue.now.lock }
+        requires cancels { withdrawal.now.cancels ≡ has_flag dequeue.now.flags cancel }
+        ensures { result_err result ≡ cancel_refusal self.now dequeue.now }
     {
-        if is_held(&self.resources, pid, lkid) {
-            Ok(())
+        if withdrawal.cancels && is_granted(&self.resources, dequeue.pid, withdrawal.lkid) {
+            Err(Cond::Cancelgrant)
         } else {
-            Err(Cond::Ivlockid)
+            Ok(())
         }
-    }
-
-    fn remove_lock(&mut self, lkid: u32)
-        ensures { self.new ≡ record self.old { resources = map (without lkid) self.old.resources } }
-    {
-        remove_lock(&mut self.resources, lkid);
     }
 }
 
-// The identification that is named. BADPARAM where a flag or a value is given, or the lock is named
-// by a status block: none of them is built yet.
+// What is to be withdrawn. BADPARAM where a flag is unknown, or a value is given or the lock is named
+// by a status block: these are not built yet.
 #[tactic(auto, unfolding(vlm_words::specs::Dequeue::deq_argument_refusal))]
-fn checked_lkid(dequeue: &Dequeue) -> Result<u32, Cond>
+fn checked_arguments(dequeue: &Dequeue) -> Result<Withdrawal, Cond>
     ensures refusal { result_err result ≡ deq_argument_refusal dequeue.now }
-    ensures lkid { IfOk result (λ lkid. lkid ≡ named_lkid dequeue.now.lock) }
+    ensures lkid { IfOk result (λ w. w.lkid ≡ named_lkid dequeue.now.lock) }
+    ensures cancels { IfOk result (λ w. w.cancels ≡ has_flag dequeue.now.flags cancel) }
 {
-    if dequeue.flags != 0 || dequeue.value.is_some() {
+    let Some(cancels) = cancels(dequeue.flags) else {
+        return Err(Cond::Badparam);
+    };
+    if dequeue.value.is_some() {
         return Err(Cond::Badparam);
     }
     match dequeue.lock {
-        Which::Id(lkid) => Ok(lkid),
+        Which::Id(lkid) => Ok(Withdrawal { lkid, cancels }),
         Which::Block(_) => Err(Cond::Badparam),
     }
 }

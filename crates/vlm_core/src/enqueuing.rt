@@ -1,75 +1,94 @@
 //! The step that asks for a new lock.
 
-ghost use Rattle.std.specs.Prelude.{◌≡◌, ◌<◌, ◌^◌, false, IfOk, OnErr, OnOk};
+ghost use Rattle.std.specs.Prelude.{◌≡◌, ◌<◌, ◌^◌, false, find, unwrap_or, IfOk, OnErr, OnOk};
 ghost use Rattle.std.specs.Result.{result_err};
-ghost use Rattle.vlm_words.specs.Checks.{block_refusal};
-ghost use Rattle.vlm_words.specs.Enqueue.{enq_argument_refusal, enq_change, enq_refusal, is_no_parent, key_of, name_refusal};
-ghost use Rattle.vlm_words.specs.State.{process_of};
-ghost use Rattle.vlm_words.specs.Stepped.{Outcome, swept_state};
+ghost use Rattle.vlm_words.specs.Checks.{acceptance, queue_refusal};
+ghost use Rattle.vlm_words.specs.Enqueue.{enq_argument_refusal, enq_at_once, enq_change, enq_refusal, expedite_refusal, is_at, is_at_once, is_no_parent, key_of, name_refusal, new_resource, request_of};
+ghost use Rattle.vlm_words.specs.Flags.{flag_bits};
+ghost use Rattle.vlm_words.specs.Stepped.{Outcome};
 
+use crate::flags::{enq_flags, has_flag};
 use crate::machine::Core;
-use crate::processes::Process;
 use crate::resources::Key;
-use crate::tables::{enter_among, sweep};
+use crate::tables::{enter_among, enters_at_once};
 use std::alloc::AllocError;
 use vlm_words::conditions::Cond;
+use vlm_words::flags::EnqFlags;
 use vlm_words::locks::{Request, Row};
+use vlm_words::modes::Mode;
 use vlm_words::names::{Name, NameArg};
 use vlm_words::resources::Domain;
 use vlm_words::steps::{Answer, NewRequest, Step, Which};
 
+/// A new request that no check refuses.
+#[derive(Clone, Copy)]
+struct Admission {
+    // where its resource stands
+    key: Key,
+    asked: Request,
+    at_once: bool,
+}
+
 impl Core {
-    /// Asks for a new lock ($ENQ). Refused by DEPARTED, NONEXPR, BADPARAM for a flag or an argument
-    /// that is not built yet, ACCVIO, IVBUFLEN, NOLOCKID, INSFMEM.
+    /// Asks for a new lock ($ENQ). It answers NORMAL, or SYNCH where it is granted at once with
+    /// SYNCSTS. Refused by DEPARTED, NONEXPR, BADPARAM for an unknown flag or an argument that is not
+    /// built yet, ACCVIO, IVBUFLEN, UNSUPPORTED for EXPEDITE at a mode other than NL, NOLOCKID,
+    /// NOTQUEUED where it must not queue and is not granted at once, INSFMEM.
     pub fn enq(&mut self, request: NewRequest) -> Answer
         ensures { Outcome self.old (Step.Enq request) self.new result }
     {
-        let key = match self.check_enq(&request) {
-            Ok(key) => key,
+        let admission = match self.check_enq(&request) {
+            Ok(admission) => admission,
             Err(refusal) => return Answer::Plain(refusal),
         };
-        match self.add_lock(&request, &key) {
+        match self.add_lock(&request, &admission) {
             Ok(lkid) => {
                 self.sweep();
-                Answer::Lock(Cond::Normal, lkid)
+                Answer::Lock(acceptance(admission.asked.flags, admission.at_once), lkid)
             }
             Err(AllocError) => Answer::Plain(Cond::Insfmem),
         }
     }
 
-    // The checks in their order, and the key of the resource that is asked for.
-    #[tactic(auto, unfolding(vlm_words::specs::Enqueue::enq_refusal))]
-    fn check_enq(&self, request: &NewRequest) -> Result<Key, Cond>
+    // The checks in their order.
+    #[tactic(auto, unfolding(vlm_words::specs::Enqueue::enq_refusal, vlm_words::specs::Enqueue::found_by))]
+    fn check_enq(&self, request: &NewRequest) -> Result<Admission, Cond>
         ensures refusal { result_err result ≡ enq_refusal self.now request.now }
-        ensures key { IfOk result (λ key. key ≡ key_of self.now request.now) }
+        ensures key { IfOk result (λ a. a.key ≡ key_of self.now request.now) }
+        ensures asked { IfOk result (λ a. a.asked ≡ request_of self.now request.now) }
+        ensures at_once { IfOk result (λ a. a.at_once ≡ enq_at_once self.now request.now) }
         ensures lkid { OnOk result (self.now.next_lkid < 2 ^ 32) }
         ensures number { OnOk result (self.now.next_request < 2 ^ 64) }
     {
         let caller = self.caller(request.pid)?;
-        check_arguments(request)?;
-        self.check_block(&caller, request)?;
+        let flags = checked_flags(request)?;
+        self.check_block(&caller, request.pid, request.block)?;
         let name = checked_name(&request.name)?;
+        check_expedite(request.mode, flags)?;
         self.check_numbers()?;
-        Ok(Key::root(Domain::Group(caller.group()), name))
+        let key = Key::root(Domain::Group(caller.group()), name);
+        let asked = request_of(self.last_request + 1, flags, request);
+        let at_once = self.enters_at_once(&key, &asked);
+        check_queue(flags, at_once)?;
+        Ok(Admission {
+            key,
+            asked,
+            at_once,
+        })
     }
 
-    // ACCVIO where the caller has no status block of the number.
-    #[tactic(auto, unfolding(vlm_words::specs::Checks::block_refusal))]
-    fn check_block(&self, caller: &Process, request: &NewRequest) -> Result<(), Cond>
-        requires { process_of self.now.processes request.now.pid ≡ Some caller.now }
-        ensures { result_err result ≡ block_refusal self.now request.now.pid request.now.block }
+    // Whether the request is granted at once in the resource under the key, or in a new one.
+    fn enters_at_once(&self, key: &Key, asked: &Request) -> bool
+        ensures { result ≡ is_at_once asked.now (unwrap_or (find (is_at key.now) self.now.resources) (new_resource self.now.next_serial key.now)) }
     {
-        if caller.has_block(request.block) {
-            Ok(())
-        } else {
-            Err(Cond::Accvio)
-        }
+        enters_at_once(&self.resources, key, asked)
     }
 
     // The lock enters its resource, and the numbers that it took are used up.
     #[tactic(auto, unfolding(vlm_words::specs::Enqueue::enq_change))]
-    fn add_lock(&mut self, request: &NewRequest, key: &Key) -> Result<u32, AllocError>
-        requires key { key.now ≡ key_of self.old request.now }
+    fn add_lock(&mut self, request: &NewRequest, admission: &Admission) -> Result<u32, AllocError>
+        requires key { admission.now.key ≡ key_of self.old request.now }
+        requires asked { admission.now.asked ≡ request_of self.old request.now }
         requires lkid { self.old.next_lkid < 2 ^ 32 }
         requires number { self.old.next_request < 2 ^ 64 }
         ensures lkid { IfOk result (λ lkid. lkid ≡ self.old.next_lkid) }
@@ -79,9 +98,9 @@ impl Core {
         let lkid = self.last_lkid + 1;
         let number = self.last_request + 1;
         let serial = self.last_serial + 1;
-        let asked = request_of(number, request);
+        let asked = admission.asked;
         let row = row_of(lkid, request.pid, asked);
-        let made = enter_among(&mut self.resources, serial, key, row, &asked)?;
+        let made = enter_among(&mut self.resources, serial, &admission.key, row, &asked)?;
         if made {
             self.last_serial = serial;
         }
@@ -89,23 +108,42 @@ impl Core {
         self.last_request = number;
         Ok(lkid)
     }
+}
 
-    /// Serves every resource, and drops those without locks.
-    pub(crate) fn sweep(&mut self)
-        ensures { self.new ≡ swept_state self.old }
-    {
-        sweep(&mut self.resources);
+/// What an accepted request answers.
+pub(crate) fn acceptance(flags: EnqFlags, at_once: bool) -> Cond
+    ensures { result ≡ acceptance (flag_bits flags) at_once }
+{
+    if has_flag(flags, EnqFlags::SYNCSTS) && at_once {
+        Cond::Synch
+    } else {
+        Cond::Normal
     }
 }
 
-// BADPARAM where a flag, a routine or a parent is given: none of them is built yet.
-#[tactic(auto, unfolding(vlm_words::specs::Enqueue::enq_argument_refusal))]
-fn check_arguments(request: &NewRequest) -> Result<(), Cond>
-    ensures { result_err result ≡ enq_argument_refusal request.now }
+/// NOTQUEUED where a request that must not queue is not granted at once.
+pub(crate) fn check_queue(flags: EnqFlags, at_once: bool) -> Result<(), Cond>
+    ensures { result_err result ≡ queue_refusal (flag_bits flags) at_once }
 {
-    let plain = request.flags == 0 && request.ast.is_none() && request.bast.is_none();
-    if plain && is_no_parent(request.parent) {
+    if has_flag(flags, EnqFlags::NOQUEUE) && !at_once {
+        Err(Cond::Notqueued)
+    } else {
         Ok(())
+    }
+}
+
+// The flags. BADPARAM where one of them is unknown, or a routine or a parent is given: these are not
+// built yet.
+#[tactic(auto, unfolding(vlm_words::specs::Enqueue::enq_argument_refusal))]
+fn checked_flags(request: &NewRequest) -> Result<EnqFlags, Cond>
+    ensures refusal { result_err result ≡ enq_argument_refusal request.now }
+    ensures flags { IfOk result (λ flags. flag_bits flags ≡ request.now.flags) }
+{
+    let Some(flags) = enq_flags(request.flags) else {
+        return Err(Cond::Badparam);
+    };
+    if request.ast.is_none() && request.bast.is_none() && is_no_parent(request.parent) {
+        Ok(flags)
     } else {
         Err(Cond::Badparam)
     }
@@ -129,10 +167,23 @@ fn checked_name(name: &NameArg) -> Result<Name, Cond>
     name.name()
 }
 
-fn request_of(number: u64, request: &NewRequest) -> Request
+// UNSUPPORTED where EXPEDITE goes with another mode than NL.
+#[tactic(auto, unfolding(vlm_words::specs::Enqueue::expedite_refusal))]
+fn check_expedite(mode: Mode, flags: EnqFlags) -> Result<(), Cond>
+    ensures { result_err result ≡ expedite_refusal (flag_bits flags) mode }
+{
+    if has_flag(flags, EnqFlags::EXPEDITE) && mode != Mode::Nl {
+        Err(Cond::Unsupported)
+    } else {
+        Ok(())
+    }
+}
+
+fn request_of(number: u64, flags: EnqFlags, request: &NewRequest) -> Request
     ensures { result ≡ record {
       number = number;
       mode = request.now.mode;
+      flags = flags;
       block = request.now.block;
       completion = request.now.ast;
       blocking = request.now.bast;
@@ -142,6 +193,7 @@ fn request_of(number: u64, request: &NewRequest) -> Request
     Request {
         number,
         mode: request.mode,
+        flags,
         block: request.block,
         completion: request.ast,
         blocking: request.bast,

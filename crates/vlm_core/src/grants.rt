@@ -2,6 +2,7 @@
 
 ghost use Rattle.std.specs.Prelude.{◌≡◌};
 ghost use Rattle.std.specs.List.{list_all};
+ghost use Rattle.vlm_words.specs.Dequeue.{rows_without};
 ghost use Rattle.vlm_words.specs.Grants.{fits, granted_row, is_beside, is_arming, wanted_fits};
 
 use vlm_words::locks::{Request, Row};
@@ -30,6 +31,23 @@ pub(crate) fn fits(mode: Mode, granted: &[Row], converting: &[Row]) -> bool
     ensures { result ≡ fits mode granted.now converting.now }
 {
     is_beside_all(mode, granted) && is_beside_all(mode, converting)
+}
+
+/// Whether the mode is compatible with the held mode of each row but those of a lock.
+#[tactic(auto, unfolding(vlm_words::specs::Grants::fits))]
+pub(crate) fn fits_without(mode: Mode, lkid: u32, granted: &[Row], converting: &[Row]) -> bool
+    ensures { result ≡ fits mode (rows_without lkid granted.now) converting.now }
+{
+    is_beside_others(mode, lkid, granted) && is_beside_all(mode, converting)
+}
+
+// Whether the mode may be held beside each row but those of a lock.
+fn is_beside_others(mode: Mode, lkid: u32, rows: &[Row]) -> bool
+    ensures { result ≡ list_all (λ row. is_beside mode row.held) (rows_without lkid rows.now) }
+{
+    rows.iter()
+        .filter(|row| row.lkid != lkid)
+        .all(|row| is_beside(mode, row.held))
 }
 
 /// Whether a row wants something that fits beside the others.

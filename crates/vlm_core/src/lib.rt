@@ -6,9 +6,11 @@
 #![tactic(auto)]
 
 mod checks;
+mod converting;
 mod declaring;
 mod dequeuing;
 mod enqueuing;
+mod flags;
 mod grants;
 mod machine;
 mod processes;

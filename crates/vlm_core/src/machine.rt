@@ -60,9 +60,9 @@ impl Core {
         match step {
             Step::Declare(declaration) => self.declare(declaration),
             Step::Enq(request) => self.enq(request),
+            Step::Convert(conversion) => self.convert(conversion),
             Step::Deq(dequeue) => self.deq(dequeue),
             Step::SetValue(_)
-            | Step::Convert(_)
             | Step::Rundown(_)
             | Step::Leave(_)
             | Step::Search(_)

@@ -1,17 +1,20 @@
 //! A resource with its three queues.
 
-ghost use Rattle.std.specs.Prelude.{◌≡◌, ◌≤◌, OnOk, OnErr, slice_get, vec_len, vec_capacity, ◌<◌, ◌^◌, OnSome};
+ghost use Rattle.std.specs.Prelude.{◌≡◌, ◌≤◌, ◌+◌, ◌++◌, length, map, OnOk, OnErr, find, slice_get, vec_len, vec_capacity, ◌<◌, ◌^◌, OnSome};
 ghost use Rattle.std.specs.List.{list_any};
 ghost use Rattle.std.specs.Option.{option_map};
 ghost use Rattle.vlm_core.specs.Views.{resource_view, row_view, rows_in};
-ghost use Rattle.vlm_words.specs.Dequeue.{holds_lock, is_lock_of, rows_without, without};
-ghost use Rattle.vlm_words.specs.Enqueue.{entered, is_at, is_domain, is_free_for, new_resource};
+ghost use Rattle.vlm_words.specs.Dequeue.{cancelled, dequeued, holds_lock, is_lock_of, rows_of, rows_without, settled_row, without};
+ghost use Rattle.vlm_words.specs.Enqueue.{entered, is_at, is_at_once, is_domain, is_free_for, new_resource};
+ghost use Rattle.vlm_words.specs.Convert.{converted, converts_at_once, wanting_row};
 ghost use Rattle.vlm_words.specs.Grants.{is_empty, is_vacant, serve_converting, serve_waiting, served};
 
-use crate::grants::{fits, granted_row, wanted_fits};
+use crate::flags::has_flag;
+use crate::grants::{fits, fits_without, granted_row, wanted_fits};
 use crate::views::{ResourceView, RowView, row_view};
 use std::alloc::{AllocError, Global};
 use std::marker::Model;
+use vlm_words::flags::EnqFlags;
 use vlm_words::locks::{Request, Row};
 use vlm_words::names::Name;
 use vlm_words::resources::{Domain, Queue};
@@ -48,7 +51,8 @@ impl Key {
     }
 }
 
-/// A resource. Its granted queue has room for all its locks, so that no grant needs memory.
+/// A resource. Its granted queue and its conversion queue have room for all its locks, so that
+/// neither a grant nor a conversion needs memory.
 #[derive(Drop)]
 pub(crate) struct Resource {
     serial: u32,
@@ -68,11 +72,11 @@ impl Model for Resource {
 
     ghost Value = { PlainResource };
 
-    ghost use Rattle.vlm_core.specs.Resources.{resource_shown, HasRoomToGrant};
+    ghost use Rattle.vlm_core.specs.Resources.{resource_shown, HasRoom};
 
     ghost view = { resource_shown };
 
-    ghost invariant = { HasRoomToGrant };
+    ghost invariant = { HasRoom };
 }
 
 impl Resource {
@@ -147,13 +151,21 @@ impl Resource {
             && self.name.bytes() == key.name.bytes()
     }
 
-    /// Whether the request fits here and nobody is queued.
+    // Whether the request fits here and nobody is queued.
     fn is_free_for(&self, request: &Request) -> bool
         ensures { result ≡ is_free_for request.now self.now }
     {
         fits(request.mode, &self.granted, &self.converting)
             && self.converting.is_empty()
             && self.waiting.is_empty()
+    }
+
+    /// Whether a new request is granted at once: it is expedited, or it fits and nobody is queued.
+    #[tactic(auto, unfolding(vlm_words::specs::Enqueue::is_at_once))]
+    pub(crate) fn is_at_once(&self, request: &Request) -> bool
+        ensures { result ≡ is_at_once request.now self.now }
+    {
+        has_flag(request.flags, EnqFlags::EXPEDITE) || self.is_free_for(request)
     }
 
     /// Takes in a new lock, which is granted at once or goes to the end of the waiting queue.
@@ -164,7 +176,9 @@ impl Resource {
     {
         self.granted
             .reserve(self.converting.len() + self.waiting.len() + 1)?;
-        if self.is_free_for(request) {
+        self.converting
+            .reserve(self.granted.len() + self.waiting.len() + 1)?;
+        if self.is_at_once(request) {
             self.granted.push_reserved(granted_row(row));
         } else {
             self.waiting.push(row)?;
@@ -211,12 +225,80 @@ impl Resource {
         }
     }
 
-    /// Removes a lock from every queue.
+    /// The lock of this process, if it is granted.
+    pub(crate) fn granted_lock(&self, pid: u32, lkid: u32) -> Option<Row>
+        ensures { result ≡ find (is_lock_of pid lkid) self.now.granted }
+    {
+        self.granted
+            .iter()
+            .copied()
+            .find(|row| row.lkid == lkid && row.pid == pid)
+    }
+
+    /// Whether a conversion of the lock is granted at once: it fits beside all other locks, and with
+    /// QUECVT no conversion is queued.
+    #[tactic(auto, unfolding(vlm_words::specs::Convert::converts_at_once))]
+    pub(crate) fn converts_at_once(&self, request: &Request, lkid: u32) -> bool
+        ensures { result ≡ converts_at_once request.now lkid self.now }
+    {
+        fits_without(request.mode, lkid, &self.granted, &self.converting)
+            && (!has_flag(request.flags, EnqFlags::QUECVT) || self.converting.is_empty())
+    }
+
+    /// Whether this lock of this process is granted.
+    pub(crate) fn has_granted(&self, pid: u32, lkid: u32) -> bool
+        ensures { result ≡ list_any (is_lock_of pid lkid) self.now.granted }
+    {
+        has_lock(&self.granted, pid, lkid)
+    }
+
+    /// Converts a lock of this process, if it is granted here: at once, or at the end of the conversion
+    /// queue.
+    #[tactic(auto, using(crate::proofs::Rows::fewer_without), unfolding(vlm_words::specs::Convert::converted))]
+    pub(crate) fn convert(&mut self, request: &Request, pid: u32, lkid: u32)
+        ensures { self.new ≡ converted request.now pid lkid self.old }
+    {
+        let Some(row) = self.granted_lock(pid, lkid) else {
+            return;
+        };
+        let at_once = self.converts_at_once(request, lkid);
+        let row = wanting_row(row, request);
+        remove_lock(&mut self.granted, lkid);
+        if at_once {
+            self.granted.push_reserved(granted_row(row));
+        } else {
+            self.converting.push_reserved(row);
+        }
+    }
+
+    /// Removes a lock from every queue, or only its queued request.
+    pub(crate) fn dequeue(&mut self, lkid: u32, cancels: bool)
+        ensures { self.new ≡ dequeued lkid cancels self.old }
+    {
+        if cancels {
+            self.cancel(lkid);
+        } else {
+            self.remove(lkid);
+        }
+    }
+
+    // Removes a lock from every queue.
     #[tactic(auto, unfolding(vlm_words::specs::Dequeue::without))]
-    pub(crate) fn remove(&mut self, lkid: u32)
+    fn remove(&mut self, lkid: u32)
         ensures { self.new ≡ without lkid self.old }
     {
         remove_lock(&mut self.granted, lkid);
+        remove_lock(&mut self.converting, lkid);
+        remove_lock(&mut self.waiting, lkid);
+    }
+
+    // Gives up a queued conversion, whose lock goes to the end of the granted queue, or a waiting
+    // request with its lock.
+    #[tactic(auto, using(crate::proofs::Rows::parted), unfolding(vlm_words::specs::Dequeue::cancelled))]
+    fn cancel(&mut self, lkid: u32)
+        ensures { self.new ≡ cancelled lkid self.old }
+    {
+        settle_lock(&mut self.granted, &self.converting, lkid);
         remove_lock(&mut self.converting, lkid);
         remove_lock(&mut self.waiting, lkid);
     }
@@ -243,4 +325,28 @@ fn remove_lock(rows: &mut Vec<Row>, lkid: u32)
     ensures capacity { vec_capacity rows.new ≡ vec_capacity rows.old }
 {
     rows.retain(|row| row.lkid != lkid);
+}
+
+// The row wants the request, and holds what it held.
+fn wanting_row(row: Row, request: &Request) -> Row
+    ensures { result ≡ wanting_row row request.now }
+{
+    Row {
+        want: Some(*request),
+        ..row
+    }
+}
+
+// Puts the rows of a lock, which want nothing any more, at the end of the granted queue.
+fn settle_lock(granted: &mut Vec<Row>, converting: &[Row], lkid: u32)
+    requires { vec_len granted.old + length converting.now ≤ vec_capacity granted.old }
+    ensures rows { granted.new.items ≡ granted.old.items ++ map settled_row (rows_of lkid converting.now) }
+    ensures len { vec_len granted.new ≡ vec_len granted.old + length (rows_of lkid converting.now) }
+    ensures capacity { vec_capacity granted.new ≡ vec_capacity granted.old }
+{
+    for row in converting {
+        if row.lkid == lkid {
+            granted.push_reserved(Row { want: None, ..*row });
+        }
+    }
 }

@@ -1,9 +1,10 @@
 //! All resources together, by rising serial.
 
-ghost use Rattle.std.specs.Prelude.{◌≡◌, not, map, filter, IfOk, OnOk, OnErr};
+ghost use Rattle.std.specs.Prelude.{◌≡◌, ℕ, not, map, filter, find, unwrap_or, IfOk, OnOk, OnErr, MatchOption, option_copied};
 ghost use Rattle.std.specs.List.{list_any, position};
-ghost use Rattle.vlm_words.specs.Dequeue.{holds_lock, without};
-ghost use Rattle.vlm_words.specs.Enqueue.{entered_among, is_at, is_known};
+ghost use Rattle.vlm_words.specs.Convert.{converted, granted_place};
+ghost use Rattle.vlm_words.specs.Dequeue.{dequeued, holds_lock, is_granted};
+ghost use Rattle.vlm_words.specs.Enqueue.{entered_among, is_at, is_at_once, is_known, new_resource};
 ghost use Rattle.vlm_words.specs.Grants.{is_vacant, served, swept};
 
 use crate::resources::{Key, Resource};
@@ -45,6 +46,24 @@ pub(crate) fn enter_among(
     }
 }
 
+// The resource under the key, if it is there.
+fn resource_under<'a>(resources: &'a [Resource], key: &Key) -> Option<&'a Resource>
+    ensures { option_copied result ≡ find (is_at key.now) resources.now }
+{
+    resources.iter().find(|r| r.is_at(key))
+}
+
+/// Whether a new request is granted at once in the resource under the key, or in a new one.
+pub(crate) fn enters_at_once(resources: &[Resource], key: &Key, request: &Request) -> bool
+    ensures { (serial : ℕ) → result
+        ≡ is_at_once request.now (unwrap_or (find (is_at key.now) resources.now) (new_resource serial key.now)) }
+{
+    match resource_under(resources, key) {
+        Some(resource) => resource.is_at_once(request),
+        None => true,
+    }
+}
+
 /// Serves every resource, and drops those without locks.
 #[tactic(auto, unfolding(vlm_words::specs::Grants::swept))]
 pub(crate) fn sweep(resources: &mut Vec<Resource>)
@@ -75,11 +94,40 @@ pub(crate) fn is_held(resources: &[Resource], pid: u32, lkid: u32) -> bool
     resources.iter().any(|r| r.holds_lock(pid, lkid))
 }
 
-/// Removes a lock from every queue.
-pub(crate) fn remove_lock(resources: &mut Vec<Resource>, lkid: u32)
-    ensures { resources.new.items ≡ map (without lkid) resources.old.items }
+/// Whether some granted queue has this lock of this process.
+pub(crate) fn is_granted(resources: &[Resource], pid: u32, lkid: u32) -> bool
+    ensures { result ≡ is_granted pid lkid resources.now }
+{
+    resources.iter().any(|r| r.has_granted(pid, lkid))
+}
+
+/// The resource where this lock of this process is granted, and the lock.
+pub(crate) fn granted_place(resources: &[Resource], pid: u32, lkid: u32) -> Option<(&Resource, Row)>
+    ensures { MatchOption result (granted_place pid lkid resources.now ≡ None)
+        (λ p. granted_place pid lkid resources.now ≡ Some (record { resource = p.0.now; row = p.1 })) }
+{
+    for resource in resources {
+        if let Some(row) = resource.granted_lock(pid, lkid) {
+            return Some((resource, row));
+        }
+    }
+    None
+}
+
+/// Removes a lock from every queue, or only its queued request.
+pub(crate) fn dequeue_all(resources: &mut Vec<Resource>, lkid: u32, cancels: bool)
+    ensures { resources.new.items ≡ map (dequeued lkid cancels) resources.old.items }
 {
     for resource in resources.iter_mut() {
-        resource.remove(lkid);
+        resource.dequeue(lkid, cancels);
+    }
+}
+
+/// Converts a granted lock of this process, wherever it is.
+pub(crate) fn convert_all(resources: &mut Vec<Resource>, request: &Request, pid: u32, lkid: u32)
+    ensures { resources.new.items ≡ map (converted request.now pid lkid) resources.old.items }
+{
+    for resource in resources.iter_mut() {
+        resource.convert(request, pid, lkid);
     }
 }

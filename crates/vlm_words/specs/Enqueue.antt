@@ -8,6 +8,7 @@ use Rattle.vlm_words.specs.declared.conditions.Cond.{Cond}
 use Rattle.vlm_words.specs.declared.conditions.Cond.TheVariants.{Badparam, Unsupported}
 use Rattle.vlm_words.specs.declared.locks.Request.{Request}
 use Rattle.vlm_words.specs.declared.locks.Row.{Row}
+use Rattle.vlm_words.specs.declared.modes.Mode.{Mode}
 use Rattle.vlm_words.specs.declared.resources.Domain.{Domain}
 use Rattle.vlm_words.specs.declared.resources.Domain.TheVariants.{Group, System}
 use Rattle.vlm_words.specs.declared.steps.NewRequest.{NewRequest}
@@ -33,8 +34,8 @@ enq_argument_refusal e =
     if is_built enq_bits e.flags && is_none e.ast && is_none e.bast && is_no_parent e.parent then None else Some Badparam
 
 -- EXPEDITE goes with NL alone
-unfoldable pub expedite_refusal : NewRequest → Option Cond
-expedite_refusal e = if has_flag e.flags expedite && not (rank e.mode == 0) then Some Unsupported else None
+unfoldable pub expedite_refusal : ℕ → Mode → Option Cond
+expedite_refusal flags mode = if has_flag flags expedite && not (rank mode == 0) then Some Unsupported else None
 
 -- the bytes are no resource name
 unfoldable pub name_refusal : List ℕ → Option Cond
@@ -136,7 +137,7 @@ enq_refusal s e =
     (or_else (enq_argument_refusal e)
     (or_else (block_refusal s e.pid e.block)
     (or_else (name_refusal e.name)
-    (or_else (expedite_refusal e)
+    (or_else (expedite_refusal e.flags e.mode)
     (or_else (numbers_refusal s) (queue_refusal e.flags (enq_at_once s e)))))))
 
 -- the lock enters, and the numbers that it took are used up

@@ -1,6 +1,7 @@
 -- The flag bits of requests and dequeues that are built.
 use Rattle.std.specs.Prelude.{ℕ, Bool, ◌==◌}
 use Rattle.std.specs.Int.RustNames.{bit_and}
+use Rattle.vlm_words.specs.declared.flags.DeqFlags.{DeqFlags}
 use Rattle.vlm_words.specs.declared.flags.EnqFlags.{EnqFlags}
 
 -- a request that cannot be granted at once is refused
@@ -42,3 +43,7 @@ is_known built bits = bit_and bits built == bits
 -- the bits of a request's flags
 abbrev pub flag_bits : EnqFlags → ℕ
 flag_bits flags = flags.0
+
+-- the bits of a dequeue's flags
+abbrev pub deq_flag_bits : DeqFlags → ℕ
+deq_flag_bits flags = flags.0

@@ -4,7 +4,7 @@ use Rattle.vlm_words.specs.Endings.{Ending}
 use Rattle.vlm_words.specs.declared.locks.Request.{Request}
 use Rattle.vlm_words.specs.declared.locks.Row.{Row}
 use Rattle.vlm_words.specs.Modes.{is_compatible}
-use Rattle.vlm_words.specs.State.{State}
+use Rattle.vlm_words.specs.State.{State, Resource}
 use Rattle.vlm_words.specs.Grants.{wanted_fits}
 
 -- the two rows hold compatible modes, where both hold one

@@ -1,6 +1,6 @@
 use Rattle.std.proofs.Common.{◌≡◌, vec_len}
 use Rattle.vlm_words.specs.Grants.{serve_converting}
-use Rattle.vlm_core.specs.Resources.{resource_shown, HasRoomToGrant}
+use Rattle.vlm_core.specs.Resources.{resource_shown, HasRoom}
 use Rattle.vlm_core.proofs.resources.Resource.serve_converting.Given as goal
 
 -- what is left of the queue, served, gives what the whole queue gives
@@ -8,7 +8,7 @@ abbrev pub invariant-loop-row : goal.invariant-loop-row
 invariant-loop-row l =
     let now = resource_shown l.self-inside in
     let whole = resource_shown l.initial.self-inside in
-    (serve_converting now now.converting ≡ serve_converting whole whole.converting) × HasRoomToGrant l.self-inside
+    (serve_converting now now.converting ≡ serve_converting whole whole.converting) × HasRoom l.self-inside
 
 abbrev pub decreases-loop-row : goal.decreases-loop-row
 decreases-loop-row l = vec_len l.self-inside.converting

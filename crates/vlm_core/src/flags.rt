@@ -1,0 +1,52 @@
+//! Flags by their bits.
+
+ghost use Rattle.std.specs.Prelude.{◌≡◌, true, false, MatchOption};
+ghost use Rattle.vlm_words.specs.Flags.{cancel, deq_bits, deq_flag_bits, enq_bits, flag_bits, has_flag, is_known};
+
+use bitflags::Flags;
+use vlm_words::flags::{DeqFlags, EnqFlags};
+
+/// Whether the flag is among the flags.
+#[tactic(auto, unfolding(vlm_words::specs::Flags::has_flag))]
+pub(crate) fn has_flag(flags: EnqFlags, flag: EnqFlags) -> bool
+    ensures { result ≡ has_flag (flag_bits flags) (flag_bits flag) }
+{
+    flags.contains(flag)
+}
+
+/// The flags of a request, if all of the bits are built.
+#[tactic(auto, unfolding(vlm_words::specs::Flags::is_known, bitflags::proofs::OnLiterals::bitflags_on_literals))]
+pub(crate) fn enq_flags(bits: u16) -> Option<EnqFlags>
+    ensures { MatchOption result (is_known enq_bits bits ≡ false)
+        (λ flags. (is_known enq_bits bits ≡ true) × (flag_bits flags ≡ bits)) }
+{
+    EnqFlags::from_bits(bits)
+}
+
+/// Whether a dequeue cancels, if all of the bits are built.
+pub(crate) fn cancels(bits: u16) -> Option<bool>
+    ensures { MatchOption result (is_known deq_bits bits ≡ false)
+        (λ cancels. (is_known deq_bits bits ≡ true) × (cancels ≡ has_flag bits cancel)) }
+{
+    match deq_flags(bits) {
+        Some(flags) => Some(has_cancel(flags)),
+        None => None,
+    }
+}
+
+// The flags of a dequeue, if all of the bits are built.
+#[tactic(auto, unfolding(vlm_words::specs::Flags::is_known, bitflags::proofs::OnLiterals::bitflags_on_literals))]
+fn deq_flags(bits: u16) -> Option<DeqFlags>
+    ensures { MatchOption result (is_known deq_bits bits ≡ false)
+        (λ flags. (is_known deq_bits bits ≡ true) × (deq_flag_bits flags ≡ bits)) }
+{
+    DeqFlags::from_bits(bits)
+}
+
+// Whether CANCEL is among the flags.
+#[tactic(auto, unfolding(vlm_words::specs::Flags::has_flag))]
+fn has_cancel(flags: DeqFlags) -> bool
+    ensures { result ≡ has_flag (deq_flag_bits flags) cancel }
+{
+    flags.contains(DeqFlags::CANCEL)
+}
