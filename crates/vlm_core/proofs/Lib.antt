@@ -1,3 +1,4 @@
 pub mod Entering
+pub mod Making
 pub mod Places
 pub mod Rows

@@ -1,3 +1,4 @@
 pub mod Resources
 pub mod Machine
 pub mod Views
+pub mod Running

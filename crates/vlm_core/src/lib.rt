@@ -16,8 +16,10 @@ mod machine;
 mod processes;
 mod readers;
 mod resources;
+mod running;
 mod tables;
 mod views;
 
 pub use machine::Core;
+pub use running::{Stopped, run_steps};
 pub use views::{ResourceView, RowView};

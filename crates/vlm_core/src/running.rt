@@ -1,0 +1,32 @@
+//! Many steps in order.
+
+ghost use Rattle.std.specs.Prelude.{◌<◌, OnOk, IfErr, length, take};
+ghost use Rattle.vlm_core.specs.Running.{Makes};
+
+use crate::machine::Core;
+use vlm_words::steps::{Answer, Step};
+
+/// Memory for an answer was refused: the steps before it are made and answered, and no other is begun.
+#[derive(Clone, Copy, Debug, PartialEq, Eq)]
+pub struct Stopped {
+    /// How many steps are made.
+    pub done: usize,
+}
+
+/// Makes the steps in order, and puts the answer of each at the end of `answers`. Room for an answer is
+/// made before its step.
+pub fn run_steps(core: &mut Core, steps: &[Step], answers: &mut Vec<Answer>) -> Result<(), Stopped>
+    ensures made { OnOk result (Makes core.old steps.now answers.old.items answers.new.items core.new) }
+    ensures within { IfErr result (λ stopped. stopped.done < length steps.now) }
+    ensures stopped { IfErr result (λ stopped.
+        Makes core.old (take stopped.done steps.now) answers.old.items answers.new.items core.new) }
+{
+    for (done, step) in steps.iter().enumerate() {
+        if answers.reserve(1).is_err() {
+            return Err(Stopped { done });
+        }
+        let answer = core.step(*step);
+        answers.push_reserved(answer);
+    }
+    Ok(())
+}
