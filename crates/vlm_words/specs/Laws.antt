@@ -4,7 +4,7 @@ use Rattle.vlm_words.specs.Endings.{Ending}
 use Rattle.vlm_words.specs.declared.locks.Request.{Request}
 use Rattle.vlm_words.specs.declared.locks.Row.{Row}
 use Rattle.vlm_words.specs.Modes.{is_compatible}
-use Rattle.vlm_words.specs.State.{State}
+use Rattle.vlm_words.specs.State.{State, Resource}
 use Rattle.vlm_words.specs.Grants.{wanted_fits}
 
 -- the two rows hold compatible modes, where both hold one
@@ -49,4 +49,4 @@ times_ended number endings = count_by (λ ending. ending.number == number) endin
 -- each accepted request is wanted by exactly one row and has no ending, or by none and has exactly one ending
 abbrev pub EachRequestEndsOnce : List Ending → State → Type 0
 EachRequestEndsOnce endings last = (number : ℕ) → 0 < number → number < last.next_request
-  → ((wanting number last ≡ 1) × (times_ended number endings ≡ 0)) ⊎ ((wanting number last ≡ 0) × (times_ended number endings ≡ 1))
+    → ((wanting number last ≡ 1) × (times_ended number endings ≡ 0)) ⊎ ((wanting number last ≡ 0) × (times_ended number endings ≡ 1))

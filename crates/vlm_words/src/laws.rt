@@ -1,0 +1,23 @@
+//! What holds after every legal run of the plain machine. The functions do nothing: their contracts
+//! are the laws.
+
+ghost use Rattle.std.specs.Prelude.{List};
+ghost use Rattle.vlm_words.specs.declared.steps.Answer.{Answer};
+ghost use Rattle.vlm_words.specs.declared.steps.Step.{Step};
+ghost use Rattle.vlm_words.specs.Endings.{Ending};
+ghost use Rattle.vlm_words.specs.State.{State};
+ghost use Rattle.vlm_words.specs.Runs.{Run};
+ghost use Rattle.vlm_words.specs.Laws.{HeldModesAreCompatible, NothingIsLeftToGrant};
+
+/// In each resource the held modes of any two locks are compatible.
+pub fn law_held_modes_are_compatible()
+    ensures { (steps : List Step) (answers : List Answer) (endings : List Ending) (last : State)
+        → Run steps answers endings last → HeldModesAreCompatible last }
+{}
+
+/// After every step the first conversion of a resource does not fit, and where none is queued the
+/// first new request does not.
+pub fn law_nothing_is_left_to_grant()
+    ensures { (steps : List Step) (answers : List Answer) (endings : List Ending) (last : State)
+        → Run steps answers endings last → NothingIsLeftToGrant last }
+{}
