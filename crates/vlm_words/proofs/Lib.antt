@@ -5,3 +5,4 @@ pub mod Passed
 pub mod EachResource
 pub mod NothingLeft
 pub mod HeldModes
+pub mod QueueOrder

@@ -45,7 +45,7 @@ serve_waiting_stops r (row ∷ rows) none is =
     (subst (λ converting. wanted_fits row.want r.granted converting ≡ false) none waits)))
 
 -- an empty queue is the empty list
-is_empty-true : (rows : List Row) → is_empty rows ≡ true → rows ≡ []
+pub is_empty-true : (rows : List Row) → is_empty rows ≡ true → rows ≡ []
 is_empty-true [] empty = refl
 is_empty-true (row ∷ rows) empty = cc
 

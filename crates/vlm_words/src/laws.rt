@@ -7,7 +7,7 @@ ghost use Rattle.vlm_words.specs.declared.steps.Step.{Step};
 ghost use Rattle.vlm_words.specs.Endings.{Ending};
 ghost use Rattle.vlm_words.specs.State.{State};
 ghost use Rattle.vlm_words.specs.Runs.{Run};
-ghost use Rattle.vlm_words.specs.Laws.{HeldModesAreCompatible, NothingIsLeftToGrant};
+ghost use Rattle.vlm_words.specs.Laws.{GrantsFollowQueueOrder, HeldModesAreCompatible, NothingIsLeftToGrant};
 
 /// In each resource the held modes of any two locks are compatible.
 pub fn law_held_modes_are_compatible()
@@ -20,4 +20,13 @@ pub fn law_held_modes_are_compatible()
 pub fn law_nothing_is_left_to_grant()
     ensures { (steps : List Step) (answers : List Answer) (endings : List Ending) (last : State)
         → Run steps answers endings last → NothingIsLeftToGrant last }
+{}
+
+/// Before every step: whatever the step is, it serves the queues of each resource from their heads,
+/// conversions first. A new request is granted at once only where it fits and nobody is queued, or by
+/// EXPEDITE at NL; a conversion only where it fits beside all other locks, and with QUECVT only where
+/// no conversion is queued.
+pub fn law_grants_follow_queue_order()
+    ensures { (steps : List Step) (answers : List Answer) (endings : List Ending) (old : State)
+        → Run steps answers endings old → GrantsFollowQueueOrder old }
 {}
