@@ -6,3 +6,8 @@ pub mod EachResource
 pub mod NothingLeft
 pub mod HeldModes
 pub mod QueueOrder
+pub mod RowsFit
+pub mod Sums
+pub mod Weights
+pub mod Apart
+pub mod Counts

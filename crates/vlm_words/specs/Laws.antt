@@ -1,5 +1,5 @@
 -- What holds after every legal run.
-use Rattle.std.specs.Prelude.{◌≡◌, ◌<◌, ◌+◌, ◌==◌, ◌⊎◌, ◌++◌, ℕ, Bool, List, [], ◌∷◌, true, false, All, AllPairs, count_by, sum_by, take, drop, map, flat_map, Option, None, Some, ⊤}
+use Rattle.std.specs.Prelude.{◌≡◌, ◌<◌, ◌+◌, ◌==◌, ◌⊎◌, ◌++◌, ℕ, Bool, List, [], ◌∷◌, true, false, All, AllPairs, count_by, sum_by, take, drop, map, flat_map, Option, None, Some, IsSome, ⊤}
 use Rattle.vlm_words.specs.declared.locks.Request.{Request}
 use Rattle.vlm_words.specs.declared.locks.Row.{Row}
 use Rattle.vlm_words.specs.declared.modes.Mode.TheVariants.{Nl}
@@ -107,3 +107,25 @@ pub record GrantsFollowQueueOrder (old : State) : Type 0 where
   pub from_heads : (step : Step) → All (λ r. GrantsFirst r (served r) (grants_of r)) (changed old step).resources
   pub new_requests : (e : NewRequest) → enq_refusal old e ≡ None → enq_at_once old e ≡ true → EntersInTurn old e
   pub conversions : (c : Conversion) → convert_refusal old c ≡ None → convert_at_once old c ≡ true → ConvertsInTurn old c
+
+-- a granted lock holds a mode and wants nothing
+abbrev pub IsSettled : Row → Type 0
+IsSettled row = IsSome row.held × (row.want ≡ None)
+
+-- a converting lock holds a mode and wants one
+abbrev pub IsConverting : Row → Type 0
+IsConverting row = IsSome row.held × IsSome row.want
+
+-- a waiting lock holds nothing and wants a mode
+abbrev pub IsWaiting : Row → Type 0
+IsWaiting row = (row.held ≡ None) × IsSome row.want
+
+-- each lock of the resource stands in the queue that fits what it holds and wants
+pub record RowsFit (r : Resource) : Type 0 where
+  pub granted : All IsSettled r.granted
+  pub converting : All IsConverting r.converting
+  pub waiting : All IsWaiting r.waiting
+
+-- each lock stands in the queue that fits what it holds and wants
+abbrev pub RowsFitTheirQueues : State → Type 0
+RowsFitTheirQueues s = All RowsFit s.resources

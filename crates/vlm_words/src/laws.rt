@@ -7,7 +7,7 @@ ghost use Rattle.vlm_words.specs.declared.steps.Step.{Step};
 ghost use Rattle.vlm_words.specs.Endings.{Ending};
 ghost use Rattle.vlm_words.specs.State.{State};
 ghost use Rattle.vlm_words.specs.Runs.{Run};
-ghost use Rattle.vlm_words.specs.Laws.{GrantsFollowQueueOrder, HeldModesAreCompatible, NothingIsLeftToGrant};
+ghost use Rattle.vlm_words.specs.Laws.{GrantsFollowQueueOrder, HeldModesAreCompatible, NothingIsLeftToGrant, RowsFitTheirQueues};
 
 /// In each resource the held modes of any two locks are compatible.
 pub fn law_held_modes_are_compatible()
@@ -29,4 +29,11 @@ pub fn law_nothing_is_left_to_grant()
 pub fn law_grants_follow_queue_order()
     ensures { (steps : List Step) (answers : List Answer) (endings : List Ending) (old : State)
         → Run steps answers endings old → GrantsFollowQueueOrder old }
+{}
+
+/// A granted lock holds a mode and wants nothing, a converting lock holds one and wants one, and a
+/// waiting lock holds nothing and wants one.
+pub fn law_rows_fit_their_queues()
+    ensures { (steps : List Step) (answers : List Answer) (endings : List Ending) (last : State)
+        → Run steps answers endings last → RowsFitTheirQueues last }
 {}
