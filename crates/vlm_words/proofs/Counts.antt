@@ -1,31 +1,24 @@
 -- Each accepted request is wanted once or has ended once: by counting both.
-use Rattle.std.proofs.Common.{◌≡◌, ◌∙◌, ◌≤◌, ◌<◌, ◌+◌, ◌⊎◌, ℕ, Bool, true, false, not, List, [], ◌∷◌, ◌++◌, map, cond, Option, None, Some, inl, inr, refl, sym, ap, subst, arith}
-use Rattle.std.specs.Prelude.{◌==◌, count_by}
-use Rattle.std.specs.List.{AllByRecursion, filter, find, flat_map, sum_by}
+use Rattle.std.proofs.Common.{◌≡◌, ◌≤◌, ◌+◌, ℕ, Bool, true, false, not, List, [], ◌∷◌, ◌++◌, map, cond, Option, None, Some, refl, ap, arith}
+use Rattle.std.specs.Prelude.{◌==◌}
+use Rattle.std.specs.List.{AllByRecursion, flat_map, sum_by}
 use Rattle.std.proofs.lemmas.Bool.{and_parts}
-use Rattle.std.proofs.lemmas.Bool.Decides.{nat_tests}
 use Rattle.std.proofs.lemmas.List.Filters.{sum_by-filter_both}
 use Rattle.std.proofs.lemmas.List.Sums.{sum_by-append, sum_by-cons, sum_by_push}
 use Rattle.vlm_words.specs.declared.locks.Request.{Request}
 use Rattle.vlm_words.specs.declared.locks.Row.{Row}
-use Rattle.vlm_words.specs.declared.steps.Answer.{Answer}
-use Rattle.vlm_words.specs.declared.steps.Conversion.{Conversion}
-use Rattle.vlm_words.specs.declared.steps.Dequeue.{Dequeue}
-use Rattle.vlm_words.specs.declared.steps.NewRequest.{NewRequest}
-use Rattle.vlm_words.specs.declared.steps.Step.{Step}
 use Rattle.vlm_words.specs.Endings.{Ending, How, ended}
 use Rattle.vlm_words.specs.Endings.How.{by_grant, by_abort, by_cancel}
-use Rattle.vlm_words.specs.Flags.{cancel, has_flag}
-use Rattle.vlm_words.specs.State.{State, Resource, start}
+use Rattle.vlm_words.specs.State.{Resource}
 use Rattle.vlm_words.specs.Grants.{granted_row, grant, swept, swept_grants}
-use Rattle.vlm_words.specs.Dequeue.{is_lock_of, named_lkid, rows_of, rows_without, settled_row, without, cancelled, dequeued, ends_in, withdrawn}
-use Rattle.vlm_words.specs.Convert.{Place, place_or, granted_place, wanting_row, ungranted, converts_at, converts_at_once, converted_row, converted}
-use Rattle.vlm_words.specs.Laws.{IsSettled, wants_number, wanting_on, wanting, times_ended, EachRequestEndsOnce}
-use Rattle.vlm_words.proofs.Each.{Found, found_at, each_filter, each_weaker}
+use Rattle.vlm_words.specs.Dequeue.{is_lock_of, rows_of, rows_without, settled_row, without, cancelled, dequeued, ends_in, withdrawn}
+use Rattle.vlm_words.specs.Convert.{wanting_row, ungranted, converts_at_once, converted_row}
+use Rattle.vlm_words.specs.Laws.{IsSettled, wants_number, wanting_on, times_ended}
+use Rattle.vlm_words.proofs.Each.{Found, each_filter, each_weaker}
 use Rattle.vlm_words.proofs.RowsFit.{Fit}
-use Rattle.vlm_words.proofs.Sums.{found-le-sum, sum_changed, sum_flat_map, sum_of_one, sum_of_zeros, sum_same}
-use Rattle.vlm_words.proofs.Weights.{weigh, GrantKeeps, swept_weighs}
-use Rattle.vlm_words.proofs.Apart.{stands, standing}
+use Rattle.vlm_words.proofs.Sums.{found-le-sum, sum_changed, sum_of_one, sum_of_zeros}
+use Rattle.vlm_words.proofs.Weights.{GrantKeeps, swept_weighs}
+use Rattle.vlm_words.proofs.Apart.{stands}
 
 -- 1 where the request of this number is wanted
 abbrev pub hits : ℕ → Option Request → ℕ
@@ -45,7 +38,7 @@ ended_counts number how None = refl
 ended_counts number how (Some request) = sum_of_one (ends number) (record { number = request.number; how = how })
 
 -- a grant keeps what is wanted and what has ended together
-wants_kept : (number : ℕ) → GrantKeeps (wants number) (ends number)
+pub wants_kept : (number : ℕ) → GrantKeeps (wants number) (ends number)
 wants_kept number row = omega (arith, ended_counts number by_grant row.want)
 
 -- the requests of some rows end, each once
@@ -135,13 +128,13 @@ all_dequeued_count number lkid cancels resources fit =
     )
 
 -- a lock that is found has a row
-found_stands : (pid lkid : ℕ) (rows : List Row) (row : Row) → Found (is_lock_of pid lkid) rows row → 1 ≤ sum_by (stands lkid) rows
+pub found_stands : (pid lkid : ℕ) (rows : List Row) (row : Row) → Found (is_lock_of pid lkid) rows row → 1 ≤ sum_by (stands lkid) rows
 found_stands pid lkid rows row at =
     let named : stands lkid row ≡ 1 = ap (λ (b : Bool). cond b 1 0) (and_parts (row.lkid == lkid) (row.pid == pid) at.passes).0 in
     omega (arith, found-le-sum (stands lkid) (is_lock_of pid lkid) rows row at)
 
 -- a conversion is wanted or ends, and nothing else does
-converted_row_counts : (number : ℕ) (request : Request) (lkid : ℕ) (r : Resource) (row : Row) → Fit r
+pub converted_row_counts : (number : ℕ) (request : Request) (lkid : ℕ) (r : Resource) (row : Row) → Fit r
     → wanting_on number (converted_row request lkid r (Some row))
     + times_ended number (cond (converts_at_once request lkid r) (ended by_grant (Some request)) [])
     ≡ wanting_on number r + hits number (Some request)

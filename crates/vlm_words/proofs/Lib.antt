@@ -11,3 +11,4 @@ pub mod Sums
 pub mod Weights
 pub mod Apart
 pub mod Counts
+pub mod EndsOnce

@@ -6,12 +6,15 @@ use Rattle.vlm_words.specs.declared.conditions.Cond.{Cond}
 use Rattle.vlm_words.specs.declared.conditions.Cond.TheVariants.{Unsupported}
 use Rattle.vlm_words.specs.declared.modes.Mode.{Mode}
 use Rattle.vlm_words.specs.declared.modes.Mode.TheVariants.{Nl, Cr, Cw, Pr, Pw, Ex}
+use Rattle.vlm_words.specs.declared.steps.Conversion.{Conversion}
 use Rattle.vlm_words.specs.declared.steps.NewRequest.{NewRequest}
-use Rattle.vlm_words.specs.Checks.{or_else, caller_refusal, block_refusal, numbers_refusal, queue_refusal}
+use Rattle.vlm_words.specs.Checks.{or_else, caller_refusal, block_refusal, numbers_refusal, request_numbers_refusal, queue_refusal}
 use Rattle.vlm_words.specs.Flags.{has_flag, expedite}
 use Rattle.vlm_words.specs.Modes.{rank}
 use Rattle.vlm_words.specs.State.{State}
 use Rattle.vlm_words.specs.Enqueue.{enq_refusal, enq_argument_refusal, name_refusal, expedite_refusal, enq_at_once}
+use Rattle.vlm_words.specs.Convert.{Place, granted_place, place_refusal, convert_argument_refusal, convert_refusal, convert_at_once}
+use Rattle.vlm_words.specs.Dequeue.{lock_refusal, named_lkid}
 
 -- where neither of two checks refuses, each passes
 pub both_pass : (first later : Option Cond) → or_else first later ≡ None → (first ≡ None) × (later ≡ None)
@@ -61,3 +64,19 @@ expedited_is_null s e passed flagged =
     (fifth_passes (caller_refusal s e.pid) (enq_argument_refusal e) (block_refusal s e.pid e.block) (name_refusal e.name)
     (cond (has_flag e.flags expedite && not (rank e.mode == 0)) (Some Unsupported) None)
     (or_else (numbers_refusal s) (queue_refusal e.flags (enq_at_once s e))) passed)) flagged))
+
+-- a conversion whose place is not refused has one
+some_place : (c : Conversion) (place : Option Place) → place_refusal c place ≡ None → (found : Place) × (place ≡ Some found)
+unfolding place_refusal
+some_place c None passed = cc
+some_place c (Some place) passed = (place, refl)
+
+-- an accepted conversion is of a granted lock
+pub found_place : (s : State) (c : Conversion) → convert_refusal s c ≡ None
+    → (place : Place) × (granted_place c.pid (named_lkid c.lock) s.resources ≡ Some place)
+unfolding convert_refusal
+found_place s c passed =
+    some_place c (granted_place c.pid (named_lkid c.lock) s.resources)
+    (fifth_passes (caller_refusal s c.pid) (convert_argument_refusal c) (block_refusal s c.pid c.block) (lock_refusal s c.pid (named_lkid c.lock))
+    (place_refusal c (granted_place c.pid (named_lkid c.lock) s.resources))
+    (or_else (request_numbers_refusal s) (queue_refusal c.flags (convert_at_once s c))) passed)

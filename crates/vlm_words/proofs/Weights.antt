@@ -1,14 +1,14 @@
 -- What rows weigh: a sum over all queues, and what becomes of it as requests are granted.
-use Rattle.std.proofs.Common.{◌≡◌, ◌∙◌, ◌+◌, ℕ, Bool, true, false, not, ◌&&◌, List, [], ◌∷◌, ◌++◌, map, cond, Option, None, Some, refl, sym, ap, subst, arith}
+use Rattle.std.proofs.Common.{◌≡◌, ◌+◌, ℕ, true, false, not, ◌&&◌, List, [], ◌∷◌, ◌++◌, cond, Some, refl, ap, subst, arith}
 use Rattle.std.specs.Prelude.{unwrap_or}
-use Rattle.std.specs.List.{filter, find, sum_by}
+use Rattle.std.specs.List.{find, sum_by}
 use Rattle.std.proofs.lemmas.Bool.{and_parts}
 use Rattle.std.proofs.lemmas.List.Sums.{sum_by-cons, sum_by-append, sum_by_push}
 use Rattle.vlm_words.specs.declared.locks.Request.{Request}
 use Rattle.vlm_words.specs.declared.locks.Row.{Row}
 use Rattle.vlm_words.specs.Endings.{Ending, ended}
 use Rattle.vlm_words.specs.Endings.How.{by_grant}
-use Rattle.vlm_words.specs.State.{State, Resource}
+use Rattle.vlm_words.specs.State.{Resource}
 use Rattle.vlm_words.specs.Grants.{is_empty, is_vacant, wanted_fits, granted_row, grant, serve_converting, serve_waiting, serve_new_requests, converting_grants, waiting_grants, new_request_grants, served, grants_of, swept, swept_grants}
 use Rattle.vlm_words.specs.Enqueue.{Key, is_at, is_at_once, new_resource, entered, entered_among}
 use Rattle.vlm_words.proofs.NothingLeft.{is_empty-true}

@@ -7,7 +7,7 @@ ghost use Rattle.vlm_words.specs.declared.steps.Step.{Step};
 ghost use Rattle.vlm_words.specs.Endings.{Ending};
 ghost use Rattle.vlm_words.specs.State.{State};
 ghost use Rattle.vlm_words.specs.Runs.{Run};
-ghost use Rattle.vlm_words.specs.Laws.{GrantsFollowQueueOrder, HeldModesAreCompatible, NothingIsLeftToGrant, RowsFitTheirQueues};
+ghost use Rattle.vlm_words.specs.Laws.{EachRequestEndsOnce, GrantsFollowQueueOrder, HeldModesAreCompatible, NothingIsLeftToGrant, RowsFitTheirQueues};
 
 /// In each resource the held modes of any two locks are compatible.
 pub fn law_held_modes_are_compatible()
@@ -20,6 +20,13 @@ pub fn law_held_modes_are_compatible()
 pub fn law_nothing_is_left_to_grant()
     ensures { (steps : List Step) (answers : List Answer) (endings : List Ending) (last : State)
         → Run steps answers endings last → NothingIsLeftToGrant last }
+{}
+
+/// Each accepted request is wanted by exactly one lock and has not ended, or is wanted by none and
+/// has ended once.
+pub fn law_each_request_ends_once()
+    ensures { (steps : List Step) (answers : List Answer) (endings : List Ending) (last : State)
+        → Run steps answers endings last → EachRequestEndsOnce endings last }
 {}
 
 /// Before every step: whatever the step is, it serves the queues of each resource from their heads,
