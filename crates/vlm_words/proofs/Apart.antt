@@ -76,7 +76,7 @@ entered_stands s e lkid =
       sum_of_zero {X = Ending} (cond (enq_at_once s e) (ended by_grant (Some (request_of s e))) []),
     )
 
--- a conversion gives no lock a row
+-- a conversion gives no lock a row, whichever row is found
 converted_row_stands : (other : ℕ) (request : Request) (pid lkid : ℕ) (r : Resource) (found : Option Row)
     → find (is_lock_of pid lkid) r.granted ≡ found → weigh (stands other) (converted_row request lkid r found) ≤ weigh (stands other) r
 converted_row_stands other request pid lkid r None is = omega arith
@@ -92,12 +92,13 @@ converted_row_stands other request pid lkid r (Some row) is =
       | false ↦ omega (arith, fewer, sum_by_push (stands other) r.converting (wanting_row row request))
     ]
 
+-- the same, for the row that is found
 converted_stands : (other : ℕ) (request : Request) (pid lkid : ℕ) (r : Resource)
     → weigh (stands other) (converted request pid lkid r) ≤ weigh (stands other) r
 unfolding converted
 converted_stands other request pid lkid r = converted_row_stands other request pid lkid r (find (is_lock_of pid lkid) r.granted) refl
 
--- a dequeue gives no lock a row
+-- a lock that goes gives no lock a row
 without_stands : (other lkid : ℕ) (r : Resource) → weigh (stands other) (without lkid r) ≤ weigh (stands other) r
 unfolding without
 without_stands other lkid r =
@@ -108,6 +109,7 @@ without_stands other lkid r =
       sum_filter-le (stands other) (λ row. not (row.lkid == lkid)) r.waiting,
     )
 
+-- a cancel gives no lock a row
 cancelled_stands : (other lkid : ℕ) (r : Resource) → weigh (stands other) (cancelled lkid r) ≤ weigh (stands other) r
 unfolding cancelled
 cancelled_stands other lkid r =
@@ -119,6 +121,7 @@ cancelled_stands other lkid r =
       sum_filter-le (stands other) (λ row. not (row.lkid == lkid)) r.waiting,
     )
 
+-- a dequeue of either kind gives no lock a row
 dequeued_stands : (other lkid : ℕ) (cancels : Bool) (r : Resource) → weigh (stands other) (dequeued lkid cancels r) ≤ weigh (stands other) r
 dequeued_stands other lkid true r = cancelled_stands other lkid r
 dequeued_stands other lkid false r = without_stands other lkid r

@@ -49,6 +49,7 @@ are_compatible-comm None (Some b) compatible = tt
 are_compatible-comm (Some a) None compatible = tt
 are_compatible-comm (Some a) (Some b) compatible = is_compatible-comm b.mode a.mode ∙ compatible
 
+-- holding compatible modes has no order
 hold_compatible-comm : (a b : Row) → HoldCompatible a b → HoldCompatible b a
 hold_compatible-comm a b compatible = are_compatible-comm a.held b.held compatible
 
@@ -183,7 +184,7 @@ queued_agrees request pid lkid granted converting row at agree =
     (ap not (and_parts _ _ at.passes).0) at agree)
     (each_pair_filter_left HoldCompatible _ granted converting agree))
 
--- a conversion keeps the held modes compatible
+-- a conversion keeps the held modes compatible, whichever row is found
 converted_row_agrees : (request : Request) (pid lkid : ℕ) (r : Resource) (found : Option Row) → find (is_lock_of pid lkid) r.granted ≡ found
     → HoldersAgree r → HoldersAgree (converted_row request lkid r found)
 converted_row_agrees request pid lkid r None is agree = agree
@@ -193,6 +194,7 @@ converted_row_agrees request pid lkid r (Some row) is agree =
     (λ at_once. converted_at_once_agrees request lkid r row at_once agree)
     (λ _. queued_agrees request pid lkid r.granted r.converting row (found_at (is_lock_of pid lkid) r.granted row is) agree)
 
+-- the same, for the row that is found
 converted_agrees : (request : Request) (pid lkid : ℕ) (r : Resource) → HoldersAgree r → HoldersAgree (converted request pid lkid r)
 unfolding converted
 converted_agrees request pid lkid r agree = converted_row_agrees request pid lkid r (find (is_lock_of pid lkid) r.granted) refl agree

@@ -74,7 +74,7 @@ entered_fit s e _ r fit =
       waiting = each_append IsWaiting r.waiting (row_of s e ∷ []) fit.waiting ((refl, refl), tt);
     })
 
--- a conversion keeps the rows fit
+-- a conversion keeps the rows fit, whichever row is found
 converted_row_fit : (request : Request) (pid lkid : ℕ) (r : Resource) (found : Option Row) → find (is_lock_of pid lkid) r.granted ≡ found
     → Fit r → Fit (converted_row request lkid r found)
 converted_row_fit request pid lkid r None is fit = fit
@@ -95,6 +95,7 @@ converted_row_fit request pid lkid r (Some row) is fit =
       waiting = fit.waiting;
     })
 
+-- the same, for the row that is found
 converted_fit : (request : Request) (pid lkid : ℕ) (r : Resource) → Fit r → Fit (converted request pid lkid r)
 unfolding converted
 converted_fit request pid lkid r fit = converted_row_fit request pid lkid r (find (is_lock_of pid lkid) r.granted) refl fit
