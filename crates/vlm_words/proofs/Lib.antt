@@ -1,0 +1,14 @@
+pub mod Each
+pub mod Pairs
+pub mod Always
+pub mod Passed
+pub mod EachResource
+pub mod NothingLeft
+pub mod HeldModes
+pub mod QueueOrder
+pub mod RowsFit
+pub mod Sums
+pub mod Weights
+pub mod Apart
+pub mod Counts
+pub mod EndsOnce

@@ -9,6 +9,7 @@ pub mod asts;
 pub mod blocks;
 pub mod conditions;
 pub mod flags;
+pub mod laws;
 pub mod locks;
 pub mod modes;
 pub mod names;

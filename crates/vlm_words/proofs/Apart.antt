@@ -1,0 +1,150 @@
+-- After every step no two rows have the same identification.
+use Rattle.std.proofs.Common.{◌≡◌, ◌≤◌, ◌+◌, ℕ, Bool, true, false, not, List, [], ◌∷◌, ◌++◌, map, cond, Option, None, Some, refl, ap, arith}
+use Rattle.std.specs.Prelude.{◌==◌}
+use Rattle.std.specs.List.{find, sum_by}
+use Rattle.std.proofs.lemmas.Bool.{and_parts}
+use Rattle.std.proofs.lemmas.Bool.Decides.{nat_tests}
+use Rattle.std.proofs.lemmas.List.Filters.{sum_by-filter_both}
+use Rattle.std.proofs.lemmas.List.Sums.{sum_by-append, sum_by_push}
+use Rattle.vlm_words.specs.declared.locks.Request.{Request}
+use Rattle.vlm_words.specs.declared.locks.Row.{Row}
+use Rattle.vlm_words.specs.declared.steps.Answer.{Answer}
+use Rattle.vlm_words.specs.declared.steps.NewRequest.{NewRequest}
+use Rattle.vlm_words.specs.declared.steps.Step.{Step}
+use Rattle.vlm_words.specs.Endings.{Ending, ended}
+use Rattle.vlm_words.specs.Endings.How.{by_grant}
+use Rattle.vlm_words.specs.Flags.{cancel, has_flag}
+use Rattle.vlm_words.specs.State.{State, Resource}
+use Rattle.vlm_words.specs.Grants.{granted_row, grant, swept, swept_grants}
+use Rattle.vlm_words.specs.Declare.{declare_change}
+use Rattle.vlm_words.specs.Enqueue.{enq_change, enq_at_once, found_by, row_of, request_of, key_of}
+use Rattle.vlm_words.specs.Convert.{wanting_row, ungranted, converts_at_once, converted_row, converted, conversion_of, convert_change}
+use Rattle.vlm_words.specs.Dequeue.{is_lock_of, named_lkid, rows_of, rows_without, settled_row, without, cancelled, dequeued, deq_change}
+use Rattle.vlm_words.specs.Runs.{Run}
+use Rattle.vlm_words.proofs.Always.{always, kept_by_stepped}
+use Rattle.vlm_words.proofs.Each.{Found, found_at}
+use Rattle.vlm_words.proofs.Sums.{sum_of_zero, sum_filter-le, sum_filter_but-le, sum_changed-le, sum_same}
+use Rattle.vlm_words.proofs.Weights.{weigh, GrantKeeps, swept_weighs, entered_among_weighs}
+
+-- 1 for a row of this lock
+abbrev pub stands : ℕ → Row → ℕ
+stands lkid row = cond (row.lkid == lkid) 1 0
+
+-- how many rows this lock has
+abbrev pub standing : ℕ → List Resource → ℕ
+standing lkid resources = sum_by (weigh (stands lkid)) resources
+
+-- no lock has two rows, and those to come have none
+pub record Apart (s : State) : Type 0 where
+  pub one_row : (lkid : ℕ) → standing lkid s.resources ≤ 1
+  pub none_to_come : (lkid : ℕ) → s.next_lkid ≤ lkid → standing lkid s.resources ≡ 0
+
+-- a grant keeps the identification, and its ending does not count here
+stands_kept : (lkid : ℕ) → GrantKeeps (stands lkid) (λ ending. 0)
+stands_kept lkid row = omega (arith, sum_of_zero (ended by_grant row.want))
+
+-- a sweep keeps the rows of each lock
+swept_stands : (lkid : ℕ) (resources : List Resource) → standing lkid (swept resources) ≡ standing lkid resources
+swept_stands lkid resources =
+    omega (arith, swept_weighs (stands lkid) (λ ending. 0) (stands_kept lkid) resources, sum_of_zero (swept_grants resources))
+
+-- where no lock gets a row, all stay apart
+fewer_apart : (s t : State) → Apart s → t.next_lkid ≡ s.next_lkid
+    → ((lkid : ℕ) → standing lkid t.resources ≤ standing lkid s.resources) → Apart t
+fewer_apart s t apart same fewer = record {
+  one_row = λ lkid. omega (arith, apart.one_row lkid, fewer lkid);
+  none_to_come = λ lkid past. omega (arith, apart.none_to_come lkid (omega arith), fewer lkid);
+}
+
+-- where the next identification gets a row, all stay apart
+one_more_apart : (s t : State) → Apart s → t.next_lkid ≡ s.next_lkid + 1
+    → ((lkid : ℕ) → standing lkid t.resources ≡ standing lkid s.resources + cond (s.next_lkid == lkid) 1 0) → Apart t
+one_more_apart s t apart next more = record {
+  one_row = λ lkid. grind (arith, nat_tests, more lkid, apart.one_row lkid, apart.none_to_come lkid);
+  none_to_come = λ lkid past. grind (arith, nat_tests, more lkid, apart.none_to_come lkid);
+}
+
+-- an entry gives the next identification a row
+entered_stands : (s : State) (e : NewRequest) (lkid : ℕ)
+    → standing lkid (swept (enq_change s e).resources) ≡ standing lkid s.resources + cond (s.next_lkid == lkid) 1 0
+unfolding enq_change found_by
+entered_stands s e lkid =
+    omega (
+      arith,
+      swept_stands lkid (enq_change s e).resources,
+      entered_among_weighs (stands lkid) (λ ending. 0) (stands_kept lkid) s.next_serial (key_of s e) (row_of s e) (request_of s e) refl s.resources,
+      sum_of_zero {X = Ending} (cond (enq_at_once s e) (ended by_grant (Some (request_of s e))) []),
+    )
+
+-- a conversion gives no lock a row, whichever row is found
+converted_row_stands : (other : ℕ) (request : Request) (pid lkid : ℕ) (r : Resource) (found : Option Row)
+    → find (is_lock_of pid lkid) r.granted ≡ found → weigh (stands other) (converted_row request lkid r found) ≤ weigh (stands other) r
+converted_row_stands other request pid lkid r None is = omega arith
+converted_row_stands other request pid lkid r (Some row) is =
+    let at : Found (is_lock_of pid lkid) r.granted row = found_at (is_lock_of pid lkid) r.granted row is in
+    let fewer : sum_by (stands other) (rows_without lkid r.granted) + stands other row ≤ sum_by (stands other) r.granted =
+    sum_filter_but-le (stands other) (is_lock_of pid lkid) (λ each. not (each.lkid == lkid)) r.granted row
+    (ap not (and_parts (row.lkid == lkid) (row.pid == pid) at.passes).0) at in
+    elim (converts_at_once request lkid r) as (λ b.
+    weigh (stands other) (cond b (grant (ungranted lkid r) (wanting_row row request))
+    (record (ungranted lkid r) { converting = r.converting ++ wanting_row row request ∷ [] })) ≤ weigh (stands other) r) [
+      | true ↦ omega (arith, fewer, sum_by_push (stands other) (rows_without lkid r.granted) (granted_row (wanting_row row request)))
+      | false ↦ omega (arith, fewer, sum_by_push (stands other) r.converting (wanting_row row request))
+    ]
+
+-- the same, for the row that is found
+converted_stands : (other : ℕ) (request : Request) (pid lkid : ℕ) (r : Resource)
+    → weigh (stands other) (converted request pid lkid r) ≤ weigh (stands other) r
+unfolding converted
+converted_stands other request pid lkid r = converted_row_stands other request pid lkid r (find (is_lock_of pid lkid) r.granted) refl
+
+-- a lock that goes gives no lock a row
+without_stands : (other lkid : ℕ) (r : Resource) → weigh (stands other) (without lkid r) ≤ weigh (stands other) r
+unfolding without
+without_stands other lkid r =
+    omega (
+      arith,
+      sum_filter-le (stands other) (λ row. not (row.lkid == lkid)) r.granted,
+      sum_filter-le (stands other) (λ row. not (row.lkid == lkid)) r.converting,
+      sum_filter-le (stands other) (λ row. not (row.lkid == lkid)) r.waiting,
+    )
+
+-- a cancel gives no lock a row
+cancelled_stands : (other lkid : ℕ) (r : Resource) → weigh (stands other) (cancelled lkid r) ≤ weigh (stands other) r
+unfolding cancelled
+cancelled_stands other lkid r =
+    omega (
+      arith,
+      sum_by-append (stands other) r.granted (map settled_row (rows_of lkid r.converting)),
+      sum_same (stands other) settled_row (λ _. refl) (rows_of lkid r.converting),
+      sum_by-filter_both (λ row. row.lkid == lkid) (λ row. not (row.lkid == lkid)) (λ _. refl) (stands other) r.converting,
+      sum_filter-le (stands other) (λ row. not (row.lkid == lkid)) r.waiting,
+    )
+
+-- a dequeue of either kind gives no lock a row
+dequeued_stands : (other lkid : ℕ) (cancels : Bool) (r : Resource) → weigh (stands other) (dequeued lkid cancels r) ≤ weigh (stands other) r
+dequeued_stands other lkid true r = cancelled_stands other lkid r
+dequeued_stands other lkid false r = without_stands other lkid r
+
+-- after a conversion or a dequeue and a sweep all are apart still
+changed_apart : (s : State) (change : Resource → Resource) → ((lkid : ℕ) (r : Resource) → weigh (stands lkid) (change r) ≤ weigh (stands lkid) r)
+    → (lkid : ℕ) → standing lkid (swept (map change s.resources)) ≤ standing lkid s.resources
+changed_apart s change fewer lkid =
+    omega (arith, swept_stands lkid (map change s.resources), sum_changed-le (weigh (stands lkid)) change (fewer lkid) s.resources)
+
+-- after every run no two rows have the same identification
+pub apart_always : (steps : List Step) (answers : List Answer) (endings : List Ending) (last : State)
+    → Run steps answers endings last → Apart last
+unfolding declare_change enq_change convert_change deq_change
+apart_always =
+    always (λ _ s. Apart s) (record { one_row = λ lkid. omega arith; none_to_come = λ lkid _. refl })
+    (λ _ _ endings s _ apart.
+    kept_by_stepped (λ _ t. Apart t) endings s apart
+    (λ d _. record { one_row = apart.one_row; none_to_come = apart.none_to_come })
+    (λ e _. one_more_apart s _ apart refl (entered_stands s e))
+    (λ c _. fewer_apart s _ apart refl
+    (changed_apart s (converted (conversion_of s c) c.pid (named_lkid c.lock))
+    (λ lkid r. converted_stands lkid (conversion_of s c) c.pid (named_lkid c.lock) r)))
+    (λ d _. fewer_apart s _ apart refl
+    (changed_apart s (dequeued (named_lkid d.lock) (has_flag d.flags cancel))
+    (λ lkid r. dequeued_stands lkid (named_lkid d.lock) (has_flag d.flags cancel) r))))

@@ -1,0 +1,158 @@
+-- Each accepted request is wanted once or has ended once: by counting both.
+use Rattle.std.proofs.Common.{◌≡◌, ◌≤◌, ◌+◌, ℕ, Bool, true, false, not, List, [], ◌∷◌, ◌++◌, map, cond, Option, None, Some, refl, ap, arith}
+use Rattle.std.specs.Prelude.{◌==◌}
+use Rattle.std.specs.List.{AllByRecursion, flat_map, sum_by}
+use Rattle.std.proofs.lemmas.Bool.{and_parts}
+use Rattle.std.proofs.lemmas.List.Filters.{sum_by-filter_both}
+use Rattle.std.proofs.lemmas.List.Sums.{sum_by-append, sum_by-cons, sum_by_push}
+use Rattle.vlm_words.specs.declared.locks.Request.{Request}
+use Rattle.vlm_words.specs.declared.locks.Row.{Row}
+use Rattle.vlm_words.specs.Endings.{Ending, How, ended}
+use Rattle.vlm_words.specs.Endings.How.{by_grant, by_abort, by_cancel}
+use Rattle.vlm_words.specs.State.{Resource}
+use Rattle.vlm_words.specs.Grants.{granted_row, grant, swept, swept_grants}
+use Rattle.vlm_words.specs.Dequeue.{is_lock_of, rows_of, rows_without, settled_row, without, cancelled, dequeued, ends_in, withdrawn}
+use Rattle.vlm_words.specs.Convert.{wanting_row, ungranted, converts_at_once, converted_row}
+use Rattle.vlm_words.specs.Laws.{IsSettled, wants_number, wanting_on, times_ended}
+use Rattle.vlm_words.proofs.Each.{Found, each_filter, each_weaker}
+use Rattle.vlm_words.proofs.RowsFit.{Fit}
+use Rattle.vlm_words.proofs.Sums.{found-le-sum, sum_changed, sum_of_one, sum_of_zeros}
+use Rattle.vlm_words.proofs.Weights.{GrantKeeps, swept_weighs}
+use Rattle.vlm_words.proofs.Apart.{stands}
+
+-- 1 where the request of this number is wanted
+abbrev pub hits : ℕ → Option Request → ℕ
+hits number want = cond (wants_number number want) 1 0
+
+-- 1 for a row that wants the request of this number
+abbrev pub wants : ℕ → Row → ℕ
+wants number row = hits number row.want
+
+-- 1 for an ending of the request of this number
+abbrev pub ends : ℕ → Ending → ℕ
+ends number ending = cond (ending.number == number) 1 0
+
+-- a request that ends has one ending
+pub ended_counts : (number : ℕ) (how : How) (want : Option Request) → times_ended number (ended how want) ≡ hits number want
+ended_counts number how None = refl
+ended_counts number how (Some request) = sum_of_one (ends number) (record { number = request.number; how = how })
+
+-- a grant keeps what is wanted and what has ended together
+pub wants_kept : (number : ℕ) → GrantKeeps (wants number) (ends number)
+wants_kept number row = omega (arith, ended_counts number by_grant row.want)
+
+-- the requests of some rows end, each once
+rows_end : (number : ℕ) (how : How) (rows : List Row)
+    → times_ended number (flat_map (λ row. ended how row.want) rows) ≡ sum_by (wants number) rows
+rows_end number how [] = refl
+rows_end number how (row ∷ rows) =
+    omega (
+      arith,
+      rows_end number how rows,
+      ended_counts number how row.want,
+      sum_by-cons (wants number) row rows,
+      sum_by-append (ends number) (ended how row.want) (flat_map (λ other. ended how other.want) rows),
+    )
+
+-- the rows that go from a queue end their requests
+queue_ends : (number : ℕ) (how : How) (lkid : ℕ) (rows : List Row)
+    → sum_by (wants number) (rows_without lkid rows) + times_ended number (ends_in how lkid rows) ≡ sum_by (wants number) rows
+queue_ends number how lkid rows =
+    omega (
+      arith,
+      rows_end number how (rows_of lkid rows),
+      sum_by-filter_both (λ row. row.lkid == lkid) (λ row. not (row.lkid == lkid)) (λ _. refl) (wants number) rows,
+    )
+
+-- settled rows want nothing
+settled_want_nothing : (number : ℕ) (rows : List Row) → AllByRecursion IsSettled rows → sum_by (wants number) rows ≡ 0
+settled_want_nothing number rows settled =
+    sum_of_zeros (wants number) rows
+    (each_weaker IsSettled (λ row. wants number row ≡ 0) (λ row is. ap (hits number) is.1) rows settled)
+
+-- rows that are settled want nothing
+settling_wants_nothing : (number : ℕ) (rows : List Row) → sum_by (wants number) (map settled_row rows) ≡ 0
+settling_wants_nothing number [] = refl
+settling_wants_nothing number (row ∷ rows) =
+    omega (arith, settling_wants_nothing number rows, sum_by-cons (wants number) (settled_row row) (map settled_row rows))
+
+-- a lock that goes ends its request
+without_counts : (number lkid : ℕ) (r : Resource) → Fit r
+    → wanting_on number (without lkid r) + times_ended number (withdrawn lkid false r) ≡ wanting_on number r
+unfolding without
+without_counts number lkid r fit =
+    omega (
+      arith,
+      settled_want_nothing number r.granted fit.granted,
+      settled_want_nothing number (rows_without lkid r.granted) (each_filter IsSettled _ r.granted fit.granted),
+      queue_ends number by_abort lkid r.converting,
+      queue_ends number by_abort lkid r.waiting,
+      sum_by-append (ends number) (ends_in by_abort lkid r.converting) (ends_in by_abort lkid r.waiting),
+    )
+
+-- a cancel ends the request of its lock
+cancelled_counts : (number lkid : ℕ) (r : Resource)
+    → wanting_on number (cancelled lkid r) + times_ended number (withdrawn lkid true r) ≡ wanting_on number r
+unfolding cancelled
+cancelled_counts number lkid r =
+    omega (
+      arith,
+      sum_by-append (wants number) r.granted (map settled_row (rows_of lkid r.converting)),
+      settling_wants_nothing number (rows_of lkid r.converting),
+      queue_ends number by_cancel lkid r.converting,
+      queue_ends number by_abort lkid r.waiting,
+      sum_by-append (ends number) (ends_in by_cancel lkid r.converting) (ends_in by_abort lkid r.waiting),
+    )
+
+-- a dequeue ends the request of its lock
+dequeued_counts : (number lkid : ℕ) (cancels : Bool) (r : Resource) → Fit r
+    → wanting_on number (dequeued lkid cancels r) + times_ended number (withdrawn lkid cancels r) ≡ wanting_on number r
+dequeued_counts number lkid true r fit = cancelled_counts number lkid r
+dequeued_counts number lkid false r fit = without_counts number lkid r fit
+
+-- after a dequeue and a sweep as many requests are wanted or ended
+pub all_dequeued_count : (number lkid : ℕ) (cancels : Bool) (resources : List Resource) → AllByRecursion Fit resources
+    → sum_by (wanting_on number) (swept (map (dequeued lkid cancels) resources))
+    + times_ended number (flat_map (withdrawn lkid cancels) resources ++ swept_grants (map (dequeued lkid cancels) resources))
+    ≡ sum_by (wanting_on number) resources
+all_dequeued_count number lkid cancels resources fit =
+    let changes : List Resource = map (dequeued lkid cancels) resources in
+    omega (
+      arith,
+      swept_weighs (wants number) (ends number) (wants_kept number) changes,
+      sum_by-append (ends number) (flat_map (withdrawn lkid cancels) resources) (swept_grants changes),
+      sum_changed (wanting_on number) (dequeued lkid cancels) (ends number) (withdrawn lkid cancels) resources
+          (each_weaker Fit
+          (λ r. wanting_on number (dequeued lkid cancels r) + times_ended number (withdrawn lkid cancels r) ≡ wanting_on number r)
+          (dequeued_counts number lkid cancels) resources fit),
+    )
+
+-- a lock that is found has a row
+pub found_stands : (pid lkid : ℕ) (rows : List Row) (row : Row) → Found (is_lock_of pid lkid) rows row → 1 ≤ sum_by (stands lkid) rows
+found_stands pid lkid rows row at =
+    let named : stands lkid row ≡ 1 = ap (λ (b : Bool). cond b 1 0) (and_parts (row.lkid == lkid) (row.pid == pid) at.passes).0 in
+    omega (arith, found-le-sum (stands lkid) (is_lock_of pid lkid) rows row at)
+
+-- a conversion is wanted or ends, and nothing else does
+pub converted_row_counts : (number : ℕ) (request : Request) (lkid : ℕ) (r : Resource) (row : Row) → Fit r
+    → wanting_on number (converted_row request lkid r (Some row))
+    + times_ended number (cond (converts_at_once request lkid r) (ended by_grant (Some request)) [])
+    ≡ wanting_on number r + hits number (Some request)
+converted_row_counts number request lkid r row fit =
+    let before : sum_by (wants number) r.granted ≡ 0 = settled_want_nothing number r.granted fit.granted in
+    let after : sum_by (wants number) (rows_without lkid r.granted) ≡ 0 =
+    settled_want_nothing number (rows_without lkid r.granted) (each_filter IsSettled _ r.granted fit.granted) in
+    elim (converts_at_once request lkid r) as (λ b.
+    wanting_on number
+    (cond b (grant (ungranted lkid r) (wanting_row row request))
+    (record (ungranted lkid r) { converting = r.converting ++ wanting_row row request ∷ [] }))
+    + times_ended number (cond b (ended by_grant (Some request)) []) ≡ wanting_on number r + hits number (Some request)) [
+      | true ↦ omega (
+        arith,
+        before,
+        after,
+        ended_counts number by_grant (Some request),
+        sum_by_push (wants number) (rows_without lkid r.granted) (granted_row (wanting_row row request)),
+      )
+      | false ↦ omega (arith, before, after, sum_by_push (wants number) r.converting (wanting_row row request))
+    ]

@@ -1,0 +1,227 @@
+-- After every step the held modes of each resource are compatible.
+use Rattle.std.proofs.Common.{◌≡◌, ℕ, Bool, true, false, not, List, [], ◌∷◌, ◌++◌, Option, None, Some, append_assoc, refl, sym, subst, ap, ⊎_elim, ◌∙◌}
+use Rattle.std.proofs.Math.Bool.{or_comm}
+use Rattle.std.proofs.Math.Path.{fun_ext}
+use Rattle.std.specs.Prelude.{AllPairs, ◌==◌, ◌&&◌}
+use Rattle.std.specs.List.{AllByRecursion, find, list_any, list_all}
+use Rattle.std.proofs.lemmas.Bool.{cond_both, and_parts, or_cases}
+use Rattle.std.proofs.lemmas.List.Elements.{All-from_recursion, filter-append}
+use Rattle.vlm_words.specs.declared.locks.Request.{Request}
+use Rattle.vlm_words.specs.declared.locks.Row.{Row}
+use Rattle.vlm_words.specs.declared.modes.Mode.{Mode}
+use Rattle.vlm_words.specs.declared.modes.Mode.TheVariants.{Nl, Cr, Cw, Pr, Pw, Ex}
+use Rattle.vlm_words.specs.declared.steps.Answer.{Answer}
+use Rattle.vlm_words.specs.declared.steps.NewRequest.{NewRequest}
+use Rattle.vlm_words.specs.declared.steps.Step.{Step}
+use Rattle.vlm_words.specs.Endings.{Ending}
+use Rattle.vlm_words.specs.Flags.{has_flag, expedite}
+use Rattle.vlm_words.specs.Modes.{rank, is_compatible, is_pair_of, compatible_pairs}
+use Rattle.vlm_words.specs.State.{State, Resource}
+use Rattle.vlm_words.specs.Grants.{is_empty, is_beside, fits, wanted_fits, granted_row, grant, serve_converting, serve_waiting, serve_new_requests, served}
+use Rattle.vlm_words.specs.Enqueue.{is_free_for, is_at_once, entered, row_of, request_of, enq_refusal}
+use Rattle.vlm_words.specs.Convert.{wanting_row, ungranted, converts_at_once, converted_row, converted}
+use Rattle.vlm_words.specs.Dequeue.{is_lock_of, rows_without, settled_row, without, cancelled, dequeued}
+use Rattle.vlm_words.specs.Runs.{Run}
+use Rattle.vlm_words.specs.Laws.{AreCompatible, HeldModesAreCompatible}
+use Rattle.vlm_words.proofs.Each.{Found, found_at, each_append, each_passes, each_weaker}
+use Rattle.vlm_words.proofs.Pairs.{EachPair, AllPairs-from_recursion, each_pair_filter, each_pair_filter_left, each_pair_found, each_pair_insert, each_pair_move, each_pair_push, each_pair_remove}
+use Rattle.vlm_words.proofs.Passed.{expedited_is_null}
+use Rattle.vlm_words.proofs.EachResource.{each_always}
+
+-- a pair has two modes in either order
+is_pair_of-comm : (a b : Mode) (pair : Mode × Mode) → is_pair_of a b pair ≡ is_pair_of b a pair
+is_pair_of-comm a b pair =
+    or_comm ((rank pair.0 == rank a) && (rank pair.1 == rank b)) ((rank pair.0 == rank b) && (rank pair.1 == rank a))
+
+-- the table has no order
+is_compatible-comm : (a b : Mode) → is_compatible a b ≡ is_compatible b a
+unfolding is_compatible
+is_compatible-comm a b = ap (λ test. list_any test compatible_pairs) (fun_ext (is_pair_of-comm a b))
+
+-- two rows hold compatible modes
+abbrev pub HoldCompatible : Row → Row → Type 0
+HoldCompatible a b = AreCompatible a.held b.held
+
+-- being compatible has no order
+are_compatible-comm : (a b : Option Request) → AreCompatible a b → AreCompatible b a
+are_compatible-comm None None compatible = tt
+are_compatible-comm None (Some b) compatible = tt
+are_compatible-comm (Some a) None compatible = tt
+are_compatible-comm (Some a) (Some b) compatible = is_compatible-comm b.mode a.mode ∙ compatible
+
+-- holding compatible modes has no order
+hold_compatible-comm : (a b : Row) → HoldCompatible a b → HoldCompatible b a
+hold_compatible-comm a b compatible = are_compatible-comm a.held b.held compatible
+
+-- a mode that may be held beside what a row holds is compatible with it
+compatible_beside : (request : Request) (held : Option Request) → is_beside request.mode held ≡ true → AreCompatible (Some request) held
+compatible_beside request None beside = tt
+compatible_beside request (Some held) beside = beside
+
+-- a mode that fits is compatible with what each row holds
+compatible_if_fits : (request : Request) (granted converting : List Row) → fits request.mode granted converting ≡ true
+    → AllByRecursion (λ row. AreCompatible (Some request) row.held) (granted ++ converting)
+unfolding fits
+compatible_if_fits request granted converting fitting =
+    each_append (λ row. AreCompatible (Some request) row.held) granted converting (each_of granted parts.0) (each_of converting parts.1)
+  where
+    parts : (list_all (λ row. is_beside request.mode row.held) granted ≡ true) × (list_all (λ row. is_beside request.mode row.held) converting ≡ true)
+    parts = and_parts _ _ fitting
+
+    each_of : (rows : List Row) → list_all (λ row. is_beside request.mode row.held) rows ≡ true
+        → AllByRecursion (λ row. AreCompatible (Some request) row.held) rows
+    each_of rows passed =
+        each_weaker (λ row. is_beside request.mode row.held ≡ true) (λ row. AreCompatible (Some request) row.held)
+        (λ row beside. compatible_beside request row.held beside) rows (each_passes (λ row. is_beside request.mode row.held) rows passed)
+
+-- what a row wants, where it fits, is compatible with what each other row holds
+compatible_if_wanted_fits : (want : Option Request) (granted converting : List Row) → wanted_fits want granted converting ≡ true
+    → AllByRecursion (λ row. AreCompatible want row.held) (granted ++ converting)
+compatible_if_wanted_fits None granted converting fitting = cc
+compatible_if_wanted_fits (Some request) granted converting fitting = compatible_if_fits request granted converting fitting
+
+-- the held modes of the two queues are compatible
+abbrev pub QueuesAgree : List Row → List Row → Type 0
+QueuesAgree granted converting = EachPair HoldCompatible (granted ++ converting)
+
+-- the held modes of the resource are compatible
+abbrev pub HoldersAgree : Resource → Type 0
+HoldersAgree r = QueuesAgree r.granted r.converting
+
+-- a row whose request fits may be granted
+agree_after_grant : (row : Row) (granted converting : List Row)
+    → AllByRecursion (λ other. AreCompatible row.want other.held) (granted ++ converting) → QueuesAgree granted converting
+    → QueuesAgree (granted ++ granted_row row ∷ []) converting
+agree_after_grant row granted converting compatible agree =
+    rw append_assoc
+    (each_pair_insert HoldCompatible hold_compatible-comm granted (granted_row row) converting compatible agree)
+
+-- serving the conversions keeps the held modes compatible
+serve_converting_agrees : (r : Resource) (rows : List Row) → r.converting ≡ rows → HoldersAgree r → HoldersAgree (serve_converting r rows)
+serve_converting_agrees r [] is agree = agree
+serve_converting_agrees r (row ∷ rows) is agree =
+    cond_both (wanted_fits row.want r.granted rows) (serve_converting (record (grant r row) { converting = rows }) rows) r HoldersAgree
+    (λ fitting.
+    serve_converting_agrees (record (grant r row) { converting = rows }) rows refl
+    (agree_after_grant row r.granted rows (compatible_if_wanted_fits row.want r.granted rows fitting)
+    (each_pair_remove HoldCompatible r.granted row rows (subst (QueuesAgree r.granted) is agree))))
+    (λ _. agree)
+
+-- serving the waiting queue keeps the held modes compatible
+serve_waiting_agrees : (r : Resource) (rows : List Row) → HoldersAgree r → HoldersAgree (serve_waiting r rows)
+serve_waiting_agrees r [] agree = agree
+serve_waiting_agrees r (row ∷ rows) agree =
+    cond_both (wanted_fits row.want r.granted r.converting) (serve_waiting (record (grant r row) { waiting = rows }) rows) r HoldersAgree
+    (λ fitting.
+    serve_waiting_agrees (record (grant r row) { waiting = rows }) rows
+    (agree_after_grant row r.granted r.converting (compatible_if_wanted_fits row.want r.granted r.converting fitting) agree))
+    (λ _. agree)
+
+-- serving keeps the held modes compatible
+served_agrees : (r : Resource) → HoldersAgree r → HoldersAgree (served r)
+unfolding served
+served_agrees r agree = new_requests (serve_converting r r.converting) (serve_converting_agrees r r.converting refl agree)
+  where
+    new_requests : (left : Resource) → HoldersAgree left → HoldersAgree (serve_new_requests left)
+    new_requests left agree =
+        cond_both (is_empty left.converting) (serve_waiting left left.waiting) left HoldersAgree
+        (λ _. serve_waiting_agrees left left.waiting agree) (λ _. agree)
+
+-- NL is compatible with every mode
+null_is_compatible : (mode : Mode) → is_compatible Nl mode ≡ true
+unfolding is_compatible
+null_is_compatible Nl = refl
+null_is_compatible Cr = refl
+null_is_compatible Cw = refl
+null_is_compatible Pr = refl
+null_is_compatible Pw = refl
+null_is_compatible Ex = refl
+
+-- a request for NL is compatible with whatever is held
+null_is_beside : (request : Request) (held : Option Request) → request.mode ≡ Nl → AreCompatible (Some request) held
+null_is_beside request None null = tt
+null_is_beside request (Some held) null = subst (λ mode. is_compatible mode held.mode ≡ true) (sym null) (null_is_compatible held.mode)
+
+-- a request for NL is compatible with what each row holds
+null_beside_each : (request : Request) → request.mode ≡ Nl → (rows : List Row) → AllByRecursion (λ row. AreCompatible (Some request) row.held) rows
+null_beside_each request null [] = tt
+null_beside_each request null (row ∷ rows) = (null_is_beside request row.held null, null_beside_each request null rows)
+
+-- a new request that is granted at once is compatible with what each row holds
+compatible_at_once : (s : State) (e : NewRequest) → enq_refusal s e ≡ None → (r : Resource) → is_at_once (request_of s e) r ≡ true
+    → AllByRecursion (λ row. AreCompatible (Some (request_of s e)) row.held) (r.granted ++ r.converting)
+unfolding is_at_once
+compatible_at_once s e passed r at_once =
+    ⊎_elim (λ flagged. null_beside_each (request_of s e) (expedited_is_null s e passed flagged) (r.granted ++ r.converting))
+    (λ free. compatible_if_fits (request_of s e) r.granted r.converting (and_parts _ _ (and_parts _ _ free).0).0)
+    (or_cases (has_flag e.flags expedite) (is_free_for (request_of s e) r) at_once)
+
+-- the entry of a lock keeps the held modes compatible
+entered_agrees : (s : State) (e : NewRequest) → enq_refusal s e ≡ None → (r : Resource) → HoldersAgree r
+    → HoldersAgree (entered (row_of s e) (request_of s e) r)
+unfolding entered
+entered_agrees s e passed r agree =
+    cond_both (is_at_once (request_of s e) r) (grant r (row_of s e)) (record r { waiting = r.waiting ++ row_of s e ∷ [] }) HoldersAgree
+    (λ at_once. agree_after_grant (row_of s e) r.granted r.converting (compatible_at_once s e passed r at_once) agree) (λ _. agree)
+
+-- a conversion that is granted at once keeps the held modes compatible
+converted_at_once_agrees : (request : Request) (lkid : ℕ) (r : Resource) (row : Row) → converts_at_once request lkid r ≡ true → HoldersAgree r
+    → HoldersAgree (grant (ungranted lkid r) (wanting_row row request))
+unfolding converts_at_once
+converted_at_once_agrees request lkid r row at_once agree =
+    agree_after_grant (wanting_row row request) (rows_without lkid r.granted) r.converting
+    (compatible_if_fits request (rows_without lkid r.granted) r.converting (and_parts _ _ at_once).0)
+    (each_pair_filter_left HoldCompatible _ r.granted r.converting agree)
+
+-- a conversion that queues holds what it held
+queued_agrees : (request : Request) (pid lkid : ℕ) (granted converting : List Row) (row : Row)
+    → Found (is_lock_of pid lkid) granted row → QueuesAgree granted converting
+    → QueuesAgree (rows_without lkid granted) (converting ++ wanting_row row request ∷ [])
+queued_agrees request pid lkid granted converting row at agree =
+    rw (← append_assoc)
+    (each_pair_push HoldCompatible hold_compatible-comm (rows_without lkid granted ++ converting) (wanting_row row request)
+    (each_pair_found HoldCompatible hold_compatible-comm (is_lock_of pid lkid) (λ other. not (other.lkid == lkid)) granted converting row
+    (ap not (and_parts _ _ at.passes).0) at agree)
+    (each_pair_filter_left HoldCompatible _ granted converting agree))
+
+-- a conversion keeps the held modes compatible, whichever row is found
+converted_row_agrees : (request : Request) (pid lkid : ℕ) (r : Resource) (found : Option Row) → find (is_lock_of pid lkid) r.granted ≡ found
+    → HoldersAgree r → HoldersAgree (converted_row request lkid r found)
+converted_row_agrees request pid lkid r None is agree = agree
+converted_row_agrees request pid lkid r (Some row) is agree =
+    cond_both (converts_at_once request lkid r) (grant (ungranted lkid r) (wanting_row row request))
+    (record (ungranted lkid r) { converting = r.converting ++ wanting_row row request ∷ [] }) HoldersAgree
+    (λ at_once. converted_at_once_agrees request lkid r row at_once agree)
+    (λ _. queued_agrees request pid lkid r.granted r.converting row (found_at (is_lock_of pid lkid) r.granted row is) agree)
+
+-- the same, for the row that is found
+converted_agrees : (request : Request) (pid lkid : ℕ) (r : Resource) → HoldersAgree r → HoldersAgree (converted request pid lkid r)
+unfolding converted
+converted_agrees request pid lkid r agree = converted_row_agrees request pid lkid r (find (is_lock_of pid lkid) r.granted) refl agree
+
+-- a lock that goes leaves the held modes compatible
+without_agrees : (lkid : ℕ) (r : Resource) → HoldersAgree r → HoldersAgree (without lkid r)
+unfolding without
+without_agrees lkid r agree = rw (← filter-append) (each_pair_filter HoldCompatible _ (r.granted ++ r.converting) agree)
+
+-- a lock whose conversion is cancelled holds what it held
+cancelled_agrees : (lkid : ℕ) (r : Resource) → HoldersAgree r → HoldersAgree (cancelled lkid r)
+unfolding cancelled
+cancelled_agrees lkid r agree =
+    each_pair_move HoldCompatible hold_compatible-comm settled_row (λ a b compatible. compatible) (λ row. row.lkid == lkid) r.granted r.converting agree
+
+-- a dequeue keeps the held modes compatible
+dequeued_agrees : (lkid : ℕ) (cancels : Bool) (r : Resource) → HoldersAgree r → HoldersAgree (dequeued lkid cancels r)
+dequeued_agrees lkid true r agree = cancelled_agrees lkid r agree
+dequeued_agrees lkid false r agree = without_agrees lkid r agree
+
+-- after every run the held modes are compatible
+pub held_modes_always : (steps : List Step) (answers : List Answer) (endings : List Ending) (last : State)
+    → Run steps answers endings last → HeldModesAreCompatible last
+held_modes_always steps answers endings last run =
+    All-from_recursion (λ r. AllPairs HoldCompatible (r.granted ++ r.converting)) last.resources
+    (each_weaker HoldersAgree (λ r. AllPairs HoldCompatible (r.granted ++ r.converting))
+    (λ r. AllPairs-from_recursion HoldCompatible (r.granted ++ r.converting)) last.resources
+    (each_always HoldersAgree HoldersAgree (λ _ agree. agree) served_agrees
+    (record { fresh = λ _ _. tt; entry = entered_agrees; conversion = converted_agrees; removal = dequeued_agrees })
+    steps answers endings last run))
