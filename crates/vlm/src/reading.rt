@@ -4,6 +4,7 @@ pub use cuts::next_line;
 pub use lines::read_line;
 
 mod cuts;
+mod flags;
 mod keyed;
 mod lines;
 mod numbers;

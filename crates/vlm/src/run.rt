@@ -27,8 +27,9 @@ const PLAY_ABOUT: &str =
 const PLAY_HELP: &str = "\
 Commands of a script, one a line:
   declare NAME node=N group=N quota=N blocks=N [syslck]
-  enq NAME MODE name=RES block=N
-  deq NAME LOCK
+  enq NAME MODE name=RES block=N [noqueue] [syncsts] [expedite] [quecvt]
+  cvt NAME LOCK MODE block=N [noqueue] [syncsts] [expedite] [quecvt]
+  deq NAME LOCK [cancel]
   show
 
 Example:

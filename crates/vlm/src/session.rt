@@ -1,7 +1,7 @@
 //! A session: the machine, and the names that the script has bound.
 
 ghost use Rattle.std.specs.Prelude.{◌≡◌, ◌++◌, MatchResult};
-ghost use Rattle.vlm_words.specs.Scripts.{dequeue_made, opening, request_made};
+ghost use Rattle.vlm_words.specs.Scripts.{conversion_made, dequeue_made, opening, request_made};
 ghost use Rattle.vlm_words.specs.Texts.{answer_line};
 ghost use Rattle.vlm.specs.Sessions.{IsRun, IsTold, StopsBytes, StopsLine};
 
@@ -13,8 +13,8 @@ use crate::stops::Stop;
 use std::alloc::Global;
 use std::marker::Model;
 use vlm_core::Core;
-use vlm_words::scripts::{DeqLine, EnqLine, Line, LineFault, ProcessName};
-use vlm_words::steps::{Answer, Declaration, Dequeue, NewRequest, Which};
+use vlm_words::scripts::{CvtLine, DeqLine, EnqLine, Line, LineFault, ProcessName};
+use vlm_words::steps::{Answer, Conversion, Declaration, Dequeue, NewRequest, Which};
 
 /// The machine, and the names that are bound to its processes.
 #[derive(Drop)]
@@ -66,6 +66,7 @@ impl Session {
             Line::Empty => Ok(()),
             Line::Declare(name, declaration) => self.declare(name, declaration, out),
             Line::Enq(line) => self.enq(line, out),
+            Line::Cvt(line) => self.convert(line, out),
             Line::Deq(line) => self.deq(line, out),
             Line::Show => match show(&self.core, out) {
                 Ok(()) => Ok(()),
@@ -111,6 +112,19 @@ impl Session {
         told(line.name, answer, out)
     }
 
+    // Asks for another mode of a lock of the process that the name is bound to, and prints the answer.
+    fn convert(&mut self, line: CvtLine, out: &mut Vec<u8>) -> Result<(), Stop>
+        ensures { MatchResult result
+            (λ _. IsRun self.old (Line.Cvt line) self.new out.old.items out.new.items)
+            (λ stop. StopsLine self.old.names (Line.Cvt line) stop) }
+    {
+        let Some(pid) = bound_to(&self.names, &line.name) else {
+            return Err(Stop::Fault(LineFault::UnknownName));
+        };
+        let answer = self.core.convert(conversion_made(pid, &line));
+        told(line.name, answer, out)
+    }
+
     // Gives up a lock of the process that the name is bound to, and prints the answer.
     fn deq(&mut self, line: DeqLine, out: &mut Vec<u8>) -> Result<(), Stop>
         ensures { MatchResult result
@@ -147,7 +161,23 @@ fn request_made(pid: u32, line: &EnqLine) -> NewRequest
         name: line.resource,
         block: line.block,
         parent: Which::Id(0),
-        flags: 0,
+        flags: line.flags,
+        ast: None,
+        bast: None,
+        param: 0,
+    }
+}
+
+// The conversion that a cvt line makes of a process.
+fn conversion_made(pid: u32, line: &CvtLine) -> Conversion
+    ensures { result ≡ conversion_made pid line.now }
+{
+    Conversion {
+        pid,
+        lock: line.lock,
+        mode: line.mode,
+        block: line.block,
+        flags: line.flags,
         ast: None,
         bast: None,
         param: 0,
@@ -162,6 +192,6 @@ fn dequeue_made(pid: u32, line: &DeqLine) -> Dequeue
         pid,
         lock: line.lock,
         value: None,
-        flags: 0,
+        flags: line.flags,
     }
 }

@@ -3,17 +3,22 @@ use Rattle.std.specs.Prelude.{ℕ, Bool, true, false, not, ◌&&◌, ◌||◌, �
 use Rattle.std.specs.List.{list_all, starts_with}
 use Rattle.std.specs.Cmp.Lexicographic.{pointwise}
 use Rattle.std.specs.Char.{is_ascii_digit, is_ascii_alphabetic, is_ascii_alphanumeric}
+use Rattle.std.specs.Int.RustNames.{bit_or}
 use Rattle.vlm_words.specs.declared.modes.Mode.{Mode}
 use Rattle.vlm_words.specs.declared.modes.Mode.TheVariants.{Nl, Cr, Cw, Pr, Pw, Ex}
 use Rattle.vlm_words.specs.declared.steps.Declaration.{Declaration}
 use Rattle.vlm_words.specs.declared.steps.Which.TheVariants.{Id}
 use Rattle.vlm_words.specs.declared.scripts.DeclareWords.{DeclareWords}
+use Rattle.vlm_words.specs.declared.scripts.CvtLine.{CvtLine}
+use Rattle.vlm_words.specs.declared.scripts.CvtWords.{CvtWords}
+use Rattle.vlm_words.specs.declared.scripts.DeqLine.{DeqLine}
 use Rattle.vlm_words.specs.declared.scripts.EnqWords.{EnqWords}
 use Rattle.vlm_words.specs.declared.scripts.EnqLine.{EnqLine}
 use Rattle.vlm_words.specs.declared.scripts.Line.{Line}
-use Rattle.vlm_words.specs.declared.scripts.Line.TheVariants.{Empty, Declare, Enq, Deq, Show}
+use Rattle.vlm_words.specs.declared.scripts.Line.TheVariants.{Empty, Declare, Enq, Cvt, Deq, Show}
 use Rattle.vlm_words.specs.declared.scripts.LineFault.{LineFault}
 use Rattle.vlm_words.specs.declared.scripts.LineFault.TheVariants.{TooLong, UnknownCommand, WrongWord, NumberOutOfRange}
+use Rattle.vlm_words.specs.Flags.{cancel, expedite, has_flag, noqueue, quecvt, syncsts}
 
 -- the byte goes to the front of the first piece
 abbrev pub onto : ℕ → List (List ℕ) → List (List ℕ)
@@ -172,25 +177,43 @@ declare_line words =
     declaration_of d >>= λ declaration.
     Ok (Declare name declaration)
 
+-- the flag that a word of an enq or cvt line stands for
+unfoldable pub enq_flag : List ℕ → Option ℕ
+enq_flag word =
+    if is_text word (codes "noqueue") then Some noqueue
+    else if is_text word (codes "syncsts") then Some syncsts
+    else if is_text word (codes "expedite") then Some expedite
+    else if is_text word (codes "quecvt") then Some quecvt
+    else None
+
+-- the flag that a word of a deq line stands for
+unfoldable pub deq_flag : List ℕ → Option ℕ
+deq_flag word = if is_text word (codes "cancel") then Some cancel else None
+
+-- the flag joins those before it, and is given once; another word is wrong
+unfoldable pub flag_once : ℕ → Option ℕ → Result ℕ LineFault
+flag_once flags None = Err WrongWord
+flag_once flags (Some flag) = if has_flag flags flag then Err WrongWord else Ok (bit_or flags flag)
+
 -- nothing of an enq line's keyed words is read yet
 abbrev pub no_enq_words : EnqWords
-no_enq_words = record { resource = None; block = None }
+no_enq_words = record { resource = None; block = None; flags = 0 }
 
--- one more keyed word of an enq line
+-- one more keyed word or flag of an enq line
 unfoldable pub enq_word : EnqWords → List ℕ → Result EnqWords LineFault
 enq_word e word =
     if has_key (codes "name=") word then
-    resource_once e.resource (behind (codes "name=") word) >>= (λ r. Ok (record e { resource = r }))
+      resource_once e.resource (behind (codes "name=") word) >>= (λ r. Ok (record e { resource = r }))
     else if has_key (codes "block=") word then
-    number_once e.block 255 (behind (codes "block=") word) >>= (λ n. Ok (record e { block = n }))
-    else Err WrongWord
+      number_once e.block 255 (behind (codes "block=") word) >>= (λ n. Ok (record e { block = n }))
+    else flag_once e.flags (enq_flag word) >>= (λ flags. Ok (record e { flags = flags }))
 
--- the keyed words of an enq line, in any order
+-- the keyed words and flags of an enq line, in any order
 abbrev pub enq_words : EnqWords → List (List ℕ) → Result EnqWords LineFault
 enq_words e [] = Ok e
 enq_words e (word ∷ words) = enq_word e word >>= λ f. enq_words f words
 
--- enq NAME MODE name=RES block=N
+-- enq NAME MODE name=RES block=N [flags]
 unfoldable pub enq_line : List (List ℕ) → Result Line LineFault
 enq_line words =
     next_word words >>= λ first.
@@ -200,22 +223,58 @@ enq_line words =
     enq_words no_enq_words second.1 >>= λ e.
     given e.resource >>= λ resource.
     given e.block >>= λ block.
-    Ok (Enq (record { name = name; mode = mode; resource = resource; block = block }))
+    Ok (Enq (record { name = name; mode = mode; resource = resource; block = block; flags = e.flags }))
 
--- deq NAME LOCK
+-- nothing of a cvt line's keyed words is read yet
+abbrev pub no_cvt_words : CvtWords
+no_cvt_words = record { block = None; flags = 0 }
+
+-- one more keyed word or flag of a cvt line
+unfoldable pub cvt_word : CvtWords → List ℕ → Result CvtWords LineFault
+cvt_word c word =
+    if has_key (codes "block=") word then
+      number_once c.block 255 (behind (codes "block=") word) >>= (λ n. Ok (record c { block = n }))
+    else flag_once c.flags (enq_flag word) >>= (λ flags. Ok (record c { flags = flags }))
+
+-- the keyed words and flags of a cvt line, in any order
+abbrev pub cvt_words : CvtWords → List (List ℕ) → Result CvtWords LineFault
+cvt_words c [] = Ok c
+cvt_words c (word ∷ words) = cvt_word c word >>= λ d. cvt_words d words
+
+-- cvt NAME LOCK MODE block=N [flags]
+unfoldable pub cvt_line : List (List ℕ) → Result Line LineFault
+cvt_line words =
+    next_word words >>= λ first.
+    process_name first.0 >>= λ name.
+    next_word first.1 >>= λ second.
+    number_within 4294967295 second.0 >>= λ lkid.
+    next_word second.1 >>= λ third.
+    mode_of third.0 >>= λ mode.
+    cvt_words no_cvt_words third.1 >>= λ c.
+    given c.block >>= λ block.
+    Ok (Cvt (record { name = name; lock = Id lkid; mode = mode; block = block; flags = c.flags }))
+
+-- the flags of a deq line, in any order
+abbrev pub deq_words : ℕ → List (List ℕ) → Result ℕ LineFault
+deq_words flags [] = Ok flags
+deq_words flags (word ∷ words) = flag_once flags (deq_flag word) >>= λ more. deq_words more words
+
+-- deq NAME LOCK [flags]
 unfoldable pub deq_line : List (List ℕ) → Result Line LineFault
 deq_line words =
     next_word words >>= λ first.
     process_name first.0 >>= λ name.
     next_word first.1 >>= λ second.
     number_within 4294967295 second.0 >>= λ lkid.
-    no_more (Deq (record { name = name; lock = Id lkid })) second.1
+    deq_words 0 second.1 >>= λ flags.
+    Ok (Deq (record { name = name; lock = Id lkid; flags = flags }))
 
 -- a line by its command
 unfoldable pub command_line : List ℕ → List (List ℕ) → Result Line LineFault
 command_line command words =
     if is_text command (codes "declare") then declare_line words
     else if is_text command (codes "enq") then enq_line words
+    else if is_text command (codes "cvt") then cvt_line words
     else if is_text command (codes "deq") then deq_line words
     else if is_text command (codes "show") then no_more Show words
     else Err UnknownCommand

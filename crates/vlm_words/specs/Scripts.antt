@@ -1,19 +1,21 @@
 -- The run of a script: which line prints what, and which fault is the first.
 use Rattle.std.specs.Prelude.{◌≡◌, ℕ, ◌+◌, ◌<◌, List, [], ◌∷◌, ◌++◌, take, drop, length, find, Option, None, Some, Result, Ok, Err, is_some, if◌then◌else◌}
 use Rattle.std.specs.Option.{option_map}
+use Rattle.vlm_words.specs.declared.scripts.CvtLine.{CvtLine}
 use Rattle.vlm_words.specs.declared.scripts.EnqLine.{EnqLine}
 use Rattle.vlm_words.specs.declared.scripts.DeqLine.{DeqLine}
 use Rattle.vlm_words.specs.declared.scripts.Line.{Line}
-use Rattle.vlm_words.specs.declared.scripts.Line.TheVariants.{Empty, Declare, Enq, Deq, Show}
+use Rattle.vlm_words.specs.declared.scripts.Line.TheVariants.{Empty, Declare, Enq, Cvt, Deq, Show}
 use Rattle.vlm_words.specs.declared.scripts.LineFault.{LineFault}
 use Rattle.vlm_words.specs.declared.scripts.LineFault.TheVariants.{UnknownName, NameUsed}
 use Rattle.vlm_words.specs.declared.steps.Answer.{Answer}
 use Rattle.vlm_words.specs.declared.steps.Answer.TheVariants.{Process as process_answer, Lock, Victim, Taken, Plain}
+use Rattle.vlm_words.specs.declared.steps.Conversion.{Conversion}
 use Rattle.vlm_words.specs.declared.steps.Declaration.{Declaration}
 use Rattle.vlm_words.specs.declared.steps.NewRequest.{NewRequest}
 use Rattle.vlm_words.specs.declared.steps.Dequeue.{Dequeue}
 use Rattle.vlm_words.specs.declared.steps.Step.{Step}
-use Rattle.vlm_words.specs.declared.steps.Step.TheVariants.{Declare as declare_step, Enq as enq_step, Deq as deq_step}
+use Rattle.vlm_words.specs.declared.steps.Step.TheVariants.{Declare as declare_step, Enq as enq_step, Convert as convert_step, Deq as deq_step}
 use Rattle.vlm_words.specs.declared.steps.Which.TheVariants.{Id}
 use Rattle.vlm_words.specs.State.{State, start}
 use Rattle.vlm_words.specs.Stepped.{Outcome}
@@ -51,6 +53,7 @@ abbrev pub name_fault : List Binding → Line → Option LineFault
 name_fault names Empty = None
 name_fault names (Declare name declaration) = used_fault (bound_to names name)
 name_fault names (Enq line) = unknown_fault (bound_to names line.name)
+name_fault names (Cvt line) = unknown_fault (bound_to names line.name)
 name_fault names (Deq line) = unknown_fault (bound_to names line.name)
 name_fault names Show = None
 
@@ -62,7 +65,20 @@ request_made pid line = record {
   name = line.resource;
   block = line.block;
   parent = Id 0;
-  flags = 0;
+  flags = line.flags;
+  ast = None;
+  bast = None;
+  param = 0;
+}
+
+-- the conversion that a cvt line makes of a process
+abbrev pub conversion_made : ℕ → CvtLine → Conversion
+conversion_made pid line = record {
+  pid = pid;
+  lock = line.lock;
+  mode = line.mode;
+  block = line.block;
+  flags = line.flags;
   ast = None;
   bast = None;
   param = 0;
@@ -70,7 +86,7 @@ request_made pid line = record {
 
 -- the dequeue that a deq line makes of a process
 abbrev pub dequeue_made : ℕ → DeqLine → Dequeue
-dequeue_made pid line = record { pid = pid; lock = line.lock; value = None; flags = 0 }
+dequeue_made pid line = record { pid = pid; lock = line.lock; value = None; flags = line.flags }
 
 -- a name is bound where its declaration is accepted
 abbrev pub bound_by : List Binding → List ℕ → Answer → List Binding
@@ -106,6 +122,7 @@ abbrev pub Runs : Session → Line → List ℕ → Session → Type 0
 Runs old Empty text new = Prints old [] text new
 Runs old (Declare name declaration) text new = Declares old name declaration text new
 Runs old (Enq line) text new = Makes old line.name (λ pid. enq_step (request_made pid line)) text new
+Runs old (Cvt line) text new = Makes old line.name (λ pid. convert_step (conversion_made pid line)) text new
 Runs old (Deq line) text new = Makes old line.name (λ pid. deq_step (dequeue_made pid line)) text new
 Runs old Show text new = Prints old (resources_text old.state.resources) text new
 

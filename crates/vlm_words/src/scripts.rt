@@ -26,6 +26,16 @@ pub struct DeclareWords {
 pub struct EnqWords {
     pub resource: Option<NameArg>,
     pub block: Option<u8>,
+    /// The bits of the flags.
+    pub flags: u16,
+}
+
+/// What the keyed words of a cvt line have given so far.
+#[derive(Clone, Copy, Debug, PartialEq, Eq)]
+pub struct CvtWords {
+    pub block: Option<u8>,
+    /// The bits of the flags.
+    pub flags: u16,
 }
 
 /// The words of an enq line.
@@ -35,6 +45,19 @@ pub struct EnqLine {
     pub mode: Mode,
     pub resource: NameArg,
     pub block: u8,
+    /// The bits of the flags.
+    pub flags: u16,
+}
+
+/// The words of a cvt line.
+#[derive(Clone, Copy, Debug, PartialEq, Eq)]
+pub struct CvtLine {
+    pub name: ProcessName,
+    pub lock: Which,
+    pub mode: Mode,
+    pub block: u8,
+    /// The bits of the flags.
+    pub flags: u16,
 }
 
 /// The words of a deq line.
@@ -42,6 +65,8 @@ pub struct EnqLine {
 pub struct DeqLine {
     pub name: ProcessName,
     pub lock: Which,
+    /// The bits of the flags.
+    pub flags: u16,
 }
 
 /// A line of a script that was read without a fault.
@@ -51,6 +76,7 @@ pub enum Line {
     Empty,
     Declare(ProcessName, Declaration),
     Enq(EnqLine),
+    Cvt(CvtLine),
     Deq(DeqLine),
     Show,
 }

@@ -1,13 +1,14 @@
-//! The keyed words of declare and enq lines.
+//! The keyed words and flags behind the places of a line.
 
 ghost use Rattle.std.specs.Prelude.{◌≡◌};
-ghost use Rattle.vlm_words.specs.Lines.{number_once, resource_once, declare_word, declare_words, no_declare_words, enq_word, enq_words, no_enq_words, words_of};
+ghost use Rattle.vlm_words.specs.Lines.{number_once, resource_once, declare_word, declare_words, no_declare_words, enq_word, enq_words, no_enq_words, cvt_word, cvt_words, no_cvt_words, deq_words, words_of};
 
 use super::cuts::next_word;
+use super::flags::{deq_flag, enq_flag, flag_once};
 use super::numbers;
 use super::words::{behind_key, is_text};
 use vlm_words::names::NameArg;
-use vlm_words::scripts::{DeclareWords, EnqWords, LineFault};
+use vlm_words::scripts::{CvtWords, DeclareWords, EnqWords, LineFault};
 
 /// The keyed words of a declare line, in any order.
 pub fn declare_words(line: &[u8]) -> Result<DeclareWords, LineFault>
@@ -55,13 +56,14 @@ fn declare_word(words: DeclareWords, word: &[u8]) -> Result<DeclareWords, LineFa
     }
 }
 
-/// The keyed words of an enq line, in any order.
+/// The keyed words and flags of an enq line, in any order.
 pub fn enq_words(line: &[u8]) -> Result<EnqWords, LineFault>
     ensures { result ≡ enq_words no_enq_words (words_of line.now) }
 {
     let mut words = EnqWords {
         resource: None,
         block: None,
+        flags: 0,
     };
     let mut rest = line;
     while let Some((word, after)) = next_word(rest) {
@@ -71,7 +73,7 @@ pub fn enq_words(line: &[u8]) -> Result<EnqWords, LineFault>
     Ok(words)
 }
 
-/// One more keyed word of an enq line.
+/// One more keyed word or flag of an enq line.
 #[tactic(auto, unfolding(vlm_words::specs::Lines::enq_word))]
 fn enq_word(words: EnqWords, word: &[u8]) -> Result<EnqWords, LineFault>
     ensures { result ≡ enq_word words word.now }
@@ -83,8 +85,52 @@ fn enq_word(words: EnqWords, word: &[u8]) -> Result<EnqWords, LineFault>
         let block = byte_once(words.block, digits)?;
         Ok(EnqWords { block, ..words })
     } else {
-        Err(LineFault::WrongWord)
+        let flags = flag_once(words.flags, enq_flag(word))?;
+        Ok(EnqWords { flags, ..words })
     }
+}
+
+/// The keyed words and flags of a cvt line, in any order.
+pub fn cvt_words(line: &[u8]) -> Result<CvtWords, LineFault>
+    ensures { result ≡ cvt_words no_cvt_words (words_of line.now) }
+{
+    let mut words = CvtWords {
+        block: None,
+        flags: 0,
+    };
+    let mut rest = line;
+    while let Some((word, after)) = next_word(rest) {
+        words = cvt_word(words, word)?;
+        rest = after;
+    }
+    Ok(words)
+}
+
+/// One more keyed word or flag of a cvt line.
+#[tactic(auto, unfolding(vlm_words::specs::Lines::cvt_word))]
+fn cvt_word(words: CvtWords, word: &[u8]) -> Result<CvtWords, LineFault>
+    ensures { result ≡ cvt_word words word.now }
+{
+    if let Some(digits) = behind_key(b"block=", word) {
+        let block = byte_once(words.block, digits)?;
+        Ok(CvtWords { block, ..words })
+    } else {
+        let flags = flag_once(words.flags, enq_flag(word))?;
+        Ok(CvtWords { flags, ..words })
+    }
+}
+
+/// The flags of a deq line, in any order.
+pub fn deq_words(line: &[u8]) -> Result<u16, LineFault>
+    ensures { result ≡ deq_words 0 (words_of line.now) }
+{
+    let mut flags = 0;
+    let mut rest = line;
+    while let Some((word, after)) = next_word(rest) {
+        flags = flag_once(flags, deq_flag(word))?;
+        rest = after;
+    }
+    Ok(flags)
 }
 
 /// A number of at most 255, which is given once.

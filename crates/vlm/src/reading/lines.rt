@@ -1,13 +1,13 @@
 //! Lines by their commands.
 
 ghost use Rattle.std.specs.Prelude.{◌≡◌, MatchResult};
-ghost use Rattle.vlm_words.specs.Lines.{line_read, line_of, command_line, declare_line, enq_line, deq_line, declaration_of, words_of, next_word, no_more};
+ghost use Rattle.vlm_words.specs.Lines.{line_read, line_of, command_line, declare_line, enq_line, cvt_line, deq_line, declaration_of, words_of, next_word, no_more};
 
 use super::cuts;
-use super::keyed::{declare_words, enq_words};
+use super::keyed::{cvt_words, declare_words, deq_words, enq_words};
 use super::numbers::number;
 use super::words::{behind_key, is_text, mode, process_name};
-use vlm_words::scripts::{DeclareWords, DeqLine, EnqLine, Line, LineFault};
+use vlm_words::scripts::{CvtLine, DeclareWords, DeqLine, EnqLine, Line, LineFault};
 use vlm_words::steps::{Declaration, Which};
 
 /// The longest line, in bytes.
@@ -47,6 +47,8 @@ fn command_line(command: &[u8], rest: &[u8]) -> Result<Line, LineFault>
         declare_line(rest)
     } else if is_text(command, b"enq") {
         enq_line(rest)
+    } else if is_text(command, b"cvt") {
+        cvt_line(rest)
     } else if is_text(command, b"deq") {
         deq_line(rest)
     } else if is_text(command, b"show") {
@@ -86,7 +88,7 @@ fn declaration_of(words: DeclareWords) -> Result<Declaration, LineFault>
     })
 }
 
-/// The words of an enq line: NAME MODE name=RES block=N.
+/// The words of an enq line: NAME MODE name=RES block=N and flags.
 #[tactic(auto, unfolding(vlm_words::specs::Lines::enq_line))]
 fn enq_line(line: &[u8]) -> Result<Line, LineFault>
     ensures { result ≡ enq_line (words_of line.now) }
@@ -103,10 +105,33 @@ fn enq_line(line: &[u8]) -> Result<Line, LineFault>
         mode,
         resource,
         block,
+        flags: words.flags,
     }))
 }
 
-/// The words of a deq line: NAME LOCK.
+/// The words of a cvt line: NAME LOCK MODE block=N and flags.
+#[tactic(auto, unfolding(vlm_words::specs::Lines::cvt_line))]
+fn cvt_line(line: &[u8]) -> Result<Line, LineFault>
+    ensures { result ≡ cvt_line (words_of line.now) }
+{
+    let (first, after_name) = needed_word(line)?;
+    let name = process_name(first)?;
+    let (second, after_lock) = needed_word(after_name)?;
+    let lkid = number(u32::MAX, second)?;
+    let (third, rest) = needed_word(after_lock)?;
+    let mode = mode(third)?;
+    let words = cvt_words(rest)?;
+    let block = words.block.ok_or(LineFault::WrongWord)?;
+    Ok(Line::Cvt(CvtLine {
+        name,
+        lock: Which::Id(lkid),
+        mode,
+        block,
+        flags: words.flags,
+    }))
+}
+
+/// The words of a deq line: NAME LOCK and flags.
 #[tactic(auto, unfolding(vlm_words::specs::Lines::deq_line))]
 fn deq_line(line: &[u8]) -> Result<Line, LineFault>
     ensures { result ≡ deq_line (words_of line.now) }
@@ -115,13 +140,12 @@ fn deq_line(line: &[u8]) -> Result<Line, LineFault>
     let name = process_name(first)?;
     let (second, rest) = needed_word(after_name)?;
     let lkid = number(u32::MAX, second)?;
-    no_more(
-        Line::Deq(DeqLine {
-            name,
-            lock: Which::Id(lkid),
-        }),
-        rest,
-    )
+    let flags = deq_words(rest)?;
+    Ok(Line::Deq(DeqLine {
+        name,
+        lock: Which::Id(lkid),
+        flags,
+    }))
 }
 
 /// The next word, which the line needs, and the bytes behind it.
