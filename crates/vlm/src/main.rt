@@ -11,6 +11,8 @@ mod session;
 mod show;
 mod stops;
 mod streams;
+#[cfg(test)]
+mod tests;
 
 use faults::PlayFault;
 use std::process::ExitCode;

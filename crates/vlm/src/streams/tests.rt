@@ -1,44 +1,8 @@
 //! Streams that fail, and one read and one write that do not.
 
-ghost use Rattle.std.specs.Prelude.{◌≤◌, IfOk};
-
 use super::{LIMIT, read_whole, write_whole};
 use crate::faults::PlayFault;
-use std::io::{Error, ErrorKind, Read, Result, Write};
-
-/// Gives or takes this many bytes, one at a time, and then fails.
-#[derive(Drop)]
-struct Failing {
-    left: usize,
-}
-
-impl Failing {
-    fn step(&mut self, len: usize) -> Result<usize>
-        ensures { IfOk result (λ count. count ≤ len) }
-    {
-        if self.left == 0 || len == 0 {
-            return Err(Error::from(ErrorKind::Interrupted));
-        }
-        self.left -= 1;
-        Ok(1)
-    }
-}
-
-impl Read for Failing {
-    fn read(&mut self, buf: &mut [u8]) -> Result<usize> {
-        self.step(buf.len())
-    }
-}
-
-impl Write for Failing {
-    fn write(&mut self, buf: &[u8]) -> Result<usize> {
-        self.step(buf.len())
-    }
-
-    fn flush(&mut self) -> Result<()> {
-        Ok(())
-    }
-}
+use crate::tests::failing::Failing;
 
 #[test]
 fn reads_all(rt: HostRuntime) {

@@ -1,0 +1,8 @@
+//! The program from outside, and the core's refusals: what no contract says.
+
+mod commands;
+pub(crate) mod failing;
+mod prefixes;
+mod refusals;
+mod runs;
+mod scripts;

@@ -1,0 +1,97 @@
+//! Every beginning of a script runs without surprise.
+
+use crate::tests::runs::{Outcome, check, run_of};
+use std::process::Abort;
+
+/// P holds EX, Q waits for it, P gives it up, and Q is granted.
+const SCRIPT: &[u8] = b"\
+declare P node=1 group=1 quota=9 blocks=4
+declare Q node=2 group=1 quota=9 blocks=4
+enq P EX name=A block=1
+enq Q EX name=A block=1
+show
+deq P 1
+show
+";
+
+const PRINTED: &str = "\
+P: process 65537
+Q: process 131073
+P: NORMAL lock 1
+Q: NORMAL lock 2
+resource 1 in 0 group 1 name A value 00000000000000000000000000000000 valid
+  granted 1 process 65537 EX
+  waiting 2 process 131073 EX
+P: NORMAL
+resource 1 in 0 group 1 name A value 00000000000000000000000000000000 valid
+  granted 2 process 131073 EX
+";
+
+/// What may stand behind `line N: `.
+const FAULTS: [&str; 6] = [
+    "too long\n",
+    "unknown command\n",
+    "wrong word\n",
+    "number out of range\n",
+    "unknown name\n",
+    "name used\n",
+];
+
+#[test]
+fn whole(rt: HostRuntime) {
+    check(
+        &rt,
+        SCRIPT,
+        Outcome {
+            status: 0,
+            printed: PRINTED,
+            told: "",
+        },
+    );
+}
+
+/// Beginnings whose runs are known.
+#[test]
+fn known_beginnings(rt: HostRuntime) {
+    let cases = [
+        (0, 0, "", ""),
+        (4, 1, "", "line 1: unknown command\n"),
+        (7, 1, "", "line 1: wrong word\n"),
+        (20, 1, "", "line 1: wrong word\n"),
+        (40, 1, "", "line 1: wrong word\n"),
+        (41, 0, "P: process 65537\n", ""),
+    ];
+    for (len, status, printed, told) in cases {
+        let beginning = SCRIPT.get(..len).expect(&rt, "a beginning");
+        check(
+            &rt,
+            beginning,
+            Outcome {
+                status,
+                printed,
+                told,
+            },
+        );
+    }
+}
+
+/// Each beginning prints a beginning of the whole text, and runs to its end or stops at a fault.
+#[test]
+fn every_beginning(rt: HostRuntime) {
+    for len in 0..SCRIPT.len() {
+        let run = run_of(&rt, &["vlm", "play"], &SCRIPT[..len]);
+        assert!(&rt; PRINTED.as_bytes().starts_with(&run.printed), "at {len}");
+        match run.status {
+            0 => assert!(&rt; run.told.is_empty(), "at {len}"),
+            status => {
+                assert_eq!(&rt; status, 1, "at {len}");
+                assert!(&rt; is_fault(&run.told), "at {len}");
+            }
+        }
+    }
+}
+
+// The text of some line's fault.
+fn is_fault(told: &[u8]) -> bool {
+    told.starts_with(b"line ") && FAULTS.iter().any(|text| told.ends_with(text.as_bytes()))
+}

@@ -1,0 +1,259 @@
+//! The core's refusals in their order, and its answers where memory is ample.
+
+use std::process::Abort;
+use vlm_core::Core;
+use vlm_words::conditions::Cond;
+use vlm_words::modes::Mode;
+use vlm_words::names::NameArg;
+use vlm_words::steps::{
+    Answer, Conversion, Declaration, Dequeue, NewRequest, Step, ValueSetting, Which,
+};
+
+/// The first process of node 1, and the first of node 2.
+const P: u32 = 65_537;
+
+const Q: u32 = 131_073;
+
+/// Nobody has it.
+const STRANGER: u32 = 65_538;
+
+const DECLARATION: Declaration = Declaration {
+    node: 1,
+    group: 1,
+    syslck: false,
+    quota: 9,
+    blocks: 4,
+};
+
+const DEQUEUE: Dequeue = Dequeue {
+    pid: P,
+    lock: Which::Id(1),
+    value: None,
+    flags: 0,
+};
+
+fn request(name: &[u8]) -> NewRequest {
+    NewRequest {
+        pid: P,
+        mode: Mode::Ex,
+        name: NameArg::of(name),
+        block: 1,
+        parent: Which::Id(0),
+        flags: 0,
+        ast: None,
+        bast: None,
+        param: 0,
+    }
+}
+
+/// A machine in which P holds EX on A as lock 1, and Q waits for it as lock 2.
+fn machine<R: Abort + AllocGlobal>(rt: &R) -> Core {
+    let mut core = Core::new(rt.alloc());
+    let steps = [
+        (Step::Declare(DECLARATION), Answer::Process(P)),
+        (
+            Step::Declare(Declaration {
+                node: 2,
+                ..DECLARATION
+            }),
+            Answer::Process(Q),
+        ),
+        (Step::Enq(request(b"A")), Answer::Lock(Cond::Normal, 1)),
+        (
+            Step::Enq(NewRequest {
+                pid: Q,
+                ..request(b"A")
+            }),
+            Answer::Lock(Cond::Normal, 2),
+        ),
+    ];
+    for (step, want) in steps {
+        assert_eq!(rt; core.step(step), want);
+    }
+    core
+}
+
+/// Each step is refused by its condition.
+fn check<R: Abort + AllocGlobal>(rt: &R, cases: &[(Step, Cond)]) {
+    let mut core = machine(rt);
+    for (step, want) in cases.iter().copied() {
+        assert_eq!(rt; core.step(step), Answer::Plain(want), "{step:?}");
+    }
+}
+
+/// With ample memory each step is made: the waiting lock is granted once the other is gone.
+#[test]
+fn accepted(rt: HostRuntime) {
+    let mut core = machine(&rt);
+    assert_eq!(&rt; core.declare(DECLARATION), Answer::Process(STRANGER));
+    assert_eq!(&rt; core.enq(request(b"B")), Answer::Lock(Cond::Normal, 3));
+    assert_eq!(&rt; core.deq(DEQUEUE), Answer::Plain(Cond::Normal));
+    assert_eq!(&rt; core.resource_count(), 2);
+}
+
+/// BADPARAM for a node that is none.
+#[test]
+fn declarations(rt: HostRuntime) {
+    let of = |node| Step::Declare(Declaration {
+        node,
+        ..DECLARATION
+    });
+    check(
+        &rt,
+        &[
+            (of(0), Cond::Badparam),
+            (of(9), Cond::Badparam),
+            (of(255), Cond::Badparam),
+        ],
+    );
+}
+
+// A request without a name, for a status block of this number.
+fn nameless(block: u8) -> NewRequest {
+    NewRequest {
+        block,
+        ..request(b"")
+    }
+}
+
+/// NONEXPR, BADPARAM, ACCVIO, IVBUFLEN. Each request breaks the rules of the later ones too.
+#[test]
+fn requests(rt: HostRuntime) {
+    let cases = [
+        (
+            NewRequest {
+                pid: STRANGER,
+                flags: 1,
+                ..nameless(0)
+            },
+            Cond::Nonexpr,
+        ),
+        (
+            NewRequest {
+                flags: 1,
+                ..nameless(0)
+            },
+            Cond::Badparam,
+        ),
+        (
+            NewRequest {
+                ast: Some(8),
+                ..nameless(0)
+            },
+            Cond::Badparam,
+        ),
+        (
+            NewRequest {
+                bast: Some(9),
+                ..nameless(0)
+            },
+            Cond::Badparam,
+        ),
+        (
+            NewRequest {
+                parent: Which::Id(1),
+                ..nameless(0)
+            },
+            Cond::Badparam,
+        ),
+        (
+            NewRequest {
+                parent: Which::Block(1),
+                ..nameless(0)
+            },
+            Cond::Badparam,
+        ),
+        (nameless(0), Cond::Accvio),
+        (nameless(5), Cond::Accvio),
+        (nameless(4), Cond::Ivbuflen),
+        (request(&[b'B'; 32]), Cond::Ivbuflen),
+    ];
+    check(
+        &rt,
+        &cases.map(|(request, want)| (Step::Enq(request), want)),
+    );
+}
+
+/// NONEXPR, BADPARAM, IVLOCKID. Each dequeue breaks the rules of the later ones too.
+#[test]
+fn dequeues(rt: HostRuntime) {
+    let late = Dequeue {
+        lock: Which::Id(3),
+        ..DEQUEUE
+    };
+    let cases = [
+        (
+            Dequeue {
+                pid: STRANGER,
+                flags: 1,
+                ..late
+            },
+            Cond::Nonexpr,
+        ),
+        (Dequeue { flags: 1, ..late }, Cond::Badparam),
+        (
+            Dequeue {
+                value: Some([7; 16]),
+                ..late
+            },
+            Cond::Badparam,
+        ),
+        (
+            Dequeue {
+                lock: Which::Block(1),
+                ..late
+            },
+            Cond::Badparam,
+        ),
+        (late, Cond::Ivlockid),
+        (
+            Dequeue {
+                lock: Which::Id(0),
+                ..late
+            },
+            Cond::Ivlockid,
+        ),
+        (
+            Dequeue {
+                lock: Which::Id(2),
+                ..late
+            },
+            Cond::Ivlockid,
+        ),
+    ];
+    check(
+        &rt,
+        &cases.map(|(dequeue, want)| (Step::Deq(dequeue), want)),
+    );
+}
+
+/// BADPARAM for each kind that is not built, whoever the caller is.
+#[test]
+fn kinds_not_built(rt: HostRuntime) {
+    let setting = ValueSetting {
+        pid: STRANGER,
+        block: 0,
+        value: [0; 16],
+    };
+    let conversion = Conversion {
+        pid: STRANGER,
+        lock: Which::Id(1),
+        mode: Mode::Nl,
+        block: 0,
+        flags: 0,
+        ast: None,
+        bast: None,
+        param: 0,
+    };
+    check(
+        &rt,
+        &[
+            (Step::SetValue(setting), Cond::Badparam),
+            (Step::Convert(conversion), Cond::Badparam),
+            (Step::Rundown(STRANGER), Cond::Badparam),
+            (Step::Leave(9), Cond::Badparam),
+            (Step::Search(0), Cond::Badparam),
+            (Step::Take(STRANGER), Cond::Badparam),
+        ],
+    );
+}

@@ -1,0 +1,113 @@
+//! Scripts, and what they print.
+
+use crate::run::run_words;
+use crate::streams::LIMIT;
+use crate::tests::failing::Failing;
+use crate::tests::runs::{Outcome, check, run_of};
+
+const DECLARED_TWICE: &[u8] = b"\
+declare P node=1 group=1 quota=9 blocks=4
+declare P node=1 group=1 quota=9 blocks=4
+";
+
+const HIDDEN: &[u8] = b"\
+declare P node=1 group=1 quota=9 blocks=4
+enq P EX name=a\x80 block=1
+show
+";
+
+const HIDDEN_SHOWN: &str = "\
+P: process 65537
+P: NORMAL lock 1
+resource 1 in 0 group 1 name x:6180 value 00000000000000000000000000000000 valid
+  granted 1 process 65537 EX
+";
+
+/// The faults of a line, each with its text.
+#[test]
+fn faults(rt: HostRuntime) {
+    let long = [b'a'; 256];
+    let cases: [(&[u8], &'static str, &'static str); 6] = [
+        (&long, "", "line 1: too long\n"),
+        (b"frob", "", "line 1: unknown command\n"),
+        (b"declare P node=1", "", "line 1: wrong word\n"),
+        (
+            b"declare P node=300 group=1 quota=9 blocks=4",
+            "",
+            "line 1: number out of range\n",
+        ),
+        (b"deq P 1", "", "line 1: unknown name\n"),
+        (DECLARED_TWICE, "P: process 65537\n", "line 2: name used\n"),
+    ];
+    for (script, printed, told) in cases {
+        check(
+            &rt,
+            script,
+            Outcome {
+                status: 1,
+                printed,
+                told,
+            },
+        );
+    }
+}
+
+/// Scripts that run to their end.
+#[test]
+fn whole_runs(rt: HostRuntime) {
+    let cases: [(&[u8], &'static str); 4] = [
+        (b"", ""),
+        (b"\n \t\r\n# a comment\n", ""),
+        (b"show", "no resources\n"),
+        (HIDDEN, HIDDEN_SHOWN),
+    ];
+    for (script, printed) in cases {
+        check(
+            &rt,
+            script,
+            Outcome {
+                status: 0,
+                printed,
+                told: "",
+            },
+        );
+    }
+}
+
+/// Past the limit nothing is run.
+#[test]
+fn script_too_long(rt: HostRuntime) {
+    let script = vec![in rt.alloc(); b'\n'; LIMIT + 1].expect(&rt, "memory");
+    check(
+        &rt,
+        &script,
+        Outcome {
+            status: 3,
+            printed: "",
+            told: "script too long\n",
+        },
+    );
+}
+
+/// A reader that gives some bytes and then fails.
+#[test]
+fn read_fails(rt: HostRuntime) {
+    let mut printed = Vec::new(rt.alloc());
+    let mut told = Vec::new(rt.alloc());
+    let mut reader = Failing { left: 3 };
+    let status = run_words(&rt, &["vlm", "play"], &mut reader, &mut printed, &mut told);
+    assert_eq!(&rt; status, 3);
+    assert!(&rt; printed.is_empty());
+    assert!(&rt; told.as_slice() == b"read\n".as_slice());
+}
+
+/// A writer that takes some bytes and then fails.
+#[test]
+fn write_fails(rt: HostRuntime) {
+    let mut told = Vec::new(rt.alloc());
+    let mut script: &[u8] = b"show\n";
+    let mut writer = Failing { left: 3 };
+    let status = run_words(&rt, &["vlm", "play"], &mut script, &mut writer, &mut told);
+    assert_eq!(&rt; status, 3);
+    assert!(&rt; told.as_slice() == b"write\n".as_slice());
+}
