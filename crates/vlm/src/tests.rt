@@ -2,6 +2,7 @@
 
 mod commands;
 pub(crate) mod failing;
+mod lists;
 mod prefixes;
 mod refusals;
 mod runs;

@@ -14,6 +14,14 @@ const P: u32 = 65_537;
 
 const Q: u32 = 131_073;
 
+const NOQUEUE: u16 = 2;
+
+const EXPEDITE: u16 = 16;
+
+const QUECVT: u16 = 32;
+
+const CANCEL: u16 = 2;
+
 /// Nobody has it.
 const STRANGER: u32 = 65_538;
 
@@ -116,7 +124,7 @@ fn nameless(block: u8) -> NewRequest {
     }
 }
 
-/// NONEXPR, BADPARAM, ACCVIO, IVBUFLEN. Each request breaks the rules of the later ones too.
+/// NONEXPR, BADPARAM, ACCVIO, IVBUFLEN, UNSUPPORTED, NOTQUEUED. Each request breaks the rules of the later ones too.
 #[test]
 fn requests(rt: HostRuntime) {
     let cases = [
@@ -167,6 +175,20 @@ fn requests(rt: HostRuntime) {
         (nameless(5), Cond::Accvio),
         (nameless(4), Cond::Ivbuflen),
         (request(&[b'B'; 32]), Cond::Ivbuflen),
+        (
+            NewRequest {
+                flags: EXPEDITE | NOQUEUE,
+                ..request(b"A")
+            },
+            Cond::Unsupported,
+        ),
+        (
+            NewRequest {
+                flags: NOQUEUE,
+                ..request(b"A")
+            },
+            Cond::Notqueued,
+        ),
     ];
     check(
         &rt,
@@ -174,7 +196,7 @@ fn requests(rt: HostRuntime) {
     );
 }
 
-/// NONEXPR, BADPARAM, IVLOCKID. Each dequeue breaks the rules of the later ones too.
+/// NONEXPR, BADPARAM, IVLOCKID, CANCELGRANT. Each dequeue breaks the rules of the later ones too.
 #[test]
 fn dequeues(rt: HostRuntime) {
     let late = Dequeue {
@@ -216,14 +238,86 @@ fn dequeues(rt: HostRuntime) {
         (
             Dequeue {
                 lock: Which::Id(2),
+                flags: CANCEL,
                 ..late
             },
             Cond::Ivlockid,
+        ),
+        (
+            Dequeue {
+                flags: CANCEL,
+                ..DEQUEUE
+            },
+            Cond::Cancelgrant,
         ),
     ];
     check(
         &rt,
         &cases.map(|(dequeue, want)| (Step::Deq(dequeue), want)),
+    );
+}
+
+/// NONEXPR, BADPARAM, ACCVIO, IVLOCKID, CVTUNGRANT, BADPARAM. Each conversion breaks the rules of the
+/// later ones too.
+#[test]
+fn conversions(rt: HostRuntime) {
+    let late = Conversion {
+        pid: P,
+        lock: Which::Id(2),
+        mode: Mode::Cr,
+        block: 0,
+        flags: QUECVT,
+        ast: None,
+        bast: None,
+        param: 0,
+    };
+    let foreign = Conversion { block: 1, ..late };
+    let cases = [
+        (
+            Conversion {
+                pid: STRANGER,
+                flags: 1,
+                ..late
+            },
+            Cond::Nonexpr,
+        ),
+        (Conversion { flags: 1, ..late }, Cond::Badparam),
+        (
+            Conversion {
+                ast: Some(8),
+                ..late
+            },
+            Cond::Badparam,
+        ),
+        (
+            Conversion {
+                bast: Some(9),
+                ..late
+            },
+            Cond::Badparam,
+        ),
+        (
+            Conversion {
+                lock: Which::Block(1),
+                ..late
+            },
+            Cond::Badparam,
+        ),
+        (late, Cond::Accvio),
+        (Conversion { block: 5, ..late }, Cond::Accvio),
+        (foreign, Cond::Ivlockid),
+        (Conversion { pid: Q, ..foreign }, Cond::Cvtungrant),
+        (
+            Conversion {
+                lock: Which::Id(1),
+                ..foreign
+            },
+            Cond::Badparam,
+        ),
+    ];
+    check(
+        &rt,
+        &cases.map(|(conversion, want)| (Step::Convert(conversion), want)),
     );
 }
 
@@ -235,21 +329,10 @@ fn kinds_not_built(rt: HostRuntime) {
         block: 0,
         value: [0; 16],
     };
-    let conversion = Conversion {
-        pid: STRANGER,
-        lock: Which::Id(1),
-        mode: Mode::Nl,
-        block: 0,
-        flags: 0,
-        ast: None,
-        bast: None,
-        param: 0,
-    };
     check(
         &rt,
         &[
             (Step::SetValue(setting), Cond::Badparam),
-            (Step::Convert(conversion), Cond::Badparam),
             (Step::Rundown(STRANGER), Cond::Badparam),
             (Step::Leave(9), Cond::Badparam),
             (Step::Search(0), Cond::Badparam),
