@@ -2,11 +2,10 @@
 use Rattle.std.proofs.Common.{◌≡◌, ℕ, zero, suc, ◌+◌, ◌≤◌, List, [], ◌∷◌, ◌++◌, length, take, drop, Option, None, Some, Ok, Err, refl, sym, ap, ◌∙◌, add-one, append_assoc, ◌^◌, ◌⊎◌, inl, inr, IfSome, length-append, arith}
 use Rattle.std.proofs.lemmas.List.{append-nil, take-append-drop}
 use Rattle.std.specs.Io.KnownBytes.{Appends, Consumes}
-use Rattle.vlm_words.specs.declared.scripts.LineFault.{LineFault}
 use Rattle.vlm_words.specs.Lines.{lines_of}
-use Rattle.vlm_words.specs.Scripts.{Session, Played, opening, fault_of, HasFault, IsText, IsTextOfFirst}
+use Rattle.vlm_words.specs.Scripts.{Session, Played, opening}
 use Rattle.vlm_words.specs.Scripts.Played.{opened, more}
-use Rattle.vlm.specs.declared.faults.PlayFault.TheVariants.{Line, Memory, Read, Write, Long}
+use Rattle.vlm.specs.declared.faults.PlayFault.TheVariants.{Memory, Read, Write, Long}
 use Rattle.vlm.specs.declared.faults.PlayFault.{PlayFault}
 use Rattle.vlm.specs.declared.stops.Stop.{Stop}
 use Rattle.vlm.specs.declared.stops.Stop.TheVariants.{Fault, Memory as out_of_memory}

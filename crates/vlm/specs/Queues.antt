@@ -1,5 +1,5 @@
 -- The lines of a resource's queue.
-use Rattle.std.specs.Prelude.{ℕ, List, [], flat_map, Option, None, Some, slice_get}
+use Rattle.std.specs.Prelude.{ℕ, List, [], flat_map, slice_get}
 use Rattle.std.specs.Option.{option_map_or}
 use Rattle.vlm_words.specs.declared.locks.Row.{Row}
 use Rattle.vlm_words.specs.declared.resources.Queue.{Queue}

@@ -1,5 +1,5 @@
 -- What a line of a script does in a session of the program, and how far a script has come.
-use Rattle.std.specs.Prelude.{◌≡◌, ℕ, List, ◌++◌, Option, None, Some, Result, Ok}
+use Rattle.std.specs.Prelude.{◌≡◌, ℕ, List, ◌++◌, None, Some, Ok}
 use Rattle.vlm_words.specs.declared.scripts.Line.{Line}
 use Rattle.vlm_words.specs.Lines.{line_read}
 use Rattle.vlm_words.specs.Scripts.{Session, Binding, Runs, name_fault, fault_of}

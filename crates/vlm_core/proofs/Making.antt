@@ -1,9 +1,8 @@
 -- One step more after those that were made.
-use Rattle.std.proofs.Common.{◌≡◌, ◌<◌, ◌+◌, ℕ, List, [], ◌∷◌, ◌++◌, length, get_or, take, refl, sym, ap, ◌∙◌, append_assoc}
+use Rattle.std.proofs.Common.{◌≡◌, ◌<◌, ◌+◌, ℕ, List, [], ◌∷◌, ◌++◌, length, get_or, take, sym, ap, ◌∙◌, append_assoc}
 use Rattle.std.proofs.lemmas.List.{append-nil, take_more}
 use Rattle.vlm_words.specs.declared.steps.Answer.{Answer}
 use Rattle.vlm_words.specs.declared.steps.Step.{Step}
-use Rattle.vlm_words.specs.Runs.{RunFrom}
 use Rattle.vlm_words.specs.Runs.RunFrom.{begin, next}
 use Rattle.vlm_words.specs.State.{State}
 use Rattle.vlm_words.specs.Stepped.{Outcome, outcome_endings}

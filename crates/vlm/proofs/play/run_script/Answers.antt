@@ -1,7 +1,6 @@
-use Rattle.std.proofs.Common.{◌≡◌, ◌+◌, ◌<◌, ◌≤◌, List, ℕ, [], ◌∷◌, length, drop, Some, None, sym, ap, ◌∙◌, refl, arith}
-use Rattle.std.proofs.lemmas.Grind.{common_steps}
+use Rattle.std.proofs.Common.{◌≡◌, ◌+◌, [], ◌∷◌, drop, sym, ap, ◌∙◌, refl, arith}
 use Rattle.vlm_words.specs.Lines.{lines_of}
-use Rattle.vlm.proofs.Progress.{Progress, drop-more, reached-start, reached-more, reached-passed, reached-written, stops-writing, stops-at, ends}
+use Rattle.vlm.proofs.Progress.{drop-more, reached-start, reached-more, reached-passed, reached-written, stops-writing, stops-at, ends}
 use Rattle.vlm.proofs.play.run_script.Goals as goal
 
 pub loop-line-init : goal.loop-line-init

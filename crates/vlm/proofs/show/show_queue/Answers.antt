@@ -1,6 +1,5 @@
-use Rattle.std.proofs.Common.{◌≡◌, ◌∙◌, ◌++◌, sym, ap, refl, arith}
+use Rattle.std.proofs.Common.{sym, arith}
 use Rattle.std.proofs.lemmas.Grind.{common_steps}
-use Rattle.vlm.specs.Queues.{queue_lines, rows_at}
 use Rattle.vlm.proofs.Shown.{left-None, lines_left-Some, length-left}
 use Rattle.vlm.proofs.show.show_queue.Goals as goal
 

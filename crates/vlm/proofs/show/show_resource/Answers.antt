@@ -1,5 +1,4 @@
-use Rattle.std.proofs.Common.{◌≡◌, ◌++◌, sym, ap, ◌∙◌}
-use Rattle.vlm_words.specs.Texts.{resource_line}
+use Rattle.std.proofs.Common.{sym}
 use Rattle.vlm.proofs.Shown.{resource_at-printed}
 use Rattle.vlm.proofs.show.show_resource.Goals as goal
 
