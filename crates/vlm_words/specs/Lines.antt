@@ -203,9 +203,9 @@ no_enq_words = record { resource = None; block = None; flags = 0 }
 unfoldable pub enq_word : EnqWords → List ℕ → Result EnqWords LineFault
 enq_word e word =
     if has_key (codes "name=") word then
-      resource_once e.resource (behind (codes "name=") word) >>= (λ r. Ok (record e { resource = r }))
+    resource_once e.resource (behind (codes "name=") word) >>= (λ r. Ok (record e { resource = r }))
     else if has_key (codes "block=") word then
-      number_once e.block 255 (behind (codes "block=") word) >>= (λ n. Ok (record e { block = n }))
+    number_once e.block 255 (behind (codes "block=") word) >>= (λ n. Ok (record e { block = n }))
     else flag_once e.flags (enq_flag word) >>= (λ flags. Ok (record e { flags = flags }))
 
 -- the keyed words and flags of an enq line, in any order
@@ -233,7 +233,7 @@ no_cvt_words = record { block = None; flags = 0 }
 unfoldable pub cvt_word : CvtWords → List ℕ → Result CvtWords LineFault
 cvt_word c word =
     if has_key (codes "block=") word then
-      number_once c.block 255 (behind (codes "block=") word) >>= (λ n. Ok (record c { block = n }))
+    number_once c.block 255 (behind (codes "block=") word) >>= (λ n. Ok (record c { block = n }))
     else flag_once c.flags (enq_flag word) >>= (λ flags. Ok (record c { flags = flags }))
 
 -- the keyed words and flags of a cvt line, in any order
