@@ -1,10 +1,10 @@
 -- The checks that several steps make, each a refusal or none.
-use Rattle.std.specs.Prelude.{ℕ, Bool, not, ◌&&◌, ◌<◌, ◌^◌, Option, None, Some, is_some, nat_lt, nat_le, List, if◌then◌else◌}
+use Rattle.std.specs.Prelude.{ℕ, Bool, not, ◌&&◌, ◌^◌, Option, None, Some, is_some, nat_lt, nat_le, List, if◌then◌else◌}
 use Rattle.std.specs.Option.{option_map_or}
 use Rattle.vlm_words.specs.declared.conditions.Cond.{Cond}
 use Rattle.vlm_words.specs.declared.conditions.Cond.TheVariants.{Normal, Synch, Departed, Nonexpr, Accvio, Nolockid, Notqueued}
 use Rattle.vlm_words.specs.Flags.{has_flag, noqueue, syncsts}
-use Rattle.vlm_words.specs.State.{State, Node, Process, node_at, process_of}
+use Rattle.vlm_words.specs.State.{State, Node, node_at, process_of}
 use Rattle.vlm_words.specs.Steps.{node_of_pid}
 
 -- the first check that refuses decides

@@ -19,7 +19,7 @@ use Rattle.vlm_words.specs.Endings.How.{by_grant}
 use Rattle.vlm_words.specs.Flags.{enq_bits, expedite, flag_bits, has_flag, is_known as is_built}
 use Rattle.vlm_words.specs.Modes.{rank}
 use Rattle.vlm_words.specs.Names.{name_of}
-use Rattle.vlm_words.specs.State.{State, Resource, Process, process_of}
+use Rattle.vlm_words.specs.State.{State, Resource, process_of}
 use Rattle.vlm_words.specs.Checks.{or_else, caller_refusal, block_refusal, numbers_refusal, queue_refusal}
 use Rattle.vlm_words.specs.Grants.{is_empty, fits, grant, swept_grants}
 

@@ -1,5 +1,5 @@
 -- The lines and words of a script.
-use Rattle.std.specs.Prelude.{ℕ, Bool, true, false, not, ◌&&◌, ◌||◌, ◌==◌, ◌+◌, ◌-◌, ◌*◌, nat_lt, nat_le, List, [], ◌∷◌, filter, take, drop, length, codes, fold, Option, None, Some, is_some, Result, Ok, Err, if◌then◌else◌}
+use Rattle.std.specs.Prelude.{ℕ, Bool, true, false, not, ◌&&◌, ◌||◌, ◌==◌, ◌+◌, ◌-◌, ◌*◌, nat_le, List, [], ◌∷◌, filter, take, drop, length, codes, fold, Option, None, Some, Result, Ok, Err, if◌then◌else◌}
 use Rattle.std.specs.List.{list_all, starts_with}
 use Rattle.std.specs.Cmp.Lexicographic.{pointwise}
 use Rattle.std.specs.Char.{is_ascii_digit, is_ascii_alphabetic, is_ascii_alphanumeric}
@@ -9,11 +9,8 @@ use Rattle.vlm_words.specs.declared.modes.Mode.TheVariants.{Nl, Cr, Cw, Pr, Pw, 
 use Rattle.vlm_words.specs.declared.steps.Declaration.{Declaration}
 use Rattle.vlm_words.specs.declared.steps.Which.TheVariants.{Id}
 use Rattle.vlm_words.specs.declared.scripts.DeclareWords.{DeclareWords}
-use Rattle.vlm_words.specs.declared.scripts.CvtLine.{CvtLine}
 use Rattle.vlm_words.specs.declared.scripts.CvtWords.{CvtWords}
-use Rattle.vlm_words.specs.declared.scripts.DeqLine.{DeqLine}
 use Rattle.vlm_words.specs.declared.scripts.EnqWords.{EnqWords}
-use Rattle.vlm_words.specs.declared.scripts.EnqLine.{EnqLine}
 use Rattle.vlm_words.specs.declared.scripts.Line.{Line}
 use Rattle.vlm_words.specs.declared.scripts.Line.TheVariants.{Empty, Declare, Enq, Cvt, Deq, Show}
 use Rattle.vlm_words.specs.declared.scripts.LineFault.{LineFault}

@@ -1,5 +1,5 @@
 -- The run of a script: which line prints what, and which fault is the first.
-use Rattle.std.specs.Prelude.{◌≡◌, ℕ, ◌+◌, ◌<◌, List, [], ◌∷◌, ◌++◌, take, drop, length, find, Option, None, Some, Result, Ok, Err, is_some, if◌then◌else◌}
+use Rattle.std.specs.Prelude.{◌≡◌, ℕ, ◌+◌, List, [], ◌∷◌, ◌++◌, take, drop, find, Option, None, Some, Result, Ok, Err}
 use Rattle.std.specs.Option.{option_map}
 use Rattle.vlm_words.specs.declared.scripts.CvtLine.{CvtLine}
 use Rattle.vlm_words.specs.declared.scripts.EnqLine.{EnqLine}

@@ -1,6 +1,5 @@
 -- What the plain lock machine keeps.
-use Rattle.std.specs.Prelude.{ℕ, Bool, true, false, List, [], ◌∷◌, Option, None, Some, ◌==◌, ◌&&◌, ◌+◌, ◌-◌, nat_lt, find, slice_index_or, replicate, IsSome}
-use Rattle.std.specs.Option.{option_map_or}
+use Rattle.std.specs.Prelude.{ℕ, Bool, false, List, [], Option, ◌==◌, ◌-◌, find, slice_index_or, replicate}
 use Rattle.vlm_words.specs.declared.locks.Row.{Row}
 use Rattle.vlm_words.specs.declared.resources.Domain.{Domain}
 

@@ -1,6 +1,6 @@
 -- What a script's run prints.
-use Rattle.std.specs.Prelude.{ℕ, Bool, true, false, not, ◌&&◌, ◌+◌, ◌-◌, ◌/◌, ◌%◌, nat_lt, nat_le, List, [], ◌∷◌, ◌++◌, codes, decimal, flat_map, Option, None, Some, if◌then◌else◌}
-use Rattle.std.specs.List.{list_all, starts_with}
+use Rattle.std.specs.Prelude.{ℕ, Bool, true, false, not, ◌&&◌, ◌+◌, ◌/◌, ◌%◌, nat_lt, nat_le, List, [], ◌∷◌, ◌++◌, codes, decimal, flat_map, Option, None, Some, if◌then◌else◌}
+use Rattle.std.specs.List.{list_all}
 use Rattle.std.specs.Option.{option_map}
 use Rattle.vlm_words.specs.declared.asts.Ast.{Ast}
 use Rattle.vlm_words.specs.declared.asts.AstKind.{AstKind}
@@ -14,7 +14,7 @@ use Rattle.vlm_words.specs.declared.resources.Domain.TheVariants.{Group, System}
 use Rattle.vlm_words.specs.declared.steps.Answer.{Answer}
 use Rattle.vlm_words.specs.declared.steps.Answer.TheVariants.{Process as process_answer, Lock, Victim, Taken, Plain}
 use Rattle.vlm_words.specs.Conditions.{condition_name}
-use Rattle.vlm_words.specs.State.{State, Resource}
+use Rattle.vlm_words.specs.State.{Resource}
 use Rattle.vlm_words.specs.Lines.{has_key}
 
 -- the end of a line
