@@ -9,7 +9,7 @@ use vlm_words::scripts::ProcessName;
 
 /// A name of the script and its process.
 #[derive(Clone, Copy)]
-pub struct Binding {
+pub(crate) struct Binding {
     name: ProcessName,
     pid: u32,
 }
@@ -26,7 +26,7 @@ impl Model for Binding {
 
 impl Binding {
     /// The name stands for the process.
-    pub fn new(name: ProcessName, pid: u32) -> Self
+    pub(crate) fn new(name: ProcessName, pid: u32) -> Self
         ensures { result ≡ record { name = name; pid = pid } }
     {
         Binding { name, pid }
@@ -46,7 +46,7 @@ impl Binding {
 }
 
 /// The process that the name is bound to.
-pub fn bound_to(names: &[Binding], name: &ProcessName) -> Option<u32>
+pub(crate) fn bound_to(names: &[Binding], name: &ProcessName) -> Option<u32>
     ensures { result ≡ bound_to names.now name.now }
 {
     let found = binding_of(names, name);

@@ -2,9 +2,9 @@
 //!
 //! Where memory runs out, some part of the text may stand there.
 
-pub use answers::answer_line;
-pub use locks::{converting_line, granted_line, waiting_line};
-pub use resources::{no_resources, resource_line};
+pub(crate) use answers::answer_line;
+pub(crate) use locks::{converting_line, granted_line, waiting_line};
+pub(crate) use resources::{no_resources, resource_line};
 
 mod answers;
 mod locks;

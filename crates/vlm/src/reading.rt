@@ -1,7 +1,7 @@
 //! A script's lines, read from their bytes.
 
-pub use cuts::next_line;
-pub use lines::read_line;
+pub(crate) use cuts::next_line;
+pub(crate) use lines::read_line;
 
 mod cuts;
 mod flags;

@@ -1,5 +1,8 @@
 //! The program by its words.
 
+ghost use Rattle.std.specs.Prelude.{◌≡◌, IfSome, Err};
+ghost use Rattle.vlm.specs.Plays.{RunsOrLeaves, status_of};
+
 use crate::faults::PlayFault;
 use crate::play::play;
 use clap::error::ErrorKind;
@@ -54,7 +57,11 @@ pub fn run_words<S: AsStr, R: Read, W: Write, F: Write>(
     reader: &mut R,
     writer: &mut W,
     faults: &mut F,
-) -> u8 {
+) -> u8
+    // What was read and written, where the reader tells its bytes.
+    ensures { IfSome (R.remaining reader.old) (λ input.
+        RunsOrLeaves input (R.remaining reader.new) (W.contents writer.old) (W.contents writer.new) result) }
+{
     let alloc = rt.alloc();
     match chosen(alloc, words) {
         Ok(()) => match play(alloc, reader, writer) {
@@ -83,7 +90,9 @@ fn command_line<'a>(alloc: Global) -> Result<Command<'a>, AllocError> {
 }
 
 /// Tells why the script did not run to its end, and answers the exit status.
-pub fn failed<F: Write>(fault: &PlayFault, faults: &mut F) -> u8 {
+pub(crate) fn failed<F: Write>(fault: &PlayFault, faults: &mut F) -> u8
+    ensures { result ≡ status_of (Err fault.now) }
+{
     tell(fault, faults);
     match fault {
         PlayFault::Line(_, _) => SCRIPT_FAULT,

@@ -18,7 +18,7 @@ use vlm_words::steps::{Answer, Conversion, Declaration, Dequeue, NewRequest, Whi
 
 /// The machine, and the names that are bound to its processes.
 #[derive(Drop)]
-pub struct Session {
+pub(crate) struct Session {
     core: Core,
     // in the order of their declarations
     names: Vec<Binding>,
@@ -34,7 +34,7 @@ impl Model for Session {
 
 impl Session {
     /// A session in which nothing has happened.
-    pub fn new(alloc: Global) -> Self
+    pub(crate) fn new(alloc: Global) -> Self
         ensures { result ≡ opening }
     {
         Session {
@@ -45,7 +45,7 @@ impl Session {
 
     /// Runs a line of a script, and prints what it tells at the end of `out`. Where memory is
     /// refused the line may have run without its print.
-    pub fn run(&mut self, bytes: &[u8], out: &mut Vec<u8>) -> Result<(), Stop>
+    pub(crate) fn run(&mut self, bytes: &[u8], out: &mut Vec<u8>) -> Result<(), Stop>
         ensures { MatchResult result
             (λ _. IsTold self.old bytes.now self.new out.old.items out.new.items)
             (λ stop. StopsBytes self.old.names bytes.now stop) }

@@ -10,7 +10,7 @@ use vlm_core::{Core, RowView};
 use vlm_words::resources::Queue;
 
 /// Prints every resource by rising serial with its queues, or that there is none.
-pub fn show(core: &Core, out: &mut Vec<u8>) -> Result<(), AllocError>
+pub(crate) fn show(core: &Core, out: &mut Vec<u8>) -> Result<(), AllocError>
     ensures { OnOk result (out.new.items ≡ out.old.items ++ resources_text core.now.resources) }
 {
     let count = core.resource_count();

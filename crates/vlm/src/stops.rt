@@ -8,7 +8,7 @@ use vlm_words::scripts::LineFault;
 
 /// Why a line ended the run of its script.
 #[derive(Clone, Copy, Debug, PartialEq, Eq)]
-pub enum Stop {
+pub(crate) enum Stop {
     /// The line has a fault.
     Fault(LineFault),
     /// Memory was refused.
@@ -17,7 +17,7 @@ pub enum Stop {
 
 impl Stop {
     /// The fault of the whole run, where the line has this number.
-    pub fn at(self, number: usize) -> PlayFault
+    pub(crate) fn at(self, number: usize) -> PlayFault
         ensures { result ≡ stopped_at number self }
     {
         match self {

@@ -1,7 +1,7 @@
 //! A script read whole, and what it prints written whole.
 
-pub use readers::{LIMIT, read_whole};
-pub use writers::write_whole;
+pub(crate) use readers::{LIMIT, read_whole};
+pub(crate) use writers::write_whole;
 
 mod readers;
 #[cfg(test)]

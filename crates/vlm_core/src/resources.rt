@@ -1,6 +1,6 @@
 //! A resource with its three queues.
 
-ghost use Rattle.std.specs.Prelude.{◌≡◌, ◌≤◌, ◌+◌, ◌++◌, length, map, OnOk, OnErr, find, slice_get, vec_len, vec_capacity, ◌<◌, ◌^◌, OnSome};
+ghost use Rattle.std.specs.Prelude.{◌≡◌, ◌≤◌, ◌+◌, ◌++◌, length, map, OnOk, OnErr, find, slice_get, vec_len, vec_capacity, ◌<◌, ◌^◌, OnSome, IfNone};
 ghost use Rattle.std.specs.List.{list_any};
 ghost use Rattle.std.specs.Option.{option_map};
 ghost use Rattle.vlm_core.specs.Views.{resource_view, row_view, rows_in};
@@ -229,10 +229,7 @@ impl Resource {
     pub(crate) fn granted_lock(&self, pid: u32, lkid: u32) -> Option<Row>
         ensures { result ≡ find (is_lock_of pid lkid) self.now.granted }
     {
-        self.granted
-            .iter()
-            .copied()
-            .find(|row| row.lkid == lkid && row.pid == pid)
+        find_lock(&self.granted, pid, lkid)
     }
 
     /// Whether a conversion of the lock is granted at once: it fits beside all other locks, and with
@@ -254,16 +251,15 @@ impl Resource {
 
     /// Converts a lock of this process, if it is granted here: at once, or at the end of the conversion
     /// queue.
-    #[tactic(auto, using(crate::proofs::Rows::fewer_without), unfolding(vlm_words::specs::Convert::converted))]
+    #[tactic(auto, unfolding(vlm_words::specs::Convert::converted))]
     pub(crate) fn convert(&mut self, request: &Request, pid: u32, lkid: u32)
         ensures { self.new ≡ converted request.now pid lkid self.old }
     {
-        let Some(row) = self.granted_lock(pid, lkid) else {
+        let at_once = self.converts_at_once(request, lkid);
+        let Some(row) = take_lock(&mut self.granted, pid, lkid) else {
             return;
         };
-        let at_once = self.converts_at_once(request, lkid);
         let row = wanting_row(row, request);
-        remove_lock(&mut self.granted, lkid);
         if at_once {
             self.granted.push_reserved(granted_row(row));
         } else {
@@ -316,6 +312,29 @@ fn has_lock(rows: &[Row], pid: u32, lkid: u32) -> bool
     ensures { result ≡ list_any (is_lock_of pid lkid) rows.now }
 {
     rows.iter().any(|row| row.lkid == lkid && row.pid == pid)
+}
+
+// The lock of this process, if it is in the queue.
+fn find_lock(rows: &[Row], pid: u32, lkid: u32) -> Option<Row>
+    ensures { result ≡ find (is_lock_of pid lkid) rows.now }
+{
+    rows.iter()
+        .copied()
+        .find(|row| row.lkid == lkid && row.pid == pid)
+}
+
+// Takes the lock of this process out of a queue, if it is there.
+#[tactic(auto, using(crate::proofs::Rows::fewer_without))]
+fn take_lock(rows: &mut Vec<Row>, pid: u32, lkid: u32) -> Option<Row>
+    ensures row { result ≡ find (is_lock_of pid lkid) rows.old.items }
+    ensures left { OnSome result (rows.new.items ≡ rows_without lkid rows.old.items) }
+    ensures fewer { OnSome result (vec_len rows.new < vec_len rows.old) }
+    ensures none { IfNone result (rows.new ≡ rows.old) }
+    ensures capacity { vec_capacity rows.new ≡ vec_capacity rows.old }
+{
+    let row = find_lock(rows, pid, lkid)?;
+    remove_lock(rows, lkid);
+    Some(row)
 }
 
 // Removes a lock from a queue.

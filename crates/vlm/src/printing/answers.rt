@@ -10,7 +10,7 @@ use vlm_words::steps::Answer;
 
 /// The line that tells a process's answer under its name.
 #[tactic(auto, unfolding(vlm_words::specs::Texts::answer_line))]
-pub fn answer_line(out: &mut Vec<u8>, name: &[u8], answer: Answer) -> Result<(), AllocError>
+pub(crate) fn answer_line(out: &mut Vec<u8>, name: &[u8], answer: Answer) -> Result<(), AllocError>
     ensures { OnOk result (out.new.items ≡ out.old.items ++ answer_line name.now answer) }
 {
     text(out, name)?;

@@ -9,7 +9,7 @@ use vlm_words::modes::Mode;
 
 /// A granted lock.
 #[tactic(auto, unfolding(vlm_words::specs::Texts::granted_line))]
-pub fn granted_line(
+pub(crate) fn granted_line(
     out: &mut Vec<u8>,
     lkid: u32,
     pid: u32,
@@ -24,7 +24,7 @@ pub fn granted_line(
 
 /// A lock that holds one mode and waits for another.
 #[tactic(auto, unfolding(vlm_words::specs::Texts::converting_line))]
-pub fn converting_line(
+pub(crate) fn converting_line(
     out: &mut Vec<u8>,
     lkid: u32,
     pid: u32,
@@ -42,7 +42,7 @@ pub fn converting_line(
 
 /// A lock that waits to be granted for the first time.
 #[tactic(auto, unfolding(vlm_words::specs::Texts::waiting_line))]
-pub fn waiting_line(
+pub(crate) fn waiting_line(
     out: &mut Vec<u8>,
     lkid: u32,
     pid: u32,

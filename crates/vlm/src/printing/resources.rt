@@ -10,7 +10,7 @@ use vlm_words::resources::Domain;
 
 /// The resource's own line.
 #[tactic(auto, unfolding(vlm_words::specs::Texts::resource_line))]
-pub fn resource_line(
+pub(crate) fn resource_line(
     out: &mut Vec<u8>,
     serial: u32,
     parent: u32,
@@ -39,7 +39,7 @@ pub fn resource_line(
 
 /// The line that tells that there is no resource.
 #[tactic(auto, unfolding(vlm_words::specs::Texts::resources_text))]
-pub fn no_resources(out: &mut Vec<u8>) -> Result<(), AllocError>
+pub(crate) fn no_resources(out: &mut Vec<u8>) -> Result<(), AllocError>
     ensures { OnOk result (out.new.items ≡ out.old.items ++ resources_text []) }
 {
     text(out, b"no resources\n")

@@ -7,14 +7,14 @@ use itoa::Buffer;
 use std::alloc::AllocError;
 
 /// The text itself.
-pub fn text(out: &mut Vec<u8>, text: &[u8]) -> Result<(), AllocError>
+pub(crate) fn text(out: &mut Vec<u8>, text: &[u8]) -> Result<(), AllocError>
     ensures { OnOk result (out.new.items ≡ out.old.items ++ text.now) }
 {
     out.extend_from_slice(text)
 }
 
 /// A number in decimal digits.
-pub fn number(out: &mut Vec<u8>, n: u32) -> Result<(), AllocError>
+pub(crate) fn number(out: &mut Vec<u8>, n: u32) -> Result<(), AllocError>
     ensures { OnOk result (out.new.items ≡ out.old.items ++ decimal n) }
 {
     let mut buffer = Buffer::new();
@@ -22,7 +22,7 @@ pub fn number(out: &mut Vec<u8>, n: u32) -> Result<(), AllocError>
 }
 
 /// Two hexadecimal digits for each byte.
-pub fn hexadecimal(out: &mut Vec<u8>, bytes: &[u8]) -> Result<(), AllocError>
+pub(crate) fn hexadecimal(out: &mut Vec<u8>, bytes: &[u8]) -> Result<(), AllocError>
     ensures { OnOk result (out.new.items ≡ out.old.items ++ hex_text bytes.now) }
 {
     let digits = hex::encode(*out.allocator(), bytes)?;

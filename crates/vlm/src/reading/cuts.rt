@@ -6,7 +6,7 @@ ghost use Rattle.vlm_words.specs.Lines.{lines_of, words_of, is_blank, is_line_fe
 
 /// The first line without its line feed, and the bytes behind it.
 #[tactic(auto, using(crate::proofs::Pieces::pieces_first))]
-pub fn next_line(bytes: &[u8]) -> Option<(&[u8], &[u8])>
+pub(crate) fn next_line(bytes: &[u8]) -> Option<(&[u8], &[u8])>
     ensures none { IsNone result ↔ (bytes.now ≡ []) }
     ensures some { IfSome result (λ p. lines_of bytes.now ≡ p.0.now ∷ lines_of p.1.now) }
     ensures shorter { IfSome result (λ p. length p.1.now < length bytes.now) }
@@ -19,7 +19,7 @@ pub fn next_line(bytes: &[u8]) -> Option<(&[u8], &[u8])>
 }
 
 /// The first word, and the bytes behind it.
-pub fn next_word(bytes: &[u8]) -> Option<(&[u8], &[u8])>
+pub(crate) fn next_word(bytes: &[u8]) -> Option<(&[u8], &[u8])>
     ensures words { MatchOption result (words_of bytes.now ≡ [])
         (λ p. words_of bytes.now ≡ p.0.now ∷ words_of p.1.now) }
     ensures shorter { IfSome result (λ p. length p.1.now < length bytes.now) }

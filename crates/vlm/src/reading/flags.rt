@@ -18,7 +18,7 @@ const CANCEL: u16 = 2;
 
 /// The flag that a word of an enq or cvt line stands for.
 #[tactic(auto, unfolding(vlm_words::specs::Lines::enq_flag))]
-pub fn enq_flag(word: &[u8]) -> Option<u16>
+pub(crate) fn enq_flag(word: &[u8]) -> Option<u16>
     ensures { result ≡ enq_flag word.now }
 {
     if is_text(word, b"noqueue") {
@@ -36,7 +36,7 @@ pub fn enq_flag(word: &[u8]) -> Option<u16>
 
 /// The flag that a word of a deq line stands for.
 #[tactic(auto, unfolding(vlm_words::specs::Lines::deq_flag))]
-pub fn deq_flag(word: &[u8]) -> Option<u16>
+pub(crate) fn deq_flag(word: &[u8]) -> Option<u16>
     ensures { result ≡ deq_flag word.now }
 {
     if is_text(word, b"cancel") {
@@ -48,7 +48,7 @@ pub fn deq_flag(word: &[u8]) -> Option<u16>
 
 /// The flag joins those before it. It is given once, and another word is wrong.
 #[tactic(auto, unfolding(vlm_words::specs::Lines::flag_once, vlm_words::specs::Flags::has_flag))]
-pub fn flag_once(flags: u16, flag: Option<u16>) -> Result<u16, LineFault>
+pub(crate) fn flag_once(flags: u16, flag: Option<u16>) -> Result<u16, LineFault>
     ensures { result ≡ flag_once flags flag }
 {
     match flag {

@@ -11,7 +11,7 @@ use vlm_words::names::NameArg;
 use vlm_words::scripts::{CvtWords, DeclareWords, EnqWords, LineFault};
 
 /// The keyed words of a declare line, in any order.
-pub fn declare_words(line: &[u8]) -> Result<DeclareWords, LineFault>
+pub(crate) fn declare_words(line: &[u8]) -> Result<DeclareWords, LineFault>
     ensures { result ≡ declare_words no_declare_words (words_of line.now) }
 {
     let mut words = DeclareWords {
@@ -57,7 +57,7 @@ fn declare_word(words: DeclareWords, word: &[u8]) -> Result<DeclareWords, LineFa
 }
 
 /// The keyed words and flags of an enq line, in any order.
-pub fn enq_words(line: &[u8]) -> Result<EnqWords, LineFault>
+pub(crate) fn enq_words(line: &[u8]) -> Result<EnqWords, LineFault>
     ensures { result ≡ enq_words no_enq_words (words_of line.now) }
 {
     let mut words = EnqWords {
@@ -91,7 +91,7 @@ fn enq_word(words: EnqWords, word: &[u8]) -> Result<EnqWords, LineFault>
 }
 
 /// The keyed words and flags of a cvt line, in any order.
-pub fn cvt_words(line: &[u8]) -> Result<CvtWords, LineFault>
+pub(crate) fn cvt_words(line: &[u8]) -> Result<CvtWords, LineFault>
     ensures { result ≡ cvt_words no_cvt_words (words_of line.now) }
 {
     let mut words = CvtWords {
@@ -121,7 +121,7 @@ fn cvt_word(words: CvtWords, word: &[u8]) -> Result<CvtWords, LineFault>
 }
 
 /// The flags of a deq line, in any order.
-pub fn deq_words(line: &[u8]) -> Result<u16, LineFault>
+pub(crate) fn deq_words(line: &[u8]) -> Result<u16, LineFault>
     ensures { result ≡ deq_words 0 (words_of line.now) }
 {
     let mut flags = 0;

@@ -15,7 +15,7 @@ const LONGEST: usize = 255;
 
 /// A line as it is read: its length first, then the command, then the words from left to right.
 #[tactic(auto, unfolding(vlm_words::specs::Lines::line_read))]
-pub fn read_line(bytes: &[u8]) -> Result<Line, LineFault>
+pub(crate) fn read_line(bytes: &[u8]) -> Result<Line, LineFault>
     ensures { result ≡ line_read bytes.now }
 {
     if bytes.len() > LONGEST {

@@ -9,7 +9,7 @@ use vlm_words::scripts::LineFault;
 
 /// A number of at most ten digits and at most this limit.
 #[tactic(auto, unfolding(vlm_words::specs::Lines::number_within))]
-pub fn number(limit: u32, word: &[u8]) -> Result<u32, LineFault>
+pub(crate) fn number(limit: u32, word: &[u8]) -> Result<u32, LineFault>
     ensures value { result ≡ number_within limit word.now }
     ensures within { IfOk result (λ n. n ≤ limit) }
 {
@@ -28,7 +28,7 @@ pub fn number(limit: u32, word: &[u8]) -> Result<u32, LineFault>
 }
 
 /// A number of at most 255.
-pub fn byte(word: &[u8]) -> Result<u8, LineFault>
+pub(crate) fn byte(word: &[u8]) -> Result<u8, LineFault>
     ensures { result ≡ number_within 255 word.now }
 {
     let value = number(255, word)?;
@@ -36,7 +36,7 @@ pub fn byte(word: &[u8]) -> Result<u8, LineFault>
 }
 
 /// A number of at most 65535.
-pub fn short(word: &[u8]) -> Result<u16, LineFault>
+pub(crate) fn short(word: &[u8]) -> Result<u16, LineFault>
     ensures { result ≡ number_within 65535 word.now }
 {
     let value = number(65535, word)?;

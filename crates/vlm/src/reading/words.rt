@@ -9,7 +9,7 @@ use vlm_words::scripts::{LineFault, ProcessName};
 
 /// A process's name: 1 to 15 letters, digits and underscores, the first a letter.
 #[tactic(auto, unfolding(vlm_words::specs::Lines::process_name))]
-pub fn process_name(word: &[u8]) -> Result<ProcessName, LineFault>
+pub(crate) fn process_name(word: &[u8]) -> Result<ProcessName, LineFault>
     ensures { result ≡ process_name word.now }
 {
     if begins_with_letter(word) && word.len() <= 15 && all_name_bytes(word) {
@@ -44,7 +44,7 @@ fn is_name_byte(byte: u8) -> bool
 }
 
 /// Whether the word is this text.
-pub fn is_text(word: &[u8], text: &[u8]) -> bool
+pub(crate) fn is_text(word: &[u8], text: &[u8]) -> bool
     ensures { result ≡ is_text word.now text.now }
 {
     word == text
@@ -52,7 +52,7 @@ pub fn is_text(word: &[u8], text: &[u8]) -> bool
 
 /// The mode that the word stands for.
 #[tactic(auto, unfolding(vlm_words::specs::Lines::mode_of))]
-pub fn mode(word: &[u8]) -> Result<Mode, LineFault>
+pub(crate) fn mode(word: &[u8]) -> Result<Mode, LineFault>
     ensures { result ≡ mode_of word.now }
 {
     if is_text(word, b"NL") {
@@ -73,7 +73,7 @@ pub fn mode(word: &[u8]) -> Result<Mode, LineFault>
 }
 
 /// What stands behind the key, if the word has it in front.
-pub fn behind_key<'a>(key: &[u8], word: &'a [u8]) -> Option<&'a [u8]>
+pub(crate) fn behind_key<'a>(key: &[u8], word: &'a [u8]) -> Option<&'a [u8]>
     ensures { MatchOption result (has_key key.now word.now ≡ false)
         (λ rest. (has_key key.now word.now ≡ true) × (rest.now ≡ behind key.now word.now)) }
 {

@@ -8,14 +8,14 @@ use std::alloc::Global;
 use std::io::Read;
 
 /// How many bytes a script has at most.
-pub const LIMIT: usize = 16_777_216;
+pub(crate) const LIMIT: usize = 16_777_216;
 
 /// How many bytes are asked for at once, at most.
 const PIECE: usize = 8192;
 
 /// All the bytes that are left. Of more than the limit, one byte more than that is read, and `Long`
 /// is the fault.
-pub fn read_whole<R: Read>(alloc: Global, reader: &mut R) -> Result<Vec<u8>, PlayFault>
+pub(crate) fn read_whole<R: Read>(alloc: Global, reader: &mut R) -> Result<Vec<u8>, PlayFault>
     ensures whole { IfOk result (λ bytes.
         IfSome (R.remaining reader.old) (λ input. bytes.items ≡ input)) }
     ensures end { OnOk result (IsAtEnd (R.remaining reader.new)) }

@@ -7,7 +7,7 @@ use crate::faults::PlayFault;
 use std::io::Write;
 
 /// Writes all the bytes, or some first part of them where a write fails or takes none.
-pub fn write_whole<W: Write>(writer: &mut W, bytes: &[u8]) -> Result<(), PlayFault>
+pub(crate) fn write_whole<W: Write>(writer: &mut W, bytes: &[u8]) -> Result<(), PlayFault>
     ensures whole { OnOk result
         (Appends (W.contents writer.old) (W.contents writer.new) bytes.now) }
     ensures part { OnErr result ((n : ℕ)

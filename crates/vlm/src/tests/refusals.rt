@@ -116,6 +116,21 @@ fn declarations(rt: HostRuntime) {
     );
 }
 
+/// BADPARAM once a node has declared 65,535 processes; another node's are still taken.
+#[test]
+fn last_ordinal(rt: HostRuntime) {
+    let mut core = Core::new(rt.alloc());
+    for pid in P..Q - 1 {
+        assert_eq!(&rt; core.declare(DECLARATION), Answer::Process(pid));
+    }
+    assert_eq!(&rt; core.declare(DECLARATION), Answer::Plain(Cond::Badparam));
+    let other = Declaration {
+        node: 2,
+        ..DECLARATION
+    };
+    assert_eq!(&rt; core.declare(other), Answer::Process(Q));
+}
+
 // A request without a name, for a status block of this number.
 fn nameless(block: u8) -> NewRequest {
     NewRequest {
