@@ -7,6 +7,7 @@ use Rattle.vlm_words.specs.declared.steps.Conversion.{Conversion}
 use Rattle.vlm_words.specs.declared.steps.Declaration.{Declaration}
 use Rattle.vlm_words.specs.declared.steps.NewRequest.{NewRequest}
 use Rattle.vlm_words.specs.declared.steps.Dequeue.{Dequeue}
+use Rattle.vlm_words.specs.declared.steps.ValueSetting.{ValueSetting}
 use Rattle.vlm_words.specs.declared.steps.Step.{Step}
 use Rattle.vlm_words.specs.declared.steps.Step.TheVariants.{Declare, SetValue, Enq, Convert, Deq, Rundown, Leave, Search, Take}
 use Rattle.vlm_words.specs.Endings.{Ending}
@@ -15,7 +16,8 @@ use Rattle.vlm_words.specs.Declare.{declare_refusal}
 use Rattle.vlm_words.specs.Enqueue.{enq_refusal}
 use Rattle.vlm_words.specs.Convert.{convert_refusal}
 use Rattle.vlm_words.specs.Dequeue.{deq_refusal}
-use Rattle.vlm_words.specs.Stepped.{Stepped, stepped, declared, enqueued, converted_lock, dequeued_lock, refused_or, Outcome, outcome_endings}
+use Rattle.vlm_words.specs.SetValue.{set_refusal}
+use Rattle.vlm_words.specs.Stepped.{Stepped, stepped, declared, enqueued, converted_lock, dequeued_lock, value_set, refused_or, Outcome, outcome_endings}
 use Rattle.vlm_words.specs.Runs.{Run, begin, next}
 
 -- what is said of a run: of the requests that have ended, and of the state
@@ -59,17 +61,19 @@ pub kept_by_stepped : (P : Said) (endings : List Ending) (s : State) → P endin
     → ((e : NewRequest) → enq_refusal s e ≡ None → HoldsAfter P endings (enqueued s e))
     → ((c : Conversion) → convert_refusal s c ≡ None → HoldsAfter P endings (converted_lock s c))
     → ((d : Dequeue) → deq_refusal s d ≡ None → HoldsAfter P endings (dequeued_lock s d))
+    → ((v : ValueSetting) → set_refusal s v ≡ None → HoldsAfter P endings (value_set s v))
     → (step : Step) → HoldsAfter P endings (stepped s step)
-kept_by_stepped P endings s held declare enq convert deq (Declare d) =
+kept_by_stepped P endings s held declare enq convert deq set (Declare d) =
     kept_by_refused_or P endings (declare_refusal s d) s (declared s d) held (declare d)
-kept_by_stepped P endings s held declare enq convert deq (Enq e) =
+kept_by_stepped P endings s held declare enq convert deq set (Enq e) =
     kept_by_refused_or P endings (enq_refusal s e) s (enqueued s e) held (enq e)
-kept_by_stepped P endings s held declare enq convert deq (Convert c) =
+kept_by_stepped P endings s held declare enq convert deq set (Convert c) =
     kept_by_refused_or P endings (convert_refusal s c) s (converted_lock s c) held (convert c)
-kept_by_stepped P endings s held declare enq convert deq (Deq d) =
+kept_by_stepped P endings s held declare enq convert deq set (Deq d) =
     kept_by_refused_or P endings (deq_refusal s d) s (dequeued_lock s d) held (deq d)
-kept_by_stepped P endings s held declare enq convert deq (SetValue v) = unchanged P endings s held
-kept_by_stepped P endings s held declare enq convert deq (Rundown pid) = unchanged P endings s held
-kept_by_stepped P endings s held declare enq convert deq (Leave node) = unchanged P endings s held
-kept_by_stepped P endings s held declare enq convert deq (Search node) = unchanged P endings s held
-kept_by_stepped P endings s held declare enq convert deq (Take pid) = unchanged P endings s held
+kept_by_stepped P endings s held declare enq convert deq set (SetValue v) =
+    kept_by_refused_or P endings (set_refusal s v) s (value_set s v) held (set v)
+kept_by_stepped P endings s held declare enq convert deq set (Rundown pid) = unchanged P endings s held
+kept_by_stepped P endings s held declare enq convert deq set (Leave node) = unchanged P endings s held
+kept_by_stepped P endings s held declare enq convert deq set (Search node) = unchanged P endings s held
+kept_by_stepped P endings s held declare enq convert deq set (Take pid) = unchanged P endings s held

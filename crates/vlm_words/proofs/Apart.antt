@@ -18,8 +18,9 @@ use Rattle.vlm_words.specs.State.{State, Resource}
 use Rattle.vlm_words.specs.Grants.{granted_row, grant, swept, swept_grants}
 use Rattle.vlm_words.specs.Declare.{declare_change}
 use Rattle.vlm_words.specs.Enqueue.{enq_change, enq_at_once, found_by, row_of, request_of, key_of}
-use Rattle.vlm_words.specs.Convert.{wanting_row, ungranted, converts_at_once, converted_row, converted, conversion_of, convert_change}
-use Rattle.vlm_words.specs.Dequeue.{is_lock_of, named_lkid, rows_of, rows_without, settled_row, without, cancelled, dequeued, deq_change}
+use Rattle.vlm_words.specs.Convert.{wanting_row, ungranted, converts_at_once, converted_row, converted, conversion_of, convert_change, conversion_lkid}
+use Rattle.vlm_words.specs.Dequeue.{is_lock_of, dequeue_lkid, rows_of, rows_without, settled_row, without, cancelled, dequeued, deq_change}
+use Rattle.vlm_words.specs.SetValue.{set_change}
 use Rattle.vlm_words.specs.Runs.{Run}
 use Rattle.vlm_words.proofs.Always.{always, kept_by_stepped}
 use Rattle.vlm_words.proofs.Each.{Found, found_at}
@@ -135,7 +136,7 @@ changed_apart s change fewer lkid =
 -- after every run no two rows have the same identification
 pub apart_always : (steps : List Step) (answers : List Answer) (endings : List Ending) (last : State)
     → Run steps answers endings last → Apart last
-unfolding declare_change enq_change convert_change deq_change
+unfolding declare_change enq_change convert_change deq_change set_change
 apart_always =
     always (λ _ s. Apart s) (record { one_row = λ lkid. omega arith; none_to_come = λ lkid _. refl })
     (λ _ _ endings s _ apart.
@@ -143,8 +144,9 @@ apart_always =
     (λ d _. record { one_row = apart.one_row; none_to_come = apart.none_to_come })
     (λ e _. one_more_apart s _ apart refl (entered_stands s e))
     (λ c _. fewer_apart s _ apart refl
-    (changed_apart s (converted (conversion_of s c) c.pid (named_lkid c.lock))
-    (λ lkid r. converted_stands lkid (conversion_of s c) c.pid (named_lkid c.lock) r)))
+    (changed_apart s (converted (conversion_of s c) c.pid (conversion_lkid s c))
+    (λ lkid r. converted_stands lkid (conversion_of s c) c.pid (conversion_lkid s c) r)))
     (λ d _. fewer_apart s _ apart refl
-    (changed_apart s (dequeued (named_lkid d.lock) (has_flag d.flags cancel))
-    (λ lkid r. dequeued_stands lkid (named_lkid d.lock) (has_flag d.flags cancel) r))))
+    (changed_apart s (dequeued (dequeue_lkid s d) (has_flag d.flags cancel))
+    (λ lkid r. dequeued_stands lkid (dequeue_lkid s d) (has_flag d.flags cancel) r)))
+    (λ v _. record { one_row = apart.one_row; none_to_come = apart.none_to_come }))

@@ -13,8 +13,9 @@ use Rattle.vlm_words.specs.State.{State, Resource}
 use Rattle.vlm_words.specs.Grants.{served, swept, is_vacant}
 use Rattle.vlm_words.specs.Declare.{declare_change}
 use Rattle.vlm_words.specs.Enqueue.{Key, is_at, new_resource, entered, entered_among, row_of, request_of, key_of, enq_refusal, enq_change}
-use Rattle.vlm_words.specs.Convert.{conversion_of, converted, convert_change}
-use Rattle.vlm_words.specs.Dequeue.{dequeued, named_lkid, deq_change}
+use Rattle.vlm_words.specs.Convert.{conversion_of, converted, convert_change, conversion_lkid}
+use Rattle.vlm_words.specs.Dequeue.{dequeued, dequeue_lkid, deq_change}
+use Rattle.vlm_words.specs.SetValue.{set_change}
 use Rattle.vlm_words.specs.Runs.{Run}
 use Rattle.vlm_words.proofs.Each.{each_filter, each_map, each_weaker}
 use Rattle.vlm_words.proofs.Always.{always, kept_by_stepped}
@@ -46,7 +47,7 @@ pub record KeptByChanges (P : Resource → Type 0) : Type 0 where
 pub each_always : (P Q : Resource → Type 0) → ((r : Resource) → Q r → P r) → ((r : Resource) → P r → Q (served r)) → KeptByChanges P
     → (steps : List Step) (answers : List Answer) (endings : List Ending) (last : State) → Run steps answers endings last
     → AllByRecursion Q last.resources
-unfolding declare_change enq_change convert_change deq_change
+unfolding declare_change enq_change convert_change deq_change set_change
 each_always P Q weaker serving kept =
     always (λ _ s. AllByRecursion Q s.resources) tt
     (λ _ _ endings s _ each.
@@ -58,9 +59,9 @@ each_always P Q weaker serving kept =
     s.resources changed))
     (λ c _.
     each_swept P Q serving (convert_change s c).resources
-    (each_map P P (converted (conversion_of s c) c.pid (named_lkid c.lock)) (kept.conversion (conversion_of s c) c.pid (named_lkid c.lock))
+    (each_map P P (converted (conversion_of s c) c.pid (conversion_lkid s c)) (kept.conversion (conversion_of s c) c.pid (conversion_lkid s c))
     s.resources changed))
     (λ d _.
     each_swept P Q serving (deq_change s d).resources
-    (each_map P P (dequeued (named_lkid d.lock) (has_flag d.flags cancel)) (kept.removal (named_lkid d.lock) (has_flag d.flags cancel))
-    s.resources changed)))
+    (each_map P P (dequeued (dequeue_lkid s d) (has_flag d.flags cancel)) (kept.removal (dequeue_lkid s d) (has_flag d.flags cancel))
+    s.resources changed)) (λ v _. each))

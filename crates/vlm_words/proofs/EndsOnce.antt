@@ -17,9 +17,10 @@ use Rattle.vlm_words.specs.State.{State, Resource}
 use Rattle.vlm_words.specs.Grants.{swept_grants}
 use Rattle.vlm_words.specs.Declare.{declare_change}
 use Rattle.vlm_words.specs.Enqueue.{enq_change, enq_endings, enq_at_once, found_by, row_of, request_of, key_of}
-use Rattle.vlm_words.specs.Convert.{Place, place_or, granted_place, converts_at, converted_row, converted, conversion_of, convert_refusal, convert_at_once, convert_change, convert_endings}
-use Rattle.vlm_words.specs.Dequeue.{is_lock_of, named_lkid, deq_change, deq_endings}
+use Rattle.vlm_words.specs.Convert.{Place, place_or, granted_place, converts_at, converted_row, converted, conversion_of, convert_refusal, convert_at_once, convert_change, convert_endings, conversion_lkid}
+use Rattle.vlm_words.specs.Dequeue.{is_lock_of, dequeue_lkid, deq_change, deq_endings}
 use Rattle.vlm_words.specs.Stepped.{swept_state}
+use Rattle.vlm_words.specs.SetValue.{set_change}
 use Rattle.vlm_words.specs.Runs.{Run}
 use Rattle.vlm_words.specs.Laws.{wanting_on, wanting, times_ended, EachRequestEndsOnce}
 use Rattle.vlm_words.proofs.Always.{always, kept_by_stepped}
@@ -119,7 +120,7 @@ converted_counts : (number : ℕ) (s : State) (c : Conversion) → convert_refus
     ≡ wanting number s + cond (s.next_request == number) 1 0
 unfolding convert_change convert_endings convert_at_once
 converted_counts number s c passed fit apart =
-    let lkid : ℕ = named_lkid c.lock in
+    let lkid : ℕ = conversion_lkid s c in
     let request : Request = conversion_of s c in
     let place : (place : Place) × (granted_place c.pid lkid s.resources ≡ Some place) = found_place s c passed in
     omega (
@@ -158,7 +159,7 @@ one_more_counts endings more s t counted next one_more = record {
 -- after every run each accepted request is counted once
 pub counted_always : (steps : List Step) (answers : List Answer) (endings : List Ending) (last : State)
     → Run steps answers endings last → CountedOnce endings last
-unfolding declare_change enq_change convert_change deq_change deq_endings
+unfolding declare_change enq_change convert_change deq_change set_change deq_endings
 counted_always =
     always CountedOnce (record { accepted = λ number some below. absurd (omega arith); to_come = λ number past. refl })
     (λ steps answers endings s run counted.
@@ -172,7 +173,8 @@ counted_always =
     (λ number. converted_counts number s c passed fit apart))
     (λ d _.
     same_counts endings (deq_endings s d) s (swept_state (deq_change s d)) counted refl
-    (λ number. all_dequeued_count number (named_lkid d.lock) (has_flag d.flags cancel) s.resources fit)))
+    (λ number. all_dequeued_count number (dequeue_lkid s d) (has_flag d.flags cancel) s.resources fit))
+    (λ v _. same_counts endings [] s (set_change s v) counted refl (λ number. omega arith)))
 
 -- of two numbers whose sum is 1, one is 1 and the other 0
 one_of_two : (a b : ℕ) → a + b ≡ 1 → ((a ≡ 1) × (b ≡ 0)) ⊎ ((a ≡ 0) × (b ≡ 1))

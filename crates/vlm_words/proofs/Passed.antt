@@ -8,13 +8,13 @@ use Rattle.vlm_words.specs.declared.modes.Mode.{Mode}
 use Rattle.vlm_words.specs.declared.modes.Mode.TheVariants.{Nl, Cr, Cw, Pr, Pw, Ex}
 use Rattle.vlm_words.specs.declared.steps.Conversion.{Conversion}
 use Rattle.vlm_words.specs.declared.steps.NewRequest.{NewRequest}
-use Rattle.vlm_words.specs.Checks.{or_else, caller_refusal, block_refusal, numbers_refusal, request_numbers_refusal, queue_refusal}
+use Rattle.vlm_words.specs.Checks.{or_else, caller_refusal, block_refusal, which_refusal, numbers_refusal, request_numbers_refusal, queue_refusal}
 use Rattle.vlm_words.specs.Flags.{has_flag, expedite}
 use Rattle.vlm_words.specs.Modes.{rank}
 use Rattle.vlm_words.specs.State.{State}
 use Rattle.vlm_words.specs.Enqueue.{enq_refusal, enq_argument_refusal, name_refusal, expedite_refusal, enq_at_once}
-use Rattle.vlm_words.specs.Convert.{Place, granted_place, place_refusal, convert_argument_refusal, convert_refusal, convert_at_once}
-use Rattle.vlm_words.specs.Dequeue.{lock_refusal, named_lkid}
+use Rattle.vlm_words.specs.Convert.{Place, granted_place, place_refusal, convert_argument_refusal, convert_refusal, convert_at_once, conversion_lkid}
+use Rattle.vlm_words.specs.Dequeue.{lock_refusal}
 
 -- where neither of two checks refuses, each passes
 pub both_pass : (first later : Option Cond) → or_else first later ≡ None → (first ≡ None) × (later ≡ None)
@@ -53,6 +53,12 @@ fifth_passes None None (Some refusal) d e later passed = cc
 fifth_passes None (Some refusal) c d e later passed = cc
 fifth_passes (Some refusal) b c d e later passed = cc
 
+-- where none of the checks refuses, the sixth passes
+sixth_passes : (a b c d e f later : Option Cond) → or_else a (or_else b (or_else c (or_else d (or_else e (or_else f later))))) ≡ None
+    → f ≡ None
+sixth_passes None b c d e f later passed = fifth_passes b c d e f later passed
+sixth_passes (Some refusal) b c d e f later passed = cc
+
 -- an accepted request with EXPEDITE asks for NL
 pub expedited_is_null : (s : State) (e : NewRequest) → enq_refusal s e ≡ None → has_flag e.flags expedite ≡ true → e.mode ≡ Nl
 unfolding enq_refusal expedite_refusal
@@ -73,10 +79,11 @@ some_place c (Some place) passed = (place, refl)
 
 -- an accepted conversion is of a granted lock
 pub found_place : (s : State) (c : Conversion) → convert_refusal s c ≡ None
-    → (place : Place) × (granted_place c.pid (named_lkid c.lock) s.resources ≡ Some place)
+    → (place : Place) × (granted_place c.pid (conversion_lkid s c) s.resources ≡ Some place)
 unfolding convert_refusal
 found_place s c passed =
-    some_place c (granted_place c.pid (named_lkid c.lock) s.resources)
-    (fifth_passes (caller_refusal s c.pid) (convert_argument_refusal c) (block_refusal s c.pid c.block) (lock_refusal s c.pid (named_lkid c.lock))
-    (place_refusal c (granted_place c.pid (named_lkid c.lock) s.resources))
+    some_place c (granted_place c.pid (conversion_lkid s c) s.resources)
+    (sixth_passes (caller_refusal s c.pid) (convert_argument_refusal c) (block_refusal s c.pid c.block) (which_refusal s c.pid c.lock)
+    (lock_refusal s c.pid (conversion_lkid s c))
+    (place_refusal c (granted_place c.pid (conversion_lkid s c) s.resources))
     (or_else (request_numbers_refusal s) (queue_refusal c.flags (convert_at_once s c))) passed)

@@ -11,8 +11,7 @@ use Rattle.vlm_words.specs.Flags.{has_flag, expedite}
 use Rattle.vlm_words.specs.State.{State, Resource}
 use Rattle.vlm_words.specs.Grants.{is_empty, wanted_fits, granted_row, grant, serve_converting, serve_waiting, serve_new_requests, converting_grants, waiting_grants, new_request_grants, served, grants_of}
 use Rattle.vlm_words.specs.Enqueue.{is_free_for, is_at_once, enq_refusal, enq_at_once, request_of, found_by}
-use Rattle.vlm_words.specs.Convert.{Place, granted_place, conversion_of, converts_at, converts_at_once, convert_at_once}
-use Rattle.vlm_words.specs.Dequeue.{named_lkid}
+use Rattle.vlm_words.specs.Convert.{Place, granted_place, conversion_of, converts_at, converts_at_once, convert_at_once, conversion_lkid}
 use Rattle.vlm_words.specs.Laws.{granted_endings, GrantsFirst, EntersInTurn, ConvertsInTurn, GrantsFollowQueueOrder}
 use Rattle.vlm_words.proofs.Passed.{expedited_is_null}
 use Rattle.vlm_words.proofs.NothingLeft.{is_empty-true}
@@ -134,8 +133,8 @@ second_passes true b one first = one
 second_passes false b one first = cc
 
 -- a conversion is granted at once where its lock is found, beside all others, and with QUECVT behind no conversion
-converts_in_turn : (s : State) (c : Conversion) (found : Option Place) → granted_place c.pid (named_lkid c.lock) s.resources ≡ found
-    → converts_at (conversion_of s c) (named_lkid c.lock) found ≡ true → ConvertsInTurn s c
+converts_in_turn : (s : State) (c : Conversion) (found : Option Place) → granted_place c.pid (conversion_lkid s c) s.resources ≡ found
+    → converts_at (conversion_of s c) (conversion_lkid s c) found ≡ true → ConvertsInTurn s c
 unfolding converts_at_once
 converts_in_turn s c None is at_once = cc
 converts_in_turn s c (Some place) is at_once =
@@ -153,5 +152,5 @@ unfolding convert_at_once
 follow_queue_order s = record {
   from_heads = λ step k d _. served_from_heads _;
   new_requests = enters_in_turn s;
-  conversions = λ c _ at_once. converts_in_turn s c (granted_place c.pid (named_lkid c.lock) s.resources) refl at_once;
+  conversions = λ c _ at_once. converts_in_turn s c (granted_place c.pid (conversion_lkid s c) s.resources) refl at_once;
 }

@@ -1,8 +1,10 @@
 -- The checks that several steps make, each a refusal or none.
-use Rattle.std.specs.Prelude.{ℕ, Bool, not, ◌&&◌, ◌^◌, Option, None, Some, is_some, nat_lt, nat_le, List, if◌then◌else◌}
-use Rattle.std.specs.Option.{option_map_or}
+use Rattle.std.specs.Prelude.{ℕ, Bool, not, ◌&&◌, ◌^◌, Option, None, Some, is_some, nat_lt, nat_le, List, length, if◌then◌else◌}
 use Rattle.vlm_words.specs.declared.conditions.Cond.{Cond}
 use Rattle.vlm_words.specs.declared.conditions.Cond.TheVariants.{Normal, Synch, Departed, Nonexpr, Accvio, Nolockid, Notqueued}
+use Rattle.vlm_words.specs.declared.steps.Which.{Which}
+use Rattle.vlm_words.specs.declared.steps.Which.TheVariants.{Id, Block}
+use Rattle.vlm_words.specs.Blocks.{block_of, blocks_of}
 use Rattle.vlm_words.specs.Flags.{has_flag, noqueue, syncsts}
 use Rattle.vlm_words.specs.State.{State, Node, node_at, process_of}
 use Rattle.vlm_words.specs.Steps.{node_of_pid}
@@ -25,8 +27,17 @@ caller_refusal s pid =
 -- the process has no status block of this number
 unfoldable pub block_refusal : State → ℕ → ℕ → Option Cond
 block_refusal s pid block =
-    if nat_lt 0 block && nat_le block (option_map_or (λ p. p.blocks) (process_of s.processes pid) 0) then None
-    else Some Accvio
+    if nat_lt 0 block && nat_le block (length (blocks_of s.processes pid)) then None else Some Accvio
+
+-- the lock is named by a status block that the process does not have
+unfoldable pub which_refusal : State → ℕ → Which → Option Cond
+which_refusal s pid (Id lkid) = None
+which_refusal s pid (Block number) = block_refusal s pid number
+
+-- the identification that is named: its own, or what stands in the status block
+abbrev pub named_lkid : State → ℕ → Which → ℕ
+named_lkid s pid (Id lkid) = lkid
+named_lkid s pid (Block number) = (block_of s.processes pid number).lkid
 
 -- the identifications or the request numbers are used up
 unfoldable pub numbers_refusal : State → Option Cond

@@ -11,14 +11,15 @@ use Rattle.vlm_words.specs.Endings.How.{by_grant}
 use Rattle.vlm_words.specs.Flags.{enq_bits, flag_bits, has_flag, is_known, quecvt}
 use Rattle.vlm_words.specs.Modes.{is_queued_legally}
 use Rattle.vlm_words.specs.State.{State, Resource}
-use Rattle.vlm_words.specs.Checks.{or_else, caller_refusal, block_refusal, request_numbers_refusal, queue_refusal}
+use Rattle.vlm_words.specs.Blocks.{accepted_in}
+use Rattle.vlm_words.specs.Checks.{or_else, caller_refusal, block_refusal, which_refusal, named_lkid, request_numbers_refusal, queue_refusal}
 use Rattle.vlm_words.specs.Grants.{is_empty, fits, grant, swept_grants}
-use Rattle.vlm_words.specs.Dequeue.{is_by_id, is_lock_of, lock_refusal, named_lkid, rows_without}
+use Rattle.vlm_words.specs.Dequeue.{is_lock_of, lock_refusal, rows_without}
 
--- an unknown flag, or an argument that is not built yet: a routine, a lock named by a status block
+-- an unknown flag, or an argument that is not built yet: a routine
 unfoldable pub convert_argument_refusal : Conversion → Option Cond
 convert_argument_refusal c =
-    if is_known enq_bits c.flags && is_none c.ast && is_none c.bast && is_by_id c.lock then None else Some Badparam
+    if is_known enq_bits c.flags && is_none c.ast && is_none c.bast then None else Some Badparam
 
 -- a granted lock and its resource
 pub record Place : Type 0 where
@@ -64,13 +65,17 @@ conversion_of s c = record {
   param = c.param;
 }
 
+-- the lock that is to convert
+abbrev pub conversion_lkid : State → Conversion → ℕ
+conversion_lkid s c = named_lkid s c.pid c.lock
+
 -- the conversion is granted at once
 abbrev pub converts_at : Request → ℕ → Option Place → Bool
 converts_at request lkid None = false
 converts_at request lkid (Some place) = converts_at_once request lkid place.resource
 
 unfoldable pub convert_at_once : State → Conversion → Bool
-convert_at_once s c = converts_at (conversion_of s c) (named_lkid c.lock) (granted_place c.pid (named_lkid c.lock) s.resources)
+convert_at_once s c = converts_at (conversion_of s c) (conversion_lkid s c) (granted_place c.pid (conversion_lkid s c) s.resources)
 
 -- the checks of a conversion, in their order
 unfoldable pub convert_refusal : State → Conversion → Option Cond
@@ -78,9 +83,10 @@ convert_refusal s c =
     or_else (caller_refusal s c.pid)
     (or_else (convert_argument_refusal c)
     (or_else (block_refusal s c.pid c.block)
-    (or_else (lock_refusal s c.pid (named_lkid c.lock))
-    (or_else (place_refusal c (granted_place c.pid (named_lkid c.lock) s.resources))
-    (or_else (request_numbers_refusal s) (queue_refusal c.flags (convert_at_once s c)))))))
+    (or_else (which_refusal s c.pid c.lock)
+    (or_else (lock_refusal s c.pid (conversion_lkid s c))
+    (or_else (place_refusal c (granted_place c.pid (conversion_lkid s c) s.resources))
+    (or_else (request_numbers_refusal s) (queue_refusal c.flags (convert_at_once s c))))))))
 
 -- the row wants the request, and holds what it held
 abbrev pub wanting_row : Row → Request → Row
@@ -101,10 +107,11 @@ converted_row request lkid r (Some row) =
 unfoldable pub converted : Request → ℕ → ℕ → Resource → Resource
 converted request pid lkid r = converted_row request lkid r (find (is_lock_of pid lkid) r.granted)
 
--- the lock converts, and the request number that it took is used up
+-- the lock converts, its status block is written, and the request number that it took is used up
 unfoldable pub convert_change : State → Conversion → State
 convert_change s c = record s {
-  resources = map (converted (conversion_of s c) c.pid (named_lkid c.lock)) s.resources;
+  processes = accepted_in c.pid c.block (conversion_lkid s c) s.processes;
+  resources = map (converted (conversion_of s c) c.pid (conversion_lkid s c)) s.resources;
   next_request = s.next_request + 1;
 }
 

@@ -1,9 +1,10 @@
 -- The step that declares a process.
-use Rattle.std.specs.Prelude.{ℕ, Bool, ◌&&◌, ◌+◌, ◌-◌, ◌*◌, not, nat_lt, nat_le, Option, None, Some, List, [], ◌∷◌, ◌++◌, slice_set, if◌then◌else◌}
+use Rattle.std.specs.Prelude.{ℕ, Bool, ◌&&◌, ◌+◌, ◌-◌, ◌*◌, not, nat_lt, nat_le, Option, None, Some, List, [], ◌∷◌, ◌++◌, slice_set, replicate, if◌then◌else◌}
 use Rattle.vlm_words.specs.declared.conditions.Cond.{Cond}
 use Rattle.vlm_words.specs.declared.conditions.Cond.TheVariants.{Badparam, Departed}
 use Rattle.vlm_words.specs.declared.steps.Declaration.{Declaration}
 use Rattle.vlm_words.specs.State.{State, Node, Process, node_at}
+use Rattle.vlm_words.specs.Blocks.{new_block}
 use Rattle.vlm_words.specs.Checks.{has_departed}
 
 -- the number is that of a node, 1 to 8
@@ -30,7 +31,7 @@ declared_process s d = record {
   group = d.group;
   syslck = d.syslck;
   quota = d.quota;
-  blocks = d.blocks;
+  blocks = replicate d.blocks new_block;
 }
 
 -- the node has declared one more

@@ -1,32 +1,24 @@
 -- The step that gives a lock up.
-use Rattle.std.specs.Prelude.{ℕ, Bool, true, false, not, ◌&&◌, ◌||◌, ◌==◌, List, ◌++◌, map, filter, flat_map, Option, None, Some, is_none, if◌then◌else◌}
+use Rattle.std.specs.Prelude.{ℕ, Bool, not, ◌&&◌, ◌||◌, ◌==◌, List, ◌++◌, map, filter, flat_map, Option, None, Some, is_none, if◌then◌else◌}
 use Rattle.std.specs.List.{list_any}
 use Rattle.vlm_words.specs.declared.conditions.Cond.{Cond}
 use Rattle.vlm_words.specs.declared.conditions.Cond.TheVariants.{Badparam, Ivlockid, Cancelgrant}
 use Rattle.vlm_words.specs.declared.locks.Row.{Row}
 use Rattle.vlm_words.specs.declared.steps.Dequeue.{Dequeue}
-use Rattle.vlm_words.specs.declared.steps.Which.{Which}
-use Rattle.vlm_words.specs.declared.steps.Which.TheVariants.{Id, Block}
 use Rattle.vlm_words.specs.Endings.{Ending, How, ended}
 use Rattle.vlm_words.specs.Endings.How.{by_abort, by_cancel}
 use Rattle.vlm_words.specs.Flags.{cancel, deq_bits, has_flag, is_known}
 use Rattle.vlm_words.specs.Grants.{swept_grants}
 use Rattle.vlm_words.specs.State.{State, Resource}
-use Rattle.vlm_words.specs.Checks.{or_else, caller_refusal}
+use Rattle.vlm_words.specs.Checks.{or_else, caller_refusal, which_refusal, named_lkid}
 
--- the lock is named by its identification
-abbrev pub is_by_id : Which → Bool
-is_by_id (Id lkid) = true
-is_by_id (Block number) = false
-
--- an unknown flag, or an argument that is not built yet: a value, a lock named by a status block
+-- an unknown flag, or an argument that is not built yet: a value
 unfoldable pub deq_argument_refusal : Dequeue → Option Cond
-deq_argument_refusal d = if is_known deq_bits d.flags && is_none d.value && is_by_id d.lock then None else Some Badparam
+deq_argument_refusal d = if is_known deq_bits d.flags && is_none d.value then None else Some Badparam
 
--- the identification that is named
-abbrev pub named_lkid : Which → ℕ
-named_lkid (Id lkid) = lkid
-named_lkid (Block number) = 0
+-- the lock that is to go
+abbrev pub dequeue_lkid : State → Dequeue → ℕ
+dequeue_lkid s d = named_lkid s d.pid d.lock
 
 -- the row is this lock of this process
 abbrev pub is_lock_of : ℕ → ℕ → Row → Bool
@@ -48,14 +40,15 @@ is_granted pid lkid resources = list_any (λ r. list_any (is_lock_of pid lkid) r
 -- a granted lock has no request to cancel
 unfoldable pub cancel_refusal : State → Dequeue → Option Cond
 cancel_refusal s d =
-    if has_flag d.flags cancel && is_granted d.pid (named_lkid d.lock) s.resources then Some Cancelgrant else None
+    if has_flag d.flags cancel && is_granted d.pid (dequeue_lkid s d) s.resources then Some Cancelgrant else None
 
 -- the checks of a dequeue, in their order
 unfoldable pub deq_refusal : State → Dequeue → Option Cond
 deq_refusal s d =
     or_else (caller_refusal s d.pid)
     (or_else (deq_argument_refusal d)
-    (or_else (lock_refusal s d.pid (named_lkid d.lock)) (cancel_refusal s d)))
+    (or_else (which_refusal s d.pid d.lock)
+    (or_else (lock_refusal s d.pid (dequeue_lkid s d)) (cancel_refusal s d))))
 
 -- the rows but for this lock
 abbrev pub rows_without : ℕ → List Row → List Row
@@ -91,7 +84,7 @@ dequeued lkid cancels r = if cancels then cancelled lkid r else without lkid r
 
 -- the lock is gone from every queue, or its request is
 unfoldable pub deq_change : State → Dequeue → State
-deq_change s d = record s { resources = map (dequeued (named_lkid d.lock) (has_flag d.flags cancel)) s.resources }
+deq_change s d = record s { resources = map (dequeued (dequeue_lkid s d) (has_flag d.flags cancel)) s.resources }
 
 -- the requests of this lock in a queue end so
 abbrev pub ends_in : How → ℕ → List Row → List Ending
@@ -104,4 +97,4 @@ withdrawn lkid cancels r = ends_in (if cancels then by_cancel else by_abort) lki
 -- the requests that end in the step: that of the lock, and then those of the sweep
 unfoldable pub deq_endings : State → Dequeue → List Ending
 deq_endings s d =
-    flat_map (withdrawn (named_lkid d.lock) (has_flag d.flags cancel)) s.resources ++ swept_grants (deq_change s d).resources
+    flat_map (withdrawn (dequeue_lkid s d) (has_flag d.flags cancel)) s.resources ++ swept_grants (deq_change s d).resources

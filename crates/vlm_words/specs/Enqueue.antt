@@ -20,6 +20,7 @@ use Rattle.vlm_words.specs.Flags.{enq_bits, expedite, flag_bits, has_flag, is_kn
 use Rattle.vlm_words.specs.Modes.{rank}
 use Rattle.vlm_words.specs.Names.{name_of}
 use Rattle.vlm_words.specs.State.{State, Resource, process_of}
+use Rattle.vlm_words.specs.Blocks.{accepted_in}
 use Rattle.vlm_words.specs.Checks.{or_else, caller_refusal, block_refusal, numbers_refusal, queue_refusal}
 use Rattle.vlm_words.specs.Grants.{is_empty, fits, grant, swept_grants}
 
@@ -140,9 +141,10 @@ enq_refusal s e =
     (or_else (expedite_refusal e.flags e.mode)
     (or_else (numbers_refusal s) (queue_refusal e.flags (enq_at_once s e)))))))
 
--- the lock enters, and the numbers that it took are used up
+-- the lock enters, its status block is written, and the numbers that it took are used up
 unfoldable pub enq_change : State → NewRequest → State
 enq_change s e = record s {
+  processes = accepted_in e.pid e.block s.next_lkid s.processes;
   resources = entered_among s.next_serial (key_of s e) (row_of s e) (request_of s e) s.resources;
   next_lkid = s.next_lkid + 1;
   next_request = s.next_request + 1;

@@ -15,8 +15,9 @@ use Rattle.vlm_words.specs.State.{State, Resource}
 use Rattle.vlm_words.specs.Grants.{wanted_fits, fits, granted_row, served, grants_of}
 use Rattle.vlm_words.specs.Declare.{declare_change}
 use Rattle.vlm_words.specs.Enqueue.{enq_refusal, enq_change, enq_at_once, is_free_for, request_of, found_by}
-use Rattle.vlm_words.specs.Convert.{Place, granted_place, convert_refusal, convert_change, convert_at_once}
-use Rattle.vlm_words.specs.Dequeue.{deq_change, named_lkid, rows_without}
+use Rattle.vlm_words.specs.Convert.{Place, granted_place, convert_refusal, convert_change, convert_at_once, conversion_lkid}
+use Rattle.vlm_words.specs.Dequeue.{deq_change, rows_without}
+use Rattle.vlm_words.specs.SetValue.{set_change}
 
 -- the two rows hold compatible modes, where both hold one
 abbrev pub AreCompatible : Option Request → Option Request → Type 0
@@ -85,7 +86,7 @@ changed s (Declare d) = declare_change s d
 changed s (Enq e) = enq_change s e
 changed s (Convert c) = convert_change s c
 changed s (Deq d) = deq_change s d
-changed s (SetValue v) = s
+changed s (SetValue v) = set_change s v
 changed s (Rundown pid) = s
 changed s (Leave node) = s
 changed s (Search node) = s
@@ -98,8 +99,8 @@ EntersInTurn s e = (is_free_for (request_of s e) (found_by s e) ≡ true) ⊎ ((
 -- the conversion fits beside all other locks of its resource, and with QUECVT overtakes no conversion
 pub record ConvertsInTurn (s : State) (c : Conversion) : Type 0 where
   pub place : Place
-  pub found : granted_place c.pid (named_lkid c.lock) s.resources ≡ Some place
-  pub fitting : fits c.mode (rows_without (named_lkid c.lock) place.resource.granted) place.resource.converting ≡ true
+  pub found : granted_place c.pid (conversion_lkid s c) s.resources ≡ Some place
+  pub fitting : fits c.mode (rows_without (conversion_lkid s c) place.resource.granted) place.resource.converting ≡ true
   pub overtakes_none : has_flag c.flags quecvt ≡ true → place.resource.converting ≡ []
 
 -- a step serves each queue from its head, and grants at once only what overtakes nobody that it may not

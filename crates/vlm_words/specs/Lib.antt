@@ -7,8 +7,10 @@ pub mod State
 pub mod Steps
 pub mod Endings
 pub mod Grants
+pub mod Blocks
 pub mod Checks
 pub mod Declare
+pub mod SetValue
 pub mod Enqueue
 pub mod Dequeue
 pub mod Convert

@@ -9,6 +9,7 @@ use Rattle.vlm_words.specs.declared.steps.Conversion.{Conversion}
 use Rattle.vlm_words.specs.declared.steps.Declaration.{Declaration}
 use Rattle.vlm_words.specs.declared.steps.Dequeue.{Dequeue}
 use Rattle.vlm_words.specs.declared.steps.NewRequest.{NewRequest}
+use Rattle.vlm_words.specs.declared.steps.ValueSetting.{ValueSetting}
 use Rattle.vlm_words.specs.declared.steps.Step.{Step}
 use Rattle.vlm_words.specs.declared.steps.Step.TheVariants.{Declare, SetValue, Enq, Convert, Deq, Rundown, Leave, Search, Take}
 use Rattle.vlm_words.specs.State.{State}
@@ -16,8 +17,9 @@ use Rattle.vlm_words.specs.Grants.{swept}
 use Rattle.vlm_words.specs.Checks.{acceptance}
 use Rattle.vlm_words.specs.Declare.{declare_refusal, declare_change, next_pid}
 use Rattle.vlm_words.specs.Enqueue.{enq_refusal, enq_change, enq_at_once, enq_endings}
-use Rattle.vlm_words.specs.Convert.{convert_refusal, convert_change, convert_at_once, convert_endings}
-use Rattle.vlm_words.specs.Dequeue.{deq_refusal, deq_change, deq_endings, named_lkid}
+use Rattle.vlm_words.specs.Convert.{convert_refusal, convert_change, convert_at_once, convert_endings, conversion_lkid}
+use Rattle.vlm_words.specs.Dequeue.{deq_refusal, deq_change, deq_endings}
+use Rattle.vlm_words.specs.SetValue.{set_refusal, set_change}
 use Rattle.vlm_words.specs.Endings.{Ending}
 
 -- what a step comes to: the state that it leaves, its answer, and the requests that end in it
@@ -53,12 +55,15 @@ enqueued s e = record {
 abbrev pub converted_lock : State → Conversion → Stepped
 converted_lock s c = record {
   state = swept_state (convert_change s c);
-  answer = Lock (acceptance c.flags (convert_at_once s c)) (named_lkid c.lock);
+  answer = Lock (acceptance c.flags (convert_at_once s c)) (conversion_lkid s c);
   endings = convert_endings s c;
 }
 
 abbrev pub dequeued_lock : State → Dequeue → Stepped
 dequeued_lock s d = record { state = swept_state (deq_change s d); answer = Plain Normal; endings = deq_endings s d }
+
+abbrev pub value_set : State → ValueSetting → Stepped
+value_set s v = record { state = set_change s v; answer = Plain Normal; endings = [] }
 
 -- the step of the plain machine: checks in order, then the change, and the sweep where queues changed
 abbrev pub stepped : State → Step → Stepped
@@ -66,7 +71,7 @@ stepped s (Declare d) = refused_or (declare_refusal s d) s (declared s d)
 stepped s (Enq e) = refused_or (enq_refusal s e) s (enqueued s e)
 stepped s (Convert c) = refused_or (convert_refusal s c) s (converted_lock s c)
 stepped s (Deq d) = refused_or (deq_refusal s d) s (dequeued_lock s d)
-stepped s (SetValue v) = not_built s
+stepped s (SetValue v) = refused_or (set_refusal s v) s (value_set s v)
 stepped s (Rundown pid) = not_built s
 stepped s (Leave node) = not_built s
 stepped s (Search node) = not_built s

@@ -1,0 +1,38 @@
+-- The status blocks of processes.
+use Rattle.std.specs.Prelude.{ℕ, List, [], ◌∷◌, ◌==◌, ◌-◌, replicate, slice_index_or, slice_set, if◌then◌else◌}
+use Rattle.std.specs.Option.{option_map_or}
+use Rattle.vlm_words.specs.declared.blocks.Block.{Block}
+use Rattle.vlm_words.specs.State.{Process, process_of}
+
+-- a status block at its making
+abbrev pub new_block : Block
+new_block = record { status = 0; lkid = 0; value = replicate 16 0 }
+
+-- the status blocks of a living process, of which block n stands at n - 1
+abbrev pub blocks_of : List Process → ℕ → List Block
+blocks_of processes pid = option_map_or (λ p. p.blocks) (process_of processes pid) []
+
+-- block n of the process, from 1
+abbrev pub block_of : List Process → ℕ → ℕ → Block
+block_of processes pid n = slice_index_or (blocks_of processes pid) (n - 1) new_block
+
+-- the process with this identification is changed, and no other
+abbrev pub with_process : ℕ → (Process → Process) → List Process → List Process
+with_process pid change [] = []
+with_process pid change (p ∷ rest) = if p.pid == pid then change p ∷ rest else p ∷ with_process pid change rest
+
+-- block n of a process is put in the place of what stood there
+abbrev pub with_block : ℕ → Block → Process → Process
+with_block n block p = record p { blocks = slice_set p.blocks (n - 1) block }
+
+-- block n of the process with this identification is this one now
+unfoldable pub set_block : ℕ → ℕ → Block → List Process → List Process
+set_block pid n block processes = with_process pid (with_block n block) processes
+
+-- a request was accepted: its block is that of a pending request for this lock, and keeps its value part
+unfoldable pub accepted_in : ℕ → ℕ → ℕ → List Process → List Process
+accepted_in pid n lkid processes = set_block pid n (record (block_of processes pid n) { status = 0; lkid = lkid }) processes
+
+-- the value part of a block is this one now
+unfoldable pub valued_in : ℕ → ℕ → List ℕ → List Process → List Process
+valued_in pid n value processes = set_block pid n (record (block_of processes pid n) { value = value }) processes

@@ -1,0 +1,15 @@
+-- The step that writes the value part of a status block.
+use Rattle.std.specs.Prelude.{Option}
+use Rattle.vlm_words.specs.declared.conditions.Cond.{Cond}
+use Rattle.vlm_words.specs.declared.steps.ValueSetting.{ValueSetting}
+use Rattle.vlm_words.specs.State.{State}
+use Rattle.vlm_words.specs.Blocks.{valued_in}
+use Rattle.vlm_words.specs.Checks.{or_else, caller_refusal, block_refusal}
+
+-- the checks of the setting of a value, in their order
+unfoldable pub set_refusal : State → ValueSetting → Option Cond
+set_refusal s v = or_else (caller_refusal s v.pid) (block_refusal s v.pid v.block)
+
+-- the value part is written, and nothing else
+unfoldable pub set_change : State → ValueSetting → State
+set_change s v = record s { processes = valued_in v.pid v.block v.value s.processes }
