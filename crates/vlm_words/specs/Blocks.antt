@@ -1,5 +1,5 @@
 -- The status blocks of processes.
-use Rattle.std.specs.Prelude.{ℕ, List, [], ◌∷◌, ◌==◌, ◌-◌, replicate, slice_index_or, slice_set, if◌then◌else◌}
+use Rattle.std.specs.Prelude.{ℕ, List, [], map, ◌==◌, ◌-◌, nat_lt, replicate, Option, None, slice_get, slice_index_or, slice_set, if◌then◌else◌}
 use Rattle.std.specs.Option.{option_map_or}
 use Rattle.vlm_words.specs.declared.blocks.Block.{Block}
 use Rattle.vlm_words.specs.State.{Process, process_of}
@@ -16,18 +16,21 @@ blocks_of processes pid = option_map_or (λ p. p.blocks) (process_of processes p
 abbrev pub block_of : List Process → ℕ → ℕ → Block
 block_of processes pid n = slice_index_or (blocks_of processes pid) (n - 1) new_block
 
--- the process with this identification is changed, and no other
-abbrev pub with_process : ℕ → (Process → Process) → List Process → List Process
-with_process pid change [] = []
-with_process pid change (p ∷ rest) = if p.pid == pid then change p ∷ rest else p ∷ with_process pid change rest
+-- block n of the process, if both are there
+unfoldable pub block_found : List Process → ℕ → ℕ → Option Block
+block_found processes pid n = if nat_lt 0 n then slice_get (blocks_of processes pid) (n - 1) else None
 
 -- block n of a process is put in the place of what stood there
 abbrev pub with_block : ℕ → Block → Process → Process
 with_block n block p = record p { blocks = slice_set p.blocks (n - 1) block }
 
--- block n of the process with this identification is this one now
-unfoldable pub set_block : ℕ → ℕ → Block → List Process → List Process
-set_block pid n block processes = with_process pid (with_block n block) processes
+-- block n is put there if the process has this identification
+unfoldable pub block_put : ℕ → ℕ → Block → Process → Process
+block_put pid n block p = if p.pid == pid then with_block n block p else p
+
+-- block n of the process with this identification is this one now, and no other process is changed
+abbrev pub set_block : ℕ → ℕ → Block → List Process → List Process
+set_block pid n block processes = map (block_put pid n block) processes
 
 -- a request was accepted: its block is that of a pending request for this lock, and keeps its value part
 unfoldable pub accepted_in : ℕ → ℕ → ℕ → List Process → List Process

@@ -24,15 +24,19 @@ declare_refusal s d =
 abbrev pub next_pid : State → ℕ → ℕ
 next_pid s node = node * 65536 + ((node_at s.nodes node).declared + 1)
 
--- the new process
-abbrev pub declared_process : State → Declaration → Process
-declared_process s d = record {
-  pid = next_pid s d.node;
+-- a process at its making, with new status blocks
+abbrev pub process_made : ℕ → Declaration → Process
+process_made pid d = record {
+  pid = pid;
   group = d.group;
   syslck = d.syslck;
   quota = d.quota;
   blocks = replicate d.blocks new_block;
 }
+
+-- the new process
+abbrev pub declared_process : State → Declaration → Process
+declared_process s d = process_made (next_pid s d.node) d
 
 -- the node has declared one more
 abbrev pub counted : List Node → ℕ → List Node

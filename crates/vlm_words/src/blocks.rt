@@ -1,5 +1,8 @@
 //! Lock status blocks.
 
+ghost use Rattle.std.specs.Prelude.{◌≡◌};
+ghost use Rattle.vlm_words.specs.Blocks.{new_block};
+
 /// A lock status block of a process.
 #[derive(Clone, Copy, Debug, PartialEq, Eq)]
 pub struct Block {
@@ -9,4 +12,17 @@ pub struct Block {
     pub lkid: u32,
     /// The value block.
     pub value: [u8; 16],
+}
+
+impl Block {
+    /// A status block at its making: no request, no lock, and a value block of zeros.
+    pub fn new() -> Block
+        ensures { result ≡ new_block }
+    {
+        Block {
+            status: 0,
+            lkid: 0,
+            value: [0; 16],
+        }
+    }
 }

@@ -1,0 +1,8 @@
+//! The status blocks of processes, in the records of the store.
+//!
+//! Nothing here takes memory.
+#![tactic(auto)]
+
+mod blocks;
+
+pub use blocks::{accept, block, has_block, set_value};
