@@ -7,7 +7,7 @@ use Rattle.vlm_core.specs.declared.machine.Core.TheInside.{Inside}
 abbrev pub state_shown : Inside → State
 state_shown c = record {
   nodes = c.nodes;
-  processes = c.processes.items;
+  processes = c.store.processes;
   resources = c.resources.items;
   next_lkid = c.last_lkid + 1;
   next_request = c.last_request + 1;

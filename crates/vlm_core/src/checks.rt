@@ -1,32 +1,32 @@
 //! What several steps share: checks, which only read and answer the refusal, and the sweep.
 
-ghost use Rattle.std.specs.Prelude.{◌≡◌, ◌<◌, ◌^◌, Some, IfOk, OnOk};
+ghost use Rattle.std.specs.Prelude.{◌≡◌, ◌<◌, ◌≤◌, ◌^◌, length, IfOk, OnOk};
 ghost use Rattle.std.specs.Result.{result_err};
-ghost use Rattle.vlm_words.specs.Checks.{block_refusal, caller_refusal, numbers_refusal, request_numbers_refusal};
+ghost use Rattle.vlm_words.specs.Checks.{block_refusal, caller_refusal, named_lkid, numbers_refusal, request_numbers_refusal, which_refusal};
+ghost use Rattle.vlm_words.specs.Blocks.{blocks_of};
 ghost use Rattle.vlm_words.specs.Dequeue.{lock_refusal};
-ghost use Rattle.vlm_words.specs.State.{process_of};
 ghost use Rattle.vlm_words.specs.Stepped.{swept_state};
 
 use crate::machine::Core;
-use crate::processes::{Process, has_departed, process_of};
+use crate::nodes::has_departed;
 use crate::tables::{is_held, sweep};
+use vlm_procs::has_block;
+use vlm_store::ProcAt;
 use vlm_words::conditions::Cond;
+use vlm_words::steps::Which;
 
 impl Core {
     /// The caller. DEPARTED where its node has departed, NONEXPR where no living process has the
     /// identification.
     #[tactic(auto, unfolding(vlm_words::specs::Checks::caller_refusal))]
-    pub(crate) fn caller(&self, pid: u32) -> Result<Process, Cond>
+    pub(crate) fn caller(&self, pid: u32) -> Result<ProcAt, Cond>
         ensures refusal { result_err result ≡ caller_refusal self.now pid }
-        ensures caller { IfOk result (λ p. process_of self.now.processes pid ≡ Some p) }
+        ensures caller { IfOk result (λ at. at ≡ pid) }
     {
         if has_departed(&self.nodes, pid / 65536) {
             return Err(Cond::Departed);
         }
-        match process_of(&self.processes, pid) {
-            Some(process) => Ok(process),
-            None => Err(Cond::Nonexpr),
-        }
+        self.store.process(pid).ok_or(Cond::Nonexpr)
     }
 
     /// NOLOCKID where the identifications or the request numbers are used up.
@@ -58,14 +58,31 @@ impl Core {
 
     /// ACCVIO where the caller has no status block of the number.
     #[tactic(auto, unfolding(vlm_words::specs::Checks::block_refusal))]
-    pub(crate) fn check_block(&self, caller: &Process, pid: u32, block: u8) -> Result<(), Cond>
-        requires { process_of self.now.processes pid ≡ Some caller.now }
-        ensures { result_err result ≡ block_refusal self.now pid block }
+    pub(crate) fn check_block(&self, caller: ProcAt, block: u8) -> Result<(), Cond>
+        ensures refusal { result_err result ≡ block_refusal self.now caller block }
+        ensures some { OnOk result (0 < block) }
+        ensures there { OnOk result (block ≤ length (blocks_of self.now.processes caller)) }
     {
-        if caller.has_block(block) {
+        if has_block(&self.store, caller, block) {
             Ok(())
         } else {
             Err(Cond::Accvio)
+        }
+    }
+
+    /// The identification that is named: its own, or what stands in a status block of the caller.
+    /// ACCVIO where the caller has no such block.
+    #[tactic(auto, unfolding(vlm_words::specs::Checks::which_refusal))]
+    pub(crate) fn named(&self, caller: ProcAt, lock: Which) -> Result<u32, Cond>
+        ensures refusal { result_err result ≡ which_refusal self.now caller lock }
+        ensures lkid { IfOk result (λ lkid. lkid ≡ named_lkid self.now caller lock) }
+    {
+        match lock {
+            Which::Id(lkid) => Ok(lkid),
+            Which::Block(number) => {
+                self.check_block(caller, number)?;
+                Ok(self.store.blocks(caller)[usize::from(number) - 1].lkid)
+            }
         }
     }
 

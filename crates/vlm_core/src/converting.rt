@@ -1,9 +1,9 @@
 //! The step that converts a lock to another mode.
 
-ghost use Rattle.std.specs.Prelude.{◌≡◌, ◌<◌, ◌+◌, ◌^◌, map, Some, IfOk, OnOk};
+ghost use Rattle.std.specs.Prelude.{◌≡◌, ◌<◌, ◌≤◌, ◌^◌, length, Some, IfOk, OnOk};
 ghost use Rattle.std.specs.Result.{result_err};
-ghost use Rattle.vlm_words.specs.Convert.{converted, conversion_of, convert_argument_refusal, convert_at_once, convert_change, convert_refusal, is_queued_legally_from, place_refusal};
-ghost use Rattle.vlm_words.specs.Dequeue.{named_lkid};
+ghost use Rattle.vlm_words.specs.Convert.{conversion_lkid, conversion_of, convert_argument_refusal, convert_at_once, convert_change, convert_refusal, is_queued_legally_from, place_refusal};
+ghost use Rattle.vlm_words.specs.Blocks.{blocks_of};
 ghost use Rattle.vlm_words.specs.Flags.{flag_bits};
 ghost use Rattle.vlm_words.specs.State.{Resource};
 ghost use Rattle.vlm_words.specs.Stepped.{stepped};
@@ -12,15 +12,18 @@ use crate::enqueuing::{acceptance, check_queue};
 use crate::flags::{enq_flags, has_flag};
 use crate::machine::Core;
 use crate::tables::{convert_all, granted_place};
+use vlm_procs::accept;
+use vlm_store::ProcAt;
 use vlm_words::conditions::Cond;
 use vlm_words::flags::EnqFlags;
 use vlm_words::locks::{Request, Row};
 use vlm_words::modes::{Mode, quecvt_legal};
-use vlm_words::steps::{Answer, Conversion, Step, Which};
+use vlm_words::steps::{Answer, Conversion, Step};
 
 /// A conversion that no check refuses.
 #[derive(Clone, Copy)]
 struct Admission {
+    caller: ProcAt,
     lkid: u32,
     asked: Request,
     at_once: bool,
@@ -29,17 +32,17 @@ struct Admission {
 impl Core {
     /// Asks for another mode of a granted lock ($ENQ with LCK$M_CONVERT). It takes no memory. It answers
     /// NORMAL, or SYNCH where it is granted at once with SYNCSTS. Refused by DEPARTED, NONEXPR, BADPARAM
-    /// for an unknown flag or an argument that is not built yet, ACCVIO, IVLOCKID, CVTUNGRANT where the
+    /// for an unknown flag or an argument that is not built yet, ACCVIO, also where the lock is named by
+    /// a status block that is not there, IVLOCKID, CVTUNGRANT where the
     /// lock waits or converts, BADPARAM where QUECVT does not go with the two modes, NOLOCKID, NOTQUEUED
     /// where it must not queue and is not granted at once.
-    #[tactic(auto, unfolding(vlm_words::specs::Convert::convert_change))]
     pub fn convert(&mut self, conversion: Conversion) -> Answer
         ensures state { self.new ≡ (stepped self.old (Step.Convert conversion)).state }
         ensures answer { result ≡ (stepped self.old (Step.Convert conversion)).answer }
     {
         match self.check_conversion(&conversion) {
             Ok(admission) => {
-                self.convert_lock(&admission, conversion.pid);
+                self.convert_lock(&admission, &conversion);
                 self.sweep();
                 Answer::Lock(
                     acceptance(admission.asked.flags, admission.at_once),
@@ -54,14 +57,18 @@ impl Core {
     #[tactic(auto, using(crate::proofs::Places::ungranted_refusal), unfolding(vlm_words::specs::Convert::convert_refusal, vlm_words::specs::Convert::convert_at_once))]
     fn check_conversion(&self, conversion: &Conversion) -> Result<Admission, Cond>
         ensures refusal { result_err result ≡ convert_refusal self.now conversion.now }
-        ensures lkid { IfOk result (λ a. a.lkid ≡ named_lkid conversion.now.lock) }
+        ensures caller { IfOk result (λ a. a.caller ≡ conversion.now.pid) }
+        ensures some { OnOk result (0 < conversion.now.block) }
+        ensures there { OnOk result (conversion.now.block ≤ length (blocks_of self.now.processes conversion.now.pid)) }
+        ensures lkid { IfOk result (λ a. a.lkid ≡ conversion_lkid self.now conversion.now) }
         ensures asked { IfOk result (λ a. a.asked ≡ conversion_of self.now conversion.now) }
         ensures at_once { IfOk result (λ a. a.at_once ≡ convert_at_once self.now conversion.now) }
         ensures number { OnOk result (self.now.next_request < 2 ^ 64) }
     {
         let caller = self.caller(conversion.pid)?;
-        let (lkid, flags) = checked_arguments(conversion)?;
-        self.check_block(&caller, conversion.pid, conversion.block)?;
+        let flags = checked_flags(conversion)?;
+        self.check_block(caller, conversion.block)?;
+        let lkid = self.named(caller, conversion.lock)?;
         self.check_lock(conversion.pid, lkid)?;
         let Some((resource, row)) = granted_place(&self.resources, conversion.pid, lkid) else {
             return Err(Cond::Cvtungrant);
@@ -72,42 +79,53 @@ impl Core {
         let at_once = resource.converts_at_once(&asked, lkid);
         check_queue(flags, at_once)?;
         Ok(Admission {
+            caller,
             lkid,
             asked,
             at_once,
         })
     }
 
-    // The lock converts, and the request number that it took is used up.
-    fn convert_lock(&mut self, admission: &Admission, pid: u32)
-        requires { self.old.next_request < 2 ^ 64 }
-        ensures { self.new ≡ record self.old {
-          resources = map (converted admission.now.asked pid admission.now.lkid) self.old.resources;
-          next_request = self.old.next_request + 1;
-        } }
+    // The lock converts, its status block is written, and the request number that it took is used up.
+    #[tactic(auto, unfolding(vlm_words::specs::Convert::convert_change))]
+    fn convert_lock(&mut self, admission: &Admission, conversion: &Conversion)
+        requires caller { admission.now.caller ≡ conversion.now.pid }
+        requires some { 0 < conversion.now.block }
+        requires there { conversion.now.block ≤ length (blocks_of self.old.processes conversion.now.pid) }
+        requires lkid { admission.now.lkid ≡ conversion_lkid self.old conversion.now }
+        requires asked { admission.now.asked ≡ conversion_of self.old conversion.now }
+        requires number { self.old.next_request < 2 ^ 64 }
+        ensures { self.new ≡ convert_change self.old conversion.now }
     {
-        convert_all(&mut self.resources, &admission.asked, pid, admission.lkid);
+        accept(
+            &mut self.store,
+            admission.caller,
+            conversion.block,
+            admission.lkid,
+        );
+        convert_all(
+            &mut self.resources,
+            &admission.asked,
+            conversion.pid,
+            admission.lkid,
+        );
         self.last_request += 1;
     }
 }
 
-// The lock and the flags. BADPARAM where one of them is unknown, or a routine is given or the lock is
-// named by a status block: these are not built yet.
+// The flags. BADPARAM where one of them is unknown, or a routine is given, which is not built yet.
 #[tactic(auto, unfolding(vlm_words::specs::Convert::convert_argument_refusal))]
-fn checked_arguments(conversion: &Conversion) -> Result<(u32, EnqFlags), Cond>
+fn checked_flags(conversion: &Conversion) -> Result<EnqFlags, Cond>
     ensures refusal { result_err result ≡ convert_argument_refusal conversion.now }
-    ensures lkid { IfOk result (λ a. a.0 ≡ named_lkid conversion.now.lock) }
-    ensures flags { IfOk result (λ a. flag_bits a.1 ≡ conversion.now.flags) }
+    ensures flags { IfOk result (λ flags. flag_bits flags ≡ conversion.now.flags) }
 {
     let Some(flags) = enq_flags(conversion.flags) else {
         return Err(Cond::Badparam);
     };
-    if conversion.ast.is_some() || conversion.bast.is_some() {
-        return Err(Cond::Badparam);
-    }
-    match conversion.lock {
-        Which::Id(lkid) => Ok((lkid, flags)),
-        Which::Block(_) => Err(Cond::Badparam),
+    if conversion.ast.is_none() && conversion.bast.is_none() {
+        Ok(flags)
+    } else {
+        Err(Cond::Badparam)
     }
 }
 

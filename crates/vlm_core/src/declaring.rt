@@ -7,7 +7,7 @@ ghost use Rattle.vlm_words.specs.State.{node_at};
 ghost use Rattle.vlm_words.specs.Stepped.{Outcome};
 
 use crate::machine::Core;
-use crate::processes::{Process, has_departed};
+use crate::nodes::has_departed;
 use std::alloc::AllocError;
 use vlm_words::conditions::Cond;
 use vlm_words::steps::{Answer, Declaration, Step};
@@ -64,7 +64,7 @@ impl Core {
         let place = usize::from(declaration.node) - 1;
         let node = self.nodes[place].counted();
         let pid = u32::from(declaration.node) * 65_536 + u32::from(node.declared());
-        self.processes.push(Process::new(pid, declaration))?;
+        self.store.add_process(pid, declaration)?;
         self.nodes[place] = node;
         Ok(pid)
     }

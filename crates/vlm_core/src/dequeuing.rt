@@ -2,7 +2,7 @@
 
 ghost use Rattle.std.specs.Prelude.{◌≡◌, IfOk};
 ghost use Rattle.std.specs.Result.{result_err};
-ghost use Rattle.vlm_words.specs.Dequeue.{cancel_refusal, deq_argument_refusal, deq_change, deq_refusal, named_lkid};
+ghost use Rattle.vlm_words.specs.Dequeue.{cancel_refusal, deq_argument_refusal, deq_change, deq_refusal, dequeue_lkid};
 ghost use Rattle.vlm_words.specs.Flags.{cancel, has_flag};
 ghost use Rattle.vlm_words.specs.Stepped.{stepped};
 
@@ -10,7 +10,7 @@ use crate::flags::cancels;
 use crate::machine::Core;
 use crate::tables::{dequeue_all, is_granted};
 use vlm_words::conditions::Cond;
-use vlm_words::steps::{Answer, Dequeue, Step, Which};
+use vlm_words::steps::{Answer, Dequeue, Step};
 
 /// A dequeue that no check refuses.
 #[derive(Clone, Copy)]
@@ -22,8 +22,8 @@ struct Withdrawal {
 
 impl Core {
     /// Gives a lock up, or with CANCEL ends its request ($DEQ). It takes no memory. Refused by
-    /// DEPARTED, NONEXPR, BADPARAM for an unknown flag or an argument that is not built yet, IVLOCKID,
-    /// CANCELGRANT where a granted lock is to be cancelled.
+    /// DEPARTED, NONEXPR, BADPARAM for an unknown flag or an argument that is not built yet, ACCVIO where
+    /// the lock is named by a status block that is not there, IVLOCKID, CANCELGRANT where a granted lock is to be cancelled.
     #[tactic(auto, unfolding(vlm_words::specs::Dequeue::deq_change))]
     pub fn deq(&mut self, dequeue: Dequeue) -> Answer
         ensures state { self.new ≡ (stepped self.old (Step.Deq dequeue)).state }
@@ -43,12 +43,14 @@ impl Core {
     #[tactic(auto, unfolding(vlm_words::specs::Dequeue::deq_refusal))]
     fn check_deq(&self, dequeue: &Dequeue) -> Result<Withdrawal, Cond>
         ensures refusal { result_err result ≡ deq_refusal self.now dequeue.now }
-        ensures lkid { IfOk result (λ w. w.lkid ≡ named_lkid dequeue.now.lock) }
+        ensures lkid { IfOk result (λ w. w.lkid ≡ dequeue_lkid self.now dequeue.now) }
         ensures cancels { IfOk result (λ w. w.cancels ≡ has_flag dequeue.now.flags cancel) }
     {
-        self.caller(dequeue.pid)?;
-        let withdrawal = checked_arguments(dequeue)?;
-        self.check_lock(dequeue.pid, withdrawal.lkid)?;
+        let caller = self.caller(dequeue.pid)?;
+        let cancels = checked_flags(dequeue)?;
+        let lkid = self.named(caller, dequeue.lock)?;
+        let withdrawal = Withdrawal { lkid, cancels };
+        self.check_lock(dequeue.pid, lkid)?;
         self.check_cancel(dequeue, &withdrawal)?;
         Ok(withdrawal)
     }
@@ -56,7 +58,7 @@ impl Core {
     // CANCELGRANT where a granted lock is to be cancelled.
     #[tactic(auto, unfolding(vlm_words::specs::Dequeue::cancel_refusal))]
     fn check_cancel(&self, dequeue: &Dequeue, withdrawal: &Withdrawal) -> Result<(), Cond>
-        requires lkid { withdrawal.now.lkid ≡ named_lkid dequeue.now.lock }
+        requires lkid { withdrawal.now.lkid ≡ dequeue_lkid self.now dequeue.now }
         requires cancels { withdrawal.now.cancels ≡ has_flag dequeue.now.flags cancel }
         ensures { result_err result ≡ cancel_refusal self.now dequeue.now }
     {
@@ -68,22 +70,15 @@ impl Core {
     }
 }
 
-// What is to be withdrawn. BADPARAM where a flag is unknown, or a value is given or the lock is named
-// by a status block: these are not built yet.
+// Whether the request is cancelled. BADPARAM where a flag is unknown, or a value is given, which is
+// not built yet.
 #[tactic(auto, unfolding(vlm_words::specs::Dequeue::deq_argument_refusal))]
-fn checked_arguments(dequeue: &Dequeue) -> Result<Withdrawal, Cond>
+fn checked_flags(dequeue: &Dequeue) -> Result<bool, Cond>
     ensures refusal { result_err result ≡ deq_argument_refusal dequeue.now }
-    ensures lkid { IfOk result (λ w. w.lkid ≡ named_lkid dequeue.now.lock) }
-    ensures cancels { IfOk result (λ w. w.cancels ≡ has_flag dequeue.now.flags cancel) }
+    ensures cancels { IfOk result (λ cancels. cancels ≡ has_flag dequeue.now.flags cancel) }
 {
-    let Some(cancels) = cancels(dequeue.flags) else {
-        return Err(Cond::Badparam);
-    };
-    if dequeue.value.is_some() {
-        return Err(Cond::Badparam);
-    }
-    match dequeue.lock {
-        Which::Id(lkid) => Ok(Withdrawal { lkid, cancels }),
-        Which::Block(_) => Err(Cond::Badparam),
+    match cancels(dequeue.flags) {
+        Some(cancels) if dequeue.value.is_none() => Ok(cancels),
+        _ => Err(Cond::Badparam),
     }
 }

@@ -1,7 +1,8 @@
 //! The step that asks for a new lock.
 
-ghost use Rattle.std.specs.Prelude.{◌≡◌, ◌<◌, ◌^◌, false, find, unwrap_or, IfOk, OnErr, OnOk};
+ghost use Rattle.std.specs.Prelude.{◌≡◌, ◌<◌, ◌≤◌, ◌^◌, length, false, find, unwrap_or, IfOk, OnErr, OnOk};
 ghost use Rattle.std.specs.Result.{result_err};
+ghost use Rattle.vlm_words.specs.Blocks.{blocks_of};
 ghost use Rattle.vlm_words.specs.Checks.{acceptance, queue_refusal};
 ghost use Rattle.vlm_words.specs.Enqueue.{enq_argument_refusal, enq_at_once, enq_change, enq_refusal, expedite_refusal, is_at, is_at_once, is_no_parent, key_of, name_refusal, new_resource, request_of};
 ghost use Rattle.vlm_words.specs.Flags.{flag_bits};
@@ -12,6 +13,8 @@ use crate::machine::Core;
 use crate::resources::Key;
 use crate::tables::{enter_among, enters_at_once};
 use std::alloc::AllocError;
+use vlm_procs::accept;
+use vlm_store::ProcAt;
 use vlm_words::conditions::Cond;
 use vlm_words::flags::EnqFlags;
 use vlm_words::locks::{Request, Row};
@@ -23,6 +26,7 @@ use vlm_words::steps::{Answer, NewRequest, Step, Which};
 /// A new request that no check refuses.
 #[derive(Clone, Copy)]
 struct Admission {
+    caller: ProcAt,
     // where its resource stands
     key: Key,
     asked: Request,
@@ -51,9 +55,12 @@ impl Core {
     }
 
     // The checks in their order.
-    #[tactic(auto, unfolding(vlm_words::specs::Enqueue::enq_refusal, vlm_words::specs::Enqueue::found_by))]
+    #[tactic(auto, unfolding(vlm_words::specs::Enqueue::enq_refusal))]
     fn check_enq(&self, request: &NewRequest) -> Result<Admission, Cond>
         ensures refusal { result_err result ≡ enq_refusal self.now request.now }
+        ensures caller { IfOk result (λ a. a.caller ≡ request.now.pid) }
+        ensures some { OnOk result (0 < request.now.block) }
+        ensures there { OnOk result (request.now.block ≤ length (blocks_of self.now.processes request.now.pid)) }
         ensures key { IfOk result (λ a. a.key ≡ key_of self.now request.now) }
         ensures asked { IfOk result (λ a. a.asked ≡ request_of self.now request.now) }
         ensures at_once { IfOk result (λ a. a.at_once ≡ enq_at_once self.now request.now) }
@@ -62,19 +69,51 @@ impl Core {
     {
         let caller = self.caller(request.pid)?;
         let flags = checked_flags(request)?;
-        self.check_block(&caller, request.pid, request.block)?;
+        self.check_block(caller, request.block)?;
         let name = checked_name(&request.name)?;
         check_expedite(request.mode, flags)?;
         self.check_numbers()?;
-        let key = Key::root(Domain::Group(caller.group()), name);
+        let admission = self.admission(caller, flags, name, request);
+        check_queue(flags, admission.at_once)?;
+        Ok(admission)
+    }
+
+    // What the request asks for, and whether it is granted at once.
+    #[tactic(auto, unfolding(vlm_words::specs::Enqueue::found_by))]
+    fn admission(
+        &self,
+        caller: ProcAt,
+        flags: EnqFlags,
+        name: Name,
+        request: &NewRequest,
+    ) -> Admission
+        requires caller { caller ≡ request.now.pid }
+        requires flags { flag_bits flags ≡ request.now.flags }
+        requires name { name ≡ request.now.name }
+        requires number { self.now.next_request < 2 ^ 64 }
+        ensures caller { result.caller ≡ request.now.pid }
+        ensures key { result.key ≡ key_of self.now request.now }
+        ensures asked { result.asked ≡ request_of self.now request.now }
+        ensures at_once { result.at_once ≡ enq_at_once self.now request.now }
+    {
+        let key = self.root_key(caller, name, request);
         let asked = request_of(self.last_request + 1, flags, request);
         let at_once = self.enters_at_once(&key, &asked);
-        check_queue(flags, at_once)?;
-        Ok(Admission {
+        Admission {
+            caller,
             key,
             asked,
             at_once,
-        })
+        }
+    }
+
+    // Where the resource stands: a root is in the group of its caller.
+    fn root_key(&self, caller: ProcAt, name: Name, request: &NewRequest) -> Key
+        requires caller { caller ≡ request.now.pid }
+        requires name { name ≡ request.now.name }
+        ensures { result ≡ key_of self.now request.now }
+    {
+        Key::root(Domain::Group(self.store.group(caller)), name)
     }
 
     // Whether the request is granted at once in the resource under the key, or in a new one.
@@ -84,9 +123,13 @@ impl Core {
         enters_at_once(&self.resources, key, asked)
     }
 
-    // The lock enters its resource, and the numbers that it took are used up.
+    // The lock enters its resource, its status block is written, and the numbers that it took are used
+    // up.
     #[tactic(auto, unfolding(vlm_words::specs::Enqueue::enq_change))]
     fn add_lock(&mut self, request: &NewRequest, admission: &Admission) -> Result<u32, AllocError>
+        requires caller { admission.now.caller ≡ request.now.pid }
+        requires some { 0 < request.now.block }
+        requires there { request.now.block ≤ length (blocks_of self.old.processes request.now.pid) }
         requires key { admission.now.key ≡ key_of self.old request.now }
         requires asked { admission.now.asked ≡ request_of self.old request.now }
         requires lkid { self.old.next_lkid < 2 ^ 32 }
@@ -104,6 +147,7 @@ impl Core {
         if made {
             self.last_serial = serial;
         }
+        accept(&mut self.store, admission.caller, request.block, lkid);
         self.last_lkid = lkid;
         self.last_request = number;
         Ok(lkid)

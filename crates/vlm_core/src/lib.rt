@@ -13,10 +13,11 @@ mod enqueuing;
 mod flags;
 mod grants;
 mod machine;
-mod processes;
+mod nodes;
 mod readers;
 mod resources;
 mod running;
+mod setting;
 mod tables;
 mod views;
 

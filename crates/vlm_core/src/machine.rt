@@ -4,10 +4,11 @@ ghost use Rattle.std.specs.Prelude.{◌≡◌};
 ghost use Rattle.vlm_words.specs.State.{start};
 ghost use Rattle.vlm_words.specs.Stepped.{Outcome};
 
-use crate::processes::{NODES, Node, Process};
+use crate::nodes::{NODES, Node};
 use crate::resources::Resource;
 use std::alloc::Global;
 use std::marker::Model;
+use vlm_store::Store;
 use vlm_words::conditions::Cond;
 use vlm_words::steps::{Answer, Step};
 
@@ -16,8 +17,8 @@ use vlm_words::steps::{Answer, Step};
 pub struct Core {
     // node k stands at k - 1
     pub(crate) nodes: [Node; NODES],
-    // the living processes, in order of making
-    pub(crate) processes: Vec<Process>,
+    // the records of the living processes
+    pub(crate) store: Store,
     // the resources with locks, by rising serial
     pub(crate) resources: Vec<Resource>,
     // how many identifications, request numbers and serials were given
@@ -45,7 +46,7 @@ impl Core {
     {
         Core {
             nodes: [Node::new(); NODES],
-            processes: Vec::new(alloc),
+            store: Store::new(alloc),
             resources: Vec::new(alloc),
             last_lkid: 0,
             last_request: 0,
@@ -62,11 +63,10 @@ impl Core {
             Step::Enq(request) => self.enq(request),
             Step::Convert(conversion) => self.convert(conversion),
             Step::Deq(dequeue) => self.deq(dequeue),
-            Step::SetValue(_)
-            | Step::Rundown(_)
-            | Step::Leave(_)
-            | Step::Search(_)
-            | Step::Take(_) => Answer::Plain(Cond::Badparam),
+            Step::SetValue(setting) => self.set_value(setting),
+            Step::Rundown(_) | Step::Leave(_) | Step::Search(_) | Step::Take(_) => {
+                Answer::Plain(Cond::Badparam)
+            }
         }
     }
 }

@@ -1,0 +1,71 @@
+//! The nodes.
+
+ghost use Rattle.std.specs.Prelude.{◌≡◌, ◌+◌, ◌<◌};
+ghost use Rattle.vlm_words.specs.Checks.{has_departed};
+ghost use Rattle.vlm_words.specs.State.{new_node};
+
+use std::marker::Model;
+
+/// How many nodes there are, numbered from 1.
+pub(crate) const NODES: usize = 8;
+
+/// A node.
+#[derive(Clone, Copy)]
+pub(crate) struct Node {
+    // accepted declarations so far, those of ended processes too
+    declared: u16,
+    departed: bool,
+}
+
+impl Model for Node {
+    ghost use Rattle.vlm_words.specs.State.{Node as PlainNode};
+
+    ghost Value = { PlainNode };
+
+    ghost view = { λ n. record { declared = n.declared; departed = n.departed } };
+
+    ghost inverse = { λ n. record { declared = n.declared; departed = n.departed } };
+}
+
+impl Node {
+    /// A node that has declared nothing.
+    pub(crate) fn new() -> Self
+        ensures { result ≡ new_node }
+    {
+        Node {
+            declared: 0,
+            departed: false,
+        }
+    }
+
+    /// How many processes it has declared.
+    pub(crate) fn declared(&self) -> u16
+        ensures { result ≡ self.now.declared }
+    {
+        self.declared
+    }
+
+    fn departed(&self) -> bool
+        ensures { result ≡ self.now.departed }
+    {
+        self.departed
+    }
+
+    /// The node with one declaration more.
+    pub(crate) fn counted(&self) -> Self
+        requires { self.now.declared < 65535 }
+        ensures { result ≡ record self.now { declared = self.now.declared + 1 } }
+    {
+        Node {
+            declared: self.declared + 1,
+            departed: self.departed,
+        }
+    }
+}
+
+/// Whether the node is one of the machine's and has departed.
+pub(crate) fn has_departed(nodes: &[Node; NODES], node: u32) -> bool
+    ensures { result ≡ has_departed nodes.now node }
+{
+    0 < node && node as usize <= NODES && nodes[node as usize - 1].departed()
+}

@@ -1,0 +1,44 @@
+//! The step that writes the value part of a status block.
+
+ghost use Rattle.std.specs.Prelude.{◌≡◌, ◌<◌, ◌≤◌, length, IfOk, OnOk};
+ghost use Rattle.std.specs.Result.{result_err};
+ghost use Rattle.vlm_words.specs.Blocks.{blocks_of};
+ghost use Rattle.vlm_words.specs.SetValue.{set_refusal};
+ghost use Rattle.vlm_words.specs.Stepped.{stepped};
+
+use crate::machine::Core;
+use vlm_procs::set_value;
+use vlm_store::ProcAt;
+use vlm_words::conditions::Cond;
+use vlm_words::steps::{Answer, Step, ValueSetting};
+
+impl Core {
+    /// Writes the value part of a status block of the caller, and nothing else (this project's own). It
+    /// takes no memory and answers NORMAL. Refused by DEPARTED, NONEXPR, ACCVIO.
+    #[tactic(auto, unfolding(vlm_words::specs::SetValue::set_change))]
+    pub fn set_value(&mut self, setting: ValueSetting) -> Answer
+        ensures state { self.new ≡ (stepped self.old (Step.SetValue setting)).state }
+        ensures answer { result ≡ (stepped self.old (Step.SetValue setting)).answer }
+    {
+        match self.check_setting(&setting) {
+            Ok(caller) => {
+                set_value(&mut self.store, caller, setting.block, setting.value);
+                Answer::Plain(Cond::Normal)
+            }
+            Err(refusal) => Answer::Plain(refusal),
+        }
+    }
+
+    // The checks in their order.
+    #[tactic(auto, unfolding(vlm_words::specs::SetValue::set_refusal))]
+    fn check_setting(&self, setting: &ValueSetting) -> Result<ProcAt, Cond>
+        ensures refusal { result_err result ≡ set_refusal self.now setting.now }
+        ensures caller { IfOk result (λ at. at ≡ setting.now.pid) }
+        ensures some { OnOk result (0 < setting.now.block) }
+        ensures there { OnOk result (setting.now.block ≤ length (blocks_of self.now.processes setting.now.pid)) }
+    {
+        let caller = self.caller(setting.pid)?;
+        self.check_block(caller, setting.block)?;
+        Ok(caller)
+    }
+}
