@@ -2,6 +2,7 @@
 
 use std::process::Abort;
 use vlm_core::Core;
+use vlm_words::blocks::Block;
 use vlm_words::conditions::Cond;
 use vlm_words::modes::Mode;
 use vlm_words::names::NameArg;
@@ -211,7 +212,7 @@ fn requests(rt: HostRuntime) {
     );
 }
 
-/// NONEXPR, BADPARAM, IVLOCKID, CANCELGRANT. Each dequeue breaks the rules of the later ones too.
+/// NONEXPR, BADPARAM, ACCVIO, IVLOCKID, CANCELGRANT. Each dequeue breaks the rules of the later ones too.
 #[test]
 fn dequeues(rt: HostRuntime) {
     let late = Dequeue {
@@ -237,12 +238,26 @@ fn dequeues(rt: HostRuntime) {
         ),
         (
             Dequeue {
-                lock: Which::Block(1),
+                lock: Which::Block(0),
                 ..late
             },
-            Cond::Badparam,
+            Cond::Accvio,
+        ),
+        (
+            Dequeue {
+                lock: Which::Block(5),
+                ..late
+            },
+            Cond::Accvio,
         ),
         (late, Cond::Ivlockid),
+        (
+            Dequeue {
+                lock: Which::Block(2),
+                ..late
+            },
+            Cond::Ivlockid,
+        ),
         (
             Dequeue {
                 lock: Which::Id(0),
@@ -311,15 +326,15 @@ fn conversions(rt: HostRuntime) {
             },
             Cond::Badparam,
         ),
-        (
-            Conversion {
-                lock: Which::Block(1),
-                ..late
-            },
-            Cond::Badparam,
-        ),
         (late, Cond::Accvio),
         (Conversion { block: 5, ..late }, Cond::Accvio),
+        (
+            Conversion {
+                lock: Which::Block(5),
+                ..foreign
+            },
+            Cond::Accvio,
+        ),
         (foreign, Cond::Ivlockid),
         (Conversion { pid: Q, ..foreign }, Cond::Cvtungrant),
         (
@@ -336,18 +351,81 @@ fn conversions(rt: HostRuntime) {
     );
 }
 
+/// A value block to write.
+const SETTING: ValueSetting = ValueSetting {
+    pid: P,
+    block: 4,
+    value: [7; 16],
+};
+
+/// NONEXPR, ACCVIO.
+#[test]
+fn settings(rt: HostRuntime) {
+    let cases = [
+        (
+            ValueSetting {
+                pid: STRANGER,
+                block: 0,
+                ..SETTING
+            },
+            Cond::Nonexpr,
+        ),
+        (
+            ValueSetting {
+                block: 0,
+                ..SETTING
+            },
+            Cond::Accvio,
+        ),
+        (
+            ValueSetting {
+                block: 5,
+                ..SETTING
+            },
+            Cond::Accvio,
+        ),
+        (SETTING, Cond::Normal),
+    ];
+    check(
+        &rt,
+        &cases.map(|(setting, want)| (Step::SetValue(setting), want)),
+    );
+}
+
+/// An accepted request leaves its lock in the status block, which names it from then on; a value goes
+/// to the value part alone.
+#[test]
+fn status_blocks(rt: HostRuntime) {
+    let mut core = machine(&rt);
+    let pending = Block {
+        lkid: 1,
+        ..Block::new()
+    };
+    assert_eq!(&rt; core.block(P, 1), Some(pending));
+    assert_eq!(&rt; core.block(P, 2), Some(Block::new()));
+    assert_eq!(&rt; core.block(P, 0), None);
+    assert_eq!(&rt; core.block(P, 5), None);
+    assert_eq!(&rt; core.block(STRANGER, 1), None);
+    assert_eq!(&rt; core.set_value(SETTING), Answer::Plain(Cond::Normal));
+    let valued = Block {
+        value: [7; 16],
+        ..Block::new()
+    };
+    assert_eq!(&rt; core.block(P, 4), Some(valued));
+    let dequeue = Dequeue {
+        lock: Which::Block(1),
+        ..DEQUEUE
+    };
+    assert_eq!(&rt; core.deq(dequeue), Answer::Plain(Cond::Normal));
+    assert_eq!(&rt; core.deq(dequeue), Answer::Plain(Cond::Ivlockid));
+}
+
 /// BADPARAM for each kind that is not built, whoever the caller is.
 #[test]
 fn kinds_not_built(rt: HostRuntime) {
-    let setting = ValueSetting {
-        pid: STRANGER,
-        block: 0,
-        value: [0; 16],
-    };
     check(
         &rt,
         &[
-            (Step::SetValue(setting), Cond::Badparam),
             (Step::Rundown(STRANGER), Cond::Badparam),
             (Step::Leave(9), Cond::Badparam),
             (Step::Search(0), Cond::Badparam),
