@@ -7,5 +7,6 @@ mod cuts;
 mod flags;
 mod keyed;
 mod lines;
+mod locks;
 mod numbers;
 mod words;

@@ -7,7 +7,8 @@ use Rattle.std.specs.Int.RustNames.{bit_or}
 use Rattle.vlm_words.specs.declared.modes.Mode.{Mode}
 use Rattle.vlm_words.specs.declared.modes.Mode.TheVariants.{Nl, Cr, Cw, Pr, Pw, Ex}
 use Rattle.vlm_words.specs.declared.steps.Declaration.{Declaration}
-use Rattle.vlm_words.specs.declared.steps.Which.TheVariants.{Id}
+use Rattle.vlm_words.specs.declared.steps.Which.{Which}
+use Rattle.vlm_words.specs.declared.steps.Which.TheVariants.{Id, Block}
 use Rattle.vlm_words.specs.declared.scripts.DeclareWords.{DeclareWords}
 use Rattle.vlm_words.specs.declared.scripts.CvtWords.{CvtWords}
 use Rattle.vlm_words.specs.declared.scripts.EnqWords.{EnqWords}
@@ -238,18 +239,24 @@ abbrev pub cvt_words : CvtWords → List (List ℕ) → Result CvtWords LineFaul
 cvt_words c [] = Ok c
 cvt_words c (word ∷ words) = cvt_word c word >>= λ d. cvt_words d words
 
+-- a lock: `@N` is the one whose identification stands in status block N, a number is its identification
+unfoldable pub lock_named : List ℕ → Result Which LineFault
+lock_named word =
+    if has_key (codes "@") word then number_within 255 (behind (codes "@") word) >>= (λ n. Ok (Block n))
+    else number_within 4294967295 word >>= (λ lkid. Ok (Id lkid))
+
 -- cvt NAME LOCK MODE block=N [flags]
 unfoldable pub cvt_line : List (List ℕ) → Result Line LineFault
 cvt_line words =
     next_word words >>= λ first.
     process_name first.0 >>= λ name.
     next_word first.1 >>= λ second.
-    number_within 4294967295 second.0 >>= λ lkid.
+    lock_named second.0 >>= λ lock.
     next_word second.1 >>= λ third.
     mode_of third.0 >>= λ mode.
     cvt_words no_cvt_words third.1 >>= λ c.
     given c.block >>= λ block.
-    Ok (Cvt (record { name = name; lock = Id lkid; mode = mode; block = block; flags = c.flags }))
+    Ok (Cvt (record { name = name; lock = lock; mode = mode; block = block; flags = c.flags }))
 
 -- the flags of a deq line, in any order
 abbrev pub deq_words : ℕ → List (List ℕ) → Result ℕ LineFault
@@ -262,9 +269,9 @@ deq_line words =
     next_word words >>= λ first.
     process_name first.0 >>= λ name.
     next_word first.1 >>= λ second.
-    number_within 4294967295 second.0 >>= λ lkid.
+    lock_named second.0 >>= λ lock.
     deq_words 0 second.1 >>= λ flags.
-    Ok (Deq (record { name = name; lock = Id lkid; flags = flags }))
+    Ok (Deq (record { name = name; lock = lock; flags = flags }))
 
 -- a line by its command
 unfoldable pub command_line : List ℕ → List (List ℕ) → Result Line LineFault

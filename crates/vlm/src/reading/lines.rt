@@ -5,10 +5,10 @@ ghost use Rattle.vlm_words.specs.Lines.{line_read, line_of, command_line, declar
 
 use super::cuts;
 use super::keyed::{cvt_words, declare_words, deq_words, enq_words};
-use super::numbers::number;
+use super::locks::lock;
 use super::words::{behind_key, is_text, mode, process_name};
 use vlm_words::scripts::{CvtLine, DeclareWords, DeqLine, EnqLine, Line, LineFault};
-use vlm_words::steps::{Declaration, Which};
+use vlm_words::steps::Declaration;
 
 /// The longest line, in bytes.
 const LONGEST: usize = 255;
@@ -117,14 +117,14 @@ fn cvt_line(line: &[u8]) -> Result<Line, LineFault>
     let (first, after_name) = needed_word(line)?;
     let name = process_name(first)?;
     let (second, after_lock) = needed_word(after_name)?;
-    let lkid = number(u32::MAX, second)?;
+    let lock = lock(second)?;
     let (third, rest) = needed_word(after_lock)?;
     let mode = mode(third)?;
     let words = cvt_words(rest)?;
     let block = words.block.ok_or(LineFault::WrongWord)?;
     Ok(Line::Cvt(CvtLine {
         name,
-        lock: Which::Id(lkid),
+        lock,
         mode,
         block,
         flags: words.flags,
@@ -139,13 +139,9 @@ fn deq_line(line: &[u8]) -> Result<Line, LineFault>
     let (first, after_name) = needed_word(line)?;
     let name = process_name(first)?;
     let (second, rest) = needed_word(after_name)?;
-    let lkid = number(u32::MAX, second)?;
+    let lock = lock(second)?;
     let flags = deq_words(rest)?;
-    Ok(Line::Deq(DeqLine {
-        name,
-        lock: Which::Id(lkid),
-        flags,
-    }))
+    Ok(Line::Deq(DeqLine { name, lock, flags }))
 }
 
 /// The next word, which the line needs, and the bytes behind it.
