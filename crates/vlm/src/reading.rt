@@ -9,4 +9,5 @@ mod keyed;
 mod lines;
 mod locks;
 mod numbers;
+mod values;
 mod words;
