@@ -7,5 +7,7 @@ mod cuts;
 mod flags;
 mod keyed;
 mod lines;
+mod locks;
 mod numbers;
+mod values;
 mod words;

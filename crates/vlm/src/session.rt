@@ -1,7 +1,7 @@
 //! A session: the machine, and the names that the script has bound.
 
 ghost use Rattle.std.specs.Prelude.{◌≡◌, ◌++◌, MatchResult};
-ghost use Rattle.vlm_words.specs.Scripts.{conversion_made, dequeue_made, opening, request_made};
+ghost use Rattle.vlm_words.specs.Scripts.{conversion_made, dequeue_made, opening, request_made, setting_made};
 ghost use Rattle.vlm_words.specs.Texts.{answer_line};
 ghost use Rattle.vlm.specs.Sessions.{IsRun, IsTold, StopsBytes, StopsLine};
 
@@ -13,8 +13,10 @@ use crate::stops::Stop;
 use std::alloc::Global;
 use std::marker::Model;
 use vlm_core::Core;
-use vlm_words::scripts::{CvtLine, DeqLine, EnqLine, Line, LineFault, ProcessName};
-use vlm_words::steps::{Answer, Conversion, Declaration, Dequeue, NewRequest, Which};
+use vlm_words::scripts::{CvtLine, DeqLine, EnqLine, Line, LineFault, ProcessName, SetLine};
+use vlm_words::steps::{
+    Answer, Conversion, Declaration, Dequeue, NewRequest, Step, ValueSetting, Which,
+};
 
 /// The machine, and the names that are bound to its processes.
 #[derive(Drop)]
@@ -68,6 +70,7 @@ impl Session {
             Line::Enq(line) => self.enq(line, out),
             Line::Cvt(line) => self.convert(line, out),
             Line::Deq(line) => self.deq(line, out),
+            Line::Set(line) => self.set(line, out),
             Line::Show => match show(&self.core, out) {
                 Ok(()) => Ok(()),
                 Err(_) => Err(Stop::Memory),
@@ -137,6 +140,19 @@ impl Session {
         let answer = self.core.deq(dequeue_made(pid, &line));
         told(line.name, answer, out)
     }
+
+    // Sets a value block of the process that the name is bound to, and prints the answer.
+    fn set(&mut self, line: SetLine, out: &mut Vec<u8>) -> Result<(), Stop>
+        ensures { MatchResult result
+            (λ _. IsRun self.old (Line.Set line) self.new out.old.items out.new.items)
+            (λ stop. StopsLine self.old.names (Line.Set line) stop) }
+    {
+        let Some(pid) = bound_to(&self.names, &line.name) else {
+            return Err(Stop::Fault(LineFault::UnknownName));
+        };
+        let answer = self.core.step(Step::SetValue(setting_made(pid, &line)));
+        told(line.name, answer, out)
+    }
 }
 
 // Prints an answer under its name.
@@ -193,5 +209,16 @@ fn dequeue_made(pid: u32, line: &DeqLine) -> Dequeue
         lock: line.lock,
         value: None,
         flags: line.flags,
+    }
+}
+
+// The value that a set line puts into a status block of a process.
+fn setting_made(pid: u32, line: &SetLine) -> ValueSetting
+    ensures { result ≡ setting_made pid line.now }
+{
+    ValueSetting {
+        pid,
+        block: line.block,
+        value: line.value,
     }
 }

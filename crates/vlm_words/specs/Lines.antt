@@ -2,17 +2,19 @@
 use Rattle.std.specs.Prelude.{ℕ, Bool, true, false, not, ◌&&◌, ◌||◌, ◌==◌, ◌+◌, ◌-◌, ◌*◌, nat_le, List, [], ◌∷◌, filter, take, drop, length, codes, fold, Option, None, Some, Result, Ok, Err, if◌then◌else◌}
 use Rattle.std.specs.List.{list_all, starts_with}
 use Rattle.std.specs.Cmp.Lexicographic.{pointwise}
-use Rattle.std.specs.Char.{is_ascii_digit, is_ascii_alphabetic, is_ascii_alphanumeric}
+use Rattle.std.specs.Char.{is_ascii_digit, is_ascii_alphabetic, is_ascii_alphanumeric, is_ascii_hexdigit}
 use Rattle.std.specs.Int.RustNames.{bit_or}
 use Rattle.vlm_words.specs.declared.modes.Mode.{Mode}
 use Rattle.vlm_words.specs.declared.modes.Mode.TheVariants.{Nl, Cr, Cw, Pr, Pw, Ex}
 use Rattle.vlm_words.specs.declared.steps.Declaration.{Declaration}
-use Rattle.vlm_words.specs.declared.steps.Which.TheVariants.{Id}
+use Rattle.vlm_words.specs.declared.steps.Which.{Which}
+use Rattle.vlm_words.specs.declared.steps.Which.TheVariants.{Id, Block}
 use Rattle.vlm_words.specs.declared.scripts.DeclareWords.{DeclareWords}
 use Rattle.vlm_words.specs.declared.scripts.CvtWords.{CvtWords}
 use Rattle.vlm_words.specs.declared.scripts.EnqWords.{EnqWords}
+use Rattle.vlm_words.specs.declared.scripts.SetWords.{SetWords}
 use Rattle.vlm_words.specs.declared.scripts.Line.{Line}
-use Rattle.vlm_words.specs.declared.scripts.Line.TheVariants.{Empty, Declare, Enq, Cvt, Deq, Show}
+use Rattle.vlm_words.specs.declared.scripts.Line.TheVariants.{Empty, Declare, Enq, Cvt, Deq, Set, Show}
 use Rattle.vlm_words.specs.declared.scripts.LineFault.{LineFault}
 use Rattle.vlm_words.specs.declared.scripts.LineFault.TheVariants.{TooLong, UnknownCommand, WrongWord, NumberOutOfRange}
 use Rattle.vlm_words.specs.Flags.{cancel, expedite, has_flag, noqueue, quecvt, syncsts}
@@ -117,6 +119,25 @@ number_once (Some earlier) limit digits = Err WrongWord
 unfoldable pub resource_once : Option (List ℕ) → List ℕ → Result (Option (List ℕ)) LineFault
 resource_once None bytes = if has_key (codes "x:") bytes then Err WrongWord else Ok (Some (take 32 bytes))
 resource_once (Some earlier) bytes = Err WrongWord
+
+-- the number that a hexadecimal digit of either case stands for
+abbrev pub digit_value : ℕ → ℕ
+digit_value digit = if nat_le digit 57 then digit - 48 else if nat_le digit 70 then digit - 55 else digit - 87
+
+-- the byte that each two hexadecimal digits stand for
+unfoldable pub hex_value : List ℕ → List ℕ
+hex_value [] = []
+hex_value (digit ∷ []) = []
+hex_value (high ∷ low ∷ digits) = (digit_value high * 16 + digit_value low) ∷ hex_value digits
+
+-- a value block: exactly 32 hexadecimal digits
+unfoldable pub value_of : List ℕ → Result (List ℕ) LineFault
+value_of word = if (length word == 32) && list_all is_ascii_hexdigit word then Ok (hex_value word) else Err WrongWord
+
+-- a value block behind a key, which is given once
+unfoldable pub value_once : Option (List ℕ) → List ℕ → Result (Option (List ℕ)) LineFault
+value_once None digits = value_of digits >>= λ value. Ok (Some value)
+value_once (Some earlier) digits = Err WrongWord
 
 -- nothing of a declare line's keyed words is read yet
 abbrev pub no_declare_words : DeclareWords
@@ -238,18 +259,24 @@ abbrev pub cvt_words : CvtWords → List (List ℕ) → Result CvtWords LineFaul
 cvt_words c [] = Ok c
 cvt_words c (word ∷ words) = cvt_word c word >>= λ d. cvt_words d words
 
+-- a lock: `@N` is the one whose identification stands in status block N, a number is its identification
+unfoldable pub lock_named : List ℕ → Result Which LineFault
+lock_named word =
+    if has_key (codes "@") word then number_within 255 (behind (codes "@") word) >>= (λ n. Ok (Block n))
+    else number_within 4294967295 word >>= (λ lkid. Ok (Id lkid))
+
 -- cvt NAME LOCK MODE block=N [flags]
 unfoldable pub cvt_line : List (List ℕ) → Result Line LineFault
 cvt_line words =
     next_word words >>= λ first.
     process_name first.0 >>= λ name.
     next_word first.1 >>= λ second.
-    number_within 4294967295 second.0 >>= λ lkid.
+    lock_named second.0 >>= λ lock.
     next_word second.1 >>= λ third.
     mode_of third.0 >>= λ mode.
     cvt_words no_cvt_words third.1 >>= λ c.
     given c.block >>= λ block.
-    Ok (Cvt (record { name = name; lock = Id lkid; mode = mode; block = block; flags = c.flags }))
+    Ok (Cvt (record { name = name; lock = lock; mode = mode; block = block; flags = c.flags }))
 
 -- the flags of a deq line, in any order
 abbrev pub deq_words : ℕ → List (List ℕ) → Result ℕ LineFault
@@ -262,9 +289,37 @@ deq_line words =
     next_word words >>= λ first.
     process_name first.0 >>= λ name.
     next_word first.1 >>= λ second.
-    number_within 4294967295 second.0 >>= λ lkid.
+    lock_named second.0 >>= λ lock.
     deq_words 0 second.1 >>= λ flags.
-    Ok (Deq (record { name = name; lock = Id lkid; flags = flags }))
+    Ok (Deq (record { name = name; lock = lock; flags = flags }))
+
+-- nothing of a set line's keyed words is read yet
+abbrev pub no_set_words : SetWords
+no_set_words = record { block = None; value = None }
+
+-- one more keyed word of a set line
+unfoldable pub set_word : SetWords → List ℕ → Result SetWords LineFault
+set_word s word =
+    if has_key (codes "block=") word then
+    number_once s.block 255 (behind (codes "block=") word) >>= (λ n. Ok (record s { block = n }))
+    else if has_key (codes "value=") word then
+    value_once s.value (behind (codes "value=") word) >>= (λ value. Ok (record s { value = value }))
+    else Err WrongWord
+
+-- the keyed words of a set line, in any order
+abbrev pub set_words : SetWords → List (List ℕ) → Result SetWords LineFault
+set_words s [] = Ok s
+set_words s (word ∷ words) = set_word s word >>= λ t. set_words t words
+
+-- set NAME block=N value=HEX
+unfoldable pub set_line : List (List ℕ) → Result Line LineFault
+set_line words =
+    next_word words >>= λ first.
+    process_name first.0 >>= λ name.
+    set_words no_set_words first.1 >>= λ s.
+    given s.block >>= λ block.
+    given s.value >>= λ value.
+    Ok (Set (record { name = name; block = block; value = value }))
 
 -- a line by its command
 unfoldable pub command_line : List ℕ → List (List ℕ) → Result Line LineFault
@@ -273,6 +328,7 @@ command_line command words =
     else if is_text command (codes "enq") then enq_line words
     else if is_text command (codes "cvt") then cvt_line words
     else if is_text command (codes "deq") then deq_line words
+    else if is_text command (codes "set") then set_line words
     else if is_text command (codes "show") then no_more Show words
     else Err UnknownCommand
 

@@ -4,8 +4,9 @@ use Rattle.std.specs.Option.{option_map}
 use Rattle.vlm_words.specs.declared.scripts.CvtLine.{CvtLine}
 use Rattle.vlm_words.specs.declared.scripts.EnqLine.{EnqLine}
 use Rattle.vlm_words.specs.declared.scripts.DeqLine.{DeqLine}
+use Rattle.vlm_words.specs.declared.scripts.SetLine.{SetLine}
 use Rattle.vlm_words.specs.declared.scripts.Line.{Line}
-use Rattle.vlm_words.specs.declared.scripts.Line.TheVariants.{Empty, Declare, Enq, Cvt, Deq, Show}
+use Rattle.vlm_words.specs.declared.scripts.Line.TheVariants.{Empty, Declare, Enq, Cvt, Deq, Set, Show}
 use Rattle.vlm_words.specs.declared.scripts.LineFault.{LineFault}
 use Rattle.vlm_words.specs.declared.scripts.LineFault.TheVariants.{UnknownName, NameUsed}
 use Rattle.vlm_words.specs.declared.steps.Answer.{Answer}
@@ -14,8 +15,9 @@ use Rattle.vlm_words.specs.declared.steps.Conversion.{Conversion}
 use Rattle.vlm_words.specs.declared.steps.Declaration.{Declaration}
 use Rattle.vlm_words.specs.declared.steps.NewRequest.{NewRequest}
 use Rattle.vlm_words.specs.declared.steps.Dequeue.{Dequeue}
+use Rattle.vlm_words.specs.declared.steps.ValueSetting.{ValueSetting}
 use Rattle.vlm_words.specs.declared.steps.Step.{Step}
-use Rattle.vlm_words.specs.declared.steps.Step.TheVariants.{Declare as declare_step, Enq as enq_step, Convert as convert_step, Deq as deq_step}
+use Rattle.vlm_words.specs.declared.steps.Step.TheVariants.{Declare as declare_step, Enq as enq_step, Convert as convert_step, Deq as deq_step, SetValue as set_step}
 use Rattle.vlm_words.specs.declared.steps.Which.TheVariants.{Id}
 use Rattle.vlm_words.specs.State.{State, start}
 use Rattle.vlm_words.specs.Stepped.{Outcome}
@@ -55,6 +57,7 @@ name_fault names (Declare name declaration) = used_fault (bound_to names name)
 name_fault names (Enq line) = unknown_fault (bound_to names line.name)
 name_fault names (Cvt line) = unknown_fault (bound_to names line.name)
 name_fault names (Deq line) = unknown_fault (bound_to names line.name)
+name_fault names (Set line) = unknown_fault (bound_to names line.name)
 name_fault names Show = None
 
 -- the request that an enq line makes of a process
@@ -87,6 +90,10 @@ conversion_made pid line = record {
 -- the dequeue that a deq line makes of a process
 abbrev pub dequeue_made : ℕ → DeqLine → Dequeue
 dequeue_made pid line = record { pid = pid; lock = line.lock; value = None; flags = line.flags }
+
+-- the value that a set line puts into a status block of a process
+abbrev pub setting_made : ℕ → SetLine → ValueSetting
+setting_made pid line = record { pid = pid; block = line.block; value = line.value }
 
 -- a name is bound where its declaration is accepted
 abbrev pub bound_by : List Binding → List ℕ → Answer → List Binding
@@ -124,6 +131,7 @@ Runs old (Declare name declaration) text new = Declares old name declaration tex
 Runs old (Enq line) text new = Makes old line.name (λ pid. enq_step (request_made pid line)) text new
 Runs old (Cvt line) text new = Makes old line.name (λ pid. convert_step (conversion_made pid line)) text new
 Runs old (Deq line) text new = Makes old line.name (λ pid. deq_step (dequeue_made pid line)) text new
+Runs old (Set line) text new = Makes old line.name (λ pid. set_step (setting_made pid line)) text new
 Runs old Show text new = Prints old (resources_text old.state.resources) text new
 
 -- the fault of a line in a session: of its bytes, or of its name

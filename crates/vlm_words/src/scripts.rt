@@ -38,6 +38,13 @@ pub struct CvtWords {
     pub flags: u16,
 }
 
+/// What the keyed words of a set line have given so far.
+#[derive(Clone, Copy, Debug, PartialEq, Eq)]
+pub struct SetWords {
+    pub block: Option<u8>,
+    pub value: Option<[u8; 16]>,
+}
+
 /// The words of an enq line.
 #[derive(Clone, Copy, Debug, PartialEq, Eq)]
 pub struct EnqLine {
@@ -69,6 +76,14 @@ pub struct DeqLine {
     pub flags: u16,
 }
 
+/// The words of a set line.
+#[derive(Clone, Copy, Debug, PartialEq, Eq)]
+pub struct SetLine {
+    pub name: ProcessName,
+    pub block: u8,
+    pub value: [u8; 16],
+}
+
 /// A line of a script that was read without a fault.
 #[derive(Clone, Copy, Debug, PartialEq, Eq)]
 pub enum Line {
@@ -78,6 +93,7 @@ pub enum Line {
     Enq(EnqLine),
     Cvt(CvtLine),
     Deq(DeqLine),
+    Set(SetLine),
     Show,
 }
 

@@ -1,14 +1,15 @@
 //! The keyed words and flags behind the places of a line.
 
 ghost use Rattle.std.specs.Prelude.{◌≡◌};
-ghost use Rattle.vlm_words.specs.Lines.{number_once, resource_once, declare_word, declare_words, no_declare_words, enq_word, enq_words, no_enq_words, cvt_word, cvt_words, no_cvt_words, deq_words, words_of};
+ghost use Rattle.vlm_words.specs.Lines.{number_once, resource_once, value_once, declare_word, declare_words, no_declare_words, enq_word, enq_words, no_enq_words, cvt_word, cvt_words, no_cvt_words, deq_words, set_word, set_words, no_set_words, words_of};
 
 use super::cuts::next_word;
 use super::flags::{deq_flag, enq_flag, flag_once};
 use super::numbers;
+use super::values::value_of;
 use super::words::{behind_key, is_text};
 use vlm_words::names::NameArg;
-use vlm_words::scripts::{CvtWords, DeclareWords, EnqWords, LineFault};
+use vlm_words::scripts::{CvtWords, DeclareWords, EnqWords, LineFault, SetWords};
 
 /// The keyed words of a declare line, in any order.
 pub(crate) fn declare_words(line: &[u8]) -> Result<DeclareWords, LineFault>
@@ -133,6 +134,38 @@ pub(crate) fn deq_words(line: &[u8]) -> Result<u16, LineFault>
     Ok(flags)
 }
 
+/// The keyed words of a set line, in any order.
+pub(crate) fn set_words(line: &[u8]) -> Result<SetWords, LineFault>
+    ensures { result ≡ set_words no_set_words (words_of line.now) }
+{
+    let mut words = SetWords {
+        block: None,
+        value: None,
+    };
+    let mut rest = line;
+    while let Some((word, after)) = next_word(rest) {
+        words = set_word(words, word)?;
+        rest = after;
+    }
+    Ok(words)
+}
+
+/// One more keyed word of a set line.
+#[tactic(auto, unfolding(vlm_words::specs::Lines::set_word))]
+fn set_word(words: SetWords, word: &[u8]) -> Result<SetWords, LineFault>
+    ensures { result ≡ set_word words word.now }
+{
+    if let Some(digits) = behind_key(b"block=", word) {
+        let block = byte_once(words.block, digits)?;
+        Ok(SetWords { block, ..words })
+    } else if let Some(digits) = behind_key(b"value=", word) {
+        let value = value_once(words.value, digits)?;
+        Ok(SetWords { value, ..words })
+    } else {
+        Err(LineFault::WrongWord)
+    }
+}
+
 /// A number of at most 255, which is given once.
 #[tactic(auto, unfolding(vlm_words::specs::Lines::number_once))]
 fn byte_once(earlier: Option<u8>, digits: &[u8]) -> Result<Option<u8>, LineFault>
@@ -166,4 +199,16 @@ fn resource_once(earlier: Option<NameArg>, name: &[u8]) -> Result<Option<NameArg
         return Err(LineFault::WrongWord);
     }
     Ok(Some(NameArg::of(name)))
+}
+
+/// A value block, which is given once.
+#[tactic(auto, unfolding(vlm_words::specs::Lines::value_once))]
+fn value_once(earlier: Option<[u8; 16]>, digits: &[u8]) -> Result<Option<[u8; 16]>, LineFault>
+    ensures { result ≡ value_once earlier digits.now }
+{
+    if earlier.is_some() {
+        return Err(LineFault::WrongWord);
+    }
+    let value = value_of(digits)?;
+    Ok(Some(value))
 }

@@ -1,14 +1,14 @@
 //! Lines by their commands.
 
 ghost use Rattle.std.specs.Prelude.{◌≡◌, MatchResult};
-ghost use Rattle.vlm_words.specs.Lines.{line_read, line_of, command_line, declare_line, enq_line, cvt_line, deq_line, declaration_of, words_of, next_word, no_more};
+ghost use Rattle.vlm_words.specs.Lines.{line_read, line_of, command_line, declare_line, enq_line, cvt_line, deq_line, set_line, declaration_of, words_of, next_word, no_more};
 
 use super::cuts;
-use super::keyed::{cvt_words, declare_words, deq_words, enq_words};
-use super::numbers::number;
+use super::keyed::{cvt_words, declare_words, deq_words, enq_words, set_words};
+use super::locks::lock;
 use super::words::{behind_key, is_text, mode, process_name};
-use vlm_words::scripts::{CvtLine, DeclareWords, DeqLine, EnqLine, Line, LineFault};
-use vlm_words::steps::{Declaration, Which};
+use vlm_words::scripts::{CvtLine, DeclareWords, DeqLine, EnqLine, Line, LineFault, SetLine};
+use vlm_words::steps::Declaration;
 
 /// The longest line, in bytes.
 const LONGEST: usize = 255;
@@ -51,6 +51,8 @@ fn command_line(command: &[u8], rest: &[u8]) -> Result<Line, LineFault>
         cvt_line(rest)
     } else if is_text(command, b"deq") {
         deq_line(rest)
+    } else if is_text(command, b"set") {
+        set_line(rest)
     } else if is_text(command, b"show") {
         no_more(Line::Show, rest)
     } else {
@@ -117,14 +119,14 @@ fn cvt_line(line: &[u8]) -> Result<Line, LineFault>
     let (first, after_name) = needed_word(line)?;
     let name = process_name(first)?;
     let (second, after_lock) = needed_word(after_name)?;
-    let lkid = number(u32::MAX, second)?;
+    let lock = lock(second)?;
     let (third, rest) = needed_word(after_lock)?;
     let mode = mode(third)?;
     let words = cvt_words(rest)?;
     let block = words.block.ok_or(LineFault::WrongWord)?;
     Ok(Line::Cvt(CvtLine {
         name,
-        lock: Which::Id(lkid),
+        lock,
         mode,
         block,
         flags: words.flags,
@@ -139,13 +141,22 @@ fn deq_line(line: &[u8]) -> Result<Line, LineFault>
     let (first, after_name) = needed_word(line)?;
     let name = process_name(first)?;
     let (second, rest) = needed_word(after_name)?;
-    let lkid = number(u32::MAX, second)?;
+    let lock = lock(second)?;
     let flags = deq_words(rest)?;
-    Ok(Line::Deq(DeqLine {
-        name,
-        lock: Which::Id(lkid),
-        flags,
-    }))
+    Ok(Line::Deq(DeqLine { name, lock, flags }))
+}
+
+/// The words of a set line: NAME block=N value=HEX.
+#[tactic(auto, unfolding(vlm_words::specs::Lines::set_line))]
+fn set_line(line: &[u8]) -> Result<Line, LineFault>
+    ensures { result ≡ set_line (words_of line.now) }
+{
+    let (first, rest) = needed_word(line)?;
+    let name = process_name(first)?;
+    let words = set_words(rest)?;
+    let block = words.block.ok_or(LineFault::WrongWord)?;
+    let value = words.value.ok_or(LineFault::WrongWord)?;
+    Ok(Line::Set(SetLine { name, block, value }))
 }
 
 /// The next word, which the line needs, and the bytes behind it.

@@ -1,0 +1,18 @@
+//! Value blocks in hexadecimal digits.
+
+ghost use Rattle.std.specs.Prelude.{◌≡◌};
+ghost use Rattle.vlm_words.specs.Lines.{value_of};
+
+use hex::FromHex;
+use vlm_words::scripts::LineFault;
+
+/// A value block: exactly 32 hexadecimal digits.
+#[tactic(auto, using(crate::proofs::Hexadecimal::value_read))]
+pub(crate) fn value_of(word: &[u8]) -> Result<[u8; 16], LineFault>
+    ensures { result ≡ value_of word.now }
+{
+    match <[u8; 16] as FromHex>::from_hex(word) {
+        Ok(value) => Ok(value),
+        Err(_) => Err(LineFault::WrongWord),
+    }
+}
