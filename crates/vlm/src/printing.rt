@@ -7,7 +7,6 @@ pub(crate) use locks::{converting_line, granted_line, waiting_line};
 pub(crate) use resources::{no_resources, resource_line};
 
 mod answers;
-mod blocks;
 mod locks;
 mod resources;
 mod texts;

@@ -14,9 +14,7 @@ use std::alloc::Global;
 use std::marker::Model;
 use vlm_core::Core;
 use vlm_words::scripts::{CvtLine, DeqLine, EnqLine, Line, LineFault, ProcessName, SetLine};
-use vlm_words::steps::{
-    Answer, Conversion, Declaration, Dequeue, NewRequest, Step, ValueSetting, Which,
-};
+use vlm_words::steps::{Answer, Conversion, Declaration, Dequeue, NewRequest, ValueSetting, Which};
 
 /// The machine, and the names that are bound to its processes.
 #[derive(Drop)]
@@ -150,7 +148,7 @@ impl Session {
         let Some(pid) = bound_to(&self.names, &line.name) else {
             return Err(Stop::Fault(LineFault::UnknownName));
         };
-        let answer = self.core.step(Step::SetValue(setting_made(pid, &line)));
+        let answer = self.core.set_value(setting_made(pid, &line));
         told(line.name, answer, out)
     }
 }

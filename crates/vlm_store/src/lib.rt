@@ -4,6 +4,7 @@
 //! holds and not what it means: the steps and the rules are those of the crates above.
 #![tactic(auto)]
 
+pub mod laws;
 mod processes;
 mod store;
 
