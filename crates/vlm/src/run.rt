@@ -33,7 +33,9 @@ Commands of a script, one a line:
   enq NAME MODE name=RES block=N [noqueue] [syncsts] [expedite] [quecvt]
   cvt NAME LOCK MODE block=N [noqueue] [syncsts] [expedite] [quecvt]
   deq NAME LOCK [cancel]
+  set NAME block=N value=HEX
   show
+A LOCK is its number, or @N for the lock in status block N.
 
 Example:
   vlm play <<END
