@@ -2,3 +2,4 @@ pub mod Entering
 pub mod Making
 pub mod Places
 pub mod Rows
+pub mod Telling

@@ -1,18 +1,22 @@
 //! What several steps share: checks, which only read and answer the refusal, and the sweep.
 
-ghost use Rattle.std.specs.Prelude.{◌≡◌, ◌<◌, ◌≤◌, ◌^◌, length, IfOk, OnOk};
+ghost use Rattle.std.specs.Prelude.{◌≡◌, ◌<◌, ◌≤◌, ◌^◌, ◌++◌, [], length, Some, IfOk, OnOk, if◌then◌else◌};
 ghost use Rattle.std.specs.Result.{result_err};
 ghost use Rattle.vlm_words.specs.Checks.{block_refusal, caller_refusal, named_lkid, numbers_refusal, request_numbers_refusal, which_refusal};
 ghost use Rattle.vlm_words.specs.Blocks.{blocks_of};
 ghost use Rattle.vlm_words.specs.Dequeue.{lock_refusal};
-ghost use Rattle.vlm_words.specs.Stepped.{swept_state};
+ghost use Rattle.vlm_words.specs.Endings.{ended};
+ghost use Rattle.vlm_words.specs.Endings.How.{by_grant};
+ghost use Rattle.vlm_words.specs.Grants.{swept_grants};
+ghost use Rattle.vlm_words.specs.Stepped.{ended_state};
 
 use crate::machine::Core;
 use crate::nodes::has_departed;
 use crate::tables::{is_held, sweep};
-use vlm_procs::has_block;
+use vlm_procs::{end, has_block};
 use vlm_store::ProcAt;
 use vlm_words::conditions::Cond;
+use vlm_words::locks::Request;
 use vlm_words::steps::Which;
 
 impl Core {
@@ -99,9 +103,22 @@ impl Core {
     }
 
     /// Serves every resource, and drops those without locks.
+    /// Ends a step: every resource is served, and each grant writes its status.
     pub(crate) fn sweep(&mut self)
-        ensures { self.new ≡ swept_state self.old }
+        ensures { self.new ≡ ended_state (swept_grants self.old.resources) self.old }
     {
-        sweep(&mut self.resources);
+        sweep(&mut self.resources, &mut self.store);
+    }
+
+    /// Ends the step of an accepted request: if it was granted at once that writes its status, and then
+    /// every resource is served.
+    #[tactic(auto, using(crate::proofs::Telling::told_append))]
+    pub(crate) fn end_request(&mut self, pid: u32, asked: &Request, at_once: bool)
+        ensures { self.new ≡ ended_state ((if at_once then ended by_grant pid (Some asked.now) else []) ++ swept_grants self.old.resources) self.old }
+    {
+        if at_once {
+            end(&mut self.store, pid, asked.block, Cond::Normal);
+        }
+        self.sweep();
     }
 }

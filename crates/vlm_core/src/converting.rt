@@ -1,9 +1,8 @@
 //! The step that converts a lock to another mode.
 
-ghost use Rattle.std.specs.Prelude.{◌≡◌, ◌<◌, ◌≤◌, ◌^◌, length, Some, IfOk, OnOk};
+ghost use Rattle.std.specs.Prelude.{◌≡◌, ◌<◌, ◌^◌, Some, IfOk, OnOk};
 ghost use Rattle.std.specs.Result.{result_err};
 ghost use Rattle.vlm_words.specs.Convert.{conversion_lkid, conversion_of, convert_argument_refusal, convert_at_once, convert_change, convert_refusal, is_queued_legally_from, place_refusal};
-ghost use Rattle.vlm_words.specs.Blocks.{blocks_of};
 ghost use Rattle.vlm_words.specs.Flags.{flag_bits};
 ghost use Rattle.vlm_words.specs.State.{Resource};
 ghost use Rattle.vlm_words.specs.Stepped.{stepped};
@@ -36,6 +35,7 @@ impl Core {
     /// a status block that is not there, IVLOCKID, CVTUNGRANT where the
     /// lock waits or converts, BADPARAM where QUECVT does not go with the two modes, NOLOCKID, NOTQUEUED
     /// where it must not queue and is not granted at once.
+    #[tactic(auto, unfolding(vlm_words::specs::Convert::convert_endings))]
     pub fn convert(&mut self, conversion: Conversion) -> Answer
         ensures state { self.new ≡ (stepped self.old (Step.Convert conversion)).state }
         ensures answer { result ≡ (stepped self.old (Step.Convert conversion)).answer }
@@ -43,7 +43,7 @@ impl Core {
         match self.check_conversion(&conversion) {
             Ok(admission) => {
                 self.convert_lock(&admission, &conversion);
-                self.sweep();
+                self.end_request(conversion.pid, &admission.asked, admission.at_once);
                 Answer::Lock(
                     acceptance(admission.asked.flags, admission.at_once),
                     admission.lkid,
@@ -58,8 +58,6 @@ impl Core {
     fn check_conversion(&self, conversion: &Conversion) -> Result<Admission, Cond>
         ensures refusal { result_err result ≡ convert_refusal self.now conversion.now }
         ensures caller { IfOk result (λ a. a.caller ≡ conversion.now.pid) }
-        ensures some { OnOk result (0 < conversion.now.block) }
-        ensures there { OnOk result (conversion.now.block ≤ length (blocks_of self.now.processes conversion.now.pid)) }
         ensures lkid { IfOk result (λ a. a.lkid ≡ conversion_lkid self.now conversion.now) }
         ensures asked { IfOk result (λ a. a.asked ≡ conversion_of self.now conversion.now) }
         ensures at_once { IfOk result (λ a. a.at_once ≡ convert_at_once self.now conversion.now) }
@@ -90,8 +88,6 @@ impl Core {
     #[tactic(auto, unfolding(vlm_words::specs::Convert::convert_change))]
     fn convert_lock(&mut self, admission: &Admission, conversion: &Conversion)
         requires caller { admission.now.caller ≡ conversion.now.pid }
-        requires some { 0 < conversion.now.block }
-        requires there { conversion.now.block ≤ length (blocks_of self.old.processes conversion.now.pid) }
         requires lkid { admission.now.lkid ≡ conversion_lkid self.old conversion.now }
         requires asked { admission.now.asked ≡ conversion_of self.old conversion.now }
         requires number { self.old.next_request < 2 ^ 64 }

@@ -1,14 +1,15 @@
 //! The step that gives a lock up, or cancels its request.
 
-ghost use Rattle.std.specs.Prelude.{◌≡◌, IfOk};
+ghost use Rattle.std.specs.Prelude.{◌≡◌, flat_map, map, IfOk};
 ghost use Rattle.std.specs.Result.{result_err};
-ghost use Rattle.vlm_words.specs.Dequeue.{cancel_refusal, deq_argument_refusal, deq_change, deq_refusal, dequeue_lkid};
+ghost use Rattle.vlm_words.specs.Blocks.{told};
+ghost use Rattle.vlm_words.specs.Dequeue.{cancel_refusal, deq_argument_refusal, deq_change, deq_refusal, dequeue_lkid, dequeued, withdrawn};
 ghost use Rattle.vlm_words.specs.Flags.{cancel, has_flag};
 ghost use Rattle.vlm_words.specs.Stepped.{stepped};
 
 use crate::flags::cancels;
 use crate::machine::Core;
-use crate::tables::{dequeue_all, is_granted};
+use crate::tables::{dequeue_all, is_granted, withdraw_all};
 use vlm_words::conditions::Cond;
 use vlm_words::steps::{Answer, Dequeue, Step};
 
@@ -24,19 +25,31 @@ impl Core {
     /// Gives a lock up, or with CANCEL ends its request ($DEQ). It takes no memory. Refused by
     /// DEPARTED, NONEXPR, BADPARAM for an unknown flag or an argument that is not built yet, ACCVIO where
     /// the lock is named by a status block that is not there, IVLOCKID, CANCELGRANT where a granted lock is to be cancelled.
-    #[tactic(auto, unfolding(vlm_words::specs::Dequeue::deq_change))]
+    #[tactic(auto, using(crate::proofs::Telling::told_append), unfolding(vlm_words::specs::Dequeue::deq_change, vlm_words::specs::Dequeue::deq_endings))]
     pub fn deq(&mut self, dequeue: Dequeue) -> Answer
         ensures state { self.new ≡ (stepped self.old (Step.Deq dequeue)).state }
         ensures answer { result ≡ (stepped self.old (Step.Deq dequeue)).answer }
     {
         match self.check_deq(&dequeue) {
             Ok(withdrawal) => {
-                dequeue_all(&mut self.resources, withdrawal.lkid, withdrawal.cancels);
+                self.withdraw(&withdrawal);
                 self.sweep();
                 Answer::Plain(Cond::Normal)
             }
             Err(refusal) => Answer::Plain(refusal),
         }
+    }
+
+    // The lock's requests end, and it is gone from every queue, or only its request is.
+    fn withdraw(&mut self, withdrawal: &Withdrawal)
+        ensures { self.new ≡ record self.old {
+          processes = told (flat_map (withdrawn withdrawal.now.lkid withdrawal.now.cancels) self.old.resources) self.old.processes;
+          resources = map (dequeued withdrawal.now.lkid withdrawal.now.cancels) self.old.resources;
+        } }
+    {
+        let Withdrawal { lkid, cancels } = *withdrawal;
+        withdraw_all(&self.resources, &mut self.store, lkid, cancels);
+        dequeue_all(&mut self.resources, lkid, cancels);
     }
 
     // The checks in their order.

@@ -1,8 +1,7 @@
 //! The step that asks for a new lock.
 
-ghost use Rattle.std.specs.Prelude.{◌≡◌, ◌<◌, ◌≤◌, ◌^◌, length, false, find, unwrap_or, IfOk, OnErr, OnOk};
+ghost use Rattle.std.specs.Prelude.{◌≡◌, ◌<◌, ◌^◌, false, find, unwrap_or, IfOk, OnErr, OnOk};
 ghost use Rattle.std.specs.Result.{result_err};
-ghost use Rattle.vlm_words.specs.Blocks.{blocks_of};
 ghost use Rattle.vlm_words.specs.Checks.{acceptance, queue_refusal};
 ghost use Rattle.vlm_words.specs.Enqueue.{enq_argument_refusal, enq_at_once, enq_change, enq_refusal, expedite_refusal, is_at, is_at_once, is_no_parent, key_of, name_refusal, new_resource, request_of};
 ghost use Rattle.vlm_words.specs.Flags.{flag_bits};
@@ -38,6 +37,7 @@ impl Core {
     /// SYNCSTS. Refused by DEPARTED, NONEXPR, BADPARAM for an unknown flag or an argument that is not
     /// built yet, ACCVIO, IVBUFLEN, UNSUPPORTED for EXPEDITE at a mode other than NL, NOLOCKID,
     /// NOTQUEUED where it must not queue and is not granted at once, INSFMEM.
+    #[tactic(auto, unfolding(vlm_words::specs::Enqueue::enq_endings))]
     pub fn enq(&mut self, request: NewRequest) -> Answer
         ensures { Outcome self.old (Step.Enq request) self.new result }
     {
@@ -47,7 +47,7 @@ impl Core {
         };
         match self.add_lock(&request, &admission) {
             Ok(lkid) => {
-                self.sweep();
+                self.end_request(request.pid, &admission.asked, admission.at_once);
                 Answer::Lock(acceptance(admission.asked.flags, admission.at_once), lkid)
             }
             Err(AllocError) => Answer::Plain(Cond::Insfmem),
@@ -59,8 +59,6 @@ impl Core {
     fn check_enq(&self, request: &NewRequest) -> Result<Admission, Cond>
         ensures refusal { result_err result ≡ enq_refusal self.now request.now }
         ensures caller { IfOk result (λ a. a.caller ≡ request.now.pid) }
-        ensures some { OnOk result (0 < request.now.block) }
-        ensures there { OnOk result (request.now.block ≤ length (blocks_of self.now.processes request.now.pid)) }
         ensures key { IfOk result (λ a. a.key ≡ key_of self.now request.now) }
         ensures asked { IfOk result (λ a. a.asked ≡ request_of self.now request.now) }
         ensures at_once { IfOk result (λ a. a.at_once ≡ enq_at_once self.now request.now) }
@@ -128,8 +126,6 @@ impl Core {
     #[tactic(auto, unfolding(vlm_words::specs::Enqueue::enq_change))]
     fn add_lock(&mut self, request: &NewRequest, admission: &Admission) -> Result<u32, AllocError>
         requires caller { admission.now.caller ≡ request.now.pid }
-        requires some { 0 < request.now.block }
-        requires there { request.now.block ≤ length (blocks_of self.old.processes request.now.pid) }
         requires key { admission.now.key ≡ key_of self.old request.now }
         requires asked { admission.now.asked ≡ request_of self.old request.now }
         requires lkid { self.old.next_lkid < 2 ^ 32 }

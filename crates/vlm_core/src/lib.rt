@@ -9,6 +9,7 @@ mod checks;
 mod converting;
 mod declaring;
 mod dequeuing;
+mod ending;
 mod enqueuing;
 mod flags;
 mod grants;

@@ -4,16 +4,19 @@ ghost use Rattle.std.specs.Prelude.{◌≡◌, ◌≤◌, ◌+◌, ◌++◌, len
 ghost use Rattle.std.specs.List.{list_any};
 ghost use Rattle.std.specs.Option.{option_map};
 ghost use Rattle.vlm_core.specs.Views.{resource_view, row_view, rows_in};
-ghost use Rattle.vlm_words.specs.Dequeue.{cancelled, dequeued, holds_lock, is_lock_of, rows_of, rows_without, settled_row, without};
+ghost use Rattle.vlm_words.specs.Blocks.{told};
+ghost use Rattle.vlm_words.specs.Dequeue.{cancelled, dequeued, holds_lock, is_lock_of, rows_of, rows_without, settled_row, withdrawn, without};
 ghost use Rattle.vlm_words.specs.Enqueue.{entered, is_at, is_at_once, is_domain, is_free_for, new_resource};
 ghost use Rattle.vlm_words.specs.Convert.{converted, converts_at_once, wanting_row};
-ghost use Rattle.vlm_words.specs.Grants.{is_empty, is_vacant, serve_converting, serve_waiting, served};
+ghost use Rattle.vlm_words.specs.Grants.{converting_grants, grants_of, is_empty, is_vacant, serve_converting, serve_waiting, served, waiting_grants};
 
+use crate::ending::{end_by_grant, end_in_queue};
 use crate::flags::has_flag;
 use crate::grants::{fits, fits_without, granted_row, wanted_fits};
 use crate::views::{ResourceView, RowView, row_view};
 use std::alloc::{AllocError, Global};
 use std::marker::Model;
+use vlm_store::Store;
 use vlm_words::flags::EnqFlags;
 use vlm_words::locks::{Request, Row};
 use vlm_words::names::Name;
@@ -87,9 +90,11 @@ impl Resource {
         self.granted.is_empty() && self.converting.is_empty() && self.waiting.is_empty()
     }
 
-    // Grants conversions from the front of their queue while they fit.
-    fn serve_converting(&mut self)
-        ensures { self.new ≡ serve_converting self.old self.old.converting }
+    // Grants conversions from the front of their queue while they fit. Each grant writes its status.
+    #[tactic(auto, using(crate::proofs::Telling::told_append))]
+    fn serve_converting(&mut self, store: &mut Store)
+        ensures resource { self.new ≡ serve_converting self.old self.old.converting }
+        ensures statuses { store.new ≡ record store.old { processes = told (converting_grants self.old self.old.converting) store.old.processes } }
     {
         while let Some(row) = self.converting.first().copied() {
             if !wanted_fits(row.want, &self.granted, &self.converting[1..]) {
@@ -97,12 +102,15 @@ impl Resource {
             }
             self.converting.remove(0);
             self.granted.push_reserved(granted_row(row));
+            end_by_grant(store, &row);
         }
     }
 
-    // Grants new requests from the front of their queue while they fit.
-    fn serve_waiting(&mut self)
-        ensures { self.new ≡ serve_waiting self.old self.old.waiting }
+    // Grants new requests from the front of their queue while they fit. Each grant writes its status.
+    #[tactic(auto, using(crate::proofs::Telling::told_append))]
+    fn serve_waiting(&mut self, store: &mut Store)
+        ensures resource { self.new ≡ serve_waiting self.old self.old.waiting }
+        ensures statuses { store.new ≡ record store.old { processes = told (waiting_grants self.old self.old.waiting) store.old.processes } }
     {
         while let Some(row) = self.waiting.first().copied() {
             if !wanted_fits(row.want, &self.granted, &self.converting) {
@@ -110,18 +118,20 @@ impl Resource {
             }
             self.waiting.remove(0);
             self.granted.push_reserved(granted_row(row));
+            end_by_grant(store, &row);
         }
     }
 
     /// Grants what can be granted: conversions first, then new requests, each queue up to the first
-    /// that does not fit.
-    #[tactic(auto, unfolding(vlm_words::specs::Grants::served))]
-    pub(crate) fn serve(&mut self)
-        ensures { self.new ≡ served self.old }
+    /// that does not fit. Each grant writes its status.
+    #[tactic(auto, using(crate::proofs::Telling::told_append), unfolding(vlm_words::specs::Grants::served, vlm_words::specs::Grants::grants_of))]
+    pub(crate) fn serve(&mut self, store: &mut Store)
+        ensures resource { self.new ≡ served self.old }
+        ensures statuses { store.new ≡ record store.old { processes = told (grants_of self.old) store.old.processes } }
     {
-        self.serve_converting();
+        self.serve_converting(store);
         if self.converting.is_empty() {
-            self.serve_waiting();
+            self.serve_waiting(store);
         }
     }
 
@@ -265,6 +275,15 @@ impl Resource {
         } else {
             self.converting.push_reserved(row);
         }
+    }
+
+    /// The requests of a lock that its dequeue ends write their statuses.
+    #[tactic(auto, using(crate::proofs::Telling::told_append))]
+    pub(crate) fn withdraw(&self, store: &mut Store, lkid: u32, cancels: bool)
+        ensures { store.new ≡ record store.old { processes = told (withdrawn lkid cancels self.now) store.old.processes } }
+    {
+        end_in_queue(store, &self.converting, lkid, cancels);
+        end_in_queue(store, &self.waiting, lkid, false);
     }
 
     /// Removes a lock from every queue, or only its queued request.

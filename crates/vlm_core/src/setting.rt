@@ -1,8 +1,7 @@
 //! The step that writes the value part of a status block.
 
-ghost use Rattle.std.specs.Prelude.{◌≡◌, ◌<◌, ◌≤◌, length, IfOk, OnOk};
+ghost use Rattle.std.specs.Prelude.{◌≡◌, IfOk};
 ghost use Rattle.std.specs.Result.{result_err};
-ghost use Rattle.vlm_words.specs.Blocks.{blocks_of};
 ghost use Rattle.vlm_words.specs.SetValue.{set_refusal};
 ghost use Rattle.vlm_words.specs.Stepped.{stepped};
 
@@ -34,8 +33,6 @@ impl Core {
     fn check_setting(&self, setting: &ValueSetting) -> Result<ProcAt, Cond>
         ensures refusal { result_err result ≡ set_refusal self.now setting.now }
         ensures caller { IfOk result (λ at. at ≡ setting.now.pid) }
-        ensures some { OnOk result (0 < setting.now.block) }
-        ensures there { OnOk result (setting.now.block ≤ length (blocks_of self.now.processes setting.now.pid)) }
     {
         let caller = self.caller(setting.pid)?;
         self.check_block(caller, setting.block)?;

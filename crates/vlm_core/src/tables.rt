@@ -1,14 +1,16 @@
 //! All resources together, by rising serial.
 
-ghost use Rattle.std.specs.Prelude.{◌≡◌, ℕ, not, map, filter, find, unwrap_or, IfOk, OnOk, OnErr, MatchOption, option_copied};
+ghost use Rattle.std.specs.Prelude.{◌≡◌, ℕ, not, map, filter, flat_map, find, unwrap_or, IfOk, OnOk, OnErr, MatchOption, option_copied};
 ghost use Rattle.std.specs.List.{list_any, position};
+ghost use Rattle.vlm_words.specs.Blocks.{told};
 ghost use Rattle.vlm_words.specs.Convert.{converted, granted_place};
-ghost use Rattle.vlm_words.specs.Dequeue.{dequeued, holds_lock, is_granted};
+ghost use Rattle.vlm_words.specs.Dequeue.{dequeued, holds_lock, is_granted, withdrawn};
 ghost use Rattle.vlm_words.specs.Enqueue.{entered_among, is_at, is_at_once, is_known, new_resource};
-ghost use Rattle.vlm_words.specs.Grants.{is_vacant, served, swept};
+ghost use Rattle.vlm_words.specs.Grants.{is_vacant, served, swept, swept_grants};
 
 use crate::resources::{Key, Resource};
 use std::alloc::AllocError;
+use vlm_store::Store;
 use vlm_words::locks::{Request, Row};
 
 // The place of the resource under the key, if it is there.
@@ -64,20 +66,23 @@ pub(crate) fn enters_at_once(resources: &[Resource], key: &Key, request: &Reques
     }
 }
 
-/// Serves every resource, and drops those without locks.
+/// Serves every resource, and drops those without locks. Each grant writes its status.
 #[tactic(auto, unfolding(vlm_words::specs::Grants::swept))]
-pub(crate) fn sweep(resources: &mut Vec<Resource>)
-    ensures { resources.new.items ≡ swept resources.old.items }
+pub(crate) fn sweep(resources: &mut Vec<Resource>, store: &mut Store)
+    ensures resources { resources.new.items ≡ swept resources.old.items }
+    ensures statuses { store.new ≡ record store.old { processes = told (swept_grants resources.old.items) store.old.processes } }
 {
-    serve_all(resources);
+    serve_all(resources, store);
     drop_vacant(resources);
 }
 
-fn serve_all(resources: &mut Vec<Resource>)
-    ensures { resources.new.items ≡ map served resources.old.items }
+#[tactic(auto, unfolding(vlm_words::specs::Grants::swept_grants))]
+fn serve_all(resources: &mut Vec<Resource>, store: &mut Store)
+    ensures resources { resources.new.items ≡ map served resources.old.items }
+    ensures statuses { store.new ≡ record store.old { processes = told (swept_grants resources.old.items) store.old.processes } }
 {
     for resource in resources.iter_mut() {
-        resource.serve();
+        resource.serve(store);
     }
 }
 
@@ -112,6 +117,17 @@ pub(crate) fn granted_place(resources: &[Resource], pid: u32, lkid: u32) -> Opti
         }
     }
     None
+}
+
+/// The requests of a lock that its dequeue ends write their statuses.
+pub(crate) fn withdraw_all(resources: &[Resource], store: &mut Store, lkid: u32, cancels: bool)
+    ensures { store.new ≡ record store.old {
+      processes = told (flat_map (withdrawn lkid cancels) resources.now) store.old.processes;
+    } }
+{
+    for resource in resources {
+        resource.withdraw(store, lkid, cancels);
+    }
 }
 
 /// Removes a lock from every queue, or only its queued request.

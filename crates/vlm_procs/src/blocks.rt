@@ -1,10 +1,11 @@
 //! What is written to status blocks and read from them.
 
-ghost use Rattle.std.specs.Prelude.{◌≡◌, ◌<◌, ◌≤◌, ◌&&◌, length, nat_le, nat_lt};
-ghost use Rattle.vlm_words.specs.Blocks.{accepted_in, block_found, blocks_of, valued_in};
+ghost use Rattle.std.specs.Prelude.{◌≡◌, ◌&&◌, length, nat_le, nat_lt};
+ghost use Rattle.vlm_words.specs.Blocks.{accepted_in, block_found, block_of, blocks_of, ended_in, valued_in};
 
 use vlm_store::{ProcAt, Store};
 use vlm_words::blocks::Block;
+use vlm_words::conditions::Cond;
 
 /// Whether the process has a status block of this number, from 1.
 pub fn has_block(store: &Store, at: ProcAt, number: u8) -> bool
@@ -24,15 +25,23 @@ pub fn block(store: &Store, at: ProcAt, number: u8) -> Option<Block>
     store.blocks(at).get(usize::from(number) - 1).copied()
 }
 
+// The status block of this number, or a new one where it is not there. Number 0 is taken for 1.
+fn block_or_new(store: &Store, at: ProcAt, number: u8) -> Block
+    ensures { result ≡ block_of store.now.processes at number }
+{
+    match store.blocks(at).get(usize::from(number).saturating_sub(1)) {
+        Some(block) => *block,
+        None => Block::new(),
+    }
+}
+
 /// A request for the lock was accepted with this status block: it is pending, and the block has the
 /// lock's identification and keeps its value part.
 #[tactic(auto, unfolding(vlm_words::specs::Blocks::accepted_in))]
 pub fn accept(store: &mut Store, at: ProcAt, number: u8, lkid: u32)
-    requires some { 0 < number }
-    requires there { number ≤ length (blocks_of store.old.processes at) }
     ensures { store.new ≡ record store.old { processes = accepted_in at number lkid store.old.processes } }
 {
-    let old = store.blocks(at)[usize::from(number) - 1];
+    let old = block_or_new(store, at, number);
     let pending = Block {
         status: 0,
         lkid,
@@ -44,10 +53,25 @@ pub fn accept(store: &mut Store, at: ProcAt, number: u8, lkid: u32)
 /// Writes the value part of the status block, and nothing else.
 #[tactic(auto, unfolding(vlm_words::specs::Blocks::valued_in))]
 pub fn set_value(store: &mut Store, at: ProcAt, number: u8, value: [u8; 16])
-    requires some { 0 < number }
-    requires there { number ≤ length (blocks_of store.old.processes at) }
     ensures { store.new ≡ record store.old { processes = valued_in at number value store.old.processes } }
 {
-    let old = store.blocks(at)[usize::from(number) - 1];
+    let old = block_or_new(store, at, number);
     store.set_block(at, number, Block { value, ..old });
+}
+
+/// A request of the process has ended: its status block gets the number of the condition, and keeps its
+/// lock and its value part.
+#[tactic(auto, using(crate::proofs::Absent::absent_unchanged), unfolding(vlm_words::specs::Blocks::ended_in))]
+pub fn end(store: &mut Store, pid: u32, number: u8, cond: Cond)
+    ensures { store.new ≡ record store.old { processes = ended_in pid number cond store.old.processes } }
+{
+    let Some(at) = store.process(pid) else {
+        return;
+    };
+    let old = block_or_new(store, at, number);
+    let ended = Block {
+        status: cond.number(),
+        ..old
+    };
+    store.set_block(at, number, ended);
 }

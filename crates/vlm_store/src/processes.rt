@@ -75,16 +75,15 @@ impl Process {
     }
 
     /// Puts a status block in the place of the one with this number, if the process has this
-    /// identification and the block is there.
+    /// identification and the block is there. Number 0 is taken for 1.
     #[tactic(auto, unfolding(vlm_words::specs::Blocks::block_put))]
     pub(crate) fn put_block(&mut self, pid: u32, number: u8, block: Block)
-        requires some { 0 < number }
         ensures { self.new ≡ block_put pid number block self.old }
     {
         if self.pid != pid {
             return;
         }
-        if let Some(place) = self.blocks.get_mut(usize::from(number) - 1) {
+        if let Some(place) = self.blocks.get_mut(usize::from(number).saturating_sub(1)) {
             *place = block;
         }
     }

@@ -102,9 +102,9 @@ impl Store {
         }
     }
 
-    /// Puts a status block of a process in the place of the one with this number, if it is there.
+    /// Puts a status block of a process in the place of the one with this number, if it is there. Number
+    /// 0 is taken for 1.
     pub fn set_block(&mut self, at: ProcAt, number: u8, block: Block)
-        requires some { 0 < number }
         ensures { self.new ≡ record self.old { processes = set_block at number block self.old.processes } }
     {
         for process in self.processes.iter_mut() {

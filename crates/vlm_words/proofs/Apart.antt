@@ -42,7 +42,7 @@ pub record Apart (s : State) : Type 0 where
 
 -- a grant keeps the identification, and its ending does not count here
 stands_kept : (lkid : ℕ) → GrantKeeps (stands lkid) (λ ending. 0)
-stands_kept lkid row = omega (arith, sum_of_zero (ended by_grant row.want))
+stands_kept lkid row = omega (arith, sum_of_zero (ended by_grant row.pid row.want))
 
 -- a sweep keeps the rows of each lock
 swept_stands : (lkid : ℕ) (resources : List Resource) → standing lkid (swept resources) ≡ standing lkid resources
@@ -74,7 +74,7 @@ entered_stands s e lkid =
       arith,
       swept_stands lkid (enq_change s e).resources,
       entered_among_weighs (stands lkid) (λ ending. 0) (stands_kept lkid) s.next_serial (key_of s e) (row_of s e) (request_of s e) refl s.resources,
-      sum_of_zero {X = Ending} (cond (enq_at_once s e) (ended by_grant (Some (request_of s e))) []),
+      sum_of_zero {X = Ending} (cond (enq_at_once s e) (ended by_grant e.pid (Some (request_of s e))) []),
     )
 
 -- a conversion gives no lock a row, whichever row is found

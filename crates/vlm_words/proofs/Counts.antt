@@ -33,25 +33,26 @@ abbrev pub ends : ℕ → Ending → ℕ
 ends number ending = cond (ending.number == number) 1 0
 
 -- a request that ends has one ending
-pub ended_counts : (number : ℕ) (how : How) (want : Option Request) → times_ended number (ended how want) ≡ hits number want
-ended_counts number how None = refl
-ended_counts number how (Some request) = sum_of_one (ends number) (record { number = request.number; how = how })
+pub ended_counts : (number : ℕ) (how : How) (pid : ℕ) (want : Option Request) → times_ended number (ended how pid want) ≡ hits number want
+ended_counts number how pid None = refl
+ended_counts number how pid (Some request) =
+    sum_of_one (ends number) (record { number = request.number; how = how; pid = pid; block = request.block })
 
 -- a grant keeps what is wanted and what has ended together
 pub wants_kept : (number : ℕ) → GrantKeeps (wants number) (ends number)
-wants_kept number row = omega (arith, ended_counts number by_grant row.want)
+wants_kept number row = omega (arith, ended_counts number by_grant row.pid row.want)
 
 -- the requests of some rows end, each once
 rows_end : (number : ℕ) (how : How) (rows : List Row)
-    → times_ended number (flat_map (λ row. ended how row.want) rows) ≡ sum_by (wants number) rows
+    → times_ended number (flat_map (λ row. ended how row.pid row.want) rows) ≡ sum_by (wants number) rows
 rows_end number how [] = refl
 rows_end number how (row ∷ rows) =
     omega (
       arith,
       rows_end number how rows,
-      ended_counts number how row.want,
+      ended_counts number how row.pid row.want,
       sum_by-cons (wants number) row rows,
-      sum_by-append (ends number) (ended how row.want) (flat_map (λ other. ended how other.want) rows),
+      sum_by-append (ends number) (ended how row.pid row.want) (flat_map (λ other. ended how other.pid other.want) rows),
     )
 
 -- the rows that go from a queue end their requests
@@ -134,11 +135,11 @@ found_stands pid lkid rows row at =
     omega (arith, found-le-sum (stands lkid) (is_lock_of pid lkid) rows row at)
 
 -- a conversion is wanted or ends, and nothing else does
-pub converted_row_counts : (number : ℕ) (request : Request) (lkid : ℕ) (r : Resource) (row : Row) → Fit r
+pub converted_row_counts : (number : ℕ) (request : Request) (pid lkid : ℕ) (r : Resource) (row : Row) → Fit r
     → wanting_on number (converted_row request lkid r (Some row))
-    + times_ended number (cond (converts_at_once request lkid r) (ended by_grant (Some request)) [])
+    + times_ended number (cond (converts_at_once request lkid r) (ended by_grant pid (Some request)) [])
     ≡ wanting_on number r + hits number (Some request)
-converted_row_counts number request lkid r row fit =
+converted_row_counts number request pid lkid r row fit =
     let before : sum_by (wants number) r.granted ≡ 0 = settled_want_nothing number r.granted fit.granted in
     let after : sum_by (wants number) (rows_without lkid r.granted) ≡ 0 =
     settled_want_nothing number (rows_without lkid r.granted) (each_filter IsSettled _ r.granted fit.granted) in
@@ -146,12 +147,12 @@ converted_row_counts number request lkid r row fit =
     wanting_on number
     (cond b (grant (ungranted lkid r) (wanting_row row request))
     (record (ungranted lkid r) { converting = r.converting ++ wanting_row row request ∷ [] }))
-    + times_ended number (cond b (ended by_grant (Some request)) []) ≡ wanting_on number r + hits number (Some request)) [
+    + times_ended number (cond b (ended by_grant pid (Some request)) []) ≡ wanting_on number r + hits number (Some request)) [
       | true ↦ omega (
         arith,
         before,
         after,
-        ended_counts number by_grant (Some request),
+        ended_counts number by_grant pid (Some request),
         sum_by_push (wants number) (rows_without lkid r.granted) (granted_row (wanting_row row request)),
       )
       | false ↦ omega (arith, before, after, sum_by_push (wants number) r.converting (wanting_row row request))

@@ -19,7 +19,7 @@ use Rattle.vlm_words.specs.Declare.{declare_change}
 use Rattle.vlm_words.specs.Enqueue.{enq_change, enq_endings, enq_at_once, found_by, row_of, request_of, key_of}
 use Rattle.vlm_words.specs.Convert.{Place, place_or, granted_place, converts_at, converted_row, converted, conversion_of, convert_refusal, convert_at_once, convert_change, convert_endings, conversion_lkid}
 use Rattle.vlm_words.specs.Dequeue.{is_lock_of, dequeue_lkid, deq_change, deq_endings}
-use Rattle.vlm_words.specs.Stepped.{swept_state}
+use Rattle.vlm_words.specs.Stepped.{ended_state}
 use Rattle.vlm_words.specs.SetValue.{set_change}
 use Rattle.vlm_words.specs.Runs.{Run}
 use Rattle.vlm_words.specs.Laws.{wanting_on, wanting, times_ended, EachRequestEndsOnce}
@@ -51,25 +51,25 @@ absent_unchanged request pid lkid (r ∷ rest) absent =
     cc
 
 -- the ending of a conversion that is granted at once
-abbrev pub own_ending : Request → ℕ → Option Place → List Ending
-own_ending request lkid place = cond (converts_at request lkid place) (ended by_grant (Some request)) []
+abbrev pub own_ending : Request → ℕ → ℕ → Option Place → List Ending
+own_ending request pid lkid place = cond (converts_at request lkid place) (ended by_grant pid (Some request)) []
 
 -- where a lock has one row, its conversion is counted once: on its resource, or on those behind it
 here_or_behind : (number : ℕ) (request : Request) (pid lkid : ℕ) (r : Resource) (rest : List Resource) (place : Place) (found : Option Row)
     → find (is_lock_of pid lkid) r.granted ≡ found → Fit r → standing lkid (r ∷ rest) ≤ 1
     → (granted_place pid lkid rest ≡ Some place
-    → sum_by (wanting_on number) (map (converted request pid lkid) rest) + times_ended number (own_ending request lkid (Some place))
+    → sum_by (wanting_on number) (map (converted request pid lkid) rest) + times_ended number (own_ending request pid lkid (Some place))
     ≡ sum_by (wanting_on number) rest + hits number (Some request))
     → place_or r found (granted_place pid lkid rest) ≡ Some place
     → wanting_on number (converted_row request lkid r found) + sum_by (wanting_on number) (map (converted request pid lkid) rest)
-    + times_ended number (own_ending request lkid (Some place))
+    + times_ended number (own_ending request pid lkid (Some place))
     ≡ wanting_on number r + sum_by (wanting_on number) rest + hits number (Some request)
 here_or_behind number request pid lkid r rest place None is fit one behind at = omega (arith, behind at)
 here_or_behind number request pid lkid r rest place (Some row) is fit one behind at =
     let same : Some (record { resource = r; row = row }) ≡ Some place = at in
-    let own : times_ended number (own_ending request lkid (Some (record { resource = r; row = row })))
-    ≡ times_ended number (own_ending request lkid (Some place)) =
-    ap (λ p. times_ended number (own_ending request lkid p)) same in
+    let own : times_ended number (own_ending request pid lkid (Some (record { resource = r; row = row })))
+    ≡ times_ended number (own_ending request pid lkid (Some place)) =
+    ap (λ p. times_ended number (own_ending request pid lkid p)) same in
     let absent : standing lkid rest ≡ 0 =
     omega (
       arith,
@@ -78,7 +78,7 @@ here_or_behind number request pid lkid r rest place (Some row) is fit one behind
     ) in
     omega (
       arith,
-      converted_row_counts number request lkid r row fit,
+      converted_row_counts number request pid lkid r row fit,
       own,
       ap (sum_by (wanting_on number)) (absent_unchanged request pid lkid rest absent),
     )
@@ -86,7 +86,7 @@ here_or_behind number request pid lkid r rest place (Some row) is fit one behind
 -- where a lock has one row, its conversion is counted once
 all_converted_count : (number : ℕ) (request : Request) (pid lkid : ℕ) (place : Place) (resources : List Resource)
     → AllByRecursion Fit resources → standing lkid resources ≤ 1 → granted_place pid lkid resources ≡ Some place
-    → sum_by (wanting_on number) (map (converted request pid lkid) resources) + times_ended number (own_ending request lkid (Some place))
+    → sum_by (wanting_on number) (map (converted request pid lkid) resources) + times_ended number (own_ending request pid lkid (Some place))
     ≡ sum_by (wanting_on number) resources + hits number (Some request)
 unfolding converted
 all_converted_count number request pid lkid place [] fit one at = cc
@@ -103,7 +103,7 @@ all_converted_count number request pid lkid place (r ∷ rest) fit one at =
 
 -- a new request is wanted or ends, and what the sweep grants ends
 enqueued_counts : (number : ℕ) (s : State) (e : NewRequest)
-    → wanting number (swept_state (enq_change s e)) + times_ended number (enq_endings s e)
+    → wanting number (ended_state (enq_endings s e) (enq_change s e)) + times_ended number (enq_endings s e)
     ≡ wanting number s + cond (s.next_request == number) 1 0
 unfolding enq_change enq_endings found_by
 enqueued_counts number s e =
@@ -111,12 +111,12 @@ enqueued_counts number s e =
       arith,
       swept_weighs (wants number) (ends number) (wants_kept number) (enq_change s e).resources,
       entered_among_weighs (wants number) (ends number) (wants_kept number) s.next_serial (key_of s e) (row_of s e) (request_of s e) refl s.resources,
-      sum_by-append (ends number) (cond (enq_at_once s e) (ended by_grant (Some (request_of s e))) []) (swept_grants (enq_change s e).resources),
+      sum_by-append (ends number) (cond (enq_at_once s e) (ended by_grant e.pid (Some (request_of s e))) []) (swept_grants (enq_change s e).resources),
     )
 
 -- a conversion is wanted or ends, and what the sweep grants ends
 converted_counts : (number : ℕ) (s : State) (c : Conversion) → convert_refusal s c ≡ None → AllByRecursion Fit s.resources → Apart s
-    → wanting number (swept_state (convert_change s c)) + times_ended number (convert_endings s c)
+    → wanting number (ended_state (convert_endings s c) (convert_change s c)) + times_ended number (convert_endings s c)
     ≡ wanting number s + cond (s.next_request == number) 1 0
 unfolding convert_change convert_endings convert_at_once
 converted_counts number s c passed fit apart =
@@ -127,8 +127,8 @@ converted_counts number s c passed fit apart =
       arith,
       swept_weighs (wants number) (ends number) (wants_kept number) (convert_change s c).resources,
       all_converted_count number request c.pid lkid place.0 s.resources fit (apart.one_row lkid) place.1,
-      ap (λ p. times_ended number (own_ending request lkid p)) place.1,
-      sum_by-append (ends number) (own_ending request lkid (granted_place c.pid lkid s.resources)) (swept_grants (convert_change s c).resources),
+      ap (λ p. times_ended number (own_ending request c.pid lkid p)) place.1,
+      sum_by-append (ends number) (own_ending request c.pid lkid (granted_place c.pid lkid s.resources)) (swept_grants (convert_change s c).resources),
     )
 
 -- each accepted request is counted once, and those to come are not
@@ -167,12 +167,12 @@ counted_always =
     let apart : Apart s = apart_always steps answers endings s run in
     kept_by_stepped CountedOnce endings s counted
     (λ d _. same_counts endings [] s (declare_change s d) counted refl (λ number. omega arith))
-    (λ e _. one_more_counts endings (enq_endings s e) s (swept_state (enq_change s e)) counted refl (λ number. enqueued_counts number s e))
+    (λ e _. one_more_counts endings (enq_endings s e) s (ended_state (enq_endings s e) (enq_change s e)) counted refl (λ number. enqueued_counts number s e))
     (λ c passed.
-    one_more_counts endings (convert_endings s c) s (swept_state (convert_change s c)) counted refl
+    one_more_counts endings (convert_endings s c) s (ended_state (convert_endings s c) (convert_change s c)) counted refl
     (λ number. converted_counts number s c passed fit apart))
     (λ d _.
-    same_counts endings (deq_endings s d) s (swept_state (deq_change s d)) counted refl
+    same_counts endings (deq_endings s d) s (ended_state (deq_endings s d) (deq_change s d)) counted refl
     (λ number. all_dequeued_count number (dequeue_lkid s d) (has_flag d.flags cancel) s.resources fit))
     (λ v _. same_counts endings [] s (set_change s v) counted refl (λ number. omega arith)))
 

@@ -29,12 +29,12 @@ serves_none rows before left is = record { served_rows = 0; rest = is; granted =
 
 -- the first row is granted, and then more
 serves_one_more : (row : Row) (rows before after left : List Row) (endings : List Ending)
-    → Serves rows (before ++ granted_row row ∷ []) after left endings → Serves (row ∷ rows) before after left (ended by_grant row.want ++ endings)
+    → Serves rows (before ++ granted_row row ∷ []) after left endings → Serves (row ∷ rows) before after left (ended by_grant row.pid row.want ++ endings)
 serves_one_more row rows before after left endings more = record {
   served_rows = suc more.served_rows;
   rest = more.rest;
   granted = more.granted ∙ append_assoc before (granted_row row ∷ []) (map granted_row (take more.served_rows rows));
-  ended_rows = ap (λ (es : List Ending). ended by_grant row.want ++ es) more.ended_rows;
+  ended_rows = ap (λ (es : List Ending). ended by_grant row.pid row.want ++ es) more.ended_rows;
 }
 
 -- conversions are granted from the head of their queue
@@ -44,12 +44,12 @@ serve_converting_serves r [] is = serves_none [] r.granted r.converting is
 serve_converting_serves r (row ∷ rows) is =
     let more : Resource = record (grant r row) { converting = rows } in
     let fitting : Serves (row ∷ rows) r.granted (serve_converting more rows).granted (serve_converting more rows).converting
-    (ended by_grant row.want ++ converting_grants more rows) =
+    (ended by_grant row.pid row.want ++ converting_grants more rows) =
     serves_one_more row rows r.granted (serve_converting more rows).granted (serve_converting more rows).converting (converting_grants more rows)
     (serve_converting_serves more rows refl) in
     elim (wanted_fits row.want r.granted rows) as (λ b.
     Serves (row ∷ rows) r.granted (cond b (serve_converting more rows) r).granted (cond b (serve_converting more rows) r).converting
-    (cond b (ended by_grant row.want ++ converting_grants more rows) [])) [
+    (cond b (ended by_grant row.pid row.want ++ converting_grants more rows) [])) [
       | true ↦ fitting
       | false ↦ serves_none (row ∷ rows) r.granted r.converting is
     ]
@@ -61,12 +61,12 @@ serve_waiting_serves r [] is = serves_none [] r.granted r.waiting is
 serve_waiting_serves r (row ∷ rows) is =
     let more : Resource = record (grant r row) { waiting = rows } in
     let fitting : Serves (row ∷ rows) r.granted (serve_waiting more rows).granted (serve_waiting more rows).waiting
-    (ended by_grant row.want ++ waiting_grants more rows) =
+    (ended by_grant row.pid row.want ++ waiting_grants more rows) =
     serves_one_more row rows r.granted (serve_waiting more rows).granted (serve_waiting more rows).waiting (waiting_grants more rows)
     (serve_waiting_serves more rows refl) in
     elim (wanted_fits row.want r.granted r.converting) as (λ b.
     Serves (row ∷ rows) r.granted (cond b (serve_waiting more rows) r).granted (cond b (serve_waiting more rows) r).waiting
-    (cond b (ended by_grant row.want ++ waiting_grants more rows) [])) [
+    (cond b (ended by_grant row.pid row.want ++ waiting_grants more rows) [])) [
       | true ↦ fitting
       | false ↦ serves_none (row ∷ rows) r.granted r.waiting is
     ]

@@ -20,7 +20,7 @@ weigh f r = sum_by f r.granted + sum_by f r.converting + sum_by f r.waiting
 
 -- a row that is granted weighs as much as it did, with the ending that its grant brings
 abbrev pub GrantKeeps : (Row → ℕ) → (Ending → ℕ) → Type 0
-GrantKeeps f g = (row : Row) → f (granted_row row) + sum_by g (ended by_grant row.want) ≡ f row
+GrantKeeps f g = (row : Row) → f (granted_row row) + sum_by g (ended by_grant row.pid row.want) ≡ f row
 
 -- serving the conversions keeps the weight
 serve_converting_weighs : (f : Row → ℕ) (g : Ending → ℕ) → GrantKeeps f g → (r : Resource) (rows : List Row) → r.converting ≡ rows
@@ -31,12 +31,12 @@ serve_converting_weighs f g keeps r (row ∷ rows) is =
     let after : weigh f (serve_converting more rows) + sum_by g (converting_grants more rows) ≡ weigh f more =
     serve_converting_weighs f g keeps more rows refl in
     elim (wanted_fits row.want r.granted rows) as (λ b.
-    weigh f (cond b (serve_converting more rows) r) + sum_by g (cond b (ended by_grant row.want ++ converting_grants more rows) []) ≡ weigh f r) [
+    weigh f (cond b (serve_converting more rows) r) + sum_by g (cond b (ended by_grant row.pid row.want ++ converting_grants more rows) []) ≡ weigh f r) [
       | true ↦ omega (
         arith,
         after,
         keeps row,
-        sum_by-append g (ended by_grant row.want) (converting_grants more rows),
+        sum_by-append g (ended by_grant row.pid row.want) (converting_grants more rows),
         sum_by_push f r.granted (granted_row row),
         sum_by-cons f row rows,
         ap (sum_by f) is,
@@ -53,12 +53,12 @@ serve_waiting_weighs f g keeps r (row ∷ rows) is =
     let after : weigh f (serve_waiting more rows) + sum_by g (waiting_grants more rows) ≡ weigh f more =
     serve_waiting_weighs f g keeps more rows refl in
     elim (wanted_fits row.want r.granted r.converting) as (λ b.
-    weigh f (cond b (serve_waiting more rows) r) + sum_by g (cond b (ended by_grant row.want ++ waiting_grants more rows) []) ≡ weigh f r) [
+    weigh f (cond b (serve_waiting more rows) r) + sum_by g (cond b (ended by_grant row.pid row.want ++ waiting_grants more rows) []) ≡ weigh f r) [
       | true ↦ omega (
         arith,
         after,
         keeps row,
-        sum_by-append g (ended by_grant row.want) (waiting_grants more rows),
+        sum_by-append g (ended by_grant row.pid row.want) (waiting_grants more rows),
         sum_by_push f r.granted (granted_row row),
         sum_by-cons f row rows,
         ap (sum_by f) is,
@@ -125,13 +125,13 @@ swept_weighs f g keeps (r ∷ rest) =
 
 -- an entry adds the weight of its row
 entered_weighs : (f : Row → ℕ) (g : Ending → ℕ) → GrantKeeps f g → (row : Row) (request : Request) → row.want ≡ Some request → (r : Resource)
-    → weigh f (entered row request r) + sum_by g (cond (is_at_once request r) (ended by_grant (Some request)) []) ≡ weigh f r + f row
+    → weigh f (entered row request r) + sum_by g (cond (is_at_once request r) (ended by_grant row.pid (Some request)) []) ≡ weigh f r + f row
 unfolding entered
 entered_weighs f g keeps row request wanted r =
-    let granted : f (granted_row row) + sum_by g (ended by_grant (Some request)) ≡ f row =
-    subst (λ want. f (granted_row row) + sum_by g (ended by_grant want) ≡ f row) wanted (keeps row) in
+    let granted : f (granted_row row) + sum_by g (ended by_grant row.pid (Some request)) ≡ f row =
+    subst (λ want. f (granted_row row) + sum_by g (ended by_grant row.pid want) ≡ f row) wanted (keeps row) in
     elim (is_at_once request r) as (λ b.
-    weigh f (cond b (grant r row) (record r { waiting = r.waiting ++ row ∷ [] })) + sum_by g (cond b (ended by_grant (Some request)) [])
+    weigh f (cond b (grant r row) (record r { waiting = r.waiting ++ row ∷ [] })) + sum_by g (cond b (ended by_grant row.pid (Some request)) [])
     ≡ weigh f r + f row) [
       | true ↦ omega (arith, granted, sum_by_push f r.granted (granted_row row))
       | false ↦ omega (arith, sum_by_push f r.waiting row)
@@ -141,7 +141,7 @@ entered_weighs f g keeps row request wanted r =
 pub entered_among_weighs : (f : Row → ℕ) (g : Ending → ℕ) → GrantKeeps f g → (serial : ℕ) (key : Key) (row : Row) (request : Request)
     → row.want ≡ Some request → (resources : List Resource)
     → sum_by (weigh f) (entered_among serial key row request resources)
-    + sum_by g (cond (is_at_once request (unwrap_or (find (is_at key) resources) (new_resource serial key))) (ended by_grant (Some request)) [])
+    + sum_by g (cond (is_at_once request (unwrap_or (find (is_at key) resources) (new_resource serial key))) (ended by_grant row.pid (Some request)) [])
     ≡ sum_by (weigh f) resources + f row
 entered_among_weighs f g keeps serial key row request wanted [] =
     omega (
@@ -151,11 +151,11 @@ entered_among_weighs f g keeps serial key row request wanted [] =
     )
 entered_among_weighs f g keeps serial key row request wanted (r ∷ rest) =
     let behind : sum_by (weigh f) (entered_among serial key row request rest)
-    + sum_by g (cond (is_at_once request (unwrap_or (find (is_at key) rest) (new_resource serial key))) (ended by_grant (Some request)) [])
+    + sum_by g (cond (is_at_once request (unwrap_or (find (is_at key) rest) (new_resource serial key))) (ended by_grant row.pid (Some request)) [])
     ≡ sum_by (weigh f) rest + f row = entered_among_weighs f g keeps serial key row request wanted rest in
     elim (is_at key r) as (λ b.
     sum_by (weigh f) (cond b (entered row request r ∷ rest) (r ∷ entered_among serial key row request rest))
-    + sum_by g (cond (is_at_once request (unwrap_or (cond b (Some r) (find (is_at key) rest)) (new_resource serial key))) (ended by_grant (Some request)) [])
+    + sum_by g (cond (is_at_once request (unwrap_or (cond b (Some r) (find (is_at key) rest)) (new_resource serial key))) (ended by_grant row.pid (Some request)) [])
     ≡ sum_by (weigh f) (r ∷ rest) + f row) [
       | true ↦ omega (arith, entered_weighs f g keeps row request wanted r, sum_by-cons (weigh f) (entered row request r) rest, sum_by-cons (weigh f) r rest)
       | false ↦ omega (arith, behind, sum_by-cons (weigh f) r (entered_among serial key row request rest), sum_by-cons (weigh f) r rest)

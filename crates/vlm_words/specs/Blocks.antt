@@ -1,7 +1,10 @@
 -- The status blocks of processes.
-use Rattle.std.specs.Prelude.{ℕ, List, [], map, ◌==◌, ◌-◌, nat_lt, replicate, Option, None, slice_get, slice_index_or, slice_set, if◌then◌else◌}
+use Rattle.std.specs.Prelude.{ℕ, List, [], ◌∷◌, map, ◌==◌, ◌-◌, nat_lt, replicate, Option, None, slice_get, slice_index_or, slice_set, if◌then◌else◌}
 use Rattle.std.specs.Option.{option_map_or}
 use Rattle.vlm_words.specs.declared.blocks.Block.{Block}
+use Rattle.vlm_words.specs.declared.conditions.Cond.{Cond}
+use Rattle.vlm_words.specs.Conditions.{condition_number}
+use Rattle.vlm_words.specs.Endings.{Ending, ending_status}
 use Rattle.vlm_words.specs.State.{Process, process_of}
 
 -- a status block at its making
@@ -39,3 +42,12 @@ accepted_in pid n lkid processes = set_block pid n (record (block_of processes p
 -- the value part of a block is this one now
 unfoldable pub valued_in : ℕ → ℕ → List ℕ → List Process → List Process
 valued_in pid n value processes = set_block pid n (record (block_of processes pid n) { value = value }) processes
+
+-- a request has ended: its block gets the status, and keeps its lock and its value part
+unfoldable pub ended_in : ℕ → ℕ → Cond → List Process → List Process
+ended_in pid n cond processes = set_block pid n (record (block_of processes pid n) { status = condition_number cond }) processes
+
+-- the requests that end write their statuses, in their order
+abbrev pub told : List Ending → List Process → List Process
+told [] processes = processes
+told (ending ∷ endings) processes = told endings (ended_in ending.pid ending.block (ending_status ending.how) processes)

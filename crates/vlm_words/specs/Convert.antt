@@ -118,4 +118,4 @@ convert_change s c = record s {
 -- the requests that end in the step: the conversion if it is granted at once, and then those of the sweep
 unfoldable pub convert_endings : State → Conversion → List Ending
 convert_endings s c =
-    (if convert_at_once s c then ended by_grant (Some (conversion_of s c)) else []) ++ swept_grants (convert_change s c).resources
+    (if convert_at_once s c then ended by_grant c.pid (Some (conversion_of s c)) else []) ++ swept_grants (convert_change s c).resources

@@ -88,7 +88,7 @@ deq_change s d = record s { resources = map (dequeued (dequeue_lkid s d) (has_fl
 
 -- the requests of this lock in a queue end so
 abbrev pub ends_in : How → ℕ → List Row → List Ending
-ends_in how lkid rows = flat_map (λ row. ended how row.want) (rows_of lkid rows)
+ends_in how lkid rows = flat_map (λ row. ended how row.pid row.want) (rows_of lkid rows)
 
 -- the requests of this lock that a dequeue ends
 abbrev pub withdrawn : ℕ → Bool → Resource → List Ending

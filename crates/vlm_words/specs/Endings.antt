@@ -1,5 +1,7 @@
 -- How accepted requests end.
 use Rattle.std.specs.Prelude.{ℕ, List, [], ◌∷◌, Option, None, Some}
+use Rattle.vlm_words.specs.declared.conditions.Cond.{Cond}
+use Rattle.vlm_words.specs.declared.conditions.Cond.TheVariants.{Normal, Abort, Cancel}
 use Rattle.vlm_words.specs.declared.locks.Request.{Request}
 
 -- a request is granted, ends with its lock, or is cancelled
@@ -8,12 +10,20 @@ pub data How : Type 0 where
   by_abort : How
   by_cancel : How
 
--- the end of the request with this number
+-- the end of the request with this number, of this process, which named this status block
 pub record Ending : Type 0 where
   pub number : ℕ
   pub how : How
+  pub pid : ℕ
+  pub block : ℕ
 
--- a request that was wanted ends; where none was, nothing does
-abbrev pub ended : How → Option Request → List Ending
-ended how None = []
-ended how (Some request) = record { number = request.number; how = how } ∷ []
+-- a request that a process wanted ends; where none was, nothing does
+abbrev pub ended : How → ℕ → Option Request → List Ending
+ended how pid None = []
+ended how pid (Some request) = record { number = request.number; how = how; pid = pid; block = request.block } ∷ []
+
+-- the status that an end leaves: NORMAL, ABORT, or CANCEL
+abbrev pub ending_status : How → Cond
+ending_status by_grant = Normal
+ending_status by_abort = Abort
+ending_status by_cancel = Cancel

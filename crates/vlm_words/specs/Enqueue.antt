@@ -154,4 +154,4 @@ enq_change s e = record s {
 -- the requests that end in the step: the new one if it is granted at once, and then those of the sweep
 unfoldable pub enq_endings : State → NewRequest → List Ending
 enq_endings s e =
-    (if enq_at_once s e then ended by_grant (Some (request_of s e)) else []) ++ swept_grants (enq_change s e).resources
+    (if enq_at_once s e then ended by_grant e.pid (Some (request_of s e)) else []) ++ swept_grants (enq_change s e).resources

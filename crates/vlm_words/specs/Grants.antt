@@ -58,12 +58,12 @@ serve_waiting r (row ∷ rows) =
 abbrev pub converting_grants : Resource → List Row → List Ending
 converting_grants r [] = []
 converting_grants r (row ∷ rows) =
-    if wanted_fits row.want r.granted rows then ended by_grant row.want ++ converting_grants (record (grant r row) { converting = rows }) rows else []
+    if wanted_fits row.want r.granted rows then ended by_grant row.pid row.want ++ converting_grants (record (grant r row) { converting = rows }) rows else []
 
 abbrev pub waiting_grants : Resource → List Row → List Ending
 waiting_grants r [] = []
 waiting_grants r (row ∷ rows) =
-    if wanted_fits row.want r.granted r.converting then ended by_grant row.want ++ waiting_grants (record (grant r row) { waiting = rows }) rows else []
+    if wanted_fits row.want r.granted r.converting then ended by_grant row.pid row.want ++ waiting_grants (record (grant r row) { waiting = rows }) rows else []
 
 -- once no conversion is queued, the waiting queue is served too
 abbrev pub serve_new_requests : Resource → Resource

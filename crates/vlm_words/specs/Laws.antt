@@ -65,7 +65,7 @@ EachRequestEndsOnce endings last = (number : ℕ) → 0 < number → number < la
 
 -- the endings of the requests that rows are granted, in their order
 abbrev pub granted_endings : List Row → List Ending
-granted_endings rows = flat_map (λ row. ended by_grant row.want) rows
+granted_endings rows = flat_map (λ row. ended by_grant row.pid row.want) rows
 
 -- the heads of the queues are granted in order, new requests only once no conversion is left; the rows behind them stay
 pub record GrantsFirst (before after : Resource) (endings : List Ending) : Type 0 where
