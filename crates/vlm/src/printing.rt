@@ -3,10 +3,12 @@
 //! Where memory runs out, some part of the text may stand there.
 
 pub(crate) use answers::answer_line;
+pub(crate) use blocks::block_line;
 pub(crate) use locks::{converting_line, granted_line, waiting_line};
 pub(crate) use resources::{no_resources, resource_line};
 
 mod answers;
+mod blocks;
 mod locks;
 mod resources;
 mod texts;

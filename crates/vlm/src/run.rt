@@ -34,6 +34,7 @@ Commands of a script, one a line:
   cvt NAME LOCK MODE block=N [noqueue] [syncsts] [expedite] [quecvt]
   deq NAME LOCK [cancel]
   set NAME block=N value=HEX
+  block NAME N
   show
 A LOCK is its number, or @N for the lock in status block N.
 

@@ -6,14 +6,16 @@ ghost use Rattle.vlm_words.specs.Texts.{answer_line};
 ghost use Rattle.vlm.specs.Sessions.{IsRun, IsTold, StopsBytes, StopsLine};
 
 use crate::names::{Binding, bound_to};
-use crate::printing::answer_line;
+use crate::printing::{answer_line, block_line};
 use crate::reading::read_line;
 use crate::show::show;
 use crate::stops::Stop;
 use std::alloc::Global;
 use std::marker::Model;
 use vlm_core::Core;
-use vlm_words::scripts::{CvtLine, DeqLine, EnqLine, Line, LineFault, ProcessName, SetLine};
+use vlm_words::scripts::{
+    BlockLine, CvtLine, DeqLine, EnqLine, Line, LineFault, ProcessName, SetLine,
+};
 use vlm_words::steps::{Answer, Conversion, Declaration, Dequeue, NewRequest, ValueSetting, Which};
 
 /// The machine, and the names that are bound to its processes.
@@ -69,6 +71,7 @@ impl Session {
             Line::Cvt(line) => self.convert(line, out),
             Line::Deq(line) => self.deq(line, out),
             Line::Set(line) => self.set(line, out),
+            Line::Block(line) => self.show_block(line, out),
             Line::Show => match show(&self.core, out) {
                 Ok(()) => Ok(()),
                 Err(_) => Err(Stop::Memory),
@@ -150,6 +153,22 @@ impl Session {
         };
         let answer = self.core.set_value(setting_made(pid, &line));
         told(line.name, answer, out)
+    }
+
+    // Prints a status block of the process that the name is bound to.
+    fn show_block(&self, line: BlockLine, out: &mut Vec<u8>) -> Result<(), Stop>
+        ensures { MatchResult result
+            (λ _. IsRun self.now (Line.Block line) self.now out.old.items out.new.items)
+            (λ stop. StopsLine self.now.names (Line.Block line) stop) }
+    {
+        let Some(pid) = bound_to(&self.names, &line.name) else {
+            return Err(Stop::Fault(LineFault::UnknownName));
+        };
+        let block = self.core.block(pid, line.number);
+        match block_line(out, line.name.bytes(), line.number, block) {
+            Ok(()) => Ok(()),
+            Err(_) => Err(Stop::Memory),
+        }
     }
 }
 

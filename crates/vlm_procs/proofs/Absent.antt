@@ -1,6 +1,6 @@
 -- A process that is not there.
-use Rattle.std.proofs.Common.{◌≡◌, ℕ, List, [], ◌∷◌, Bool, true, false, cond, map, Option, None, Some, refl, ap}
-use Rattle.std.specs.Prelude.{◌==◌, slice_set}
+use Rattle.std.proofs.Common.{◌≡◌, ℕ, List, [], ◌∷◌, true, false, cond, None, Some, refl, ap}
+use Rattle.std.specs.Prelude.{◌==◌}
 use Rattle.vlm_words.specs.declared.blocks.Block.{Block}
 use Rattle.vlm_words.specs.Blocks.{block_put, set_block, with_block}
 use Rattle.vlm_words.specs.State.{Process, process_of}

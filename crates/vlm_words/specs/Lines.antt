@@ -14,7 +14,7 @@ use Rattle.vlm_words.specs.declared.scripts.CvtWords.{CvtWords}
 use Rattle.vlm_words.specs.declared.scripts.EnqWords.{EnqWords}
 use Rattle.vlm_words.specs.declared.scripts.SetWords.{SetWords}
 use Rattle.vlm_words.specs.declared.scripts.Line.{Line}
-use Rattle.vlm_words.specs.declared.scripts.Line.TheVariants.{Empty, Declare, Enq, Cvt, Deq, Set, Show}
+use Rattle.vlm_words.specs.declared.scripts.Line.TheVariants.{Empty, Declare, Enq, Cvt, Deq, Set, Block as block_words, Show}
 use Rattle.vlm_words.specs.declared.scripts.LineFault.{LineFault}
 use Rattle.vlm_words.specs.declared.scripts.LineFault.TheVariants.{TooLong, UnknownCommand, WrongWord, NumberOutOfRange}
 use Rattle.vlm_words.specs.Flags.{cancel, expedite, has_flag, noqueue, quecvt, syncsts}
@@ -321,6 +321,15 @@ set_line words =
     given s.value >>= λ value.
     Ok (Set (record { name = name; block = block; value = value }))
 
+-- block NAME N
+unfoldable pub block_command : List (List ℕ) → Result Line LineFault
+block_command words =
+    next_word words >>= λ first.
+    process_name first.0 >>= λ name.
+    next_word first.1 >>= λ second.
+    number_within 255 second.0 >>= λ number.
+    no_more (block_words (record { name = name; number = number })) second.1
+
 -- a line by its command
 unfoldable pub command_line : List ℕ → List (List ℕ) → Result Line LineFault
 command_line command words =
@@ -329,6 +338,7 @@ command_line command words =
     else if is_text command (codes "cvt") then cvt_line words
     else if is_text command (codes "deq") then deq_line words
     else if is_text command (codes "set") then set_line words
+    else if is_text command (codes "block") then block_command words
     else if is_text command (codes "show") then no_more Show words
     else Err UnknownCommand
 

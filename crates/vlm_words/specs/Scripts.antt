@@ -6,7 +6,7 @@ use Rattle.vlm_words.specs.declared.scripts.EnqLine.{EnqLine}
 use Rattle.vlm_words.specs.declared.scripts.DeqLine.{DeqLine}
 use Rattle.vlm_words.specs.declared.scripts.SetLine.{SetLine}
 use Rattle.vlm_words.specs.declared.scripts.Line.{Line}
-use Rattle.vlm_words.specs.declared.scripts.Line.TheVariants.{Empty, Declare, Enq, Cvt, Deq, Set, Show}
+use Rattle.vlm_words.specs.declared.scripts.Line.TheVariants.{Empty, Declare, Enq, Cvt, Deq, Set, Block, Show}
 use Rattle.vlm_words.specs.declared.scripts.LineFault.{LineFault}
 use Rattle.vlm_words.specs.declared.scripts.LineFault.TheVariants.{UnknownName, NameUsed}
 use Rattle.vlm_words.specs.declared.steps.Answer.{Answer}
@@ -19,10 +19,11 @@ use Rattle.vlm_words.specs.declared.steps.ValueSetting.{ValueSetting}
 use Rattle.vlm_words.specs.declared.steps.Step.{Step}
 use Rattle.vlm_words.specs.declared.steps.Step.TheVariants.{Declare as declare_step, Enq as enq_step, Convert as convert_step, Deq as deq_step, SetValue as set_step}
 use Rattle.vlm_words.specs.declared.steps.Which.TheVariants.{Id}
+use Rattle.vlm_words.specs.Blocks.{block_found}
 use Rattle.vlm_words.specs.State.{State, start}
 use Rattle.vlm_words.specs.Stepped.{Outcome}
 use Rattle.vlm_words.specs.Lines.{lines_of, is_text, line_read}
-use Rattle.vlm_words.specs.Texts.{answer_line, resources_text}
+use Rattle.vlm_words.specs.Texts.{answer_line, block_line, resources_text}
 
 -- a name of the script, and the process that it is bound to
 pub record Binding : Type 0 where
@@ -58,6 +59,7 @@ name_fault names (Enq line) = unknown_fault (bound_to names line.name)
 name_fault names (Cvt line) = unknown_fault (bound_to names line.name)
 name_fault names (Deq line) = unknown_fault (bound_to names line.name)
 name_fault names (Set line) = unknown_fault (bound_to names line.name)
+name_fault names (Block line) = unknown_fault (bound_to names line.name)
 name_fault names Show = None
 
 -- the request that an enq line makes of a process
@@ -119,6 +121,13 @@ pub record Makes (old : Session) (name : List ℕ) (step_of : ℕ → Step) (tex
   pub names : new.names ≡ old.names
   pub printed : text ≡ answer_line name answer
 
+-- a line with a name that makes no step prints something of the process that the name is bound to, and changes nothing
+pub record Shows (old : Session) (name : List ℕ) (shown : ℕ → List ℕ) (text : List ℕ) (new : Session) : Type 0 where
+  pub pid : ℕ
+  pub bound : bound_to old.names name ≡ Some pid
+  pub same : new ≡ old
+  pub printed : text ≡ shown pid
+
 -- a line that makes no step prints this and changes nothing
 pub record Prints (old : Session) (shown text : List ℕ) (new : Session) : Type 0 where
   pub same : new ≡ old
@@ -132,6 +141,8 @@ Runs old (Enq line) text new = Makes old line.name (λ pid. enq_step (request_ma
 Runs old (Cvt line) text new = Makes old line.name (λ pid. convert_step (conversion_made pid line)) text new
 Runs old (Deq line) text new = Makes old line.name (λ pid. deq_step (dequeue_made pid line)) text new
 Runs old (Set line) text new = Makes old line.name (λ pid. set_step (setting_made pid line)) text new
+Runs old (Block line) text new =
+    Shows old line.name (λ pid. block_line line.name line.number (block_found old.state.processes pid line.number)) text new
 Runs old Show text new = Prints old (resources_text old.state.resources) text new
 
 -- the fault of a line in a session: of its bytes, or of its name

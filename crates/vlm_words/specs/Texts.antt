@@ -5,6 +5,7 @@ use Rattle.std.specs.Option.{option_map}
 use Rattle.vlm_words.specs.declared.asts.Ast.{Ast}
 use Rattle.vlm_words.specs.declared.asts.AstKind.{AstKind}
 use Rattle.vlm_words.specs.declared.asts.AstKind.TheVariants.{Completion, Blocking}
+use Rattle.vlm_words.specs.declared.blocks.Block.{Block}
 use Rattle.vlm_words.specs.declared.locks.Request.{Request}
 use Rattle.vlm_words.specs.declared.locks.Row.{Row}
 use Rattle.vlm_words.specs.declared.modes.Mode.{Mode}
@@ -59,6 +60,13 @@ answer_text (Plain cond) = condition_name cond
 -- the line that tells a process's answer under its name
 unfoldable pub answer_line : List ℕ → Answer → List ℕ
 answer_line name answer = name ++ codes ": " ++ answer_text answer ++ line_feed
+
+-- a status block under its process's name: what stands in it, or that the process has no such block
+unfoldable pub block_line : List ℕ → ℕ → Option Block → List ℕ
+block_line name number None = name ++ codes ": block " ++ decimal number ++ codes " none" ++ line_feed
+block_line name number (Some block) =
+    name ++ codes ": block " ++ decimal number ++ codes " status " ++ decimal block.status
+    ++ codes " lock " ++ decimal block.lkid ++ codes " value " ++ hex_text block.value ++ line_feed
 
 -- every byte can be read, and the name does not look like a hexadecimal one
 abbrev pub is_readable : List ℕ → Bool

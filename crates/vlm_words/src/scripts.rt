@@ -84,6 +84,14 @@ pub struct SetLine {
     pub value: [u8; 16],
 }
 
+/// The words of a block line.
+#[derive(Clone, Copy, Debug, PartialEq, Eq)]
+pub struct BlockLine {
+    pub name: ProcessName,
+    /// The number of the status block.
+    pub number: u8,
+}
+
 /// A line of a script that was read without a fault.
 #[derive(Clone, Copy, Debug, PartialEq, Eq)]
 pub enum Line {
@@ -94,6 +102,7 @@ pub enum Line {
     Cvt(CvtLine),
     Deq(DeqLine),
     Set(SetLine),
+    Block(BlockLine),
     Show,
 }
 

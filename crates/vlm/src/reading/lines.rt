@@ -1,13 +1,16 @@
 //! Lines by their commands.
 
 ghost use Rattle.std.specs.Prelude.{◌≡◌, MatchResult};
-ghost use Rattle.vlm_words.specs.Lines.{line_read, line_of, command_line, declare_line, enq_line, cvt_line, deq_line, set_line, declaration_of, words_of, next_word, no_more};
+ghost use Rattle.vlm_words.specs.Lines.{block_command, line_read, line_of, command_line, declare_line, enq_line, cvt_line, deq_line, set_line, declaration_of, words_of, next_word, no_more};
 
 use super::cuts;
 use super::keyed::{cvt_words, declare_words, deq_words, enq_words, set_words};
 use super::locks::lock;
+use super::numbers::byte;
 use super::words::{behind_key, is_text, mode, process_name};
-use vlm_words::scripts::{CvtLine, DeclareWords, DeqLine, EnqLine, Line, LineFault, SetLine};
+use vlm_words::scripts::{
+    BlockLine, CvtLine, DeclareWords, DeqLine, EnqLine, Line, LineFault, SetLine,
+};
 use vlm_words::steps::Declaration;
 
 /// The longest line, in bytes.
@@ -53,6 +56,8 @@ fn command_line(command: &[u8], rest: &[u8]) -> Result<Line, LineFault>
         deq_line(rest)
     } else if is_text(command, b"set") {
         set_line(rest)
+    } else if is_text(command, b"block") {
+        block_line(rest)
     } else if is_text(command, b"show") {
         no_more(Line::Show, rest)
     } else {
@@ -157,6 +162,18 @@ fn set_line(line: &[u8]) -> Result<Line, LineFault>
     let block = words.block.ok_or(LineFault::WrongWord)?;
     let value = words.value.ok_or(LineFault::WrongWord)?;
     Ok(Line::Set(SetLine { name, block, value }))
+}
+
+/// The words of a block line: NAME N.
+#[tactic(auto, unfolding(vlm_words::specs::Lines::block_command))]
+fn block_line(line: &[u8]) -> Result<Line, LineFault>
+    ensures { result ≡ block_command (words_of line.now) }
+{
+    let (first, after_name) = needed_word(line)?;
+    let name = process_name(first)?;
+    let (second, rest) = needed_word(after_name)?;
+    let number = byte(second)?;
+    no_more(Line::Block(BlockLine { name, number }), rest)
 }
 
 /// The next word, which the line needs, and the bytes behind it.

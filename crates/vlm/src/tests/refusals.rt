@@ -392,16 +392,26 @@ fn settings(rt: HostRuntime) {
     );
 }
 
-/// An accepted request leaves its lock in the status block, which names it from then on; a value goes
-/// to the value part alone.
+// The status block of a request for the lock that was granted.
+fn granted(lkid: u32) -> Block {
+    Block {
+        status: 1,
+        lkid,
+        ..Block::new()
+    }
+}
+
+/// An accepted request leaves its lock in the status block, which names it from then on; its end leaves
+/// its status there; a value goes to the value part alone.
 #[test]
 fn status_blocks(rt: HostRuntime) {
     let mut core = machine(&rt);
     let pending = Block {
-        lkid: 1,
+        lkid: 2,
         ..Block::new()
     };
-    assert_eq!(&rt; core.block(P, 1), Some(pending));
+    assert_eq!(&rt; core.block(P, 1), Some(granted(1)));
+    assert_eq!(&rt; core.block(Q, 1), Some(pending));
     assert_eq!(&rt; core.block(P, 2), Some(Block::new()));
     assert_eq!(&rt; core.block(P, 0), None);
     assert_eq!(&rt; core.block(P, 5), None);
@@ -417,6 +427,8 @@ fn status_blocks(rt: HostRuntime) {
         ..DEQUEUE
     };
     assert_eq!(&rt; core.deq(dequeue), Answer::Plain(Cond::Normal));
+    assert_eq!(&rt; core.block(P, 1), Some(granted(1)));
+    assert_eq!(&rt; core.block(Q, 1), Some(granted(2)));
     assert_eq!(&rt; core.deq(dequeue), Answer::Plain(Cond::Ivlockid));
 }
 

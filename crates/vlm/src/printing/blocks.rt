@@ -1,0 +1,34 @@
+//! Status blocks.
+
+ghost use Rattle.std.specs.Prelude.{◌≡◌, ◌++◌, OnOk};
+ghost use Rattle.vlm_words.specs.Texts.{block_line};
+
+use super::texts::{hexadecimal, number, text};
+use std::alloc::AllocError;
+use vlm_words::blocks::Block;
+
+/// A status block under its process's name: what stands in it, or that the process has no such
+/// block.
+#[tactic(auto, unfolding(vlm_words::specs::Texts::block_line))]
+pub(crate) fn block_line(
+    out: &mut Vec<u8>,
+    name: &[u8],
+    block_number: u8,
+    block: Option<Block>,
+) -> Result<(), AllocError>
+    ensures { OnOk result (out.new.items ≡ out.old.items ++ block_line name.now block_number block) }
+{
+    text(out, name)?;
+    text(out, b": block ")?;
+    number(out, u32::from(block_number))?;
+    let Some(block) = block else {
+        return text(out, b" none\n");
+    };
+    text(out, b" status ")?;
+    number(out, u32::from(block.status))?;
+    text(out, b" lock ")?;
+    number(out, block.lkid)?;
+    text(out, b" value ")?;
+    hexadecimal(out, &block.value)?;
+    text(out, b"\n")
+}
