@@ -102,8 +102,8 @@ impl Core {
         }
     }
 
-    /// Serves every resource, and drops those without locks.
-    /// Ends a step: every resource is served, and each grant writes its status.
+    /// Ends a step: every resource is served, each grant writes its status, and resources without locks
+    /// go.
     pub(crate) fn sweep(&mut self)
         ensures { self.new ≡ ended_state (swept_grants self.old.resources) self.old }
     {
