@@ -24,7 +24,8 @@ struct Withdrawal {
 impl Core {
     /// Gives a lock up, or with CANCEL ends its request ($DEQ). It takes no memory. Refused by
     /// DEPARTED, NONEXPR, BADPARAM for an unknown flag or an argument that is not built yet, ACCVIO where
-    /// the lock is named by a status block that is not there, IVLOCKID, CANCELGRANT where a granted lock is to be cancelled.
+    /// the lock is named by a status block that is not there, IVLOCKID, CANCELGRANT where a granted lock
+    /// is to be cancelled.
     #[tactic(auto, using(crate::proofs::Telling::told_append), unfolding(vlm_words::specs::Dequeue::deq_change, vlm_words::specs::Dequeue::deq_endings))]
     pub fn deq(&mut self, dequeue: Dequeue) -> Answer
         ensures state { self.new ≡ (stepped self.old (Step.Deq dequeue)).state }

@@ -32,12 +32,14 @@ pub enum Cond {
 }
 
 impl Cond {
+    /// The condition's number, 1 to 23, as a status block holds it (this project's own).
     pub fn number(self) -> u8
         ensures { result ≡ condition_number self }
     {
         self as u8
     }
 
+    /// The condition's name, as it is printed: the original's without `SS$_`.
     pub fn text(self) -> &'static str
         ensures { result.now ≡ condition_name self }
     {
