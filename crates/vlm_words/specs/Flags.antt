@@ -4,6 +4,10 @@ use Rattle.std.specs.Int.RustNames.{bit_and}
 use Rattle.vlm_words.specs.declared.flags.DeqFlags.{DeqFlags}
 use Rattle.vlm_words.specs.declared.flags.EnqFlags.{EnqFlags}
 
+-- a grant returns the value block to the request's status block, or writes it from there
+abbrev pub valblk : ℕ
+valblk = 1
+
 -- a request that cannot be granted at once is refused
 abbrev pub noqueue : ℕ
 noqueue = 2
@@ -22,15 +26,19 @@ quecvt = 32
 
 -- the bits of new requests and conversions that are built
 abbrev pub enq_bits : ℕ
-enq_bits = 54
+enq_bits = 55
 
 -- a request is cancelled
 abbrev pub cancel : ℕ
 cancel = 2
 
+-- the value block is marked invalid
+abbrev pub invvalblk : ℕ
+invvalblk = 4
+
 -- the bits of dequeues that are built
 abbrev pub deq_bits : ℕ
-deq_bits = 2
+deq_bits = 6
 
 -- the flag is among the bits
 unfoldable pub has_flag : ℕ → ℕ → Bool

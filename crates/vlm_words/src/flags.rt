@@ -10,6 +10,9 @@ pub struct EnqFlags(u16);
 
 bitflag_items! {
     impl EnqFlags: u16 {
+        /// A grant returns the resource's value block to the request's status block, or writes it from
+        /// there.
+        const VALBLK = 1;
         /// A request that cannot be granted at once is refused.
         const NOQUEUE = 2;
         /// A request that is granted at once answers SYNCH.
@@ -26,7 +29,7 @@ impl Flags for EnqFlags {
 
     ghost exact = { ⊤ };
 
-    ghost table = { (codes "NOQUEUE", 2) ∷ (codes "SYNCSTS", 4) ∷ (codes "EXPEDITE", 16) ∷ (codes "QUECVT", 32) ∷ [] };
+    ghost table = { (codes "VALBLK", 1) ∷ (codes "NOQUEUE", 2) ∷ (codes "SYNCSTS", 4) ∷ (codes "EXPEDITE", 16) ∷ (codes "QUECVT", 32) ∷ [] };
 
     ghost set_of = { λ f. f.0 };
 
@@ -51,6 +54,8 @@ bitflag_items! {
     impl DeqFlags: u16 {
         /// A request is cancelled instead of its lock given up.
         const CANCEL = 2;
+        /// The value block of a resource on which the lock holds PW or EX is marked invalid.
+        const INVVALBLK = 4;
     }
 }
 
@@ -59,7 +64,7 @@ impl Flags for DeqFlags {
 
     ghost exact = { ⊤ };
 
-    ghost table = { (codes "CANCEL", 2) ∷ [] };
+    ghost table = { (codes "CANCEL", 2) ∷ (codes "INVVALBLK", 4) ∷ [] };
 
     ghost set_of = { λ f. f.0 };
 
