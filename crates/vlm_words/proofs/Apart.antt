@@ -1,8 +1,8 @@
 -- After every step no two rows have the same identification.
-use Rattle.std.proofs.Common.{◌≡◌, ◌≤◌, ◌+◌, ℕ, Bool, true, false, not, List, [], ◌∷◌, ◌++◌, map, cond, Option, None, Some, refl, ap, arith}
+use Rattle.std.proofs.Common.{◌≡◌, ◌≤◌, ◌+◌, ◌||◌, ℕ, true, false, not, List, [], ◌∷◌, ◌++◌, map, cond, Option, None, Some, refl, ap, arith}
 use Rattle.std.specs.Prelude.{◌==◌}
 use Rattle.std.specs.List.{find, sum_by}
-use Rattle.std.proofs.lemmas.Bool.{and_parts}
+use Rattle.std.proofs.lemmas.Bool.{and_parts, cond_both}
 use Rattle.std.proofs.lemmas.Bool.Decides.{nat_tests}
 use Rattle.std.proofs.lemmas.List.Filters.{sum_by-filter_both}
 use Rattle.std.proofs.lemmas.List.Sums.{sum_by-append, sum_by_push}
@@ -11,15 +11,15 @@ use Rattle.vlm_words.specs.declared.locks.Row.{Row}
 use Rattle.vlm_words.specs.declared.steps.Answer.{Answer}
 use Rattle.vlm_words.specs.declared.steps.NewRequest.{NewRequest}
 use Rattle.vlm_words.specs.declared.steps.Step.{Step}
-use Rattle.vlm_words.specs.Endings.{Ending, ended}
-use Rattle.vlm_words.specs.Endings.How.{by_grant}
-use Rattle.vlm_words.specs.Flags.{cancel, has_flag}
-use Rattle.vlm_words.specs.State.{State, Resource}
-use Rattle.vlm_words.specs.Grants.{granted_row, grant, swept, swept_grants}
+use Rattle.vlm_words.specs.Endings.{Ending}
+use Rattle.vlm_words.specs.State.{State, Process, Resource}
+use Rattle.vlm_words.specs.Grants.{grant_ending, granted_row, grant}
+use Rattle.vlm_words.specs.Values.{Moment, valued}
+use Rattle.vlm_words.specs.Sweeps.{swept, swept_grants}
 use Rattle.vlm_words.specs.Declare.{declare_change}
-use Rattle.vlm_words.specs.Enqueue.{enq_change, enq_at_once, found_by, row_of, request_of, key_of}
-use Rattle.vlm_words.specs.Convert.{wanting_row, ungranted, converts_at_once, converted_row, converted, conversion_of, convert_change, conversion_lkid}
-use Rattle.vlm_words.specs.Dequeue.{is_lock_of, dequeue_lkid, rows_of, rows_without, settled_row, without, cancelled, dequeued, deq_change}
+use Rattle.vlm_words.specs.Enqueue.{enq_change, enq_ending, found_by, row_of, request_of, key_of}
+use Rattle.vlm_words.specs.Convert.{wanting_row, ungranted, converts_at_once, converted_row, converted, conversion_of, convert_change, convert_moment, conversion_lkid}
+use Rattle.vlm_words.specs.Dequeue.{Withdrawal, withdrawal_of, is_lock_of, rows_of, rows_without, has_writer, left_by_writer, left_by, settled_row, without, cancelled, dequeued, deq_change}
 use Rattle.vlm_words.specs.SetValue.{set_change}
 use Rattle.vlm_words.specs.Runs.{Run}
 use Rattle.vlm_words.proofs.Always.{always, kept_by_stepped}
@@ -42,12 +42,13 @@ pub record Apart (s : State) : Type 0 where
 
 -- a grant keeps the identification, and its ending does not count here
 stands_kept : (lkid : ℕ) → GrantKeeps (stands lkid) (λ ending. 0)
-stands_kept lkid row = omega (arith, sum_of_zero (ended by_grant row.pid row.want))
+stands_kept lkid row = omega (arith, sum_of_zero (grant_ending row))
 
 -- a sweep keeps the rows of each lock
-swept_stands : (lkid : ℕ) (resources : List Resource) → standing lkid (swept resources) ≡ standing lkid resources
-swept_stands lkid resources =
-    omega (arith, swept_weighs (stands lkid) (λ ending. 0) (stands_kept lkid) resources, sum_of_zero (swept_grants resources))
+swept_stands : (lkid : ℕ) (processes : List Process) (resources : List Resource)
+    → standing lkid (swept processes resources) ≡ standing lkid resources
+swept_stands lkid processes resources =
+    omega (arith, swept_weighs (stands lkid) (λ ending. 0) (stands_kept lkid) processes resources, sum_of_zero (swept_grants resources))
 
 -- where no lock gets a row, all stay apart
 fewer_apart : (s t : State) → Apart s → t.next_lkid ≡ s.next_lkid
@@ -67,37 +68,37 @@ one_more_apart s t apart next more = record {
 
 -- an entry gives the next identification a row
 entered_stands : (s : State) (e : NewRequest) (lkid : ℕ)
-    → standing lkid (swept (enq_change s e).resources) ≡ standing lkid s.resources + cond (s.next_lkid == lkid) 1 0
+    → standing lkid (swept (enq_change s e).processes (enq_change s e).resources) ≡ standing lkid s.resources + cond (s.next_lkid == lkid) 1 0
 unfolding enq_change found_by
 entered_stands s e lkid =
     omega (
       arith,
-      swept_stands lkid (enq_change s e).resources,
-      entered_among_weighs (stands lkid) (λ ending. 0) (stands_kept lkid) s.next_serial (key_of s e) (row_of s e) (request_of s e) refl s.resources,
-      sum_of_zero {X = Ending} (cond (enq_at_once s e) (ended by_grant e.pid (Some (request_of s e))) []),
+      swept_stands lkid (enq_change s e).processes (enq_change s e).resources,
+      entered_among_weighs (stands lkid) (λ ending. 0) (stands_kept lkid) s.next_serial (key_of s e) (row_of s e) (request_of s e) s.resources,
+      sum_of_zero {X = Ending} (enq_ending s e),
     )
 
 -- a conversion gives no lock a row, whichever row is found
-converted_row_stands : (other : ℕ) (request : Request) (pid lkid : ℕ) (r : Resource) (found : Option Row)
-    → find (is_lock_of pid lkid) r.granted ≡ found → weigh (stands other) (converted_row request lkid r found) ≤ weigh (stands other) r
-converted_row_stands other request pid lkid r None is = omega arith
-converted_row_stands other request pid lkid r (Some row) is =
+converted_row_stands : (other : ℕ) (request : Request) (pid lkid : ℕ) (m : Moment) (r : Resource) (found : Option Row)
+    → find (is_lock_of pid lkid) r.granted ≡ found → weigh (stands other) (converted_row request lkid m r found) ≤ weigh (stands other) r
+converted_row_stands other request pid lkid m r None is = omega arith
+converted_row_stands other request pid lkid m r (Some row) is =
     let at : Found (is_lock_of pid lkid) r.granted row = found_at (is_lock_of pid lkid) r.granted row is in
     let fewer : sum_by (stands other) (rows_without lkid r.granted) + stands other row ≤ sum_by (stands other) r.granted =
     sum_filter_but-le (stands other) (is_lock_of pid lkid) (λ each. not (each.lkid == lkid)) r.granted row
     (ap not (and_parts (row.lkid == lkid) (row.pid == pid) at.passes).0) at in
     elim (converts_at_once request lkid r) as (λ b.
-    weigh (stands other) (cond b (grant (ungranted lkid r) (wanting_row row request))
+    weigh (stands other) (cond b (valued m (grant (ungranted lkid r) (wanting_row row request)))
     (record (ungranted lkid r) { converting = r.converting ++ wanting_row row request ∷ [] })) ≤ weigh (stands other) r) [
       | true ↦ omega (arith, fewer, sum_by_push (stands other) (rows_without lkid r.granted) (granted_row (wanting_row row request)))
       | false ↦ omega (arith, fewer, sum_by_push (stands other) r.converting (wanting_row row request))
     ]
 
 -- the same, for the row that is found
-converted_stands : (other : ℕ) (request : Request) (pid lkid : ℕ) (r : Resource)
-    → weigh (stands other) (converted request pid lkid r) ≤ weigh (stands other) r
+converted_stands : (other : ℕ) (request : Request) (pid lkid : ℕ) (m : Moment) (r : Resource)
+    → weigh (stands other) (converted request pid lkid m r) ≤ weigh (stands other) r
 unfolding converted
-converted_stands other request pid lkid r = converted_row_stands other request pid lkid r (find (is_lock_of pid lkid) r.granted) refl
+converted_stands other request pid lkid m r = converted_row_stands other request pid lkid m r (find (is_lock_of pid lkid) r.granted) refl
 
 -- a lock that goes gives no lock a row
 without_stands : (other lkid : ℕ) (r : Resource) → weigh (stands other) (without lkid r) ≤ weigh (stands other) r
@@ -122,16 +123,23 @@ cancelled_stands other lkid r =
       sum_filter-le (stands other) (λ row. not (row.lkid == lkid)) r.waiting,
     )
 
+-- what a lock leaves in the value block moves no row
+left_stands : (other : ℕ) (w : Withdrawal) (r : Resource) → weigh (stands other) (left_by w r) ≡ weigh (stands other) r
+left_stands other w r =
+    cond_both (has_writer w.lkid r.granted || has_writer w.lkid r.converting) (left_by_writer w r) r
+    (λ left. weigh (stands other) left ≡ weigh (stands other) r) (λ _. refl) (λ _. refl)
+
 -- a dequeue of either kind gives no lock a row
-dequeued_stands : (other lkid : ℕ) (cancels : Bool) (r : Resource) → weigh (stands other) (dequeued lkid cancels r) ≤ weigh (stands other) r
-dequeued_stands other lkid true r = cancelled_stands other lkid r
-dequeued_stands other lkid false r = without_stands other lkid r
+dequeued_stands : (other : ℕ) (w : Withdrawal) (r : Resource) → weigh (stands other) (dequeued w r) ≤ weigh (stands other) r
+dequeued_stands other w r =
+    cond_both w.cancels (cancelled w.lkid r) (without w.lkid (left_by w r)) (λ left. weigh (stands other) left ≤ weigh (stands other) r)
+    (λ _. cancelled_stands other w.lkid r) (λ _. omega (arith, without_stands other w.lkid (left_by w r), left_stands other w r))
 
 -- after a conversion or a dequeue and a sweep all are apart still
 changed_apart : (s : State) (change : Resource → Resource) → ((lkid : ℕ) (r : Resource) → weigh (stands lkid) (change r) ≤ weigh (stands lkid) r)
-    → (lkid : ℕ) → standing lkid (swept (map change s.resources)) ≤ standing lkid s.resources
-changed_apart s change fewer lkid =
-    omega (arith, swept_stands lkid (map change s.resources), sum_changed-le (weigh (stands lkid)) change (fewer lkid) s.resources)
+    → (processes : List Process) (lkid : ℕ) → standing lkid (swept processes (map change s.resources)) ≤ standing lkid s.resources
+changed_apart s change fewer processes lkid =
+    omega (arith, swept_stands lkid processes (map change s.resources), sum_changed-le (weigh (stands lkid)) change (fewer lkid) s.resources)
 
 -- after every run no two rows have the same identification
 pub apart_always : (steps : List Step) (answers : List Answer) (endings : List Ending) (last : State)
@@ -144,9 +152,8 @@ apart_always =
     (λ d _. record { one_row = apart.one_row; none_to_come = apart.none_to_come })
     (λ e _. one_more_apart s _ apart refl (entered_stands s e))
     (λ c _. fewer_apart s _ apart refl
-    (changed_apart s (converted (conversion_of s c) c.pid (conversion_lkid s c))
-    (λ lkid r. converted_stands lkid (conversion_of s c) c.pid (conversion_lkid s c) r)))
+    (changed_apart s (converted (conversion_of s c) c.pid (conversion_lkid s c) (convert_moment s c))
+    (λ lkid r. converted_stands lkid (conversion_of s c) c.pid (conversion_lkid s c) (convert_moment s c) r) (convert_change s c).processes))
     (λ d _. fewer_apart s _ apart refl
-    (changed_apart s (dequeued (dequeue_lkid s d) (has_flag d.flags cancel))
-    (λ lkid r. dequeued_stands lkid (dequeue_lkid s d) (has_flag d.flags cancel) r)))
+    (changed_apart s (dequeued (withdrawal_of s d)) (λ lkid r. dequeued_stands lkid (withdrawal_of s d) r) (deq_change s d).processes))
     (λ v _. record { one_row = apart.one_row; none_to_come = apart.none_to_come }))

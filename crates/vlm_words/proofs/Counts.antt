@@ -1,5 +1,5 @@
 -- Each accepted request is wanted once or has ended once: by counting both.
-use Rattle.std.proofs.Common.{◌≡◌, ◌≤◌, ◌+◌, ℕ, Bool, true, false, not, List, [], ◌∷◌, ◌++◌, map, cond, Option, None, Some, refl, ap, arith}
+use Rattle.std.proofs.Common.{◌≡◌, ◌≤◌, ◌+◌, ◌||◌, ℕ, Bool, true, false, not, List, [], ◌∷◌, ◌++◌, map, cond, Option, None, Some, refl, ap, arith}
 use Rattle.std.specs.Prelude.{◌==◌}
 use Rattle.std.specs.List.{AllByRecursion, flat_map, sum_by}
 use Rattle.std.proofs.lemmas.Bool.{and_parts}
@@ -9,9 +9,11 @@ use Rattle.vlm_words.specs.declared.locks.Request.{Request}
 use Rattle.vlm_words.specs.declared.locks.Row.{Row}
 use Rattle.vlm_words.specs.Endings.{Ending, How, ended}
 use Rattle.vlm_words.specs.Endings.How.{by_grant, by_abort, by_cancel}
-use Rattle.vlm_words.specs.State.{Resource}
-use Rattle.vlm_words.specs.Grants.{granted_row, grant, swept, swept_grants}
-use Rattle.vlm_words.specs.Dequeue.{is_lock_of, rows_of, rows_without, settled_row, without, cancelled, dequeued, ends_in, withdrawn}
+use Rattle.vlm_words.specs.State.{Process, Resource}
+use Rattle.vlm_words.specs.Grants.{grant_act, grant_ending, granted_row, grant}
+use Rattle.vlm_words.specs.Values.{Moment, valued}
+use Rattle.vlm_words.specs.Sweeps.{swept, swept_grants}
+use Rattle.vlm_words.specs.Dequeue.{Withdrawal, is_lock_of, rows_of, rows_without, has_writer, left_by_writer, left_by, settled_row, without, cancelled, dequeued, ends_in, withdrawn}
 use Rattle.vlm_words.specs.Convert.{wanting_row, ungranted, converts_at_once, converted_row}
 use Rattle.vlm_words.specs.Laws.{IsSettled, wants_number, wanting_on, times_ended}
 use Rattle.vlm_words.proofs.Each.{Found, each_filter, each_weaker}
@@ -40,7 +42,7 @@ ended_counts number how pid (Some request) =
 
 -- a grant keeps what is wanted and what has ended together
 pub wants_kept : (number : ℕ) → GrantKeeps (wants number) (ends number)
-wants_kept number row = omega (arith, ended_counts number by_grant row.pid row.want)
+wants_kept number row = omega (arith, ended_counts number (by_grant (grant_act row.held row.want)) row.pid row.want)
 
 -- the requests of some rows end, each once
 rows_end : (number : ℕ) (how : How) (rows : List Row)
@@ -79,7 +81,8 @@ settling_wants_nothing number (row ∷ rows) =
 
 -- a lock that goes ends its request
 without_counts : (number lkid : ℕ) (r : Resource) → Fit r
-    → wanting_on number (without lkid r) + times_ended number (withdrawn lkid false r) ≡ wanting_on number r
+    → wanting_on number (without lkid r) + times_ended number (ends_in by_abort lkid r.converting ++ ends_in by_abort lkid r.waiting)
+    ≡ wanting_on number r
 unfolding without
 without_counts number lkid r fit =
     omega (
@@ -93,7 +96,8 @@ without_counts number lkid r fit =
 
 -- a cancel ends the request of its lock
 cancelled_counts : (number lkid : ℕ) (r : Resource)
-    → wanting_on number (cancelled lkid r) + times_ended number (withdrawn lkid true r) ≡ wanting_on number r
+    → wanting_on number (cancelled lkid r) + times_ended number (ends_in by_cancel lkid r.converting ++ ends_in by_abort lkid r.waiting)
+    ≡ wanting_on number r
 unfolding cancelled
 cancelled_counts number lkid r =
     omega (
@@ -105,27 +109,42 @@ cancelled_counts number lkid r =
       sum_by-append (ends number) (ends_in by_cancel lkid r.converting) (ends_in by_abort lkid r.waiting),
     )
 
+-- the same, whatever it leaves in the value block
+left_counts : (number : ℕ) (w : Withdrawal) (r : Resource) → Fit r
+    → wanting_on number (without w.lkid (left_by w r)) + times_ended number (ends_in by_abort w.lkid r.converting ++ ends_in by_abort w.lkid r.waiting)
+    ≡ wanting_on number r
+unfolding without
+left_counts number w r fit =
+    elim (has_writer w.lkid r.granted || has_writer w.lkid r.converting) as (λ b. wanting_on number (without w.lkid (cond b (left_by_writer w r) r))
+    + times_ended number (ends_in by_abort w.lkid r.converting ++ ends_in by_abort w.lkid r.waiting) ≡ wanting_on number r) [
+      | true ↦ without_counts number w.lkid r fit
+      | false ↦ without_counts number w.lkid r fit
+    ]
+
 -- a dequeue ends the request of its lock
-dequeued_counts : (number lkid : ℕ) (cancels : Bool) (r : Resource) → Fit r
-    → wanting_on number (dequeued lkid cancels r) + times_ended number (withdrawn lkid cancels r) ≡ wanting_on number r
-dequeued_counts number lkid true r fit = cancelled_counts number lkid r
-dequeued_counts number lkid false r fit = without_counts number lkid r fit
+dequeued_counts : (number : ℕ) (w : Withdrawal) (r : Resource) → Fit r
+    → wanting_on number (dequeued w r) + times_ended number (withdrawn w r) ≡ wanting_on number r
+dequeued_counts number w r fit =
+    elim w.cancels as (λ b. wanting_on number (cond b (cancelled w.lkid r) (without w.lkid (left_by w r)))
+    + times_ended number (ends_in (cond b by_cancel by_abort) w.lkid r.converting ++ ends_in by_abort w.lkid r.waiting) ≡ wanting_on number r) [
+      | true ↦ cancelled_counts number w.lkid r
+      | false ↦ left_counts number w r fit
+    ]
 
 -- after a dequeue and a sweep as many requests are wanted or ended
-pub all_dequeued_count : (number lkid : ℕ) (cancels : Bool) (resources : List Resource) → AllByRecursion Fit resources
-    → sum_by (wanting_on number) (swept (map (dequeued lkid cancels) resources))
-    + times_ended number (flat_map (withdrawn lkid cancels) resources ++ swept_grants (map (dequeued lkid cancels) resources))
+pub all_dequeued_count : (number : ℕ) (w : Withdrawal) (processes : List Process) (resources : List Resource) → AllByRecursion Fit resources
+    → sum_by (wanting_on number) (swept processes (map (dequeued w) resources))
+    + times_ended number (flat_map (withdrawn w) resources ++ swept_grants (map (dequeued w) resources))
     ≡ sum_by (wanting_on number) resources
-all_dequeued_count number lkid cancels resources fit =
-    let changes : List Resource = map (dequeued lkid cancels) resources in
+all_dequeued_count number w processes resources fit =
+    let changes : List Resource = map (dequeued w) resources in
     omega (
       arith,
-      swept_weighs (wants number) (ends number) (wants_kept number) changes,
-      sum_by-append (ends number) (flat_map (withdrawn lkid cancels) resources) (swept_grants changes),
-      sum_changed (wanting_on number) (dequeued lkid cancels) (ends number) (withdrawn lkid cancels) resources
-          (each_weaker Fit
-          (λ r. wanting_on number (dequeued lkid cancels r) + times_ended number (withdrawn lkid cancels r) ≡ wanting_on number r)
-          (dequeued_counts number lkid cancels) resources fit),
+      swept_weighs (wants number) (ends number) (wants_kept number) processes changes,
+      sum_by-append (ends number) (flat_map (withdrawn w) resources) (swept_grants changes),
+      sum_changed (wanting_on number) (dequeued w) (ends number) (withdrawn w) resources
+          (each_weaker Fit (λ r. wanting_on number (dequeued w r) + times_ended number (withdrawn w r) ≡ wanting_on number r)
+          (dequeued_counts number w) resources fit),
     )
 
 -- a lock that is found has a row
@@ -135,24 +154,24 @@ found_stands pid lkid rows row at =
     omega (arith, found-le-sum (stands lkid) (is_lock_of pid lkid) rows row at)
 
 -- a conversion is wanted or ends, and nothing else does
-pub converted_row_counts : (number : ℕ) (request : Request) (pid lkid : ℕ) (r : Resource) (row : Row) → Fit r
-    → wanting_on number (converted_row request lkid r (Some row))
-    + times_ended number (cond (converts_at_once request lkid r) (ended by_grant pid (Some request)) [])
+pub converted_row_counts : (number : ℕ) (request : Request) (lkid : ℕ) (m : Moment) (r : Resource) (row : Row) → Fit r
+    → wanting_on number (converted_row request lkid m r (Some row))
+    + times_ended number (cond (converts_at_once request lkid r) (grant_ending (wanting_row row request)) [])
     ≡ wanting_on number r + hits number (Some request)
-converted_row_counts number request pid lkid r row fit =
+converted_row_counts number request lkid m r row fit =
     let before : sum_by (wants number) r.granted ≡ 0 = settled_want_nothing number r.granted fit.granted in
     let after : sum_by (wants number) (rows_without lkid r.granted) ≡ 0 =
     settled_want_nothing number (rows_without lkid r.granted) (each_filter IsSettled _ r.granted fit.granted) in
     elim (converts_at_once request lkid r) as (λ b.
     wanting_on number
-    (cond b (grant (ungranted lkid r) (wanting_row row request))
+    (cond b (valued m (grant (ungranted lkid r) (wanting_row row request)))
     (record (ungranted lkid r) { converting = r.converting ++ wanting_row row request ∷ [] }))
-    + times_ended number (cond b (ended by_grant pid (Some request)) []) ≡ wanting_on number r + hits number (Some request)) [
+    + times_ended number (cond b (grant_ending (wanting_row row request)) []) ≡ wanting_on number r + hits number (Some request)) [
       | true ↦ omega (
         arith,
         before,
         after,
-        ended_counts number by_grant pid (Some request),
+        ended_counts number (by_grant (grant_act row.held (Some request))) row.pid (Some request),
         sum_by_push (wants number) (rows_without lkid r.granted) (granted_row (wanting_row row request)),
       )
       | false ↦ omega (arith, before, after, sum_by_push (wants number) r.converting (wanting_row row request))

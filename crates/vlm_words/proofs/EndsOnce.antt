@@ -10,16 +10,14 @@ use Rattle.vlm_words.specs.declared.steps.Answer.{Answer}
 use Rattle.vlm_words.specs.declared.steps.Conversion.{Conversion}
 use Rattle.vlm_words.specs.declared.steps.NewRequest.{NewRequest}
 use Rattle.vlm_words.specs.declared.steps.Step.{Step}
-use Rattle.vlm_words.specs.Endings.{Ending, ended}
-use Rattle.vlm_words.specs.Endings.How.{by_grant}
-use Rattle.vlm_words.specs.Flags.{cancel, has_flag}
+use Rattle.vlm_words.specs.Endings.{Ending}
 use Rattle.vlm_words.specs.State.{State, Resource}
-use Rattle.vlm_words.specs.Grants.{swept_grants}
+use Rattle.vlm_words.specs.Values.{Moment}
+use Rattle.vlm_words.specs.Sweeps.{swept_grants, swept_state}
 use Rattle.vlm_words.specs.Declare.{declare_change}
-use Rattle.vlm_words.specs.Enqueue.{enq_change, enq_endings, enq_at_once, found_by, row_of, request_of, key_of}
-use Rattle.vlm_words.specs.Convert.{Place, place_or, granted_place, converts_at, converted_row, converted, conversion_of, convert_refusal, convert_at_once, convert_change, convert_endings, conversion_lkid}
-use Rattle.vlm_words.specs.Dequeue.{is_lock_of, dequeue_lkid, deq_change, deq_endings}
-use Rattle.vlm_words.specs.Stepped.{ended_state}
+use Rattle.vlm_words.specs.Enqueue.{enq_change, enq_ending, enq_endings, found_by, row_of, request_of, key_of}
+use Rattle.vlm_words.specs.Convert.{Place, place_or, granted_place, converted_row, converted, conversion_of, conversion_ending, convert_refusal, convert_change, convert_moment, convert_endings, conversion_lkid}
+use Rattle.vlm_words.specs.Dequeue.{is_lock_of, withdrawal_of, deq_change, deq_endings}
 use Rattle.vlm_words.specs.SetValue.{set_change}
 use Rattle.vlm_words.specs.Runs.{Run}
 use Rattle.vlm_words.specs.Laws.{wanting_on, wanting, times_ended, EachRequestEndsOnce}
@@ -32,44 +30,40 @@ use Rattle.vlm_words.proofs.Apart.{Apart, apart_always, stands, standing}
 use Rattle.vlm_words.proofs.Counts.{hits, wants, ends, wants_kept, found_stands, converted_row_counts, all_dequeued_count}
 
 -- a lock that has no row is not found
-absent_same : (request : Request) (pid lkid : ℕ) (r : Resource) (found : Option Row) → find (is_lock_of pid lkid) r.granted ≡ found
-    → weigh (stands lkid) r ≡ 0 → converted_row request lkid r found ≡ r
-absent_same request pid lkid r None is absent = refl
-absent_same request pid lkid r (Some row) is absent =
+absent_same : (request : Request) (pid lkid : ℕ) (m : Moment) (r : Resource) (found : Option Row) → find (is_lock_of pid lkid) r.granted ≡ found
+    → weigh (stands lkid) r ≡ 0 → converted_row request lkid m r found ≡ r
+absent_same request pid lkid m r None is absent = refl
+absent_same request pid lkid m r (Some row) is absent =
     absurd (omega (arith, found_stands pid lkid r.granted row (found_at (is_lock_of pid lkid) r.granted row is)))
 
 -- resources without a row of the lock stay as they are when it converts
-absent_unchanged : (request : Request) (pid lkid : ℕ) (resources : List Resource) → standing lkid resources ≡ 0
-    → map (converted request pid lkid) resources ≡ resources
+absent_unchanged : (request : Request) (pid lkid : ℕ) (m : Moment) (resources : List Resource) → standing lkid resources ≡ 0
+    → map (converted request pid lkid m) resources ≡ resources
 unfolding converted
-absent_unchanged request pid lkid [] absent = refl
-absent_unchanged request pid lkid (r ∷ rest) absent =
+absent_unchanged request pid lkid m [] absent = refl
+absent_unchanged request pid lkid m (r ∷ rest) absent =
     let both : standing lkid (r ∷ rest) ≡ weigh (stands lkid) r + standing lkid rest = sum_by-cons (weigh (stands lkid)) r rest in
-    let here : converted request pid lkid r ≡ r =
-    absent_same request pid lkid r (find (is_lock_of pid lkid) r.granted) refl (omega arith) in
-    let behind : map (converted request pid lkid) rest ≡ rest = absent_unchanged request pid lkid rest (omega arith) in
+    let here : converted request pid lkid m r ≡ r =
+    absent_same request pid lkid m r (find (is_lock_of pid lkid) r.granted) refl (omega arith) in
+    let behind : map (converted request pid lkid m) rest ≡ rest = absent_unchanged request pid lkid m rest (omega arith) in
     cc
 
--- the ending of a conversion that is granted at once
-abbrev pub own_ending : Request → ℕ → ℕ → Option Place → List Ending
-own_ending request pid lkid place = cond (converts_at request lkid place) (ended by_grant pid (Some request)) []
-
 -- where a lock has one row, its conversion is counted once: on its resource, or on those behind it
-here_or_behind : (number : ℕ) (request : Request) (pid lkid : ℕ) (r : Resource) (rest : List Resource) (place : Place) (found : Option Row)
+here_or_behind : (number : ℕ) (request : Request) (pid lkid : ℕ) (m : Moment) (r : Resource) (rest : List Resource) (place : Place) (found : Option Row)
     → find (is_lock_of pid lkid) r.granted ≡ found → Fit r → standing lkid (r ∷ rest) ≤ 1
     → (granted_place pid lkid rest ≡ Some place
-    → sum_by (wanting_on number) (map (converted request pid lkid) rest) + times_ended number (own_ending request pid lkid (Some place))
+    → sum_by (wanting_on number) (map (converted request pid lkid m) rest) + times_ended number (conversion_ending request lkid (Some place))
     ≡ sum_by (wanting_on number) rest + hits number (Some request))
     → place_or r found (granted_place pid lkid rest) ≡ Some place
-    → wanting_on number (converted_row request lkid r found) + sum_by (wanting_on number) (map (converted request pid lkid) rest)
-    + times_ended number (own_ending request pid lkid (Some place))
+    → wanting_on number (converted_row request lkid m r found) + sum_by (wanting_on number) (map (converted request pid lkid m) rest)
+    + times_ended number (conversion_ending request lkid (Some place))
     ≡ wanting_on number r + sum_by (wanting_on number) rest + hits number (Some request)
-here_or_behind number request pid lkid r rest place None is fit one behind at = omega (arith, behind at)
-here_or_behind number request pid lkid r rest place (Some row) is fit one behind at =
+here_or_behind number request pid lkid m r rest place None is fit one behind at = omega (arith, behind at)
+here_or_behind number request pid lkid m r rest place (Some row) is fit one behind at =
     let same : Some (record { resource = r; row = row }) ≡ Some place = at in
-    let own : times_ended number (own_ending request pid lkid (Some (record { resource = r; row = row })))
-    ≡ times_ended number (own_ending request pid lkid (Some place)) =
-    ap (λ p. times_ended number (own_ending request pid lkid p)) same in
+    let own : times_ended number (conversion_ending request lkid (Some (record { resource = r; row = row })))
+    ≡ times_ended number (conversion_ending request lkid (Some place)) =
+    ap (λ p. times_ended number (conversion_ending request lkid p)) same in
     let absent : standing lkid rest ≡ 0 =
     omega (
       arith,
@@ -78,57 +72,57 @@ here_or_behind number request pid lkid r rest place (Some row) is fit one behind
     ) in
     omega (
       arith,
-      converted_row_counts number request pid lkid r row fit,
+      converted_row_counts number request lkid m r row fit,
       own,
-      ap (sum_by (wanting_on number)) (absent_unchanged request pid lkid rest absent),
+      ap (sum_by (wanting_on number)) (absent_unchanged request pid lkid m rest absent),
     )
 
 -- where a lock has one row, its conversion is counted once
-all_converted_count : (number : ℕ) (request : Request) (pid lkid : ℕ) (place : Place) (resources : List Resource)
+all_converted_count : (number : ℕ) (request : Request) (pid lkid : ℕ) (m : Moment) (place : Place) (resources : List Resource)
     → AllByRecursion Fit resources → standing lkid resources ≤ 1 → granted_place pid lkid resources ≡ Some place
-    → sum_by (wanting_on number) (map (converted request pid lkid) resources) + times_ended number (own_ending request pid lkid (Some place))
+    → sum_by (wanting_on number) (map (converted request pid lkid m) resources) + times_ended number (conversion_ending request lkid (Some place))
     ≡ sum_by (wanting_on number) resources + hits number (Some request)
 unfolding converted
-all_converted_count number request pid lkid place [] fit one at = cc
-all_converted_count number request pid lkid place (r ∷ rest) fit one at =
+all_converted_count number request pid lkid m place [] fit one at = cc
+all_converted_count number request pid lkid m place (r ∷ rest) fit one at =
     let fewer : standing lkid rest ≤ 1 = omega (arith, sum_by-cons (weigh (stands lkid)) r rest) in
-    let all = here_or_behind number request pid lkid r rest place (find (is_lock_of pid lkid) r.granted) refl fit.0 one
-    (λ behind. all_converted_count number request pid lkid place rest fit.1 fewer behind) at in
+    let all = here_or_behind number request pid lkid m r rest place (find (is_lock_of pid lkid) r.granted) refl fit.0 one
+    (λ behind. all_converted_count number request pid lkid m place rest fit.1 fewer behind) at in
     omega (
       arith,
       all,
       sum_by-cons (wanting_on number) r rest,
-      sum_by-cons (wanting_on number) (converted request pid lkid r) (map (converted request pid lkid) rest),
+      sum_by-cons (wanting_on number) (converted request pid lkid m r) (map (converted request pid lkid m) rest),
     )
 
 -- a new request is wanted or ends, and what the sweep grants ends
 enqueued_counts : (number : ℕ) (s : State) (e : NewRequest)
-    → wanting number (ended_state (enq_endings s e) (enq_change s e)) + times_ended number (enq_endings s e)
+    → wanting number (swept_state (enq_change s e)) + times_ended number (enq_endings s e)
     ≡ wanting number s + cond (s.next_request == number) 1 0
 unfolding enq_change enq_endings found_by
 enqueued_counts number s e =
     omega (
       arith,
-      swept_weighs (wants number) (ends number) (wants_kept number) (enq_change s e).resources,
-      entered_among_weighs (wants number) (ends number) (wants_kept number) s.next_serial (key_of s e) (row_of s e) (request_of s e) refl s.resources,
-      sum_by-append (ends number) (cond (enq_at_once s e) (ended by_grant e.pid (Some (request_of s e))) []) (swept_grants (enq_change s e).resources),
+      swept_weighs (wants number) (ends number) (wants_kept number) (enq_change s e).processes (enq_change s e).resources,
+      entered_among_weighs (wants number) (ends number) (wants_kept number) s.next_serial (key_of s e) (row_of s e) (request_of s e) s.resources,
+      sum_by-append (ends number) (enq_ending s e) (swept_grants (enq_change s e).resources),
     )
 
 -- a conversion is wanted or ends, and what the sweep grants ends
 converted_counts : (number : ℕ) (s : State) (c : Conversion) → convert_refusal s c ≡ None → AllByRecursion Fit s.resources → Apart s
-    → wanting number (ended_state (convert_endings s c) (convert_change s c)) + times_ended number (convert_endings s c)
+    → wanting number (swept_state (convert_change s c)) + times_ended number (convert_endings s c)
     ≡ wanting number s + cond (s.next_request == number) 1 0
-unfolding convert_change convert_endings convert_at_once
+unfolding convert_change convert_endings
 converted_counts number s c passed fit apart =
     let lkid : ℕ = conversion_lkid s c in
     let request : Request = conversion_of s c in
     let place : (place : Place) × (granted_place c.pid lkid s.resources ≡ Some place) = found_place s c passed in
     omega (
       arith,
-      swept_weighs (wants number) (ends number) (wants_kept number) (convert_change s c).resources,
-      all_converted_count number request c.pid lkid place.0 s.resources fit (apart.one_row lkid) place.1,
-      ap (λ p. times_ended number (own_ending request c.pid lkid p)) place.1,
-      sum_by-append (ends number) (own_ending request c.pid lkid (granted_place c.pid lkid s.resources)) (swept_grants (convert_change s c).resources),
+      swept_weighs (wants number) (ends number) (wants_kept number) (convert_change s c).processes (convert_change s c).resources,
+      all_converted_count number request c.pid lkid (convert_moment s c) place.0 s.resources fit (apart.one_row lkid) place.1,
+      ap (λ p. times_ended number (conversion_ending request lkid p)) place.1,
+      sum_by-append (ends number) (conversion_ending request lkid (granted_place c.pid lkid s.resources)) (swept_grants (convert_change s c).resources),
     )
 
 -- each accepted request is counted once, and those to come are not
@@ -167,13 +161,13 @@ counted_always =
     let apart : Apart s = apart_always steps answers endings s run in
     kept_by_stepped CountedOnce endings s counted
     (λ d _. same_counts endings [] s (declare_change s d) counted refl (λ number. omega arith))
-    (λ e _. one_more_counts endings (enq_endings s e) s (ended_state (enq_endings s e) (enq_change s e)) counted refl (λ number. enqueued_counts number s e))
+    (λ e _. one_more_counts endings (enq_endings s e) s (swept_state (enq_change s e)) counted refl (λ number. enqueued_counts number s e))
     (λ c passed.
-    one_more_counts endings (convert_endings s c) s (ended_state (convert_endings s c) (convert_change s c)) counted refl
+    one_more_counts endings (convert_endings s c) s (swept_state (convert_change s c)) counted refl
     (λ number. converted_counts number s c passed fit apart))
     (λ d _.
-    same_counts endings (deq_endings s d) s (ended_state (deq_endings s d) (deq_change s d)) counted refl
-    (λ number. all_dequeued_count number (dequeue_lkid s d) (has_flag d.flags cancel) s.resources fit))
+    same_counts endings (deq_endings s d) s (swept_state (deq_change s d)) counted refl
+    (λ number. all_dequeued_count number (withdrawal_of s d) (deq_change s d).processes s.resources fit))
     (λ v _. same_counts endings [] s (set_change s v) counted refl (λ number. omega arith)))
 
 -- of two numbers whose sum is 1, one is 1 and the other 0

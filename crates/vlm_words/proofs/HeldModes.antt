@@ -1,5 +1,5 @@
 -- After every step the held modes of each resource are compatible.
-use Rattle.std.proofs.Common.{◌≡◌, ℕ, Bool, true, false, not, List, [], ◌∷◌, ◌++◌, Option, None, Some, append_assoc, refl, sym, subst, ap, ⊎_elim, ◌∙◌}
+use Rattle.std.proofs.Common.{◌≡◌, ◌||◌, ℕ, true, not, List, [], ◌∷◌, ◌++◌, Option, None, Some, append_assoc, refl, sym, subst, ap, ⊎_elim, ◌∙◌}
 use Rattle.std.proofs.Math.Bool.{or_comm}
 use Rattle.std.proofs.Math.Path.{fun_ext}
 use Rattle.std.specs.Prelude.{AllPairs, ◌==◌, ◌&&◌}
@@ -20,7 +20,8 @@ use Rattle.vlm_words.specs.State.{State, Resource}
 use Rattle.vlm_words.specs.Grants.{is_empty, is_beside, fits, wanted_fits, granted_row, grant, serve_converting, serve_waiting, serve_new_requests, served}
 use Rattle.vlm_words.specs.Enqueue.{is_free_for, is_at_once, entered, row_of, request_of, enq_refusal}
 use Rattle.vlm_words.specs.Convert.{wanting_row, ungranted, converts_at_once, converted_row, converted}
-use Rattle.vlm_words.specs.Dequeue.{is_lock_of, rows_without, settled_row, without, cancelled, dequeued}
+use Rattle.vlm_words.specs.Dequeue.{Withdrawal, is_lock_of, rows_without, has_writer, left_by_writer, left_by, settled_row, without, cancelled, dequeued}
+use Rattle.vlm_words.specs.Values.{Moment, valued}
 use Rattle.vlm_words.specs.Runs.{Run}
 use Rattle.vlm_words.specs.Laws.{AreCompatible, HeldModesAreCompatible}
 use Rattle.vlm_words.proofs.Each.{Found, found_at, each_append, each_passes, each_weaker}
@@ -50,7 +51,7 @@ are_compatible-comm (Some a) None compatible = tt
 are_compatible-comm (Some a) (Some b) compatible = is_compatible-comm b.mode a.mode ∙ compatible
 
 -- holding compatible modes has no order
-hold_compatible-comm : (a b : Row) → HoldCompatible a b → HoldCompatible b a
+pub hold_compatible-comm : (a b : Row) → HoldCompatible a b → HoldCompatible b a
 hold_compatible-comm a b compatible = are_compatible-comm a.held b.held compatible
 
 -- a mode that may be held beside what a row holds is compatible with it
@@ -185,19 +186,19 @@ queued_agrees request pid lkid granted converting row at agree =
     (each_pair_filter_left HoldCompatible _ granted converting agree))
 
 -- a conversion keeps the held modes compatible, whichever row is found
-converted_row_agrees : (request : Request) (pid lkid : ℕ) (r : Resource) (found : Option Row) → find (is_lock_of pid lkid) r.granted ≡ found
-    → HoldersAgree r → HoldersAgree (converted_row request lkid r found)
-converted_row_agrees request pid lkid r None is agree = agree
-converted_row_agrees request pid lkid r (Some row) is agree =
-    cond_both (converts_at_once request lkid r) (grant (ungranted lkid r) (wanting_row row request))
+converted_row_agrees : (request : Request) (pid lkid : ℕ) (m : Moment) (r : Resource) (found : Option Row)
+    → find (is_lock_of pid lkid) r.granted ≡ found → HoldersAgree r → HoldersAgree (converted_row request lkid m r found)
+converted_row_agrees request pid lkid m r None is agree = agree
+converted_row_agrees request pid lkid m r (Some row) is agree =
+    cond_both (converts_at_once request lkid r) (valued m (grant (ungranted lkid r) (wanting_row row request)))
     (record (ungranted lkid r) { converting = r.converting ++ wanting_row row request ∷ [] }) HoldersAgree
     (λ at_once. converted_at_once_agrees request lkid r row at_once agree)
     (λ _. queued_agrees request pid lkid r.granted r.converting row (found_at (is_lock_of pid lkid) r.granted row is) agree)
 
 -- the same, for the row that is found
-converted_agrees : (request : Request) (pid lkid : ℕ) (r : Resource) → HoldersAgree r → HoldersAgree (converted request pid lkid r)
+converted_agrees : (request : Request) (pid lkid : ℕ) (m : Moment) (r : Resource) → HoldersAgree r → HoldersAgree (converted request pid lkid m r)
 unfolding converted
-converted_agrees request pid lkid r agree = converted_row_agrees request pid lkid r (find (is_lock_of pid lkid) r.granted) refl agree
+converted_agrees request pid lkid m r agree = converted_row_agrees request pid lkid m r (find (is_lock_of pid lkid) r.granted) refl agree
 
 -- a lock that goes leaves the held modes compatible
 without_agrees : (lkid : ℕ) (r : Resource) → HoldersAgree r → HoldersAgree (without lkid r)
@@ -210,10 +211,24 @@ unfolding cancelled
 cancelled_agrees lkid r agree =
     each_pair_move HoldCompatible hold_compatible-comm settled_row (λ a b compatible. compatible) (λ row. row.lkid == lkid) r.granted r.converting agree
 
+-- what a lock leaves in the value block does not touch the held modes
+left_agrees : (w : Withdrawal) (r : Resource) → HoldersAgree r → HoldersAgree (left_by w r)
+left_agrees w r agree =
+    cond_both (has_writer w.lkid r.granted || has_writer w.lkid r.converting) (left_by_writer w r) r HoldersAgree (λ _. agree) (λ _. agree)
+
 -- a dequeue keeps the held modes compatible
-dequeued_agrees : (lkid : ℕ) (cancels : Bool) (r : Resource) → HoldersAgree r → HoldersAgree (dequeued lkid cancels r)
-dequeued_agrees lkid true r agree = cancelled_agrees lkid r agree
-dequeued_agrees lkid false r agree = without_agrees lkid r agree
+dequeued_agrees : (w : Withdrawal) (r : Resource) → HoldersAgree r → HoldersAgree (dequeued w r)
+dequeued_agrees w r agree =
+    cond_both w.cancels (cancelled w.lkid r) (without w.lkid (left_by w r)) HoldersAgree
+    (λ _. cancelled_agrees w.lkid r agree) (λ _. without_agrees w.lkid (left_by w r) (left_agrees w r agree))
+
+-- after every run the held modes of each resource are compatible, by recursion
+pub holders_agree_always : (steps : List Step) (answers : List Answer) (endings : List Ending) (last : State)
+    → Run steps answers endings last → AllByRecursion HoldersAgree last.resources
+holders_agree_always steps answers endings last run =
+    each_always HoldersAgree HoldersAgree (λ _ agree. agree) (λ _ r agree. served_agrees r agree)
+    (record { fresh = λ _ _. tt; entry = entered_agrees; conversion = converted_agrees; removal = dequeued_agrees })
+    steps answers endings last run
 
 -- after every run the held modes are compatible
 pub held_modes_always : (steps : List Step) (answers : List Answer) (endings : List Ending) (last : State)
@@ -222,6 +237,4 @@ held_modes_always steps answers endings last run =
     All-from_recursion (λ r. AllPairs HoldCompatible (r.granted ++ r.converting)) last.resources
     (each_weaker HoldersAgree (λ r. AllPairs HoldCompatible (r.granted ++ r.converting))
     (λ r. AllPairs-from_recursion HoldCompatible (r.granted ++ r.converting)) last.resources
-    (each_always HoldersAgree HoldersAgree (λ _ agree. agree) served_agrees
-    (record { fresh = λ _ _. tt; entry = entered_agrees; conversion = converted_agrees; removal = dequeued_agrees })
-    steps answers endings last run))
+    (holders_agree_always steps answers endings last run))

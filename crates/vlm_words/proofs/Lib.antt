@@ -6,6 +6,7 @@ pub mod EachResource
 pub mod NothingLeft
 pub mod HeldModes
 pub mod QueueOrder
+pub mod Writes
 pub mod RowsFit
 pub mod Sums
 pub mod Weights

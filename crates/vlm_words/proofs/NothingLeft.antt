@@ -71,8 +71,8 @@ kept_by_all : KeptByChanges (λ _. ⊤)
 kept_by_all = record {
   fresh = λ _ _. tt;
   entry = λ _ _ _ _ _. tt;
-  conversion = λ _ _ _ _ _. tt;
-  removal = λ _ _ _ _. tt;
+  conversion = λ _ _ _ _ _ _. tt;
+  removal = λ _ _ _. tt;
 }
 
 -- after every run nothing is left to grant
@@ -80,4 +80,4 @@ pub nothing_left_always : (steps : List Step) (answers : List Answer) (endings :
     → Run steps answers endings last → NothingIsLeftToGrant last
 nothing_left_always steps answers endings last run =
     All-from_recursion NothingFits last.resources
-    (each_always (λ _. ⊤) NothingFits (λ _ _. tt) (λ r _. served_stops r) kept_by_all steps answers endings last run)
+    (each_always (λ _. ⊤) NothingFits (λ _ _. tt) (λ _ r _. served_stops r) kept_by_all steps answers endings last run)

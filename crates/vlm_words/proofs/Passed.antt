@@ -77,13 +77,17 @@ unfolding place_refusal
 some_place c None passed = cc
 some_place c (Some place) passed = (place, refl)
 
+-- the place of an accepted conversion is not refused
+pub place_passes : (s : State) (c : Conversion) → convert_refusal s c ≡ None
+    → place_refusal c (granted_place c.pid (conversion_lkid s c) s.resources) ≡ None
+unfolding convert_refusal
+place_passes s c passed =
+    sixth_passes (caller_refusal s c.pid) (convert_argument_refusal c) (block_refusal s c.pid c.block) (which_refusal s c.pid c.lock)
+    (lock_refusal s c.pid (conversion_lkid s c))
+    (place_refusal c (granted_place c.pid (conversion_lkid s c) s.resources))
+    (or_else (request_numbers_refusal s) (queue_refusal c.flags (convert_at_once s c))) passed
+
 -- an accepted conversion is of a granted lock
 pub found_place : (s : State) (c : Conversion) → convert_refusal s c ≡ None
     → (place : Place) × (granted_place c.pid (conversion_lkid s c) s.resources ≡ Some place)
-unfolding convert_refusal
-found_place s c passed =
-    some_place c (granted_place c.pid (conversion_lkid s c) s.resources)
-    (sixth_passes (caller_refusal s c.pid) (convert_argument_refusal c) (block_refusal s c.pid c.block) (which_refusal s c.pid c.lock)
-    (lock_refusal s c.pid (conversion_lkid s c))
-    (place_refusal c (granted_place c.pid (conversion_lkid s c) s.resources))
-    (or_else (request_numbers_refusal s) (queue_refusal c.flags (convert_at_once s c))) passed)
+found_place s c passed = some_place c (granted_place c.pid (conversion_lkid s c) s.resources) (place_passes s c passed)

@@ -5,11 +5,10 @@ use Rattle.std.proofs.lemmas.List.{append-nil}
 use Rattle.vlm_words.specs.declared.locks.Row.{Row}
 use Rattle.vlm_words.specs.declared.steps.Conversion.{Conversion}
 use Rattle.vlm_words.specs.declared.steps.NewRequest.{NewRequest}
-use Rattle.vlm_words.specs.Endings.{Ending, ended}
-use Rattle.vlm_words.specs.Endings.How.{by_grant}
+use Rattle.vlm_words.specs.Endings.{Ending}
 use Rattle.vlm_words.specs.Flags.{has_flag, expedite}
 use Rattle.vlm_words.specs.State.{State, Resource}
-use Rattle.vlm_words.specs.Grants.{is_empty, wanted_fits, granted_row, grant, serve_converting, serve_waiting, serve_new_requests, converting_grants, waiting_grants, new_request_grants, served, grants_of}
+use Rattle.vlm_words.specs.Grants.{is_empty, wanted_fits, granted_row, grant, grant_ending, serve_converting, serve_waiting, serve_new_requests, converting_grants, waiting_grants, new_request_grants, served, grants_of}
 use Rattle.vlm_words.specs.Enqueue.{is_free_for, is_at_once, enq_refusal, enq_at_once, request_of, found_by}
 use Rattle.vlm_words.specs.Convert.{Place, granted_place, conversion_of, converts_at, converts_at_once, convert_at_once, conversion_lkid}
 use Rattle.vlm_words.specs.Laws.{granted_endings, GrantsFirst, EntersInTurn, ConvertsInTurn, GrantsFollowQueueOrder}
@@ -29,12 +28,12 @@ serves_none rows before left is = record { served_rows = 0; rest = is; granted =
 
 -- the first row is granted, and then more
 serves_one_more : (row : Row) (rows before after left : List Row) (endings : List Ending)
-    → Serves rows (before ++ granted_row row ∷ []) after left endings → Serves (row ∷ rows) before after left (ended by_grant row.pid row.want ++ endings)
+    → Serves rows (before ++ granted_row row ∷ []) after left endings → Serves (row ∷ rows) before after left (grant_ending row ++ endings)
 serves_one_more row rows before after left endings more = record {
   served_rows = suc more.served_rows;
   rest = more.rest;
   granted = more.granted ∙ append_assoc before (granted_row row ∷ []) (map granted_row (take more.served_rows rows));
-  ended_rows = ap (λ (es : List Ending). ended by_grant row.pid row.want ++ es) more.ended_rows;
+  ended_rows = ap (λ (es : List Ending). grant_ending row ++ es) more.ended_rows;
 }
 
 -- conversions are granted from the head of their queue
@@ -44,12 +43,12 @@ serve_converting_serves r [] is = serves_none [] r.granted r.converting is
 serve_converting_serves r (row ∷ rows) is =
     let more : Resource = record (grant r row) { converting = rows } in
     let fitting : Serves (row ∷ rows) r.granted (serve_converting more rows).granted (serve_converting more rows).converting
-    (ended by_grant row.pid row.want ++ converting_grants more rows) =
+    (grant_ending row ++ converting_grants more rows) =
     serves_one_more row rows r.granted (serve_converting more rows).granted (serve_converting more rows).converting (converting_grants more rows)
     (serve_converting_serves more rows refl) in
     elim (wanted_fits row.want r.granted rows) as (λ b.
     Serves (row ∷ rows) r.granted (cond b (serve_converting more rows) r).granted (cond b (serve_converting more rows) r).converting
-    (cond b (ended by_grant row.pid row.want ++ converting_grants more rows) [])) [
+    (cond b (grant_ending row ++ converting_grants more rows) [])) [
       | true ↦ fitting
       | false ↦ serves_none (row ∷ rows) r.granted r.converting is
     ]
@@ -61,12 +60,12 @@ serve_waiting_serves r [] is = serves_none [] r.granted r.waiting is
 serve_waiting_serves r (row ∷ rows) is =
     let more : Resource = record (grant r row) { waiting = rows } in
     let fitting : Serves (row ∷ rows) r.granted (serve_waiting more rows).granted (serve_waiting more rows).waiting
-    (ended by_grant row.pid row.want ++ waiting_grants more rows) =
+    (grant_ending row ++ waiting_grants more rows) =
     serves_one_more row rows r.granted (serve_waiting more rows).granted (serve_waiting more rows).waiting (waiting_grants more rows)
     (serve_waiting_serves more rows refl) in
     elim (wanted_fits row.want r.granted r.converting) as (λ b.
     Serves (row ∷ rows) r.granted (cond b (serve_waiting more rows) r).granted (cond b (serve_waiting more rows) r).waiting
-    (cond b (ended by_grant row.pid row.want ++ waiting_grants more rows) [])) [
+    (cond b (grant_ending row ++ waiting_grants more rows) [])) [
       | true ↦ fitting
       | false ↦ serves_none (row ∷ rows) r.granted r.waiting is
     ]
@@ -128,7 +127,7 @@ enters_in_turn s e passed at_once =
     (or_cases (has_flag e.flags expedite) (is_free_for (request_of s e) (found_by s e)) at_once)
 
 -- where one of two tests passes, and the negated first does not, the second does
-second_passes : (a b : Bool) → (not a || b) ≡ true → a ≡ true → b ≡ true
+pub second_passes : (a b : Bool) → (not a || b) ≡ true → a ≡ true → b ≡ true
 second_passes true b one first = one
 second_passes false b one first = cc
 

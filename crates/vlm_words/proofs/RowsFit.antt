@@ -1,5 +1,5 @@
 -- After every step each lock stands in the queue that fits it.
-use Rattle.std.proofs.Common.{◌≡◌, ℕ, Bool, true, false, List, [], ◌∷◌, ◌++◌, Option, None, Some, refl, subst, map}
+use Rattle.std.proofs.Common.{◌≡◌, ◌||◌, ℕ, List, [], ◌∷◌, ◌++◌, Option, None, Some, refl, sym, subst, map}
 use Rattle.std.specs.Prelude.{IsSome}
 use Rattle.std.specs.List.{AllByRecursion, find}
 use Rattle.std.proofs.lemmas.Bool.{cond_both}
@@ -14,7 +14,8 @@ use Rattle.vlm_words.specs.State.{State, Resource}
 use Rattle.vlm_words.specs.Grants.{is_empty, wanted_fits, granted_row, grant, serve_converting, serve_waiting, serve_new_requests, served}
 use Rattle.vlm_words.specs.Enqueue.{is_at_once, entered, row_of, request_of, enq_refusal}
 use Rattle.vlm_words.specs.Convert.{wanting_row, ungranted, converts_at_once, converted_row, converted}
-use Rattle.vlm_words.specs.Dequeue.{is_lock_of, rows_of, rows_without, settled_row, without, cancelled, dequeued}
+use Rattle.vlm_words.specs.Dequeue.{Withdrawal, is_lock_of, rows_of, rows_without, settled_row, has_writer, left_by_writer, left_by, without, cancelled, dequeued}
+use Rattle.vlm_words.specs.Values.{Moment, valued}
 use Rattle.vlm_words.specs.Runs.{Run}
 use Rattle.vlm_words.specs.Laws.{IsSettled, IsConverting, IsWaiting, RowsFit, RowsFitTheirQueues}
 use Rattle.vlm_words.proofs.Each.{Found, found_at, each_append, each_at, each_filter, each_map, each_weaker}
@@ -62,6 +63,14 @@ served_fit r fit = new_requests (serve_converting r r.converting) (serve_convert
     new_requests left fit =
         cond_both (is_empty left.converting) (serve_waiting left left.waiting) left Fit (λ _. serve_waiting_fit left left.waiting refl fit) (λ _. fit)
 
+-- the value block does not matter
+same_fit : (r t : Resource) → t.granted ≡ r.granted → t.converting ≡ r.converting → t.waiting ≡ r.waiting → Fit r → Fit t
+same_fit r t granted converting waiting fit = record {
+  granted = subst (AllByRecursion IsSettled) (sym granted) fit.granted;
+  converting = subst (AllByRecursion IsConverting) (sym converting) fit.converting;
+  waiting = subst (AllByRecursion IsWaiting) (sym waiting) fit.waiting;
+}
+
 -- the entry of a lock keeps the rows fit
 entered_fit : (s : State) (e : NewRequest) → enq_refusal s e ≡ None → (r : Resource) → Fit r → Fit (entered (row_of s e) (request_of s e) r)
 unfolding entered
@@ -75,14 +84,14 @@ entered_fit s e _ r fit =
     })
 
 -- a conversion keeps the rows fit, whichever row is found
-converted_row_fit : (request : Request) (pid lkid : ℕ) (r : Resource) (found : Option Row) → find (is_lock_of pid lkid) r.granted ≡ found
-    → Fit r → Fit (converted_row request lkid r found)
-converted_row_fit request pid lkid r None is fit = fit
-converted_row_fit request pid lkid r (Some row) is fit =
+converted_row_fit : (request : Request) (pid lkid : ℕ) (m : Moment) (r : Resource) (found : Option Row) → find (is_lock_of pid lkid) r.granted ≡ found
+    → Fit r → Fit (converted_row request lkid m r found)
+converted_row_fit request pid lkid m r None is fit = fit
+converted_row_fit request pid lkid m r (Some row) is fit =
     let at : Found (is_lock_of pid lkid) r.granted row = found_at (is_lock_of pid lkid) r.granted row is in
     let held : IsSettled row = each_at IsSettled at.before row at.after (subst (AllByRecursion IsSettled) at.split fit.granted) in
     let others : AllByRecursion IsSettled (rows_without lkid r.granted) = each_filter IsSettled _ r.granted fit.granted in
-    cond_both (converts_at_once request lkid r) (grant (ungranted lkid r) (wanting_row row request))
+    cond_both (converts_at_once request lkid r) (valued m (grant (ungranted lkid r) (wanting_row row request)))
     (record (ungranted lkid r) { converting = r.converting ++ wanting_row row request ∷ [] }) Fit
     (λ _. record {
       granted = settled_after_grant (rows_without lkid r.granted) (wanting_row row request) others refl;
@@ -96,9 +105,9 @@ converted_row_fit request pid lkid r (Some row) is fit =
     })
 
 -- the same, for the row that is found
-converted_fit : (request : Request) (pid lkid : ℕ) (r : Resource) → Fit r → Fit (converted request pid lkid r)
+converted_fit : (request : Request) (pid lkid : ℕ) (m : Moment) (r : Resource) → Fit r → Fit (converted request pid lkid m r)
 unfolding converted
-converted_fit request pid lkid r fit = converted_row_fit request pid lkid r (find (is_lock_of pid lkid) r.granted) refl fit
+converted_fit request pid lkid m r fit = converted_row_fit request pid lkid m r (find (is_lock_of pid lkid) r.granted) refl fit
 
 -- a lock that goes leaves the rows fit
 without_fit : (lkid : ℕ) (r : Resource) → Fit r → Fit (without lkid r)
@@ -121,16 +130,23 @@ cancelled_fit lkid r fit = record {
   waiting = each_filter IsWaiting _ r.waiting fit.waiting;
 }
 
+-- what a lock leaves in the value block keeps the rows fit
+left_fit : (w : Withdrawal) (r : Resource) → Fit r → Fit (left_by w r)
+left_fit w r fit =
+    cond_both (has_writer w.lkid r.granted || has_writer w.lkid r.converting) (left_by_writer w r) r Fit
+    (λ _. same_fit r (left_by_writer w r) refl refl refl fit) (λ _. fit)
+
 -- a dequeue keeps the rows fit
-dequeued_fit : (lkid : ℕ) (cancels : Bool) (r : Resource) → Fit r → Fit (dequeued lkid cancels r)
-dequeued_fit lkid true r fit = cancelled_fit lkid r fit
-dequeued_fit lkid false r fit = without_fit lkid r fit
+dequeued_fit : (w : Withdrawal) (r : Resource) → Fit r → Fit (dequeued w r)
+dequeued_fit w r fit =
+    cond_both w.cancels (cancelled w.lkid r) (without w.lkid (left_by w r)) Fit
+    (λ _. cancelled_fit w.lkid r fit) (λ _. without_fit w.lkid (left_by w r) (left_fit w r fit))
 
 -- after every run each row fits its queue
 pub fit_always : (steps : List Step) (answers : List Answer) (endings : List Ending) (last : State)
     → Run steps answers endings last → AllByRecursion Fit last.resources
 fit_always steps answers endings last run =
-    each_always Fit Fit (λ _ fit. fit) served_fit
+    each_always Fit Fit (λ _ fit. fit) (λ m r fit. same_fit (served r) (valued m (served r)) refl refl refl (served_fit r fit))
     (record {
       fresh = λ _ _. record { granted = tt; converting = tt; waiting = tt };
       entry = entered_fit;

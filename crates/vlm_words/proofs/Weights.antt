@@ -1,15 +1,16 @@
 -- What rows weigh: a sum over all queues, and what becomes of it as requests are granted.
-use Rattle.std.proofs.Common.{◌≡◌, ◌+◌, ℕ, true, false, not, ◌&&◌, List, [], ◌∷◌, ◌++◌, cond, Some, refl, ap, subst, arith}
+use Rattle.std.proofs.Common.{◌≡◌, ◌+◌, ℕ, true, false, not, ◌&&◌, List, [], ◌∷◌, ◌++◌, cond, Some, refl, ap, arith}
 use Rattle.std.specs.Prelude.{unwrap_or}
 use Rattle.std.specs.List.{find, sum_by}
 use Rattle.std.proofs.lemmas.Bool.{and_parts}
 use Rattle.std.proofs.lemmas.List.Sums.{sum_by-cons, sum_by-append, sum_by_push}
 use Rattle.vlm_words.specs.declared.locks.Request.{Request}
 use Rattle.vlm_words.specs.declared.locks.Row.{Row}
-use Rattle.vlm_words.specs.Endings.{Ending, ended}
-use Rattle.vlm_words.specs.Endings.How.{by_grant}
-use Rattle.vlm_words.specs.State.{Resource}
-use Rattle.vlm_words.specs.Grants.{is_empty, is_vacant, wanted_fits, granted_row, grant, serve_converting, serve_waiting, serve_new_requests, converting_grants, waiting_grants, new_request_grants, served, grants_of, swept, swept_grants}
+use Rattle.vlm_words.specs.Endings.{Ending}
+use Rattle.vlm_words.specs.State.{Process, Resource}
+use Rattle.vlm_words.specs.Grants.{is_empty, wanted_fits, granted_row, grant, grant_ending, serve_converting, serve_waiting, serve_new_requests, converting_grants, waiting_grants, new_request_grants, served, grants_of}
+use Rattle.vlm_words.specs.Sweeps.{after_grants, is_vacant, swept, swept_grants}
+use Rattle.vlm_words.specs.Values.{valued}
 use Rattle.vlm_words.specs.Enqueue.{Key, is_at, is_at_once, new_resource, entered, entered_among}
 use Rattle.vlm_words.proofs.NothingLeft.{is_empty-true}
 use Rattle.vlm_words.proofs.Sums.{sum_of_one}
@@ -20,7 +21,7 @@ weigh f r = sum_by f r.granted + sum_by f r.converting + sum_by f r.waiting
 
 -- a row that is granted weighs as much as it did, with the ending that its grant brings
 abbrev pub GrantKeeps : (Row → ℕ) → (Ending → ℕ) → Type 0
-GrantKeeps f g = (row : Row) → f (granted_row row) + sum_by g (ended by_grant row.pid row.want) ≡ f row
+GrantKeeps f g = (row : Row) → f (granted_row row) + sum_by g (grant_ending row) ≡ f row
 
 -- serving the conversions keeps the weight
 serve_converting_weighs : (f : Row → ℕ) (g : Ending → ℕ) → GrantKeeps f g → (r : Resource) (rows : List Row) → r.converting ≡ rows
@@ -31,12 +32,12 @@ serve_converting_weighs f g keeps r (row ∷ rows) is =
     let after : weigh f (serve_converting more rows) + sum_by g (converting_grants more rows) ≡ weigh f more =
     serve_converting_weighs f g keeps more rows refl in
     elim (wanted_fits row.want r.granted rows) as (λ b.
-    weigh f (cond b (serve_converting more rows) r) + sum_by g (cond b (ended by_grant row.pid row.want ++ converting_grants more rows) []) ≡ weigh f r) [
+    weigh f (cond b (serve_converting more rows) r) + sum_by g (cond b (grant_ending row ++ converting_grants more rows) []) ≡ weigh f r) [
       | true ↦ omega (
         arith,
         after,
         keeps row,
-        sum_by-append g (ended by_grant row.pid row.want) (converting_grants more rows),
+        sum_by-append g (grant_ending row) (converting_grants more rows),
         sum_by_push f r.granted (granted_row row),
         sum_by-cons f row rows,
         ap (sum_by f) is,
@@ -53,12 +54,12 @@ serve_waiting_weighs f g keeps r (row ∷ rows) is =
     let after : weigh f (serve_waiting more rows) + sum_by g (waiting_grants more rows) ≡ weigh f more =
     serve_waiting_weighs f g keeps more rows refl in
     elim (wanted_fits row.want r.granted r.converting) as (λ b.
-    weigh f (cond b (serve_waiting more rows) r) + sum_by g (cond b (ended by_grant row.pid row.want ++ waiting_grants more rows) []) ≡ weigh f r) [
+    weigh f (cond b (serve_waiting more rows) r) + sum_by g (cond b (grant_ending row ++ waiting_grants more rows) []) ≡ weigh f r) [
       | true ↦ omega (
         arith,
         after,
         keeps row,
-        sum_by-append g (ended by_grant row.pid row.want) (waiting_grants more rows),
+        sum_by-append g (grant_ending row) (waiting_grants more rows),
         sum_by_push f r.granted (granted_row row),
         sum_by-cons f row rows,
         ap (sum_by f) is,
@@ -108,55 +109,54 @@ dropped_weighs f r rest =
     ] refl
 
 -- a sweep keeps the weight
-pub swept_weighs : (f : Row → ℕ) (g : Ending → ℕ) → GrantKeeps f g → (resources : List Resource)
-    → sum_by (weigh f) (swept resources) + sum_by g (swept_grants resources) ≡ sum_by (weigh f) resources
+pub swept_weighs : (f : Row → ℕ) (g : Ending → ℕ) → GrantKeeps f g → (processes : List Process) (resources : List Resource)
+    → sum_by (weigh f) (swept processes resources) + sum_by g (swept_grants resources) ≡ sum_by (weigh f) resources
 unfolding swept swept_grants
-swept_weighs f g keeps [] = refl
-swept_weighs f g keeps (r ∷ rest) =
-    let after : sum_by (weigh f) (swept rest) + sum_by g (swept_grants rest) ≡ sum_by (weigh f) rest = swept_weighs f g keeps rest in
+swept_weighs f g keeps processes [] = refl
+swept_weighs f g keeps processes (r ∷ rest) =
+    let after : List Process = (after_grants processes r).processes in
+    let behind : sum_by (weigh f) (swept after rest) + sum_by g (swept_grants rest) ≡ sum_by (weigh f) rest = swept_weighs f g keeps after rest in
     omega (
       arith,
-      after,
+      behind,
       served_weighs f g keeps r,
-      dropped_weighs f (served r) (swept rest),
+      dropped_weighs f (valued (after_grants processes r) (served r)) (swept after rest),
       sum_by-append g (grants_of r) (swept_grants rest),
       sum_by-cons (weigh f) r rest,
     )
 
 -- an entry adds the weight of its row
-entered_weighs : (f : Row → ℕ) (g : Ending → ℕ) → GrantKeeps f g → (row : Row) (request : Request) → row.want ≡ Some request → (r : Resource)
-    → weigh f (entered row request r) + sum_by g (cond (is_at_once request r) (ended by_grant row.pid (Some request)) []) ≡ weigh f r + f row
+entered_weighs : (f : Row → ℕ) (g : Ending → ℕ) → GrantKeeps f g → (row : Row) (request : Request) (r : Resource)
+    → weigh f (entered row request r) + sum_by g (cond (is_at_once request r) (grant_ending row) []) ≡ weigh f r + f row
 unfolding entered
-entered_weighs f g keeps row request wanted r =
-    let granted : f (granted_row row) + sum_by g (ended by_grant row.pid (Some request)) ≡ f row =
-    subst (λ want. f (granted_row row) + sum_by g (ended by_grant row.pid want) ≡ f row) wanted (keeps row) in
+entered_weighs f g keeps row request r =
     elim (is_at_once request r) as (λ b.
-    weigh f (cond b (grant r row) (record r { waiting = r.waiting ++ row ∷ [] })) + sum_by g (cond b (ended by_grant row.pid (Some request)) [])
+    weigh f (cond b (grant r row) (record r { waiting = r.waiting ++ row ∷ [] })) + sum_by g (cond b (grant_ending row) [])
     ≡ weigh f r + f row) [
-      | true ↦ omega (arith, granted, sum_by_push f r.granted (granted_row row))
+      | true ↦ omega (arith, keeps row, sum_by_push f r.granted (granted_row row))
       | false ↦ omega (arith, sum_by_push f r.waiting row)
     ]
 
 -- an entry among the resources adds the weight of its row
 pub entered_among_weighs : (f : Row → ℕ) (g : Ending → ℕ) → GrantKeeps f g → (serial : ℕ) (key : Key) (row : Row) (request : Request)
-    → row.want ≡ Some request → (resources : List Resource)
+    → (resources : List Resource)
     → sum_by (weigh f) (entered_among serial key row request resources)
-    + sum_by g (cond (is_at_once request (unwrap_or (find (is_at key) resources) (new_resource serial key))) (ended by_grant row.pid (Some request)) [])
+    + sum_by g (cond (is_at_once request (unwrap_or (find (is_at key) resources) (new_resource serial key))) (grant_ending row) [])
     ≡ sum_by (weigh f) resources + f row
-entered_among_weighs f g keeps serial key row request wanted [] =
+entered_among_weighs f g keeps serial key row request [] =
     omega (
       arith,
-      entered_weighs f g keeps row request wanted (new_resource serial key),
+      entered_weighs f g keeps row request (new_resource serial key),
       sum_of_one (weigh f) (entered row request (new_resource serial key)),
     )
-entered_among_weighs f g keeps serial key row request wanted (r ∷ rest) =
+entered_among_weighs f g keeps serial key row request (r ∷ rest) =
     let behind : sum_by (weigh f) (entered_among serial key row request rest)
-    + sum_by g (cond (is_at_once request (unwrap_or (find (is_at key) rest) (new_resource serial key))) (ended by_grant row.pid (Some request)) [])
-    ≡ sum_by (weigh f) rest + f row = entered_among_weighs f g keeps serial key row request wanted rest in
+    + sum_by g (cond (is_at_once request (unwrap_or (find (is_at key) rest) (new_resource serial key))) (grant_ending row) [])
+    ≡ sum_by (weigh f) rest + f row = entered_among_weighs f g keeps serial key row request rest in
     elim (is_at key r) as (λ b.
     sum_by (weigh f) (cond b (entered row request r ∷ rest) (r ∷ entered_among serial key row request rest))
-    + sum_by g (cond (is_at_once request (unwrap_or (cond b (Some r) (find (is_at key) rest)) (new_resource serial key))) (ended by_grant row.pid (Some request)) [])
+    + sum_by g (cond (is_at_once request (unwrap_or (cond b (Some r) (find (is_at key) rest)) (new_resource serial key))) (grant_ending row) [])
     ≡ sum_by (weigh f) (r ∷ rest) + f row) [
-      | true ↦ omega (arith, entered_weighs f g keeps row request wanted r, sum_by-cons (weigh f) (entered row request r) rest, sum_by-cons (weigh f) r rest)
+      | true ↦ omega (arith, entered_weighs f g keeps row request r, sum_by-cons (weigh f) (entered row request r) rest, sum_by-cons (weigh f) r rest)
       | false ↦ omega (arith, behind, sum_by-cons (weigh f) r (entered_among serial key row request rest), sum_by-cons (weigh f) r rest)
     ]

@@ -47,7 +47,12 @@ valued_in pid n value processes = set_block pid n (record (block_of processes pi
 unfoldable pub ended_in : ℕ → ℕ → Cond → List Process → List Process
 ended_in pid n cond processes = set_block pid n (record (block_of processes pid n) { status = condition_number cond }) processes
 
--- the requests that end write their statuses, in their order
-abbrev pub told : List Ending → List Process → List Process
-told [] processes = processes
-told (ending ∷ endings) processes = told endings (ended_in ending.pid ending.block (ending_status ending.how) processes)
+-- a request has ended with a value block: its block gets both, and keeps its lock
+unfoldable pub returned_in : ℕ → ℕ → Cond → List ℕ → List Process → List Process
+returned_in pid n cond value processes =
+    set_block pid n (record (block_of processes pid n) { status = condition_number cond; value = value }) processes
+
+-- the requests that are withdrawn write their statuses, in their order
+abbrev pub withdrawn_in : List Ending → List Process → List Process
+withdrawn_in [] processes = processes
+withdrawn_in (ending ∷ endings) processes = withdrawn_in endings (ended_in ending.pid ending.block (ending_status ending.how) processes)

@@ -1,19 +1,20 @@
 -- The step that converts a lock to another mode.
-use Rattle.std.specs.Prelude.{ℕ, Bool, false, not, ◌&&◌, ◌||◌, ◌+◌, List, [], ◌∷◌, ◌++◌, map, find, Option, None, Some, is_none, if◌then◌else◌}
+use Rattle.std.specs.Prelude.{ℕ, Bool, true, false, not, ◌&&◌, ◌||◌, ◌+◌, List, [], ◌∷◌, ◌++◌, map, find, replicate, Option, None, Some, is_none, if◌then◌else◌}
 use Rattle.vlm_words.specs.declared.conditions.Cond.{Cond}
 use Rattle.vlm_words.specs.declared.conditions.Cond.TheVariants.{Badparam, Cvtungrant}
 use Rattle.vlm_words.specs.declared.locks.Request.{Request}
 use Rattle.vlm_words.specs.declared.locks.Row.{Row}
 use Rattle.vlm_words.specs.declared.modes.Mode.{Mode}
 use Rattle.vlm_words.specs.declared.steps.Conversion.{Conversion}
-use Rattle.vlm_words.specs.Endings.{Ending, ended}
-use Rattle.vlm_words.specs.Endings.How.{by_grant}
+use Rattle.vlm_words.specs.Endings.{Ending}
 use Rattle.vlm_words.specs.Flags.{enq_bits, flag_bits, has_flag, is_known, quecvt}
 use Rattle.vlm_words.specs.Modes.{is_queued_legally}
-use Rattle.vlm_words.specs.State.{State, Resource}
+use Rattle.vlm_words.specs.State.{State, Process, Resource}
 use Rattle.vlm_words.specs.Blocks.{accepted_in}
 use Rattle.vlm_words.specs.Checks.{or_else, caller_refusal, block_refusal, which_refusal, named_lkid, request_numbers_refusal, queue_refusal}
-use Rattle.vlm_words.specs.Grants.{is_empty, fits, grant, swept_grants}
+use Rattle.vlm_words.specs.Grants.{is_empty, fits, grant, grant_ending}
+use Rattle.vlm_words.specs.Sweeps.{swept_grants}
+use Rattle.vlm_words.specs.Values.{Moment, moment_of, told, valued}
 use Rattle.vlm_words.specs.Dequeue.{is_lock_of, lock_refusal, rows_without}
 
 -- an unknown flag, or an argument that is not built yet: a routine
@@ -77,6 +78,28 @@ converts_at request lkid (Some place) = converts_at_once request lkid place.reso
 unfoldable pub convert_at_once : State → Conversion → Bool
 convert_at_once s c = converts_at (conversion_of s c) (conversion_lkid s c) (granted_place c.pid (conversion_lkid s c) s.resources)
 
+-- the row wants the request, and holds what it held
+abbrev pub wanting_row : Row → Request → Row
+wanting_row row request = record row { want = Some request }
+
+-- the end of the conversion, if it is granted at once
+abbrev pub conversion_ending : Request → ℕ → Option Place → List Ending
+conversion_ending request lkid None = []
+conversion_ending request lkid (Some place) =
+    if converts_at_once request lkid place.resource then grant_ending (wanting_row place.row request) else []
+
+-- what that end makes of the resource's value block and of the processes
+abbrev pub conversion_moment : Request → ℕ → Option Place → List Process → Moment
+conversion_moment request lkid None processes = record { value = replicate 16 0; valid = true; processes = processes }
+conversion_moment request lkid (Some place) processes =
+    told (conversion_ending request lkid (Some place)) (moment_of place.resource processes)
+
+-- the same once the request is accepted, and its status block is written
+unfoldable pub convert_moment : State → Conversion → Moment
+convert_moment s c =
+    conversion_moment (conversion_of s c) (conversion_lkid s c) (granted_place c.pid (conversion_lkid s c) s.resources)
+    (accepted_in c.pid c.block (conversion_lkid s c) s.processes)
+
 -- the checks of a conversion, in their order
 unfoldable pub convert_refusal : State → Conversion → Option Cond
 convert_refusal s c =
@@ -88,34 +111,31 @@ convert_refusal s c =
     (or_else (place_refusal c (granted_place c.pid (conversion_lkid s c) s.resources))
     (or_else (request_numbers_refusal s) (queue_refusal c.flags (convert_at_once s c))))))))
 
--- the row wants the request, and holds what it held
-abbrev pub wanting_row : Row → Request → Row
-wanting_row row request = record row { want = Some request }
-
 -- the resource but for a granted lock that leaves its queue
 abbrev pub ungranted : ℕ → Resource → Resource
 ungranted lkid r = record r { granted = rows_without lkid r.granted }
 
--- the lock of this row is granted at once, or goes to the end of the conversion queue
-abbrev pub converted_row : Request → ℕ → Resource → Option Row → Resource
-converted_row request lkid r None = r
-converted_row request lkid r (Some row) =
-    if converts_at_once request lkid r then grant (ungranted lkid r) (wanting_row row request)
+-- the lock of this row is granted at once, with the value block of the moment, or goes to the end of the conversion queue
+abbrev pub converted_row : Request → ℕ → Moment → Resource → Option Row → Resource
+converted_row request lkid m r None = r
+converted_row request lkid m r (Some row) =
+    if converts_at_once request lkid r then valued m (grant (ungranted lkid r) (wanting_row row request))
     else record (ungranted lkid r) { converting = r.converting ++ wanting_row row request ∷ [] }
 
 -- what a conversion makes of a resource: only that of the lock is changed
-unfoldable pub converted : Request → ℕ → ℕ → Resource → Resource
-converted request pid lkid r = converted_row request lkid r (find (is_lock_of pid lkid) r.granted)
+unfoldable pub converted : Request → ℕ → ℕ → Moment → Resource → Resource
+converted request pid lkid m r = converted_row request lkid m r (find (is_lock_of pid lkid) r.granted)
 
 -- the lock converts, its status block is written, and the request number that it took is used up
 unfoldable pub convert_change : State → Conversion → State
 convert_change s c = record s {
-  processes = accepted_in c.pid c.block (conversion_lkid s c) s.processes;
-  resources = map (converted (conversion_of s c) c.pid (conversion_lkid s c)) s.resources;
+  processes = (convert_moment s c).processes;
+  resources = map (converted (conversion_of s c) c.pid (conversion_lkid s c) (convert_moment s c)) s.resources;
   next_request = s.next_request + 1;
 }
 
 -- the requests that end in the step: the conversion if it is granted at once, and then those of the sweep
 unfoldable pub convert_endings : State → Conversion → List Ending
 convert_endings s c =
-    (if convert_at_once s c then ended by_grant c.pid (Some (conversion_of s c)) else []) ++ swept_grants (convert_change s c).resources
+    conversion_ending (conversion_of s c) (conversion_lkid s c) (granted_place c.pid (conversion_lkid s c) s.resources)
+    ++ swept_grants (convert_change s c).resources

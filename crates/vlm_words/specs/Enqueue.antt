@@ -14,15 +14,16 @@ use Rattle.vlm_words.specs.declared.resources.Domain.TheVariants.{Group, System}
 use Rattle.vlm_words.specs.declared.steps.NewRequest.{NewRequest}
 use Rattle.vlm_words.specs.declared.steps.Which.{Which}
 use Rattle.vlm_words.specs.declared.steps.Which.TheVariants.{Id, Block}
-use Rattle.vlm_words.specs.Endings.{Ending, ended}
-use Rattle.vlm_words.specs.Endings.How.{by_grant}
+use Rattle.vlm_words.specs.Endings.{Ending}
 use Rattle.vlm_words.specs.Flags.{enq_bits, expedite, flag_bits, has_flag, is_known as is_built}
 use Rattle.vlm_words.specs.Modes.{rank}
 use Rattle.vlm_words.specs.Names.{name_of}
-use Rattle.vlm_words.specs.State.{State, Resource, process_of}
+use Rattle.vlm_words.specs.State.{State, Process, Resource, process_of}
 use Rattle.vlm_words.specs.Blocks.{accepted_in}
 use Rattle.vlm_words.specs.Checks.{or_else, caller_refusal, block_refusal, numbers_refusal, queue_refusal}
-use Rattle.vlm_words.specs.Grants.{is_empty, fits, grant, swept_grants}
+use Rattle.vlm_words.specs.Grants.{is_empty, fits, grant, grant_ending}
+use Rattle.vlm_words.specs.Sweeps.{swept_grants}
+use Rattle.vlm_words.specs.Values.{moment_of, told}
 
 -- the identification 0 names no parent
 abbrev pub is_no_parent : Which → Bool
@@ -131,6 +132,15 @@ found_by s e = unwrap_or (find (is_at (key_of s e)) s.resources) (new_resource s
 abbrev pub enq_at_once : State → NewRequest → Bool
 enq_at_once s e = is_at_once (request_of s e) (found_by s e)
 
+-- the end of the new request, if it is granted at once
+abbrev pub enq_ending : State → NewRequest → List Ending
+enq_ending s e = if enq_at_once s e then grant_ending (row_of s e) else []
+
+-- the processes once the request is accepted: its status block is written, and again if it is granted at once;
+-- a new request never writes the value block
+abbrev pub enq_processes : State → NewRequest → List Process
+enq_processes s e = (told (enq_ending s e) (moment_of (found_by s e) (accepted_in e.pid e.block s.next_lkid s.processes))).processes
+
 -- the checks of a new request, in their order
 unfoldable pub enq_refusal : State → NewRequest → Option Cond
 enq_refusal s e =
@@ -144,7 +154,7 @@ enq_refusal s e =
 -- the lock enters, its status block is written, and the numbers that it took are used up
 unfoldable pub enq_change : State → NewRequest → State
 enq_change s e = record s {
-  processes = accepted_in e.pid e.block s.next_lkid s.processes;
+  processes = enq_processes s e;
   resources = entered_among s.next_serial (key_of s e) (row_of s e) (request_of s e) s.resources;
   next_lkid = s.next_lkid + 1;
   next_request = s.next_request + 1;
@@ -153,5 +163,4 @@ enq_change s e = record s {
 
 -- the requests that end in the step: the new one if it is granted at once, and then those of the sweep
 unfoldable pub enq_endings : State → NewRequest → List Ending
-enq_endings s e =
-    (if enq_at_once s e then ended by_grant e.pid (Some (request_of s e)) else []) ++ swept_grants (enq_change s e).resources
+enq_endings s e = enq_ending s e ++ swept_grants (enq_change s e).resources

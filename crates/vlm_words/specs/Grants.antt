@@ -1,10 +1,13 @@
--- How queued requests are granted: fits, grant, serve, sweep.
-use Rattle.std.specs.Prelude.{Bool, true, false, not, ◌&&◌, List, [], ◌∷◌, ◌++◌, map, filter, flat_map, Option, None, Some, is_some, if◌then◌else◌}
+-- How queued requests are granted: fits, grant, serve.
+use Rattle.std.specs.Prelude.{Bool, true, false, ◌&&◌, List, [], ◌∷◌, ◌++◌, Option, None, Some, is_some, if◌then◌else◌}
 use Rattle.std.specs.List.{list_all}
+use Rattle.vlm_words.specs.declared.modes.Act.{Act}
+use Rattle.vlm_words.specs.declared.modes.Act.TheVariants.{Nothing, Return}
 use Rattle.vlm_words.specs.declared.modes.Mode.{Mode}
 use Rattle.vlm_words.specs.declared.locks.Request.{Request}
 use Rattle.vlm_words.specs.declared.locks.Row.{Row}
-use Rattle.vlm_words.specs.Modes.{is_compatible}
+use Rattle.vlm_words.specs.Flags.{flag_bits, has_flag, valblk}
+use Rattle.vlm_words.specs.Modes.{is_compatible, value_action}
 use Rattle.vlm_words.specs.Endings.{Ending, ended}
 use Rattle.vlm_words.specs.Endings.How.{by_grant}
 use Rattle.vlm_words.specs.State.{Resource}
@@ -42,6 +45,20 @@ granted_row row = record row { held = row.want; want = None; armed = is_arming r
 abbrev pub grant : Resource → Row → Resource
 grant r row = record r { granted = r.granted ++ granted_row row ∷ [] }
 
+-- what VALBLK does at a grant: a new request returns the value block, a conversion does as its table says
+abbrev pub valblk_act : Option Request → Mode → Act
+valblk_act None mode = Return
+valblk_act (Some held) mode = value_action held.mode mode
+
+-- what the grant of a request does with the value block, by what is held before: nothing without VALBLK
+unfoldable pub grant_act : Option Request → Option Request → Act
+grant_act held None = Nothing
+grant_act held (Some want) = if has_flag (flag_bits want.flags) valblk then valblk_act held want.mode else Nothing
+
+-- the end that the grant of a row brings
+abbrev pub grant_ending : Row → List Ending
+grant_ending row = ended (by_grant (grant_act row.held row.want)) row.pid row.want
+
 -- while the first converting row fits, it is granted
 abbrev pub serve_converting : Resource → List Row → Resource
 serve_converting r [] = r
@@ -58,12 +75,12 @@ serve_waiting r (row ∷ rows) =
 abbrev pub converting_grants : Resource → List Row → List Ending
 converting_grants r [] = []
 converting_grants r (row ∷ rows) =
-    if wanted_fits row.want r.granted rows then ended by_grant row.pid row.want ++ converting_grants (record (grant r row) { converting = rows }) rows else []
+    if wanted_fits row.want r.granted rows then grant_ending row ++ converting_grants (record (grant r row) { converting = rows }) rows else []
 
 abbrev pub waiting_grants : Resource → List Row → List Ending
 waiting_grants r [] = []
 waiting_grants r (row ∷ rows) =
-    if wanted_fits row.want r.granted r.converting then ended by_grant row.pid row.want ++ waiting_grants (record (grant r row) { waiting = rows }) rows else []
+    if wanted_fits row.want r.granted r.converting then grant_ending row ++ waiting_grants (record (grant r row) { waiting = rows }) rows else []
 
 -- once no conversion is queued, the waiting queue is served too
 abbrev pub serve_new_requests : Resource → Resource
@@ -79,15 +96,3 @@ new_request_grants r = if is_empty r.converting then waiting_grants r r.waiting 
 
 unfoldable pub grants_of : Resource → List Ending
 grants_of r = converting_grants r r.converting ++ new_request_grants (serve_converting r r.converting)
-
--- no lock is left on the resource
-abbrev pub is_vacant : Resource → Bool
-is_vacant r = is_empty r.granted && is_empty r.converting && is_empty r.waiting
-
--- sweep: every resource is served, and dropped if it has no lock
-unfoldable pub swept : List Resource → List Resource
-swept resources = filter (λ r. not (is_vacant r)) (map served resources)
-
--- the requests that end in a sweep, resource by resource
-unfoldable pub swept_grants : List Resource → List Ending
-swept_grants resources = flat_map grants_of resources

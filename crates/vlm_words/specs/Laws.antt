@@ -2,17 +2,19 @@
 use Rattle.std.specs.Prelude.{◌≡◌, ◌<◌, ◌+◌, ◌==◌, ◌⊎◌, ◌++◌, ℕ, Bool, List, [], ◌∷◌, true, false, All, AllPairs, count_by, sum_by, take, drop, map, flat_map, Option, None, Some, IsSome, ⊤}
 use Rattle.vlm_words.specs.declared.locks.Request.{Request}
 use Rattle.vlm_words.specs.declared.locks.Row.{Row}
+use Rattle.vlm_words.specs.declared.modes.Act.{Act}
+use Rattle.vlm_words.specs.declared.modes.Act.TheVariants.{Nothing, Write}
+use Rattle.vlm_words.specs.declared.modes.Mode.{Mode}
 use Rattle.vlm_words.specs.declared.modes.Mode.TheVariants.{Nl}
 use Rattle.vlm_words.specs.declared.steps.Conversion.{Conversion}
 use Rattle.vlm_words.specs.declared.steps.NewRequest.{NewRequest}
 use Rattle.vlm_words.specs.declared.steps.Step.{Step}
 use Rattle.vlm_words.specs.declared.steps.Step.TheVariants.{Declare, SetValue, Enq, Convert, Deq, Rundown, Leave, Search, Take}
-use Rattle.vlm_words.specs.Endings.{Ending, ended}
-use Rattle.vlm_words.specs.Endings.How.{by_grant}
+use Rattle.vlm_words.specs.Endings.{Ending}
 use Rattle.vlm_words.specs.Flags.{has_flag, expedite, quecvt}
-use Rattle.vlm_words.specs.Modes.{is_compatible}
+use Rattle.vlm_words.specs.Modes.{is_compatible, value_action}
 use Rattle.vlm_words.specs.State.{State, Resource}
-use Rattle.vlm_words.specs.Grants.{wanted_fits, fits, granted_row, served, grants_of}
+use Rattle.vlm_words.specs.Grants.{wanted_fits, fits, granted_row, grant_ending, served, grants_of}
 use Rattle.vlm_words.specs.Declare.{declare_change}
 use Rattle.vlm_words.specs.Enqueue.{enq_refusal, enq_change, enq_at_once, is_free_for, request_of, found_by}
 use Rattle.vlm_words.specs.Convert.{Place, granted_place, convert_refusal, convert_change, convert_at_once, conversion_lkid}
@@ -65,7 +67,7 @@ EachRequestEndsOnce endings last = (number : ℕ) → 0 < number → number < la
 
 -- the endings of the requests that rows are granted, in their order
 abbrev pub granted_endings : List Row → List Ending
-granted_endings rows = flat_map (λ row. ended by_grant row.pid row.want) rows
+granted_endings rows = flat_map grant_ending rows
 
 -- the heads of the queues are granted in order, new requests only once no conversion is left; the rows behind them stay
 pub record GrantsFirst (before after : Resource) (endings : List Ending) : Type 0 where
@@ -130,3 +132,14 @@ pub record RowsFit (r : Resource) : Type 0 where
 -- each lock stands in the queue that fits what it holds and wants
 abbrev pub RowsFitTheirQueues : State → Type 0
 RowsFitTheirQueues s = All RowsFit s.resources
+
+-- what the table of value blocks says of a conversion from what is held
+abbrev pub action_from : Option Request → Mode → Act
+action_from None mode = Nothing
+action_from (Some held) mode = value_action held.mode mode
+
+-- an accepted conversion that the table lets write the value block is granted at once
+abbrev pub WritesAreGrantedAtOnce : State → Type 0
+WritesAreGrantedAtOnce old = (c : Conversion) (place : Place) → convert_refusal old c ≡ None
+    → granted_place c.pid (conversion_lkid old c) old.resources ≡ Some place → action_from place.row.held c.mode ≡ Write
+    → convert_at_once old c ≡ true

@@ -8,6 +8,8 @@ pub mod Steps
 pub mod Endings
 pub mod Grants
 pub mod Blocks
+pub mod Values
+pub mod Sweeps
 pub mod Checks
 pub mod Declare
 pub mod SetValue

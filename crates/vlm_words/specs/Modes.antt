@@ -1,5 +1,5 @@
 -- Which lock modes may be held together.
-use Rattle.std.specs.Prelude.{ℕ, Bool, List, [], ◌∷◌, ◌==◌, ◌&&◌, ◌||◌, if◌then◌else◌}
+use Rattle.std.specs.Prelude.{ℕ, Bool, true, false, List, [], ◌∷◌, ◌==◌, ◌&&◌, ◌||◌, if◌then◌else◌}
 use Rattle.std.specs.List.{list_any}
 use Rattle.vlm_words.specs.declared.modes.Act.{Act}
 use Rattle.vlm_words.specs.declared.modes.Act.TheVariants.{Nothing, Return, Write}
@@ -49,6 +49,15 @@ writing_pairs =
     (Pw, Nl) ∷ (Pw, Cr) ∷ (Pw, Cw) ∷ (Pw, Pr) ∷ (Pw, Pw)
     ∷ (Ex, Nl) ∷ (Ex, Cr) ∷ (Ex, Cw) ∷ (Ex, Pr) ∷ (Ex, Pw) ∷ (Ex, Ex)
     ∷ []
+
+-- the modes whose holder may write the value block as it gives its lock up
+abbrev pub is_writing : Mode → Bool
+is_writing Nl = false
+is_writing Cr = false
+is_writing Cw = false
+is_writing Pr = false
+is_writing Pw = true
+is_writing Ex = true
 
 -- the conversions that QUECVT may go with
 abbrev pub queued_pairs : List (Mode × Mode)

@@ -13,8 +13,7 @@ use Rattle.vlm_words.specs.declared.steps.ValueSetting.{ValueSetting}
 use Rattle.vlm_words.specs.declared.steps.Step.{Step}
 use Rattle.vlm_words.specs.declared.steps.Step.TheVariants.{Declare, SetValue, Enq, Convert, Deq, Rundown, Leave, Search, Take}
 use Rattle.vlm_words.specs.State.{State}
-use Rattle.vlm_words.specs.Grants.{swept}
-use Rattle.vlm_words.specs.Blocks.{told}
+use Rattle.vlm_words.specs.Sweeps.{swept_state}
 use Rattle.vlm_words.specs.Checks.{acceptance}
 use Rattle.vlm_words.specs.Declare.{declare_refusal, declare_change, next_pid}
 use Rattle.vlm_words.specs.Enqueue.{enq_refusal, enq_change, enq_at_once, enq_endings}
@@ -28,10 +27,6 @@ pub record Stepped : Type 0 where
   pub state : State
   pub answer : Answer
   pub endings : List Ending
-
--- every resource is swept, and the statuses of the requests that end in the step
-abbrev pub ended_state : List Ending → State → State
-ended_state endings s = record s { processes = told endings s.processes; resources = swept s.resources }
 
 -- a refusal leaves everything as it was; else the step is made
 abbrev pub refused_or : Option Cond → State → Stepped → Stepped
@@ -48,20 +43,20 @@ declared s d = record { state = declare_change s d; answer = process_answer (nex
 
 abbrev pub enqueued : State → NewRequest → Stepped
 enqueued s e = record {
-  state = ended_state (enq_endings s e) (enq_change s e);
+  state = swept_state (enq_change s e);
   answer = Lock (acceptance e.flags (enq_at_once s e)) s.next_lkid;
   endings = enq_endings s e;
 }
 
 abbrev pub converted_lock : State → Conversion → Stepped
 converted_lock s c = record {
-  state = ended_state (convert_endings s c) (convert_change s c);
+  state = swept_state (convert_change s c);
   answer = Lock (acceptance c.flags (convert_at_once s c)) (conversion_lkid s c);
   endings = convert_endings s c;
 }
 
 abbrev pub dequeued_lock : State → Dequeue → Stepped
-dequeued_lock s d = record { state = ended_state (deq_endings s d) (deq_change s d); answer = Plain Normal; endings = deq_endings s d }
+dequeued_lock s d = record { state = swept_state (deq_change s d); answer = Plain Normal; endings = deq_endings s d }
 
 abbrev pub value_set : State → ValueSetting → Stepped
 value_set s v = record { state = set_change s v; answer = Plain Normal; endings = [] }

@@ -7,7 +7,7 @@ ghost use Rattle.vlm_words.specs.declared.steps.Step.{Step};
 ghost use Rattle.vlm_words.specs.Endings.{Ending};
 ghost use Rattle.vlm_words.specs.State.{State};
 ghost use Rattle.vlm_words.specs.Runs.{Run};
-ghost use Rattle.vlm_words.specs.Laws.{EachRequestEndsOnce, GrantsFollowQueueOrder, HeldModesAreCompatible, NothingIsLeftToGrant, RowsFitTheirQueues};
+ghost use Rattle.vlm_words.specs.Laws.{EachRequestEndsOnce, GrantsFollowQueueOrder, HeldModesAreCompatible, NothingIsLeftToGrant, RowsFitTheirQueues, WritesAreGrantedAtOnce};
 
 /// In each resource the held modes of any two locks are compatible.
 pub fn law_held_modes_are_compatible()
@@ -43,4 +43,11 @@ pub fn law_grants_follow_queue_order()
 pub fn law_rows_fit_their_queues()
     ensures { (steps : List Step) (answers : List Answer) (endings : List Ending) (last : State)
         → Run steps answers endings last → RowsFitTheirQueues last }
+{}
+
+/// Before every step: a conversion that may write the value block by its held and its wanted mode, and
+/// that no check refuses, is granted at once. So no queued conversion ever writes.
+pub fn law_writes_are_granted_at_once()
+    ensures { (steps : List Step) (answers : List Answer) (endings : List Ending) (old : State)
+        → Run steps answers endings old → WritesAreGrantedAtOnce old }
 {}
