@@ -1,7 +1,7 @@
 //! What is written to status blocks and read from them.
 
 ghost use Rattle.std.specs.Prelude.{◌≡◌, ◌&&◌, length, nat_le, nat_lt};
-ghost use Rattle.vlm_words.specs.Blocks.{accepted_in, block_found, block_of, blocks_of, ended_in, valued_in};
+ghost use Rattle.vlm_words.specs.Blocks.{accepted_in, block_found, block_of, blocks_of, ended_in, returned_in, valued_in};
 
 use vlm_store::{ProcAt, Store};
 use vlm_words::blocks::Block;
@@ -50,6 +50,17 @@ pub fn accept(store: &mut Store, at: ProcAt, number: u8, lkid: u32)
     store.set_block(at, number, pending);
 }
 
+/// The value part of the process's status block of this number, from 1. Zeros where no living process has
+/// the identification, or it has no such block; number 0 is taken for 1.
+pub fn value(store: &Store, pid: u32, number: u8) -> [u8; 16]
+    ensures { result ≡ (block_of store.now.processes pid number).value }
+{
+    match store.process(pid) {
+        Some(at) => block_or_new(store, at, number).value,
+        None => Block::new().value,
+    }
+}
+
 /// Writes the value part of the status block, and nothing else.
 #[tactic(auto, unfolding(vlm_words::specs::Blocks::valued_in))]
 pub fn set_value(store: &mut Store, at: ProcAt, number: u8, value: [u8; 16])
@@ -71,6 +82,24 @@ pub fn end(store: &mut Store, pid: u32, number: u8, cond: Cond)
     let old = block_or_new(store, at, number);
     let ended = Block {
         status: cond.number(),
+        ..old
+    };
+    store.set_block(at, number, ended);
+}
+
+/// A request of the process has ended and returns a value block: its status block gets the number of the
+/// condition and the value, and keeps its lock.
+#[tactic(auto, using(crate::proofs::Absent::absent_unchanged), unfolding(vlm_words::specs::Blocks::returned_in))]
+pub fn end_with_value(store: &mut Store, pid: u32, number: u8, cond: Cond, value: [u8; 16])
+    ensures { store.new ≡ record store.old { processes = returned_in pid number cond value store.old.processes } }
+{
+    let Some(at) = store.process(pid) else {
+        return;
+    };
+    let old = block_or_new(store, at, number);
+    let ended = Block {
+        status: cond.number(),
+        value,
         ..old
     };
     store.set_block(at, number, ended);

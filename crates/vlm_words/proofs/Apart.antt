@@ -14,7 +14,7 @@ use Rattle.vlm_words.specs.declared.steps.Step.{Step}
 use Rattle.vlm_words.specs.Endings.{Ending}
 use Rattle.vlm_words.specs.State.{State, Process, Resource}
 use Rattle.vlm_words.specs.Grants.{grant_ending, granted_row, grant}
-use Rattle.vlm_words.specs.Values.{Moment, valued}
+use Rattle.vlm_words.specs.Values.{ValueBlock, valued}
 use Rattle.vlm_words.specs.Sweeps.{swept, swept_grants}
 use Rattle.vlm_words.specs.Declare.{declare_change}
 use Rattle.vlm_words.specs.Enqueue.{enq_change, enq_ending, found_by, row_of, request_of, key_of}
@@ -79,26 +79,26 @@ entered_stands s e lkid =
     )
 
 -- a conversion gives no lock a row, whichever row is found
-converted_row_stands : (other : ℕ) (request : Request) (pid lkid : ℕ) (m : Moment) (r : Resource) (found : Option Row)
-    → find (is_lock_of pid lkid) r.granted ≡ found → weigh (stands other) (converted_row request lkid m r found) ≤ weigh (stands other) r
-converted_row_stands other request pid lkid m r None is = omega arith
-converted_row_stands other request pid lkid m r (Some row) is =
+converted_row_stands : (other : ℕ) (request : Request) (pid lkid : ℕ) (block : ValueBlock) (r : Resource) (found : Option Row)
+    → find (is_lock_of pid lkid) r.granted ≡ found → weigh (stands other) (converted_row request lkid block r found) ≤ weigh (stands other) r
+converted_row_stands other request pid lkid block r None is = omega arith
+converted_row_stands other request pid lkid block r (Some row) is =
     let at : Found (is_lock_of pid lkid) r.granted row = found_at (is_lock_of pid lkid) r.granted row is in
     let fewer : sum_by (stands other) (rows_without lkid r.granted) + stands other row ≤ sum_by (stands other) r.granted =
     sum_filter_but-le (stands other) (is_lock_of pid lkid) (λ each. not (each.lkid == lkid)) r.granted row
     (ap not (and_parts (row.lkid == lkid) (row.pid == pid) at.passes).0) at in
     elim (converts_at_once request lkid r) as (λ b.
-    weigh (stands other) (cond b (valued m (grant (ungranted lkid r) (wanting_row row request)))
+    weigh (stands other) (cond b (valued block (grant (ungranted lkid r) (wanting_row row request)))
     (record (ungranted lkid r) { converting = r.converting ++ wanting_row row request ∷ [] })) ≤ weigh (stands other) r) [
       | true ↦ omega (arith, fewer, sum_by_push (stands other) (rows_without lkid r.granted) (granted_row (wanting_row row request)))
       | false ↦ omega (arith, fewer, sum_by_push (stands other) r.converting (wanting_row row request))
     ]
 
 -- the same, for the row that is found
-converted_stands : (other : ℕ) (request : Request) (pid lkid : ℕ) (m : Moment) (r : Resource)
-    → weigh (stands other) (converted request pid lkid m r) ≤ weigh (stands other) r
+converted_stands : (other : ℕ) (request : Request) (pid lkid : ℕ) (block : ValueBlock) (r : Resource)
+    → weigh (stands other) (converted request pid lkid block r) ≤ weigh (stands other) r
 unfolding converted
-converted_stands other request pid lkid m r = converted_row_stands other request pid lkid m r (find (is_lock_of pid lkid) r.granted) refl
+converted_stands other request pid lkid block r = converted_row_stands other request pid lkid block r (find (is_lock_of pid lkid) r.granted) refl
 
 -- a lock that goes gives no lock a row
 without_stands : (other lkid : ℕ) (r : Resource) → weigh (stands other) (without lkid r) ≤ weigh (stands other) r
@@ -152,8 +152,8 @@ apart_always =
     (λ d _. record { one_row = apart.one_row; none_to_come = apart.none_to_come })
     (λ e _. one_more_apart s _ apart refl (entered_stands s e))
     (λ c _. fewer_apart s _ apart refl
-    (changed_apart s (converted (conversion_of s c) c.pid (conversion_lkid s c) (convert_moment s c))
-    (λ lkid r. converted_stands lkid (conversion_of s c) c.pid (conversion_lkid s c) (convert_moment s c) r) (convert_change s c).processes))
+    (changed_apart s (converted (conversion_of s c) c.pid (conversion_lkid s c) (convert_moment s c).block)
+    (λ lkid r. converted_stands lkid (conversion_of s c) c.pid (conversion_lkid s c) (convert_moment s c).block r) (convert_change s c).processes))
     (λ d _. fewer_apart s _ apart refl
     (changed_apart s (dequeued (withdrawal_of s d)) (λ lkid r. dequeued_stands lkid (withdrawal_of s d) r) (deq_change s d).processes))
     (λ v _. record { one_row = apart.one_row; none_to_come = apart.none_to_come }))

@@ -11,7 +11,7 @@ use Rattle.vlm_words.specs.Endings.{Ending, How, ended}
 use Rattle.vlm_words.specs.Endings.How.{by_grant, by_abort, by_cancel}
 use Rattle.vlm_words.specs.State.{Process, Resource}
 use Rattle.vlm_words.specs.Grants.{grant_act, grant_ending, granted_row, grant}
-use Rattle.vlm_words.specs.Values.{Moment, valued}
+use Rattle.vlm_words.specs.Values.{ValueBlock, valued}
 use Rattle.vlm_words.specs.Sweeps.{swept, swept_grants}
 use Rattle.vlm_words.specs.Dequeue.{Withdrawal, is_lock_of, rows_of, rows_without, has_writer, left_by_writer, left_by, settled_row, without, cancelled, dequeued, ends_in, withdrawn}
 use Rattle.vlm_words.specs.Convert.{wanting_row, ungranted, converts_at_once, converted_row}
@@ -154,17 +154,17 @@ found_stands pid lkid rows row at =
     omega (arith, found-le-sum (stands lkid) (is_lock_of pid lkid) rows row at)
 
 -- a conversion is wanted or ends, and nothing else does
-pub converted_row_counts : (number : ℕ) (request : Request) (lkid : ℕ) (m : Moment) (r : Resource) (row : Row) → Fit r
-    → wanting_on number (converted_row request lkid m r (Some row))
+pub converted_row_counts : (number : ℕ) (request : Request) (lkid : ℕ) (block : ValueBlock) (r : Resource) (row : Row) → Fit r
+    → wanting_on number (converted_row request lkid block r (Some row))
     + times_ended number (cond (converts_at_once request lkid r) (grant_ending (wanting_row row request)) [])
     ≡ wanting_on number r + hits number (Some request)
-converted_row_counts number request lkid m r row fit =
+converted_row_counts number request lkid block r row fit =
     let before : sum_by (wants number) r.granted ≡ 0 = settled_want_nothing number r.granted fit.granted in
     let after : sum_by (wants number) (rows_without lkid r.granted) ≡ 0 =
     settled_want_nothing number (rows_without lkid r.granted) (each_filter IsSettled _ r.granted fit.granted) in
     elim (converts_at_once request lkid r) as (λ b.
     wanting_on number
-    (cond b (valued m (grant (ungranted lkid r) (wanting_row row request)))
+    (cond b (valued block (grant (ungranted lkid r) (wanting_row row request)))
     (record (ungranted lkid r) { converting = r.converting ++ wanting_row row request ∷ [] }))
     + times_ended number (cond b (grant_ending (wanting_row row request)) []) ≡ wanting_on number r + hits number (Some request)) [
       | true ↦ omega (

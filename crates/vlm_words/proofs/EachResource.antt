@@ -10,7 +10,7 @@ use Rattle.vlm_words.specs.declared.steps.Step.{Step}
 use Rattle.vlm_words.specs.Endings.{Ending}
 use Rattle.vlm_words.specs.State.{State, Process, Resource}
 use Rattle.vlm_words.specs.Grants.{served}
-use Rattle.vlm_words.specs.Values.{Moment, valued}
+use Rattle.vlm_words.specs.Values.{ValueBlock, valued}
 use Rattle.vlm_words.specs.Sweeps.{after_grants, all_served, is_vacant, swept}
 use Rattle.vlm_words.specs.Declare.{declare_change}
 use Rattle.vlm_words.specs.Enqueue.{Key, is_at, new_resource, entered, entered_among, row_of, request_of, key_of, enq_refusal, enq_change}
@@ -22,14 +22,14 @@ use Rattle.vlm_words.proofs.Each.{each_filter, each_map, each_weaker}
 use Rattle.vlm_words.proofs.Always.{always, kept_by_stepped}
 
 -- what serving makes of each resource, whatever its value block is then, holds of each once all are served
-each_served : (P Q : Resource → Type 0) → ((m : Moment) (r : Resource) → P r → Q (valued m (served r)))
+each_served : (P Q : Resource → Type 0) → ((block : ValueBlock) (r : Resource) → P r → Q (valued block (served r)))
     → (processes : List Process) (resources : List Resource) → AllByRecursion P resources → AllByRecursion Q (all_served processes resources)
 each_served P Q serving processes [] each = each
 each_served P Q serving processes (r ∷ rest) each =
-    (serving (after_grants processes r) r each.0, each_served P Q serving (after_grants processes r).processes rest each.1)
+    (serving (after_grants processes r).block r each.0, each_served P Q serving (after_grants processes r).processes rest each.1)
 
 -- and holds of each after a sweep
-pub each_swept : (P Q : Resource → Type 0) → ((m : Moment) (r : Resource) → P r → Q (valued m (served r)))
+pub each_swept : (P Q : Resource → Type 0) → ((block : ValueBlock) (r : Resource) → P r → Q (valued block (served r)))
     → (processes : List Process) (resources : List Resource) → AllByRecursion P resources → AllByRecursion Q (swept processes resources)
 unfolding swept
 each_swept P Q serving processes resources each =
@@ -48,11 +48,11 @@ each_entered_among P serial key row request fresh entry (r ∷ rest) each =
 pub record KeptByChanges (P : Resource → Type 0) : Type 0 where
   pub fresh : (serial : ℕ) (key : Key) → P (new_resource serial key)
   pub entry : (s : State) (e : NewRequest) → enq_refusal s e ≡ None → (r : Resource) → P r → P (entered (row_of s e) (request_of s e) r)
-  pub conversion : (request : Request) (pid lkid : ℕ) (m : Moment) (r : Resource) → P r → P (converted request pid lkid m r)
+  pub conversion : (request : Request) (pid lkid : ℕ) (block : ValueBlock) (r : Resource) → P r → P (converted request pid lkid block r)
   pub removal : (w : Withdrawal) (r : Resource) → P r → P (dequeued w r)
 
 -- the changes of the steps keep P, and serving makes Q of it: then Q holds of each resource after every run
-pub each_always : (P Q : Resource → Type 0) → ((r : Resource) → Q r → P r) → ((m : Moment) (r : Resource) → P r → Q (valued m (served r))) → KeptByChanges P
+pub each_always : (P Q : Resource → Type 0) → ((r : Resource) → Q r → P r) → ((block : ValueBlock) (r : Resource) → P r → Q (valued block (served r))) → KeptByChanges P
     → (steps : List Step) (answers : List Answer) (endings : List Ending) (last : State) → Run steps answers endings last
     → AllByRecursion Q last.resources
 unfolding declare_change enq_change convert_change deq_change set_change
@@ -67,8 +67,8 @@ each_always P Q weaker serving kept =
     s.resources changed))
     (λ c _.
     each_swept P Q serving (convert_change s c).processes (convert_change s c).resources
-    (each_map P P (converted (conversion_of s c) c.pid (conversion_lkid s c) (convert_moment s c))
-    (kept.conversion (conversion_of s c) c.pid (conversion_lkid s c) (convert_moment s c))
+    (each_map P P (converted (conversion_of s c) c.pid (conversion_lkid s c) (convert_moment s c).block)
+    (kept.conversion (conversion_of s c) c.pid (conversion_lkid s c) (convert_moment s c).block)
     s.resources changed))
     (λ d _.
     each_swept P Q serving (deq_change s d).processes (deq_change s d).resources

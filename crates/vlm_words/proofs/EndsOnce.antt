@@ -12,7 +12,7 @@ use Rattle.vlm_words.specs.declared.steps.NewRequest.{NewRequest}
 use Rattle.vlm_words.specs.declared.steps.Step.{Step}
 use Rattle.vlm_words.specs.Endings.{Ending}
 use Rattle.vlm_words.specs.State.{State, Resource}
-use Rattle.vlm_words.specs.Values.{Moment}
+use Rattle.vlm_words.specs.Values.{ValueBlock}
 use Rattle.vlm_words.specs.Sweeps.{swept_grants, swept_state}
 use Rattle.vlm_words.specs.Declare.{declare_change}
 use Rattle.vlm_words.specs.Enqueue.{enq_change, enq_ending, enq_endings, found_by, row_of, request_of, key_of}
@@ -30,36 +30,36 @@ use Rattle.vlm_words.proofs.Apart.{Apart, apart_always, stands, standing}
 use Rattle.vlm_words.proofs.Counts.{hits, wants, ends, wants_kept, found_stands, converted_row_counts, all_dequeued_count}
 
 -- a lock that has no row is not found
-absent_same : (request : Request) (pid lkid : ℕ) (m : Moment) (r : Resource) (found : Option Row) → find (is_lock_of pid lkid) r.granted ≡ found
-    → weigh (stands lkid) r ≡ 0 → converted_row request lkid m r found ≡ r
-absent_same request pid lkid m r None is absent = refl
-absent_same request pid lkid m r (Some row) is absent =
+absent_same : (request : Request) (pid lkid : ℕ) (block : ValueBlock) (r : Resource) (found : Option Row) → find (is_lock_of pid lkid) r.granted ≡ found
+    → weigh (stands lkid) r ≡ 0 → converted_row request lkid block r found ≡ r
+absent_same request pid lkid block r None is absent = refl
+absent_same request pid lkid block r (Some row) is absent =
     absurd (omega (arith, found_stands pid lkid r.granted row (found_at (is_lock_of pid lkid) r.granted row is)))
 
 -- resources without a row of the lock stay as they are when it converts
-absent_unchanged : (request : Request) (pid lkid : ℕ) (m : Moment) (resources : List Resource) → standing lkid resources ≡ 0
-    → map (converted request pid lkid m) resources ≡ resources
+absent_unchanged : (request : Request) (pid lkid : ℕ) (block : ValueBlock) (resources : List Resource) → standing lkid resources ≡ 0
+    → map (converted request pid lkid block) resources ≡ resources
 unfolding converted
-absent_unchanged request pid lkid m [] absent = refl
-absent_unchanged request pid lkid m (r ∷ rest) absent =
+absent_unchanged request pid lkid block [] absent = refl
+absent_unchanged request pid lkid block (r ∷ rest) absent =
     let both : standing lkid (r ∷ rest) ≡ weigh (stands lkid) r + standing lkid rest = sum_by-cons (weigh (stands lkid)) r rest in
-    let here : converted request pid lkid m r ≡ r =
-    absent_same request pid lkid m r (find (is_lock_of pid lkid) r.granted) refl (omega arith) in
-    let behind : map (converted request pid lkid m) rest ≡ rest = absent_unchanged request pid lkid m rest (omega arith) in
+    let here : converted request pid lkid block r ≡ r =
+    absent_same request pid lkid block r (find (is_lock_of pid lkid) r.granted) refl (omega arith) in
+    let behind : map (converted request pid lkid block) rest ≡ rest = absent_unchanged request pid lkid block rest (omega arith) in
     cc
 
 -- where a lock has one row, its conversion is counted once: on its resource, or on those behind it
-here_or_behind : (number : ℕ) (request : Request) (pid lkid : ℕ) (m : Moment) (r : Resource) (rest : List Resource) (place : Place) (found : Option Row)
+here_or_behind : (number : ℕ) (request : Request) (pid lkid : ℕ) (block : ValueBlock) (r : Resource) (rest : List Resource) (place : Place) (found : Option Row)
     → find (is_lock_of pid lkid) r.granted ≡ found → Fit r → standing lkid (r ∷ rest) ≤ 1
     → (granted_place pid lkid rest ≡ Some place
-    → sum_by (wanting_on number) (map (converted request pid lkid m) rest) + times_ended number (conversion_ending request lkid (Some place))
+    → sum_by (wanting_on number) (map (converted request pid lkid block) rest) + times_ended number (conversion_ending request lkid (Some place))
     ≡ sum_by (wanting_on number) rest + hits number (Some request))
     → place_or r found (granted_place pid lkid rest) ≡ Some place
-    → wanting_on number (converted_row request lkid m r found) + sum_by (wanting_on number) (map (converted request pid lkid m) rest)
+    → wanting_on number (converted_row request lkid block r found) + sum_by (wanting_on number) (map (converted request pid lkid block) rest)
     + times_ended number (conversion_ending request lkid (Some place))
     ≡ wanting_on number r + sum_by (wanting_on number) rest + hits number (Some request)
-here_or_behind number request pid lkid m r rest place None is fit one behind at = omega (arith, behind at)
-here_or_behind number request pid lkid m r rest place (Some row) is fit one behind at =
+here_or_behind number request pid lkid block r rest place None is fit one behind at = omega (arith, behind at)
+here_or_behind number request pid lkid block r rest place (Some row) is fit one behind at =
     let same : Some (record { resource = r; row = row }) ≡ Some place = at in
     let own : times_ended number (conversion_ending request lkid (Some (record { resource = r; row = row })))
     ≡ times_ended number (conversion_ending request lkid (Some place)) =
@@ -72,27 +72,27 @@ here_or_behind number request pid lkid m r rest place (Some row) is fit one behi
     ) in
     omega (
       arith,
-      converted_row_counts number request lkid m r row fit,
+      converted_row_counts number request lkid block r row fit,
       own,
-      ap (sum_by (wanting_on number)) (absent_unchanged request pid lkid m rest absent),
+      ap (sum_by (wanting_on number)) (absent_unchanged request pid lkid block rest absent),
     )
 
 -- where a lock has one row, its conversion is counted once
-all_converted_count : (number : ℕ) (request : Request) (pid lkid : ℕ) (m : Moment) (place : Place) (resources : List Resource)
+all_converted_count : (number : ℕ) (request : Request) (pid lkid : ℕ) (block : ValueBlock) (place : Place) (resources : List Resource)
     → AllByRecursion Fit resources → standing lkid resources ≤ 1 → granted_place pid lkid resources ≡ Some place
-    → sum_by (wanting_on number) (map (converted request pid lkid m) resources) + times_ended number (conversion_ending request lkid (Some place))
+    → sum_by (wanting_on number) (map (converted request pid lkid block) resources) + times_ended number (conversion_ending request lkid (Some place))
     ≡ sum_by (wanting_on number) resources + hits number (Some request)
 unfolding converted
-all_converted_count number request pid lkid m place [] fit one at = cc
-all_converted_count number request pid lkid m place (r ∷ rest) fit one at =
+all_converted_count number request pid lkid block place [] fit one at = cc
+all_converted_count number request pid lkid block place (r ∷ rest) fit one at =
     let fewer : standing lkid rest ≤ 1 = omega (arith, sum_by-cons (weigh (stands lkid)) r rest) in
-    let all = here_or_behind number request pid lkid m r rest place (find (is_lock_of pid lkid) r.granted) refl fit.0 one
-    (λ behind. all_converted_count number request pid lkid m place rest fit.1 fewer behind) at in
+    let all = here_or_behind number request pid lkid block r rest place (find (is_lock_of pid lkid) r.granted) refl fit.0 one
+    (λ behind. all_converted_count number request pid lkid block place rest fit.1 fewer behind) at in
     omega (
       arith,
       all,
       sum_by-cons (wanting_on number) r rest,
-      sum_by-cons (wanting_on number) (converted request pid lkid m r) (map (converted request pid lkid m) rest),
+      sum_by-cons (wanting_on number) (converted request pid lkid block r) (map (converted request pid lkid block) rest),
     )
 
 -- a new request is wanted or ends, and what the sweep grants ends
@@ -120,7 +120,7 @@ converted_counts number s c passed fit apart =
     omega (
       arith,
       swept_weighs (wants number) (ends number) (wants_kept number) (convert_change s c).processes (convert_change s c).resources,
-      all_converted_count number request c.pid lkid (convert_moment s c) place.0 s.resources fit (apart.one_row lkid) place.1,
+      all_converted_count number request c.pid lkid (convert_moment s c).block place.0 s.resources fit (apart.one_row lkid) place.1,
       ap (λ p. times_ended number (conversion_ending request lkid p)) place.1,
       sum_by-append (ends number) (conversion_ending request lkid (granted_place c.pid lkid s.resources)) (swept_grants (convert_change s c).resources),
     )

@@ -21,7 +21,7 @@ use Rattle.vlm_words.specs.Grants.{is_empty, is_beside, fits, wanted_fits, grant
 use Rattle.vlm_words.specs.Enqueue.{is_free_for, is_at_once, entered, row_of, request_of, enq_refusal}
 use Rattle.vlm_words.specs.Convert.{wanting_row, ungranted, converts_at_once, converted_row, converted}
 use Rattle.vlm_words.specs.Dequeue.{Withdrawal, is_lock_of, rows_without, has_writer, left_by_writer, left_by, settled_row, without, cancelled, dequeued}
-use Rattle.vlm_words.specs.Values.{Moment, valued}
+use Rattle.vlm_words.specs.Values.{ValueBlock, valued}
 use Rattle.vlm_words.specs.Runs.{Run}
 use Rattle.vlm_words.specs.Laws.{AreCompatible, HeldModesAreCompatible}
 use Rattle.vlm_words.proofs.Each.{Found, found_at, each_append, each_passes, each_weaker}
@@ -186,19 +186,19 @@ queued_agrees request pid lkid granted converting row at agree =
     (each_pair_filter_left HoldCompatible _ granted converting agree))
 
 -- a conversion keeps the held modes compatible, whichever row is found
-converted_row_agrees : (request : Request) (pid lkid : ℕ) (m : Moment) (r : Resource) (found : Option Row)
-    → find (is_lock_of pid lkid) r.granted ≡ found → HoldersAgree r → HoldersAgree (converted_row request lkid m r found)
-converted_row_agrees request pid lkid m r None is agree = agree
-converted_row_agrees request pid lkid m r (Some row) is agree =
-    cond_both (converts_at_once request lkid r) (valued m (grant (ungranted lkid r) (wanting_row row request)))
+converted_row_agrees : (request : Request) (pid lkid : ℕ) (block : ValueBlock) (r : Resource) (found : Option Row)
+    → find (is_lock_of pid lkid) r.granted ≡ found → HoldersAgree r → HoldersAgree (converted_row request lkid block r found)
+converted_row_agrees request pid lkid block r None is agree = agree
+converted_row_agrees request pid lkid block r (Some row) is agree =
+    cond_both (converts_at_once request lkid r) (valued block (grant (ungranted lkid r) (wanting_row row request)))
     (record (ungranted lkid r) { converting = r.converting ++ wanting_row row request ∷ [] }) HoldersAgree
     (λ at_once. converted_at_once_agrees request lkid r row at_once agree)
     (λ _. queued_agrees request pid lkid r.granted r.converting row (found_at (is_lock_of pid lkid) r.granted row is) agree)
 
 -- the same, for the row that is found
-converted_agrees : (request : Request) (pid lkid : ℕ) (m : Moment) (r : Resource) → HoldersAgree r → HoldersAgree (converted request pid lkid m r)
+converted_agrees : (request : Request) (pid lkid : ℕ) (block : ValueBlock) (r : Resource) → HoldersAgree r → HoldersAgree (converted request pid lkid block r)
 unfolding converted
-converted_agrees request pid lkid m r agree = converted_row_agrees request pid lkid m r (find (is_lock_of pid lkid) r.granted) refl agree
+converted_agrees request pid lkid block r agree = converted_row_agrees request pid lkid block r (find (is_lock_of pid lkid) r.granted) refl agree
 
 -- a lock that goes leaves the held modes compatible
 without_agrees : (lkid : ℕ) (r : Resource) → HoldersAgree r → HoldersAgree (without lkid r)

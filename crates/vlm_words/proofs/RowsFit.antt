@@ -15,7 +15,7 @@ use Rattle.vlm_words.specs.Grants.{is_empty, wanted_fits, granted_row, grant, se
 use Rattle.vlm_words.specs.Enqueue.{is_at_once, entered, row_of, request_of, enq_refusal}
 use Rattle.vlm_words.specs.Convert.{wanting_row, ungranted, converts_at_once, converted_row, converted}
 use Rattle.vlm_words.specs.Dequeue.{Withdrawal, is_lock_of, rows_of, rows_without, settled_row, has_writer, left_by_writer, left_by, without, cancelled, dequeued}
-use Rattle.vlm_words.specs.Values.{Moment, valued}
+use Rattle.vlm_words.specs.Values.{ValueBlock, valued}
 use Rattle.vlm_words.specs.Runs.{Run}
 use Rattle.vlm_words.specs.Laws.{IsSettled, IsConverting, IsWaiting, RowsFit, RowsFitTheirQueues}
 use Rattle.vlm_words.proofs.Each.{Found, found_at, each_append, each_at, each_filter, each_map, each_weaker}
@@ -84,14 +84,14 @@ entered_fit s e _ r fit =
     })
 
 -- a conversion keeps the rows fit, whichever row is found
-converted_row_fit : (request : Request) (pid lkid : ℕ) (m : Moment) (r : Resource) (found : Option Row) → find (is_lock_of pid lkid) r.granted ≡ found
-    → Fit r → Fit (converted_row request lkid m r found)
-converted_row_fit request pid lkid m r None is fit = fit
-converted_row_fit request pid lkid m r (Some row) is fit =
+converted_row_fit : (request : Request) (pid lkid : ℕ) (block : ValueBlock) (r : Resource) (found : Option Row) → find (is_lock_of pid lkid) r.granted ≡ found
+    → Fit r → Fit (converted_row request lkid block r found)
+converted_row_fit request pid lkid block r None is fit = fit
+converted_row_fit request pid lkid block r (Some row) is fit =
     let at : Found (is_lock_of pid lkid) r.granted row = found_at (is_lock_of pid lkid) r.granted row is in
     let held : IsSettled row = each_at IsSettled at.before row at.after (subst (AllByRecursion IsSettled) at.split fit.granted) in
     let others : AllByRecursion IsSettled (rows_without lkid r.granted) = each_filter IsSettled _ r.granted fit.granted in
-    cond_both (converts_at_once request lkid r) (valued m (grant (ungranted lkid r) (wanting_row row request)))
+    cond_both (converts_at_once request lkid r) (valued block (grant (ungranted lkid r) (wanting_row row request)))
     (record (ungranted lkid r) { converting = r.converting ++ wanting_row row request ∷ [] }) Fit
     (λ _. record {
       granted = settled_after_grant (rows_without lkid r.granted) (wanting_row row request) others refl;
@@ -105,9 +105,9 @@ converted_row_fit request pid lkid m r (Some row) is fit =
     })
 
 -- the same, for the row that is found
-converted_fit : (request : Request) (pid lkid : ℕ) (m : Moment) (r : Resource) → Fit r → Fit (converted request pid lkid m r)
+converted_fit : (request : Request) (pid lkid : ℕ) (block : ValueBlock) (r : Resource) → Fit r → Fit (converted request pid lkid block r)
 unfolding converted
-converted_fit request pid lkid m r fit = converted_row_fit request pid lkid m r (find (is_lock_of pid lkid) r.granted) refl fit
+converted_fit request pid lkid block r fit = converted_row_fit request pid lkid block r (find (is_lock_of pid lkid) r.granted) refl fit
 
 -- a lock that goes leaves the rows fit
 without_fit : (lkid : ℕ) (r : Resource) → Fit r → Fit (without lkid r)
@@ -146,7 +146,7 @@ dequeued_fit w r fit =
 pub fit_always : (steps : List Step) (answers : List Answer) (endings : List Ending) (last : State)
     → Run steps answers endings last → AllByRecursion Fit last.resources
 fit_always steps answers endings last run =
-    each_always Fit Fit (λ _ fit. fit) (λ m r fit. same_fit (served r) (valued m (served r)) refl refl refl (served_fit r fit))
+    each_always Fit Fit (λ _ fit. fit) (λ block r fit. same_fit (served r) (valued block (served r)) refl refl refl (served_fit r fit))
     (record {
       fresh = λ _ _. record { granted = tt; converting = tt; waiting = tt };
       entry = entered_fit;

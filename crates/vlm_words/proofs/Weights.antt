@@ -120,7 +120,7 @@ swept_weighs f g keeps processes (r ∷ rest) =
       arith,
       behind,
       served_weighs f g keeps r,
-      dropped_weighs f (valued (after_grants processes r) (served r)) (swept after rest),
+      dropped_weighs f (valued (after_grants processes r).block (served r)) (swept after rest),
       sum_by-append g (grants_of r) (swept_grants rest),
       sum_by-cons (weigh f) r rest,
     )

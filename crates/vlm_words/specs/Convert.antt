@@ -1,5 +1,5 @@
 -- The step that converts a lock to another mode.
-use Rattle.std.specs.Prelude.{ℕ, Bool, true, false, not, ◌&&◌, ◌||◌, ◌+◌, List, [], ◌∷◌, ◌++◌, map, find, replicate, Option, None, Some, is_none, if◌then◌else◌}
+use Rattle.std.specs.Prelude.{ℕ, Bool, false, not, ◌&&◌, ◌||◌, ◌+◌, List, [], ◌∷◌, ◌++◌, map, find, Option, None, Some, is_none, if◌then◌else◌}
 use Rattle.vlm_words.specs.declared.conditions.Cond.{Cond}
 use Rattle.vlm_words.specs.declared.conditions.Cond.TheVariants.{Badparam, Cvtungrant}
 use Rattle.vlm_words.specs.declared.locks.Request.{Request}
@@ -14,7 +14,7 @@ use Rattle.vlm_words.specs.Blocks.{accepted_in}
 use Rattle.vlm_words.specs.Checks.{or_else, caller_refusal, block_refusal, which_refusal, named_lkid, request_numbers_refusal, queue_refusal}
 use Rattle.vlm_words.specs.Grants.{is_empty, fits, grant, grant_ending}
 use Rattle.vlm_words.specs.Sweeps.{swept_grants}
-use Rattle.vlm_words.specs.Values.{Moment, moment_of, told, valued}
+use Rattle.vlm_words.specs.Values.{Moment, ValueBlock, new_value_block, moment_of, told, valued}
 use Rattle.vlm_words.specs.Dequeue.{is_lock_of, lock_refusal, rows_without}
 
 -- an unknown flag, or an argument that is not built yet: a routine
@@ -90,7 +90,7 @@ conversion_ending request lkid (Some place) =
 
 -- what that end makes of the resource's value block and of the processes
 abbrev pub conversion_moment : Request → ℕ → Option Place → List Process → Moment
-conversion_moment request lkid None processes = record { value = replicate 16 0; valid = true; processes = processes }
+conversion_moment request lkid None processes = record { block = new_value_block; processes = processes }
 conversion_moment request lkid (Some place) processes =
     told (conversion_ending request lkid (Some place)) (moment_of place.resource processes)
 
@@ -115,22 +115,22 @@ convert_refusal s c =
 abbrev pub ungranted : ℕ → Resource → Resource
 ungranted lkid r = record r { granted = rows_without lkid r.granted }
 
--- the lock of this row is granted at once, with the value block of the moment, or goes to the end of the conversion queue
-abbrev pub converted_row : Request → ℕ → Moment → Resource → Option Row → Resource
-converted_row request lkid m r None = r
-converted_row request lkid m r (Some row) =
-    if converts_at_once request lkid r then valued m (grant (ungranted lkid r) (wanting_row row request))
+-- the lock of this row is granted at once, with this value block, or goes to the end of the conversion queue
+abbrev pub converted_row : Request → ℕ → ValueBlock → Resource → Option Row → Resource
+converted_row request lkid block r None = r
+converted_row request lkid block r (Some row) =
+    if converts_at_once request lkid r then valued block (grant (ungranted lkid r) (wanting_row row request))
     else record (ungranted lkid r) { converting = r.converting ++ wanting_row row request ∷ [] }
 
 -- what a conversion makes of a resource: only that of the lock is changed
-unfoldable pub converted : Request → ℕ → ℕ → Moment → Resource → Resource
-converted request pid lkid m r = converted_row request lkid m r (find (is_lock_of pid lkid) r.granted)
+unfoldable pub converted : Request → ℕ → ℕ → ValueBlock → Resource → Resource
+converted request pid lkid block r = converted_row request lkid block r (find (is_lock_of pid lkid) r.granted)
 
 -- the lock converts, its status block is written, and the request number that it took is used up
 unfoldable pub convert_change : State → Conversion → State
 convert_change s c = record s {
   processes = (convert_moment s c).processes;
-  resources = map (converted (conversion_of s c) c.pid (conversion_lkid s c) (convert_moment s c)) s.resources;
+  resources = map (converted (conversion_of s c) c.pid (conversion_lkid s c) (convert_moment s c).block) s.resources;
   next_request = s.next_request + 1;
 }
 

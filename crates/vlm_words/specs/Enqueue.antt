@@ -1,5 +1,5 @@
 -- The step that asks for a new lock.
-use Rattle.std.specs.Prelude.{ℕ, Bool, true, false, not, ◌&&◌, ◌||◌, ◌==◌, ◌+◌, List, [], ◌∷◌, ◌++◌, replicate, Option, None, Some, is_none, find, unwrap_or, if◌then◌else◌}
+use Rattle.std.specs.Prelude.{ℕ, Bool, true, false, not, ◌&&◌, ◌||◌, ◌==◌, ◌+◌, List, [], ◌∷◌, ◌++◌, Option, None, Some, is_none, find, unwrap_or, if◌then◌else◌}
 use Rattle.std.specs.Option.{option_map_or}
 use Rattle.std.specs.List.{list_any}
 use Rattle.std.specs.Cmp.Lexicographic.{pointwise}
@@ -23,7 +23,7 @@ use Rattle.vlm_words.specs.Blocks.{accepted_in}
 use Rattle.vlm_words.specs.Checks.{or_else, caller_refusal, block_refusal, numbers_refusal, queue_refusal}
 use Rattle.vlm_words.specs.Grants.{is_empty, fits, grant, grant_ending}
 use Rattle.vlm_words.specs.Sweeps.{swept_grants}
-use Rattle.vlm_words.specs.Values.{moment_of, told}
+use Rattle.vlm_words.specs.Values.{moment_of, new_value_block, told}
 
 -- the identification 0 names no parent
 abbrev pub is_no_parent : Which → Bool
@@ -94,8 +94,8 @@ new_resource serial key = record {
   parent = key.parent;
   domain = key.domain;
   name = key.name;
-  value = replicate 16 0;
-  valid = true;
+  value = new_value_block.value;
+  valid = new_value_block.valid;
   granted = [];
   converting = [];
   waiting = [];

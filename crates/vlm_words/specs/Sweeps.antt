@@ -12,7 +12,7 @@ after_grants processes r = told (grants_of r) (moment_of r processes)
 -- every resource is served, in its turn, and has the value block that its grants leave
 abbrev pub all_served : List Process → List Resource → List Resource
 all_served processes [] = []
-all_served processes (r ∷ rest) = valued (after_grants processes r) (served r) ∷ all_served (after_grants processes r).processes rest
+all_served processes (r ∷ rest) = valued (after_grants processes r).block (served r) ∷ all_served (after_grants processes r).processes rest
 
 -- the processes after all grants
 abbrev pub swept_processes : List Process → List Resource → List Process

@@ -1,5 +1,5 @@
 -- What the ends of requests make of a resource's value block and of status blocks.
-use Rattle.std.specs.Prelude.{ℕ, Bool, true, false, List, [], ◌∷◌}
+use Rattle.std.specs.Prelude.{ℕ, Bool, true, false, List, [], ◌∷◌, replicate}
 use Rattle.vlm_words.specs.declared.conditions.Cond.{Cond}
 use Rattle.vlm_words.specs.declared.conditions.Cond.TheVariants.{Normal, Valnotvalid}
 use Rattle.vlm_words.specs.declared.modes.Act.{Act}
@@ -9,19 +9,31 @@ use Rattle.vlm_words.specs.Endings.{Ending, How, ending_status}
 use Rattle.vlm_words.specs.Endings.How.{by_grant, by_abort, by_cancel}
 use Rattle.vlm_words.specs.State.{Process, Resource}
 
--- what the end of a request may change: the value block of its resource, and the processes
-pub record Moment : Type 0 where
+-- a value block: its 16 bytes, and whether they are valid
+pub record ValueBlock : Type 0 where
   pub value : List ℕ
   pub valid : Bool
+
+-- the value block of a new resource: valid zeros
+abbrev pub new_value_block : ValueBlock
+new_value_block = record { value = replicate 16 0; valid = true }
+
+-- the value block of a resource
+abbrev pub value_block : Resource → ValueBlock
+value_block r = record { value = r.value; valid = r.valid }
+
+-- the resource with this value block
+abbrev pub valued : ValueBlock → Resource → Resource
+valued block r = record r { value = block.value; valid = block.valid }
+
+-- what the end of a request may change: the value block of its resource, and the processes
+pub record Moment : Type 0 where
+  pub block : ValueBlock
   pub processes : List Process
 
 -- the resource's value block, among these processes
 abbrev pub moment_of : Resource → List Process → Moment
-moment_of r processes = record { value = r.value; valid = r.valid; processes = processes }
-
--- the resource with the value block of the moment
-abbrev pub valued : Moment → Resource → Resource
-valued m r = record r { value = m.value; valid = m.valid }
+moment_of r processes = record { block = value_block r; processes = processes }
 
 -- the status of a returned value block: VALNOTVALID where it is invalid
 abbrev pub return_status : Bool → Cond
@@ -30,11 +42,14 @@ return_status false = Valnotvalid
 
 -- the value block is returned: its bytes, valid or not, go to the value part of the status block
 unfoldable pub returned : ℕ → ℕ → Moment → Moment
-returned pid n m = record m { processes = returned_in pid n (return_status m.valid) m.value m.processes }
+returned pid n m = record m { processes = returned_in pid n (return_status m.block.valid) m.block.value m.processes }
 
 -- the value block is written from the value part of the status block, and valid
 unfoldable pub written : ℕ → ℕ → Moment → Moment
-written pid n m = record { value = (block_of m.processes pid n).value; valid = true; processes = ended_in pid n Normal m.processes }
+written pid n m = record {
+  block = record { value = (block_of m.processes pid n).value; valid = true };
+  processes = ended_in pid n Normal m.processes;
+}
 
 -- a request with this status block is granted
 abbrev pub granted_so : Act → ℕ → ℕ → Moment → Moment
