@@ -1,25 +1,58 @@
--- The statuses that ends write, one after the other.
-use Rattle.std.proofs.Common.{◌≡◌, ◌<◌, ◌+◌, ℕ, suc, List, [], ◌∷◌, ◌++◌, length, get_or, set, drop, flat_map, refl, sym, arith, add-one}
+-- What the ends of requests write, one after the other.
+use Rattle.std.proofs.Common.{◌≡◌, ◌<◌, ◌+◌, ℕ, zero, suc, List, [], ◌∷◌, ◌++◌, length, get_or, set, take, drop, flat_map, refl, sym, ap, arith, add-one}
 use Rattle.std.proofs.Math.Seq.{drop-cons}
-use Rattle.std.proofs.lemmas.List.{drop-set-lt}
-use Rattle.vlm_words.specs.Blocks.{told, ended_in}
+use Rattle.vlm_words.specs.Blocks.{withdrawn_in, ended_in}
 use Rattle.vlm_words.specs.Endings.{Ending, ending_status}
-use Rattle.vlm_words.specs.Grants.{grants_of, swept_grants}
+use Rattle.vlm_words.specs.Grants.{served}
 use Rattle.vlm_words.specs.State.{Process, Resource}
+use Rattle.vlm_words.specs.Sweeps.{after_grants, all_served, swept_processes}
+use Rattle.vlm_words.specs.Values.{Moment, ended_so, told, valued}
 
--- what ends first writes first
-pub told_append : (first later : List Ending) (processes : List Process) → told (first ++ later) processes ≡ told later (told first processes)
-told_append [] later processes = refl
-told_append (ending ∷ first) later processes = told_append first later (ended_in ending.pid ending.block (ending_status ending.how) processes)
+-- what ends first takes effect first
+pub told_append : (first later : List Ending) (m : Moment) → told (first ++ later) m ≡ told later (told first m)
+told_append [] later m = refl
+told_append (ending ∷ first) later m = told_append first later (ended_so ending.how ending.pid ending.block m)
 
--- the statuses of one more resource, and then those of the resources behind it
-pub told_next : (f : Resource → List Ending) (rs : List Resource) (i : ℕ) (d : Resource) (processes : List Process) → i < length rs
-    → told (flat_map f (drop (i + 1) rs)) (told (f (get_or rs i d)) processes) ≡ told (flat_map f (drop i rs)) processes
-told_next f rs i d processes within =
-    rw (drop-cons rs i d within) (rw (add-one i) (sym (told_append (f (get_or rs i d)) (flat_map f (drop (suc i) rs)) processes)))
+-- what is withdrawn first writes first
+pub withdrawn_append : (first later : List Ending) (processes : List Process)
+    → withdrawn_in (first ++ later) processes ≡ withdrawn_in later (withdrawn_in first processes)
+withdrawn_append [] later processes = refl
+withdrawn_append (ending ∷ first) later processes =
+    withdrawn_append first later (ended_in ending.pid ending.block (ending_status ending.how) processes)
 
--- one more resource is served
-pub told_one_more : (rs : List Resource) (i : ℕ) (r d : Resource) (processes : List Process) → i < length rs
-    → told (swept_grants (drop (i + 1) (set rs i r))) (told (grants_of (get_or rs i d)) processes) ≡ told (swept_grants (drop i rs)) processes
-unfolding swept_grants
-told_one_more rs i r d processes within = rw (drop-set-lt (i + 1) rs i r (omega arith)) (told_next grants_of rs i d processes within)
+-- the withdrawals of one more resource, and then those of the resources behind it
+pub withdrawn_next : (f : Resource → List Ending) (rs : List Resource) (i : ℕ) (d : Resource) (processes : List Process) → i < length rs
+    → withdrawn_in (flat_map f (drop (i + 1) rs)) (withdrawn_in (f (get_or rs i d)) processes) ≡ withdrawn_in (flat_map f (drop i rs)) processes
+withdrawn_next f rs i d processes within =
+    rw (drop-cons rs i d within)
+    (rw (add-one i) (sym (withdrawn_append (f (get_or rs i d)) (flat_map f (drop (suc i) rs)) processes)))
+
+-- a resource as it is served among these processes
+abbrev pub served_among : List Process → Resource → Resource
+served_among processes r = valued (after_grants processes r).block (served r)
+
+-- one more resource is served: those so far with those that are left, served, stay the same
+served_next : (processes : List Process) (rs : List Resource) (i : ℕ) (d : Resource) → i < length rs
+    → take (suc i) (set rs i (served_among processes (get_or rs i d)))
+    ++ all_served (after_grants processes (get_or rs i d)).processes (drop (suc i) (set rs i (served_among processes (get_or rs i d))))
+    ≡ take i rs ++ all_served processes (drop i rs)
+served_next processes [] i d within = absurd (omega arith)
+served_next processes (r ∷ rest) zero d within = refl
+served_next processes (r ∷ rest) (suc i) d within = ap (λ rs. r ∷ rs) (served_next processes rest i d (omega arith))
+
+pub served_one_more : (processes : List Process) (rs : List Resource) (i : ℕ) (d : Resource) → i < length rs
+    → take (i + 1) (set rs i (served_among processes (get_or rs i d)))
+    ++ all_served (after_grants processes (get_or rs i d)).processes (drop (i + 1) (set rs i (served_among processes (get_or rs i d))))
+    ≡ take i rs ++ all_served processes (drop i rs)
+served_one_more processes rs i d within = rw (add-one i) (served_next processes rs i d within)
+
+-- and so do the processes after all of them
+swept_next : (processes : List Process) (rs : List Resource) (i : ℕ) (d r : Resource) → i < length rs
+    → swept_processes (after_grants processes (get_or rs i d)).processes (drop (suc i) (set rs i r)) ≡ swept_processes processes (drop i rs)
+swept_next processes [] i d r within = absurd (omega arith)
+swept_next processes (first ∷ rest) zero d r within = refl
+swept_next processes (first ∷ rest) (suc i) d r within = swept_next processes rest i d r (omega arith)
+
+pub swept_one_more : (processes : List Process) (rs : List Resource) (i : ℕ) (d r : Resource) → i < length rs
+    → swept_processes (after_grants processes (get_or rs i d)).processes (drop (i + 1) (set rs i r)) ≡ swept_processes processes (drop i rs)
+swept_one_more processes rs i d r within = rw (add-one i) (swept_next processes rs i d r within)

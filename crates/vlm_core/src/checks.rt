@@ -1,22 +1,17 @@
 //! What several steps share: checks, which only read and answer the refusal, and the sweep.
 
-ghost use Rattle.std.specs.Prelude.{◌≡◌, ◌<◌, ◌≤◌, ◌^◌, ◌++◌, [], length, Some, IfOk, OnOk, if◌then◌else◌};
+ghost use Rattle.std.specs.Prelude.{◌≡◌, ◌<◌, ◌^◌, IfOk, OnOk};
 ghost use Rattle.std.specs.Result.{result_err};
 ghost use Rattle.vlm_words.specs.Checks.{block_refusal, caller_refusal, named_lkid, numbers_refusal, request_numbers_refusal, which_refusal};
-ghost use Rattle.vlm_words.specs.Blocks.{blocks_of};
 ghost use Rattle.vlm_words.specs.Dequeue.{lock_refusal};
-ghost use Rattle.vlm_words.specs.Endings.{ended};
-ghost use Rattle.vlm_words.specs.Endings.How.{by_grant};
-ghost use Rattle.vlm_words.specs.Grants.{swept_grants};
-ghost use Rattle.vlm_words.specs.Stepped.{ended_state};
+ghost use Rattle.vlm_words.specs.Sweeps.{swept_state};
 
 use crate::machine::Core;
 use crate::nodes::has_departed;
 use crate::tables::{is_held, sweep};
-use vlm_procs::{end, has_block};
+use vlm_procs::{block, has_block};
 use vlm_store::ProcAt;
 use vlm_words::conditions::Cond;
-use vlm_words::locks::Request;
 use vlm_words::steps::Which;
 
 impl Core {
@@ -63,9 +58,7 @@ impl Core {
     /// ACCVIO where the caller has no status block of the number.
     #[tactic(auto, unfolding(vlm_words::specs::Checks::block_refusal))]
     pub(crate) fn check_block(&self, caller: ProcAt, block: u8) -> Result<(), Cond>
-        ensures refusal { result_err result ≡ block_refusal self.now caller block }
-        ensures some { OnOk result (0 < block) }
-        ensures there { OnOk result (block ≤ length (blocks_of self.now.processes caller)) }
+        ensures { result_err result ≡ block_refusal self.now caller block }
     {
         if has_block(&self.store, caller, block) {
             Ok(())
@@ -76,17 +69,17 @@ impl Core {
 
     /// The identification that is named: its own, or what stands in a status block of the caller.
     /// ACCVIO where the caller has no such block.
-    #[tactic(auto, unfolding(vlm_words::specs::Checks::which_refusal))]
+    #[tactic(auto, unfolding(vlm_words::specs::Checks::which_refusal, vlm_words::specs::Checks::block_refusal, vlm_words::specs::Blocks::block_found))]
     pub(crate) fn named(&self, caller: ProcAt, lock: Which) -> Result<u32, Cond>
         ensures refusal { result_err result ≡ which_refusal self.now caller lock }
         ensures lkid { IfOk result (λ lkid. lkid ≡ named_lkid self.now caller lock) }
     {
         match lock {
             Which::Id(lkid) => Ok(lkid),
-            Which::Block(number) => {
-                self.check_block(caller, number)?;
-                Ok(self.store.blocks(caller)[usize::from(number) - 1].lkid)
-            }
+            Which::Block(number) => match block(&self.store, caller, number) {
+                Some(block) => Ok(block.lkid),
+                None => Err(Cond::Accvio),
+            },
         }
     }
 
@@ -102,23 +95,11 @@ impl Core {
         }
     }
 
-    /// Ends a step: every resource is served, each grant writes its status, and resources without locks
-    /// go.
+    /// Ends a step: every resource is served, each grant takes effect on its resource's value block and on
+    /// its status block, and resources without locks go.
     pub(crate) fn sweep(&mut self)
-        ensures { self.new ≡ ended_state (swept_grants self.old.resources) self.old }
+        ensures { self.new ≡ swept_state self.old }
     {
         sweep(&mut self.resources, &mut self.store);
-    }
-
-    /// Ends the step of an accepted request: if it was granted at once that writes its status, and then
-    /// every resource is served.
-    #[tactic(auto, using(crate::proofs::Telling::told_append))]
-    pub(crate) fn end_request(&mut self, pid: u32, asked: &Request, at_once: bool)
-        ensures { self.new ≡ ended_state ((if at_once then ended by_grant pid (Some asked.now) else []) ++ swept_grants self.old.resources) self.old }
-    {
-        if at_once {
-            end(&mut self.store, pid, asked.block, Cond::Normal);
-        }
-        self.sweep();
     }
 }

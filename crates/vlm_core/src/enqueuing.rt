@@ -3,14 +3,17 @@
 ghost use Rattle.std.specs.Prelude.{◌≡◌, ◌<◌, ◌^◌, false, find, unwrap_or, IfOk, OnErr, OnOk};
 ghost use Rattle.std.specs.Result.{result_err};
 ghost use Rattle.vlm_words.specs.Checks.{acceptance, queue_refusal};
-ghost use Rattle.vlm_words.specs.Enqueue.{enq_argument_refusal, enq_at_once, enq_change, enq_refusal, expedite_refusal, is_at, is_at_once, is_no_parent, key_of, name_refusal, new_resource, request_of};
+ghost use Rattle.vlm_words.specs.Enqueue.{enq_argument_refusal, enq_at_once, enq_change, enq_refusal, expedite_refusal, found_by, is_at, is_at_once, is_no_parent, key_of, name_refusal, new_resource, request_of};
 ghost use Rattle.vlm_words.specs.Flags.{flag_bits};
 ghost use Rattle.vlm_words.specs.Stepped.{Outcome};
+ghost use Rattle.vlm_words.specs.Values.{value_block};
 
+use crate::ending::end_by_grant;
 use crate::flags::{enq_flags, has_flag};
 use crate::machine::Core;
 use crate::resources::Key;
-use crate::tables::{enter_among, enters_at_once};
+use crate::tables::{enter_among, enters_at_once, value_block_under};
+use crate::values::ValueBlock;
 use std::alloc::AllocError;
 use vlm_procs::accept;
 use vlm_store::ProcAt;
@@ -28,16 +31,17 @@ struct Admission {
     caller: ProcAt,
     // where its resource stands
     key: Key,
+    // the value block there
+    block: ValueBlock,
     asked: Request,
     at_once: bool,
 }
 
 impl Core {
     /// Asks for a new lock ($ENQ). It answers NORMAL, or SYNCH where it is granted at once with
-    /// SYNCSTS. Refused by DEPARTED, NONEXPR, BADPARAM for an unknown flag or an argument that is not
+    /// SYNCSTS. With VALBLK its grant returns the resource's value block. Refused by DEPARTED, NONEXPR, BADPARAM for an unknown flag or an argument that is not
     /// built yet, ACCVIO, IVBUFLEN, UNSUPPORTED for EXPEDITE at a mode other than NL, NOLOCKID,
     /// NOTQUEUED where it must not queue and is not granted at once, INSFMEM.
-    #[tactic(auto, unfolding(vlm_words::specs::Enqueue::enq_endings))]
     pub fn enq(&mut self, request: NewRequest) -> Answer
         ensures { Outcome self.old (Step.Enq request) self.new result }
     {
@@ -47,7 +51,7 @@ impl Core {
         };
         match self.add_lock(&request, &admission) {
             Ok(lkid) => {
-                self.end_request(request.pid, &admission.asked, admission.at_once);
+                self.sweep();
                 Answer::Lock(acceptance(admission.asked.flags, admission.at_once), lkid)
             }
             Err(AllocError) => Answer::Plain(Cond::Insfmem),
@@ -61,6 +65,7 @@ impl Core {
         ensures caller { IfOk result (λ a. a.caller ≡ request.now.pid) }
         ensures key { IfOk result (λ a. a.key ≡ key_of self.now request.now) }
         ensures asked { IfOk result (λ a. a.asked ≡ request_of self.now request.now) }
+        ensures block { IfOk result (λ a. a.block ≡ value_block (found_by self.now request.now)) }
         ensures at_once { IfOk result (λ a. a.at_once ≡ enq_at_once self.now request.now) }
         ensures lkid { OnOk result (self.now.next_lkid < 2 ^ 32) }
         ensures number { OnOk result (self.now.next_request < 2 ^ 64) }
@@ -91,6 +96,7 @@ impl Core {
         requires number { self.now.next_request < 2 ^ 64 }
         ensures caller { result.caller ≡ request.now.pid }
         ensures key { result.key ≡ key_of self.now request.now }
+        ensures block { result.block ≡ value_block (found_by self.now request.now) }
         ensures asked { result.asked ≡ request_of self.now request.now }
         ensures at_once { result.at_once ≡ enq_at_once self.now request.now }
     {
@@ -100,6 +106,7 @@ impl Core {
         Admission {
             caller,
             key,
+            block: value_block_under(&self.resources, &key),
             asked,
             at_once,
         }
@@ -121,13 +128,15 @@ impl Core {
         enters_at_once(&self.resources, key, asked)
     }
 
-    // The lock enters its resource, its status block is written, and the numbers that it took are used
-    // up.
+    // The lock enters its resource, its status block is written, again if the request is granted at once,
+    // and the numbers that it took are used up.
     #[tactic(auto, unfolding(vlm_words::specs::Enqueue::enq_change))]
     fn add_lock(&mut self, request: &NewRequest, admission: &Admission) -> Result<u32, AllocError>
         requires caller { admission.now.caller ≡ request.now.pid }
         requires key { admission.now.key ≡ key_of self.old request.now }
+        requires block { admission.now.block ≡ value_block (found_by self.old request.now) }
         requires asked { admission.now.asked ≡ request_of self.old request.now }
+        requires at_once { admission.now.at_once ≡ enq_at_once self.old request.now }
         requires lkid { self.old.next_lkid < 2 ^ 32 }
         requires number { self.old.next_request < 2 ^ 64 }
         ensures lkid { IfOk result (λ lkid. lkid ≡ self.old.next_lkid) }
@@ -144,6 +153,11 @@ impl Core {
             self.last_serial = serial;
         }
         accept(&mut self.store, admission.caller, request.block, lkid);
+        if admission.at_once {
+            // a new request returns the value block and never writes it
+            let mut block = admission.block;
+            end_by_grant(&mut block, &mut self.store, &row);
+        }
         self.last_lkid = lkid;
         self.last_request = number;
         Ok(lkid)

@@ -1,7 +1,7 @@
 //! Flags by their bits.
 
 ghost use Rattle.std.specs.Prelude.{◌≡◌, true, false, MatchOption};
-ghost use Rattle.vlm_words.specs.Flags.{cancel, deq_bits, deq_flag_bits, enq_bits, flag_bits, has_flag, is_known};
+ghost use Rattle.vlm_words.specs.Flags.{deq_bits, deq_flag_bits, enq_bits, flag_bits, has_flag, is_known};
 
 use bitflags::Flags;
 use vlm_words::flags::{DeqFlags, EnqFlags};
@@ -23,30 +23,19 @@ pub(crate) fn enq_flags(bits: u16) -> Option<EnqFlags>
     EnqFlags::from_bits(bits)
 }
 
-/// Whether a dequeue cancels, if all of the bits are built.
-pub(crate) fn cancels(bits: u16) -> Option<bool>
-    ensures { MatchOption result (is_known deq_bits bits ≡ false)
-        (λ cancels. (is_known deq_bits bits ≡ true) × (cancels ≡ has_flag bits cancel)) }
-{
-    match deq_flags(bits) {
-        Some(flags) => Some(has_cancel(flags)),
-        None => None,
-    }
-}
-
-// The flags of a dequeue, if all of the bits are built.
+/// The flags of a dequeue, if all of the bits are built.
 #[tactic(auto, unfolding(vlm_words::specs::Flags::is_known, bitflags::proofs::OnLiterals::bitflags_on_literals))]
-fn deq_flags(bits: u16) -> Option<DeqFlags>
+pub(crate) fn deq_flags(bits: u16) -> Option<DeqFlags>
     ensures { MatchOption result (is_known deq_bits bits ≡ false)
         (λ flags. (is_known deq_bits bits ≡ true) × (deq_flag_bits flags ≡ bits)) }
 {
     DeqFlags::from_bits(bits)
 }
 
-// Whether CANCEL is among the flags.
+/// Whether the flag is among the flags of a dequeue.
 #[tactic(auto, unfolding(vlm_words::specs::Flags::has_flag))]
-fn has_cancel(flags: DeqFlags) -> bool
-    ensures { result ≡ has_flag (deq_flag_bits flags) cancel }
+pub(crate) fn has_deq_flag(flags: DeqFlags, flag: DeqFlags) -> bool
+    ensures { result ≡ has_flag (deq_flag_bits flags) (deq_flag_bits flag) }
 {
-    flags.contains(DeqFlags::CANCEL)
+    flags.contains(flag)
 }

@@ -20,7 +20,9 @@ mod resources;
 mod running;
 mod setting;
 mod tables;
+mod values;
 mod views;
+mod withdrawals;
 
 pub use machine::Core;
 pub use running::{Stopped, run_steps};

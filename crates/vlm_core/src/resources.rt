@@ -4,21 +4,27 @@ ghost use Rattle.std.specs.Prelude.{◌≡◌, ◌≤◌, ◌+◌, ◌++◌, len
 ghost use Rattle.std.specs.List.{list_any};
 ghost use Rattle.std.specs.Option.{option_map};
 ghost use Rattle.vlm_core.specs.Views.{resource_view, row_view, rows_in};
-ghost use Rattle.vlm_words.specs.Blocks.{told};
-ghost use Rattle.vlm_words.specs.Dequeue.{cancelled, dequeued, holds_lock, is_lock_of, rows_of, rows_without, settled_row, withdrawn, without};
+ghost use Rattle.vlm_words.specs.Blocks.{withdrawn_in};
+ghost use Rattle.vlm_words.specs.Dequeue.{cancelled, dequeued, has_writer, holds_lock, is_lock_of, is_writer, left_by, rows_of, rows_without, settled_row, withdrawn, without};
 ghost use Rattle.vlm_words.specs.Enqueue.{entered, is_at, is_at_once, is_domain, is_free_for, new_resource};
 ghost use Rattle.vlm_words.specs.Convert.{converted, converts_at_once, wanting_row};
-ghost use Rattle.vlm_words.specs.Grants.{converting_grants, grants_of, is_empty, is_vacant, serve_converting, serve_waiting, served, waiting_grants};
+ghost use Rattle.vlm_words.specs.Grants.{converting_grants, grants_of, is_empty, serve_converting, serve_waiting, served, waiting_grants};
+ghost use Rattle.vlm_words.specs.Modes.{is_writing};
+ghost use Rattle.vlm_words.specs.Sweeps.{after_grants, is_vacant};
+ghost use Rattle.vlm_words.specs.Values.{told, value_block, valued};
 
 use crate::ending::{end_by_grant, end_in_queue};
 use crate::flags::has_flag;
 use crate::grants::{fits, fits_without, granted_row, wanted_fits};
+use crate::values::ValueBlock;
 use crate::views::{ResourceView, RowView, row_view};
+use crate::withdrawals::Withdrawal;
 use std::alloc::{AllocError, Global};
 use std::marker::Model;
 use vlm_store::Store;
 use vlm_words::flags::EnqFlags;
 use vlm_words::locks::{Request, Row};
+use vlm_words::modes::Mode;
 use vlm_words::names::Name;
 use vlm_words::resources::{Domain, Queue};
 
@@ -63,8 +69,7 @@ pub(crate) struct Resource {
     parent: u32,
     domain: Domain,
     name: Name,
-    value: [u8; 16],
-    valid: bool,
+    block: ValueBlock,
     granted: Vec<Row>,
     converting: Vec<Row>,
     waiting: Vec<Row>,
@@ -90,11 +95,16 @@ impl Resource {
         self.granted.is_empty() && self.converting.is_empty() && self.waiting.is_empty()
     }
 
-    // Grants conversions from the front of their queue while they fit. Each grant writes its status.
+    // Grants conversions from the front of their queue while they fit. Each grant takes effect on the
+    // value block and on its status block.
     #[tactic(auto, using(crate::proofs::Telling::told_append))]
-    fn serve_converting(&mut self, store: &mut Store)
+    fn serve_converting(&mut self, block: &mut ValueBlock, store: &mut Store)
         ensures resource { self.new ≡ serve_converting self.old self.old.converting }
-        ensures statuses { store.new ≡ record store.old { processes = told (converting_grants self.old self.old.converting) store.old.processes } }
+        ensures block { block.new
+            ≡ (told (converting_grants self.old self.old.converting) (record { block = block.old; processes = store.old.processes })).block }
+        ensures statuses { store.new ≡ record store.old {
+          processes = (told (converting_grants self.old self.old.converting) (record { block = block.old; processes = store.old.processes })).processes;
+        } }
     {
         while let Some(row) = self.converting.first().copied() {
             if !wanted_fits(row.want, &self.granted, &self.converting[1..]) {
@@ -102,15 +112,20 @@ impl Resource {
             }
             self.converting.remove(0);
             self.granted.push_reserved(granted_row(row));
-            end_by_grant(store, &row);
+            end_by_grant(block, store, &row);
         }
     }
 
-    // Grants new requests from the front of their queue while they fit. Each grant writes its status.
+    // Grants new requests from the front of their queue while they fit. Each grant takes effect on the
+    // value block and on its status block.
     #[tactic(auto, using(crate::proofs::Telling::told_append))]
-    fn serve_waiting(&mut self, store: &mut Store)
+    fn serve_waiting(&mut self, block: &mut ValueBlock, store: &mut Store)
         ensures resource { self.new ≡ serve_waiting self.old self.old.waiting }
-        ensures statuses { store.new ≡ record store.old { processes = told (waiting_grants self.old self.old.waiting) store.old.processes } }
+        ensures block { block.new
+            ≡ (told (waiting_grants self.old self.old.waiting) (record { block = block.old; processes = store.old.processes })).block }
+        ensures statuses { store.new ≡ record store.old {
+          processes = (told (waiting_grants self.old self.old.waiting) (record { block = block.old; processes = store.old.processes })).processes;
+        } }
     {
         while let Some(row) = self.waiting.first().copied() {
             if !wanted_fits(row.want, &self.granted, &self.converting) {
@@ -118,21 +133,42 @@ impl Resource {
             }
             self.waiting.remove(0);
             self.granted.push_reserved(granted_row(row));
-            end_by_grant(store, &row);
+            end_by_grant(block, store, &row);
+        }
+    }
+
+    // Grants from the conversion queue, and once that is empty from the waiting queue.
+    #[tactic(auto, using(crate::proofs::Telling::told_append), unfolding(vlm_words::specs::Grants::served, vlm_words::specs::Grants::grants_of))]
+    fn serve_queues(&mut self, block: &mut ValueBlock, store: &mut Store)
+        ensures resource { self.new ≡ served self.old }
+        ensures block { block.new ≡ (told (grants_of self.old) (record { block = block.old; processes = store.old.processes })).block }
+        ensures statuses { store.new ≡ record store.old {
+          processes = (told (grants_of self.old) (record { block = block.old; processes = store.old.processes })).processes;
+        } }
+    {
+        self.serve_converting(block, store);
+        if self.converting.is_empty() {
+            self.serve_waiting(block, store);
         }
     }
 
     /// Grants what can be granted: conversions first, then new requests, each queue up to the first
-    /// that does not fit. Each grant writes its status.
-    #[tactic(auto, using(crate::proofs::Telling::told_append), unfolding(vlm_words::specs::Grants::served, vlm_words::specs::Grants::grants_of))]
+    /// that does not fit. Each grant takes effect on the value block and on its status block.
+    #[tactic(auto, unfolding(vlm_words::specs::Sweeps::after_grants))]
     pub(crate) fn serve(&mut self, store: &mut Store)
-        ensures resource { self.new ≡ served self.old }
-        ensures statuses { store.new ≡ record store.old { processes = told (grants_of self.old) store.old.processes } }
+        ensures resource { self.new ≡ valued (after_grants store.old.processes self.old).block (served self.old) }
+        ensures statuses { store.new ≡ record store.old { processes = (after_grants store.old.processes self.old).processes } }
     {
-        self.serve_converting(store);
-        if self.converting.is_empty() {
-            self.serve_waiting(store);
-        }
+        let mut block = self.block;
+        self.serve_queues(&mut block, store);
+        self.block = block;
+    }
+
+    /// The value block.
+    pub(crate) fn value_block(&self) -> ValueBlock
+        ensures { result ≡ value_block self.now }
+    {
+        self.block
     }
 
     /// A resource at its making: no locks, and a valid value block of zeros.
@@ -144,8 +180,7 @@ impl Resource {
             parent: key.parent,
             domain: key.domain,
             name: key.name,
-            value: [0; 16],
-            valid: true,
+            block: ValueBlock::new(),
             granted: Vec::new(alloc),
             converting: Vec::new(alloc),
             waiting: Vec::new(alloc),
@@ -214,8 +249,8 @@ impl Resource {
             parent: self.parent,
             domain: self.domain,
             name: self.name,
-            value: self.value,
-            valid: self.valid,
+            value: self.block.value,
+            valid: self.block.valid,
         }
     }
 
@@ -259,11 +294,11 @@ impl Resource {
         has_lock(&self.granted, pid, lkid)
     }
 
-    /// Converts a lock of this process, if it is granted here: at once, or at the end of the conversion
-    /// queue.
+    /// Converts a lock of this process, if it is granted here: at once, with this value block, or at the
+    /// end of the conversion queue.
     #[tactic(auto, unfolding(vlm_words::specs::Convert::converted))]
-    pub(crate) fn convert(&mut self, request: &Request, pid: u32, lkid: u32)
-        ensures { self.new ≡ converted request.now pid lkid self.old }
+    pub(crate) fn convert(&mut self, request: &Request, pid: u32, lkid: u32, block: ValueBlock)
+        ensures { self.new ≡ converted request.now pid lkid block self.old }
     {
         let at_once = self.converts_at_once(request, lkid);
         let Some(row) = take_lock(&mut self.granted, pid, lkid) else {
@@ -272,28 +307,41 @@ impl Resource {
         let row = wanting_row(row, request);
         if at_once {
             self.granted.push_reserved(granted_row(row));
+            self.block = block;
         } else {
             self.converting.push_reserved(row);
         }
     }
 
     /// The requests of a lock that its dequeue ends write their statuses.
-    #[tactic(auto, using(crate::proofs::Telling::told_append))]
-    pub(crate) fn withdraw(&self, store: &mut Store, lkid: u32, cancels: bool)
-        ensures { store.new ≡ record store.old { processes = told (withdrawn lkid cancels self.now) store.old.processes } }
+    #[tactic(auto, using(crate::proofs::Telling::withdrawn_append))]
+    pub(crate) fn withdraw(&self, store: &mut Store, withdrawal: &Withdrawal)
+        ensures { store.new ≡ record store.old { processes = withdrawn_in (withdrawn withdrawal.now self.now) store.old.processes } }
     {
-        end_in_queue(store, &self.converting, lkid, cancels);
-        end_in_queue(store, &self.waiting, lkid, false);
+        end_in_queue(store, &self.converting, withdrawal.lkid, withdrawal.cancels);
+        end_in_queue(store, &self.waiting, withdrawal.lkid, false);
     }
 
-    /// Removes a lock from every queue, or only its queued request.
-    pub(crate) fn dequeue(&mut self, lkid: u32, cancels: bool)
-        ensures { self.new ≡ dequeued lkid cancels self.old }
+    /// Removes a lock from every queue, with what it leaves in the value block, or only its queued
+    /// request.
+    pub(crate) fn dequeue(&mut self, withdrawal: &Withdrawal)
+        ensures { self.new ≡ dequeued withdrawal.now self.old }
     {
-        if cancels {
-            self.cancel(lkid);
+        if withdrawal.cancels {
+            self.cancel(withdrawal.lkid);
         } else {
-            self.remove(lkid);
+            self.leave(withdrawal);
+            self.remove(withdrawal.lkid);
+        }
+    }
+
+    // Only a lock that is held at PW or EX, granted or converting, leaves something in the value block.
+    fn leave(&mut self, withdrawal: &Withdrawal)
+        ensures { self.new ≡ left_by withdrawal.now self.old }
+    {
+        let lkid = withdrawal.lkid;
+        if has_writer(&self.granted, lkid) || has_writer(&self.converting, lkid) {
+            self.block.leave(withdrawal.value, withdrawal.invalidates);
         }
     }
 
@@ -333,6 +381,30 @@ fn has_lock(rows: &[Row], pid: u32, lkid: u32) -> bool
     rows.iter().any(|row| row.lkid == lkid && row.pid == pid)
 }
 
+// Whether the queue has this lock, held at PW or EX.
+fn has_writer(rows: &[Row], lkid: u32) -> bool
+    ensures { result ≡ has_writer lkid rows.now }
+{
+    rows.iter()
+        .any(|row| row.lkid == lkid && is_writer(row.held))
+}
+
+// Whether what is held may write the value block as its lock is given up.
+fn is_writer(held: Option<Request>) -> bool
+    ensures { result ≡ is_writer held }
+{
+    match held {
+        Some(held) => is_writing(held.mode),
+        None => false,
+    }
+}
+
+fn is_writing(mode: Mode) -> bool
+    ensures { result ≡ is_writing mode }
+{
+    matches!(mode, Mode::Pw | Mode::Ex)
+}
+
 // The lock of this process, if it is in the queue.
 fn find_lock(rows: &[Row], pid: u32, lkid: u32) -> Option<Row>
     ensures { result ≡ find (is_lock_of pid lkid) rows.now }
@@ -365,8 +437,8 @@ fn remove_lock(rows: &mut Vec<Row>, lkid: u32)
     rows.retain(|row| row.lkid != lkid);
 }
 
-// The row wants the request, and holds what it held.
-fn wanting_row(row: Row, request: &Request) -> Row
+/// The row wants the request, and holds what it held.
+pub(crate) fn wanting_row(row: Row, request: &Request) -> Row
     ensures { result ≡ wanting_row row request.now }
 {
     Row {

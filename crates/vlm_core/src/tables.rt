@@ -2,13 +2,16 @@
 
 ghost use Rattle.std.specs.Prelude.{◌≡◌, ℕ, not, map, filter, flat_map, find, unwrap_or, IfOk, OnOk, OnErr, MatchOption, option_copied};
 ghost use Rattle.std.specs.List.{list_any, position};
-ghost use Rattle.vlm_words.specs.Blocks.{told};
+ghost use Rattle.vlm_words.specs.Blocks.{withdrawn_in};
 ghost use Rattle.vlm_words.specs.Convert.{converted, granted_place};
 ghost use Rattle.vlm_words.specs.Dequeue.{dequeued, holds_lock, is_granted, withdrawn};
 ghost use Rattle.vlm_words.specs.Enqueue.{entered_among, is_at, is_at_once, is_known, new_resource};
-ghost use Rattle.vlm_words.specs.Grants.{is_vacant, served, swept, swept_grants};
+ghost use Rattle.vlm_words.specs.Sweeps.{all_served, is_vacant, swept, swept_processes};
+ghost use Rattle.vlm_words.specs.Values.{value_block};
 
 use crate::resources::{Key, Resource};
+use crate::values::ValueBlock;
+use crate::withdrawals::Withdrawal;
 use std::alloc::AllocError;
 use vlm_store::Store;
 use vlm_words::locks::{Request, Row};
@@ -66,20 +69,30 @@ pub(crate) fn enters_at_once(resources: &[Resource], key: &Key, request: &Reques
     }
 }
 
-/// Serves every resource, and drops those without locks. Each grant writes its status.
-#[tactic(auto, unfolding(vlm_words::specs::Grants::swept))]
+/// The value block of the resource under the key, or of a new one.
+pub(crate) fn value_block_under(resources: &[Resource], key: &Key) -> ValueBlock
+    ensures { (serial : ℕ) → result ≡ value_block (unwrap_or (find (is_at key.now) resources.now) (new_resource serial key.now)) }
+{
+    match resource_under(resources, key) {
+        Some(resource) => resource.value_block(),
+        None => ValueBlock::new(),
+    }
+}
+
+/// Serves every resource, and drops those without locks. Each grant takes effect on its resource's value
+/// block and on its status block.
+#[tactic(auto, unfolding(vlm_words::specs::Sweeps::swept))]
 pub(crate) fn sweep(resources: &mut Vec<Resource>, store: &mut Store)
-    ensures resources { resources.new.items ≡ swept resources.old.items }
-    ensures statuses { store.new ≡ record store.old { processes = told (swept_grants resources.old.items) store.old.processes } }
+    ensures resources { resources.new.items ≡ swept store.old.processes resources.old.items }
+    ensures statuses { store.new ≡ record store.old { processes = swept_processes store.old.processes resources.old.items } }
 {
     serve_all(resources, store);
     drop_vacant(resources);
 }
 
-#[tactic(auto, unfolding(vlm_words::specs::Grants::swept_grants))]
 fn serve_all(resources: &mut Vec<Resource>, store: &mut Store)
-    ensures resources { resources.new.items ≡ map served resources.old.items }
-    ensures statuses { store.new ≡ record store.old { processes = told (swept_grants resources.old.items) store.old.processes } }
+    ensures resources { resources.new.items ≡ all_served store.old.processes resources.old.items }
+    ensures statuses { store.new ≡ record store.old { processes = swept_processes store.old.processes resources.old.items } }
 {
     for resource in resources.iter_mut() {
         resource.serve(store);
@@ -120,30 +133,37 @@ pub(crate) fn granted_place(resources: &[Resource], pid: u32, lkid: u32) -> Opti
 }
 
 /// The requests of a lock that its dequeue ends write their statuses.
-pub(crate) fn withdraw_all(resources: &[Resource], store: &mut Store, lkid: u32, cancels: bool)
+pub(crate) fn withdraw_all(resources: &[Resource], store: &mut Store, withdrawal: &Withdrawal)
     ensures { store.new ≡ record store.old {
-      processes = told (flat_map (withdrawn lkid cancels) resources.now) store.old.processes;
+      processes = withdrawn_in (flat_map (withdrawn withdrawal.now) resources.now) store.old.processes;
     } }
 {
     for resource in resources {
-        resource.withdraw(store, lkid, cancels);
+        resource.withdraw(store, withdrawal);
     }
 }
 
-/// Removes a lock from every queue, or only its queued request.
-pub(crate) fn dequeue_all(resources: &mut Vec<Resource>, lkid: u32, cancels: bool)
-    ensures { resources.new.items ≡ map (dequeued lkid cancels) resources.old.items }
+/// Removes a lock from every queue, with what it leaves in the value block, or only its queued request.
+pub(crate) fn dequeue_all(resources: &mut Vec<Resource>, withdrawal: &Withdrawal)
+    ensures { resources.new.items ≡ map (dequeued withdrawal.now) resources.old.items }
 {
     for resource in resources.iter_mut() {
-        resource.dequeue(lkid, cancels);
+        resource.dequeue(withdrawal);
     }
 }
 
-/// Converts a granted lock of this process, wherever it is.
-pub(crate) fn convert_all(resources: &mut Vec<Resource>, request: &Request, pid: u32, lkid: u32)
-    ensures { resources.new.items ≡ map (converted request.now pid lkid) resources.old.items }
+/// Converts a granted lock of this process, wherever it is: at once, with this value block, or at the end
+/// of a conversion queue.
+pub(crate) fn convert_all(
+    resources: &mut Vec<Resource>,
+    request: &Request,
+    pid: u32,
+    lkid: u32,
+    block: ValueBlock,
+)
+    ensures { resources.new.items ≡ map (converted request.now pid lkid block) resources.old.items }
 {
     for resource in resources.iter_mut() {
-        resource.convert(request, pid, lkid);
+        resource.convert(request, pid, lkid, block);
     }
 }

@@ -1,5 +1,5 @@
 use Rattle.std.proofs.Common.{◌≡◌, drop, cond}
-use Rattle.vlm_words.specs.Blocks.{told}
+use Rattle.vlm_words.specs.Blocks.{withdrawn_in}
 use Rattle.vlm_words.specs.Dequeue.{ends_in}
 use Rattle.vlm_words.specs.Endings.How.{by_abort, by_cancel}
 use Rattle.vlm_core.proofs.ending.end_in_queue.Given as goal
@@ -7,5 +7,5 @@ use Rattle.vlm_core.proofs.ending.end_in_queue.Given as goal
 -- the statuses of the rows that are left, after those so far, are those of all rows
 abbrev pub invariant-loop-row : goal.invariant-loop-row
 invariant-loop-row l =
-    told (ends_in (cond l.cancels by_cancel by_abort) l.lkid (drop l.row-index l.rows)) l.store.processes
-    ≡ told (ends_in (cond l.cancels by_cancel by_abort) l.lkid l.rows) l.initial.store.processes
+    withdrawn_in (ends_in (cond l.cancels by_cancel by_abort) l.lkid (drop l.row-index l.rows)) l.store.processes
+    ≡ withdrawn_in (ends_in (cond l.cancels by_cancel by_abort) l.lkid l.rows) l.initial.store.processes

@@ -8,6 +8,6 @@ pub loop-resource-preserved : goal.loop-resource-preserved
 loop-resource-preserved c =
     let all = c.deref_mut-resource-items.result.now in
     let loop = c.loop-resource in
-    let change = converted c.args.request.now c.args.pid c.args.lkid in
+    let change = converted c.args.request.now c.args.pid c.args.lkid c.args.block in
     let now = c.convert.ensures ∙ ap change (sym c.resource-item.is) in
     rw now (map_over_more change all loop.resource-items loop.resource-index c.resource-item.result (search rules) loop.invariant c.resource-item.is)

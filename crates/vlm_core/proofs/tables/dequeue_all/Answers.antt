@@ -8,6 +8,6 @@ pub loop-resource-preserved : goal.loop-resource-preserved
 loop-resource-preserved c =
     let all = c.deref_mut-resource-items.result.now in
     let loop = c.loop-resource in
-    let change = dequeued c.args.lkid c.args.cancels in
+    let change = dequeued c.args.withdrawal.now in
     let now = c.dequeue.ensures ∙ ap change (sym c.resource-item.is) in
     rw now (map_over_more change all loop.resource-items loop.resource-index c.resource-item.result (search rules) loop.invariant c.resource-item.is)

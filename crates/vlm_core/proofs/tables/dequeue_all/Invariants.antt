@@ -5,4 +5,4 @@ use Rattle.vlm_core.proofs.tables.dequeue_all.Given as goal
 -- the resources so far are changed, and the others are as they were
 abbrev pub invariant-loop-resource : goal.invariant-loop-resource
 invariant-loop-resource l =
-    l.resource-items ≡ map (dequeued l.lkid l.cancels) (take l.resource-index l.initial.resource-items) ++ drop l.resource-index l.initial.resource-items
+    l.resource-items ≡ map (dequeued l.withdrawal) (take l.resource-index l.initial.resource-items) ++ drop l.resource-index l.initial.resource-items

@@ -1,14 +1,14 @@
-use Rattle.std.proofs.Common.{◌≡◌, ◌++◌, take, drop, map}
-use Rattle.vlm_words.specs.Blocks.{told}
-use Rattle.vlm_words.specs.Grants.{served, swept_grants}
+use Rattle.std.proofs.Common.{◌≡◌, ◌++◌, take, drop}
+use Rattle.vlm_words.specs.Sweeps.{all_served, swept_processes}
 use Rattle.vlm_core.proofs.tables.serve_all.Given as goal
 
--- the resources so far are served, and the others are as they were; the statuses that are left, after
--- those so far, are those of all
+-- the resources so far with those that are left, served, are all, served; and so are the processes
 abbrev pub invariant-loop-resource : goal.invariant-loop-resource
 invariant-loop-resource l = record {
-  resources : l.resource-items ≡ map served (take l.resource-index l.initial.resource-items) ++ drop l.resource-index l.initial.resource-items;
+  resources :
+      take l.resource-index l.resource-items ++ all_served l.store.processes (drop l.resource-index l.resource-items)
+      ≡ all_served l.initial.store.processes l.initial.resource-items;
   statuses :
-      told (swept_grants (drop l.resource-index l.resource-items)) l.store.processes
-      ≡ told (swept_grants l.initial.resource-items) l.initial.store.processes;
+      swept_processes l.store.processes (drop l.resource-index l.resource-items)
+      ≡ swept_processes l.initial.store.processes l.initial.resource-items;
 }
