@@ -97,10 +97,10 @@ pub fn end_with_value(store: &mut Store, pid: u32, number: u8, cond: Cond, value
         return;
     };
     let old = block_or_new(store, at, number);
-    let ended = Block {
+    let returned = Block {
         status: cond.number(),
         value,
         ..old
     };
-    store.set_block(at, number, ended);
+    store.set_block(at, number, returned);
 }

@@ -23,6 +23,9 @@ const QUECVT: u16 = 32;
 
 const CANCEL: u16 = 2;
 
+/// No flag has this bit.
+const UNKNOWN: u16 = 256;
+
 /// Nobody has it.
 const STRANGER: u32 = 65_538;
 
@@ -147,14 +150,14 @@ fn requests(rt: HostRuntime) {
         (
             NewRequest {
                 pid: STRANGER,
-                flags: 1,
+                flags: UNKNOWN,
                 ..nameless(0)
             },
             Cond::Nonexpr,
         ),
         (
             NewRequest {
-                flags: 1,
+                flags: UNKNOWN,
                 ..nameless(0)
             },
             Cond::Badparam,
@@ -223,19 +226,12 @@ fn dequeues(rt: HostRuntime) {
         (
             Dequeue {
                 pid: STRANGER,
-                flags: 1,
+                flags: UNKNOWN,
                 ..late
             },
             Cond::Nonexpr,
         ),
-        (Dequeue { flags: 1, ..late }, Cond::Badparam),
-        (
-            Dequeue {
-                value: Some([7; 16]),
-                ..late
-            },
-            Cond::Badparam,
-        ),
+        (Dequeue { flags: UNKNOWN, ..late }, Cond::Badparam),
         (
             Dequeue {
                 lock: Which::Block(0),
@@ -306,12 +302,12 @@ fn conversions(rt: HostRuntime) {
         (
             Conversion {
                 pid: STRANGER,
-                flags: 1,
+                flags: UNKNOWN,
                 ..late
             },
             Cond::Nonexpr,
         ),
-        (Conversion { flags: 1, ..late }, Cond::Badparam),
+        (Conversion { flags: UNKNOWN, ..late }, Cond::Badparam),
         (
             Conversion {
                 ast: Some(8),
