@@ -224,7 +224,7 @@ fn dequeue_made(pid: u32, line: &DeqLine) -> Dequeue
     Dequeue {
         pid,
         lock: line.lock,
-        value: None,
+        value: line.value,
         flags: line.flags,
     }
 }

@@ -11,13 +11,14 @@ use Rattle.vlm_words.specs.declared.steps.Which.{Which}
 use Rattle.vlm_words.specs.declared.steps.Which.TheVariants.{Id, Block}
 use Rattle.vlm_words.specs.declared.scripts.DeclareWords.{DeclareWords}
 use Rattle.vlm_words.specs.declared.scripts.CvtWords.{CvtWords}
+use Rattle.vlm_words.specs.declared.scripts.DeqWords.{DeqWords}
 use Rattle.vlm_words.specs.declared.scripts.EnqWords.{EnqWords}
 use Rattle.vlm_words.specs.declared.scripts.SetWords.{SetWords}
 use Rattle.vlm_words.specs.declared.scripts.Line.{Line}
 use Rattle.vlm_words.specs.declared.scripts.Line.TheVariants.{Empty, Declare, Enq, Cvt, Deq, Set, Block as block_words, Show}
 use Rattle.vlm_words.specs.declared.scripts.LineFault.{LineFault}
 use Rattle.vlm_words.specs.declared.scripts.LineFault.TheVariants.{TooLong, UnknownCommand, WrongWord, NumberOutOfRange}
-use Rattle.vlm_words.specs.Flags.{cancel, expedite, has_flag, noqueue, quecvt, syncsts}
+use Rattle.vlm_words.specs.Flags.{cancel, expedite, has_flag, invvalblk, noqueue, quecvt, syncsts, valblk}
 
 -- the byte goes to the front of the first piece
 abbrev pub onto : ℕ → List (List ℕ) → List (List ℕ)
@@ -198,7 +199,8 @@ declare_line words =
 -- the flag that a word of an enq or cvt line stands for
 unfoldable pub enq_flag : List ℕ → Option ℕ
 enq_flag word =
-    if is_text word (codes "noqueue") then Some noqueue
+    if is_text word (codes "valblk") then Some valblk
+    else if is_text word (codes "noqueue") then Some noqueue
     else if is_text word (codes "syncsts") then Some syncsts
     else if is_text word (codes "expedite") then Some expedite
     else if is_text word (codes "quecvt") then Some quecvt
@@ -206,7 +208,10 @@ enq_flag word =
 
 -- the flag that a word of a deq line stands for
 unfoldable pub deq_flag : List ℕ → Option ℕ
-deq_flag word = if is_text word (codes "cancel") then Some cancel else None
+deq_flag word =
+    if is_text word (codes "cancel") then Some cancel
+    else if is_text word (codes "invvalblk") then Some invvalblk
+    else None
 
 -- the flag joins those before it, and is given once; another word is wrong
 unfoldable pub flag_once : ℕ → Option ℕ → Result ℕ LineFault
@@ -278,20 +283,31 @@ cvt_line words =
     given c.block >>= λ block.
     Ok (Cvt (record { name = name; lock = lock; mode = mode; block = block; flags = c.flags }))
 
--- the flags of a deq line, in any order
-abbrev pub deq_words : ℕ → List (List ℕ) → Result ℕ LineFault
-deq_words flags [] = Ok flags
-deq_words flags (word ∷ words) = flag_once flags (deq_flag word) >>= λ more. deq_words more words
+-- nothing of a deq line's keyed words is read yet
+abbrev pub no_deq_words : DeqWords
+no_deq_words = record { value = None; flags = 0 }
 
--- deq NAME LOCK [flags]
+-- one more keyed word or flag of a deq line
+unfoldable pub deq_word : DeqWords → List ℕ → Result DeqWords LineFault
+deq_word d word =
+    if has_key (codes "value=") word then
+    value_once d.value (behind (codes "value=") word) >>= (λ value. Ok (record d { value = value }))
+    else flag_once d.flags (deq_flag word) >>= (λ flags. Ok (record d { flags = flags }))
+
+-- the keyed words and flags of a deq line, in any order
+abbrev pub deq_words : DeqWords → List (List ℕ) → Result DeqWords LineFault
+deq_words d [] = Ok d
+deq_words d (word ∷ words) = deq_word d word >>= λ e. deq_words e words
+
+-- deq NAME LOCK [value=HEX] [flags]
 unfoldable pub deq_line : List (List ℕ) → Result Line LineFault
 deq_line words =
     next_word words >>= λ first.
     process_name first.0 >>= λ name.
     next_word first.1 >>= λ second.
     lock_named second.0 >>= λ lock.
-    deq_words 0 second.1 >>= λ flags.
-    Ok (Deq (record { name = name; lock = lock; flags = flags }))
+    deq_words no_deq_words second.1 >>= λ d.
+    Ok (Deq (record { name = name; lock = lock; value = d.value; flags = d.flags }))
 
 -- nothing of a set line's keyed words is read yet
 abbrev pub no_set_words : SetWords

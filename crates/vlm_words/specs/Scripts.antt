@@ -91,7 +91,7 @@ conversion_made pid line = record {
 
 -- the dequeue that a deq line makes of a process
 abbrev pub dequeue_made : ℕ → DeqLine → Dequeue
-dequeue_made pid line = record { pid = pid; lock = line.lock; value = None; flags = line.flags }
+dequeue_made pid line = record { pid = pid; lock = line.lock; value = line.value; flags = line.flags }
 
 -- the value that a set line puts into a status block of a process
 abbrev pub setting_made : ℕ → SetLine → ValueSetting

@@ -14,17 +14,24 @@ pub type ProcessName = Text<15>;
 /// What the keyed words of a declare line have given so far.
 #[derive(Clone, Copy, Debug, PartialEq, Eq)]
 pub struct DeclareWords {
+    /// The node, 0 to 255.
     pub node: Option<u8>,
+    /// The UIC group, 0 to 65,535.
     pub group: Option<u16>,
+    /// How many locks the process may have, 0 to 65,535.
     pub quota: Option<u16>,
+    /// How many status blocks it has, 0 to 255.
     pub blocks: Option<u8>,
+    /// Whether it has the privilege SYSLCK.
     pub syslck: bool,
 }
 
 /// What the keyed words of an enq line have given so far.
 #[derive(Clone, Copy, Debug, PartialEq, Eq)]
 pub struct EnqWords {
+    /// The name of the resource, not checked yet.
     pub resource: Option<NameArg>,
+    /// The number of the status block.
     pub block: Option<u8>,
     /// The bits of the flags.
     pub flags: u16,
@@ -33,7 +40,17 @@ pub struct EnqWords {
 /// What the keyed words of a cvt line have given so far.
 #[derive(Clone, Copy, Debug, PartialEq, Eq)]
 pub struct CvtWords {
+    /// The number of the status block.
     pub block: Option<u8>,
+    /// The bits of the flags.
+    pub flags: u16,
+}
+
+/// What the keyed words of a deq line have given so far.
+#[derive(Clone, Copy, Debug, PartialEq, Eq)]
+pub struct DeqWords {
+    /// The value block to write.
+    pub value: Option<[u8; 16]>,
     /// The bits of the flags.
     pub flags: u16,
 }
@@ -41,16 +58,22 @@ pub struct CvtWords {
 /// What the keyed words of a set line have given so far.
 #[derive(Clone, Copy, Debug, PartialEq, Eq)]
 pub struct SetWords {
+    /// The number of the status block.
     pub block: Option<u8>,
+    /// The value to put into it.
     pub value: Option<[u8; 16]>,
 }
 
 /// The words of an enq line.
 #[derive(Clone, Copy, Debug, PartialEq, Eq)]
 pub struct EnqLine {
+    /// The process that asks.
     pub name: ProcessName,
+    /// The mode that is asked for.
     pub mode: Mode,
+    /// The name of the resource, not checked yet.
     pub resource: NameArg,
+    /// The number of the status block.
     pub block: u8,
     /// The bits of the flags.
     pub flags: u16,
@@ -59,9 +82,13 @@ pub struct EnqLine {
 /// The words of a cvt line.
 #[derive(Clone, Copy, Debug, PartialEq, Eq)]
 pub struct CvtLine {
+    /// The process that asks.
     pub name: ProcessName,
+    /// The lock, by its number or by a status block.
     pub lock: Which,
+    /// The mode that is asked for.
     pub mode: Mode,
+    /// The number of the status block.
     pub block: u8,
     /// The bits of the flags.
     pub flags: u16,
@@ -70,8 +97,12 @@ pub struct CvtLine {
 /// The words of a deq line.
 #[derive(Clone, Copy, Debug, PartialEq, Eq)]
 pub struct DeqLine {
+    /// The process that asks.
     pub name: ProcessName,
+    /// The lock, by its number or by a status block.
     pub lock: Which,
+    /// The value block to write.
+    pub value: Option<[u8; 16]>,
     /// The bits of the flags.
     pub flags: u16,
 }
@@ -79,14 +110,18 @@ pub struct DeqLine {
 /// The words of a set line.
 #[derive(Clone, Copy, Debug, PartialEq, Eq)]
 pub struct SetLine {
+    /// The process whose status block is set.
     pub name: ProcessName,
+    /// The number of the status block.
     pub block: u8,
+    /// The value to put into it.
     pub value: [u8; 16],
 }
 
 /// The words of a block line.
 #[derive(Clone, Copy, Debug, PartialEq, Eq)]
 pub struct BlockLine {
+    /// The process whose status block is printed.
     pub name: ProcessName,
     /// The number of the status block.
     pub number: u8,
@@ -97,12 +132,19 @@ pub struct BlockLine {
 pub enum Line {
     /// No word, or a comment.
     Empty,
+    /// A process is declared under a name.
     Declare(ProcessName, Declaration),
+    /// A new lock is asked for.
     Enq(EnqLine),
+    /// Another mode of a lock is asked for.
     Cvt(CvtLine),
+    /// A lock is given up, or its request is cancelled.
     Deq(DeqLine),
+    /// The value part of a status block is set.
     Set(SetLine),
+    /// A status block is printed.
     Block(BlockLine),
+    /// Every resource is printed with its queues.
     Show,
 }
 

@@ -6,6 +6,8 @@ ghost use Rattle.vlm_words.specs.Lines.{deq_flag, enq_flag, flag_once};
 use super::words::is_text;
 use vlm_words::scripts::LineFault;
 
+const VALBLK: u16 = 1;
+
 const NOQUEUE: u16 = 2;
 
 const SYNCSTS: u16 = 4;
@@ -16,12 +18,16 @@ const QUECVT: u16 = 32;
 
 const CANCEL: u16 = 2;
 
+const INVVALBLK: u16 = 4;
+
 /// The flag that a word of an enq or cvt line stands for.
 #[tactic(auto, unfolding(vlm_words::specs::Lines::enq_flag))]
 pub(crate) fn enq_flag(word: &[u8]) -> Option<u16>
     ensures { result ≡ enq_flag word.now }
 {
-    if is_text(word, b"noqueue") {
+    if is_text(word, b"valblk") {
+        Some(VALBLK)
+    } else if is_text(word, b"noqueue") {
         Some(NOQUEUE)
     } else if is_text(word, b"syncsts") {
         Some(SYNCSTS)
@@ -41,6 +47,8 @@ pub(crate) fn deq_flag(word: &[u8]) -> Option<u16>
 {
     if is_text(word, b"cancel") {
         Some(CANCEL)
+    } else if is_text(word, b"invvalblk") {
+        Some(INVVALBLK)
     } else {
         None
     }

@@ -1,7 +1,7 @@
 //! The keyed words and flags behind the places of a line.
 
 ghost use Rattle.std.specs.Prelude.{◌≡◌};
-ghost use Rattle.vlm_words.specs.Lines.{number_once, resource_once, value_once, declare_word, declare_words, no_declare_words, enq_word, enq_words, no_enq_words, cvt_word, cvt_words, no_cvt_words, deq_words, set_word, set_words, no_set_words, words_of};
+ghost use Rattle.vlm_words.specs.Lines.{number_once, resource_once, value_once, declare_word, declare_words, no_declare_words, enq_word, enq_words, no_enq_words, cvt_word, cvt_words, no_cvt_words, deq_word, deq_words, no_deq_words, set_word, set_words, no_set_words, words_of};
 
 use super::cuts::next_word;
 use super::flags::{deq_flag, enq_flag, flag_once};
@@ -9,7 +9,7 @@ use super::numbers;
 use super::values::value_of;
 use super::words::{behind_key, is_text};
 use vlm_words::names::NameArg;
-use vlm_words::scripts::{CvtWords, DeclareWords, EnqWords, LineFault, SetWords};
+use vlm_words::scripts::{CvtWords, DeclareWords, DeqWords, EnqWords, LineFault, SetWords};
 
 /// The keyed words of a declare line, in any order.
 pub(crate) fn declare_words(line: &[u8]) -> Result<DeclareWords, LineFault>
@@ -121,17 +121,34 @@ fn cvt_word(words: CvtWords, word: &[u8]) -> Result<CvtWords, LineFault>
     }
 }
 
-/// The flags of a deq line, in any order.
-pub(crate) fn deq_words(line: &[u8]) -> Result<u16, LineFault>
-    ensures { result ≡ deq_words 0 (words_of line.now) }
+/// The keyed words and flags of a deq line, in any order.
+pub(crate) fn deq_words(line: &[u8]) -> Result<DeqWords, LineFault>
+    ensures { result ≡ deq_words no_deq_words (words_of line.now) }
 {
-    let mut flags = 0;
+    let mut words = DeqWords {
+        value: None,
+        flags: 0,
+    };
     let mut rest = line;
     while let Some((word, after)) = next_word(rest) {
-        flags = flag_once(flags, deq_flag(word))?;
+        words = deq_word(words, word)?;
         rest = after;
     }
-    Ok(flags)
+    Ok(words)
+}
+
+/// One more keyed word or flag of a deq line.
+#[tactic(auto, unfolding(vlm_words::specs::Lines::deq_word))]
+fn deq_word(words: DeqWords, word: &[u8]) -> Result<DeqWords, LineFault>
+    ensures { result ≡ deq_word words word.now }
+{
+    if let Some(digits) = behind_key(b"value=", word) {
+        let value = value_once(words.value, digits)?;
+        Ok(DeqWords { value, ..words })
+    } else {
+        let flags = flag_once(words.flags, deq_flag(word))?;
+        Ok(DeqWords { flags, ..words })
+    }
 }
 
 /// The keyed words of a set line, in any order.

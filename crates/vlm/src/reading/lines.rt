@@ -138,7 +138,7 @@ fn cvt_line(line: &[u8]) -> Result<Line, LineFault>
     }))
 }
 
-/// The words of a deq line: NAME LOCK and flags.
+/// The words of a deq line: NAME LOCK [value=HEX] and flags.
 #[tactic(auto, unfolding(vlm_words::specs::Lines::deq_line))]
 fn deq_line(line: &[u8]) -> Result<Line, LineFault>
     ensures { result ≡ deq_line (words_of line.now) }
@@ -147,8 +147,13 @@ fn deq_line(line: &[u8]) -> Result<Line, LineFault>
     let name = process_name(first)?;
     let (second, rest) = needed_word(after_name)?;
     let lock = lock(second)?;
-    let flags = deq_words(rest)?;
-    Ok(Line::Deq(DeqLine { name, lock, flags }))
+    let words = deq_words(rest)?;
+    Ok(Line::Deq(DeqLine {
+        name,
+        lock,
+        value: words.value,
+        flags: words.flags,
+    }))
 }
 
 /// The words of a set line: NAME block=N value=HEX.

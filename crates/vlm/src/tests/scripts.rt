@@ -23,23 +23,66 @@ resource 1 in 0 group 1 name x:6180 value 00000000000000000000000000000000 valid
   granted 1 process 65537 EX
 ";
 
+/// Scripts with a faulty line: what is printed before it, and what is told.
+const FAULTY: [(&[u8], &str, &str); 16] = [
+    (&[b'a'; 256], "", "line 1: too long\n"),
+    (b"frob", "", "line 1: unknown command\n"),
+    (b"declare P node=1", "", "line 1: wrong word\n"),
+    (
+        b"declare P node=300 group=1 quota=9 blocks=4",
+        "",
+        "line 1: number out of range\n",
+    ),
+    (b"deq P 1", "", "line 1: unknown name\n"),
+    (
+        b"deq P 1 invvalblk value=00102030405060708090A0b0C0d0E0fF cancel",
+        "",
+        "line 1: unknown name\n",
+    ),
+    (
+        b"deq P 1 value=000102030405060708090a0b0c0d0e0f value=000102030405060708090a0b0c0d0e0f",
+        "",
+        "line 1: wrong word\n",
+    ),
+    (
+        b"deq P 1 value=000102030405060708090a0b0c0d0e0",
+        "",
+        "line 1: wrong word\n",
+    ),
+    (
+        b"deq P 1 value=000102030405060708090a0b0c0d0e0g",
+        "",
+        "line 1: wrong word\n",
+    ),
+    (b"deq P 1 invvalblk invvalblk", "", "line 1: wrong word\n"),
+    (b"deq P 1 valblk", "", "line 1: wrong word\n"),
+    (
+        b"enq P EX valblk name=A block=1",
+        "",
+        "line 1: unknown name\n",
+    ),
+    (
+        b"enq P EX valblk name=A block=1 valblk",
+        "",
+        "line 1: wrong word\n",
+    ),
+    (
+        b"enq P EX name=A block=1 invvalblk",
+        "",
+        "line 1: wrong word\n",
+    ),
+    (
+        b"cvt P 1 EX block=1 valblk valblk",
+        "",
+        "line 1: wrong word\n",
+    ),
+    (DECLARED_TWICE, "P: process 65537\n", "line 2: name used\n"),
+];
+
 /// The faults of a line, each with its text.
 #[test]
 fn faults(rt: HostRuntime) {
-    let long = [b'a'; 256];
-    let cases: [(&[u8], &'static str, &'static str); 6] = [
-        (&long, "", "line 1: too long\n"),
-        (b"frob", "", "line 1: unknown command\n"),
-        (b"declare P node=1", "", "line 1: wrong word\n"),
-        (
-            b"declare P node=300 group=1 quota=9 blocks=4",
-            "",
-            "line 1: number out of range\n",
-        ),
-        (b"deq P 1", "", "line 1: unknown name\n"),
-        (DECLARED_TWICE, "P: process 65537\n", "line 2: name used\n"),
-    ];
-    for (script, printed, told) in cases {
+    for (script, printed, told) in FAULTY {
         check(
             &rt,
             script,
