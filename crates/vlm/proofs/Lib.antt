@@ -1,5 +1,3 @@
 pub mod Hexadecimal
-pub mod Pieces
-pub mod Words
 mod Shown
 mod Progress

@@ -5,7 +5,6 @@ mod faults;
 mod names;
 mod play;
 mod printing;
-mod reading;
 mod run;
 mod session;
 mod show;

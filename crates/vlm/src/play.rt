@@ -6,12 +6,12 @@ ghost use Rattle.vlm.specs.Plays.{Passes, PassesPart, Plays, Wrote};
 ghost use Rattle.vlm.specs.Sessions.{IsTold, StopsBytes};
 
 use crate::faults::PlayFault;
-use crate::reading::next_line;
 use crate::session::Session;
 use crate::stops::Stop;
 use crate::streams::{read_whole, write_whole};
 use std::alloc::Global;
 use std::io::{Read, Write};
+use vlm_lines::next_line;
 
 /// How many printed bytes wait at most before they are written, but for a line's last ones.
 const WAITING: usize = 65_536;

@@ -1,18 +1,18 @@
 //! A session: the machine, and the names that the script has bound.
 
-ghost use Rattle.std.specs.Prelude.{◌≡◌, ◌++◌, MatchResult};
-ghost use Rattle.vlm_words.specs.Scripts.{conversion_made, dequeue_made, opening, request_made, setting_made};
+ghost use Rattle.std.specs.Prelude.{◌≡◌, ◌++◌, None, Some, MatchResult};
+ghost use Rattle.vlm_words.specs.Scripts.{bound_to, conversion_made, dequeue_made, opening, request_made, setting_made};
 ghost use Rattle.vlm_words.specs.Texts.{answer_line};
 ghost use Rattle.vlm.specs.Sessions.{IsRun, IsTold, StopsBytes, StopsLine};
 
 use crate::names::{Binding, bound_to};
 use crate::printing::{answer_line, block_line};
-use crate::reading::read_line;
 use crate::show::show;
 use crate::stops::Stop;
 use std::alloc::Global;
 use std::marker::Model;
 use vlm_core::Core;
+use vlm_lines::read_line;
 use vlm_words::scripts::{
     BlockLine, CvtLine, DeqLine, EnqLine, Line, LineFault, ProcessName, SetLine,
 };
@@ -79,6 +79,18 @@ impl Session {
         }
     }
 
+    // The process that a line's name is bound to.
+    fn process(&self, name: &ProcessName) -> Result<u32, Stop>
+        ensures { MatchResult result
+            (λ pid. bound_to self.now.names name.now ≡ Some pid)
+            (λ stop. (bound_to self.now.names name.now ≡ None) × (stop ≡ Stop.Fault LineFault.UnknownName)) }
+    {
+        match bound_to(&self.names, name) {
+            Some(pid) => Ok(pid),
+            None => Err(Stop::Fault(LineFault::UnknownName)),
+        }
+    }
+
     // Declares a process, prints the answer, and binds the name where it is accepted.
     fn declare(
         &mut self,
@@ -109,9 +121,7 @@ impl Session {
             (λ _. IsRun self.old (Line.Enq line) self.new out.old.items out.new.items)
             (λ stop. StopsLine self.old.names (Line.Enq line) stop) }
     {
-        let Some(pid) = bound_to(&self.names, &line.name) else {
-            return Err(Stop::Fault(LineFault::UnknownName));
-        };
+        let pid = self.process(&line.name)?;
         let answer = self.core.enq(request_made(pid, &line));
         told(line.name, answer, out)
     }
@@ -122,9 +132,7 @@ impl Session {
             (λ _. IsRun self.old (Line.Cvt line) self.new out.old.items out.new.items)
             (λ stop. StopsLine self.old.names (Line.Cvt line) stop) }
     {
-        let Some(pid) = bound_to(&self.names, &line.name) else {
-            return Err(Stop::Fault(LineFault::UnknownName));
-        };
+        let pid = self.process(&line.name)?;
         let answer = self.core.convert(conversion_made(pid, &line));
         told(line.name, answer, out)
     }
@@ -135,9 +143,7 @@ impl Session {
             (λ _. IsRun self.old (Line.Deq line) self.new out.old.items out.new.items)
             (λ stop. StopsLine self.old.names (Line.Deq line) stop) }
     {
-        let Some(pid) = bound_to(&self.names, &line.name) else {
-            return Err(Stop::Fault(LineFault::UnknownName));
-        };
+        let pid = self.process(&line.name)?;
         let answer = self.core.deq(dequeue_made(pid, &line));
         told(line.name, answer, out)
     }
@@ -148,9 +154,7 @@ impl Session {
             (λ _. IsRun self.old (Line.Set line) self.new out.old.items out.new.items)
             (λ stop. StopsLine self.old.names (Line.Set line) stop) }
     {
-        let Some(pid) = bound_to(&self.names, &line.name) else {
-            return Err(Stop::Fault(LineFault::UnknownName));
-        };
+        let pid = self.process(&line.name)?;
         let answer = self.core.set_value(setting_made(pid, &line));
         told(line.name, answer, out)
     }
@@ -161,9 +165,7 @@ impl Session {
             (λ _. IsRun self.now (Line.Block line) self.now out.old.items out.new.items)
             (λ stop. StopsLine self.now.names (Line.Block line) stop) }
     {
-        let Some(pid) = bound_to(&self.names, &line.name) else {
-            return Err(Stop::Fault(LineFault::UnknownName));
-        };
+        let pid = self.process(&line.name)?;
         let block = self.core.block(pid, line.number);
         match block_line(out, line.name.bytes(), line.number, block) {
             Ok(()) => Ok(()),

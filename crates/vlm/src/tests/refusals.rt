@@ -231,7 +231,13 @@ fn dequeues(rt: HostRuntime) {
             },
             Cond::Nonexpr,
         ),
-        (Dequeue { flags: UNKNOWN, ..late }, Cond::Badparam),
+        (
+            Dequeue {
+                flags: UNKNOWN,
+                ..late
+            },
+            Cond::Badparam,
+        ),
         (
             Dequeue {
                 lock: Which::Block(0),
@@ -307,7 +313,13 @@ fn conversions(rt: HostRuntime) {
             },
             Cond::Nonexpr,
         ),
-        (Conversion { flags: UNKNOWN, ..late }, Cond::Badparam),
+        (
+            Conversion {
+                flags: UNKNOWN,
+                ..late
+            },
+            Cond::Badparam,
+        ),
         (
             Conversion {
                 ast: Some(8),

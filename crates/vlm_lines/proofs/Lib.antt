@@ -1,0 +1,3 @@
+pub mod Hexadecimal
+pub mod Pieces
+pub mod Lengths

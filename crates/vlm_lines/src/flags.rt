@@ -1,0 +1,66 @@
+//! Words that stand for flags.
+
+ghost use Rattle.std.specs.Prelude.{◌≡◌};
+ghost use Rattle.vlm_words.specs.Lines.{deq_flag, enq_flag, flag_once};
+
+use crate::words::is_text;
+use vlm_words::scripts::LineFault;
+
+const VALBLK: u16 = 1;
+
+const NOQUEUE: u16 = 2;
+
+const SYNCSTS: u16 = 4;
+
+const EXPEDITE: u16 = 16;
+
+const QUECVT: u16 = 32;
+
+const CANCEL: u16 = 2;
+
+const INVVALBLK: u16 = 4;
+
+/// The flag that a word of an enq or cvt line stands for.
+#[tactic(auto, unfolding(vlm_words::specs::Lines::enq_flag))]
+pub(crate) fn enq_flag(word: &[u8]) -> Option<u16>
+    ensures { result ≡ enq_flag word.now }
+{
+    if is_text(word, b"valblk") {
+        Some(VALBLK)
+    } else if is_text(word, b"noqueue") {
+        Some(NOQUEUE)
+    } else if is_text(word, b"syncsts") {
+        Some(SYNCSTS)
+    } else if is_text(word, b"expedite") {
+        Some(EXPEDITE)
+    } else if is_text(word, b"quecvt") {
+        Some(QUECVT)
+    } else {
+        None
+    }
+}
+
+/// The flag that a word of a deq line stands for.
+#[tactic(auto, unfolding(vlm_words::specs::Lines::deq_flag))]
+pub(crate) fn deq_flag(word: &[u8]) -> Option<u16>
+    ensures { result ≡ deq_flag word.now }
+{
+    if is_text(word, b"cancel") {
+        Some(CANCEL)
+    } else if is_text(word, b"invvalblk") {
+        Some(INVVALBLK)
+    } else {
+        None
+    }
+}
+
+/// The flag joins those before it. It is given once, and another word is wrong.
+#[tactic(auto, unfolding(vlm_words::specs::Lines::flag_once, vlm_words::specs::Flags::has_flag))]
+pub(crate) fn flag_once(flags: u16, flag: Option<u16>) -> Result<u16, LineFault>
+    ensures { result ≡ flag_once flags flag }
+{
+    match flag {
+        Some(flag) if flags & flag != flag => Ok(flags | flag),
+        _ => Err(LineFault::WrongWord),
+    }
+}

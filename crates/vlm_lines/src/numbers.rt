@@ -1,0 +1,72 @@
+//! Numbers in decimal digits.
+
+ghost use Rattle.std.specs.Prelude.{◌≡◌, ◌≤◌, IfOk, length, true};
+ghost use Rattle.std.specs.Char.{is_ascii_digit};
+ghost use Rattle.std.specs.List.{list_all};
+ghost use Rattle.vlm_words.specs.Lines.{number_within, decimal_value, is_number};
+
+use vlm_words::scripts::LineFault;
+
+/// A number of at most ten digits and at most this limit.
+#[tactic(auto, unfolding(vlm_words::specs::Lines::number_within))]
+pub(crate) fn number(limit: u32, word: &[u8]) -> Result<u32, LineFault>
+    ensures value { result ≡ number_within limit word.now }
+    ensures within { IfOk result (λ n. n ≤ limit) }
+{
+    if !is_number(word) {
+        return Err(LineFault::WrongWord);
+    }
+    if word.len() > 10 {
+        return Err(LineFault::NumberOutOfRange);
+    }
+    let value = decimal_value(word);
+    if value <= u64::from(limit) {
+        Ok(value as u32)
+    } else {
+        Err(LineFault::NumberOutOfRange)
+    }
+}
+
+/// A number of at most 255.
+pub(crate) fn byte(word: &[u8]) -> Result<u8, LineFault>
+    ensures { result ≡ number_within 255 word.now }
+{
+    let value = number(255, word)?;
+    Ok(value as u8)
+}
+
+/// A number of at most 65535.
+pub(crate) fn short(word: &[u8]) -> Result<u16, LineFault>
+    ensures { result ≡ number_within 65535 word.now }
+{
+    let value = number(65535, word)?;
+    Ok(value as u16)
+}
+
+/// Whether the word is one or more decimal digits.
+#[tactic(auto, using(crate::proofs::Lengths::is_nothing_by_length))]
+fn is_number(word: &[u8]) -> bool
+    ensures { result ≡ is_number word.now }
+{
+    !word.is_empty() && all_digits(word)
+}
+
+/// Whether each byte is a decimal digit.
+fn all_digits(word: &[u8]) -> bool
+    ensures { result ≡ list_all is_ascii_digit word.now }
+{
+    word.iter().all(|digit| digit.is_ascii_digit())
+}
+
+/// The number that the digits stand for.
+fn decimal_value(digits: &[u8]) -> u64
+    requires digits { list_all is_ascii_digit digits.now ≡ true }
+    requires few { length digits.now ≤ 10 }
+    ensures { result ≡ decimal_value digits.now }
+{
+    let mut value = 0;
+    for digit in digits {
+        value = 10 * value + u64::from(*digit - b'0');
+    }
+    value
+}
