@@ -1,9 +1,9 @@
 -- What the ends of requests write, one after the other.
-use Rattle.std.proofs.Common.{◌≡◌, ◌<◌, ◌+◌, ℕ, zero, suc, List, [], ◌∷◌, ◌++◌, length, get_or, set, take, drop, flat_map, refl, sym, ap, arith, add-one}
+use Rattle.std.proofs.Common.{◌≡◌, ◌<◌, ◌+◌, ℕ, zero, suc, List, [], ◌∷◌, ◌++◌, length, get_or, set, take, drop, flat_map, true, refl, sym, subst, ap, ◌∙◌, arith, add-one}
 use Rattle.std.proofs.Math.Seq.{drop-cons}
 use Rattle.vlm_words.specs.Blocks.{withdrawn_in, ended_in}
 use Rattle.vlm_words.specs.Endings.{Ending, ending_status}
-use Rattle.vlm_words.specs.Grants.{served}
+use Rattle.vlm_words.specs.Grants.{converting_grants, grants_of, is_empty, new_request_grants, serve_converting, served, waiting_grants}
 use Rattle.vlm_words.specs.State.{Process, Resource}
 use Rattle.vlm_words.specs.Sweeps.{after_grants, all_served, swept_processes}
 use Rattle.vlm_words.specs.Values.{Moment, ended_so, told, valued}
@@ -12,6 +12,15 @@ use Rattle.vlm_words.specs.Values.{Moment, ended_so, told, valued}
 pub told_append : (first later : List Ending) (m : Moment) → told (first ++ later) m ≡ told later (told first m)
 told_append [] later m = refl
 told_append (ending ∷ first) later m = told_append first later (ended_so ending.how ending.pid ending.block m)
+
+-- once no conversion is left, the grants of a resource are those of its conversions and then of its new requests
+pub then_waiting : (r left : Resource) (m : Moment) → left ≡ serve_converting r r.converting → is_empty left.converting ≡ true
+    → told (grants_of r) m ≡ told (waiting_grants left left.waiting) (told (converting_grants r r.converting) m)
+unfolding grants_of
+then_waiting r left m is none =
+    told_append (converting_grants r r.converting) (new_request_grants (serve_converting r r.converting)) m
+    ∙ subst (λ (l : Resource). told (new_request_grants l) (told (converting_grants r r.converting) m)
+    ≡ told (waiting_grants left left.waiting) (told (converting_grants r r.converting) m)) is (rw none refl)
 
 -- what is withdrawn first writes first
 pub withdrawn_append : (first later : List Ending) (processes : List Process)

@@ -40,11 +40,11 @@ struct Admission {
 impl Core {
     /// Asks for another mode of a granted lock ($ENQ with LCK$M_CONVERT). It takes no memory. It answers
     /// NORMAL, or SYNCH where it is granted at once with SYNCSTS. With VALBLK its grant returns the value
-    /// block of the resource, writes it, or does neither, by the held and the wanted mode. Refused by DEPARTED, NONEXPR, BADPARAM
-    /// for an unknown flag or an argument that is not built yet, ACCVIO, also where the lock is named by
-    /// a status block that is not there, IVLOCKID, CVTUNGRANT where the lock waits or converts, BADPARAM
-    /// where QUECVT does not go with the two modes, NOLOCKID, NOTQUEUED where it must not queue and is not
-    /// granted at once.
+    /// block of the resource, writes it, or does neither, by the held and the wanted mode. Refused by
+    /// DEPARTED, NONEXPR, BADPARAM for an unknown flag or an argument that is not built yet, ACCVIO, also
+    /// where the lock is named by a status block that is not there, IVLOCKID, CVTUNGRANT where the lock
+    /// waits or converts, BADPARAM where QUECVT does not go with the two modes, NOLOCKID, NOTQUEUED where
+    /// it must not queue and is not granted at once.
     pub fn convert(&mut self, conversion: Conversion) -> Answer
         ensures state { self.new ≡ (stepped self.old (Step.Convert conversion)).state }
         ensures answer { result ≡ (stepped self.old (Step.Convert conversion)).answer }

@@ -6,7 +6,7 @@ ghost use Rattle.vlm_words.specs.Dequeue.{ends_in};
 ghost use Rattle.vlm_words.specs.Endings.{ended};
 ghost use Rattle.vlm_words.specs.Endings.How.{by_abort, by_cancel};
 ghost use Rattle.vlm_words.specs.Grants.{grant_act, grant_ending};
-ghost use Rattle.vlm_words.specs.Values.{told};
+ghost use Rattle.vlm_words.specs.Values.{moment, told};
 
 use crate::flags::has_flag;
 use crate::values::ValueBlock;
@@ -21,9 +21,9 @@ use vlm_words::modes::{Act, value_action};
 /// value block is returned to its status block, or written from there.
 #[tactic(auto, unfolding(vlm_words::specs::Values::returned, vlm_words::specs::Values::written))]
 pub(crate) fn end_by_grant(block: &mut ValueBlock, store: &mut Store, row: &Row)
-    ensures block { block.new ≡ (told (grant_ending row.now) (record { block = block.old; processes = store.old.processes })).block }
+    ensures block { block.new ≡ (told (grant_ending row.now) (moment block.old store.old.processes)).block }
     ensures statuses { store.new ≡ record store.old {
-      processes = (told (grant_ending row.now) (record { block = block.old; processes = store.old.processes })).processes;
+      processes = (told (grant_ending row.now) (moment block.old store.old.processes)).processes;
     } }
 {
     let Some(request) = row.want else {

@@ -39,9 +39,10 @@ struct Admission {
 
 impl Core {
     /// Asks for a new lock ($ENQ). It answers NORMAL, or SYNCH where it is granted at once with
-    /// SYNCSTS. With VALBLK its grant returns the resource's value block. Refused by DEPARTED, NONEXPR, BADPARAM for an unknown flag or an argument that is not
-    /// built yet, ACCVIO, IVBUFLEN, UNSUPPORTED for EXPEDITE at a mode other than NL, NOLOCKID,
-    /// NOTQUEUED where it must not queue and is not granted at once, INSFMEM.
+    /// SYNCSTS. With VALBLK its grant returns the resource's value block. Refused by DEPARTED, NONEXPR,
+    /// BADPARAM for an unknown flag or an argument that is not built yet, ACCVIO, IVBUFLEN, UNSUPPORTED
+    /// for EXPEDITE at a mode other than NL, NOLOCKID, NOTQUEUED where it must not queue and is not
+    /// granted at once, INSFMEM.
     pub fn enq(&mut self, request: NewRequest) -> Answer
         ensures { Outcome self.old (Step.Enq request) self.new result }
     {

@@ -11,7 +11,7 @@ ghost use Rattle.vlm_words.specs.Convert.{converted, converts_at_once, wanting_r
 ghost use Rattle.vlm_words.specs.Grants.{converting_grants, grants_of, is_empty, serve_converting, serve_waiting, served, waiting_grants};
 ghost use Rattle.vlm_words.specs.Modes.{is_writing};
 ghost use Rattle.vlm_words.specs.Sweeps.{after_grants, is_vacant};
-ghost use Rattle.vlm_words.specs.Values.{told, value_block, valued};
+ghost use Rattle.vlm_words.specs.Values.{moment, told, value_block, valued};
 
 use crate::ending::{end_by_grant, end_in_queue};
 use crate::flags::has_flag;
@@ -101,9 +101,9 @@ impl Resource {
     fn serve_converting(&mut self, block: &mut ValueBlock, store: &mut Store)
         ensures resource { self.new ≡ serve_converting self.old self.old.converting }
         ensures block { block.new
-            ≡ (told (converting_grants self.old self.old.converting) (record { block = block.old; processes = store.old.processes })).block }
+            ≡ (told (converting_grants self.old self.old.converting) (moment block.old store.old.processes)).block }
         ensures statuses { store.new ≡ record store.old {
-          processes = (told (converting_grants self.old self.old.converting) (record { block = block.old; processes = store.old.processes })).processes;
+          processes = (told (converting_grants self.old self.old.converting) (moment block.old store.old.processes)).processes;
         } }
     {
         while let Some(row) = self.converting.first().copied() {
@@ -122,9 +122,9 @@ impl Resource {
     fn serve_waiting(&mut self, block: &mut ValueBlock, store: &mut Store)
         ensures resource { self.new ≡ serve_waiting self.old self.old.waiting }
         ensures block { block.new
-            ≡ (told (waiting_grants self.old self.old.waiting) (record { block = block.old; processes = store.old.processes })).block }
+            ≡ (told (waiting_grants self.old self.old.waiting) (moment block.old store.old.processes)).block }
         ensures statuses { store.new ≡ record store.old {
-          processes = (told (waiting_grants self.old self.old.waiting) (record { block = block.old; processes = store.old.processes })).processes;
+          processes = (told (waiting_grants self.old self.old.waiting) (moment block.old store.old.processes)).processes;
         } }
     {
         while let Some(row) = self.waiting.first().copied() {
@@ -141,9 +141,9 @@ impl Resource {
     #[tactic(auto, using(crate::proofs::Telling::told_append), unfolding(vlm_words::specs::Grants::served, vlm_words::specs::Grants::grants_of))]
     fn serve_queues(&mut self, block: &mut ValueBlock, store: &mut Store)
         ensures resource { self.new ≡ served self.old }
-        ensures block { block.new ≡ (told (grants_of self.old) (record { block = block.old; processes = store.old.processes })).block }
+        ensures block { block.new ≡ (told (grants_of self.old) (moment block.old store.old.processes)).block }
         ensures statuses { store.new ≡ record store.old {
-          processes = (told (grants_of self.old) (record { block = block.old; processes = store.old.processes })).processes;
+          processes = (told (grants_of self.old) (moment block.old store.old.processes)).processes;
         } }
     {
         self.serve_converting(block, store);

@@ -14,7 +14,7 @@ use Rattle.vlm_words.specs.Blocks.{accepted_in}
 use Rattle.vlm_words.specs.Checks.{or_else, caller_refusal, block_refusal, which_refusal, named_lkid, request_numbers_refusal, queue_refusal}
 use Rattle.vlm_words.specs.Grants.{is_empty, fits, grant, grant_ending}
 use Rattle.vlm_words.specs.Sweeps.{swept_grants}
-use Rattle.vlm_words.specs.Values.{Moment, ValueBlock, new_value_block, moment_of, told, valued}
+use Rattle.vlm_words.specs.Values.{Moment, ValueBlock, new_value_block, moment, moment_of, told, valued}
 use Rattle.vlm_words.specs.Dequeue.{is_lock_of, lock_refusal, rows_without}
 
 -- an unknown flag, or an argument that is not built yet: a routine
@@ -90,7 +90,7 @@ conversion_ending request lkid (Some place) =
 
 -- what that end makes of the resource's value block and of the processes
 abbrev pub conversion_moment : Request → ℕ → Option Place → List Process → Moment
-conversion_moment request lkid None processes = record { block = new_value_block; processes = processes }
+conversion_moment request lkid None processes = moment new_value_block processes
 conversion_moment request lkid (Some place) processes =
     told (conversion_ending request lkid (Some place)) (moment_of place.resource processes)
 

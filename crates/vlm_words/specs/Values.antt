@@ -31,9 +31,13 @@ pub record Moment : Type 0 where
   pub block : ValueBlock
   pub processes : List Process
 
--- the resource's value block, among these processes
+-- a value block among these processes
+abbrev pub moment : ValueBlock → List Process → Moment
+moment block processes = record { block = block; processes = processes }
+
+-- the resource's value block among these processes
 abbrev pub moment_of : Resource → List Process → Moment
-moment_of r processes = record { block = value_block r; processes = processes }
+moment_of r processes = moment (value_block r) processes
 
 -- the status of a returned value block: VALNOTVALID where it is invalid
 abbrev pub return_status : Bool → Cond

@@ -1,6 +1,6 @@
 use Rattle.std.proofs.Common.{◌≡◌, vec_len}
 use Rattle.vlm_words.specs.Grants.{serve_converting, converting_grants}
-use Rattle.vlm_words.specs.Values.{told}
+use Rattle.vlm_words.specs.Values.{moment, told}
 use Rattle.vlm_core.specs.Resources.{resource_shown, HasRoom}
 use Rattle.vlm_core.proofs.resources.Resource.serve_converting.Given as goal
 
@@ -10,8 +10,8 @@ invariant-loop-row l =
     let now = resource_shown l.self-inside in
     let whole = resource_shown l.initial.self-inside in
     (serve_converting now now.converting ≡ serve_converting whole whole.converting)
-    × (told (converting_grants now now.converting) (record { block = l.block; processes = l.store.processes })
-    ≡ told (converting_grants whole whole.converting) (record { block = l.initial.block; processes = l.initial.store.processes }))
+    × (told (converting_grants now now.converting) (moment l.block l.store.processes)
+    ≡ told (converting_grants whole whole.converting) (moment l.initial.block l.initial.store.processes))
     × HasRoom l.self-inside
 
 abbrev pub decreases-loop-row : goal.decreases-loop-row

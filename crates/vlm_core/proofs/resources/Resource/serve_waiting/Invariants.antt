@@ -1,6 +1,6 @@
 use Rattle.std.proofs.Common.{◌≡◌, vec_len}
 use Rattle.vlm_words.specs.Grants.{serve_waiting, waiting_grants}
-use Rattle.vlm_words.specs.Values.{told}
+use Rattle.vlm_words.specs.Values.{moment, told}
 use Rattle.vlm_core.specs.Resources.{resource_shown, HasRoom}
 use Rattle.vlm_core.proofs.resources.Resource.serve_waiting.Given as goal
 
@@ -10,8 +10,8 @@ invariant-loop-row l =
     let now = resource_shown l.self-inside in
     let whole = resource_shown l.initial.self-inside in
     (serve_waiting now now.waiting ≡ serve_waiting whole whole.waiting)
-    × (told (waiting_grants now now.waiting) (record { block = l.block; processes = l.store.processes })
-    ≡ told (waiting_grants whole whole.waiting) (record { block = l.initial.block; processes = l.initial.store.processes }))
+    × (told (waiting_grants now now.waiting) (moment l.block l.store.processes)
+    ≡ told (waiting_grants whole whole.waiting) (moment l.initial.block l.initial.store.processes))
     × HasRoom l.self-inside
 
 abbrev pub decreases-loop-row : goal.decreases-loop-row
