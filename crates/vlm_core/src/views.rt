@@ -15,7 +15,9 @@ pub struct ResourceView {
     pub serial: u32,
     /// The serial of its parent resource, or 0 for a root.
     pub parent: u32,
+    /// Its domain; a resource below another has its root's.
     pub domain: Domain,
+    /// Its name.
     pub name: Name,
     /// Its value block.
     pub value: [u8; 16],
@@ -26,6 +28,7 @@ pub struct ResourceView {
 /// A lock as it stands in a queue.
 #[derive(Clone, Copy, Debug, PartialEq, Eq)]
 pub struct RowView {
+    /// The lock's identification.
     pub lkid: u32,
     /// The process that owns it.
     pub pid: u32,

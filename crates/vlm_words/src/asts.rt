@@ -12,6 +12,7 @@ pub enum AstKind {
 /// An AST of a process: which routine is to run, and with what.
 #[derive(Clone, Copy, Debug, PartialEq, Eq)]
 pub struct Ast {
+    /// Why it is queued.
     pub kind: AstKind,
     /// The routine that the request named.
     pub routine: u32,

@@ -6,28 +6,51 @@ ghost use Rattle.vlm_words.specs.Conditions.{condition_number, condition_name};
 /// A condition.
 #[derive(Clone, Copy, Debug, PartialEq, Eq)]
 pub enum Cond {
+    /// Done; in a status block, a request was granted.
     Normal = 1,
+    /// A request with SYNCSTS was granted at once.
     Synch,
+    /// A request with NOQUEUE could not be granted at once.
     Notqueued,
+    /// A request ended with its lock.
     Abort,
+    /// A queued conversion was cancelled.
     Cancel,
+    /// A request was the victim of a deadlock search.
     Deadlock,
+    /// A request was granted, and the value block that it returned is invalid.
     Valnotvalid,
+    /// The lock to be cancelled is granted.
     Cancelgrant,
+    /// The lock to be given up has locks below it.
     Sublocks,
+    /// The identification is not that of a lock of the caller.
     Ivlockid,
+    /// The lock to be converted is waiting or converting.
     Cvtungrant,
+    /// The lock of the parent is waiting.
     Parnotgrant,
+    /// The resource would stand too deep below its root.
     Exdepth,
+    /// The process has as many locks as its quota.
     Exenqlm,
+    /// The identifications or the request numbers are used up.
     Nolockid,
+    /// A growth was refused memory.
     Insfmem,
+    /// The resource's name has no byte, or more than 31.
     Ivbuflen,
+    /// A flag, a number or an argument that is none.
     Badparam,
+    /// EXPEDITE at a mode other than NL.
     Unsupported,
+    /// SYSTEM on a root without the privilege SYSLCK.
     Nosyslck,
+    /// The process has no status block of this number.
     Accvio,
+    /// No living process has the identification.
     Nonexpr,
+    /// The node has departed (this project's own).
     Departed,
 }
 

@@ -12,7 +12,9 @@ use crate::names::NameArg;
 /// step is taken.
 #[derive(Clone, Copy, Debug, PartialEq, Eq)]
 pub enum Which {
+    /// Its identification.
     Id(u32),
+    /// The number of a status block.
     Block(u8),
 }
 
@@ -34,23 +36,28 @@ pub struct Declaration {
 /// The value part of a status block is set.
 #[derive(Clone, Copy, Debug, PartialEq, Eq)]
 pub struct ValueSetting {
+    /// The caller.
     pub pid: u32,
-    /// The number of the status block.
+    /// The number of the status block, from 1.
     pub block: u8,
+    /// What its value part is to hold.
     pub value: [u8; 16],
 }
 
 /// A new lock is asked for ($ENQ).
 #[derive(Clone, Copy, Debug, PartialEq, Eq)]
 pub struct NewRequest {
+    /// The caller.
     pub pid: u32,
+    /// The mode that is asked for.
     pub mode: Mode,
     /// The name of the resource.
     pub name: NameArg,
-    /// The number of the status block.
+    /// The number of the status block, from 1.
     pub block: u8,
     /// The lock of the parent resource; the identification 0 for none.
     pub parent: Which,
+    /// The bits of the flags, unknown ones too.
     pub flags: u16,
     /// The completion routine.
     pub ast: Option<u32>,
@@ -63,11 +70,15 @@ pub struct NewRequest {
 /// A lock is to be held in another mode ($ENQ with LCK$M_CONVERT).
 #[derive(Clone, Copy, Debug, PartialEq, Eq)]
 pub struct Conversion {
+    /// The caller.
     pub pid: u32,
+    /// The lock to convert.
     pub lock: Which,
+    /// The mode that is asked for.
     pub mode: Mode,
-    /// The number of the status block.
+    /// The number of the status block, from 1.
     pub block: u8,
+    /// The bits of the flags, unknown ones too.
     pub flags: u16,
     /// The completion routine.
     pub ast: Option<u32>,
@@ -80,20 +91,28 @@ pub struct Conversion {
 /// A lock is given up, or a request is cancelled ($DEQ).
 #[derive(Clone, Copy, Debug, PartialEq, Eq)]
 pub struct Dequeue {
+    /// The caller.
     pub pid: u32,
+    /// The lock to give up.
     pub lock: Which,
     /// The value block to write.
     pub value: Option<[u8; 16]>,
+    /// The bits of the flags, unknown ones too.
     pub flags: u16,
 }
 
 /// One event of the lock machine.
 #[derive(Clone, Copy, Debug, PartialEq, Eq)]
 pub enum Step {
+    /// A process is declared.
     Declare(Declaration),
+    /// The value part of a status block is set.
     SetValue(ValueSetting),
+    /// A new lock is asked for.
     Enq(NewRequest),
+    /// Another mode of a granted lock is asked for.
     Convert(Conversion),
+    /// A lock is given up, or a request is cancelled.
     Deq(Dequeue),
     /// A process ends, with all that it has.
     Rundown(u32),
