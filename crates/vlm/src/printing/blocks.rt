@@ -1,7 +1,7 @@
 //! Status blocks.
 
-ghost use Rattle.std.specs.Prelude.{◌≡◌, ◌++◌, OnOk};
-ghost use Rattle.vlm_words.specs.Texts.{block_line};
+ghost use Rattle.std.specs.Prelude.{◌≡◌, ◌++◌, codes, decimal, OnOk};
+ghost use Rattle.vlm_words.specs.Texts.{block_line, hex_text, line_feed};
 
 use super::texts::{hexadecimal, number, text};
 use std::alloc::AllocError;
@@ -21,9 +21,18 @@ pub(crate) fn block_line(
     text(out, name)?;
     text(out, b": block ")?;
     number(out, u32::from(block_number))?;
-    let Some(block) = block else {
-        return text(out, b" none\n");
-    };
+    match block {
+        Some(block) => contents(out, &block),
+        None => text(out, b" none\n"),
+    }
+}
+
+// What stands in a status block, and the end of the line.
+fn contents(out: &mut Vec<u8>, block: &Block) -> Result<(), AllocError>
+    ensures { OnOk result (out.new.items
+        ≡ out.old.items ++ codes " status " ++ decimal block.now.status ++ codes " lock " ++ decimal block.now.lkid
+        ++ codes " value " ++ hex_text block.now.value ++ line_feed) }
+{
     text(out, b" status ")?;
     number(out, u32::from(block.status))?;
     text(out, b" lock ")?;
