@@ -5,20 +5,21 @@ use Rattle.vlm_words.specs.declared.conditions.Cond.{Cond}
 use Rattle.vlm_words.specs.declared.steps.Answer.{Answer}
 use Rattle.vlm_words.specs.declared.steps.Conversion.{Conversion}
 use Rattle.vlm_words.specs.declared.steps.Declaration.{Declaration}
-use Rattle.vlm_words.specs.declared.steps.NewRequest.{NewRequest}
 use Rattle.vlm_words.specs.declared.steps.Dequeue.{Dequeue}
-use Rattle.vlm_words.specs.declared.steps.ValueSetting.{ValueSetting}
-use Rattle.vlm_words.specs.declared.steps.Step.{Step}
+use Rattle.vlm_words.specs.declared.steps.NewRequest.{NewRequest}
 use Rattle.vlm_words.specs.declared.steps.Step.TheVariants.{Declare, SetValue, Enq, Convert, Deq, Rundown, Leave, Search, Take}
-use Rattle.vlm_words.specs.Endings.{Ending}
+use Rattle.vlm_words.specs.declared.steps.Step.{Step}
+use Rattle.vlm_words.specs.declared.steps.ValueSetting.{ValueSetting}
 use Rattle.vlm_words.specs.State.{State, start}
+use Rattle.vlm_words.specs.Endings.{Ending}
 use Rattle.vlm_words.specs.Declare.{declare_refusal}
-use Rattle.vlm_words.specs.Enqueue.{enq_refusal}
-use Rattle.vlm_words.specs.Convert.{convert_refusal}
-use Rattle.vlm_words.specs.Dequeue.{deq_refusal}
 use Rattle.vlm_words.specs.SetValue.{set_refusal}
-use Rattle.vlm_words.specs.Stepped.{Stepped, stepped, declared, enqueued, converted_lock, dequeued_lock, value_set, refused_or, Outcome, outcome_endings}
+use Rattle.vlm_words.specs.Enqueue.{enq_refusal}
+use Rattle.vlm_words.specs.Convert.{ConversionAdmission, convert_admission, convert_refusal}
+use Rattle.vlm_words.specs.Dequeue.{deq_refusal}
+use Rattle.vlm_words.specs.Stepped.{Outcome, Stepped, conversion_change, outcome_endings, refused_or, step_change, step_refusal, stepped, stepped_after_sweep}
 use Rattle.vlm_words.specs.Runs.{Run, begin, next}
+use Rattle.vlm_words.proofs.Passed.{admission_passes, some_admission}
 
 -- what is said of a run: of the requests that have ended, and of the state
 abbrev pub Said : Type 1
@@ -49,31 +50,41 @@ always P at_start kept _ _ _ last (next {steps} {answers} {endings} {old} {new} 
     let held : P endings old = always P at_start kept steps answers endings old run in
     kept_by_outcome P endings old new step answer held (kept steps answers endings old run held step) outcome
 
--- a checked step keeps what it keeps where no check refuses
-kept_by_refused_or : (P : Said) (endings : List Ending) (refusal : Option Cond) (old : State) (made : Stepped) → P endings old
-    → (refusal ≡ None → HoldsAfter P endings made) → HoldsAfter P endings (refused_or refusal old made)
-kept_by_refused_or P endings None old made held kept = kept refl
-kept_by_refused_or P endings (Some refusal) old made held kept = unchanged P endings old held
+-- a refusal keeps what was said, and a change that is swept keeps what it keeps
+kept_by_refused_or : (P : Said) (endings : List Ending) (refusal : Option Cond) (old : State) (change : Stepped) → P endings old
+    → (refusal ≡ None → HoldsAfter P endings (stepped_after_sweep change)) → HoldsAfter P endings (refused_or refusal old change)
+kept_by_refused_or P endings None old change held kept = kept refl
+kept_by_refused_or P endings (Some refusal) old change held kept = unchanged P endings old held
 
--- what each kind of step keeps where no check refuses, every step keeps
+-- an accepted conversion is that of a lock that is granted
+pub admission_of : (s : State) (c : Conversion) → convert_refusal s c ≡ None → (a : ConversionAdmission) × (convert_admission s c ≡ Some a)
+admission_of s c passed = some_admission s c (convert_admission s c) (admission_passes s c passed)
+
+-- what is kept where each kind of step is made, every step keeps
 pub kept_by_stepped : (P : Said) (endings : List Ending) (s : State) → P endings s
-    → ((d : Declaration) → declare_refusal s d ≡ None → HoldsAfter P endings (declared s d))
-    → ((e : NewRequest) → enq_refusal s e ≡ None → HoldsAfter P endings (enqueued s e))
-    → ((c : Conversion) → convert_refusal s c ≡ None → HoldsAfter P endings (converted_lock s c))
-    → ((d : Dequeue) → deq_refusal s d ≡ None → HoldsAfter P endings (dequeued_lock s d))
-    → ((v : ValueSetting) → set_refusal s v ≡ None → HoldsAfter P endings (value_set s v))
+    → ((d : Declaration) → declare_refusal s d ≡ None → HoldsAfter P endings (stepped_after_sweep (step_change s (Declare d))))
+    → ((v : ValueSetting) → set_refusal s v ≡ None → HoldsAfter P endings (stepped_after_sweep (step_change s (SetValue v))))
+    → ((e : NewRequest) → enq_refusal s e ≡ None → HoldsAfter P endings (stepped_after_sweep (step_change s (Enq e))))
+    → ((c : Conversion) (a : ConversionAdmission) → convert_refusal s c ≡ None → convert_admission s c ≡ Some a
+    → HoldsAfter P endings (stepped_after_sweep (conversion_change s c (Some a))))
+    → ((d : Dequeue) → deq_refusal s d ≡ None → HoldsAfter P endings (stepped_after_sweep (step_change s (Deq d))))
     → (step : Step) → HoldsAfter P endings (stepped s step)
-kept_by_stepped P endings s held declare enq convert deq set (Declare d) =
-    kept_by_refused_or P endings (declare_refusal s d) s (declared s d) held (declare d)
-kept_by_stepped P endings s held declare enq convert deq set (Enq e) =
-    kept_by_refused_or P endings (enq_refusal s e) s (enqueued s e) held (enq e)
-kept_by_stepped P endings s held declare enq convert deq set (Convert c) =
-    kept_by_refused_or P endings (convert_refusal s c) s (converted_lock s c) held (convert c)
-kept_by_stepped P endings s held declare enq convert deq set (Deq d) =
-    kept_by_refused_or P endings (deq_refusal s d) s (dequeued_lock s d) held (deq d)
-kept_by_stepped P endings s held declare enq convert deq set (SetValue v) =
-    kept_by_refused_or P endings (set_refusal s v) s (value_set s v) held (set v)
-kept_by_stepped P endings s held declare enq convert deq set (Rundown pid) = unchanged P endings s held
-kept_by_stepped P endings s held declare enq convert deq set (Leave node) = unchanged P endings s held
-kept_by_stepped P endings s held declare enq convert deq set (Search node) = unchanged P endings s held
-kept_by_stepped P endings s held declare enq convert deq set (Take pid) = unchanged P endings s held
+kept_by_stepped P endings s held declare set enq convert deq step =
+    kept_by_refused_or P endings (step_refusal s step) s (step_change s step) held (each_kind step)
+  where
+    converts : (c : Conversion) → convert_refusal s c ≡ None → HoldsAfter P endings (stepped_after_sweep (step_change s (Convert c)))
+    converts c passed =
+        let admitted = admission_of s c passed in
+        subst (λ (a : Option ConversionAdmission). HoldsAfter P endings (stepped_after_sweep (conversion_change s c a))) (sym admitted.1)
+        (convert c admitted.0 passed admitted.1)
+
+    each_kind : (kind : Step) → step_refusal s kind ≡ None → HoldsAfter P endings (stepped_after_sweep (step_change s kind))
+    each_kind (Declare d) passed = declare d passed
+    each_kind (SetValue v) passed = set v passed
+    each_kind (Enq e) passed = enq e passed
+    each_kind (Convert c) passed = converts c passed
+    each_kind (Deq d) passed = deq d passed
+    each_kind (Rundown pid) passed = cc
+    each_kind (Leave node) passed = cc
+    each_kind (Search node) passed = cc
+    each_kind (Take pid) passed = cc

@@ -1,21 +1,23 @@
 -- Each accepted request is wanted once or has ended once: by counting both.
-use Rattle.std.proofs.Common.{◌≡◌, ◌≤◌, ◌+◌, ◌||◌, ℕ, Bool, true, false, not, List, [], ◌∷◌, ◌++◌, map, cond, Option, None, Some, refl, ap, arith}
+use Rattle.std.proofs.Common.{◌≡◌, ◌≤◌, ◌+◌, ℕ, Bool, true, false, not, List, [], ◌∷◌, ◌++◌, map, cond, Option, None, Some, refl, ap, arith}
 use Rattle.std.specs.Prelude.{◌==◌}
 use Rattle.std.specs.List.{AllByRecursion, flat_map, sum_by}
-use Rattle.std.proofs.lemmas.Bool.{and_parts}
+use Rattle.std.proofs.lemmas.Bool.{and_parts, cond_both}
 use Rattle.std.proofs.lemmas.List.Filters.{sum_by-filter_both}
 use Rattle.std.proofs.lemmas.List.Sums.{sum_by-append, sum_by-cons, sum_by_push}
 use Rattle.vlm_words.specs.declared.locks.Request.{Request}
 use Rattle.vlm_words.specs.declared.locks.Row.{Row}
-use Rattle.vlm_words.specs.Endings.{Ending, How, ended}
-use Rattle.vlm_words.specs.Endings.How.{by_grant, by_abort, by_cancel}
+use Rattle.vlm_words.specs.declared.resources.ValueBlock.{ValueBlock}
 use Rattle.vlm_words.specs.State.{Process, Resource}
-use Rattle.vlm_words.specs.Grants.{grant_act, grant_ending, granted_row, grant}
-use Rattle.vlm_words.specs.Values.{ValueBlock, valued}
-use Rattle.vlm_words.specs.Sweeps.{swept, swept_grants}
-use Rattle.vlm_words.specs.Dequeue.{Withdrawal, is_lock_of, rows_of, rows_without, has_writer, left_by_writer, left_by, settled_row, without, cancelled, dequeued, ends_in, withdrawn}
-use Rattle.vlm_words.specs.Convert.{wanting_row, ungranted, converts_at_once, converted_row}
-use Rattle.vlm_words.specs.Laws.{IsSettled, wants_number, wanting_on, times_ended}
+use Rattle.vlm_words.specs.Endings.{Ending, How, row_endings, wanted_endings}
+use Rattle.vlm_words.specs.Endings.How.{by_abort, by_cancel, by_grant}
+use Rattle.vlm_words.specs.Effects.{with_value_block}
+use Rattle.vlm_words.specs.Grants.{grant_act, grant_endings, granted_row, resource_after_grant}
+use Rattle.vlm_words.specs.Sweeps.{resources_after_sweep, sweep_endings}
+use Rattle.vlm_words.specs.Rows.{is_lock_of, rows_of, rows_without}
+use Rattle.vlm_words.specs.Convert.{converts_at_once, resource_after_conversion_of, resource_without_granted, wanting_row}
+use Rattle.vlm_words.specs.Dequeue.{Withdrawal, is_held_by_writer, queue_endings, resource_after_cancel, resource_after_withdrawal, resource_after_writer, resource_without, row_after_cancel, value_block_after_writer, withdrawal_endings}
+use Rattle.vlm_words.specs.Laws.{IsHeld, times_ended, wanting_on, wants_number}
 use Rattle.vlm_words.proofs.Each.{Found, each_filter, each_weaker}
 use Rattle.vlm_words.proofs.RowsFit.{Fit}
 use Rattle.vlm_words.proofs.Sums.{found-le-sum, sum_changed, sum_of_one, sum_of_zeros}
@@ -32,34 +34,39 @@ wants number row = hits number row.want
 
 -- 1 for an ending of the request of this number
 abbrev pub ends : ℕ → Ending → ℕ
-ends number ending = cond (ending.number == number) 1 0
+ends number ending = cond (ending.request.number == number) 1 0
 
 -- a request that ends has one ending
-pub ended_counts : (number : ℕ) (how : How) (pid : ℕ) (want : Option Request) → times_ended number (ended how pid want) ≡ hits number want
-ended_counts number how pid None = refl
-ended_counts number how pid (Some request) =
-    sum_of_one (ends number) (record { number = request.number; how = how; pid = pid; block = request.block })
+pub ended_counts : (number : ℕ) (how : How) (at_once : Bool) (lkid pid : ℕ) (want : Option Request)
+    → times_ended number (wanted_endings how at_once lkid pid want) ≡ hits number want
+ended_counts number how at_once lkid pid None = refl
+ended_counts number how at_once lkid pid (Some request) =
+    sum_of_one (ends number) (record { lkid = lkid; pid = pid; request = request; how = how; at_once = at_once })
+
+-- the same for what a row wants
+row_ends : (number : ℕ) (how : How) (at_once : Bool) (row : Row) → times_ended number (row_endings how at_once row) ≡ wants number row
+row_ends number how at_once row = ended_counts number how at_once row.lkid row.pid row.want
 
 -- a grant keeps what is wanted and what has ended together
 pub wants_kept : (number : ℕ) → GrantKeeps (wants number) (ends number)
-wants_kept number row = omega (arith, ended_counts number (by_grant (grant_act row.held row.want)) row.pid row.want)
+wants_kept number at_once row = omega (arith, row_ends number (by_grant (grant_act row.held row.want)) at_once row)
 
 -- the requests of some rows end, each once
 rows_end : (number : ℕ) (how : How) (rows : List Row)
-    → times_ended number (flat_map (λ row. ended how row.pid row.want) rows) ≡ sum_by (wants number) rows
+    → times_ended number (flat_map (row_endings how false) rows) ≡ sum_by (wants number) rows
 rows_end number how [] = refl
 rows_end number how (row ∷ rows) =
     omega (
       arith,
       rows_end number how rows,
-      ended_counts number how row.pid row.want,
+      row_ends number how false row,
       sum_by-cons (wants number) row rows,
-      sum_by-append (ends number) (ended how row.pid row.want) (flat_map (λ other. ended how other.pid other.want) rows),
+      sum_by-append (ends number) (row_endings how false row) (flat_map (row_endings how false) rows),
     )
 
 -- the rows that go from a queue end their requests
 queue_ends : (number : ℕ) (how : How) (lkid : ℕ) (rows : List Row)
-    → sum_by (wants number) (rows_without lkid rows) + times_ended number (ends_in how lkid rows) ≡ sum_by (wants number) rows
+    → sum_by (wants number) (rows_without lkid rows) + times_ended number (queue_endings how lkid rows) ≡ sum_by (wants number) rows
 queue_ends number how lkid rows =
     omega (
       arith,
@@ -68,82 +75,82 @@ queue_ends number how lkid rows =
     )
 
 -- settled rows want nothing
-settled_want_nothing : (number : ℕ) (rows : List Row) → AllByRecursion IsSettled rows → sum_by (wants number) rows ≡ 0
+settled_want_nothing : (number : ℕ) (rows : List Row) → AllByRecursion IsHeld rows → sum_by (wants number) rows ≡ 0
 settled_want_nothing number rows settled =
     sum_of_zeros (wants number) rows
-    (each_weaker IsSettled (λ row. wants number row ≡ 0) (λ row is. ap (hits number) is.1) rows settled)
+    (each_weaker IsHeld (λ row. wants number row ≡ 0) (λ row is. ap (hits number) is.1) rows settled)
 
 -- rows that are settled want nothing
-settling_wants_nothing : (number : ℕ) (rows : List Row) → sum_by (wants number) (map settled_row rows) ≡ 0
+settling_wants_nothing : (number : ℕ) (rows : List Row) → sum_by (wants number) (map row_after_cancel rows) ≡ 0
 settling_wants_nothing number [] = refl
 settling_wants_nothing number (row ∷ rows) =
-    omega (arith, settling_wants_nothing number rows, sum_by-cons (wants number) (settled_row row) (map settled_row rows))
+    omega (arith, settling_wants_nothing number rows, sum_by-cons (wants number) (row_after_cancel row) (map row_after_cancel rows))
 
 -- a lock that goes ends its request
 without_counts : (number lkid : ℕ) (r : Resource) → Fit r
-    → wanting_on number (without lkid r) + times_ended number (ends_in by_abort lkid r.converting ++ ends_in by_abort lkid r.waiting)
+    → wanting_on number (resource_without lkid r) + times_ended number (queue_endings by_abort lkid r.converting ++ queue_endings by_abort lkid r.waiting)
     ≡ wanting_on number r
-unfolding without
+unfolding resource_without
 without_counts number lkid r fit =
     omega (
       arith,
       settled_want_nothing number r.granted fit.granted,
-      settled_want_nothing number (rows_without lkid r.granted) (each_filter IsSettled _ r.granted fit.granted),
+      settled_want_nothing number (rows_without lkid r.granted) (each_filter IsHeld _ r.granted fit.granted),
       queue_ends number by_abort lkid r.converting,
       queue_ends number by_abort lkid r.waiting,
-      sum_by-append (ends number) (ends_in by_abort lkid r.converting) (ends_in by_abort lkid r.waiting),
+      sum_by-append (ends number) (queue_endings by_abort lkid r.converting) (queue_endings by_abort lkid r.waiting),
     )
 
 -- a cancel ends the request of its lock
 cancelled_counts : (number lkid : ℕ) (r : Resource)
-    → wanting_on number (cancelled lkid r) + times_ended number (ends_in by_cancel lkid r.converting ++ ends_in by_abort lkid r.waiting)
+    → wanting_on number (resource_after_cancel lkid r) + times_ended number (queue_endings by_cancel lkid r.converting ++ queue_endings by_abort lkid r.waiting)
     ≡ wanting_on number r
-unfolding cancelled
+unfolding resource_after_cancel
 cancelled_counts number lkid r =
     omega (
       arith,
-      sum_by-append (wants number) r.granted (map settled_row (rows_of lkid r.converting)),
+      sum_by-append (wants number) r.granted (map row_after_cancel (rows_of lkid r.converting)),
       settling_wants_nothing number (rows_of lkid r.converting),
       queue_ends number by_cancel lkid r.converting,
       queue_ends number by_abort lkid r.waiting,
-      sum_by-append (ends number) (ends_in by_cancel lkid r.converting) (ends_in by_abort lkid r.waiting),
+      sum_by-append (ends number) (queue_endings by_cancel lkid r.converting) (queue_endings by_abort lkid r.waiting),
     )
 
 -- the same, whatever it leaves in the value block
 left_counts : (number : ℕ) (w : Withdrawal) (r : Resource) → Fit r
-    → wanting_on number (without w.lkid (left_by w r)) + times_ended number (ends_in by_abort w.lkid r.converting ++ ends_in by_abort w.lkid r.waiting)
-    ≡ wanting_on number r
-unfolding without
+    → wanting_on number (resource_without w.lkid (resource_after_writer w r))
+    + times_ended number (queue_endings by_abort w.lkid r.converting ++ queue_endings by_abort w.lkid r.waiting) ≡ wanting_on number r
+unfolding resource_without
 left_counts number w r fit =
-    elim (has_writer w.lkid r.granted || has_writer w.lkid r.converting) as (λ b. wanting_on number (without w.lkid (cond b (left_by_writer w r) r))
-    + times_ended number (ends_in by_abort w.lkid r.converting ++ ends_in by_abort w.lkid r.waiting) ≡ wanting_on number r) [
-      | true ↦ without_counts number w.lkid r fit
-      | false ↦ without_counts number w.lkid r fit
-    ]
+    cond_both (is_held_by_writer w.lkid r) (record r { value_block = value_block_after_writer w r.value_block }) r
+    (λ left. wanting_on number (resource_without w.lkid left)
+    + times_ended number (queue_endings by_abort w.lkid r.converting ++ queue_endings by_abort w.lkid r.waiting) ≡ wanting_on number r)
+    (λ _. without_counts number w.lkid r fit) (λ _. without_counts number w.lkid r fit)
 
 -- a dequeue ends the request of its lock
 dequeued_counts : (number : ℕ) (w : Withdrawal) (r : Resource) → Fit r
-    → wanting_on number (dequeued w r) + times_ended number (withdrawn w r) ≡ wanting_on number r
+    → wanting_on number (resource_after_withdrawal w r) + times_ended number (withdrawal_endings w r) ≡ wanting_on number r
 dequeued_counts number w r fit =
-    elim w.cancels as (λ b. wanting_on number (cond b (cancelled w.lkid r) (without w.lkid (left_by w r)))
-    + times_ended number (ends_in (cond b by_cancel by_abort) w.lkid r.converting ++ ends_in by_abort w.lkid r.waiting) ≡ wanting_on number r) [
+    elim w.cancels as (λ b. wanting_on number (cond b (resource_after_cancel w.lkid r) (resource_without w.lkid (resource_after_writer w r)))
+    + times_ended number (queue_endings (cond b by_cancel by_abort) w.lkid r.converting ++ queue_endings by_abort w.lkid r.waiting)
+    ≡ wanting_on number r) [
       | true ↦ cancelled_counts number w.lkid r
       | false ↦ left_counts number w r fit
     ]
 
 -- after a dequeue and a sweep as many requests are wanted or ended
 pub all_dequeued_count : (number : ℕ) (w : Withdrawal) (processes : List Process) (resources : List Resource) → AllByRecursion Fit resources
-    → sum_by (wanting_on number) (swept processes (map (dequeued w) resources))
-    + times_ended number (flat_map (withdrawn w) resources ++ swept_grants (map (dequeued w) resources))
+    → sum_by (wanting_on number) (resources_after_sweep processes (map (resource_after_withdrawal w) resources))
+    + times_ended number (flat_map (withdrawal_endings w) resources ++ sweep_endings (map (resource_after_withdrawal w) resources))
     ≡ sum_by (wanting_on number) resources
 all_dequeued_count number w processes resources fit =
-    let changes : List Resource = map (dequeued w) resources in
+    let changes : List Resource = map (resource_after_withdrawal w) resources in
     omega (
       arith,
       swept_weighs (wants number) (ends number) (wants_kept number) processes changes,
-      sum_by-append (ends number) (flat_map (withdrawn w) resources) (swept_grants changes),
-      sum_changed (wanting_on number) (dequeued w) (ends number) (withdrawn w) resources
-          (each_weaker Fit (λ r. wanting_on number (dequeued w r) + times_ended number (withdrawn w r) ≡ wanting_on number r)
+      sum_by-append (ends number) (flat_map (withdrawal_endings w) resources) (sweep_endings changes),
+      sum_changed (wanting_on number) (resource_after_withdrawal w) (ends number) (withdrawal_endings w) resources
+          (each_weaker Fit (λ r. wanting_on number (resource_after_withdrawal w r) + times_ended number (withdrawal_endings w r) ≡ wanting_on number r)
           (dequeued_counts number w) resources fit),
     )
 
@@ -155,23 +162,23 @@ found_stands pid lkid rows row at =
 
 -- a conversion is wanted or ends, and nothing else does
 pub converted_row_counts : (number : ℕ) (request : Request) (lkid : ℕ) (block : ValueBlock) (r : Resource) (row : Row) → Fit r
-    → wanting_on number (converted_row request lkid block r (Some row))
-    + times_ended number (cond (converts_at_once request lkid r) (grant_ending (wanting_row row request)) [])
+    → wanting_on number (resource_after_conversion_of request lkid block r (Some row))
+    + times_ended number (cond (converts_at_once request lkid r) (grant_endings true (wanting_row row request)) [])
     ≡ wanting_on number r + hits number (Some request)
 converted_row_counts number request lkid block r row fit =
     let before : sum_by (wants number) r.granted ≡ 0 = settled_want_nothing number r.granted fit.granted in
     let after : sum_by (wants number) (rows_without lkid r.granted) ≡ 0 =
-    settled_want_nothing number (rows_without lkid r.granted) (each_filter IsSettled _ r.granted fit.granted) in
+    settled_want_nothing number (rows_without lkid r.granted) (each_filter IsHeld _ r.granted fit.granted) in
     elim (converts_at_once request lkid r) as (λ b.
     wanting_on number
-    (cond b (valued block (grant (ungranted lkid r) (wanting_row row request)))
-    (record (ungranted lkid r) { converting = r.converting ++ wanting_row row request ∷ [] }))
-    + times_ended number (cond b (grant_ending (wanting_row row request)) []) ≡ wanting_on number r + hits number (Some request)) [
+    (cond b (with_value_block block (resource_after_grant (resource_without_granted lkid r) (wanting_row row request)))
+    (record (resource_without_granted lkid r) { converting = r.converting ++ wanting_row row request ∷ [] }))
+    + times_ended number (cond b (grant_endings true (wanting_row row request)) []) ≡ wanting_on number r + hits number (Some request)) [
       | true ↦ omega (
         arith,
         before,
         after,
-        ended_counts number (by_grant (grant_act row.held (Some request))) row.pid (Some request),
+        ended_counts number (by_grant (grant_act row.held (Some request))) true row.lkid row.pid (Some request),
         sum_by_push (wants number) (rows_without lkid r.granted) (granted_row (wanting_row row request)),
       )
       | false ↦ omega (arith, before, after, sum_by_push (wants number) r.converting (wanting_row row request))

@@ -1,5 +1,6 @@
 -- What holds of each element of a list, by recursion on the list.
-use Rattle.std.proofs.Common.{◌≡◌, ◌∙◌, ap, subst, sym, Bool, true, false, not, List, Some, [], ◌∷◌, ◌++◌, map}
+use Rattle.std.proofs.Common.{◌≡◌, ◌∙◌, ◌<◌, ◌⊎◌, inl, inr, ap, subst, sym, refl, ℕ, zero, suc, Bool, true, false, not, List, Some, [], ◌∷◌, ◌++◌, map, length, get_or, arith}
+use Rattle.std.specs.Prelude.{Any}
 use Rattle.std.specs.List.{AllByRecursion, filter, find, list_all}
 use Rattle.std.proofs.lemmas.Bool.{cond_both, cond-false, and_parts}
 use Rattle.std.proofs.lemmas.List.Elements.{filter-append}
@@ -93,3 +94,32 @@ pub filter_but : {X : Type 0} (keep : X → Bool) (xs : List X) (z : X) (ys : Li
 filter_but keep xs z ys dropped =
     filter-append keep xs (z ∷ ys) ∙ ap (λ rest. filter keep xs ++ rest) (cond-false (keep z) (z ∷ filter keep ys) (filter keep ys) dropped)
     ∙ sym (filter-append keep xs ys)
+
+-- the first element of a list is one of which it holds
+pub Any-here : {X : Type 0} (P : X → Type 0) (x : X) (xs : List X) → P x → Any P (x ∷ xs)
+Any-here P x xs holds = (0, x, omega arith, refl, holds)
+
+-- some later element is one of which it holds
+pub Any-there : {X : Type 0} (P : X → Type 0) (x : X) (xs : List X) → Any P xs → Any P (x ∷ xs)
+Any-there P x xs any = (suc any.0, any.1, (let within : any.0 < length xs = any.2 in omega arith), any.3, any.4)
+
+-- of a list's first element it holds, or of some later one
+pub Any-cases : {X : Type 0} (P : X → Type 0) (x : X) (xs : List X) → Any P (x ∷ xs) → P x ⊎ Any P xs
+Any-cases {X} P x xs any = at any.0 any.1 any.2 any.3 any.4
+  where
+    at : (k : ℕ) (y : X) → k < length (x ∷ xs) → get_or (x ∷ xs) k y ≡ y → P y → P x ⊎ Any P xs
+    at zero y within is holds = inl (subst P (sym is) holds)
+    at (suc k) y within is holds = inr (k, y, (let less : k < length xs = omega arith in less), is, holds)
+
+-- of no element of an empty list it holds
+pub Any-none : {X : Type 0} (P : X → Type 0) → Any P [] → ⊥
+Any-none P any = let within : any.0 < 0 = any.2 in absurd (omega arith)
+
+-- what holds of no element does not hold of any
+pub no_Any : {X : Type 0} (P : X → Type 0) (xs : List X) → AllByRecursion (λ x. P x → ⊥) xs → Any P xs → ⊥
+no_Any P [] none any = Any-none P any
+no_Any P (x ∷ xs) none any = elim (Any-cases P x xs any) [ inl here ↦ none.0 here | inr there ↦ no_Any P xs none.1 there ]
+
+-- a weaker fact holds of some element too
+pub Any-weaker : {X : Type 0} (P Q : X → Type 0) → ((x : X) → P x → Q x) → (xs : List X) → Any P xs → Any Q xs
+Any-weaker P Q weaker xs any = (any.0, any.1, any.2, any.3, weaker any.1 any.4)

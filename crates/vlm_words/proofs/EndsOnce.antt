@@ -1,29 +1,32 @@
 -- After every run each accepted request is wanted once or has ended once.
-use Rattle.std.proofs.Common.{◌≡◌, ◌≤◌, ◌<◌, ◌+◌, ◌⊎◌, ℕ, zero, suc, List, [], ◌∷◌, ◌++◌, map, cond, Option, None, Some, inl, inr, refl, ap, arith}
+use Rattle.std.proofs.Common.{◌≡◌, ◌≤◌, ◌<◌, ◌+◌, ◌⊎◌, ℕ, zero, suc, true, List, [], ◌∷◌, ◌++◌, map, cond, Option, None, Some, inl, inr, refl, sym, subst, ap, arith}
 use Rattle.std.specs.Prelude.{◌==◌}
 use Rattle.std.specs.List.{AllByRecursion, find, sum_by}
 use Rattle.std.proofs.lemmas.Bool.Decides.{nat_tests}
 use Rattle.std.proofs.lemmas.List.Sums.{sum_by-append, sum_by-cons}
 use Rattle.vlm_words.specs.declared.locks.Request.{Request}
 use Rattle.vlm_words.specs.declared.locks.Row.{Row}
+use Rattle.vlm_words.specs.declared.resources.ValueBlock.{ValueBlock}
 use Rattle.vlm_words.specs.declared.steps.Answer.{Answer}
 use Rattle.vlm_words.specs.declared.steps.Conversion.{Conversion}
 use Rattle.vlm_words.specs.declared.steps.NewRequest.{NewRequest}
 use Rattle.vlm_words.specs.declared.steps.Step.{Step}
+use Rattle.vlm_words.specs.State.{Resource, State}
 use Rattle.vlm_words.specs.Endings.{Ending}
-use Rattle.vlm_words.specs.State.{State, Resource}
-use Rattle.vlm_words.specs.Values.{ValueBlock}
-use Rattle.vlm_words.specs.Sweeps.{swept_grants, swept_state}
+use Rattle.vlm_words.specs.Grants.{grant_endings}
+use Rattle.vlm_words.specs.Sweeps.{state_after_sweep, sweep_endings}
+use Rattle.vlm_words.specs.Rows.{is_lock_of}
 use Rattle.vlm_words.specs.Declare.{declare_change}
-use Rattle.vlm_words.specs.Enqueue.{enq_change, enq_ending, enq_endings, found_by, row_of, request_of, key_of}
-use Rattle.vlm_words.specs.Convert.{Place, place_or, granted_place, converted_row, converted, conversion_of, conversion_ending, convert_refusal, convert_change, convert_moment, convert_endings, conversion_lkid}
-use Rattle.vlm_words.specs.Dequeue.{is_lock_of, withdrawal_of, deq_change, deq_endings}
 use Rattle.vlm_words.specs.SetValue.{set_change}
+use Rattle.vlm_words.specs.Enqueue.{enq_change, enq_domain, enq_endings, enq_key, enq_request, enq_resource, enq_row}
+use Rattle.vlm_words.specs.Convert.{ConversionAdmission, admission_among, admission_or, conversion_endings, convert_admission, convert_blocks, convert_change, convert_lkid, convert_request, converts_at_once, resource_after_conversion, resource_after_conversion_of, wanting_row}
+use Rattle.vlm_words.specs.Dequeue.{deq_change, deq_endings, withdrawal_of}
 use Rattle.vlm_words.specs.Runs.{Run}
-use Rattle.vlm_words.specs.Laws.{wanting_on, wanting, times_ended, EachRequestEndsOnce}
+use Rattle.vlm_words.specs.Laws.{EachRequestEndsOnce, times_ended, wanting, wanting_on}
+use Rattle.vlm_words.specs.Lines.{behind}
 use Rattle.vlm_words.proofs.Always.{always, kept_by_stepped}
-use Rattle.vlm_words.proofs.Passed.{found_place}
-use Rattle.vlm_words.proofs.Each.{found_at}
+use Rattle.vlm_words.proofs.Admissions.{admitted_request, found_lkid, some_same}
+use Rattle.vlm_words.proofs.Each.{Found, found_at}
 use Rattle.vlm_words.proofs.RowsFit.{Fit, fit_always}
 use Rattle.vlm_words.proofs.Weights.{weigh, swept_weighs, entered_among_weighs}
 use Rattle.vlm_words.proofs.Apart.{Apart, apart_always, stands, standing}
@@ -31,98 +34,117 @@ use Rattle.vlm_words.proofs.Counts.{hits, wants, ends, wants_kept, found_stands,
 
 -- a lock that has no row is not found
 absent_same : (request : Request) (pid lkid : ℕ) (block : ValueBlock) (r : Resource) (found : Option Row) → find (is_lock_of pid lkid) r.granted ≡ found
-    → weigh (stands lkid) r ≡ 0 → converted_row request lkid block r found ≡ r
+    → weigh (stands lkid) r ≡ 0 → resource_after_conversion_of request lkid block r found ≡ r
 absent_same request pid lkid block r None is absent = refl
 absent_same request pid lkid block r (Some row) is absent =
     absurd (omega (arith, found_stands pid lkid r.granted row (found_at (is_lock_of pid lkid) r.granted row is)))
 
 -- resources without a row of the lock stay as they are when it converts
 absent_unchanged : (request : Request) (pid lkid : ℕ) (block : ValueBlock) (resources : List Resource) → standing lkid resources ≡ 0
-    → map (converted request pid lkid block) resources ≡ resources
-unfolding converted
+    → map (resource_after_conversion request pid lkid block) resources ≡ resources
+unfolding resource_after_conversion
 absent_unchanged request pid lkid block [] absent = refl
 absent_unchanged request pid lkid block (r ∷ rest) absent =
     let both : standing lkid (r ∷ rest) ≡ weigh (stands lkid) r + standing lkid rest = sum_by-cons (weigh (stands lkid)) r rest in
-    let here : converted request pid lkid block r ≡ r =
+    let here : resource_after_conversion request pid lkid block r ≡ r =
     absent_same request pid lkid block r (find (is_lock_of pid lkid) r.granted) refl (omega arith) in
-    let behind : map (converted request pid lkid block) rest ≡ rest = absent_unchanged request pid lkid block rest (omega arith) in
+    let behind : map (resource_after_conversion request pid lkid block) rest ≡ rest = absent_unchanged request pid lkid block rest (omega arith) in
     cc
 
 -- where a lock has one row, its conversion is counted once: on its resource, or on those behind it
-here_or_behind : (number : ℕ) (request : Request) (pid lkid : ℕ) (block : ValueBlock) (r : Resource) (rest : List Resource) (place : Place) (found : Option Row)
+here_or_behind : (number : ℕ) (request : Request) (pid lkid : ℕ) (block : ValueBlock) (r : Resource) (rest : List Resource)
+    (a : ConversionAdmission) (found : Option Row)
     → find (is_lock_of pid lkid) r.granted ≡ found → Fit r → standing lkid (r ∷ rest) ≤ 1
-    → (granted_place pid lkid rest ≡ Some place
-    → sum_by (wanting_on number) (map (converted request pid lkid block) rest) + times_ended number (conversion_ending request lkid (Some place))
+    → (admission_among request pid lkid rest ≡ Some a
+    → sum_by (wanting_on number) (map (resource_after_conversion request pid lkid block) rest) + times_ended number (conversion_endings a)
     ≡ sum_by (wanting_on number) rest + hits number (Some request))
-    → place_or r found (granted_place pid lkid rest) ≡ Some place
-    → wanting_on number (converted_row request lkid block r found) + sum_by (wanting_on number) (map (converted request pid lkid block) rest)
-    + times_ended number (conversion_ending request lkid (Some place))
+    → admission_or request r found (admission_among request pid lkid rest) ≡ Some a
+    → wanting_on number (resource_after_conversion_of request lkid block r found)
+    + sum_by (wanting_on number) (map (resource_after_conversion request pid lkid block) rest)
+    + times_ended number (conversion_endings a)
     ≡ wanting_on number r + sum_by (wanting_on number) rest + hits number (Some request)
-here_or_behind number request pid lkid block r rest place None is fit one behind at = omega (arith, behind at)
-here_or_behind number request pid lkid block r rest place (Some row) is fit one behind at =
-    let same : Some (record { resource = r; row = row }) ≡ Some place = at in
-    let own : times_ended number (conversion_ending request lkid (Some (record { resource = r; row = row })))
-    ≡ times_ended number (conversion_ending request lkid (Some place)) =
-    ap (λ p. times_ended number (conversion_ending request lkid p)) same in
+here_or_behind number request pid lkid block r rest a None is fit one behind at = omega (arith, behind at)
+here_or_behind number request pid lkid block r rest a (Some row) is fit one behind at =
+    let at_row : Found (is_lock_of pid lkid) r.granted row = found_at (is_lock_of pid lkid) r.granted row is in
+    let named : row.lkid ≡ lkid = found_lkid pid lkid row at_row.passes in
+    let here : ConversionAdmission = record { resource = r; row = row; request = request; at_once = converts_at_once request row.lkid r } in
+    let same : Some here ≡ Some a = at in
+    let own : times_ended number (conversion_endings here) ≡ times_ended number (conversion_endings a) =
+    ap (λ (b : ConversionAdmission). times_ended number (conversion_endings b)) (some_same here a same) in
+    let counted : wanting_on number (resource_after_conversion_of request lkid block r (Some row))
+    + times_ended number (cond (converts_at_once request row.lkid r) (grant_endings true (wanting_row row request)) [])
+    ≡ wanting_on number r + hits number (Some request) =
+    subst (λ (n : ℕ). wanting_on number (resource_after_conversion_of request lkid block r (Some row))
+    + times_ended number (cond (converts_at_once request n r) (grant_endings true (wanting_row row request)) [])
+    ≡ wanting_on number r + hits number (Some request)) (sym named) (converted_row_counts number request lkid block r row fit) in
     let absent : standing lkid rest ≡ 0 =
-    omega (
-      arith,
-      sum_by-cons (weigh (stands lkid)) r rest,
-      found_stands pid lkid r.granted row (found_at (is_lock_of pid lkid) r.granted row is),
-    ) in
-    omega (
-      arith,
-      converted_row_counts number request lkid block r row fit,
-      own,
-      ap (sum_by (wanting_on number)) (absent_unchanged request pid lkid block rest absent),
-    )
+    omega (arith, sum_by-cons (weigh (stands lkid)) r rest, found_stands pid lkid r.granted row at_row) in
+    omega (arith, counted, own, ap (sum_by (wanting_on number)) (absent_unchanged request pid lkid block rest absent))
 
 -- where a lock has one row, its conversion is counted once
-all_converted_count : (number : ℕ) (request : Request) (pid lkid : ℕ) (block : ValueBlock) (place : Place) (resources : List Resource)
-    → AllByRecursion Fit resources → standing lkid resources ≤ 1 → granted_place pid lkid resources ≡ Some place
-    → sum_by (wanting_on number) (map (converted request pid lkid block) resources) + times_ended number (conversion_ending request lkid (Some place))
+all_converted_count : (number : ℕ) (request : Request) (pid lkid : ℕ) (block : ValueBlock) (a : ConversionAdmission) (resources : List Resource)
+    → AllByRecursion Fit resources → standing lkid resources ≤ 1 → admission_among request pid lkid resources ≡ Some a
+    → sum_by (wanting_on number) (map (resource_after_conversion request pid lkid block) resources) + times_ended number (conversion_endings a)
     ≡ sum_by (wanting_on number) resources + hits number (Some request)
-unfolding converted
-all_converted_count number request pid lkid block place [] fit one at = cc
-all_converted_count number request pid lkid block place (r ∷ rest) fit one at =
+unfolding resource_after_conversion
+all_converted_count number request pid lkid block a [] fit one at = cc
+all_converted_count number request pid lkid block a (r ∷ rest) fit one at =
     let fewer : standing lkid rest ≤ 1 = omega (arith, sum_by-cons (weigh (stands lkid)) r rest) in
-    let all = here_or_behind number request pid lkid block r rest place (find (is_lock_of pid lkid) r.granted) refl fit.0 one
-    (λ behind. all_converted_count number request pid lkid block place rest fit.1 fewer behind) at in
+    let all = here_or_behind number request pid lkid block r rest a (find (is_lock_of pid lkid) r.granted) refl fit.0 one
+    (λ behind. all_converted_count number request pid lkid block a rest fit.1 fewer behind) at in
     omega (
       arith,
       all,
       sum_by-cons (wanting_on number) r rest,
-      sum_by-cons (wanting_on number) (converted request pid lkid block r) (map (converted request pid lkid block) rest),
+      sum_by-cons (wanting_on number) (resource_after_conversion request pid lkid block r) (map (resource_after_conversion request pid lkid block) rest),
     )
+
+-- a sweep alone counts what was counted
+sweep_counts : (number : ℕ) (s : State) → wanting number (state_after_sweep s) + times_ended number (sweep_endings s.resources) ≡ wanting number s
+sweep_counts number s = swept_weighs (wants number) (ends number) (wants_kept number) s.processes s.resources
 
 -- a new request is wanted or ends, and what the sweep grants ends
 enqueued_counts : (number : ℕ) (s : State) (e : NewRequest)
-    → wanting number (swept_state (enq_change s e)) + times_ended number (enq_endings s e)
+    → wanting number (state_after_sweep (enq_change s e)) + times_ended number (enq_endings s e ++ sweep_endings (enq_change s e).resources)
     ≡ wanting number s + cond (s.next_request == number) 1 0
-unfolding enq_change enq_endings found_by
+unfolding enq_change enq_resource
 enqueued_counts number s e =
     omega (
       arith,
-      swept_weighs (wants number) (ends number) (wants_kept number) (enq_change s e).processes (enq_change s e).resources,
-      entered_among_weighs (wants number) (ends number) (wants_kept number) s.next_serial (key_of s e) (row_of s e) (request_of s e) s.resources,
-      sum_by-append (ends number) (enq_ending s e) (swept_grants (enq_change s e).resources),
+      sweep_counts number (enq_change s e),
+      entered_among_weighs (wants number) (ends number) (wants_kept number) s.next_serial (enq_domain s e) (enq_key s e) (enq_row s e)
+          (enq_request s e) s.resources,
+      sum_by-append (ends number) (enq_endings s e) (sweep_endings (enq_change s e).resources),
     )
 
+-- the request of an admitted conversion has the next number
+admitted_number : (number : ℕ) (s : State) (c : Conversion) (a : ConversionAdmission) → convert_admission s c ≡ Some a
+    → hits number (Some a.request) ≡ cond (s.next_request == number) 1 0
+unfolding convert_admission
+admitted_number number s c a admitted =
+    ap (λ (request : Request). hits number (Some request)) (admitted_request (convert_request s c) c.pid (convert_lkid s c) a s.resources admitted)
+
 -- a conversion is wanted or ends, and what the sweep grants ends
-converted_counts : (number : ℕ) (s : State) (c : Conversion) → convert_refusal s c ≡ None → AllByRecursion Fit s.resources → Apart s
-    → wanting number (swept_state (convert_change s c)) + times_ended number (convert_endings s c)
+converted_counts : (number : ℕ) (s : State) (c : Conversion) (a : ConversionAdmission) → convert_admission s c ≡ Some a
+    → AllByRecursion Fit s.resources → Apart s
+    → wanting number (state_after_sweep (convert_change s c a))
+    + times_ended number (conversion_endings a ++ sweep_endings (convert_change s c a).resources)
     ≡ wanting number s + cond (s.next_request == number) 1 0
-unfolding convert_change convert_endings
-converted_counts number s c passed fit apart =
-    let lkid : ℕ = conversion_lkid s c in
-    let request : Request = conversion_of s c in
-    let place : (place : Place) × (granted_place c.pid lkid s.resources ≡ Some place) = found_place s c passed in
+unfolding convert_change convert_admission
+converted_counts number s c a admitted fit apart =
+    let lkid : ℕ = convert_lkid s c in
+    let block : ValueBlock = (convert_blocks s c a).value_block in
+    let request : a.request ≡ convert_request s c = admitted_request (convert_request s c) c.pid lkid a s.resources admitted in
+    let counted : sum_by (wanting_on number) (map (resource_after_conversion a.request c.pid lkid block) s.resources)
+    + times_ended number (conversion_endings a) ≡ sum_by (wanting_on number) s.resources + hits number (Some (convert_request s c)) =
+    subst (λ (q : Request). sum_by (wanting_on number) (map (resource_after_conversion q c.pid lkid block) s.resources)
+    + times_ended number (conversion_endings a) ≡ sum_by (wanting_on number) s.resources + hits number (Some (convert_request s c)))
+    (sym request) (all_converted_count number (convert_request s c) c.pid lkid block a s.resources fit (apart.one_row lkid) admitted) in
     omega (
       arith,
-      swept_weighs (wants number) (ends number) (wants_kept number) (convert_change s c).processes (convert_change s c).resources,
-      all_converted_count number request c.pid lkid (convert_moment s c).block place.0 s.resources fit (apart.one_row lkid) place.1,
-      ap (λ p. times_ended number (conversion_ending request lkid p)) place.1,
-      sum_by-append (ends number) (conversion_ending request lkid (granted_place c.pid lkid s.resources)) (swept_grants (convert_change s c).resources),
+      sweep_counts number (convert_change s c a),
+      counted,
+      sum_by-append (ends number) (conversion_endings a) (sweep_endings (convert_change s c a).resources),
     )
 
 -- each accepted request is counted once, and those to come are not
@@ -153,22 +175,25 @@ one_more_counts endings more s t counted next one_more = record {
 -- after every run each accepted request is counted once
 pub counted_always : (steps : List Step) (answers : List Answer) (endings : List Ending) (last : State)
     → Run steps answers endings last → CountedOnce endings last
-unfolding declare_change enq_change convert_change deq_change set_change deq_endings
+unfolding declare_change set_change enq_change convert_change deq_change
 counted_always =
     always CountedOnce (record { accepted = λ number some below. absurd (omega arith); to_come = λ number past. refl })
     (λ steps answers endings s run counted.
     let fit : AllByRecursion Fit s.resources = fit_always steps answers endings s run in
     let apart : Apart s = apart_always steps answers endings s run in
     kept_by_stepped CountedOnce endings s counted
-    (λ d _. same_counts endings [] s (declare_change s d) counted refl (λ number. omega arith))
-    (λ e _. one_more_counts endings (enq_endings s e) s (swept_state (enq_change s e)) counted refl (λ number. enqueued_counts number s e))
-    (λ c passed.
-    one_more_counts endings (convert_endings s c) s (swept_state (convert_change s c)) counted refl
-    (λ number. converted_counts number s c passed fit apart))
+    (λ d _. same_counts endings (sweep_endings s.resources) s (state_after_sweep (declare_change s d)) counted refl
+    (λ number. sweep_counts number (declare_change s d)))
+    (λ v _. same_counts endings (sweep_endings s.resources) s (state_after_sweep (set_change s v)) counted refl
+    (λ number. sweep_counts number (set_change s v)))
+    (λ e _. one_more_counts endings (enq_endings s e ++ sweep_endings (enq_change s e).resources) s (state_after_sweep (enq_change s e)) counted
+    refl (λ number. enqueued_counts number s e))
+    (λ c a _ admitted.
+    one_more_counts endings (conversion_endings a ++ sweep_endings (convert_change s c a).resources) s (state_after_sweep (convert_change s c a))
+    counted refl (λ number. converted_counts number s c a admitted fit apart))
     (λ d _.
-    same_counts endings (deq_endings s d) s (swept_state (deq_change s d)) counted refl
-    (λ number. all_dequeued_count number (withdrawal_of s d) (deq_change s d).processes s.resources fit))
-    (λ v _. same_counts endings [] s (set_change s v) counted refl (λ number. omega arith)))
+    same_counts endings (deq_endings s d ++ sweep_endings (deq_change s d).resources) s (state_after_sweep (deq_change s d)) counted refl
+    (λ number. all_dequeued_count number (withdrawal_of s d) (deq_change s d).processes s.resources fit)))
 
 -- of two numbers whose sum is 1, one is 1 and the other 0
 one_of_two : (a b : ℕ) → a + b ≡ 1 → ((a ≡ 1) × (b ≡ 0)) ⊎ ((a ≡ 0) × (b ≡ 1))

@@ -1,5 +1,5 @@
 -- After every step the held modes of each resource are compatible.
-use Rattle.std.proofs.Common.{◌≡◌, ◌||◌, ℕ, true, not, List, [], ◌∷◌, ◌++◌, Option, None, Some, append_assoc, refl, sym, subst, ap, ⊎_elim, ◌∙◌}
+use Rattle.std.proofs.Common.{◌≡◌, ℕ, true, not, List, [], ◌∷◌, ◌++◌, Option, None, Some, append_assoc, refl, sym, subst, ap, ⊎_elim, ◌∙◌}
 use Rattle.std.proofs.Math.Bool.{or_comm}
 use Rattle.std.proofs.Math.Path.{fun_ext}
 use Rattle.std.specs.Prelude.{AllPairs, ◌==◌, ◌&&◌}
@@ -8,20 +8,22 @@ use Rattle.std.proofs.lemmas.Bool.{cond_both, and_parts, or_cases}
 use Rattle.std.proofs.lemmas.List.Elements.{All-from_recursion, filter-append}
 use Rattle.vlm_words.specs.declared.locks.Request.{Request}
 use Rattle.vlm_words.specs.declared.locks.Row.{Row}
-use Rattle.vlm_words.specs.declared.modes.Mode.{Mode}
 use Rattle.vlm_words.specs.declared.modes.Mode.TheVariants.{Nl, Cr, Cw, Pr, Pw, Ex}
+use Rattle.vlm_words.specs.declared.modes.Mode.{Mode}
+use Rattle.vlm_words.specs.declared.resources.ValueBlock.{ValueBlock}
 use Rattle.vlm_words.specs.declared.steps.Answer.{Answer}
 use Rattle.vlm_words.specs.declared.steps.NewRequest.{NewRequest}
 use Rattle.vlm_words.specs.declared.steps.Step.{Step}
+use Rattle.vlm_words.specs.Modes.{compatible_pairs, is_compatible, is_pair_of, rank}
+use Rattle.vlm_words.specs.Flags.{expedite, has_flag}
+use Rattle.vlm_words.specs.State.{Resource, State}
 use Rattle.vlm_words.specs.Endings.{Ending}
-use Rattle.vlm_words.specs.Flags.{has_flag, expedite}
-use Rattle.vlm_words.specs.Modes.{rank, is_compatible, is_pair_of, compatible_pairs}
-use Rattle.vlm_words.specs.State.{State, Resource}
-use Rattle.vlm_words.specs.Grants.{is_empty, is_beside, fits, wanted_fits, granted_row, grant, serve_converting, serve_waiting, serve_new_requests, served}
-use Rattle.vlm_words.specs.Enqueue.{is_free_for, is_at_once, entered, row_of, request_of, enq_refusal}
-use Rattle.vlm_words.specs.Convert.{wanting_row, ungranted, converts_at_once, converted_row, converted}
-use Rattle.vlm_words.specs.Dequeue.{Withdrawal, is_lock_of, rows_without, has_writer, left_by_writer, left_by, settled_row, without, cancelled, dequeued}
-use Rattle.vlm_words.specs.Values.{ValueBlock, valued}
+use Rattle.vlm_words.specs.Effects.{with_value_block}
+use Rattle.vlm_words.specs.Grants.{fits, granted_row, is_beside, is_empty, no_service, resource_after_grant, service, service_after_grant, service_of_conversions, service_of_new_requests, service_of_waiting, wanted_fits}
+use Rattle.vlm_words.specs.Rows.{is_lock_of, rows_without}
+use Rattle.vlm_words.specs.Enqueue.{enq_refusal, enq_request, enq_row, is_at_once, is_free_for, resource_after_entry}
+use Rattle.vlm_words.specs.Convert.{converts_at_once, resource_after_conversion, resource_after_conversion_of, resource_without_granted, wanting_row}
+use Rattle.vlm_words.specs.Dequeue.{Withdrawal, is_held_by_writer, resource_after_cancel, resource_after_withdrawal, resource_after_writer, resource_without, row_after_cancel, value_block_after_writer}
 use Rattle.vlm_words.specs.Runs.{Run}
 use Rattle.vlm_words.specs.Laws.{AreCompatible, HeldModesAreCompatible}
 use Rattle.vlm_words.proofs.Each.{Found, found_at, each_append, each_passes, each_weaker}
@@ -98,34 +100,38 @@ agree_after_grant row granted converting compatible agree =
     (each_pair_insert HoldCompatible hold_compatible-comm granted (granted_row row) converting compatible agree)
 
 -- serving the conversions keeps the held modes compatible
-serve_converting_agrees : (r : Resource) (rows : List Row) → r.converting ≡ rows → HoldersAgree r → HoldersAgree (serve_converting r rows)
+serve_converting_agrees : (r : Resource) (rows : List Row) → r.converting ≡ rows → HoldersAgree r → HoldersAgree (service_of_conversions r rows).resource
 serve_converting_agrees r [] is agree = agree
 serve_converting_agrees r (row ∷ rows) is agree =
-    cond_both (wanted_fits row.want r.granted rows) (serve_converting (record (grant r row) { converting = rows }) rows) r HoldersAgree
+    cond_both (wanted_fits row.want r.granted rows)
+    (service_after_grant row (service_of_conversions (record (resource_after_grant r row) { converting = rows }) rows)) (no_service r)
+    (λ more. HoldersAgree more.resource)
     (λ fitting.
-    serve_converting_agrees (record (grant r row) { converting = rows }) rows refl
+    serve_converting_agrees (record (resource_after_grant r row) { converting = rows }) rows refl
     (agree_after_grant row r.granted rows (compatible_if_wanted_fits row.want r.granted rows fitting)
     (each_pair_remove HoldCompatible r.granted row rows (subst (QueuesAgree r.granted) is agree))))
     (λ _. agree)
 
 -- serving the waiting queue keeps the held modes compatible
-serve_waiting_agrees : (r : Resource) (rows : List Row) → HoldersAgree r → HoldersAgree (serve_waiting r rows)
+serve_waiting_agrees : (r : Resource) (rows : List Row) → HoldersAgree r → HoldersAgree (service_of_waiting r rows).resource
 serve_waiting_agrees r [] agree = agree
 serve_waiting_agrees r (row ∷ rows) agree =
-    cond_both (wanted_fits row.want r.granted r.converting) (serve_waiting (record (grant r row) { waiting = rows }) rows) r HoldersAgree
+    cond_both (wanted_fits row.want r.granted r.converting)
+    (service_after_grant row (service_of_waiting (record (resource_after_grant r row) { waiting = rows }) rows)) (no_service r)
+    (λ more. HoldersAgree more.resource)
     (λ fitting.
-    serve_waiting_agrees (record (grant r row) { waiting = rows }) rows
+    serve_waiting_agrees (record (resource_after_grant r row) { waiting = rows }) rows
     (agree_after_grant row r.granted r.converting (compatible_if_wanted_fits row.want r.granted r.converting fitting) agree))
     (λ _. agree)
 
 -- serving keeps the held modes compatible
-served_agrees : (r : Resource) → HoldersAgree r → HoldersAgree (served r)
-unfolding served
-served_agrees r agree = new_requests (serve_converting r r.converting) (serve_converting_agrees r r.converting refl agree)
+served_agrees : (r : Resource) → HoldersAgree r → HoldersAgree (service r).resource
+unfolding service
+served_agrees r agree = new_requests (service_of_conversions r r.converting).resource (serve_converting_agrees r r.converting refl agree)
   where
-    new_requests : (left : Resource) → HoldersAgree left → HoldersAgree (serve_new_requests left)
+    new_requests : (left : Resource) → HoldersAgree left → HoldersAgree (service_of_new_requests left).resource
     new_requests left agree =
-        cond_both (is_empty left.converting) (serve_waiting left left.waiting) left HoldersAgree
+        cond_both (is_empty left.converting) (service_of_waiting left left.waiting) (no_service left) (λ more. HoldersAgree more.resource)
         (λ _. serve_waiting_agrees left left.waiting agree) (λ _. agree)
 
 -- NL is compatible with every mode
@@ -149,25 +155,25 @@ null_beside_each request null [] = tt
 null_beside_each request null (row ∷ rows) = (null_is_beside request row.held null, null_beside_each request null rows)
 
 -- a new request that is granted at once is compatible with what each row holds
-compatible_at_once : (s : State) (e : NewRequest) → enq_refusal s e ≡ None → (r : Resource) → is_at_once (request_of s e) r ≡ true
-    → AllByRecursion (λ row. AreCompatible (Some (request_of s e)) row.held) (r.granted ++ r.converting)
+compatible_at_once : (s : State) (e : NewRequest) → enq_refusal s e ≡ None → (r : Resource) → is_at_once (enq_request s e) r ≡ true
+    → AllByRecursion (λ row. AreCompatible (Some (enq_request s e)) row.held) (r.granted ++ r.converting)
 unfolding is_at_once
 compatible_at_once s e passed r at_once =
-    ⊎_elim (λ flagged. null_beside_each (request_of s e) (expedited_is_null s e passed flagged) (r.granted ++ r.converting))
-    (λ free. compatible_if_fits (request_of s e) r.granted r.converting (and_parts _ _ (and_parts _ _ free).0).0)
-    (or_cases (has_flag e.flags expedite) (is_free_for (request_of s e) r) at_once)
+    ⊎_elim (λ flagged. null_beside_each (enq_request s e) (expedited_is_null s e passed flagged) (r.granted ++ r.converting))
+    (λ free. compatible_if_fits (enq_request s e) r.granted r.converting (and_parts _ _ (and_parts _ _ free).0).0)
+    (or_cases (has_flag e.flags expedite) (is_free_for (enq_request s e) r) at_once)
 
 -- the entry of a lock keeps the held modes compatible
 entered_agrees : (s : State) (e : NewRequest) → enq_refusal s e ≡ None → (r : Resource) → HoldersAgree r
-    → HoldersAgree (entered (row_of s e) (request_of s e) r)
-unfolding entered
+    → HoldersAgree (resource_after_entry (enq_row s e) (enq_request s e) r)
+unfolding resource_after_entry
 entered_agrees s e passed r agree =
-    cond_both (is_at_once (request_of s e) r) (grant r (row_of s e)) (record r { waiting = r.waiting ++ row_of s e ∷ [] }) HoldersAgree
-    (λ at_once. agree_after_grant (row_of s e) r.granted r.converting (compatible_at_once s e passed r at_once) agree) (λ _. agree)
+    cond_both (is_at_once (enq_request s e) r) (resource_after_grant r (enq_row s e)) (record r { waiting = r.waiting ++ enq_row s e ∷ [] }) HoldersAgree
+    (λ at_once. agree_after_grant (enq_row s e) r.granted r.converting (compatible_at_once s e passed r at_once) agree) (λ _. agree)
 
 -- a conversion that is granted at once keeps the held modes compatible
 converted_at_once_agrees : (request : Request) (lkid : ℕ) (r : Resource) (row : Row) → converts_at_once request lkid r ≡ true → HoldersAgree r
-    → HoldersAgree (grant (ungranted lkid r) (wanting_row row request))
+    → HoldersAgree (resource_after_grant (resource_without_granted lkid r) (wanting_row row request))
 unfolding converts_at_once
 converted_at_once_agrees request lkid r row at_once agree =
     agree_after_grant (wanting_row row request) (rows_without lkid r.granted) r.converting
@@ -187,47 +193,48 @@ queued_agrees request pid lkid granted converting row at agree =
 
 -- a conversion keeps the held modes compatible, whichever row is found
 converted_row_agrees : (request : Request) (pid lkid : ℕ) (block : ValueBlock) (r : Resource) (found : Option Row)
-    → find (is_lock_of pid lkid) r.granted ≡ found → HoldersAgree r → HoldersAgree (converted_row request lkid block r found)
+    → find (is_lock_of pid lkid) r.granted ≡ found → HoldersAgree r → HoldersAgree (resource_after_conversion_of request lkid block r found)
 converted_row_agrees request pid lkid block r None is agree = agree
 converted_row_agrees request pid lkid block r (Some row) is agree =
-    cond_both (converts_at_once request lkid r) (valued block (grant (ungranted lkid r) (wanting_row row request)))
-    (record (ungranted lkid r) { converting = r.converting ++ wanting_row row request ∷ [] }) HoldersAgree
+    cond_both (converts_at_once request lkid r) (with_value_block block (resource_after_grant (resource_without_granted lkid r) (wanting_row row request)))
+    (record (resource_without_granted lkid r) { converting = r.converting ++ wanting_row row request ∷ [] }) HoldersAgree
     (λ at_once. converted_at_once_agrees request lkid r row at_once agree)
     (λ _. queued_agrees request pid lkid r.granted r.converting row (found_at (is_lock_of pid lkid) r.granted row is) agree)
 
 -- the same, for the row that is found
-converted_agrees : (request : Request) (pid lkid : ℕ) (block : ValueBlock) (r : Resource) → HoldersAgree r → HoldersAgree (converted request pid lkid block r)
-unfolding converted
+converted_agrees : (request : Request) (pid lkid : ℕ) (block : ValueBlock) (r : Resource) → HoldersAgree r → HoldersAgree (resource_after_conversion request pid lkid block r)
+unfolding resource_after_conversion
 converted_agrees request pid lkid block r agree = converted_row_agrees request pid lkid block r (find (is_lock_of pid lkid) r.granted) refl agree
 
 -- a lock that goes leaves the held modes compatible
-without_agrees : (lkid : ℕ) (r : Resource) → HoldersAgree r → HoldersAgree (without lkid r)
-unfolding without
+without_agrees : (lkid : ℕ) (r : Resource) → HoldersAgree r → HoldersAgree (resource_without lkid r)
+unfolding resource_without
 without_agrees lkid r agree = rw (← filter-append) (each_pair_filter HoldCompatible _ (r.granted ++ r.converting) agree)
 
 -- a lock whose conversion is cancelled holds what it held
-cancelled_agrees : (lkid : ℕ) (r : Resource) → HoldersAgree r → HoldersAgree (cancelled lkid r)
-unfolding cancelled
+cancelled_agrees : (lkid : ℕ) (r : Resource) → HoldersAgree r → HoldersAgree (resource_after_cancel lkid r)
+unfolding resource_after_cancel
 cancelled_agrees lkid r agree =
-    each_pair_move HoldCompatible hold_compatible-comm settled_row (λ a b compatible. compatible) (λ row. row.lkid == lkid) r.granted r.converting agree
+    each_pair_move HoldCompatible hold_compatible-comm row_after_cancel (λ a b compatible. compatible) (λ row. row.lkid == lkid) r.granted r.converting agree
 
 -- what a lock leaves in the value block does not touch the held modes
-left_agrees : (w : Withdrawal) (r : Resource) → HoldersAgree r → HoldersAgree (left_by w r)
+left_agrees : (w : Withdrawal) (r : Resource) → HoldersAgree r → HoldersAgree (resource_after_writer w r)
 left_agrees w r agree =
-    cond_both (has_writer w.lkid r.granted || has_writer w.lkid r.converting) (left_by_writer w r) r HoldersAgree (λ _. agree) (λ _. agree)
+    cond_both (is_held_by_writer w.lkid r) (record r { value_block = value_block_after_writer w r.value_block }) r HoldersAgree
+    (λ _. agree) (λ _. agree)
 
 -- a dequeue keeps the held modes compatible
-dequeued_agrees : (w : Withdrawal) (r : Resource) → HoldersAgree r → HoldersAgree (dequeued w r)
+dequeued_agrees : (w : Withdrawal) (r : Resource) → HoldersAgree r → HoldersAgree (resource_after_withdrawal w r)
 dequeued_agrees w r agree =
-    cond_both w.cancels (cancelled w.lkid r) (without w.lkid (left_by w r)) HoldersAgree
-    (λ _. cancelled_agrees w.lkid r agree) (λ _. without_agrees w.lkid (left_by w r) (left_agrees w r agree))
+    cond_both w.cancels (resource_after_cancel w.lkid r) (resource_without w.lkid (resource_after_writer w r)) HoldersAgree
+    (λ _. cancelled_agrees w.lkid r agree) (λ _. without_agrees w.lkid (resource_after_writer w r) (left_agrees w r agree))
 
 -- after every run the held modes of each resource are compatible, by recursion
 pub holders_agree_always : (steps : List Step) (answers : List Answer) (endings : List Ending) (last : State)
     → Run steps answers endings last → AllByRecursion HoldersAgree last.resources
 holders_agree_always steps answers endings last run =
     each_always HoldersAgree HoldersAgree (λ _ agree. agree) (λ _ r agree. served_agrees r agree)
-    (record { fresh = λ _ _. tt; entry = entered_agrees; conversion = converted_agrees; removal = dequeued_agrees })
+    (record { fresh = λ _ _ _. tt; entry = entered_agrees; conversion = converted_agrees; removal = dequeued_agrees })
     steps answers endings last run
 
 -- after every run the held modes are compatible

@@ -1,20 +1,19 @@
 -- What is so where the checks of a step do not refuse it.
-use Rattle.std.proofs.Common.{◌≡◌, Bool, true, false, not, ◌&&◌, cond, Option, None, Some, refl}
+use Rattle.std.proofs.Common.{◌≡◌, Bool, true, false, not, ◌&&◌, ◌||◌, cond, Option, None, Some, refl, subst}
 use Rattle.std.specs.Prelude.{◌==◌}
 use Rattle.std.proofs.lemmas.Bool.{not-false}
-use Rattle.vlm_words.specs.declared.conditions.Cond.{Cond}
 use Rattle.vlm_words.specs.declared.conditions.Cond.TheVariants.{Unsupported}
-use Rattle.vlm_words.specs.declared.modes.Mode.{Mode}
+use Rattle.vlm_words.specs.declared.conditions.Cond.{Cond}
 use Rattle.vlm_words.specs.declared.modes.Mode.TheVariants.{Nl, Cr, Cw, Pr, Pw, Ex}
+use Rattle.vlm_words.specs.declared.modes.Mode.{Mode}
 use Rattle.vlm_words.specs.declared.steps.Conversion.{Conversion}
 use Rattle.vlm_words.specs.declared.steps.NewRequest.{NewRequest}
-use Rattle.vlm_words.specs.Checks.{or_else, caller_refusal, block_refusal, which_refusal, numbers_refusal, request_numbers_refusal, queue_refusal}
-use Rattle.vlm_words.specs.Flags.{has_flag, expedite}
 use Rattle.vlm_words.specs.Modes.{rank}
+use Rattle.vlm_words.specs.Flags.{expedite, has_flag}
 use Rattle.vlm_words.specs.State.{State}
-use Rattle.vlm_words.specs.Enqueue.{enq_refusal, enq_argument_refusal, name_refusal, expedite_refusal, enq_at_once}
-use Rattle.vlm_words.specs.Convert.{Place, granted_place, place_refusal, convert_argument_refusal, convert_refusal, convert_at_once, conversion_lkid}
-use Rattle.vlm_words.specs.Dequeue.{lock_refusal}
+use Rattle.vlm_words.specs.Checks.{caller_refusal, lock_refusal, numbers_refusal, or_else, queue_refusal, request_numbers_refusal, status_block_refusal, which_refusal}
+use Rattle.vlm_words.specs.Enqueue.{enq_argument_refusal, enq_at_once, enq_refusal, expedite_refusal, name_refusal}
+use Rattle.vlm_words.specs.Convert.{ConversionAdmission, admission_refusal, convert_admission, convert_argument_refusal, convert_lkid, convert_refusal, pair_refusal}
 
 -- where neither of two checks refuses, each passes
 pub both_pass : (first later : Option Cond) → or_else first later ≡ None → (first ≡ None) × (later ≡ None)
@@ -53,11 +52,13 @@ fifth_passes None None (Some refusal) d e later passed = cc
 fifth_passes None (Some refusal) c d e later passed = cc
 fifth_passes (Some refusal) b c d e later passed = cc
 
--- where none of the checks refuses, the sixth passes
-sixth_passes : (a b c d e f later : Option Cond) → or_else a (or_else b (or_else c (or_else d (or_else e (or_else f later))))) ≡ None
-    → f ≡ None
-sixth_passes None b c d e f later passed = fifth_passes b c d e f later passed
-sixth_passes (Some refusal) b c d e f later passed = cc
+-- where none of six checks refuses, the last passes
+last_passes : (a b c d e last : Option Cond) → or_else a (or_else b (or_else c (or_else d (or_else e last)))) ≡ None → last ≡ None
+last_passes None None None None e last passed = (both_pass e last passed).1
+last_passes None None None (Some refusal) e last passed = cc
+last_passes None None (Some refusal) d e last passed = cc
+last_passes None (Some refusal) c d e last passed = cc
+last_passes (Some refusal) b c d e last passed = cc
 
 -- an accepted request with EXPEDITE asks for NL
 pub expedited_is_null : (s : State) (e : NewRequest) → enq_refusal s e ≡ None → has_flag e.flags expedite ≡ true → e.mode ≡ Nl
@@ -67,27 +68,32 @@ expedited_is_null s e passed flagged =
     (not-false (rank e.mode == 0)
     (second_fails (has_flag e.flags expedite) (not (rank e.mode == 0))
     (test_fails (has_flag e.flags expedite && not (rank e.mode == 0)) Unsupported
-    (fifth_passes (caller_refusal s e.pid) (enq_argument_refusal e) (block_refusal s e.pid e.block) (name_refusal e.name)
+    (fifth_passes (caller_refusal s e.pid) (enq_argument_refusal e) (status_block_refusal s e.pid e.block) (name_refusal e.name)
     (cond (has_flag e.flags expedite && not (rank e.mode == 0)) (Some Unsupported) None)
     (or_else (numbers_refusal s) (queue_refusal e.flags (enq_at_once s e))) passed)) flagged))
 
--- a conversion whose place is not refused has one
-some_place : (c : Conversion) (place : Option Place) → place_refusal c place ≡ None → (found : Place) × (place ≡ Some found)
-unfolding place_refusal
-some_place c None passed = cc
-some_place c (Some place) passed = (place, refl)
+-- an admission that is not refused is there
+pub some_admission : (s : State) (c : Conversion) (admission : Option ConversionAdmission) → admission_refusal s c admission ≡ None
+    → (a : ConversionAdmission) × (admission ≡ Some a)
+some_admission s c None passed = cc
+some_admission s c (Some a) passed = (a, refl)
 
--- the place of an accepted conversion is not refused
-pub place_passes : (s : State) (c : Conversion) → convert_refusal s c ≡ None
-    → place_refusal c (granted_place c.pid (conversion_lkid s c) s.resources) ≡ None
+-- the admission of an accepted conversion is not refused
+pub admission_passes : (s : State) (c : Conversion) → convert_refusal s c ≡ None
+    → admission_refusal s c (convert_admission s c) ≡ None
 unfolding convert_refusal
-place_passes s c passed =
-    sixth_passes (caller_refusal s c.pid) (convert_argument_refusal c) (block_refusal s c.pid c.block) (which_refusal s c.pid c.lock)
-    (lock_refusal s c.pid (conversion_lkid s c))
-    (place_refusal c (granted_place c.pid (conversion_lkid s c) s.resources))
-    (or_else (request_numbers_refusal s) (queue_refusal c.flags (convert_at_once s c))) passed
+admission_passes s c passed =
+    last_passes (caller_refusal s c.pid) (convert_argument_refusal c) (status_block_refusal s c.pid c.block) (which_refusal s c.pid c.lock)
+    (lock_refusal s c.pid (convert_lkid s c)) (admission_refusal s c (convert_admission s c)) passed
 
--- an accepted conversion is of a granted lock
-pub found_place : (s : State) (c : Conversion) → convert_refusal s c ≡ None
-    → (place : Place) × (granted_place c.pid (conversion_lkid s c) s.resources ≡ Some place)
-found_place s c passed = some_place c (granted_place c.pid (conversion_lkid s c) s.resources) (place_passes s c passed)
+-- QUECVT goes with an accepted conversion, if it is asked for
+pub pair_passes : (s : State) (c : Conversion) (a : ConversionAdmission) → convert_refusal s c ≡ None → convert_admission s c ≡ Some a
+    → pair_refusal c a.row ≡ None
+pair_passes s c a passed admitted =
+    (both_pass (pair_refusal c a.row) (or_else (request_numbers_refusal s) (queue_refusal c.flags a.at_once))
+    (subst (λ (found : Option ConversionAdmission). admission_refusal s c found ≡ None) admitted (admission_passes s c passed))).0
+
+-- where one of two tests passes, and the negated first does not, the second does
+pub second_passes : (a b : Bool) → (not a || b) ≡ true → a ≡ true → b ≡ true
+second_passes true b one first = one
+second_passes false b one first = cc

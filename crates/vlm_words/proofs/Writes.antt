@@ -1,32 +1,44 @@
 -- An accepted conversion that may write the value block is granted at once.
-use Rattle.std.proofs.Common.{◌≡◌, ◌||◌, ℕ, Bool, true, false, not, List, [], ◌∷◌, ◌++◌, Option, None, Some, refl, subst, ap}
-use Rattle.std.specs.Prelude.{⊤, ◌==◌, ◌&&◌}
-use Rattle.std.specs.List.{AllByRecursion, find, list_all}
-use Rattle.std.proofs.lemmas.Bool.{and_parts}
+use Rattle.std.proofs.Common.{◌≡◌, ◌≤◌, ◌||◌, ◌⊎◌, ℕ, Bool, true, false, not, List, [], ◌∷◌, ◌++◌, cond, Option, None, Some, inl, inr, refl, sym, subst, ap, ◌∙◌, arith}
+use Rattle.std.specs.Prelude.{⊤, ◌==◌, ◌&&◌, Any}
+use Rattle.std.specs.List.{AllByRecursion, find, list_all, sum_by}
+use Rattle.std.proofs.lemmas.Bool.{and_parts, eqb-true, eq-eqb}
+use Rattle.std.proofs.lemmas.List.Sums.{sum_by-cons}
 use Rattle.vlm_words.specs.declared.conditions.Cond.TheVariants.{Badparam}
+use Rattle.vlm_words.specs.declared.conditions.Cond.{Cond}
 use Rattle.vlm_words.specs.declared.locks.Request.{Request}
 use Rattle.vlm_words.specs.declared.locks.Row.{Row}
-use Rattle.vlm_words.specs.declared.modes.Act.{Act}
 use Rattle.vlm_words.specs.declared.modes.Act.TheVariants.{Nothing, Return, Write}
-use Rattle.vlm_words.specs.declared.modes.Mode.{Mode}
+use Rattle.vlm_words.specs.declared.modes.Act.{Act}
 use Rattle.vlm_words.specs.declared.modes.Mode.TheVariants.{Nl, Cr, Cw, Pr, Pw, Ex}
+use Rattle.vlm_words.specs.declared.modes.Mode.{Mode}
+use Rattle.vlm_words.specs.declared.steps.Answer.TheVariants.{Lock}
 use Rattle.vlm_words.specs.declared.steps.Answer.{Answer}
 use Rattle.vlm_words.specs.declared.steps.Conversion.{Conversion}
+use Rattle.vlm_words.specs.declared.steps.Step.TheVariants.{Convert}
 use Rattle.vlm_words.specs.declared.steps.Step.{Step}
-use Rattle.vlm_words.specs.Endings.{Ending}
-use Rattle.vlm_words.specs.Flags.{has_flag, quecvt}
 use Rattle.vlm_words.specs.Modes.{is_compatible, is_queued_legally, value_action}
-use Rattle.vlm_words.specs.State.{State, Resource}
-use Rattle.vlm_words.specs.Grants.{is_beside, fits}
-use Rattle.vlm_words.specs.Convert.{Place, place_or, place_refusal, granted_place, is_queued_legally_from, conversion_lkid, converts_at_once, convert_at_once}
-use Rattle.vlm_words.specs.Dequeue.{is_lock_of, rows_without}
+use Rattle.vlm_words.specs.Flags.{has_flag, quecvt}
+use Rattle.vlm_words.specs.State.{Resource, State}
+use Rattle.vlm_words.specs.Endings.{Ending}
+use Rattle.vlm_words.specs.Grants.{fits, is_beside}
+use Rattle.vlm_words.specs.Sweeps.{sweep_endings}
+use Rattle.vlm_words.specs.Rows.{is_lock_of, rows_without}
+use Rattle.vlm_words.specs.Convert.{ConversionAdmission, admission_among, admission_or, conversion_endings, convert_admission, convert_change, convert_lkid, convert_refusal, convert_request, converts_at_once, is_queued_legally_from, pair_refusal}
+use Rattle.vlm_words.specs.Stepped.{Stepped, conversion_change, refused_or, step_change, stepped, stepped_after_sweep}
 use Rattle.vlm_words.specs.Runs.{Run}
-use Rattle.vlm_words.specs.Laws.{AreCompatible, WritesAreGrantedAtOnce, action_from}
-use Rattle.vlm_words.proofs.Each.{found_at, each_passes, each_weaker}
+use Rattle.vlm_words.specs.Laws.{AreCompatible, IsGrantedAtOnce, WritesAreGrantedAtOnce, action_from}
+use Rattle.vlm_words.specs.Lines.{behind}
+use Rattle.vlm_words.proofs.Each.{Any-cases, Any-here, Any-none, Any-weaker, found_at, each_passes, each_weaker}
 use Rattle.vlm_words.proofs.Pairs.{each_pair_found}
-use Rattle.vlm_words.proofs.Passed.{place_passes, test_fails}
-use Rattle.vlm_words.proofs.QueueOrder.{second_passes}
+use Rattle.vlm_words.proofs.Passed.{pair_passes, second_passes, test_fails}
+use Rattle.vlm_words.proofs.Always.{admission_of}
+use Rattle.vlm_words.proofs.Admissions.{admitted_request, some_same}
 use Rattle.vlm_words.proofs.HeldModes.{HoldCompatible, HoldersAgree, hold_compatible-comm, holders_agree_always}
+use Rattle.vlm_words.proofs.Weights.{weigh}
+use Rattle.vlm_words.proofs.Apart.{Apart, apart_always, stands, standing}
+use Rattle.vlm_words.proofs.Counts.{found_stands}
+use Rattle.vlm_words.proofs.AtOnce.{admitted_at_once, admitted_stands, stands_counted}
 
 -- the six modes
 abbrev modes : List Mode
@@ -106,19 +118,95 @@ fits_beside mode [] converting each = all_pass converting each
     all_pass (row ∷ rows) each = rw each.0 (all_pass rows each.1)
 fits_beside mode (row ∷ granted) converting each = rw each.0 (fits_beside mode granted converting each.1)
 
--- what is known of a place that was found
-abbrev Known : ℕ → ℕ → Option Place → Type 0
-Known pid lkid None = ⊤
-Known pid lkid (Some place) = HoldersAgree place.resource × (find (is_lock_of pid lkid) place.resource.granted ≡ Some place.row)
-
--- where a lock is found granted, the held modes are compatible, and it is among the granted rows
-place_known : (pid lkid : ℕ) (resources : List Resource) → AllByRecursion HoldersAgree resources → Known pid lkid (granted_place pid lkid resources)
-place_known pid lkid [] agree = tt
-place_known pid lkid (r ∷ rest) agree =
-    here (find (is_lock_of pid lkid) r.granted) refl (granted_place pid lkid rest) (place_known pid lkid rest agree.1)
+-- where a lock has one row, what holds of some row of it holds of the row that converts
+only_row : (P : Row → Type 0) (pid lkid : ℕ) (rows : List Row) (row : Row) → sum_by (stands lkid) rows ≤ 1
+    → find (is_lock_of pid lkid) rows ≡ Some row → Any (λ x. (x.lkid ≡ lkid) × P x) rows → P row
+only_row P pid lkid [] row one found some = cc
+only_row P pid lkid (x ∷ xs) row one found some =
+    of_test (is_lock_of pid lkid x) refl found (Any-cases (λ y. (y.lkid ≡ lkid) × P y) x xs some)
+    (λ later there. only_row P pid lkid xs row (omega (arith, one, sum_by-cons (stands lkid) x xs)) later there)
   where
-    here : (found : Option Row) → find (is_lock_of pid lkid) r.granted ≡ found → (later : Option Place) → Known pid lkid later
-        → Known pid lkid (place_or r found later)
+    counted : (y : Row) → y.lkid ≡ lkid → stands lkid y ≡ 1
+    counted y named = ap (λ (b : Bool). cond b 1 0) (eq-eqb y.lkid lkid named)
+
+    others : Any (λ y. (y.lkid ≡ lkid) × P y) xs → 1 ≤ sum_by (stands lkid) xs
+    others there = stands_counted lkid xs (Any-weaker (λ y. (y.lkid ≡ lkid) × P y) (λ y. y.lkid ≡ lkid) (λ y both. both.0) xs there)
+
+    of_test : (b : Bool) → is_lock_of pid lkid x ≡ b → cond b (Some x) (find (is_lock_of pid lkid) xs) ≡ Some row
+        → ((x.lkid ≡ lkid) × P x) ⊎ Any (λ y. (y.lkid ≡ lkid) × P y) xs
+        → (find (is_lock_of pid lkid) xs ≡ Some row → Any (λ y. (y.lkid ≡ lkid) × P y) xs → P row) → P row
+    of_test true is at (inl here) behind = (let same : x ≡ row = cc in subst P same here.1)
+    of_test true is at (inr there) behind =
+        let named : x.lkid ≡ lkid = eqb-true x.lkid lkid (and_parts (x.lkid == lkid) (x.pid == pid) is).0 in
+        absurd (omega (arith, one, counted x named, others there, sum_by-cons (stands lkid) x xs))
+    of_test false is at (inl here) behind =
+        absurd (omega (arith, one, counted x here.0, found_stands pid lkid xs row (found_at (is_lock_of pid lkid) xs row at), sum_by-cons (stands lkid) x xs))
+    of_test false is at (inr there) behind = behind at there
+
+-- a lock that stands granted on some resource is counted
+all_counted : (P : Row → Type 0) (lkid : ℕ) (resources : List Resource) → Any (λ r. Any (λ x. (x.lkid ≡ lkid) × P x) r.granted) resources
+    → 1 ≤ standing lkid resources
+all_counted P lkid [] some = absurd (Any-none (λ (r : Resource). Any (λ x. (x.lkid ≡ lkid) × P x) r.granted) some)
+all_counted P lkid (r ∷ rest) some =
+    elim (Any-cases (λ (t : Resource). Any (λ x. (x.lkid ≡ lkid) × P x) t.granted) r rest some) [
+      | inl here ↦ omega (
+        arith,
+        stands_counted lkid r.granted (Any-weaker (λ (x : Row). (x.lkid ≡ lkid) × P x) (λ x. x.lkid ≡ lkid) (λ x both. both.0) r.granted here),
+        sum_by-cons (weigh (stands lkid)) r rest,
+      )
+      | inr there ↦ omega (arith, all_counted P lkid rest there, sum_by-cons (weigh (stands lkid)) r rest)
+    ]
+
+-- the same on all resources
+only_row_among : (P : Row → Type 0) (request : Request) (pid lkid : ℕ) (a : ConversionAdmission) (resources : List Resource)
+    → standing lkid resources ≤ 1 → admission_among request pid lkid resources ≡ Some a
+    → Any (λ r. Any (λ x. (x.lkid ≡ lkid) × P x) r.granted) resources → P a.row
+only_row_among P request pid lkid a [] one admitted some = cc
+only_row_among P request pid lkid a (r ∷ rest) one admitted some =
+    of_found (find (is_lock_of pid lkid) r.granted) refl admitted
+    (Any-cases (λ (t : Resource). Any (λ x. (x.lkid ≡ lkid) × P x) t.granted) r rest some)
+    (λ later there. only_row_among P request pid lkid a rest (omega (arith, one, sum_by-cons (weigh (stands lkid)) r rest)) later there)
+  where
+    here_counted : Any (λ x. (x.lkid ≡ lkid) × P x) r.granted → 1 ≤ weigh (stands lkid) r
+    here_counted here =
+        omega (
+          arith,
+          stands_counted lkid r.granted (Any-weaker (λ x. (x.lkid ≡ lkid) × P x) (λ x. x.lkid ≡ lkid) (λ x both. both.0) r.granted here),
+        )
+
+    of_found : (found : Option Row) → find (is_lock_of pid lkid) r.granted ≡ found
+        → admission_or request r found (admission_among request pid lkid rest) ≡ Some a
+        → Any (λ x. (x.lkid ≡ lkid) × P x) r.granted ⊎ Any (λ t. Any (λ x. (x.lkid ≡ lkid) × P x) t.granted) rest
+        → (admission_among request pid lkid rest ≡ Some a → Any (λ t. Any (λ x. (x.lkid ≡ lkid) × P x) t.granted) rest → P a.row) → P a.row
+    of_found None is at (inl here) behind =
+        absurd (omega (arith, one, here_counted here, (admitted_stands request pid lkid a rest at).0, sum_by-cons (weigh (stands lkid)) r rest))
+    of_found None is at (inr there) behind = behind at there
+    of_found (Some row) is at (inl here) behind =
+        let fewer : sum_by (stands lkid) r.granted ≤ 1 = omega (arith, one, sum_by-cons (weigh (stands lkid)) r rest) in
+        subst (λ (b : ConversionAdmission). P b.row) (some_same _ a at) (only_row P pid lkid r.granted row fewer is here)
+    of_found (Some row) is at (inr there) behind =
+        absurd (omega (
+          arith,
+          one,
+          found_stands pid lkid r.granted row (found_at (is_lock_of pid lkid) r.granted row is),
+          all_counted P lkid rest there,
+          sum_by-cons (weigh (stands lkid)) r rest,
+        ))
+
+-- what is known of an admitted conversion: the held modes of its resource are compatible, and its lock is granted there
+abbrev Known : ℕ → ℕ → Option ConversionAdmission → Type 0
+Known pid lkid None = ⊤
+Known pid lkid (Some a) = HoldersAgree a.resource × (find (is_lock_of pid lkid) a.resource.granted ≡ Some a.row)
+
+-- it is so of every admission
+admission_known : (request : Request) (pid lkid : ℕ) (resources : List Resource) → AllByRecursion HoldersAgree resources
+    → Known pid lkid (admission_among request pid lkid resources)
+admission_known request pid lkid [] agree = tt
+admission_known request pid lkid (r ∷ rest) agree =
+    here (find (is_lock_of pid lkid) r.granted) refl (admission_among request pid lkid rest) (admission_known request pid lkid rest agree.1)
+  where
+    here : (found : Option Row) → find (is_lock_of pid lkid) r.granted ≡ found → (later : Option ConversionAdmission) → Known pid lkid later
+        → Known pid lkid (admission_or request r found later)
     here None is later known = known
     here (Some row) is later known = (agree.0, is)
 
@@ -129,30 +217,76 @@ first_fails true true both second = cc
 first_fails true false both second = cc
 
 -- where the held modes of a resource are compatible, a conversion that writes fits there at once
-fits_at_write : (c : Conversion) (pid lkid : ℕ) (place : Place) → Known pid lkid (Some place) → action_from place.row.held c.mode ≡ Write
-    → fits c.mode (rows_without lkid place.resource.granted) place.resource.converting ≡ true
-fits_at_write c pid lkid place known writes =
-    let found = found_at (is_lock_of pid lkid) place.resource.granted place.row known.1 in
-    fits_beside c.mode (rows_without lkid place.resource.granted) place.resource.converting
-    (each_weaker (HoldCompatible place.row) (λ other. is_beside c.mode other.held ≡ true)
-    (λ other compatible. beside_writer place.row.held c.mode other.held writes compatible)
-    (rows_without lkid place.resource.granted ++ place.resource.converting)
-    (each_pair_found HoldCompatible hold_compatible-comm (is_lock_of pid lkid) (λ other. not (other.lkid == lkid)) place.resource.granted
-    place.resource.converting place.row (ap not (and_parts _ _ found.passes).0) found known.0))
+fits_at_write : (c : Conversion) (pid lkid : ℕ) (a : ConversionAdmission) → Known pid lkid (Some a) → action_from a.row.held c.mode ≡ Write
+    → fits c.mode (rows_without lkid a.resource.granted) a.resource.converting ≡ true
+fits_at_write c pid lkid a known writes =
+    let found = found_at (is_lock_of pid lkid) a.resource.granted a.row known.1 in
+    fits_beside c.mode (rows_without lkid a.resource.granted) a.resource.converting
+    (each_weaker (HoldCompatible a.row) (λ other. is_beside c.mode other.held ≡ true)
+    (λ other compatible. beside_writer a.row.held c.mode other.held writes compatible)
+    (rows_without lkid a.resource.granted ++ a.resource.converting)
+    (each_pair_found HoldCompatible hold_compatible-comm (is_lock_of pid lkid) (λ other. not (other.lkid == lkid)) a.resource.granted
+    a.resource.converting a.row (ap not (and_parts _ _ found.passes).0) found known.0))
 
--- where held modes are compatible, accepted conversions that write are granted at once
-writes_at_once : (s : State) → AllByRecursion HoldersAgree s.resources → WritesAreGrantedAtOnce s
-unfolding convert_at_once converts_at_once place_refusal
-writes_at_once s agree c place passed at writes =
-    let lkid : ℕ = conversion_lkid s c in
-    let known : Known c.pid lkid (Some place) = subst (Known c.pid lkid) at (place_known c.pid lkid s.resources agree) in
-    let legal = subst (λ found. place_refusal c found ≡ None) at (place_passes s c passed) in
+-- where held modes are compatible, an accepted conversion that writes is granted at once
+write_at_once : (s : State) (c : Conversion) (a : ConversionAdmission) → AllByRecursion HoldersAgree s.resources → convert_refusal s c ≡ None
+    → convert_admission s c ≡ Some a → action_from a.row.held c.mode ≡ Write → a.at_once ≡ true
+unfolding convert_admission converts_at_once pair_refusal
+write_at_once s c a agree passed admitted writes =
+    let lkid : ℕ = convert_lkid s c in
+    let known : Known c.pid lkid (Some a) =
+    subst (Known c.pid lkid) admitted (admission_known (convert_request s c) c.pid lkid s.resources agree) in
     let unflagged : has_flag c.flags quecvt ≡ false =
-    first_fails (has_flag c.flags quecvt) (is_queued_legally_from place.row.held c.mode) (test_fails _ Badparam legal)
-    (write_is_not_queued place.row.held c.mode writes) in
-    rw at (rw (fits_at_write c c.pid lkid place known writes) (rw unflagged refl))
+    first_fails (has_flag c.flags quecvt) (is_queued_legally_from a.row.held c.mode)
+    (test_fails _ Badparam (pair_passes s c a passed admitted)) (write_is_not_queued a.row.held c.mode writes) in
+    let named : a.row.lkid ≡ lkid = (admitted_stands (convert_request s c) c.pid lkid a s.resources admitted).1 in
+    admitted_at_once (convert_request s c) c.pid lkid a s.resources admitted
+    ∙ (rw named (rw (fits_at_write c c.pid lkid a known writes) (rw unflagged refl)))
+
+-- a refused step answers no lock
+refused_answers_no_lock : (refusal : Option Cond) (s : State) (change : Stepped) (cond : Cond) (lkid : ℕ)
+    → (refused_or refusal s change).answer ≡ Lock cond lkid → refusal ≡ None
+refused_answers_no_lock None s change cond lkid answer = refl
+refused_answers_no_lock (Some refusal) s change cond lkid answer = cc
+
+-- the endings of a conversion that is granted at once begin with its grant
+at_once_first : (number : ℕ) (a : ConversionAdmission) (more : List Ending) → a.request.number ≡ number → a.at_once ≡ true
+    → IsGrantedAtOnce number (conversion_endings a ++ more)
+at_once_first number a more numbered at_once =
+    rw at_once (Any-here _ _ more (tt, refl, numbered))
+
+-- what an accepted conversion answers and ends
+made_conversion : (s : State) (c : Conversion) (a : ConversionAdmission) → convert_refusal s c ≡ None → convert_admission s c ≡ Some a
+    → stepped s (Convert c) ≡ stepped_after_sweep (conversion_change s c (Some a))
+made_conversion s c a passed admitted =
+    ap (λ (refusal : Option Cond). refused_or refusal s (step_change s (Convert c))) passed
+    ∙ ap (λ (there : Option ConversionAdmission). stepped_after_sweep (conversion_change s c there)) admitted
+
+-- one answer names one lock
+lock_same : (first second : Cond) (m n : ℕ) → Lock first m ≡ Lock second n → m ≡ n
+lock_same first second m n same = cc
+
+-- where held modes are compatible and identifications apart, accepted conversions that write are granted at once
+writes_at_once : (s : State) → AllByRecursion HoldersAgree s.resources → Apart s → WritesAreGrantedAtOnce s
+unfolding convert_admission
+writes_at_once s agree apart c cond lkid answer some =
+    let passed : convert_refusal s c ≡ None = refused_answers_no_lock (convert_refusal s c) s (step_change s (Convert c)) cond lkid answer in
+    let admitted = admission_of s c passed in
+    let a : ConversionAdmission = admitted.0 in
+    let made : stepped s (Convert c) ≡ stepped_after_sweep (conversion_change s c (Some a)) = made_conversion s c a passed admitted.1 in
+    let named : convert_lkid s c ≡ lkid =
+    lock_same _ cond (convert_lkid s c) lkid (sym (ap (λ (t : Stepped). t.answer) made) ∙ answer) in
+    let writes : action_from a.row.held c.mode ≡ Write =
+    only_row_among (λ row. action_from row.held c.mode ≡ Write) (convert_request s c) c.pid (convert_lkid s c) a s.resources
+    (apart.one_row (convert_lkid s c)) admitted.1
+    (subst (λ (n : ℕ). Any (λ r. Any (λ row. (row.lkid ≡ n) × (action_from row.held c.mode ≡ Write)) r.granted) s.resources) (sym named) some) in
+    subst (λ (t : Stepped). IsGrantedAtOnce s.next_request t.endings) (sym made)
+    (at_once_first s.next_request a (sweep_endings (convert_change s c a).resources)
+    (ap (λ (q : Request). q.number) (admitted_request (convert_request s c) c.pid (convert_lkid s c) a s.resources admitted.1))
+    (write_at_once s c a agree passed admitted.1 writes))
 
 -- after every run
 pub writes_at_once_always : (steps : List Step) (answers : List Answer) (endings : List Ending) (old : State)
     → Run steps answers endings old → WritesAreGrantedAtOnce old
-writes_at_once_always steps answers endings old run = writes_at_once old (holders_agree_always steps answers endings old run)
+writes_at_once_always steps answers endings old run =
+    writes_at_once old (holders_agree_always steps answers endings old run) (apart_always steps answers endings old run)

@@ -1,13 +1,15 @@
 -- The checks that several steps make, each a refusal or none.
-use Rattle.std.specs.Prelude.{ℕ, Bool, not, ◌&&◌, ◌^◌, Option, None, Some, is_some, nat_lt, nat_le, List, length, if◌then◌else◌}
+use Rattle.std.specs.Prelude.{ℕ, Bool, not, ◌&&◌, ◌||◌, ◌^◌, Option, None, Some, is_some, nat_lt, nat_le, List, length, if◌then◌else◌}
+use Rattle.std.specs.List.{list_any}
+use Rattle.vlm_words.specs.declared.conditions.Cond.TheVariants.{Normal, Synch, Departed, Nonexpr, Accvio, Ivlockid, Nolockid, Notqueued}
 use Rattle.vlm_words.specs.declared.conditions.Cond.{Cond}
-use Rattle.vlm_words.specs.declared.conditions.Cond.TheVariants.{Normal, Synch, Departed, Nonexpr, Accvio, Nolockid, Notqueued}
-use Rattle.vlm_words.specs.declared.steps.Which.{Which}
 use Rattle.vlm_words.specs.declared.steps.Which.TheVariants.{Id, Block}
-use Rattle.vlm_words.specs.Blocks.{block_of, blocks_of}
+use Rattle.vlm_words.specs.declared.steps.Which.{Which}
 use Rattle.vlm_words.specs.Flags.{has_flag, noqueue, syncsts}
-use Rattle.vlm_words.specs.State.{State, Node, node_at, process_of}
+use Rattle.vlm_words.specs.State.{Node, Resource, State, node_at, process_of}
+use Rattle.vlm_words.specs.StatusBlocks.{status_block_of, status_blocks_of}
 use Rattle.vlm_words.specs.Steps.{node_of_pid}
+use Rattle.vlm_words.specs.Rows.{is_lock_of}
 
 -- the first check that refuses decides
 abbrev pub or_else : Option Cond → Option Cond → Option Cond
@@ -25,19 +27,29 @@ caller_refusal s pid =
     else (if is_some (process_of s.processes pid) then None else Some Nonexpr)
 
 -- the process has no status block of this number
-unfoldable pub block_refusal : State → ℕ → ℕ → Option Cond
-block_refusal s pid block =
-    if nat_lt 0 block && nat_le block (length (blocks_of s.processes pid)) then None else Some Accvio
+unfoldable pub status_block_refusal : State → ℕ → ℕ → Option Cond
+status_block_refusal s pid block =
+    if nat_lt 0 block && nat_le block (length (status_blocks_of s.processes pid)) then None else Some Accvio
 
 -- the lock is named by a status block that the process does not have
 unfoldable pub which_refusal : State → ℕ → Which → Option Cond
 which_refusal s pid (Id lkid) = None
-which_refusal s pid (Block number) = block_refusal s pid number
+which_refusal s pid (Block number) = status_block_refusal s pid number
 
 -- the identification that is named: its own, or what stands in the status block
 abbrev pub named_lkid : State → ℕ → Which → ℕ
 named_lkid s pid (Id lkid) = lkid
-named_lkid s pid (Block number) = (block_of s.processes pid number).lkid
+named_lkid s pid (Block number) = (status_block_of s.processes pid number).lkid
+
+-- the lock stands in some queue of the resource
+abbrev pub holds_lock : ℕ → ℕ → Resource → Bool
+holds_lock pid lkid r =
+    list_any (is_lock_of pid lkid) r.granted || list_any (is_lock_of pid lkid) r.converting
+    || list_any (is_lock_of pid lkid) r.waiting
+
+-- the identification is not that of a lock of the caller
+unfoldable pub lock_refusal : State → ℕ → ℕ → Option Cond
+lock_refusal s pid lkid = if list_any (holds_lock pid lkid) s.resources then None else Some Ivlockid
 
 -- the identifications or the request numbers are used up
 unfoldable pub numbers_refusal : State → Option Cond

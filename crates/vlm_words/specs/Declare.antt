@@ -1,10 +1,10 @@
 -- The step that declares a process.
 use Rattle.std.specs.Prelude.{ℕ, Bool, ◌&&◌, ◌+◌, ◌-◌, ◌*◌, not, nat_lt, nat_le, Option, None, Some, List, [], ◌∷◌, ◌++◌, slice_set, replicate, if◌then◌else◌}
-use Rattle.vlm_words.specs.declared.conditions.Cond.{Cond}
 use Rattle.vlm_words.specs.declared.conditions.Cond.TheVariants.{Badparam, Departed}
+use Rattle.vlm_words.specs.declared.conditions.Cond.{Cond}
 use Rattle.vlm_words.specs.declared.steps.Declaration.{Declaration}
-use Rattle.vlm_words.specs.State.{State, Node, Process, node_at}
-use Rattle.vlm_words.specs.Blocks.{new_block}
+use Rattle.vlm_words.specs.State.{Node, Process, State, node_at}
+use Rattle.vlm_words.specs.StatusBlocks.{new_status_block}
 use Rattle.vlm_words.specs.Checks.{has_departed}
 
 -- the number is that of a node, 1 to 8
@@ -25,23 +25,27 @@ abbrev pub next_pid : State → ℕ → ℕ
 next_pid s node = node * 65536 + ((node_at s.nodes node).declared + 1)
 
 -- a process at its making, with new status blocks
-abbrev pub process_made : ℕ → Declaration → Process
-process_made pid d = record {
+abbrev pub new_process : ℕ → Declaration → Process
+new_process pid d = record {
   pid = pid;
   group = d.group;
   syslck = d.syslck;
   quota = d.quota;
-  blocks = replicate d.blocks new_block;
+  blocks = replicate d.blocks new_status_block;
 }
 
 -- the new process
 abbrev pub declared_process : State → Declaration → Process
-declared_process s d = process_made (next_pid s d.node) d
+declared_process s d = new_process (next_pid s d.node) d
 
 -- the node has declared one more
-abbrev pub counted : List Node → ℕ → List Node
-counted nodes node = slice_set nodes (node - 1) (record (node_at nodes node) { declared = (node_at nodes node).declared + 1 })
+abbrev pub nodes_after_declaration : List Node → ℕ → List Node
+nodes_after_declaration nodes node =
+    slice_set nodes (node - 1) (record (node_at nodes node) { declared = (node_at nodes node).declared + 1 })
 
 -- the process lives, and its node has declared one more
 unfoldable pub declare_change : State → Declaration → State
-declare_change s d = record s { nodes = counted s.nodes d.node; processes = s.processes ++ declared_process s d ∷ [] }
+declare_change s d = record s {
+  nodes = nodes_after_declaration s.nodes d.node;
+  processes = s.processes ++ declared_process s d ∷ [];
+}

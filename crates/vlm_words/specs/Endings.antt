@@ -1,8 +1,9 @@
 -- How accepted requests end.
-use Rattle.std.specs.Prelude.{ℕ, List, [], ◌∷◌, Option, None, Some}
-use Rattle.vlm_words.specs.declared.conditions.Cond.{Cond}
+use Rattle.std.specs.Prelude.{ℕ, Bool, List, [], ◌∷◌, Option, None, Some}
 use Rattle.vlm_words.specs.declared.conditions.Cond.TheVariants.{Normal, Abort, Cancel}
+use Rattle.vlm_words.specs.declared.conditions.Cond.{Cond}
 use Rattle.vlm_words.specs.declared.locks.Request.{Request}
+use Rattle.vlm_words.specs.declared.locks.Row.{Row}
 use Rattle.vlm_words.specs.declared.modes.Act.{Act}
 
 -- a request is granted, which may return or write the value block, or ends with its lock, or is cancelled
@@ -11,17 +12,24 @@ pub data How : Type 0 where
   by_abort : How
   by_cancel : How
 
--- the end of the request with this number, of this process, which named this status block
+-- the end of a request of a lock: the lock and its process, the request, how it ends, and whether that is
+-- at once, in the step that asks for it
 pub record Ending : Type 0 where
-  pub number : ℕ
-  pub how : How
+  pub lkid : ℕ
   pub pid : ℕ
-  pub block : ℕ
+  pub request : Request
+  pub how : How
+  pub at_once : Bool
 
--- a request that a process wanted ends; where none was, nothing does
-abbrev pub ended : How → ℕ → Option Request → List Ending
-ended how pid None = []
-ended how pid (Some request) = record { number = request.number; how = how; pid = pid; block = request.block } ∷ []
+-- the end of what a lock wants; where it wants nothing, nothing ends
+abbrev pub wanted_endings : How → Bool → ℕ → ℕ → Option Request → List Ending
+wanted_endings how at_once lkid pid None = []
+wanted_endings how at_once lkid pid (Some request) =
+    record { lkid = lkid; pid = pid; request = request; how = how; at_once = at_once } ∷ []
+
+-- the end of what the lock of a row wants
+abbrev pub row_endings : How → Bool → Row → List Ending
+row_endings how at_once row = wanted_endings how at_once row.lkid row.pid row.want
 
 -- the status that an end leaves where it returns no value block: NORMAL, ABORT, or CANCEL
 abbrev pub ending_status : How → Cond

@@ -1,5 +1,5 @@
 -- The flag bits of requests and dequeues that are built.
-use Rattle.std.specs.Prelude.{ℕ, Bool, ◌==◌}
+use Rattle.std.specs.Prelude.{ℕ, Bool, ◌==◌, ◌+◌}
 use Rattle.std.specs.Int.RustNames.{bit_and}
 use Rattle.vlm_words.specs.declared.flags.DeqFlags.{DeqFlags}
 use Rattle.vlm_words.specs.declared.flags.EnqFlags.{EnqFlags}
@@ -26,7 +26,7 @@ quecvt = 32
 
 -- the bits of new requests and conversions that are built
 abbrev pub enq_bits : ℕ
-enq_bits = 55
+enq_bits = valblk + noqueue + syncsts + expedite + quecvt
 
 -- a request is cancelled
 abbrev pub cancel : ℕ
@@ -38,7 +38,7 @@ invvalblk = 4
 
 -- the bits of dequeues that are built
 abbrev pub deq_bits : ℕ
-deq_bits = 6
+deq_bits = cancel + invvalblk
 
 -- the flag is among the bits
 unfoldable pub has_flag : ℕ → ℕ → Bool

@@ -1,25 +1,31 @@
--- What holds after every legal run.
-use Rattle.std.specs.Prelude.{◌≡◌, ◌<◌, ◌+◌, ◌==◌, ◌⊎◌, ◌++◌, ℕ, Bool, List, [], ◌∷◌, true, false, All, AllPairs, count_by, sum_by, take, drop, map, flat_map, Option, None, Some, IsSome, ⊤}
+-- What holds after every legal run. The laws say it in words of their own: none rests on how the machine
+-- serves, grants or sweeps.
+use Rattle.std.specs.Prelude.{◌≡◌, ◌≢◌, ◌<◌, ◌≤◌, ◌+◌, ◌==◌, ◌⊎◌, ◌++◌, ℕ, Bool, List, [], ◌∷◌, true, false, All, AllPairs, Any, count_by, sum_by, take, drop, Option, None, Some, IsSome, ⊤}
+use Rattle.std.specs.List.{AllZip}
+use Rattle.vlm_words.specs.declared.conditions.Cond.{Cond}
 use Rattle.vlm_words.specs.declared.locks.Request.{Request}
 use Rattle.vlm_words.specs.declared.locks.Row.{Row}
-use Rattle.vlm_words.specs.declared.modes.Act.{Act}
 use Rattle.vlm_words.specs.declared.modes.Act.TheVariants.{Nothing, Write}
-use Rattle.vlm_words.specs.declared.modes.Mode.{Mode}
+use Rattle.vlm_words.specs.declared.modes.Act.{Act}
 use Rattle.vlm_words.specs.declared.modes.Mode.TheVariants.{Nl}
+use Rattle.vlm_words.specs.declared.modes.Mode.{Mode}
+use Rattle.vlm_words.specs.declared.resources.Domain.TheVariants.{Group}
+use Rattle.vlm_words.specs.declared.steps.Answer.TheVariants.{Lock}
 use Rattle.vlm_words.specs.declared.steps.Conversion.{Conversion}
 use Rattle.vlm_words.specs.declared.steps.NewRequest.{NewRequest}
+use Rattle.vlm_words.specs.declared.steps.Step.TheVariants.{Enq, Convert}
 use Rattle.vlm_words.specs.declared.steps.Step.{Step}
-use Rattle.vlm_words.specs.declared.steps.Step.TheVariants.{Declare, SetValue, Enq, Convert, Deq, Rundown, Leave, Search, Take}
-use Rattle.vlm_words.specs.Endings.{Ending}
-use Rattle.vlm_words.specs.Flags.{has_flag, expedite, quecvt}
 use Rattle.vlm_words.specs.Modes.{is_compatible, value_action}
-use Rattle.vlm_words.specs.State.{State, Resource}
-use Rattle.vlm_words.specs.Grants.{wanted_fits, fits, granted_row, grant_ending, served, grants_of}
-use Rattle.vlm_words.specs.Declare.{declare_change}
-use Rattle.vlm_words.specs.Enqueue.{enq_refusal, enq_change, enq_at_once, is_free_for, request_of, found_by}
-use Rattle.vlm_words.specs.Convert.{Place, granted_place, convert_refusal, convert_change, convert_at_once, conversion_lkid}
-use Rattle.vlm_words.specs.Dequeue.{deq_change, rows_without}
-use Rattle.vlm_words.specs.SetValue.{set_change}
+use Rattle.vlm_words.specs.Flags.{expedite, has_flag, quecvt}
+use Rattle.vlm_words.specs.State.{Process, Resource, State, process_of}
+use Rattle.vlm_words.specs.Endings.{Ending, How}
+use Rattle.vlm_words.specs.Endings.How.{by_abort, by_cancel, by_grant}
+use Rattle.vlm_words.specs.Stepped.{step_change, stepped}
+
+-- the mode may be held beside what is held, if anything is
+abbrev pub IsBeside : Mode → Option Request → Type 0
+IsBeside mode None = ⊤
+IsBeside mode (Some held) = is_compatible mode held.mode ≡ true
 
 -- the two rows hold compatible modes, where both hold one
 abbrev pub AreCompatible : Option Request → Option Request → Type 0
@@ -29,13 +35,20 @@ AreCompatible (Some a) (Some b) = is_compatible a.mode b.mode ≡ true
 
 -- in each resource the held modes of any two rows, granted or converting, are compatible
 abbrev pub HeldModesAreCompatible : State → Type 0
-HeldModesAreCompatible s = All (λ r. AllPairs (λ a b. AreCompatible a.held b.held) (r.granted ++ r.converting)) s.resources
+HeldModesAreCompatible s =
+    All (λ r. AllPairs (λ a b. AreCompatible a.held b.held) (r.granted ++ r.converting)) s.resources
 
--- the first conversion does not fit; where there is none, the first new request does not
+-- what is wanted may not be held beside some row of these
+abbrev pub Conflicts : Option Request → List Row → Type 0
+Conflicts None rows = ⊤
+Conflicts (Some want) rows = Any (λ row. IsBeside want.mode row.held → ⊥) rows
+
+-- the first conversion does not fit beside the other locks; where there is none, the first new request
+-- does not
 abbrev pub HeadsDoNotFit : List Row → List Row → List Row → Type 0
 HeadsDoNotFit granted [] [] = ⊤
-HeadsDoNotFit granted [] (row ∷ rows) = wanted_fits row.want granted [] ≡ false
-HeadsDoNotFit granted (row ∷ rows) waiting = wanted_fits row.want granted rows ≡ false
+HeadsDoNotFit granted [] (row ∷ rows) = Conflicts row.want granted
+HeadsDoNotFit granted (row ∷ rows) waiting = Conflicts row.want (granted ++ rows)
 
 -- in each resource nothing is left to grant
 abbrev pub NothingIsLeftToGrant : State → Type 0
@@ -49,7 +62,8 @@ wants_number number (Some request) = request.number == number
 -- how many rows of a resource want the request of this number
 abbrev pub wanting_on : ℕ → Resource → ℕ
 wanting_on number r =
-    count_by (λ row. wants_number number row.want) r.granted + count_by (λ row. wants_number number row.want) r.converting
+    count_by (λ row. wants_number number row.want) r.granted
+    + count_by (λ row. wants_number number row.want) r.converting
     + count_by (λ row. wants_number number row.want) r.waiting
 
 -- how many rows want the request of this number
@@ -58,62 +72,128 @@ wanting number s = sum_by (wanting_on number) s.resources
 
 -- how many endings the request of this number has
 abbrev pub times_ended : ℕ → List Ending → ℕ
-times_ended number endings = count_by (λ ending. ending.number == number) endings
+times_ended number endings = count_by (λ ending. ending.request.number == number) endings
 
--- each accepted request is wanted by exactly one row and has no ending, or by none and has exactly one ending
+-- each accepted request is wanted by exactly one row and has no ending, or by none and has exactly one
 abbrev pub EachRequestEndsOnce : List Ending → State → Type 0
 EachRequestEndsOnce endings last = (number : ℕ) → 0 < number → number < last.next_request
-    → ((wanting number last ≡ 1) × (times_ended number endings ≡ 0)) ⊎ ((wanting number last ≡ 0) × (times_ended number endings ≡ 1))
+    → ((wanting number last ≡ 1) × (times_ended number endings ≡ 0))
+    ⊎ ((wanting number last ≡ 0) × (times_ended number endings ≡ 1))
 
--- the endings of the requests that rows are granted, in their order
-abbrev pub granted_endings : List Row → List Ending
-granted_endings rows = flat_map grant_ending rows
+-- the row after a grant is that of the same lock, which holds what it wanted and wants nothing
+pub record IsGranted (before after : Row) : Type 0 where
+  pub lkid : after.lkid ≡ before.lkid
+  pub pid : after.pid ≡ before.pid
+  pub wanted : IsSome before.want
+  pub holds : after.held ≡ before.want
+  pub wants_nothing : after.want ≡ None
 
--- the heads of the queues are granted in order, new requests only once no conversion is left; the rows behind them stay
+-- the end is a grant
+abbrev pub IsGrant : How → Type 0
+IsGrant (by_grant act) = ⊤
+IsGrant by_abort = ⊥
+IsGrant by_cancel = ⊥
+
+-- the end is that of what the lock of the row wanted: a grant from a queue
+pub record IsGrantOf (row : Row) (ending : Ending) : Type 0 where
+  pub lkid : ending.lkid ≡ row.lkid
+  pub pid : ending.pid ≡ row.pid
+  pub request : Some ending.request ≡ row.want
+  pub how : IsGrant ending.how
+  pub queued : ending.at_once ≡ false
+
+-- the two are one resource
+pub record IsSameResource (before after : Resource) : Type 0 where
+  pub serial : after.serial ≡ before.serial
+  pub parent : after.parent ≡ before.parent
+  pub domain : after.domain ≡ before.domain
+  pub name : after.name ≡ before.name
+
+-- so many rows from the head of the conversion queue, and from that of the waiting queue
+abbrev pub first_rows : ℕ → ℕ → Resource → List Row
+first_rows conversions new_requests r = take conversions r.converting ++ take new_requests r.waiting
+
+-- the first conversions and the first new requests are granted, in their order, new requests only once no
+-- conversion is left; the rows behind them stay in their queues, and nothing else moves
 pub record GrantsFirst (before after : Resource) (endings : List Ending) : Type 0 where
   pub conversions : ℕ
   pub new_requests : ℕ
+  pub given : List Row
+  pub same : IsSameResource before after
   pub converting : after.converting ≡ drop conversions before.converting
   pub waiting : after.waiting ≡ drop new_requests before.waiting
-  pub granted :
-      after.granted
-      ≡ before.granted ++ map granted_row (take conversions before.converting) ++ map granted_row (take new_requests before.waiting)
-  pub ended_in_turn :
-      endings ≡ granted_endings (take conversions before.converting) ++ granted_endings (take new_requests before.waiting)
+  pub granted : after.granted ≡ before.granted ++ given
+  pub rows : AllZip IsGranted (first_rows conversions new_requests before) given
+  pub ends : AllZip IsGrantOf (first_rows conversions new_requests before) endings
   pub conversions_before : 0 < new_requests → after.converting ≡ []
 
--- the state after the step's own change and before its sweep
-abbrev pub changed : State → Step → State
-changed s (Declare d) = declare_change s d
-changed s (Enq e) = enq_change s e
-changed s (Convert c) = convert_change s c
-changed s (Deq d) = deq_change s d
-changed s (SetValue v) = set_change s v
-changed s (Rundown pid) = s
-changed s (Leave node) = s
-changed s (Search node) = s
-changed s (Take pid) = s
+-- no lock is left on the resource
+pub record IsVacant (r : Resource) : Type 0 where
+  pub granted : r.granted ≡ []
+  pub converting : r.converting ≡ []
+  pub waiting : r.waiting ≡ []
 
--- the new request overtakes nobody, or is expedited at NL
+-- resource by resource: grants from the heads of its queues, and then it stays, or goes if no lock is left
+pub data SweptInOrder : List Resource → List Resource → List Ending → Type 0 where
+  none : SweptInOrder [] [] []
+  stays : {before after : Resource} {rest left : List Resource} {endings more : List Ending}
+      → GrantsFirst before after endings → SweptInOrder rest left more
+      → SweptInOrder (before ∷ rest) (after ∷ left) (endings ++ more)
+  goes : {before after : Resource} {rest left : List Resource} {endings more : List Ending}
+      → GrantsFirst before after endings → IsVacant after → SweptInOrder rest left more
+      → SweptInOrder (before ∷ rest) left (endings ++ more)
+
+-- nobody is queued on the resource, and the mode may be held beside all that is
+pub record IsFreeFor (mode : Mode) (r : Resource) : Type 0 where
+  pub no_conversions : r.converting ≡ []
+  pub nobody_waits : r.waiting ≡ []
+  pub beside : All (λ row. IsBeside mode row.held) r.granted
+
+-- the resource is the root of this name in the group of the caller
+pub record IsAskedFor (s : State) (e : NewRequest) (r : Resource) : Type 0 where
+  pub caller : Process
+  pub lives : process_of s.processes e.pid ≡ Some caller
+  pub root : r.parent ≡ 0
+  pub domain : r.domain ≡ Group caller.group
+  pub name : r.name ≡ e.name
+
+-- the new request overtakes nobody and fits, or it is expedited at NL
 abbrev pub EntersInTurn : State → NewRequest → Type 0
-EntersInTurn s e = (is_free_for (request_of s e) (found_by s e) ≡ true) ⊎ ((has_flag e.flags expedite ≡ true) × (e.mode ≡ Nl))
+EntersInTurn s e =
+    All (λ r. IsAskedFor s e r → IsFreeFor e.mode r) s.resources
+    ⊎ ((has_flag e.flags expedite ≡ true) × (e.mode ≡ Nl))
 
--- the conversion fits beside all other locks of its resource, and with QUECVT overtakes no conversion
-pub record ConvertsInTurn (s : State) (c : Conversion) : Type 0 where
-  pub place : Place
-  pub found : granted_place c.pid (conversion_lkid s c) s.resources ≡ Some place
-  pub fitting : fits c.mode (rows_without (conversion_lkid s c) place.resource.granted) place.resource.converting ≡ true
-  pub overtakes_none : has_flag c.flags quecvt ≡ true → place.resource.converting ≡ []
+-- the lock stands in the queue
+abbrev pub Stands : ℕ → List Row → Type 0
+Stands lkid rows = Any (λ row. row.lkid ≡ lkid) rows
 
--- a step serves each queue from its head, and grants at once only what overtakes nobody that it may not
-pub record GrantsFollowQueueOrder (old : State) : Type 0 where
-  pub from_heads : (step : Step) → All (λ r. GrantsFirst r (served r) (grants_of r)) (changed old step).resources
-  pub new_requests : (e : NewRequest) → enq_refusal old e ≡ None → enq_at_once old e ≡ true → EntersInTurn old e
-  pub conversions : (c : Conversion) → convert_refusal old c ≡ None → convert_at_once old c ≡ true → ConvertsInTurn old c
+-- the conversion of the lock fits beside all other locks of its resource, and with QUECVT overtakes none
+pub record ConvertsInTurn (c : Conversion) (lkid : ℕ) (r : Resource) : Type 0 where
+  pub beside : All (λ row. row.lkid ≢ lkid → IsBeside c.mode row.held) (r.granted ++ r.converting)
+  pub overtakes_none : has_flag c.flags quecvt ≡ true → r.converting ≡ []
+
+-- a grant at once is that of the step's own request, which overtakes nobody that it may not
+abbrev pub IsGrantedInTurn : State → Step → Ending → Type 0
+IsGrantedInTurn s (Enq e) ending = (ending.request.number ≡ s.next_request) × EntersInTurn s e
+IsGrantedInTurn s (Convert c) ending =
+    (ending.request.number ≡ s.next_request)
+    × All (λ r. Stands ending.lkid r.granted → ConvertsInTurn c ending.lkid r) s.resources
+IsGrantedInTurn s step ending = ⊥
+
+-- what a step that is made grants: at once, only its own request in its turn; and then, in its sweep, the
+-- first requests of each queue in their order
+pub record GrantsFollowQueueOrder (old : State) (step : Step) : Type 0 where
+  pub swept_endings : List Ending
+  pub swept :
+      SweptInOrder (step_change old step).state.resources (stepped old step).state.resources swept_endings
+  pub ends : (stepped old step).endings ≡ (step_change old step).endings ++ swept_endings
+  pub at_once :
+      All (λ ending. IsGrant ending.how → (ending.at_once ≡ true) × IsGrantedInTurn old step ending)
+      (step_change old step).endings
 
 -- a granted lock holds a mode and wants nothing
-abbrev pub IsSettled : Row → Type 0
-IsSettled row = IsSome row.held × (row.want ≡ None)
+abbrev pub IsHeld : Row → Type 0
+IsHeld row = IsSome row.held × (row.want ≡ None)
 
 -- a converting lock holds a mode and wants one
 abbrev pub IsConverting : Row → Type 0
@@ -125,7 +205,7 @@ IsWaiting row = (row.held ≡ None) × IsSome row.want
 
 -- each lock of the resource stands in the queue that fits what it holds and wants
 pub record RowsFit (r : Resource) : Type 0 where
-  pub granted : All IsSettled r.granted
+  pub granted : All IsHeld r.granted
   pub converting : All IsConverting r.converting
   pub waiting : All IsWaiting r.waiting
 
@@ -138,8 +218,42 @@ abbrev pub action_from : Option Request → Mode → Act
 action_from None mode = Nothing
 action_from (Some held) mode = value_action held.mode mode
 
+-- the request of this number is granted at once
+abbrev pub IsGrantedAtOnce : ℕ → List Ending → Type 0
+IsGrantedAtOnce number endings =
+    Any (λ ending. IsGrant ending.how × (ending.at_once ≡ true) × (ending.request.number ≡ number))
+    endings
+
 -- an accepted conversion that the table lets write the value block is granted at once
 abbrev pub WritesAreGrantedAtOnce : State → Type 0
-WritesAreGrantedAtOnce old = (c : Conversion) (place : Place) → convert_refusal old c ≡ None
-    → granted_place c.pid (conversion_lkid old c) old.resources ≡ Some place → action_from place.row.held c.mode ≡ Write
-    → convert_at_once old c ≡ true
+WritesAreGrantedAtOnce old = (c : Conversion) (cond : Cond) (lkid : ℕ)
+    → (stepped old (Convert c)).answer ≡ Lock cond lkid
+    → Any (λ r. Any (λ row. (row.lkid ≡ lkid) × (action_from row.held c.mode ≡ Write)) r.granted)
+    old.resources
+    → IsGrantedAtOnce old.next_request (stepped old (Convert c)).endings
+
+-- how many rows of a resource are those of this lock
+abbrev pub rows_on : ℕ → Resource → ℕ
+rows_on lkid r =
+    count_by (λ row. row.lkid == lkid) r.granted + count_by (λ row. row.lkid == lkid) r.converting
+    + count_by (λ row. row.lkid == lkid) r.waiting
+
+-- no two rows have one identification, and none has an identification that is to come
+pub record IdentificationsAreApart (s : State) : Type 0 where
+  pub one_row : (lkid : ℕ) → sum_by (rows_on lkid) s.resources ≤ 1
+  pub none_to_come : (lkid : ℕ) → s.next_lkid ≤ lkid → sum_by (rows_on lkid) s.resources ≡ 0
+
+-- the two stand at one place: roots of one name in one domain, or below one parent under one name
+pub record HaveOneKey (a b : Resource) : Type 0 where
+  pub parent : a.parent ≡ b.parent
+  pub domain : a.parent ≡ 0 → a.domain ≡ b.domain
+  pub name : a.name ≡ b.name
+
+-- no two resources have one key
+abbrev pub KeysAreApart : State → Type 0
+KeysAreApart s = AllPairs (λ a b. HaveOneKey a b → ⊥) s.resources
+
+-- serials rise from one resource to the next, and are below the one to come
+pub record SerialsRise (s : State) : Type 0 where
+  pub rising : AllPairs (λ a b. a.serial < b.serial) s.resources
+  pub given : All (λ r. r.serial < s.next_serial) s.resources

@@ -2,28 +2,28 @@
 use Rattle.std.specs.Prelude.{◌≡◌, ℕ, ◌+◌, List, [], ◌∷◌, ◌++◌, take, drop, find, Option, None, Some, Result, Ok, Err}
 use Rattle.std.specs.Option.{option_map}
 use Rattle.vlm_words.specs.declared.scripts.CvtLine.{CvtLine}
-use Rattle.vlm_words.specs.declared.scripts.EnqLine.{EnqLine}
 use Rattle.vlm_words.specs.declared.scripts.DeqLine.{DeqLine}
-use Rattle.vlm_words.specs.declared.scripts.SetLine.{SetLine}
+use Rattle.vlm_words.specs.declared.scripts.EnqLine.{EnqLine}
+use Rattle.vlm_words.specs.declared.scripts.Line.TheVariants.{Empty, Declare, Set, Enq, Cvt, Deq, Block, Show}
 use Rattle.vlm_words.specs.declared.scripts.Line.{Line}
-use Rattle.vlm_words.specs.declared.scripts.Line.TheVariants.{Empty, Declare, Enq, Cvt, Deq, Set, Block, Show}
-use Rattle.vlm_words.specs.declared.scripts.LineFault.{LineFault}
 use Rattle.vlm_words.specs.declared.scripts.LineFault.TheVariants.{UnknownName, NameUsed}
-use Rattle.vlm_words.specs.declared.steps.Answer.{Answer}
+use Rattle.vlm_words.specs.declared.scripts.LineFault.{LineFault}
+use Rattle.vlm_words.specs.declared.scripts.SetLine.{SetLine}
 use Rattle.vlm_words.specs.declared.steps.Answer.TheVariants.{Process as process_answer, Lock, Victim, Taken, Plain}
+use Rattle.vlm_words.specs.declared.steps.Answer.{Answer}
 use Rattle.vlm_words.specs.declared.steps.Conversion.{Conversion}
 use Rattle.vlm_words.specs.declared.steps.Declaration.{Declaration}
-use Rattle.vlm_words.specs.declared.steps.NewRequest.{NewRequest}
 use Rattle.vlm_words.specs.declared.steps.Dequeue.{Dequeue}
-use Rattle.vlm_words.specs.declared.steps.ValueSetting.{ValueSetting}
+use Rattle.vlm_words.specs.declared.steps.NewRequest.{NewRequest}
+use Rattle.vlm_words.specs.declared.steps.Step.TheVariants.{Declare as declare_step, SetValue as set_step, Enq as enq_step, Convert as convert_step, Deq as deq_step}
 use Rattle.vlm_words.specs.declared.steps.Step.{Step}
-use Rattle.vlm_words.specs.declared.steps.Step.TheVariants.{Declare as declare_step, Enq as enq_step, Convert as convert_step, Deq as deq_step, SetValue as set_step}
+use Rattle.vlm_words.specs.declared.steps.ValueSetting.{ValueSetting}
 use Rattle.vlm_words.specs.declared.steps.Which.TheVariants.{Id}
-use Rattle.vlm_words.specs.Blocks.{block_found}
 use Rattle.vlm_words.specs.State.{State, start}
+use Rattle.vlm_words.specs.StatusBlocks.{status_block_at}
 use Rattle.vlm_words.specs.Stepped.{Outcome}
-use Rattle.vlm_words.specs.Lines.{lines_of, is_text, line_read}
-use Rattle.vlm_words.specs.Texts.{answer_line, block_line, resources_text}
+use Rattle.vlm_words.specs.Lines.{is_text, line_read, lines_of}
+use Rattle.vlm_words.specs.Texts.{answer_line, resources_text, status_block_line}
 
 -- a name of the script, and the process that it is bound to
 pub record Binding : Type 0 where
@@ -55,10 +55,10 @@ unknown_fault (Some pid) = None
 abbrev pub name_fault : List Binding → Line → Option LineFault
 name_fault names Empty = None
 name_fault names (Declare name declaration) = used_fault (bound_to names name)
+name_fault names (Set line) = unknown_fault (bound_to names line.name)
 name_fault names (Enq line) = unknown_fault (bound_to names line.name)
 name_fault names (Cvt line) = unknown_fault (bound_to names line.name)
 name_fault names (Deq line) = unknown_fault (bound_to names line.name)
-name_fault names (Set line) = unknown_fault (bound_to names line.name)
 name_fault names (Block line) = unknown_fault (bound_to names line.name)
 name_fault names Show = None
 
@@ -137,12 +137,14 @@ pub record Prints (old : Session) (shown text : List ℕ) (new : Session) : Type
 abbrev pub Runs : Session → Line → List ℕ → Session → Type 0
 Runs old Empty text new = Prints old [] text new
 Runs old (Declare name declaration) text new = Declares old name declaration text new
+Runs old (Set line) text new = Makes old line.name (λ pid. set_step (setting_made pid line)) text new
 Runs old (Enq line) text new = Makes old line.name (λ pid. enq_step (request_made pid line)) text new
 Runs old (Cvt line) text new = Makes old line.name (λ pid. convert_step (conversion_made pid line)) text new
 Runs old (Deq line) text new = Makes old line.name (λ pid. deq_step (dequeue_made pid line)) text new
-Runs old (Set line) text new = Makes old line.name (λ pid. set_step (setting_made pid line)) text new
 Runs old (Block line) text new =
-    Shows old line.name (λ pid. block_line line.name line.number (block_found old.state.processes pid line.number)) text new
+    Shows old line.name
+    (λ pid. status_block_line line.name line.number (status_block_at old.state.processes pid line.number))
+    text new
 Runs old Show text new = Prints old (resources_text old.state.resources) text new
 
 -- the fault of a line in a session: of its bytes, or of its name

@@ -3,13 +3,13 @@ use Rattle.std.specs.Prelude.{Option}
 use Rattle.vlm_words.specs.declared.conditions.Cond.{Cond}
 use Rattle.vlm_words.specs.declared.steps.ValueSetting.{ValueSetting}
 use Rattle.vlm_words.specs.State.{State}
-use Rattle.vlm_words.specs.Blocks.{valued_in}
-use Rattle.vlm_words.specs.Checks.{or_else, caller_refusal, block_refusal}
+use Rattle.vlm_words.specs.StatusBlocks.{processes_after_setting}
+use Rattle.vlm_words.specs.Checks.{caller_refusal, or_else, status_block_refusal}
 
 -- the checks of the setting of a value, in their order
 unfoldable pub set_refusal : State → ValueSetting → Option Cond
-set_refusal s v = or_else (caller_refusal s v.pid) (block_refusal s v.pid v.block)
+set_refusal s v = or_else (caller_refusal s v.pid) (status_block_refusal s v.pid v.block)
 
 -- the value part is written, and nothing else
 unfoldable pub set_change : State → ValueSetting → State
-set_change s v = record s { processes = valued_in v.pid v.block v.value s.processes }
+set_change s v = record s { processes = processes_after_setting v.pid v.block v.value s.processes }

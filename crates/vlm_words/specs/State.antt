@@ -3,6 +3,7 @@ use Rattle.std.specs.Prelude.{ℕ, Bool, false, List, [], Option, ◌==◌, ◌-
 use Rattle.vlm_words.specs.declared.blocks.Block.{Block}
 use Rattle.vlm_words.specs.declared.locks.Row.{Row}
 use Rattle.vlm_words.specs.declared.resources.Domain.{Domain}
+use Rattle.vlm_words.specs.declared.resources.ValueBlock.{ValueBlock}
 
 -- a resource: its place in the tree, its value block, and its three queues of locks
 pub record Resource : Type 0 where
@@ -10,8 +11,7 @@ pub record Resource : Type 0 where
   pub parent : ℕ
   pub domain : Domain
   pub name : List ℕ
-  pub value : List ℕ
-  pub valid : Bool
+  pub value_block : ValueBlock
   pub granted : List Row
   pub converting : List Row
   pub waiting : List Row

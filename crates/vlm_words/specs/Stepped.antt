@@ -1,26 +1,22 @@
 -- One step of the plain lock machine, and what else a step may come to.
-use Rattle.std.specs.Prelude.{◌≡◌, ◌⊎◌, List, [], Option, None, Some}
+use Rattle.std.specs.Prelude.{◌≡◌, ◌⊎◌, ⊤, List, [], ◌++◌, Option, None, Some}
 use Rattle.std.proofs.Common.{inl, inr}
-use Rattle.vlm_words.specs.declared.conditions.Cond.{Cond}
 use Rattle.vlm_words.specs.declared.conditions.Cond.TheVariants.{Normal, Badparam, Insfmem}
-use Rattle.vlm_words.specs.declared.steps.Answer.{Answer}
+use Rattle.vlm_words.specs.declared.conditions.Cond.{Cond}
 use Rattle.vlm_words.specs.declared.steps.Answer.TheVariants.{Process as process_answer, Lock, Plain}
+use Rattle.vlm_words.specs.declared.steps.Answer.{Answer}
 use Rattle.vlm_words.specs.declared.steps.Conversion.{Conversion}
-use Rattle.vlm_words.specs.declared.steps.Declaration.{Declaration}
-use Rattle.vlm_words.specs.declared.steps.Dequeue.{Dequeue}
-use Rattle.vlm_words.specs.declared.steps.NewRequest.{NewRequest}
-use Rattle.vlm_words.specs.declared.steps.ValueSetting.{ValueSetting}
-use Rattle.vlm_words.specs.declared.steps.Step.{Step}
 use Rattle.vlm_words.specs.declared.steps.Step.TheVariants.{Declare, SetValue, Enq, Convert, Deq, Rundown, Leave, Search, Take}
+use Rattle.vlm_words.specs.declared.steps.Step.{Step}
 use Rattle.vlm_words.specs.State.{State}
-use Rattle.vlm_words.specs.Sweeps.{swept_state}
-use Rattle.vlm_words.specs.Checks.{acceptance}
-use Rattle.vlm_words.specs.Declare.{declare_refusal, declare_change, next_pid}
-use Rattle.vlm_words.specs.Enqueue.{enq_refusal, enq_change, enq_at_once, enq_endings}
-use Rattle.vlm_words.specs.Convert.{convert_refusal, convert_change, convert_at_once, convert_endings, conversion_lkid}
-use Rattle.vlm_words.specs.Dequeue.{deq_refusal, deq_change, deq_endings}
-use Rattle.vlm_words.specs.SetValue.{set_refusal, set_change}
 use Rattle.vlm_words.specs.Endings.{Ending}
+use Rattle.vlm_words.specs.Sweeps.{state_after_sweep, sweep_endings}
+use Rattle.vlm_words.specs.Checks.{acceptance}
+use Rattle.vlm_words.specs.Declare.{declare_change, declare_refusal, next_pid}
+use Rattle.vlm_words.specs.SetValue.{set_change, set_refusal}
+use Rattle.vlm_words.specs.Enqueue.{enq_at_once, enq_change, enq_endings, enq_refusal}
+use Rattle.vlm_words.specs.Convert.{ConversionAdmission, conversion_endings, convert_admission, convert_change, convert_lkid, convert_refusal}
+use Rattle.vlm_words.specs.Dequeue.{deq_change, deq_endings, deq_refusal}
 
 -- what a step comes to: the state that it leaves, its answer, and the requests that end in it
 pub record Stepped : Type 0 where
@@ -28,71 +24,94 @@ pub record Stepped : Type 0 where
   pub answer : Answer
   pub endings : List Ending
 
--- a refusal leaves everything as it was; else the step is made
-abbrev pub refused_or : Option Cond → State → Stepped → Stepped
-refused_or None old made = made
-refused_or (Some refusal) old made = record { state = old; answer = Plain refusal; endings = [] }
+-- a refusal leaves everything as it was
+abbrev pub refused : State → Cond → Stepped
+refused s refusal = record { state = s; answer = Plain refusal; endings = [] }
 
--- a kind of step that is not built yet
-abbrev pub not_built : State → Stepped
-not_built s = record { state = s; answer = Plain Badparam; endings = [] }
+-- the change of a conversion; where its lock is not granted a check has refused it
+abbrev pub conversion_change : State → Conversion → Option ConversionAdmission → Stepped
+conversion_change s c None = refused s Badparam
+conversion_change s c (Some a) = record {
+  state = convert_change s c a;
+  answer = Lock (acceptance c.flags a.at_once) (convert_lkid s c);
+  endings = conversion_endings a;
+}
 
--- the steps of each kind, once no check refuses them: the change, and the sweep where queues changed
-abbrev pub declared : State → Declaration → Stepped
-declared s d = record { state = declare_change s d; answer = process_answer (next_pid s d.node); endings = [] }
+-- why the checks of a step refuse it, if they do; a kind that is not built yet is refused
+abbrev pub step_refusal : State → Step → Option Cond
+step_refusal s (Declare d) = declare_refusal s d
+step_refusal s (SetValue v) = set_refusal s v
+step_refusal s (Enq e) = enq_refusal s e
+step_refusal s (Convert c) = convert_refusal s c
+step_refusal s (Deq d) = deq_refusal s d
+step_refusal s (Rundown pid) = Some Badparam
+step_refusal s (Leave node) = Some Badparam
+step_refusal s (Search node) = Some Badparam
+step_refusal s (Take pid) = Some Badparam
 
-abbrev pub enqueued : State → NewRequest → Stepped
-enqueued s e = record {
-  state = swept_state (enq_change s e);
+-- the change of a step that no check refuses, before its sweep, with its answer and the requests that it
+-- ends itself
+abbrev pub step_change : State → Step → Stepped
+step_change s (Declare d) = record {
+  state = declare_change s d;
+  answer = process_answer (next_pid s d.node);
+  endings = [];
+}
+step_change s (SetValue v) = record { state = set_change s v; answer = Plain Normal; endings = [] }
+step_change s (Enq e) = record {
+  state = enq_change s e;
   answer = Lock (acceptance e.flags (enq_at_once s e)) s.next_lkid;
   endings = enq_endings s e;
 }
+step_change s (Convert c) = conversion_change s c (convert_admission s c)
+step_change s (Deq d) = record {
+  state = deq_change s d;
+  answer = Plain Normal;
+  endings = deq_endings s d;
+}
+step_change s (Rundown pid) = refused s Badparam
+step_change s (Leave node) = refused s Badparam
+step_change s (Search node) = refused s Badparam
+step_change s (Take pid) = refused s Badparam
 
-abbrev pub converted_lock : State → Conversion → Stepped
-converted_lock s c = record {
-  state = swept_state (convert_change s c);
-  answer = Lock (acceptance c.flags (convert_at_once s c)) (conversion_lkid s c);
-  endings = convert_endings s c;
+-- the sweep after a change: each resource is served, and dropped if it has no lock
+abbrev pub stepped_after_sweep : Stepped → Stepped
+stepped_after_sweep change = record {
+  state = state_after_sweep change.state;
+  answer = change.answer;
+  endings = change.endings ++ sweep_endings change.state.resources;
 }
 
-abbrev pub dequeued_lock : State → Dequeue → Stepped
-dequeued_lock s d = record { state = swept_state (deq_change s d); answer = Plain Normal; endings = deq_endings s d }
+-- a refusal, or else the change and its sweep
+abbrev pub refused_or : Option Cond → State → Stepped → Stepped
+refused_or None s change = stepped_after_sweep change
+refused_or (Some refusal) s change = refused s refusal
 
-abbrev pub value_set : State → ValueSetting → Stepped
-value_set s v = record { state = set_change s v; answer = Plain Normal; endings = [] }
-
--- the step of the plain machine: checks in order, then the change, and the sweep where queues changed
+-- the step of the plain machine: checks in order, then the change, and the sweep
 abbrev pub stepped : State → Step → Stepped
-stepped s (Declare d) = refused_or (declare_refusal s d) s (declared s d)
-stepped s (Enq e) = refused_or (enq_refusal s e) s (enqueued s e)
-stepped s (Convert c) = refused_or (convert_refusal s c) s (converted_lock s c)
-stepped s (Deq d) = refused_or (deq_refusal s d) s (dequeued_lock s d)
-stepped s (SetValue v) = refused_or (set_refusal s v) s (value_set s v)
-stepped s (Rundown pid) = not_built s
-stepped s (Leave node) = not_built s
-stepped s (Search node) = not_built s
-stepped s (Take pid) = not_built s
+stepped s step = refused_or (step_refusal s step) s (step_change s step)
 
--- the steps that may want memory, once all their other checks pass
-abbrev pub MayWantMemory : State → Step → Type 0
-MayWantMemory s (Declare d) = declare_refusal s d ≡ None
-MayWantMemory s (Enq e) = enq_refusal s e ≡ None
-MayWantMemory s (Deq d) = ⊥
-MayWantMemory s (SetValue v) = ⊥
-MayWantMemory s (Convert c) = ⊥
-MayWantMemory s (Rundown pid) = ⊥
-MayWantMemory s (Leave node) = ⊥
-MayWantMemory s (Search node) = ⊥
-MayWantMemory s (Take pid) = ⊥
+-- the kinds of step that may want memory
+abbrev pub MayWantMemory : Step → Type 0
+MayWantMemory (Declare d) = ⊤
+MayWantMemory (SetValue v) = ⊥
+MayWantMemory (Enq e) = ⊤
+MayWantMemory (Convert c) = ⊥
+MayWantMemory (Deq d) = ⊥
+MayWantMemory (Rundown pid) = ⊥
+MayWantMemory (Leave node) = ⊥
+MayWantMemory (Search node) = ⊥
+MayWantMemory (Take pid) = ⊥
 
 -- the step is made
 pub record IsMade (old : State) (step : Step) (new : State) (answer : Answer) : Type 0 where
   pub state : new ≡ (stepped old step).state
   pub answered : answer ≡ (stepped old step).answer
 
--- a growth was refused: nothing is changed
+-- a growth was refused, of a step that no check refuses: nothing is changed
 pub record IsShortOfMemory (old : State) (step : Step) (new : State) (answer : Answer) : Type 0 where
-  pub may : MayWantMemory old step
+  pub may : MayWantMemory step
+  pub accepted : step_refusal old step ≡ None
   pub state : new ≡ old
   pub answered : answer ≡ Plain Insfmem
 

@@ -3,17 +3,17 @@ use Rattle.std.specs.Prelude.{ℕ, Bool, true, false, not, ◌&&◌, ◌+◌, �
 use Rattle.std.specs.List.{list_all}
 use Rattle.std.specs.Option.{option_map}
 use Rattle.vlm_words.specs.declared.asts.Ast.{Ast}
-use Rattle.vlm_words.specs.declared.asts.AstKind.{AstKind}
 use Rattle.vlm_words.specs.declared.asts.AstKind.TheVariants.{Completion, Blocking}
+use Rattle.vlm_words.specs.declared.asts.AstKind.{AstKind}
 use Rattle.vlm_words.specs.declared.blocks.Block.{Block}
 use Rattle.vlm_words.specs.declared.locks.Request.{Request}
 use Rattle.vlm_words.specs.declared.locks.Row.{Row}
-use Rattle.vlm_words.specs.declared.modes.Mode.{Mode}
 use Rattle.vlm_words.specs.declared.modes.Mode.TheVariants.{Nl, Cr, Cw, Pr, Pw, Ex}
-use Rattle.vlm_words.specs.declared.resources.Domain.{Domain}
+use Rattle.vlm_words.specs.declared.modes.Mode.{Mode}
 use Rattle.vlm_words.specs.declared.resources.Domain.TheVariants.{Group, System}
-use Rattle.vlm_words.specs.declared.steps.Answer.{Answer}
+use Rattle.vlm_words.specs.declared.resources.Domain.{Domain}
 use Rattle.vlm_words.specs.declared.steps.Answer.TheVariants.{Process as process_answer, Lock, Victim, Taken, Plain}
+use Rattle.vlm_words.specs.declared.steps.Answer.{Answer}
 use Rattle.vlm_words.specs.Conditions.{condition_name}
 use Rattle.vlm_words.specs.State.{Resource}
 use Rattle.vlm_words.specs.Lines.{has_key}
@@ -62,9 +62,9 @@ unfoldable pub answer_line : List ℕ → Answer → List ℕ
 answer_line name answer = name ++ codes ": " ++ answer_text answer ++ line_feed
 
 -- a status block under its process's name: what stands in it, or that the process has no such block
-unfoldable pub block_line : List ℕ → ℕ → Option Block → List ℕ
-block_line name number None = name ++ codes ": block " ++ decimal number ++ codes " none" ++ line_feed
-block_line name number (Some block) =
+unfoldable pub status_block_line : List ℕ → ℕ → Option Block → List ℕ
+status_block_line name number None = name ++ codes ": block " ++ decimal number ++ codes " none" ++ line_feed
+status_block_line name number (Some block) =
     name ++ codes ": block " ++ decimal number ++ codes " status " ++ decimal block.status
     ++ codes " lock " ++ decimal block.lkid ++ codes " value " ++ hex_text block.value ++ line_feed
 
@@ -131,7 +131,7 @@ waiting_lines rows = flat_map (λ row. waiting_line row.lkid row.pid (mode_asked
 -- a resource with its three queues
 unfoldable pub resource_text : Resource → List ℕ
 resource_text r =
-    resource_line r.serial r.parent r.domain r.name r.value r.valid ++ granted_lines r.granted
+    resource_line r.serial r.parent r.domain r.name r.value_block.value r.value_block.valid ++ granted_lines r.granted
     ++ converting_lines r.converting ++ waiting_lines r.waiting
 
 -- all resources by rising serial, or that there is none

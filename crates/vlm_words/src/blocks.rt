@@ -1,7 +1,7 @@
 //! Lock status blocks.
 
 ghost use Rattle.std.specs.Prelude.{◌≡◌};
-ghost use Rattle.vlm_words.specs.Blocks.{new_block};
+ghost use Rattle.vlm_words.specs.StatusBlocks.{new_status_block};
 
 /// A lock status block of a process.
 #[derive(Clone, Copy, Debug, PartialEq, Eq)]
@@ -17,7 +17,7 @@ pub struct Block {
 impl Block {
     /// A status block at its making: no request, no lock, and a value block of zeros.
     pub fn new() -> Block
-        ensures { result ≡ new_block }
+        ensures { result ≡ new_status_block }
     {
         Block {
             status: 0,

@@ -1,11 +1,12 @@
 //! The flags of requests and dequeues, as far as they are built.
 
 ghost use Rattle.std.specs.Prelude.{⊤, [], ◌∷◌, codes};
+ghost use Rattle.vlm_words.specs.Flags.{cancel, expedite, invvalblk, noqueue, quecvt, syncsts, valblk};
 
 use bitflags::{Flag, Flags, bitflag_items};
 
 /// The flags of a new request or a conversion ($ENQ). The bits are this project's own.
-#[derive(Clone, Copy, Debug, PartialEq, Eq)]
+#[derive(Clone, Copy)]
 pub struct EnqFlags(u16);
 
 bitflag_items! {
@@ -29,7 +30,7 @@ impl Flags for EnqFlags {
 
     ghost exact = { ⊤ };
 
-    ghost table = { (codes "VALBLK", 1) ∷ (codes "NOQUEUE", 2) ∷ (codes "SYNCSTS", 4) ∷ (codes "EXPEDITE", 16) ∷ (codes "QUECVT", 32) ∷ [] };
+    ghost table = { (codes "VALBLK", valblk) ∷ (codes "NOQUEUE", noqueue) ∷ (codes "SYNCSTS", syncsts) ∷ (codes "EXPEDITE", expedite) ∷ (codes "QUECVT", quecvt) ∷ [] };
 
     ghost set_of = { λ f. f.0 };
 
@@ -47,7 +48,7 @@ impl Flags for EnqFlags {
 }
 
 /// The flags of a dequeue ($DEQ). The bits are this project's own.
-#[derive(Clone, Copy, Debug, PartialEq, Eq)]
+#[derive(Clone, Copy)]
 pub struct DeqFlags(u16);
 
 bitflag_items! {
@@ -64,7 +65,7 @@ impl Flags for DeqFlags {
 
     ghost exact = { ⊤ };
 
-    ghost table = { (codes "CANCEL", 2) ∷ (codes "INVVALBLK", 4) ∷ [] };
+    ghost table = { (codes "CANCEL", cancel) ∷ (codes "INVVALBLK", invvalblk) ∷ [] };
 
     ghost set_of = { λ f. f.0 };
 

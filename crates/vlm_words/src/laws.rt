@@ -1,13 +1,14 @@
 //! What holds after every legal run of the plain machine. The functions do nothing: their contracts
 //! are the laws.
 
-ghost use Rattle.std.specs.Prelude.{List};
+ghost use Rattle.std.specs.Prelude.{◌≡◌, List, None};
 ghost use Rattle.vlm_words.specs.declared.steps.Answer.{Answer};
 ghost use Rattle.vlm_words.specs.declared.steps.Step.{Step};
 ghost use Rattle.vlm_words.specs.Endings.{Ending};
 ghost use Rattle.vlm_words.specs.State.{State};
 ghost use Rattle.vlm_words.specs.Runs.{Run};
-ghost use Rattle.vlm_words.specs.Laws.{EachRequestEndsOnce, GrantsFollowQueueOrder, HeldModesAreCompatible, NothingIsLeftToGrant, RowsFitTheirQueues, WritesAreGrantedAtOnce};
+ghost use Rattle.vlm_words.specs.Stepped.{step_refusal};
+ghost use Rattle.vlm_words.specs.Laws.{EachRequestEndsOnce, GrantsFollowQueueOrder, HeldModesAreCompatible, IdentificationsAreApart, KeysAreApart, NothingIsLeftToGrant, RowsFitTheirQueues, SerialsRise, WritesAreGrantedAtOnce};
 
 /// In each resource the held modes of any two locks are compatible.
 pub fn law_held_modes_are_compatible()
@@ -29,15 +30,6 @@ pub fn law_each_request_ends_once()
         → Run steps answers endings last → EachRequestEndsOnce endings last }
 {}
 
-/// Before every step: whatever the step is, it serves the queues of each resource from their heads,
-/// conversions first. A new request is granted at once only where it fits and nobody is queued, or by
-/// EXPEDITE at NL; a conversion only where it fits beside all other locks, and with QUECVT only where
-/// no conversion is queued.
-pub fn law_grants_follow_queue_order()
-    ensures { (steps : List Step) (answers : List Answer) (endings : List Ending) (old : State)
-        → Run steps answers endings old → GrantsFollowQueueOrder old }
-{}
-
 /// A granted lock holds a mode and wants nothing, a converting lock holds one and wants one, and a
 /// waiting lock holds nothing and wants one.
 pub fn law_rows_fit_their_queues()
@@ -45,8 +37,37 @@ pub fn law_rows_fit_their_queues()
         → Run steps answers endings last → RowsFitTheirQueues last }
 {}
 
-/// Before every step: a conversion that may write the value block by its held and its wanted mode, and
-/// that no check refuses, is granted at once. So no queued conversion ever writes.
+/// No two locks have one identification.
+pub fn law_identifications_are_apart()
+    ensures { (steps : List Step) (answers : List Answer) (endings : List Ending) (last : State)
+        → Run steps answers endings last → IdentificationsAreApart last }
+{}
+
+/// Serials rise from one resource to the next, and are below the one to come.
+pub fn law_serials_rise()
+    ensures { (steps : List Step) (answers : List Answer) (endings : List Ending) (last : State)
+        → Run steps answers endings last → SerialsRise last }
+{}
+
+/// No two resources have one key.
+pub fn law_keys_are_apart()
+    ensures { (steps : List Step) (answers : List Answer) (endings : List Ending) (last : State)
+        → Run steps answers endings last → KeysAreApart last }
+{}
+
+/// Each step that no check refuses grants in the order of the queues. At once it grants only its own
+/// request: a new one that fits where nobody is queued, or by EXPEDITE at NL; a conversion that fits beside
+/// all other locks, with QUECVT only where no conversion is queued. Its sweep then grants the first requests
+/// of each queue, in order, and new ones only where no conversion is left.
+pub fn law_grants_follow_queue_order()
+    ensures { (steps : List Step) (answers : List Answer) (endings : List Ending) (old : State)
+        → Run steps answers endings old → (step : Step) → step_refusal old step ≡ None
+        → GrantsFollowQueueOrder old step }
+{}
+
+/// A conversion that the table of value blocks lets write, by its held and its wanted mode, and that is
+/// accepted, is granted at once: its request has a grant among the step's endings. So no queued conversion
+/// ever writes.
 pub fn law_writes_are_granted_at_once()
     ensures { (steps : List Step) (answers : List Answer) (endings : List Ending) (old : State)
         → Run steps answers endings old → WritesAreGrantedAtOnce old }

@@ -4,7 +4,7 @@ use crate::flags::EnqFlags;
 use crate::modes::Mode;
 
 /// What a process asked for: a new lock or a conversion that was accepted.
-#[derive(Clone, Copy, Debug, PartialEq, Eq)]
+#[derive(Clone, Copy)]
 pub struct Request {
     /// The number of the request, from 1, rising with each that is accepted.
     pub number: u64,
@@ -23,7 +23,7 @@ pub struct Request {
 }
 
 /// A lock. It stands in one queue of one resource.
-#[derive(Clone, Copy, Debug, PartialEq, Eq)]
+#[derive(Clone, Copy)]
 pub struct Row {
     /// The lock's identification.
     pub lkid: u32,

@@ -4,7 +4,7 @@ ghost use Rattle.std.specs.Prelude.{◌≡◌};
 ghost use Rattle.vlm_words.specs.Modes.{is_compatible, is_queued_legally, value_action};
 
 /// A lock mode, the weakest first.
-#[derive(Clone, Copy, Debug, PartialEq, Eq)]
+#[derive(Clone, Copy)]
 pub enum Mode {
     /// Null: interest without access.
     Nl,
@@ -36,7 +36,7 @@ pub fn compatible(a: Mode, b: Mode) -> bool
 }
 
 /// What VALBLK does on a conversion.
-#[derive(Clone, Copy, Debug, PartialEq, Eq)]
+#[derive(Clone, Copy)]
 pub enum Act {
     /// The value block stays, and is not shown.
     Nothing,

@@ -8,7 +8,7 @@ use crate::texts::Text;
 use std::marker::Model;
 
 /// A resource's name: 1 to 31 bytes.
-#[derive(Clone, Copy, Debug, PartialEq, Eq)]
+#[derive(Clone, Copy)]
 pub struct Name {
     text: Text<31>,
 }
@@ -52,7 +52,7 @@ impl Name {
 
 /// A resource name as a caller gives it, before it is checked: at most 32 bytes, of a longer text
 /// the first 32, which no name has.
-#[derive(Clone, Copy, Debug, PartialEq, Eq)]
+#[derive(Clone, Copy)]
 pub struct NameArg {
     text: Text<32>,
 }

@@ -12,7 +12,7 @@ use crate::texts::Text;
 pub type ProcessName = Text<15>;
 
 /// What the keyed words of a declare line have given so far.
-#[derive(Clone, Copy, Debug, PartialEq, Eq)]
+#[derive(Clone, Copy)]
 pub struct DeclareWords {
     /// The node, 0 to 255.
     pub node: Option<u8>,
@@ -27,7 +27,7 @@ pub struct DeclareWords {
 }
 
 /// What the keyed words of an enq line have given so far.
-#[derive(Clone, Copy, Debug, PartialEq, Eq)]
+#[derive(Clone, Copy)]
 pub struct EnqWords {
     /// The name of the resource, not checked yet.
     pub resource: Option<NameArg>,
@@ -38,7 +38,7 @@ pub struct EnqWords {
 }
 
 /// What the keyed words of a cvt line have given so far.
-#[derive(Clone, Copy, Debug, PartialEq, Eq)]
+#[derive(Clone, Copy)]
 pub struct CvtWords {
     /// The number of the status block.
     pub block: Option<u8>,
@@ -47,7 +47,7 @@ pub struct CvtWords {
 }
 
 /// What the keyed words of a deq line have given so far.
-#[derive(Clone, Copy, Debug, PartialEq, Eq)]
+#[derive(Clone, Copy)]
 pub struct DeqWords {
     /// The value block to write.
     pub value: Option<[u8; 16]>,
@@ -56,7 +56,7 @@ pub struct DeqWords {
 }
 
 /// What the keyed words of a set line have given so far.
-#[derive(Clone, Copy, Debug, PartialEq, Eq)]
+#[derive(Clone, Copy)]
 pub struct SetWords {
     /// The number of the status block.
     pub block: Option<u8>,
@@ -65,7 +65,7 @@ pub struct SetWords {
 }
 
 /// The words of an enq line.
-#[derive(Clone, Copy, Debug, PartialEq, Eq)]
+#[derive(Clone, Copy)]
 pub struct EnqLine {
     /// The process that asks.
     pub name: ProcessName,
@@ -80,7 +80,7 @@ pub struct EnqLine {
 }
 
 /// The words of a cvt line.
-#[derive(Clone, Copy, Debug, PartialEq, Eq)]
+#[derive(Clone, Copy)]
 pub struct CvtLine {
     /// The process that asks.
     pub name: ProcessName,
@@ -95,7 +95,7 @@ pub struct CvtLine {
 }
 
 /// The words of a deq line.
-#[derive(Clone, Copy, Debug, PartialEq, Eq)]
+#[derive(Clone, Copy)]
 pub struct DeqLine {
     /// The process that asks.
     pub name: ProcessName,
@@ -108,7 +108,7 @@ pub struct DeqLine {
 }
 
 /// The words of a set line.
-#[derive(Clone, Copy, Debug, PartialEq, Eq)]
+#[derive(Clone, Copy)]
 pub struct SetLine {
     /// The process whose status block is set.
     pub name: ProcessName,
@@ -119,7 +119,7 @@ pub struct SetLine {
 }
 
 /// The words of a block line.
-#[derive(Clone, Copy, Debug, PartialEq, Eq)]
+#[derive(Clone, Copy)]
 pub struct BlockLine {
     /// The process whose status block is printed.
     pub name: ProcessName,
@@ -128,20 +128,20 @@ pub struct BlockLine {
 }
 
 /// A line of a script that was read without a fault.
-#[derive(Clone, Copy, Debug, PartialEq, Eq)]
+#[derive(Clone, Copy)]
 pub enum Line {
     /// No word, or a comment.
     Empty,
     /// A process is declared under a name.
     Declare(ProcessName, Declaration),
+    /// The value part of a status block is set.
+    Set(SetLine),
     /// A new lock is asked for.
     Enq(EnqLine),
     /// Another mode of a lock is asked for.
     Cvt(CvtLine),
     /// A lock is given up, or its request is cancelled.
     Deq(DeqLine),
-    /// The value part of a status block is set.
-    Set(SetLine),
     /// A status block is printed.
     Block(BlockLine),
     /// Every resource is printed with its queues.
@@ -149,7 +149,7 @@ pub enum Line {
 }
 
 /// What is wrong with a line of a script.
-#[derive(Clone, Copy, Debug, PartialEq, Eq)]
+#[derive(Clone, Copy, Debug)]
 pub enum LineFault {
     /// More than 255 bytes.
     TooLong,

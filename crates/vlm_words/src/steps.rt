@@ -10,7 +10,7 @@ use crate::names::NameArg;
 
 /// A lock, named by its identification, or by what stands in a status block of the caller when the
 /// step is taken.
-#[derive(Clone, Copy, Debug, PartialEq, Eq)]
+#[derive(Clone, Copy)]
 pub enum Which {
     /// Its identification.
     Id(u32),
@@ -19,7 +19,7 @@ pub enum Which {
 }
 
 /// A process is declared.
-#[derive(Clone, Copy, Debug, PartialEq, Eq)]
+#[derive(Clone, Copy)]
 pub struct Declaration {
     /// Its node, 1 to 8.
     pub node: u8,
@@ -34,7 +34,7 @@ pub struct Declaration {
 }
 
 /// The value part of a status block is set.
-#[derive(Clone, Copy, Debug, PartialEq, Eq)]
+#[derive(Clone, Copy)]
 pub struct ValueSetting {
     /// The caller.
     pub pid: u32,
@@ -45,7 +45,7 @@ pub struct ValueSetting {
 }
 
 /// A new lock is asked for ($ENQ).
-#[derive(Clone, Copy, Debug, PartialEq, Eq)]
+#[derive(Clone, Copy)]
 pub struct NewRequest {
     /// The caller.
     pub pid: u32,
@@ -68,7 +68,7 @@ pub struct NewRequest {
 }
 
 /// A lock is to be held in another mode ($ENQ with LCK$M_CONVERT).
-#[derive(Clone, Copy, Debug, PartialEq, Eq)]
+#[derive(Clone, Copy)]
 pub struct Conversion {
     /// The caller.
     pub pid: u32,
@@ -89,7 +89,7 @@ pub struct Conversion {
 }
 
 /// A lock is given up, or a request is cancelled ($DEQ).
-#[derive(Clone, Copy, Debug, PartialEq, Eq)]
+#[derive(Clone, Copy)]
 pub struct Dequeue {
     /// The caller.
     pub pid: u32,
@@ -102,7 +102,7 @@ pub struct Dequeue {
 }
 
 /// One event of the lock machine.
-#[derive(Clone, Copy, Debug, PartialEq, Eq)]
+#[derive(Clone, Copy)]
 pub enum Step {
     /// A process is declared.
     Declare(Declaration),

@@ -1,0 +1,57 @@
+-- The status blocks of processes.
+use Rattle.std.specs.Prelude.{ℕ, List, [], map, ◌==◌, ◌-◌, nat_lt, replicate, Option, None, slice_get, slice_index_or, slice_set, if◌then◌else◌}
+use Rattle.std.specs.Option.{option_map_or}
+use Rattle.vlm_words.specs.declared.blocks.Block.{Block}
+use Rattle.vlm_words.specs.declared.conditions.Cond.{Cond}
+use Rattle.vlm_words.specs.Conditions.{condition_number}
+use Rattle.vlm_words.specs.State.{Process, process_of}
+
+-- a status block at its making
+abbrev pub new_status_block : Block
+new_status_block = record { status = 0; lkid = 0; value = replicate 16 0 }
+
+-- the status blocks of a living process, of which block n stands at n - 1
+abbrev pub status_blocks_of : List Process → ℕ → List Block
+status_blocks_of processes pid = option_map_or (λ p. p.blocks) (process_of processes pid) []
+
+-- block n of the process, from 1
+abbrev pub status_block_of : List Process → ℕ → ℕ → Block
+status_block_of processes pid n = slice_index_or (status_blocks_of processes pid) (n - 1) new_status_block
+
+-- block n of the process, if both are there
+unfoldable pub status_block_at : List Process → ℕ → ℕ → Option Block
+status_block_at processes pid n = if nat_lt 0 n then slice_get (status_blocks_of processes pid) (n - 1) else None
+
+-- the process with this in the place of its block n
+abbrev pub process_with_block : ℕ → Block → Process → Process
+process_with_block n block p = record p { blocks = slice_set p.blocks (n - 1) block }
+
+-- block n is written if the process has this identification
+unfoldable pub process_after_write : ℕ → ℕ → Block → Process → Process
+process_after_write pid n block p = if p.pid == pid then process_with_block n block p else p
+
+-- block n of the process with this identification is this one now, and no other process is changed
+abbrev pub processes_after_write : ℕ → ℕ → Block → List Process → List Process
+processes_after_write pid n block processes = map (process_after_write pid n block) processes
+
+-- a request was accepted: its block is that of a pending request for this lock, and keeps its value part
+unfoldable pub processes_after_acceptance : ℕ → ℕ → ℕ → List Process → List Process
+processes_after_acceptance pid n lkid processes =
+    processes_after_write pid n (record (status_block_of processes pid n) { status = 0; lkid = lkid }) processes
+
+-- the value part of a block is this one now
+unfoldable pub processes_after_setting : ℕ → ℕ → List ℕ → List Process → List Process
+processes_after_setting pid n value processes =
+    processes_after_write pid n (record (status_block_of processes pid n) { value = value }) processes
+
+-- a request has ended: its block gets the status, and keeps its lock and its value part
+unfoldable pub processes_after_status : ℕ → ℕ → Cond → List Process → List Process
+processes_after_status pid n cond processes =
+    processes_after_write pid n (record (status_block_of processes pid n) { status = condition_number cond })
+    processes
+
+-- a request has ended with a value block: its block gets both, and keeps its lock
+unfoldable pub processes_after_return : ℕ → ℕ → Cond → List ℕ → List Process → List Process
+processes_after_return pid n cond value processes =
+    processes_after_write pid n
+    (record (status_block_of processes pid n) { status = condition_number cond; value = value }) processes

@@ -1,0 +1,14 @@
+-- The value block of a resource.
+use Rattle.std.specs.Prelude.{Bool, true, false, replicate}
+use Rattle.vlm_words.specs.declared.conditions.Cond.TheVariants.{Normal, Valnotvalid}
+use Rattle.vlm_words.specs.declared.conditions.Cond.{Cond}
+use Rattle.vlm_words.specs.declared.resources.ValueBlock.{ValueBlock}
+
+-- the value block of a new resource: valid zeros
+abbrev pub new_value_block : ValueBlock
+new_value_block = record { value = replicate 16 0; valid = true }
+
+-- the status of a request that the value block is returned to: VALNOTVALID where it is invalid
+abbrev pub return_status : Bool → Cond
+return_status true = Normal
+return_status false = Valnotvalid
