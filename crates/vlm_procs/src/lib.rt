@@ -5,4 +5,4 @@
 
 mod blocks;
 
-pub use blocks::{accept, block, end, end_with_value, has_block, set_value, value};
+pub use blocks::{accept, end, end_with_value, has_status_block, set_value, status_block, value};

@@ -1,8 +1,8 @@
 //! The record of a process.
 
 ghost use Rattle.std.specs.Prelude.{◌≡◌, ◌<◌, IfOk};
-ghost use Rattle.vlm_words.specs.Blocks.{block_put};
-ghost use Rattle.vlm_words.specs.Declare.{process_made};
+ghost use Rattle.vlm_words.specs.StatusBlocks.{process_after_write};
+ghost use Rattle.vlm_words.specs.Declare.{new_process};
 
 use std::alloc::{AllocError, Global};
 use std::marker::Model;
@@ -42,7 +42,7 @@ impl Process {
         pid: u32,
         declaration: &Declaration,
     ) -> Result<Self, AllocError>
-        ensures { IfOk result (λ p. p ≡ process_made pid declaration.now) }
+        ensures { IfOk result (λ p. p ≡ new_process pid declaration.now) }
     {
         Ok(Process {
             pid,
@@ -68,7 +68,7 @@ impl Process {
     }
 
     /// Its status blocks.
-    pub(crate) fn blocks(&self) -> &[Block]
+    pub(crate) fn status_blocks(&self) -> &[Block]
         ensures { result.now ≡ self.now.blocks }
     {
         &self.blocks
@@ -76,9 +76,9 @@ impl Process {
 
     /// Puts a status block in the place of the one with this number, if the process has this
     /// identification and the block is there. Number 0 is taken for 1.
-    #[tactic(auto, unfolding(vlm_words::specs::Blocks::block_put))]
-    pub(crate) fn put_block(&mut self, pid: u32, number: u8, block: Block)
-        ensures { self.new ≡ block_put pid number block self.old }
+    #[tactic(auto, unfolding(vlm_words::specs::StatusBlocks::process_after_write))]
+    pub(crate) fn put_status_block(&mut self, pid: u32, number: u8, block: Block)
+        ensures { self.new ≡ process_after_write pid number block self.old }
     {
         if self.pid != pid {
             return;

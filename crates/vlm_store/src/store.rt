@@ -1,9 +1,9 @@
 //! The store.
 
-ghost use Rattle.std.specs.Prelude.{◌≡◌, ◌<◌, ◌++◌, List, [], ◌∷◌, OnErr, OnOk, option_copied};
+ghost use Rattle.std.specs.Prelude.{◌≡◌, ◌<◌, ◌++◌, List, [], ◌∷◌, None, OnErr, OnOk, option_copied};
 ghost use Rattle.std.specs.Option.{option_map, option_map_or};
-ghost use Rattle.vlm_words.specs.Blocks.{blocks_of, set_block};
-ghost use Rattle.vlm_words.specs.Declare.{process_made};
+ghost use Rattle.vlm_words.specs.StatusBlocks.{status_blocks_of, processes_after_write};
+ghost use Rattle.vlm_words.specs.Declare.{new_process};
 ghost use Rattle.vlm_words.specs.State.{process_of};
 ghost use Rattle.vlm_store.specs.Records.{empty, without_process};
 
@@ -14,7 +14,7 @@ use vlm_words::blocks::Block;
 use vlm_words::steps::Declaration;
 
 /// The key of a process record.
-#[derive(Clone, Copy, Debug, PartialEq, Eq)]
+#[derive(Clone, Copy)]
 pub struct ProcAt {
     // its identification
     pid: u32,
@@ -65,9 +65,13 @@ impl Store {
         }
     }
 
-    /// Adds a process with new status blocks. Where memory is refused nothing is changed.
+    /// Adds a process with new status blocks. No living process has its identification. Where memory is
+    /// refused nothing is changed.
     pub fn add_process(&mut self, pid: u32, declaration: &Declaration) -> Result<(), AllocError>
-        ensures ok { OnOk result (self.new ≡ record self.old { processes = self.old.processes ++ process_made pid declaration.now ∷ [] }) }
+        requires { process_of self.old.processes pid ≡ None }
+        ensures ok { OnOk result (self.new ≡ record self.old {
+          processes = self.old.processes ++ new_process pid declaration.now ∷ [];
+        }) }
         ensures err { OnErr result (self.new ≡ self.old) }
     {
         let process = Process::new(*self.processes.allocator(), pid, declaration)?;
@@ -93,22 +97,24 @@ impl Store {
     }
 
     /// The status blocks of a process, of which block n stands at n - 1.
-    pub fn blocks(&self, at: ProcAt) -> &[Block]
-        ensures { result.now ≡ blocks_of self.now.processes at }
+    pub fn status_blocks(&self, at: ProcAt) -> &[Block]
+        ensures { result.now ≡ status_blocks_of self.now.processes at }
     {
         match find_process(&self.processes, at.pid) {
-            Some(process) => process.blocks(),
+            Some(process) => process.status_blocks(),
             None => &[],
         }
     }
 
     /// Puts a status block of a process in the place of the one with this number, if it is there. Number
     /// 0 is taken for 1.
-    pub fn set_block(&mut self, at: ProcAt, number: u8, block: Block)
-        ensures { self.new ≡ record self.old { processes = set_block at number block self.old.processes } }
+    pub fn set_status_block(&mut self, at: ProcAt, number: u8, block: Block)
+        ensures { self.new ≡ record self.old {
+          processes = processes_after_write at number block self.old.processes;
+        } }
     {
         for process in self.processes.iter_mut() {
-            process.put_block(at.pid, number, block);
+            process.put_status_block(at.pid, number, block);
         }
     }
 }
