@@ -1,5 +1,6 @@
+pub mod Admitting
+pub mod EndEffects
 pub mod Entering
+pub mod Identifications
 pub mod Making
-pub mod Places
 pub mod Rows
-pub mod Telling

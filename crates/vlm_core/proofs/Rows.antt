@@ -3,7 +3,7 @@ use Rattle.std.proofs.Common.{◌≡◌, ◌≤◌, ◌+◌, ℕ, Bool, List, []
 use Rattle.std.specs.Prelude.{find}
 use Rattle.std.proofs.lemmas.Bool.Decides.{nat_tests}
 use Rattle.vlm_words.specs.declared.locks.Row.{Row}
-use Rattle.vlm_words.specs.Dequeue.{is_lock_of, rows_of, rows_without}
+use Rattle.vlm_words.specs.Rows.{is_lock_of, rows_of, rows_without}
 
 -- the rows of a lock and the others are all rows
 pub parted : (lkid : ℕ) (rows : List Row) → length (rows_of lkid rows) + length (rows_without lkid rows) ≡ length rows

@@ -1,4 +1,7 @@
-pub mod Resources
 pub mod Machine
+pub mod Resources
 pub mod Views
 pub mod Running
+pub mod Admissions
+pub mod Granted
+pub mod Serving

@@ -16,8 +16,8 @@ resource_view r = record {
   parent = r.parent;
   domain = r.domain;
   name = r.name;
-  value = r.value;
-  valid = r.valid;
+  value = r.value_block.value;
+  valid = r.value_block.valid;
 }
 
 -- a queue of a resource

@@ -1,17 +1,18 @@
-//! What several steps share: checks, which only read and answer the refusal, and the sweep.
+//! The checks that several steps make. They only read, and answer the refusal.
 
 ghost use Rattle.std.specs.Prelude.{◌≡◌, ◌<◌, ◌^◌, IfOk, OnOk};
 ghost use Rattle.std.specs.Result.{result_err};
-ghost use Rattle.vlm_words.specs.Checks.{block_refusal, caller_refusal, named_lkid, numbers_refusal, request_numbers_refusal, which_refusal};
-ghost use Rattle.vlm_words.specs.Dequeue.{lock_refusal};
-ghost use Rattle.vlm_words.specs.Sweeps.{swept_state};
+ghost use Rattle.vlm_words.specs.Checks.{acceptance, caller_refusal, lock_refusal, named_lkid, numbers_refusal, queue_refusal, request_numbers_refusal, status_block_refusal, which_refusal};
+ghost use Rattle.vlm_words.specs.Flags.{flag_bits};
 
+use crate::flags::has_flag;
 use crate::machine::Core;
 use crate::nodes::has_departed;
-use crate::tables::{is_held, sweep};
-use vlm_procs::{block, has_block};
+use crate::tables::is_held;
+use vlm_procs::{has_status_block, status_block};
 use vlm_store::ProcAt;
 use vlm_words::conditions::Cond;
+use vlm_words::flags::EnqFlags;
 use vlm_words::steps::Which;
 
 impl Core {
@@ -56,11 +57,11 @@ impl Core {
     }
 
     /// ACCVIO where the caller has no status block of the number.
-    #[tactic(auto, unfolding(vlm_words::specs::Checks::block_refusal))]
-    pub(crate) fn check_block(&self, caller: ProcAt, block: u8) -> Result<(), Cond>
-        ensures { result_err result ≡ block_refusal self.now caller block }
+    #[tactic(auto, unfolding(vlm_words::specs::Checks::status_block_refusal))]
+    pub(crate) fn check_status_block(&self, caller: ProcAt, block: u8) -> Result<(), Cond>
+        ensures { result_err result ≡ status_block_refusal self.now caller block }
     {
-        if has_block(&self.store, caller, block) {
+        if has_status_block(&self.store, caller, block) {
             Ok(())
         } else {
             Err(Cond::Accvio)
@@ -69,14 +70,14 @@ impl Core {
 
     /// The identification that is named: its own, or what stands in a status block of the caller.
     /// ACCVIO where the caller has no such block.
-    #[tactic(auto, unfolding(vlm_words::specs::Checks::which_refusal, vlm_words::specs::Checks::block_refusal, vlm_words::specs::Blocks::block_found))]
+    #[tactic(auto, unfolding(vlm_words::specs::Checks::which_refusal, vlm_words::specs::Checks::status_block_refusal, vlm_words::specs::StatusBlocks::status_block_at))]
     pub(crate) fn named(&self, caller: ProcAt, lock: Which) -> Result<u32, Cond>
         ensures refusal { result_err result ≡ which_refusal self.now caller lock }
         ensures lkid { IfOk result (λ lkid. lkid ≡ named_lkid self.now caller lock) }
     {
         match lock {
             Which::Id(lkid) => Ok(lkid),
-            Which::Block(number) => match block(&self.store, caller, number) {
+            Which::Block(number) => match status_block(&self.store, caller, number) {
                 Some(block) => Ok(block.lkid),
                 None => Err(Cond::Accvio),
             },
@@ -84,7 +85,7 @@ impl Core {
     }
 
     /// IVLOCKID where the identification is not that of a lock of the caller.
-    #[tactic(auto, unfolding(vlm_words::specs::Dequeue::lock_refusal))]
+    #[tactic(auto, unfolding(vlm_words::specs::Checks::lock_refusal))]
     pub(crate) fn check_lock(&self, pid: u32, lkid: u32) -> Result<(), Cond>
         ensures { result_err result ≡ lock_refusal self.now pid lkid }
     {
@@ -94,12 +95,26 @@ impl Core {
             Err(Cond::Ivlockid)
         }
     }
+}
 
-    /// Ends a step: every resource is served, each grant takes effect on its resource's value block and on
-    /// its status block, and resources without locks go.
-    pub(crate) fn sweep(&mut self)
-        ensures { self.new ≡ swept_state self.old }
-    {
-        sweep(&mut self.resources, &mut self.store);
+/// NOTQUEUED where a request that must not queue is not granted at once.
+pub(crate) fn check_queue(flags: EnqFlags, at_once: bool) -> Result<(), Cond>
+    ensures { result_err result ≡ queue_refusal (flag_bits flags) at_once }
+{
+    if has_flag(flags, EnqFlags::NOQUEUE) && !at_once {
+        Err(Cond::Notqueued)
+    } else {
+        Ok(())
+    }
+}
+
+/// What an accepted request answers: SYNCH where it is granted at once and asks for that.
+pub(crate) fn acceptance(flags: EnqFlags, at_once: bool) -> Cond
+    ensures { result ≡ acceptance (flag_bits flags) at_once }
+{
+    if has_flag(flags, EnqFlags::SYNCSTS) && at_once {
+        Cond::Synch
+    } else {
+        Cond::Normal
     }
 }

@@ -1,38 +1,36 @@
 //! The step that converts a lock to another mode.
 
-ghost use Rattle.std.specs.Prelude.{◌≡◌, ◌<◌, ◌^◌, Some, IfOk, OnOk};
-ghost use Rattle.std.specs.Option.{option_map};
+ghost use Rattle.std.specs.Prelude.{◌≡◌, Some, IfOk};
 ghost use Rattle.std.specs.Result.{result_err};
-ghost use Rattle.vlm_words.specs.Convert.{conversion_lkid, conversion_of, convert_argument_refusal, convert_at_once, convert_change, convert_refusal, granted_place, is_queued_legally_from, place_refusal};
+ghost use Rattle.vlm_words.specs.Convert.{ConversionAdmission, admission_refusal, convert_admission, convert_argument_refusal, convert_change, convert_lkid, convert_refusal, is_queued_legally_from, pair_refusal};
 ghost use Rattle.vlm_words.specs.Flags.{flag_bits};
-ghost use Rattle.vlm_words.specs.State.{Resource};
 ghost use Rattle.vlm_words.specs.Stepped.{stepped};
-ghost use Rattle.vlm_words.specs.Values.{value_block};
+ghost use Rattle.vlm_core.specs.Admissions.{IsAdmittedConversion};
 
-use crate::ending::end_by_grant;
-use crate::enqueuing::{acceptance, check_queue};
+use crate::checks::{acceptance, check_queue};
+use crate::endings::end_by_grant;
 use crate::flags::{enq_flags, has_flag};
 use crate::machine::Core;
 use crate::resources::wanting_row;
-use crate::tables::{convert_all, granted_place};
-use crate::values::ValueBlock;
+use crate::tables::{convert_all, granted_lock};
 use vlm_procs::accept;
 use vlm_store::ProcAt;
 use vlm_words::conditions::Cond;
 use vlm_words::flags::EnqFlags;
 use vlm_words::locks::{Request, Row};
 use vlm_words::modes::{Mode, quecvt_legal};
+use vlm_words::resources::ValueBlock;
 use vlm_words::steps::{Answer, Conversion, Step};
 
 /// A conversion that no check refuses.
 #[derive(Clone, Copy)]
-struct Admission {
+pub(crate) struct AdmittedConversion {
     caller: ProcAt,
     lkid: u32,
     // the lock as it is granted
     row: Row,
     // the value block of its resource
-    block: ValueBlock,
+    value_block: ValueBlock,
     asked: Request,
     at_once: bool,
 }
@@ -49,13 +47,13 @@ impl Core {
         ensures state { self.new ≡ (stepped self.old (Step.Convert conversion)).state }
         ensures answer { result ≡ (stepped self.old (Step.Convert conversion)).answer }
     {
-        match self.check_conversion(&conversion) {
-            Ok(admission) => {
-                self.convert_lock(&admission, &conversion);
+        match self.convert_refusal(&conversion) {
+            Ok(admitted) => {
+                self.convert_change(&conversion, &admitted);
                 self.sweep();
                 Answer::Lock(
-                    acceptance(admission.asked.flags, admission.at_once),
-                    admission.lkid,
+                    acceptance(admitted.asked.flags, admitted.at_once),
+                    admitted.lkid,
                 )
             }
             Err(refusal) => Answer::Plain(refusal),
@@ -63,35 +61,49 @@ impl Core {
     }
 
     // The checks in their order.
-    #[tactic(auto, using(crate::proofs::Places::ungranted_refusal), unfolding(vlm_words::specs::Convert::convert_refusal, vlm_words::specs::Convert::convert_at_once))]
-    fn check_conversion(&self, conversion: &Conversion) -> Result<Admission, Cond>
+    #[tactic(auto, unfolding(vlm_words::specs::Convert::convert_refusal))]
+    fn convert_refusal(&self, conversion: &Conversion) -> Result<AdmittedConversion, Cond>
         ensures refusal { result_err result ≡ convert_refusal self.now conversion.now }
-        ensures caller { IfOk result (λ a. a.caller ≡ conversion.now.pid) }
-        ensures lkid { IfOk result (λ a. a.lkid ≡ conversion_lkid self.now conversion.now) }
-        ensures row { IfOk result (λ a. option_map (λ p. p.row) (granted_place conversion.now.pid a.lkid self.now.resources) ≡ Some a.row) }
-        ensures block { IfOk result (λ a. option_map (λ p. value_block p.resource) (granted_place conversion.now.pid a.lkid self.now.resources) ≡ Some a.block) }
-        ensures asked { IfOk result (λ a. a.asked ≡ conversion_of self.now conversion.now) }
-        ensures at_once { IfOk result (λ a. a.at_once ≡ convert_at_once self.now conversion.now) }
-        ensures number { OnOk result (self.now.next_request < 2 ^ 64) }
+        ensures admitted { IfOk result (λ a. IsAdmittedConversion self.now conversion.now a) }
     {
         let caller = self.caller(conversion.pid)?;
         let flags = checked_flags(conversion)?;
-        self.check_block(caller, conversion.block)?;
+        self.check_status_block(caller, conversion.block)?;
         let lkid = self.named(caller, conversion.lock)?;
         self.check_lock(conversion.pid, lkid)?;
-        let Some((resource, row)) = granted_place(&self.resources, conversion.pid, lkid) else {
+        self.admission_refusal(caller, flags, lkid, conversion)
+    }
+
+    // The lock is granted somewhere, or CVTUNGRANT; and then the checks of the conversion there, in their
+    // order.
+    #[tactic(auto, using(crate::proofs::Admitting::admitted_at, crate::proofs::Admitting::not_admitted))]
+    fn admission_refusal(
+        &self,
+        caller: ProcAt,
+        flags: EnqFlags,
+        lkid: u32,
+        conversion: &Conversion,
+    ) -> Result<AdmittedConversion, Cond>
+        requires caller { caller ≡ conversion.now.pid }
+        requires flags { flag_bits flags ≡ conversion.now.flags }
+        requires lkid { lkid ≡ convert_lkid self.now conversion.now }
+        ensures refusal { let admission = convert_admission self.now conversion.now
+            in result_err result ≡ admission_refusal self.now conversion.now admission }
+        ensures admitted { IfOk result (λ a. IsAdmittedConversion self.now conversion.now a) }
+    {
+        let Some((resource, row)) = granted_lock(&self.resources, conversion.pid, lkid) else {
             return Err(Cond::Cvtungrant);
         };
         check_pair(conversion, flags, &row)?;
         self.check_request_numbers()?;
-        let asked = conversion_of(self.last_request + 1, flags, conversion);
+        let asked = request_of(self.last_request + 1, flags, conversion);
         let at_once = resource.converts_at_once(&asked, lkid);
         check_queue(flags, at_once)?;
-        Ok(Admission {
+        Ok(AdmittedConversion {
             caller,
             lkid,
             row,
-            block: resource.value_block(),
+            value_block: resource.value_block(),
             asked,
             at_once,
         })
@@ -99,34 +111,29 @@ impl Core {
 
     // The lock converts, its status block is written, again if the conversion is granted at once, and the
     // request number that it took is used up.
-    #[tactic(auto, using(crate::proofs::Places::place_moment), unfolding(vlm_words::specs::Convert::convert_change, vlm_words::specs::Convert::convert_moment, vlm_words::specs::Convert::convert_at_once))]
-    fn convert_lock(&mut self, admission: &Admission, conversion: &Conversion)
-        requires caller { admission.now.caller ≡ conversion.now.pid }
-        requires lkid { admission.now.lkid ≡ conversion_lkid self.old conversion.now }
-        requires row { option_map (λ p. p.row) (granted_place conversion.now.pid admission.now.lkid self.old.resources) ≡ Some admission.now.row }
-        requires block { option_map (λ p. value_block p.resource) (granted_place conversion.now.pid admission.now.lkid self.old.resources) ≡ Some admission.now.block }
-        requires asked { admission.now.asked ≡ conversion_of self.old conversion.now }
-        requires at_once { admission.now.at_once ≡ convert_at_once self.old conversion.now }
-        requires number { self.old.next_request < 2 ^ 64 }
-        ensures { self.new ≡ convert_change self.old conversion.now }
+    #[tactic(auto, using(crate::proofs::Identifications::pids_accepted, crate::proofs::Identifications::pids_ended), unfolding(vlm_words::specs::Convert::convert_change, vlm_words::specs::Convert::convert_blocks))]
+    fn convert_change(&mut self, conversion: &Conversion, admitted: &AdmittedConversion)
+        requires { IsAdmittedConversion self.old conversion.now admitted.now }
+        ensures { (a : ConversionAdmission) → convert_admission self.old conversion.now ≡ Some a
+            → self.new ≡ convert_change self.old conversion.now a }
     {
         accept(
             &mut self.store,
-            admission.caller,
+            admitted.caller,
             conversion.block,
-            admission.lkid,
+            admitted.lkid,
         );
-        let mut block = admission.block;
-        if admission.at_once {
-            let row = wanting_row(admission.row, &admission.asked);
-            end_by_grant(&mut block, &mut self.store, &row);
+        let mut value_block = admitted.value_block;
+        if admitted.at_once {
+            let row = wanting_row(admitted.row, &admitted.asked);
+            end_by_grant(&mut value_block, &mut self.store, &row);
         }
         convert_all(
             &mut self.resources,
-            &admission.asked,
+            &admitted.asked,
             conversion.pid,
-            admission.lkid,
-            block,
+            admitted.lkid,
+            value_block,
         );
         self.last_request += 1;
     }
@@ -149,10 +156,10 @@ fn checked_flags(conversion: &Conversion) -> Result<EnqFlags, Cond>
 }
 
 // BADPARAM where QUECVT does not go with a conversion from what the row holds.
-#[tactic(auto, unfolding(vlm_words::specs::Convert::place_refusal))]
+#[tactic(auto, unfolding(vlm_words::specs::Convert::pair_refusal))]
 fn check_pair(conversion: &Conversion, flags: EnqFlags, row: &Row) -> Result<(), Cond>
     requires { flag_bits flags ≡ conversion.now.flags }
-    ensures { (resource : Resource) → result_err result ≡ place_refusal conversion.now (Some (record { resource = resource; row = row.now })) }
+    ensures { result_err result ≡ pair_refusal conversion.now row.now }
 {
     if has_flag(flags, EnqFlags::QUECVT) && !is_legal_from(row.held, conversion.mode) {
         Err(Cond::Badparam)
@@ -171,7 +178,7 @@ fn is_legal_from(held: Option<Request>, mode: Mode) -> bool
     }
 }
 
-fn conversion_of(number: u64, flags: EnqFlags, conversion: &Conversion) -> Request
+fn request_of(number: u64, flags: EnqFlags, conversion: &Conversion) -> Request
     ensures { result ≡ record {
       number = number;
       mode = conversion.now.mode;

@@ -21,21 +21,25 @@ impl Core {
     pub fn declare(&mut self, declaration: Declaration) -> Answer
         ensures { Outcome self.old (Step.Declare declaration) self.new result }
     {
-        if let Err(refusal) = self.check_declaration(&declaration) {
+        if let Err(refusal) = self.declare_refusal(&declaration) {
             return Answer::Plain(refusal);
         }
-        match self.add_process(&declaration) {
-            Ok(pid) => Answer::Process(pid),
+        match self.declare_change(&declaration) {
+            Ok(pid) => {
+                self.sweep();
+                Answer::Process(pid)
+            }
             Err(AllocError) => Answer::Plain(Cond::Insfmem),
         }
     }
 
     #[tactic(auto, unfolding(vlm_words::specs::Declare::declare_refusal))]
-    fn check_declaration(&self, declaration: &Declaration) -> Result<(), Cond>
+    fn declare_refusal(&self, declaration: &Declaration) -> Result<(), Cond>
         ensures refusal { result_err result ≡ declare_refusal self.now declaration.now }
         ensures first { OnOk result (1 ≤ declaration.now.node) }
         ensures last { OnOk result (declaration.now.node ≤ 8) }
-        ensures ordinal { OnOk result ((node_at self.now.nodes declaration.now.node).declared < 65535) }
+        ensures ordinal { OnOk result
+            ((node_at self.now.nodes declaration.now.node).declared < 65535) }
     {
         let node = declaration.node;
         if node < 1 || 8 < node {
@@ -52,8 +56,8 @@ impl Core {
     }
 
     // The process lives, under the next ordinal of its node.
-    #[tactic(auto, unfolding(vlm_words::specs::Declare::declare_change))]
-    fn add_process(&mut self, declaration: &Declaration) -> Result<u32, AllocError>
+    #[tactic(auto, using(crate::proofs::Identifications::next_is_new, crate::proofs::Identifications::pids_added), unfolding(vlm_words::specs::Declare::declare_change))]
+    fn declare_change(&mut self, declaration: &Declaration) -> Result<u32, AllocError>
         requires first { 1 ≤ declaration.now.node }
         requires last { declaration.now.node ≤ 8 }
         requires ordinal { (node_at self.old.nodes declaration.now.node).declared < 65535 }

@@ -8,7 +8,7 @@ ghost use Rattle.vlm_words.specs.Stepped.{stepped};
 
 use crate::flags::{deq_flags, has_deq_flag};
 use crate::machine::Core;
-use crate::tables::{dequeue_all, is_granted, withdraw_all};
+use crate::tables::{end_withdrawn, is_granted, withdraw_all};
 use crate::withdrawals::Withdrawal;
 use vlm_words::conditions::Cond;
 use vlm_words::flags::DeqFlags;
@@ -24,9 +24,9 @@ impl Core {
         ensures state { self.new ≡ (stepped self.old (Step.Deq dequeue)).state }
         ensures answer { result ≡ (stepped self.old (Step.Deq dequeue)).answer }
     {
-        match self.check_deq(&dequeue) {
+        match self.deq_refusal(&dequeue) {
             Ok(withdrawal) => {
-                self.withdraw(&dequeue, &withdrawal);
+                self.deq_change(&dequeue, &withdrawal);
                 self.sweep();
                 Answer::Plain(Cond::Normal)
             }
@@ -35,18 +35,18 @@ impl Core {
     }
 
     // The lock's requests end, and it is gone from every queue, or only its request is.
-    #[tactic(auto, unfolding(vlm_words::specs::Dequeue::deq_change))]
-    fn withdraw(&mut self, dequeue: &Dequeue, withdrawal: &Withdrawal)
+    #[tactic(auto, using(crate::proofs::Identifications::pids_withdrawn), unfolding(vlm_words::specs::Dequeue::deq_change))]
+    fn deq_change(&mut self, dequeue: &Dequeue, withdrawal: &Withdrawal)
         requires { withdrawal.now ≡ withdrawal_of self.old dequeue.now }
         ensures { self.new ≡ deq_change self.old dequeue.now }
     {
-        withdraw_all(&self.resources, &mut self.store, withdrawal);
-        dequeue_all(&mut self.resources, withdrawal);
+        end_withdrawn(&self.resources, &mut self.store, withdrawal);
+        withdraw_all(&mut self.resources, withdrawal);
     }
 
     // The checks in their order.
     #[tactic(auto, unfolding(vlm_words::specs::Dequeue::deq_refusal))]
-    fn check_deq(&self, dequeue: &Dequeue) -> Result<Withdrawal, Cond>
+    fn deq_refusal(&self, dequeue: &Dequeue) -> Result<Withdrawal, Cond>
         ensures refusal { result_err result ≡ deq_refusal self.now dequeue.now }
         ensures withdrawal { IfOk result (λ w. w ≡ withdrawal_of self.now dequeue.now) }
     {

@@ -1,19 +1,17 @@
 //! The step that asks for a new lock.
 
-ghost use Rattle.std.specs.Prelude.{◌≡◌, ◌<◌, ◌^◌, false, find, unwrap_or, IfOk, OnErr, OnOk};
+ghost use Rattle.std.specs.Prelude.{◌≡◌, ◌<◌, ◌^◌, false, IfOk, OnErr, OnOk};
 ghost use Rattle.std.specs.Result.{result_err};
-ghost use Rattle.vlm_words.specs.Checks.{acceptance, queue_refusal};
-ghost use Rattle.vlm_words.specs.Enqueue.{enq_argument_refusal, enq_at_once, enq_change, enq_refusal, expedite_refusal, found_by, is_at, is_at_once, is_no_parent, key_of, name_refusal, new_resource, request_of};
+ghost use Rattle.vlm_words.specs.Enqueue.{enq_argument_refusal, enq_change, enq_refusal, expedite_refusal, is_no_parent, name_refusal};
 ghost use Rattle.vlm_words.specs.Flags.{flag_bits};
 ghost use Rattle.vlm_words.specs.Stepped.{Outcome};
-ghost use Rattle.vlm_words.specs.Values.{value_block};
+ghost use Rattle.vlm_core.specs.Admissions.{IsAdmitted};
 
-use crate::ending::end_by_grant;
+use crate::checks::{acceptance, check_queue};
+use crate::endings::end_by_grant;
 use crate::flags::{enq_flags, has_flag};
 use crate::machine::Core;
-use crate::resources::Key;
 use crate::tables::{enter_among, enters_at_once, value_block_under};
-use crate::values::ValueBlock;
 use std::alloc::AllocError;
 use vlm_procs::accept;
 use vlm_store::ProcAt;
@@ -22,17 +20,18 @@ use vlm_words::flags::EnqFlags;
 use vlm_words::locks::{Request, Row};
 use vlm_words::modes::Mode;
 use vlm_words::names::{Name, NameArg};
-use vlm_words::resources::Domain;
+use vlm_words::resources::{Domain, Key, ValueBlock};
 use vlm_words::steps::{Answer, NewRequest, Step, Which};
 
 /// A new request that no check refuses.
 #[derive(Clone, Copy)]
-struct Admission {
+pub(crate) struct AdmittedRequest {
     caller: ProcAt,
-    // where its resource stands
+    // the domain of its resource, and where it stands
+    domain: Domain,
     key: Key,
     // the value block there
-    block: ValueBlock,
+    value_block: ValueBlock,
     asked: Request,
     at_once: bool,
 }
@@ -46,14 +45,14 @@ impl Core {
     pub fn enq(&mut self, request: NewRequest) -> Answer
         ensures { Outcome self.old (Step.Enq request) self.new result }
     {
-        let admission = match self.check_enq(&request) {
-            Ok(admission) => admission,
+        let admitted = match self.enq_refusal(&request) {
+            Ok(admitted) => admitted,
             Err(refusal) => return Answer::Plain(refusal),
         };
-        match self.add_lock(&request, &admission) {
+        match self.enq_change(&request, &admitted) {
             Ok(lkid) => {
                 self.sweep();
-                Answer::Lock(acceptance(admission.asked.flags, admission.at_once), lkid)
+                Answer::Lock(acceptance(admitted.asked.flags, admitted.at_once), lkid)
             }
             Err(AllocError) => Answer::Plain(Cond::Insfmem),
         }
@@ -61,85 +60,59 @@ impl Core {
 
     // The checks in their order.
     #[tactic(auto, unfolding(vlm_words::specs::Enqueue::enq_refusal))]
-    fn check_enq(&self, request: &NewRequest) -> Result<Admission, Cond>
+    fn enq_refusal(&self, request: &NewRequest) -> Result<AdmittedRequest, Cond>
         ensures refusal { result_err result ≡ enq_refusal self.now request.now }
-        ensures caller { IfOk result (λ a. a.caller ≡ request.now.pid) }
-        ensures key { IfOk result (λ a. a.key ≡ key_of self.now request.now) }
-        ensures asked { IfOk result (λ a. a.asked ≡ request_of self.now request.now) }
-        ensures block { IfOk result (λ a. a.block ≡ value_block (found_by self.now request.now)) }
-        ensures at_once { IfOk result (λ a. a.at_once ≡ enq_at_once self.now request.now) }
-        ensures lkid { OnOk result (self.now.next_lkid < 2 ^ 32) }
-        ensures number { OnOk result (self.now.next_request < 2 ^ 64) }
+        ensures admitted { IfOk result (λ a. IsAdmitted self.now request.now a) }
     {
         let caller = self.caller(request.pid)?;
         let flags = checked_flags(request)?;
-        self.check_block(caller, request.block)?;
+        self.check_status_block(caller, request.block)?;
         let name = checked_name(&request.name)?;
         check_expedite(request.mode, flags)?;
         self.check_numbers()?;
-        let admission = self.admission(caller, flags, name, request);
-        check_queue(flags, admission.at_once)?;
-        Ok(admission)
+        let admitted = self.admitted(caller, flags, name, request);
+        check_queue(flags, admitted.at_once)?;
+        Ok(admitted)
     }
 
     // What the request asks for, and whether it is granted at once.
-    #[tactic(auto, unfolding(vlm_words::specs::Enqueue::found_by))]
-    fn admission(
+    #[tactic(auto, unfolding(vlm_words::specs::Enqueue::enq_resource))]
+    fn admitted(
         &self,
         caller: ProcAt,
         flags: EnqFlags,
         name: Name,
         request: &NewRequest,
-    ) -> Admission
+    ) -> AdmittedRequest
         requires caller { caller ≡ request.now.pid }
         requires flags { flag_bits flags ≡ request.now.flags }
         requires name { name ≡ request.now.name }
+        requires lkid { self.now.next_lkid < 2 ^ 32 }
         requires number { self.now.next_request < 2 ^ 64 }
-        ensures caller { result.caller ≡ request.now.pid }
-        ensures key { result.key ≡ key_of self.now request.now }
-        ensures block { result.block ≡ value_block (found_by self.now request.now) }
-        ensures asked { result.asked ≡ request_of self.now request.now }
-        ensures at_once { result.at_once ≡ enq_at_once self.now request.now }
+        ensures { IsAdmitted self.now request.now result }
     {
-        let key = self.root_key(caller, name, request);
+        let domain = Domain::Group(self.store.group(caller));
+        let key = Key::Root(domain, name);
         let asked = request_of(self.last_request + 1, flags, request);
-        let at_once = self.enters_at_once(&key, &asked);
-        Admission {
+        AdmittedRequest {
             caller,
+            domain,
             key,
-            block: value_block_under(&self.resources, &key),
+            value_block: value_block_under(&self.resources, &key),
             asked,
-            at_once,
+            at_once: enters_at_once(&self.resources, &key, &asked),
         }
     }
 
-    // Where the resource stands: a root is in the group of its caller.
-    fn root_key(&self, caller: ProcAt, name: Name, request: &NewRequest) -> Key
-        requires caller { caller ≡ request.now.pid }
-        requires name { name ≡ request.now.name }
-        ensures { result ≡ key_of self.now request.now }
-    {
-        Key::root(Domain::Group(self.store.group(caller)), name)
-    }
-
-    // Whether the request is granted at once in the resource under the key, or in a new one.
-    fn enters_at_once(&self, key: &Key, asked: &Request) -> bool
-        ensures { result ≡ is_at_once asked.now (unwrap_or (find (is_at key.now) self.now.resources) (new_resource self.now.next_serial key.now)) }
-    {
-        enters_at_once(&self.resources, key, asked)
-    }
-
     // The lock enters its resource, its status block is written, again if the request is granted at once,
-    // and the numbers that it took are used up.
-    #[tactic(auto, unfolding(vlm_words::specs::Enqueue::enq_change))]
-    fn add_lock(&mut self, request: &NewRequest, admission: &Admission) -> Result<u32, AllocError>
-        requires caller { admission.now.caller ≡ request.now.pid }
-        requires key { admission.now.key ≡ key_of self.old request.now }
-        requires block { admission.now.block ≡ value_block (found_by self.old request.now) }
-        requires asked { admission.now.asked ≡ request_of self.old request.now }
-        requires at_once { admission.now.at_once ≡ enq_at_once self.old request.now }
-        requires lkid { self.old.next_lkid < 2 ^ 32 }
-        requires number { self.old.next_request < 2 ^ 64 }
+    // and the numbers that it took are used up. Where memory is refused nothing is changed.
+    #[tactic(auto, using(crate::proofs::Identifications::pids_accepted, crate::proofs::Identifications::pids_ended), unfolding(vlm_words::specs::Enqueue::enq_change))]
+    fn enq_change(
+        &mut self,
+        request: &NewRequest,
+        admitted: &AdmittedRequest,
+    ) -> Result<u32, AllocError>
+        requires { IsAdmitted self.old request.now admitted.now }
         ensures lkid { IfOk result (λ lkid. lkid ≡ self.old.next_lkid) }
         ensures change { OnOk result (self.new ≡ enq_change self.old request.now) }
         ensures err { OnErr result (self.new ≡ self.old) }
@@ -147,43 +120,28 @@ impl Core {
         let lkid = self.last_lkid + 1;
         let number = self.last_request + 1;
         let serial = self.last_serial + 1;
-        let asked = admission.asked;
+        let asked = admitted.asked;
         let row = row_of(lkid, request.pid, asked);
-        let made = enter_among(&mut self.resources, serial, &admission.key, row, &asked)?;
+        let made = enter_among(
+            &mut self.resources,
+            serial,
+            admitted.domain,
+            &admitted.key,
+            row,
+            &asked,
+        )?;
         if made {
             self.last_serial = serial;
         }
-        accept(&mut self.store, admission.caller, request.block, lkid);
-        if admission.at_once {
+        accept(&mut self.store, admitted.caller, request.block, lkid);
+        if admitted.at_once {
             // a new request returns the value block and never writes it
-            let mut block = admission.block;
-            end_by_grant(&mut block, &mut self.store, &row);
+            let mut value_block = admitted.value_block;
+            end_by_grant(&mut value_block, &mut self.store, &row);
         }
         self.last_lkid = lkid;
         self.last_request = number;
         Ok(lkid)
-    }
-}
-
-/// What an accepted request answers.
-pub(crate) fn acceptance(flags: EnqFlags, at_once: bool) -> Cond
-    ensures { result ≡ acceptance (flag_bits flags) at_once }
-{
-    if has_flag(flags, EnqFlags::SYNCSTS) && at_once {
-        Cond::Synch
-    } else {
-        Cond::Normal
-    }
-}
-
-/// NOTQUEUED where a request that must not queue is not granted at once.
-pub(crate) fn check_queue(flags: EnqFlags, at_once: bool) -> Result<(), Cond>
-    ensures { result_err result ≡ queue_refusal (flag_bits flags) at_once }
-{
-    if has_flag(flags, EnqFlags::NOQUEUE) && !at_once {
-        Err(Cond::Notqueued)
-    } else {
-        Ok(())
     }
 }
 
@@ -227,7 +185,7 @@ fn checked_name(name: &NameArg) -> Result<Name, Cond>
 fn check_expedite(mode: Mode, flags: EnqFlags) -> Result<(), Cond>
     ensures { result_err result ≡ expedite_refusal (flag_bits flags) mode }
 {
-    if has_flag(flags, EnqFlags::EXPEDITE) && mode != Mode::Nl {
+    if has_flag(flags, EnqFlags::EXPEDITE) && !matches!(mode, Mode::Nl) {
         Err(Cond::Unsupported)
     } else {
         Ok(())
@@ -257,7 +215,14 @@ fn request_of(number: u64, flags: EnqFlags, request: &NewRequest) -> Request
 }
 
 fn row_of(lkid: u32, pid: u32, request: Request) -> Row
-    ensures { result ≡ record { lkid = lkid; pid = pid; parent = 0; held = None; want = Some request; armed = false } }
+    ensures { result ≡ record {
+      lkid = lkid;
+      pid = pid;
+      parent = 0;
+      held = None;
+      want = Some request;
+      armed = false;
+    } }
 {
     Row {
         lkid,

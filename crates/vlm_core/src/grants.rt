@@ -2,7 +2,7 @@
 
 ghost use Rattle.std.specs.Prelude.{◌≡◌};
 ghost use Rattle.std.specs.List.{list_all};
-ghost use Rattle.vlm_words.specs.Dequeue.{rows_without};
+ghost use Rattle.vlm_words.specs.Rows.{rows_without};
 ghost use Rattle.vlm_words.specs.Grants.{fits, granted_row, is_beside, is_arming, wanted_fits};
 
 use vlm_words::locks::{Request, Row};

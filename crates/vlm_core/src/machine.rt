@@ -32,15 +32,16 @@ impl Model for Core {
 
     ghost Value = { State };
 
-    ghost use Rattle.vlm_core.specs.Machine.{state_shown, HasFewSerials};
+    ghost use Rattle.vlm_core.specs.Machine.{state_shown, IsSound};
 
     ghost view = { state_shown };
 
-    ghost invariant = { HasFewSerials };
+    ghost invariant = { IsSound };
 }
 
 impl Core {
     /// A machine at its start. It takes no memory.
+    #[tactic(auto, unfolding(crate::specs::Machine::pids))]
     pub fn new(alloc: Global) -> Core
         ensures { result ≡ start }
     {
@@ -60,10 +61,10 @@ impl Core {
     {
         match step {
             Step::Declare(declaration) => self.declare(declaration),
+            Step::SetValue(setting) => self.set_value(setting),
             Step::Enq(request) => self.enq(request),
             Step::Convert(conversion) => self.convert(conversion),
             Step::Deq(dequeue) => self.deq(dequeue),
-            Step::SetValue(setting) => self.set_value(setting),
             Step::Rundown(_) | Step::Leave(_) | Step::Search(_) | Step::Take(_) => {
                 Answer::Plain(Cond::Badparam)
             }

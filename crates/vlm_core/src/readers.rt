@@ -3,23 +3,23 @@
 ghost use Rattle.std.specs.Prelude.{◌≡◌, ◌<◌, ◌^◌, length, slice_get, OnSome};
 ghost use Rattle.std.specs.Option.{option_map};
 ghost use Rattle.vlm_core.specs.Views.{resource_view, row_shown};
-ghost use Rattle.vlm_words.specs.Blocks.{block_found};
+ghost use Rattle.vlm_words.specs.StatusBlocks.{status_block_at};
 
 use crate::machine::Core;
 use crate::views::{ResourceView, RowView, row_view};
-use vlm_procs::block;
+use vlm_procs::status_block;
 use vlm_words::blocks::Block;
 use vlm_words::resources::Queue;
 
 impl Core {
     /// The status block of this number, from 1, of a process. None where no living process has the
     /// identification, or it has no such block.
-    #[tactic(auto, unfolding(vlm_words::specs::Blocks::block_found))]
+    #[tactic(auto, unfolding(vlm_words::specs::StatusBlocks::status_block_at))]
     pub fn block(&self, pid: u32, number: u8) -> Option<Block>
-        ensures { result ≡ block_found self.now.processes pid number }
+        ensures { result ≡ status_block_at self.now.processes pid number }
     {
         match self.store.process(pid) {
-            Some(at) => block(&self.store, at, number),
+            Some(at) => status_block(&self.store, at, number),
             None => None,
         }
     }

@@ -3,20 +3,22 @@
 ghost use Rattle.std.specs.Prelude.{◌≡◌, ◌≤◌, ◌+◌, ◌++◌, length, map, OnOk, OnErr, find, slice_get, vec_len, vec_capacity, ◌<◌, ◌^◌, OnSome, IfNone};
 ghost use Rattle.std.specs.List.{list_any};
 ghost use Rattle.std.specs.Option.{option_map};
+ghost use Rattle.vlm_core.specs.Serving.{IsServiceOf};
 ghost use Rattle.vlm_core.specs.Views.{resource_view, row_view, rows_in};
-ghost use Rattle.vlm_words.specs.Blocks.{withdrawn_in};
-ghost use Rattle.vlm_words.specs.Dequeue.{cancelled, dequeued, has_writer, holds_lock, is_lock_of, is_writer, left_by, rows_of, rows_without, settled_row, withdrawn, without};
-ghost use Rattle.vlm_words.specs.Enqueue.{entered, is_at, is_at_once, is_domain, is_free_for, new_resource};
-ghost use Rattle.vlm_words.specs.Convert.{converted, converts_at_once, wanting_row};
-ghost use Rattle.vlm_words.specs.Grants.{converting_grants, grants_of, is_empty, serve_converting, serve_waiting, served, waiting_grants};
+ghost use Rattle.vlm_words.specs.Checks.{holds_lock};
+ghost use Rattle.vlm_words.specs.Convert.{converts_at_once, resource_after_conversion, wanting_row};
+ghost use Rattle.vlm_words.specs.Dequeue.{has_writer, is_writer, processes_after, resource_after_cancel, resource_after_withdrawal, resource_after_writer, resource_without, row_after_cancel, withdrawal_endings};
+ghost use Rattle.vlm_words.specs.Enqueue.{is_at_once, is_free_for, resource_after_entry};
+ghost use Rattle.vlm_words.specs.Grants.{service, service_of_conversions, service_of_waiting};
 ghost use Rattle.vlm_words.specs.Modes.{is_writing};
-ghost use Rattle.vlm_words.specs.Sweeps.{after_grants, is_vacant};
-ghost use Rattle.vlm_words.specs.Values.{moment, told, value_block, valued};
+ghost use Rattle.vlm_words.specs.Resources.{is_at, is_domain, new_resource};
+ghost use Rattle.vlm_words.specs.Rows.{is_lock_of, rows_of, rows_without};
+ghost use Rattle.vlm_words.specs.Sweeps.{blocks_after_service, is_vacant, resource_after_service};
 
-use crate::ending::{end_by_grant, end_in_queue};
+use crate::endings::{end_by_grant, end_in_queue};
 use crate::flags::has_flag;
 use crate::grants::{fits, fits_without, granted_row, wanted_fits};
-use crate::values::ValueBlock;
+use crate::value_blocks::block_after_writer;
 use crate::views::{ResourceView, RowView, row_view};
 use crate::withdrawals::Withdrawal;
 use std::alloc::{AllocError, Global};
@@ -26,39 +28,7 @@ use vlm_words::flags::EnqFlags;
 use vlm_words::locks::{Request, Row};
 use vlm_words::modes::Mode;
 use vlm_words::names::Name;
-use vlm_words::resources::{Domain, Queue};
-
-/// Where a resource stands: below its parent, or as a root in its domain.
-#[derive(Clone, Copy)]
-pub(crate) struct Key {
-    // the serial of the parent resource, 0 for a root
-    parent: u32,
-    domain: Domain,
-    name: Name,
-}
-
-impl Model for Key {
-    ghost use Rattle.vlm_words.specs.Enqueue.{Key as PlainKey};
-
-    ghost Value = { PlainKey };
-
-    ghost view = { λ k. record { parent = k.parent; domain = k.domain; name = k.name } };
-
-    ghost inverse = { λ k. record { parent = k.parent; domain = k.domain; name = k.name } };
-}
-
-impl Key {
-    /// The key of a root resource.
-    pub(crate) fn root(domain: Domain, name: Name) -> Self
-        ensures { result ≡ record { parent = 0; domain = domain; name = name } }
-    {
-        Key {
-            parent: 0,
-            domain,
-            name,
-        }
-    }
-}
+use vlm_words::resources::{Domain, Key, Queue, ValueBlock};
 
 /// A resource. Its granted queue and its conversion queue have room for all its locks, so that
 /// neither a grant nor a conversion needs memory.
@@ -69,7 +39,7 @@ pub(crate) struct Resource {
     parent: u32,
     domain: Domain,
     name: Name,
-    block: ValueBlock,
+    value_block: ValueBlock,
     granted: Vec<Row>,
     converting: Vec<Row>,
     waiting: Vec<Row>,
@@ -97,14 +67,10 @@ impl Resource {
 
     // Grants conversions from the front of their queue while they fit. Each grant takes effect on the
     // value block and on its status block.
-    #[tactic(auto, using(crate::proofs::Telling::told_append))]
-    fn serve_converting(&mut self, block: &mut ValueBlock, store: &mut Store)
-        ensures resource { self.new ≡ serve_converting self.old self.old.converting }
-        ensures block { block.new
-            ≡ (told (converting_grants self.old self.old.converting) (moment block.old store.old.processes)).block }
-        ensures statuses { store.new ≡ record store.old {
-          processes = (told (converting_grants self.old self.old.converting) (moment block.old store.old.processes)).processes;
-        } }
+    #[tactic(auto, using(crate::proofs::EndEffects::blocks_after_append, crate::proofs::EndEffects::grant_effect))]
+    fn serve_converting(&mut self, value_block: &mut ValueBlock, store: &mut Store)
+        ensures { IsServiceOf (service_of_conversions self.old self.old.converting)
+            value_block.old store.old self.new value_block.new store.new }
     {
         while let Some(row) = self.converting.first().copied() {
             if !wanted_fits(row.want, &self.granted, &self.converting[1..]) {
@@ -112,20 +78,16 @@ impl Resource {
             }
             self.converting.remove(0);
             self.granted.push_reserved(granted_row(row));
-            end_by_grant(block, store, &row);
+            end_by_grant(value_block, store, &row);
         }
     }
 
     // Grants new requests from the front of their queue while they fit. Each grant takes effect on the
     // value block and on its status block.
-    #[tactic(auto, using(crate::proofs::Telling::told_append))]
-    fn serve_waiting(&mut self, block: &mut ValueBlock, store: &mut Store)
-        ensures resource { self.new ≡ serve_waiting self.old self.old.waiting }
-        ensures block { block.new
-            ≡ (told (waiting_grants self.old self.old.waiting) (moment block.old store.old.processes)).block }
-        ensures statuses { store.new ≡ record store.old {
-          processes = (told (waiting_grants self.old self.old.waiting) (moment block.old store.old.processes)).processes;
-        } }
+    #[tactic(auto, using(crate::proofs::EndEffects::blocks_after_append, crate::proofs::EndEffects::grant_effect))]
+    fn serve_waiting(&mut self, value_block: &mut ValueBlock, store: &mut Store)
+        ensures { IsServiceOf (service_of_waiting self.old self.old.waiting)
+            value_block.old store.old self.new value_block.new store.new }
     {
         while let Some(row) = self.waiting.first().copied() {
             if !wanted_fits(row.want, &self.granted, &self.converting) {
@@ -133,54 +95,56 @@ impl Resource {
             }
             self.waiting.remove(0);
             self.granted.push_reserved(granted_row(row));
-            end_by_grant(block, store, &row);
+            end_by_grant(value_block, store, &row);
         }
     }
 
     // Grants from the conversion queue, and once that is empty from the waiting queue.
-    #[tactic(auto, using(crate::proofs::Telling::told_append), unfolding(vlm_words::specs::Grants::served, vlm_words::specs::Grants::grants_of))]
-    fn serve_queues(&mut self, block: &mut ValueBlock, store: &mut Store)
-        ensures resource { self.new ≡ served self.old }
-        ensures block { block.new ≡ (told (grants_of self.old) (moment block.old store.old.processes)).block }
-        ensures statuses { store.new ≡ record store.old {
-          processes = (told (grants_of self.old) (moment block.old store.old.processes)).processes;
-        } }
+    fn serve_queues(&mut self, value_block: &mut ValueBlock, store: &mut Store)
+        ensures { IsServiceOf (service self.old)
+            value_block.old store.old self.new value_block.new store.new }
     {
-        self.serve_converting(block, store);
+        self.serve_converting(value_block, store);
         if self.converting.is_empty() {
-            self.serve_waiting(block, store);
+            self.serve_waiting(value_block, store);
         }
     }
 
     /// Grants what can be granted: conversions first, then new requests, each queue up to the first
     /// that does not fit. Each grant takes effect on the value block and on its status block.
-    #[tactic(auto, unfolding(vlm_words::specs::Sweeps::after_grants))]
+    #[tactic(auto, unfolding(vlm_words::specs::Sweeps::blocks_after_service))]
     pub(crate) fn serve(&mut self, store: &mut Store)
-        ensures resource { self.new ≡ valued (after_grants store.old.processes self.old).block (served self.old) }
-        ensures statuses { store.new ≡ record store.old { processes = (after_grants store.old.processes self.old).processes } }
+        ensures resource { self.new ≡ resource_after_service store.old.processes self.old }
+        ensures statuses { store.new ≡ record store.old {
+          processes = (blocks_after_service store.old.processes self.old).processes;
+        } }
     {
-        let mut block = self.block;
-        self.serve_queues(&mut block, store);
-        self.block = block;
+        let mut value_block = self.value_block;
+        self.serve_queues(&mut value_block, store);
+        self.value_block = value_block;
     }
 
     /// The value block.
     pub(crate) fn value_block(&self) -> ValueBlock
-        ensures { result ≡ value_block self.now }
+        ensures { result ≡ self.now.value_block }
     {
-        self.block
+        self.value_block
     }
 
     /// A resource at its making: no locks, and a valid value block of zeros.
-    pub(crate) fn new(alloc: Global, serial: u32, key: &Key) -> Self
-        ensures { result ≡ new_resource serial key.now }
+    pub(crate) fn new(alloc: Global, serial: u32, domain: Domain, key: &Key) -> Self
+        ensures { result ≡ new_resource serial domain key.now }
     {
+        let (parent, name) = match *key {
+            Key::Root(_, name) => (0, name),
+            Key::Below(parent, name) => (parent, name),
+        };
         Resource {
             serial,
-            parent: key.parent,
-            domain: key.domain,
-            name: key.name,
-            block: ValueBlock::new(),
+            parent,
+            domain,
+            name,
+            value_block: ValueBlock::new(),
             granted: Vec::new(alloc),
             converting: Vec::new(alloc),
             waiting: Vec::new(alloc),
@@ -191,9 +155,16 @@ impl Resource {
     pub(crate) fn is_at(&self, key: &Key) -> bool
         ensures { result ≡ is_at key.now self.now }
     {
-        self.parent == key.parent
-            && is_domain(self.domain, key.domain)
-            && self.name.bytes() == key.name.bytes()
+        match key {
+            Key::Root(domain, name) => {
+                self.parent == 0
+                    && is_domain(self.domain, *domain)
+                    && self.name.bytes() == name.bytes()
+            }
+            Key::Below(parent, name) => {
+                self.parent == *parent && self.name.bytes() == name.bytes()
+            }
+        }
     }
 
     // Whether the request fits here and nobody is queued.
@@ -214,9 +185,9 @@ impl Resource {
     }
 
     /// Takes in a new lock, which is granted at once or goes to the end of the waiting queue.
-    #[tactic(auto, unfolding(vlm_words::specs::Enqueue::entered))]
+    #[tactic(auto, unfolding(vlm_words::specs::Enqueue::resource_after_entry))]
     pub(crate) fn enter(&mut self, row: Row, request: &Request) -> Result<(), AllocError>
-        ensures ok { OnOk result (self.new ≡ entered row request.now self.old) }
+        ensures ok { OnOk result (self.new ≡ resource_after_entry row request.now self.old) }
         ensures err { OnErr result (self.new ≡ self.old) }
     {
         self.granted
@@ -249,8 +220,8 @@ impl Resource {
             parent: self.parent,
             domain: self.domain,
             name: self.name,
-            value: self.block.value,
-            valid: self.block.valid,
+            value: self.value_block.value,
+            valid: self.value_block.valid,
         }
     }
 
@@ -296,9 +267,15 @@ impl Resource {
 
     /// Converts a lock of this process, if it is granted here: at once, with this value block, or at the
     /// end of the conversion queue.
-    #[tactic(auto, unfolding(vlm_words::specs::Convert::converted))]
-    pub(crate) fn convert(&mut self, request: &Request, pid: u32, lkid: u32, block: ValueBlock)
-        ensures { self.new ≡ converted request.now pid lkid block self.old }
+    #[tactic(auto, unfolding(vlm_words::specs::Convert::resource_after_conversion))]
+    pub(crate) fn convert(
+        &mut self,
+        request: &Request,
+        pid: u32,
+        lkid: u32,
+        value_block: ValueBlock,
+    )
+        ensures { self.new ≡ resource_after_conversion request.now pid lkid value_block self.old }
     {
         let at_once = self.converts_at_once(request, lkid);
         let Some(row) = take_lock(&mut self.granted, pid, lkid) else {
@@ -307,16 +284,19 @@ impl Resource {
         let row = wanting_row(row, request);
         if at_once {
             self.granted.push_reserved(granted_row(row));
-            self.block = block;
+            self.value_block = value_block;
         } else {
             self.converting.push_reserved(row);
         }
     }
 
-    /// The requests of a lock that its dequeue ends write their statuses.
-    #[tactic(auto, using(crate::proofs::Telling::withdrawn_append))]
-    pub(crate) fn withdraw(&self, store: &mut Store, withdrawal: &Withdrawal)
-        ensures { store.new ≡ record store.old { processes = withdrawn_in (withdrawn withdrawal.now self.now) store.old.processes } }
+    /// The requests of a lock that its withdrawal ends write their statuses.
+    #[tactic(auto, using(crate::proofs::EndEffects::withdrawal_after))]
+    pub(crate) fn end_withdrawn(&self, store: &mut Store, withdrawal: &Withdrawal)
+        ensures { store.new ≡ record store.old {
+          processes =
+              processes_after (withdrawal_endings withdrawal.now self.now) store.old.processes;
+        } }
     {
         end_in_queue(store, &self.converting, withdrawal.lkid, withdrawal.cancels);
         end_in_queue(store, &self.waiting, withdrawal.lkid, false);
@@ -324,8 +304,8 @@ impl Resource {
 
     /// Removes a lock from every queue, with what it leaves in the value block, or only its queued
     /// request.
-    pub(crate) fn dequeue(&mut self, withdrawal: &Withdrawal)
-        ensures { self.new ≡ dequeued withdrawal.now self.old }
+    pub(crate) fn withdraw(&mut self, withdrawal: &Withdrawal)
+        ensures { self.new ≡ resource_after_withdrawal withdrawal.now self.old }
     {
         if withdrawal.cancels {
             self.cancel(withdrawal.lkid);
@@ -337,18 +317,22 @@ impl Resource {
 
     // Only a lock that is held at PW or EX, granted or converting, leaves something in the value block.
     fn leave(&mut self, withdrawal: &Withdrawal)
-        ensures { self.new ≡ left_by withdrawal.now self.old }
+        ensures { self.new ≡ resource_after_writer withdrawal.now self.old }
     {
         let lkid = withdrawal.lkid;
         if has_writer(&self.granted, lkid) || has_writer(&self.converting, lkid) {
-            self.block.leave(withdrawal.value, withdrawal.invalidates);
+            self.value_block = block_after_writer(
+                self.value_block,
+                withdrawal.value,
+                withdrawal.invalidates,
+            );
         }
     }
 
     // Removes a lock from every queue.
-    #[tactic(auto, unfolding(vlm_words::specs::Dequeue::without))]
+    #[tactic(auto, unfolding(vlm_words::specs::Dequeue::resource_without))]
     fn remove(&mut self, lkid: u32)
-        ensures { self.new ≡ without lkid self.old }
+        ensures { self.new ≡ resource_without lkid self.old }
     {
         remove_lock(&mut self.granted, lkid);
         remove_lock(&mut self.converting, lkid);
@@ -357,11 +341,11 @@ impl Resource {
 
     // Gives up a queued conversion, whose lock goes to the end of the granted queue, or a waiting
     // request with its lock.
-    #[tactic(auto, using(crate::proofs::Rows::parted), unfolding(vlm_words::specs::Dequeue::cancelled))]
+    #[tactic(auto, using(crate::proofs::Rows::parted), unfolding(vlm_words::specs::Dequeue::resource_after_cancel))]
     fn cancel(&mut self, lkid: u32)
-        ensures { self.new ≡ cancelled lkid self.old }
+        ensures { self.new ≡ resource_after_cancel lkid self.old }
     {
-        settle_lock(&mut self.granted, &self.converting, lkid);
+        regrant_lock(&mut self.granted, &self.converting, lkid);
         remove_lock(&mut self.converting, lkid);
         remove_lock(&mut self.waiting, lkid);
     }
@@ -448,9 +432,10 @@ pub(crate) fn wanting_row(row: Row, request: &Request) -> Row
 }
 
 // Puts the rows of a lock, which want nothing any more, at the end of the granted queue.
-fn settle_lock(granted: &mut Vec<Row>, converting: &[Row], lkid: u32)
+fn regrant_lock(granted: &mut Vec<Row>, converting: &[Row], lkid: u32)
     requires { vec_len granted.old + length converting.now ≤ vec_capacity granted.old }
-    ensures rows { granted.new.items ≡ granted.old.items ++ map settled_row (rows_of lkid converting.now) }
+    ensures rows { granted.new.items
+        ≡ granted.old.items ++ map row_after_cancel (rows_of lkid converting.now) }
     ensures len { vec_len granted.new ≡ vec_len granted.old + length (rows_of lkid converting.now) }
     ensures capacity { vec_capacity granted.new ≡ vec_capacity granted.old }
 {

@@ -7,7 +7,7 @@ use crate::machine::Core;
 use vlm_words::steps::{Answer, Step};
 
 /// Memory for an answer was refused: the steps before it are made and answered, and no other is begun.
-#[derive(Clone, Copy, Debug, PartialEq, Eq)]
+#[derive(Clone, Copy)]
 pub struct Stopped {
     /// How many steps are made.
     pub done: usize,
@@ -16,7 +16,8 @@ pub struct Stopped {
 /// Makes the steps in order, and puts the answer of each at the end of `answers`. Room for an answer is
 /// made before its step.
 pub fn run_steps(core: &mut Core, steps: &[Step], answers: &mut Vec<Answer>) -> Result<(), Stopped>
-    ensures made { OnOk result (Makes core.old steps.now answers.old.items answers.new.items core.new) }
+    ensures made { OnOk result
+        (Makes core.old steps.now answers.old.items answers.new.items core.new) }
     ensures within { IfErr result (λ stopped. stopped.done < length steps.now) }
     ensures stopped { IfErr result (λ stopped.
         Makes core.old (take stopped.done steps.now) answers.old.items answers.new.items core.new) }

@@ -1,20 +1,22 @@
 //! All resources together, by rising serial.
 
-ghost use Rattle.std.specs.Prelude.{◌≡◌, ℕ, not, map, filter, flat_map, find, unwrap_or, IfOk, OnOk, OnErr, MatchOption, option_copied};
+ghost use Rattle.std.specs.Prelude.{◌≡◌, ℕ, not, map, filter, flat_map, find, unwrap_or, IfOk, OnOk, OnErr, MatchOption, Some, None, option_copied};
 ghost use Rattle.std.specs.List.{list_any, position};
-ghost use Rattle.vlm_words.specs.Blocks.{withdrawn_in};
-ghost use Rattle.vlm_words.specs.Convert.{converted, granted_place};
-ghost use Rattle.vlm_words.specs.Dequeue.{dequeued, holds_lock, is_granted, withdrawn};
-ghost use Rattle.vlm_words.specs.Enqueue.{entered_among, is_at, is_at_once, is_known, new_resource};
-ghost use Rattle.vlm_words.specs.Sweeps.{all_served, is_vacant, swept, swept_processes};
-ghost use Rattle.vlm_words.specs.Values.{value_block};
+ghost use Rattle.vlm_words.specs.declared.resources.Domain.{Domain};
+ghost use Rattle.vlm_words.specs.Checks.{holds_lock};
+ghost use Rattle.vlm_words.specs.Convert.{resource_after_conversion};
+ghost use Rattle.vlm_words.specs.Dequeue.{is_granted, processes_after, resource_after_withdrawal, withdrawal_endings};
+ghost use Rattle.vlm_words.specs.Enqueue.{has_resource, is_at_once, resources_after_entry};
+ghost use Rattle.vlm_words.specs.Resources.{is_at, new_resource};
+ghost use Rattle.vlm_words.specs.Sweeps.{is_vacant, processes_after_service, resources_after_service, resources_after_sweep};
+ghost use Rattle.vlm_core.specs.Granted.{granted_on};
 
-use crate::resources::{Key, Resource};
-use crate::values::ValueBlock;
+use crate::resources::Resource;
 use crate::withdrawals::Withdrawal;
 use std::alloc::AllocError;
 use vlm_store::Store;
 use vlm_words::locks::{Request, Row};
+use vlm_words::resources::{Domain, Key, ValueBlock};
 
 // The place of the resource under the key, if it is there.
 fn place_of(resources: &[Resource], key: &Key) -> Option<usize>
@@ -28,12 +30,14 @@ fn place_of(resources: &[Resource], key: &Key) -> Option<usize>
 pub(crate) fn enter_among(
     resources: &mut Vec<Resource>,
     serial: u32,
+    domain: Domain,
     key: &Key,
     row: Row,
     request: &Request,
 ) -> Result<bool, AllocError>
-    ensures entered { OnOk result (resources.new.items ≡ entered_among serial key.now row request.now resources.old.items) }
-    ensures made { IfOk result (λ made. made ≡ not (is_known key.now resources.old.items)) }
+    ensures entered { OnOk result (resources.new.items
+        ≡ resources_after_entry serial domain key.now row request.now resources.old.items) }
+    ensures made { IfOk result (λ made. made ≡ not (has_resource key.now resources.old.items)) }
     ensures err { OnErr result (resources.new.items ≡ resources.old.items) }
 {
     match place_of(resources, key) {
@@ -43,7 +47,7 @@ pub(crate) fn enter_among(
             Ok(false)
         }
         None => {
-            let mut resource = Resource::new(*resources.allocator(), serial, key);
+            let mut resource = Resource::new(*resources.allocator(), serial, domain, key);
             resource.enter(row, request)?;
             resources.push(resource)?;
             Ok(true)
@@ -60,8 +64,8 @@ fn resource_under<'a>(resources: &'a [Resource], key: &Key) -> Option<&'a Resour
 
 /// Whether a new request is granted at once in the resource under the key, or in a new one.
 pub(crate) fn enters_at_once(resources: &[Resource], key: &Key, request: &Request) -> bool
-    ensures { (serial : ℕ) → result
-        ≡ is_at_once request.now (unwrap_or (find (is_at key.now) resources.now) (new_resource serial key.now)) }
+    ensures { (serial : ℕ) (domain : Domain) → result ≡ is_at_once request.now
+        (unwrap_or (find (is_at key.now) resources.now) (new_resource serial domain key.now)) }
 {
     match resource_under(resources, key) {
         Some(resource) => resource.is_at_once(request),
@@ -71,7 +75,9 @@ pub(crate) fn enters_at_once(resources: &[Resource], key: &Key, request: &Reques
 
 /// The value block of the resource under the key, or of a new one.
 pub(crate) fn value_block_under(resources: &[Resource], key: &Key) -> ValueBlock
-    ensures { (serial : ℕ) → result ≡ value_block (unwrap_or (find (is_at key.now) resources.now) (new_resource serial key.now)) }
+    ensures { (serial : ℕ) (domain : Domain) → result
+        ≡ (unwrap_or (find (is_at key.now) resources.now)
+        (new_resource serial domain key.now)).value_block }
 {
     match resource_under(resources, key) {
         Some(resource) => resource.value_block(),
@@ -81,18 +87,24 @@ pub(crate) fn value_block_under(resources: &[Resource], key: &Key) -> ValueBlock
 
 /// Serves every resource, and drops those without locks. Each grant takes effect on its resource's value
 /// block and on its status block.
-#[tactic(auto, unfolding(vlm_words::specs::Sweeps::swept))]
+#[tactic(auto, unfolding(vlm_words::specs::Sweeps::resources_after_sweep))]
 pub(crate) fn sweep(resources: &mut Vec<Resource>, store: &mut Store)
-    ensures resources { resources.new.items ≡ swept store.old.processes resources.old.items }
-    ensures statuses { store.new ≡ record store.old { processes = swept_processes store.old.processes resources.old.items } }
+    ensures resources { resources.new.items
+        ≡ resources_after_sweep store.old.processes resources.old.items }
+    ensures statuses { store.new ≡ record store.old {
+      processes = processes_after_service store.old.processes resources.old.items;
+    } }
 {
     serve_all(resources, store);
     drop_vacant(resources);
 }
 
 fn serve_all(resources: &mut Vec<Resource>, store: &mut Store)
-    ensures resources { resources.new.items ≡ all_served store.old.processes resources.old.items }
-    ensures statuses { store.new ≡ record store.old { processes = swept_processes store.old.processes resources.old.items } }
+    ensures resources { resources.new.items
+        ≡ resources_after_service store.old.processes resources.old.items }
+    ensures statuses { store.new ≡ record store.old {
+      processes = processes_after_service store.old.processes resources.old.items;
+    } }
 {
     for resource in resources.iter_mut() {
         resource.serve(store);
@@ -120,9 +132,9 @@ pub(crate) fn is_granted(resources: &[Resource], pid: u32, lkid: u32) -> bool
 }
 
 /// The resource where this lock of this process is granted, and the lock.
-pub(crate) fn granted_place(resources: &[Resource], pid: u32, lkid: u32) -> Option<(&Resource, Row)>
-    ensures { MatchOption result (granted_place pid lkid resources.now ≡ None)
-        (λ p. granted_place pid lkid resources.now ≡ Some (record { resource = p.0.now; row = p.1 })) }
+pub(crate) fn granted_lock(resources: &[Resource], pid: u32, lkid: u32) -> Option<(&Resource, Row)>
+    ensures { MatchOption result (granted_on pid lkid resources.now ≡ None)
+        (λ p. granted_on pid lkid resources.now ≡ Some (p.0.now, p.1)) }
 {
     for resource in resources {
         if let Some(row) = resource.granted_lock(pid, lkid) {
@@ -132,23 +144,25 @@ pub(crate) fn granted_place(resources: &[Resource], pid: u32, lkid: u32) -> Opti
     None
 }
 
-/// The requests of a lock that its dequeue ends write their statuses.
-pub(crate) fn withdraw_all(resources: &[Resource], store: &mut Store, withdrawal: &Withdrawal)
+/// The requests of a lock that its withdrawal ends write their statuses.
+pub(crate) fn end_withdrawn(resources: &[Resource], store: &mut Store, withdrawal: &Withdrawal)
     ensures { store.new ≡ record store.old {
-      processes = withdrawn_in (flat_map (withdrawn withdrawal.now) resources.now) store.old.processes;
+      processes = processes_after (flat_map (withdrawal_endings withdrawal.now) resources.now)
+          store.old.processes;
     } }
 {
     for resource in resources {
-        resource.withdraw(store, withdrawal);
+        resource.end_withdrawn(store, withdrawal);
     }
 }
 
 /// Removes a lock from every queue, with what it leaves in the value block, or only its queued request.
-pub(crate) fn dequeue_all(resources: &mut Vec<Resource>, withdrawal: &Withdrawal)
-    ensures { resources.new.items ≡ map (dequeued withdrawal.now) resources.old.items }
+pub(crate) fn withdraw_all(resources: &mut Vec<Resource>, withdrawal: &Withdrawal)
+    ensures { resources.new.items
+        ≡ map (resource_after_withdrawal withdrawal.now) resources.old.items }
 {
     for resource in resources.iter_mut() {
-        resource.dequeue(withdrawal);
+        resource.withdraw(withdrawal);
     }
 }
 
@@ -159,11 +173,12 @@ pub(crate) fn convert_all(
     request: &Request,
     pid: u32,
     lkid: u32,
-    block: ValueBlock,
+    value_block: ValueBlock,
 )
-    ensures { resources.new.items ≡ map (converted request.now pid lkid block) resources.old.items }
+    ensures { resources.new.items
+        ≡ map (resource_after_conversion request.now pid lkid value_block) resources.old.items }
 {
     for resource in resources.iter_mut() {
-        resource.convert(request, pid, lkid, block);
+        resource.convert(request, pid, lkid, value_block);
     }
 }

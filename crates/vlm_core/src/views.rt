@@ -9,7 +9,7 @@ use vlm_words::names::Name;
 use vlm_words::resources::Domain;
 
 /// A resource without its queues.
-#[derive(Clone, Copy, Debug, PartialEq, Eq)]
+#[derive(Clone, Copy)]
 pub struct ResourceView {
     /// Its number, from 1, in order of making.
     pub serial: u32,
@@ -26,7 +26,7 @@ pub struct ResourceView {
 }
 
 /// A lock as it stands in a queue.
-#[derive(Clone, Copy, Debug, PartialEq, Eq)]
+#[derive(Clone, Copy)]
 pub struct RowView {
     /// The lock's identification.
     pub lkid: u32,

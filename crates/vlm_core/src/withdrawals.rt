@@ -19,7 +19,17 @@ impl Model for Withdrawal {
 
     ghost Value = { PlainWithdrawal };
 
-    ghost view = { λ w. record { lkid = w.lkid; cancels = w.cancels; value = w.value; invalidates = w.invalidates } };
+    ghost view = { λ w. record {
+      lkid = w.lkid;
+      cancels = w.cancels;
+      value = w.value;
+      invalidates = w.invalidates;
+    } };
 
-    ghost inverse = { λ w. record { lkid = w.lkid; cancels = w.cancels; value = w.value; invalidates = w.invalidates } };
+    ghost inverse = { λ w. record {
+      lkid = w.lkid;
+      cancels = w.cancels;
+      value = w.value;
+      invalidates = w.invalidates;
+    } };
 }

@@ -1,6 +1,6 @@
 use Rattle.std.proofs.Common.{rules, ap, sym, ◌∙◌}
 use Rattle.std.proofs.lemmas.List.Edits.{map_over_more}
-use Rattle.vlm_words.specs.Convert.{converted}
+use Rattle.vlm_words.specs.Convert.{resource_after_conversion}
 use Rattle.vlm_core.proofs.tables.convert_all.Goals as goal
 
 -- one more resource is changed
@@ -8,6 +8,6 @@ pub loop-resource-preserved : goal.loop-resource-preserved
 loop-resource-preserved c =
     let all = c.deref_mut-resource-items.result.now in
     let loop = c.loop-resource in
-    let change = converted c.args.request.now c.args.pid c.args.lkid c.args.block in
+    let change = resource_after_conversion c.args.request.now c.args.pid c.args.lkid c.args.value_block in
     let now = c.convert.ensures ∙ ap change (sym c.resource-item.is) in
     rw now (map_over_more change all loop.resource-items loop.resource-index c.resource-item.result (search rules) loop.invariant c.resource-item.is)

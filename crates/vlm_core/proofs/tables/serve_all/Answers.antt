@@ -1,5 +1,5 @@
 use Rattle.std.proofs.Common.{ap, ◌∙◌, rules}
-use Rattle.vlm_core.proofs.Telling.{served_one_more, swept_one_more}
+use Rattle.vlm_core.proofs.EndEffects.{served_one_more, swept_one_more}
 use Rattle.vlm_core.proofs.tables.serve_all.Goals as goal
 
 -- one more resource is served

@@ -1,14 +1,13 @@
-use Rattle.std.proofs.Common.{ap, ◌∙◌, rules}
-use Rattle.vlm_words.specs.Blocks.{withdrawn_in}
-use Rattle.vlm_words.specs.Dequeue.{withdrawn}
-use Rattle.vlm_core.proofs.Telling.{withdrawn_next}
+use Rattle.std.proofs.Common.{rules, ap, sym, ◌∙◌}
+use Rattle.std.proofs.lemmas.List.Edits.{map_over_more}
+use Rattle.vlm_words.specs.Dequeue.{resource_after_withdrawal}
 use Rattle.vlm_core.proofs.tables.withdraw_all.Goals as goal
 
--- the requests of one more resource are withdrawn
+-- one more resource is changed
 pub loop-resource-preserved : goal.loop-resource-preserved
 loop-resource-preserved c =
+    let all = c.deref_mut-resource-items.result.now in
     let loop = c.loop-resource in
-    let ends = withdrawn c.args.withdrawal.now in
-    let next = withdrawn_next ends c.args.resources.now loop.resource-index c.resource-item.result loop.store.processes (search rules) in
-    let here = ap (λ r. withdrawn_in (ends r) loop.store.processes) c.resource-item.is in
-    rw (ap (λ s. s.processes) c.withdraw.ensures ∙ here) (next ∙ loop.invariant)
+    let change = resource_after_withdrawal c.args.withdrawal.now in
+    let now = c.withdraw.ensures ∙ ap change (sym c.resource-item.is) in
+    rw now (map_over_more change all loop.resource-items loop.resource-index c.resource-item.result (search rules) loop.invariant c.resource-item.is)

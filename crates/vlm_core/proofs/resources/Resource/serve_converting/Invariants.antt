@@ -1,18 +1,21 @@
 use Rattle.std.proofs.Common.{◌≡◌, vec_len}
-use Rattle.vlm_words.specs.Grants.{serve_converting, converting_grants}
-use Rattle.vlm_words.specs.Values.{moment, told}
+use Rattle.vlm_words.specs.Effects.{blocks_after, blocks_with}
+use Rattle.vlm_words.specs.Grants.{service_of_conversions}
 use Rattle.vlm_core.specs.Resources.{resource_shown, HasRoom}
 use Rattle.vlm_core.proofs.resources.Resource.serve_converting.Given as goal
 
--- what is left of the queue, served, gives what the whole queue gives, and so do its grants
+-- what is left of the queue, served, gives what the whole queue gives, and so do its ends
 abbrev pub invariant-loop-row : goal.invariant-loop-row
 invariant-loop-row l =
     let now = resource_shown l.self-inside in
     let whole = resource_shown l.initial.self-inside in
-    (serve_converting now now.converting ≡ serve_converting whole whole.converting)
-    × (told (converting_grants now now.converting) (moment l.block l.store.processes)
-    ≡ told (converting_grants whole whole.converting) (moment l.initial.block l.initial.store.processes))
-    × HasRoom l.self-inside
+    record {
+      served : (service_of_conversions now now.converting).resource ≡ (service_of_conversions whole whole.converting).resource;
+      effect :
+          blocks_after (service_of_conversions now now.converting).endings (blocks_with l.value_block l.store.processes)
+          ≡ blocks_after (service_of_conversions whole whole.converting).endings (blocks_with l.initial.value_block l.initial.store.processes);
+      room : HasRoom l.self-inside;
+    }
 
 abbrev pub decreases-loop-row : goal.decreases-loop-row
 decreases-loop-row l = vec_len l.self-inside.converting

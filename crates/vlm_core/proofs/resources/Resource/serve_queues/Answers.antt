@@ -1,24 +1,11 @@
-use Rattle.std.proofs.Common.{◌≡◌, ap, sym, refl, ◌∙◌, rules}
-use Rattle.vlm_words.specs.Grants.{converting_grants, waiting_grants}
-use Rattle.vlm_words.specs.Values.{moment, told}
-use Rattle.vlm_core.proofs.Telling.{then_waiting}
+use Rattle.std.proofs.Common.{rules}
+use Rattle.vlm_core.proofs.EndEffects.{served_then, served_alone}
 use Rattle.vlm_core.proofs.resources.Resource.serve_queues.Goals as goal
 
--- the new requests are told after the conversions
-pub returns-then-is_empty-clause-block : goal.returns-then-is_empty-clause-block
-returns-then-is_empty-clause-block c =
-    let first = moment c.args.block.now c.args.store.now.processes in
-    let left = c.serve_converting.new.self in
-    let same : moment c.serve_converting.new.block c.serve_converting.new.store.processes ≡ told (converting_grants c.args.self.now c.args.self.now.converting) first =
-    rw (c.serve_converting.ensures.block, c.serve_converting.ensures.statuses) refl in
-    c.serve_waiting.ensures.block ∙ ap (λ m. (told (waiting_grants left left.waiting) m).block) same
-    ∙ ap (λ m. m.block) (sym (then_waiting c.args.self.now left first c.serve_converting.ensures.resource (search rules)))
+-- once no conversion is left, the new requests are served
+pub returns-then-is_empty : goal.returns-then-is_empty
+returns-then-is_empty c = served_then _ _ _ _ _ _ _ _ _ c.serve_converting.ensures (search rules) c.serve_waiting.ensures
 
-pub returns-then-is_empty-clause-statuses : goal.returns-then-is_empty-clause-statuses
-returns-then-is_empty-clause-statuses c =
-    let first = moment c.args.block.now c.args.store.now.processes in
-    let left = c.serve_converting.new.self in
-    let same : moment c.serve_converting.new.block c.serve_converting.new.store.processes ≡ told (converting_grants c.args.self.now c.args.self.now.converting) first =
-    rw (c.serve_converting.ensures.block, c.serve_converting.ensures.statuses) refl in
-    c.serve_waiting.ensures.statuses ∙ ap (λ m. record { processes = (told (waiting_grants left left.waiting) m).processes }) same
-    ∙ ap (λ m. record { processes = m.processes }) (sym (then_waiting c.args.self.now left first c.serve_converting.ensures.resource (search rules)))
+-- where conversions are left, nothing else is
+pub returns-else-is_empty : goal.returns-else-is_empty
+returns-else-is_empty c = served_alone _ _ _ _ _ _ c.serve_converting.ensures (search rules)
