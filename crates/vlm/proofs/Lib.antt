@@ -1,3 +1,2 @@
-pub mod Hexadecimal
-mod Shown
-mod Progress
+mod Errors
+mod Play

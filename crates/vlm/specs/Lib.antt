@@ -1,3 +1,2 @@
-pub mod Queues
-pub mod Sessions
-pub mod Plays
+pub mod Words
+pub mod Ends

@@ -1,21 +1,13 @@
 //! Runs scripts of lock requests, and prints what the lock manager answers.
 #![tactic(auto)]
 
-mod faults;
-mod names;
-mod play;
-mod printing;
 mod run;
-mod session;
-mod show;
-mod stops;
-mod streams;
 #[cfg(test)]
 mod tests;
 
-use faults::PlayFault;
 use std::process::ExitCode;
 use std::{env, io};
+use vlm_script::PlayFault;
 
 fn main(rt: HostRuntime) -> ExitCode {
     let status = match words_of(&rt) {

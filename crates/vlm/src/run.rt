@@ -1,16 +1,16 @@
 //! The program by its words.
 
-ghost use Rattle.std.specs.Prelude.{◌≡◌, IfSome, Err};
-ghost use Rattle.vlm.specs.Plays.{RunsOrLeaves, status_of};
+ghost use Rattle.std.specs.Prelude.{◌≡◌, ◌⊎◌, ℕ, List, [], ◌∷◌, Err, IfOk, codes, map};
+ghost use Rattle.clap.specs.Words.{FailsBy, app_of, kind_of};
+ghost use Rattle.vlm.specs.Words.{command_line, word_errors};
+ghost use Rattle.vlm.specs.Ends.{EndsByError, EndsByWords, FailsHelp, GivesHelp, PrintsFault, RunsOrWantsMemory, RunsScript, output_of, status_of};
 
-use crate::faults::PlayFault;
-use crate::play::play;
 use clap::error::ErrorKind;
 use clap::{Command, Error};
 use std::alloc::{AllocError, Global};
 use std::convert::AsStr;
-use std::fmt::Display;
 use std::io::{Read, Write};
+use vlm_script::{PlayFault, play, write_whole};
 
 /// The script ran, or help was asked for and given.
 const DONE: u8 = 0;
@@ -51,10 +51,10 @@ prints
   resource 1 in 0 group 1 name A value 00000000000000000000000000000000 valid
     granted 1 process 65537 EX";
 
-/// Runs the program on its words, the first of which is its name, and answers its exit status: 0 where
-/// it is done, or help was asked for and printed; 1 for a fault of the script; 2 where the command line
-/// is refused; 3 for want of memory, a failed read or write, or a script that is too long. What is
-/// wrong is told on `faults`.
+/// Runs the program on its words, the first of which is its name, and answers its exit status: 0
+/// where it is done, or help was asked for and printed; 1 for a fault of the script; 2 where the
+/// command line is refused; 3 for want of memory, a failed read or write, or a script that is too
+/// long. What is wrong is printed on `faults`; where that fails, the status stays.
 pub fn run_words<S: AsStr, R: Read, W: Write, F: Write>(
     rt: &impl AllocGlobal,
     words: &[S],
@@ -62,28 +62,55 @@ pub fn run_words<S: AsStr, R: Read, W: Write, F: Write>(
     writer: &mut W,
     faults: &mut F,
 ) -> u8
-    // What was read and written, where the reader tells its bytes.
-    ensures { IfSome (R.remaining reader.old) (λ input.
-        RunsOrLeaves input (R.remaining reader.new) (W.contents writer.old) (W.contents writer.new) result) }
+    ensures ends { EndsByWords (map S.text words.now)
+        (R.remaining reader.old) (R.remaining reader.new)
+        (output_of (W.contents writer.old) (F.contents faults.old))
+        (output_of (W.contents writer.new) (F.contents faults.new)) result }
+
+    // The one command runs the script.
+    ensures play { (name : List ℕ) → map S.text words.now ≡ name ∷ codes "play" ∷ []
+        → RunsOrWantsMemory (R.remaining reader.old) (R.remaining reader.new)
+        (output_of (W.contents writer.old) (F.contents faults.old))
+        (output_of (W.contents writer.new) (F.contents faults.new)) result }
 {
     let alloc = rt.alloc();
     match chosen(alloc, words) {
-        Ok(()) => match play(alloc, reader, writer) {
-            Ok(()) => DONE,
-            Err(fault) => failed(&fault, faults),
-        },
-        Err(error) => refused(&error, writer, faults),
+        Ok(()) => run_script(alloc, reader, writer, faults),
+        Err(error) => refused(alloc, &error, writer, faults),
+    }
+}
+
+// Runs the script, and prints the fault that ended it.
+fn run_script<R: Read, W: Write, F: Write>(
+    alloc: Global,
+    reader: &mut R,
+    writer: &mut W,
+    faults: &mut F,
+) -> u8
+    ensures { RunsScript (R.remaining reader.old) (R.remaining reader.new)
+        (output_of (W.contents writer.old) (F.contents faults.old))
+        (output_of (W.contents writer.new) (F.contents faults.new)) result }
+{
+    match play(alloc, reader, writer) {
+        Ok(()) => DONE,
+        Err(fault) => failed(&fault, faults),
     }
 }
 
 // The words name the one command that there is.
-fn chosen<S: AsStr>(alloc: Global, words: &[S]) -> Result<(), Error> {
+fn chosen<S: AsStr>(alloc: Global, words: &[S]) -> Result<(), Error>
+    ensures { FailsBy (word_errors (map S.text words.now)) result }
+{
     let command = command_line(alloc)?;
-    command.try_get_matches_from(words)?;
-    Ok(())
+    match command.try_get_matches_from(words) {
+        Ok(_) => Ok(()),
+        Err(error) => Err(error),
+    }
 }
 
-fn command_line<'a>(alloc: Global) -> Result<Command<'a>, AllocError> {
+fn command_line<'a>(alloc: Global) -> Result<Command<'a>, AllocError>
+    ensures { IfOk result (λ command. app_of command ≡ command_line) }
+{
     let play = Command::new(alloc, "play")
         .about(PLAY_ABOUT)
         .after_help(PLAY_HELP);
@@ -93,33 +120,49 @@ fn command_line<'a>(alloc: Global) -> Result<Command<'a>, AllocError> {
         .subcommand(play)
 }
 
-/// Tells why the script did not run to its end, and answers the exit status.
+/// Prints the fault's line, and answers the exit status. A fault that can't be
+/// printed changes no status.
 pub(crate) fn failed<F: Write>(fault: &PlayFault, faults: &mut F) -> u8
-    ensures { result ≡ status_of (Err fault.now) }
+    ensures status { result ≡ status_of (Err fault.now) }
+    ensures faults { PrintsFault fault.now (F.contents faults.old) (F.contents faults.new) }
 {
-    tell(fault, faults);
+    let _ = fault.write_line(faults);
     match fault {
         PlayFault::Line(_, _) => SCRIPT_FAULT,
         _ => FAILED,
     }
 }
 
-// Gives the help that was asked for, or tells why the words are refused.
-fn refused<W: Write, F: Write>(error: &Error, writer: &mut W, faults: &mut F) -> u8 {
-    if error.kind() == ErrorKind::OutOfMemory {
+// Prints the help that was asked for, or why the words are refused.
+fn refused<W: Write, F: Write>(alloc: Global, error: &Error, writer: &mut W, faults: &mut F) -> u8
+    ensures { EndsByError (kind_of error.now)
+        (output_of (W.contents writer.old) (F.contents faults.old))
+        (output_of (W.contents writer.new) (F.contents faults.new)) result }
+{
+    let kind = error.kind();
+    if kind == ErrorKind::OutOfMemory {
         return failed(&PlayFault::Memory, faults);
     }
-    if error.use_stderr() {
-        let _ = write!(faults, "{error}");
-        return REFUSED;
-    }
-    match write!(writer, "{error}") {
-        Ok(()) => DONE,
-        Err(_) => failed(&PlayFault::Write, faults),
+    let Ok(text) = format!(in alloc; "{error}") else {
+        return failed(&PlayFault::Memory, faults);
+    };
+    match kind {
+        ErrorKind::DisplayHelp | ErrorKind::DisplayVersion => help(text.as_bytes(), writer, faults),
+        _ => {
+            let _ = write_whole(faults, text.as_bytes());
+            REFUSED
+        }
     }
 }
 
-// A fault that can't be told changes no status.
-fn tell<F: Write>(text: &impl Display, faults: &mut F) {
-    let _ = writeln!(faults, "{text}");
+// Prints the help.
+fn help<W: Write, F: Write>(text: &[u8], writer: &mut W, faults: &mut F) -> u8
+    ensures { let old = output_of (W.contents writer.old) (F.contents faults.old) in
+        let new = output_of (W.contents writer.new) (F.contents faults.new) in
+        GivesHelp old new result ⊎ FailsHelp old new result }
+{
+    match write_whole(writer, text) {
+        Ok(()) => DONE,
+        Err(_) => failed(&PlayFault::Write, faults),
+    }
 }

@@ -1,9 +1,11 @@
-//! The program from outside, and the core's refusals: what no contract says.
+//! The program from outside, the core's refusals and the sizes: what no contract says.
 
 mod commands;
-pub(crate) mod failing;
+mod failing;
+mod faults;
 mod lists;
 mod prefixes;
 mod refusals;
 mod runs;
 mod scripts;
+mod sizes;

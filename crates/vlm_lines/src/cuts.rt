@@ -4,8 +4,8 @@ ghost use Rattle.std.specs.Prelude.{◌≡◌, ◌<◌, ◌≤◌, ◌+◌, ◌�
 ghost use Rattle.std.specs.List.{position_or_len};
 ghost use Rattle.vlm_words.specs.Lines.{lines_of, words_of, is_blank, is_line_feed};
 
-/// The first line without its line feed, and the bytes behind it. None where there are no bytes. A line
-/// ends at its line feed, and the last one at the end of the bytes.
+/// The first line without its line feed, and the bytes behind it. None where there are no bytes. A
+/// line ends at its line feed, and the last one at the end of the bytes.
 #[tactic(auto, using(crate::proofs::Pieces::pieces_first))]
 pub fn next_line(bytes: &[u8]) -> Option<(&[u8], &[u8])>
     ensures none { IsNone result ↔ (bytes.now ≡ []) }

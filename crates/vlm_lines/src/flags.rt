@@ -4,21 +4,9 @@ ghost use Rattle.std.specs.Prelude.{◌≡◌};
 ghost use Rattle.vlm_words.specs.Lines.{deq_flag, enq_flag, flag_once};
 
 use crate::words::is_text;
+use bitflags::Flags;
+use vlm_words::flags::{DeqFlags, EnqFlags};
 use vlm_words::scripts::LineFault;
-
-const VALBLK: u16 = 1;
-
-const NOQUEUE: u16 = 2;
-
-const SYNCSTS: u16 = 4;
-
-const EXPEDITE: u16 = 16;
-
-const QUECVT: u16 = 32;
-
-const CANCEL: u16 = 2;
-
-const INVVALBLK: u16 = 4;
 
 /// The flag that a word of an enq or cvt line stands for.
 #[tactic(auto, unfolding(vlm_words::specs::Lines::enq_flag))]
@@ -26,15 +14,15 @@ pub(crate) fn enq_flag(word: &[u8]) -> Option<u16>
     ensures { result ≡ enq_flag word.now }
 {
     if is_text(word, b"valblk") {
-        Some(VALBLK)
+        Some(EnqFlags::VALBLK.bits())
     } else if is_text(word, b"noqueue") {
-        Some(NOQUEUE)
+        Some(EnqFlags::NOQUEUE.bits())
     } else if is_text(word, b"syncsts") {
-        Some(SYNCSTS)
+        Some(EnqFlags::SYNCSTS.bits())
     } else if is_text(word, b"expedite") {
-        Some(EXPEDITE)
+        Some(EnqFlags::EXPEDITE.bits())
     } else if is_text(word, b"quecvt") {
-        Some(QUECVT)
+        Some(EnqFlags::QUECVT.bits())
     } else {
         None
     }
@@ -46,9 +34,9 @@ pub(crate) fn deq_flag(word: &[u8]) -> Option<u16>
     ensures { result ≡ deq_flag word.now }
 {
     if is_text(word, b"cancel") {
-        Some(CANCEL)
+        Some(DeqFlags::CANCEL.bits())
     } else if is_text(word, b"invvalblk") {
-        Some(INVVALBLK)
+        Some(DeqFlags::INVVALBLK.bits())
     } else {
         None
     }

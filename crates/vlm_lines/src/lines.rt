@@ -19,10 +19,10 @@ const LONGEST: usize = 255;
 /// Reads a line of a script, without its line feed; the language is this project's own. It takes no
 /// memory.
 ///
-/// The faults in the order of their checks: `TooLong` above 255 bytes; `UnknownCommand`; then the first
-/// faulty word from left to right, `WrongWord` where its form is not that of its place or it is given
-/// twice, else `NumberOutOfRange`; last `WrongWord` where a needed word is missing. The two faults of names
-/// are not found here.
+/// The faults in the order of their checks: `TooLong` above 255 bytes; `UnknownCommand`; then the
+/// first faulty word from left to right, `WrongWord` where its form is not that of its place or it
+/// is given twice, else `NumberOutOfRange`; last `WrongWord` where a needed word is missing. The
+/// two faults of names are not found here.
 #[tactic(auto, unfolding(vlm_words::specs::Lines::line_read))]
 pub fn read_line(bytes: &[u8]) -> Result<Line, LineFault>
     ensures { result ≡ line_read bytes.now }

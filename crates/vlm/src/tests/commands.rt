@@ -16,7 +16,7 @@ fn help(rt: HostRuntime) {
         let run = run_of(&rt, words, b"show\n");
         assert_eq!(&rt; run.status, 0);
         assert!(&rt; run.printed.starts_with(beginning.as_bytes()));
-        assert!(&rt; run.told.is_empty());
+        assert!(&rt; run.faults.is_empty());
     }
 }
 
@@ -36,6 +36,6 @@ fn refused(rt: HostRuntime) {
         let run = run_of(&rt, words, b"show\n");
         assert_eq!(&rt; run.status, 2);
         assert!(&rt; run.printed.is_empty());
-        assert!(&rt; run.told.starts_with(beginning.as_bytes()));
+        assert!(&rt; run.faults.starts_with(beginning.as_bytes()));
     }
 }

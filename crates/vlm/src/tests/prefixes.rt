@@ -45,7 +45,7 @@ fn whole(rt: HostRuntime) {
         Outcome {
             status: 0,
             printed: PRINTED,
-            told: "",
+            faults: "",
         },
     );
 }
@@ -61,7 +61,7 @@ fn known_beginnings(rt: HostRuntime) {
         (40, 1, "", "line 1: wrong word\n"),
         (41, 0, "P: process 65537\n", ""),
     ];
-    for (len, status, printed, told) in cases {
+    for (len, status, printed, faults) in cases {
         let beginning = SCRIPT.get(..len).expect(&rt, "a beginning");
         check(
             &rt,
@@ -69,7 +69,7 @@ fn known_beginnings(rt: HostRuntime) {
             Outcome {
                 status,
                 printed,
-                told,
+                faults,
             },
         );
     }
@@ -82,16 +82,16 @@ fn every_beginning(rt: HostRuntime) {
         let run = run_of(&rt, &["vlm", "play"], &SCRIPT[..len]);
         assert!(&rt; PRINTED.as_bytes().starts_with(&run.printed), "at {len}");
         match run.status {
-            0 => assert!(&rt; run.told.is_empty(), "at {len}"),
+            0 => assert!(&rt; run.faults.is_empty(), "at {len}"),
             status => {
                 assert_eq!(&rt; status, 1, "at {len}");
-                assert!(&rt; is_fault(&run.told), "at {len}");
+                assert!(&rt; is_fault(&run.faults), "at {len}");
             }
         }
     }
 }
 
 // The text of some line's fault.
-fn is_fault(told: &[u8]) -> bool {
-    told.starts_with(b"line ") && FAULTS.iter().any(|text| told.ends_with(text.as_bytes()))
+fn is_fault(faults: &[u8]) -> bool {
+    faults.starts_with(b"line ") && FAULTS.iter().any(|text| faults.ends_with(text.as_bytes()))
 }

@@ -88,8 +88,8 @@ fn machine<R: Abort + AllocGlobal>(rt: &R) -> Core {
 /// Each step is refused by its condition.
 fn check<R: Abort + AllocGlobal>(rt: &R, cases: &[(Step, Cond)]) {
     let mut core = machine(rt);
-    for (step, want) in cases.iter().copied() {
-        assert_eq!(rt; core.step(step), Answer::Plain(want), "{step:?}");
+    for (number, (step, want)) in cases.iter().copied().enumerate() {
+        assert_eq!(rt; core.step(step), Answer::Plain(want), "case {number}");
     }
 }
 

@@ -1,9 +1,11 @@
 //! Scripts, and what they print.
 
 use crate::run::run_words;
-use crate::streams::LIMIT;
 use crate::tests::failing::Failing;
 use crate::tests::runs::{Outcome, check, run_of};
+
+/// How many bytes a script has at most.
+const LIMIT: usize = 16_777_216;
 
 const DECLARED_TWICE: &[u8] = b"\
 declare P node=1 group=1 quota=9 blocks=4
@@ -82,14 +84,14 @@ const FAULTY: [(&[u8], &str, &str); 16] = [
 /// The faults of a line, each with its text.
 #[test]
 fn faults(rt: HostRuntime) {
-    for (script, printed, told) in FAULTY {
+    for (script, printed, faults) in FAULTY {
         check(
             &rt,
             script,
             Outcome {
                 status: 1,
                 printed,
-                told,
+                faults,
             },
         );
     }
@@ -111,7 +113,7 @@ fn whole_runs(rt: HostRuntime) {
             Outcome {
                 status: 0,
                 printed,
-                told: "",
+                faults: "",
             },
         );
     }
@@ -127,7 +129,7 @@ fn script_too_long(rt: HostRuntime) {
         Outcome {
             status: 3,
             printed: "",
-            told: "script too long\n",
+            faults: "script too long\n",
         },
     );
 }
@@ -136,21 +138,27 @@ fn script_too_long(rt: HostRuntime) {
 #[test]
 fn read_fails(rt: HostRuntime) {
     let mut printed = Vec::new(rt.alloc());
-    let mut told = Vec::new(rt.alloc());
+    let mut faults = Vec::new(rt.alloc());
     let mut reader = Failing { left: 3 };
-    let status = run_words(&rt, &["vlm", "play"], &mut reader, &mut printed, &mut told);
+    let status = run_words(
+        &rt,
+        &["vlm", "play"],
+        &mut reader,
+        &mut printed,
+        &mut faults,
+    );
     assert_eq!(&rt; status, 3);
     assert!(&rt; printed.is_empty());
-    assert!(&rt; told.as_slice() == b"read\n".as_slice());
+    assert!(&rt; faults.as_slice() == b"read\n".as_slice());
 }
 
 /// A writer that takes some bytes and then fails.
 #[test]
 fn write_fails(rt: HostRuntime) {
-    let mut told = Vec::new(rt.alloc());
+    let mut faults = Vec::new(rt.alloc());
     let mut script: &[u8] = b"show\n";
     let mut writer = Failing { left: 3 };
-    let status = run_words(&rt, &["vlm", "play"], &mut script, &mut writer, &mut told);
+    let status = run_words(&rt, &["vlm", "play"], &mut script, &mut writer, &mut faults);
     assert_eq!(&rt; status, 3);
-    assert!(&rt; told.as_slice() == b"write\n".as_slice());
+    assert!(&rt; faults.as_slice() == b"write\n".as_slice());
 }

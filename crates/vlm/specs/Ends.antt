@@ -1,0 +1,95 @@
+-- What a call of the program comes to: its exit status, and what it has then read and written.
+use Rattle.std.specs.Prelude.{◌≡◌, ◌≢◌, ℕ, List, [], ◌⊎◌, Option, Result, Ok, Err, IfSome}
+use Rattle.std.specs.Io.KnownBytes.{Appends}
+use Rattle.clap.specs.Words.{Text}
+use Rattle.clap.specs.declared.error.kind.ErrorKind.{ErrorKind}
+use Rattle.clap.specs.declared.error.kind.ErrorKind.TheVariants.{OutOfMemory}
+use Rattle.vlm.specs.Words.{IsErrorOf, IsHelp, word_errors}
+use Rattle.vlm_script.specs.declared.faults.PlayFault.{PlayFault}
+use Rattle.vlm_script.specs.declared.faults.PlayFault.TheVariants.{Line, Memory, Read, Write, Long}
+use Rattle.vlm_script.specs.Faults.{fault_line}
+use Rattle.vlm_script.specs.Plays.{PassesPart, Plays, ConsumesAtMost, ReadsFirst, ReadsScript, Wrote}
+
+-- what the two writers hold, that of the text and that of the faults, where each tells it
+pub record Output : Type 0 where
+  pub printed : Option (List ℕ)
+  pub faults : Option (List ℕ)
+
+-- the output with these two
+abbrev pub output_of : Option (List ℕ) → Option (List ℕ) → Output
+output_of printed faults = record { printed = printed; faults = faults }
+
+-- the exit status of a run: 0 where it is done, 1 for a line with a fault, 3 for any other fault
+abbrev pub status_of : Result (Unit {0}) PlayFault → ℕ
+status_of (Ok done) = 0
+status_of (Err (Line number fault)) = 1
+status_of (Err Memory) = 3
+status_of (Err Read) = 3
+status_of (Err Write) = 3
+status_of (Err Long) = 3
+
+-- a fault's line is printed, or where a write fails only a first part of it
+abbrev pub PrintsFault : PlayFault → Option (List ℕ) → Option (List ℕ) → Type 0
+PrintsFault fault old new =
+    Appends old new (fault_line fault) ⊎ PassesPart old new (fault_line fault)
+
+-- what a run's end puts on standard error: nothing, or its fault
+abbrev pub PrintsEnd : Result (Unit {0}) PlayFault → Option (List ℕ) → Option (List ℕ) → Type 0
+PrintsEnd (Ok done) old new = new ≡ old
+PrintsEnd (Err fault) old new = PrintsFault fault old new
+
+-- a script was run: the status and the line on standard error are those of its end
+pub record RunsScript (script left : Option (List ℕ)) (old new : Output) (status : ℕ) : Type 0 where
+  pub end : Result (Unit {0}) PlayFault
+  pub played : IfSome script (λ input. Wrote old.printed new.printed (Plays input end))
+  pub reads : ConsumesAtMost 16777217 script left
+  pub first : ReadsFirst end (ReadsScript script left) (new.printed ≡ old.printed)
+  pub ended : status ≡ status_of end
+  pub faults : PrintsEnd end old.faults new.faults
+
+-- the help that was asked for stands on standard output
+pub record GivesHelp (old new : Output) (status : ℕ) : Type 0 where
+  pub help : List ℕ
+  pub printed : Appends old.printed new.printed help
+  pub faults : new.faults ≡ old.faults
+  pub ended : status ≡ 0
+
+-- the words are refused, and some text on them stands on standard error
+pub record RefusesWords (old new : Output) (status : ℕ) : Type 0 where
+  pub text : List ℕ
+  pub printed : new.printed ≡ old.printed
+  pub faults : Appends old.faults new.faults text
+  pub ended : status ≡ 2
+
+-- memory ran out over the words
+pub record WantsMemory (old new : Output) (status : ℕ) : Type 0 where
+  pub printed : new.printed ≡ old.printed
+  pub faults : PrintsFault Memory old.faults new.faults
+  pub ended : status ≡ 3
+
+-- a write of the help failed, and only a first part of it stands on standard output
+pub record FailsHelp (old new : Output) (status : ℕ) : Type 0 where
+  pub help : List ℕ
+  pub printed : PassesPart old.printed new.printed help
+  pub faults : PrintsFault Write old.faults new.faults
+  pub ended : status ≡ 3
+
+-- what a call comes to whose words get an error of this kind
+abbrev pub EndsByError : ErrorKind → Output → Output → ℕ → Type 0
+EndsByError kind old new status =
+    WantsMemory old new status
+    ⊎ (IsHelp kind × (GivesHelp old new status ⊎ FailsHelp old new status))
+    ⊎ ((kind ≢ OutOfMemory) × RefusesWords old new status)
+
+-- the words ask for a run, and the script was run; or they get an error, and nothing was read
+abbrev pub EndsByWords : List Text → Option (List ℕ) → Option (List ℕ)
+    → Output → Output → ℕ → Type 0
+EndsByWords words script left old new status =
+    ((word_errors words ≡ []) × RunsScript script left old new status)
+    ⊎ ((left ≡ script)
+    × ((kind : ErrorKind) × IsErrorOf words kind × EndsByError kind old new status))
+
+-- a script was run, or memory ran out before any of it was read
+abbrev pub RunsOrWantsMemory : Option (List ℕ) → Option (List ℕ) → Output → Output → ℕ → Type 0
+RunsOrWantsMemory script left old new status =
+    RunsScript script left old new status ⊎ ((left ≡ script) × WantsMemory old new status)

@@ -1,0 +1,4 @@
+pub mod Hexadecimal
+mod Shown
+mod Progress
+mod Written

@@ -1,0 +1,4 @@
+pub mod Queues
+pub mod Sessions
+pub mod Plays
+pub mod Faults

@@ -1,0 +1,20 @@
+//! Runs a script of lock requests, and prints what the lock manager answers.
+//!
+//! A script is read whole. Its lines are run in order in a session, which is the machine and the
+//! names that are bound to its processes. What they print waits, and is written a piece at a time.
+#![tactic(auto)]
+
+mod bindings;
+mod fault_lines;
+mod faults;
+mod printing;
+mod runs;
+mod session;
+mod show;
+mod stops;
+mod streams;
+
+pub use faults::PlayFault;
+pub use runs::play;
+pub use streams::write_whole;
+pub use vlm_lines::read_line;

@@ -1,0 +1,14 @@
+//! What a script's run prints, put behind the bytes that are printed already.
+//!
+//! Where memory runs out, some part of the text may stand there.
+
+pub(crate) use answers::answer_line;
+pub(crate) use locks::{converting_line, granted_line, waiting_line};
+pub(crate) use resources::{no_resources, resource_line};
+pub(crate) use status_blocks::status_block_line;
+
+mod answers;
+mod locks;
+mod resources;
+mod status_blocks;
+mod texts;

@@ -1,0 +1,45 @@
+//! Status blocks.
+
+ghost use Rattle.std.specs.Prelude.{◌≡◌, ◌++◌, codes, decimal, OnOk};
+ghost use Rattle.vlm_words.specs.Texts.{status_block_line, hex_text, line_feed};
+
+use super::texts::{hexadecimal, number, text};
+use std::alloc::AllocError;
+use vlm_words::blocks::Block;
+
+/// A status block under its process's name: what stands in it, or that the process has no such
+/// block.
+#[tactic(auto, unfolding(vlm_words::specs::Texts::status_block_line))]
+pub(crate) fn status_block_line(
+    out: &mut Vec<u8>,
+    name: &[u8],
+    block_number: u8,
+    block: Option<Block>,
+) -> Result<(), AllocError>
+    ensures { OnOk result (out.new.items
+        ≡ out.old.items ++ status_block_line name.now block_number block) }
+{
+    text(out, name)?;
+    text(out, b": block ")?;
+    number(out, u32::from(block_number))?;
+    match block {
+        Some(block) => contents(out, &block),
+        None => text(out, b" none\n"),
+    }
+}
+
+// What stands in a status block, and the end of the line.
+fn contents(out: &mut Vec<u8>, block: &Block) -> Result<(), AllocError>
+    ensures { OnOk result (out.new.items
+        ≡ out.old.items ++ codes " status " ++ decimal block.now.status
+        ++ codes " lock " ++ decimal block.now.lkid
+        ++ codes " value " ++ hex_text block.now.value ++ line_feed) }
+{
+    text(out, b" status ")?;
+    number(out, u32::from(block.status))?;
+    text(out, b" lock ")?;
+    number(out, block.lkid)?;
+    text(out, b" value ")?;
+    hexadecimal(out, &block.value)?;
+    text(out, b"\n")
+}

@@ -1,0 +1,108 @@
+//! A script's run, from the reader's bytes to the writer's.
+
+ghost use Rattle.std.specs.Prelude.{◌≡◌, IfSome, IfErr, OnOk, OnErr, MatchResult};
+ghost use Rattle.vlm_script.specs.Plays.{EndsLines, Passes, PassesPart, Plays, ConsumesAtMost, ReadsFirst, ReadsScript, Wrote};
+ghost use Rattle.vlm_script.specs.Sessions.{IsPrinted, StopsBytes};
+
+use crate::faults::PlayFault;
+use crate::session::Session;
+use crate::stops::Stop;
+use crate::streams::{read_whole, write_whole};
+use std::alloc::Global;
+use std::io::{Read, Write};
+use vlm_lines::next_line;
+
+/// How many printed bytes wait at most before they are written, but for a line's last ones.
+const WAITING: usize = 65_536;
+
+/// Reads a script whole, runs its lines in order, and writes what they print.
+///
+/// The script has at most 16,777,216 bytes: past that the fault is `Long`, once one byte more is
+/// read. With `Read`, `Long`, or `Memory` while reading, nothing is written. A line with a fault
+/// ends the run with `Line`, once the text of the lines before it is written; a refused growth ends
+/// it with `Memory` in the same way; a write that fails or takes no byte ends it with `Write`. A
+/// step that answers INSFMEM is printed like any other. Memory grows with the script and with the
+/// state of the machine; the time beyond the steps' own grows with the script's bytes and the
+/// number of bound names.
+pub fn play<R: Read, W: Write>(
+    alloc: Global,
+    reader: &mut R,
+    writer: &mut W,
+) -> Result<(), PlayFault>
+    // What was written, where the reader tells its bytes.
+    ensures played { IfSome (R.remaining reader.old) (λ input.
+        Wrote (W.contents writer.old) (W.contents writer.new) (Plays input result)) }
+
+    // No more is read, whatever comes.
+    ensures reads { ConsumesAtMost 16777217 (R.remaining reader.old) (R.remaining reader.new) }
+
+    // The script is read to its end, within the limit, before anything is written.
+    ensures first { ReadsFirst result
+        (ReadsScript (R.remaining reader.old) (R.remaining reader.new))
+        (W.contents writer.new ≡ W.contents writer.old) }
+{
+    let input = match read_whole(alloc, reader) {
+        Ok(input) => input,
+        Err(fault) => return Err(fault),
+    };
+    run_script(alloc, &input, writer)
+}
+
+// Runs the lines of a script, and writes what they print.
+fn run_script<W: Write>(alloc: Global, input: &[u8], writer: &mut W) -> Result<(), PlayFault>
+    ensures played { Wrote (W.contents writer.old) (W.contents writer.new)
+        (Plays input.now result) }
+    ensures faults { IfErr result EndsLines }
+{
+    let mut session = Session::new(alloc);
+    let mut out = Vec::new(alloc);
+    let mut rest = input;
+    let mut count = 0;
+    while let Some((line, after)) = next_line(rest) {
+        if let Err(stop) = run_line(&mut session, line, &mut out) {
+            match write_whole(writer, &out) {
+                Ok(()) => return Err(stop.at(count + 1)),
+                Err(_) => return Err(PlayFault::Write),
+            }
+        }
+        let Ok(()) = write_when_full(&mut out, writer) else {
+            return Err(PlayFault::Write);
+        };
+        rest = after;
+        count += 1;
+    }
+    match write_whole(writer, &out) {
+        Ok(()) => Ok(()),
+        Err(_) => Err(PlayFault::Write),
+    }
+}
+
+// Writes what waits once it is much. Then nothing waits.
+fn write_when_full<W: Write>(out: &mut Vec<u8>, writer: &mut W) -> Result<(), PlayFault>
+    ensures passed { OnOk result
+        (Passes (W.contents writer.old) (W.contents writer.new) out.old.items out.new.items) }
+    ensures part { OnErr result
+        (PassesPart (W.contents writer.old) (W.contents writer.new) out.old.items) }
+{
+    if out.len() >= WAITING {
+        write_whole(writer, out)?;
+        out.clear();
+    }
+    Ok(())
+}
+
+// Runs a line, and puts what it prints at the end of `out`. Where the line stops the run, `out` is
+// as it was.
+fn run_line(session: &mut Session, line: &[u8], out: &mut Vec<u8>) -> Result<(), Stop>
+    ensures run { MatchResult result
+        (λ _. IsPrinted session.old line.now session.new out.old.items out.new.items)
+        (λ stop. StopsBytes session.old.names line.now stop) }
+    ensures err { OnErr result (out.new.items ≡ out.old.items) }
+{
+    let mut printed = Vec::new(*out.allocator());
+    session.run(line, &mut printed)?;
+    if out.extend_from_slice(&printed).is_err() {
+        return Err(Stop::Memory);
+    }
+    Ok(())
+}

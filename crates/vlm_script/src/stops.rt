@@ -1,0 +1,28 @@
+//! Why a line ends the run of its script.
+
+ghost use Rattle.std.specs.Prelude.{◌≡◌};
+ghost use Rattle.vlm_script.specs.Sessions.{stopped_at};
+
+use crate::faults::PlayFault;
+use vlm_words::scripts::LineFault;
+
+/// Why a line ended the run of its script.
+#[derive(Clone, Copy)]
+pub(crate) enum Stop {
+    /// The line has a fault.
+    Fault(LineFault),
+    /// Memory was refused.
+    Memory,
+}
+
+impl Stop {
+    /// The fault of the whole run, where the line has this number.
+    pub(crate) fn at(self, number: usize) -> PlayFault
+        ensures { result ≡ stopped_at number self }
+    {
+        match self {
+            Stop::Fault(fault) => PlayFault::Line(number, fault),
+            Stop::Memory => PlayFault::Memory,
+        }
+    }
+}
