@@ -1,0 +1,4 @@
+pub mod Chains
+pub mod Keeping
+pub mod KeyLists
+pub mod Rings

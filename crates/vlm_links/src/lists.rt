@@ -1,0 +1,186 @@
+//! Lists, and the records that they run through.
+
+ghost use Rattle.std.specs.Prelude.{◌≡◌, ◌≢◌, ◌≤◌, ℕ, Some, None, [], ◌∷◌, ◌++◌, length};
+ghost use Rattle.std.specs.Option.{ForSome};
+ghost use Rattle.slab.specs.Slab.{get, ContainsKey};
+ghost use Rattle.vlm_links.specs.declared.link.Links.{Links};
+ghost use Rattle.vlm_links.specs.Lists.{IsIn, IsLinked, IsNoList, Joins, Relinks, first_key, key_after, keys_of, next_of, prev_of, without, written_links};
+
+use crate::link::{LAST_KEY, Link, Links};
+use slab::Slab;
+use std::marker::PhantomData;
+
+/// A record with a pair of links for the lists of one kind. `Kind` is a type that names the kind.
+pub trait Linked<Kind> {
+    ghost links: { Self → Links };
+
+    ghost with_links: { Self → Links → Self };
+
+    /// Its neighbours in the list of this kind.
+    fn links(&self) -> Links
+        ensures { result ≡ links self.now };
+
+    /// Writes its neighbours, and nothing else.
+    fn set_links(&mut self, pair: Links)
+        ensures { self.new ≡ with_links self.old pair };
+
+    ghost links_written: { (r : Self) (pair : Links) → links (with_links r pair) ≡ pair };
+
+    ghost written_twice: { (r : Self) (a b : Links) → with_links (with_links r a) b ≡ with_links r b };
+
+    ghost written_as_was: { (r : Self) → with_links r (links r) ≡ r };
+}
+
+/// A list of one kind: its ends, and how many records stand in it. The records and their links stand in
+/// a slab, and each call is given the slab.
+#[derive(Clone, Copy)]
+pub struct LinkedList<Kind> {
+    first: Link,
+    last: Link,
+    len: u32,
+    kind: PhantomData<Kind>,
+}
+
+impl<Kind> LinkedList<Kind> {
+    /// An empty list.
+    pub fn new() -> Self
+        ensures { IsNoList result }
+    {
+        LinkedList {
+            first: Link::none(),
+            last: Link::none(),
+            len: 0,
+            kind: PhantomData,
+        }
+    }
+
+    /// How many records stand in the list.
+    pub fn len<T: Linked<Kind>>(&self, nodes: &Slab<T>) -> usize
+        requires { IsLinked T.links nodes.now self.now }
+        ensures { result ≡ length (keys_of T.links nodes.now self.now) }
+    {
+        self.len as usize
+    }
+
+    /// The key of the first record, if there is one.
+    pub fn first<T: Linked<Kind>>(&self, nodes: &Slab<T>) -> Option<usize>
+        requires { IsLinked T.links nodes.now self.now }
+        ensures { result ≡ first_key (keys_of T.links nodes.now self.now) }
+    {
+        self.first.key()
+    }
+
+    /// The key of the record that follows one of the list, if there is one.
+    pub fn next<T: Linked<Kind>>(&self, nodes: &Slab<T>, key: usize) -> Option<usize>
+        requires linked { IsLinked T.links nodes.now self.now }
+        requires listed { IsIn key (keys_of T.links nodes.now self.now) }
+        ensures { result ≡ key_after key (keys_of T.links nodes.now self.now) }
+    {
+        nodes[key].links().next.key()
+    }
+
+    /// Puts a record that is in no list of this kind at the end.
+    pub fn push_back<T: Linked<Kind>>(&mut self, nodes: &mut Slab<T>, key: usize)
+        requires linked { IsLinked T.links nodes.old self.old }
+        requires present { ContainsKey nodes.old key }
+        requires within { key ≤ LAST_KEY }
+        requires unlisted { ¬ IsIn key (keys_of T.links nodes.old self.old) }
+        ensures linked { IsLinked T.links nodes.new self.new }
+        ensures keys { keys_of T.links nodes.new self.new
+            ≡ keys_of T.links nodes.old self.old ++ key ∷ [] }
+        ensures others { (other : ℕ) → ¬ IsIn other (keys_of T.links nodes.old self.old)
+            → other ≢ key → get nodes.new other ≡ get nodes.old other }
+        ensures relinks { Relinks T.with_links nodes.old nodes.new }
+    {
+        let last = self.last;
+        write_links::<Kind, T>(
+            nodes,
+            key,
+            Links {
+                prev: last,
+                next: Link::none(),
+            },
+        );
+        link_forward(nodes, self, last, Link::to(key));
+        self.last = Link::to(key);
+        self.len += 1;
+    }
+
+    /// Takes a record out of the list, wherever in it the record stands.
+    pub fn unlink<T: Linked<Kind>>(&mut self, nodes: &mut Slab<T>, key: usize)
+        requires linked { IsLinked T.links nodes.old self.old }
+        requires listed { IsIn key (keys_of T.links nodes.old self.old) }
+        ensures linked { IsLinked T.links nodes.new self.new }
+        ensures keys { keys_of T.links nodes.new self.new
+            ≡ without key (keys_of T.links nodes.old self.old) }
+        ensures others { (other : ℕ) → ¬ IsIn other (keys_of T.links nodes.old self.old)
+            → get nodes.new other ≡ get nodes.old other }
+        ensures relinks { Relinks T.with_links nodes.old nodes.new }
+    {
+        let pair = nodes[key].links();
+        link_forward(nodes, self, pair.prev, pair.next);
+        link_back(nodes, self, pair.next, pair.prev);
+        self.len -= 1;
+    }
+}
+
+// Writes the neighbours of a record.
+fn write_links<Kind, T: Linked<Kind>>(nodes: &mut Slab<T>, key: usize, pair: Links)
+    requires { ContainsKey nodes.old key }
+    ensures here { get nodes.new key ≡ written_links T.with_links pair (get nodes.old key) }
+    ensures others { (other : ℕ) → other ≢ key → get nodes.new other ≡ get nodes.old other }
+    ensures relinks { Relinks T.with_links nodes.old nodes.new }
+{
+    nodes[key].set_links(pair);
+}
+
+// Links a place to the one after it.
+fn link_forward<Kind, T: Linked<Kind>>(
+    nodes: &mut Slab<T>,
+    list: &mut LinkedList<Kind>,
+    from: Link,
+    to: Link,
+)
+    requires { ForSome from (λ key. ContainsKey nodes.old key) }
+    ensures next { Joins (next_of T.links nodes.old list.old) (next_of T.links nodes.new list.new)
+        from to }
+    ensures prev { (at : _) → prev_of T.links nodes.new list.new at
+        ≡ prev_of T.links nodes.old list.old at }
+    ensures others { (key : ℕ) → Some key ≢ from → get nodes.new key ≡ get nodes.old key }
+    ensures relinks { Relinks T.with_links nodes.old nodes.new }
+    ensures last { list.new.last ≡ list.old.last }
+    ensures len { list.new.len ≡ list.old.len }
+{
+    match from.key() {
+        None => list.first = to,
+        Some(key) => {
+            let pair = nodes[key].links();
+            write_links::<Kind, T>(nodes, key, Links { next: to, ..pair });
+        }
+    }
+}
+
+// Links a place to the one before it.
+fn link_back<Kind, T: Linked<Kind>>(
+    nodes: &mut Slab<T>,
+    list: &mut LinkedList<Kind>,
+    from: Link,
+    to: Link,
+)
+    requires { ForSome from (λ key. ContainsKey nodes.old key) }
+    ensures prev { Joins (prev_of T.links nodes.old list.old) (prev_of T.links nodes.new list.new)
+        from to }
+    ensures next { (at : _) → next_of T.links nodes.new list.new at
+        ≡ next_of T.links nodes.old list.old at }
+    ensures others { (key : ℕ) → Some key ≢ from → get nodes.new key ≡ get nodes.old key }
+    ensures relinks { Relinks T.with_links nodes.old nodes.new }
+    ensures len { list.new.len ≡ list.old.len }
+{
+    match from.key() {
+        None => list.last = to,
+        Some(key) => {
+            let pair = nodes[key].links();
+            write_links::<Kind, T>(nodes, key, Links { prev: to, ..pair });
+        }
+    }
+}
