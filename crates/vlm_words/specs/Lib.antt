@@ -13,6 +13,7 @@ pub mod Grants
 pub mod Sweeps
 pub mod Rows
 pub mod Resources
+pub mod Keys
 pub mod Checks
 pub mod Declare
 pub mod SetValue

@@ -4,6 +4,7 @@ ghost use Rattle.std.specs.Prelude.{◌≡◌};
 ghost use Rattle.vlm_words.specs.ValueBlocks.{new_value_block};
 
 use crate::names::Name;
+use std::hash::{Hash, Hasher};
 
 /// The space of names that a root resource is in.
 #[derive(Clone, Copy, PartialEq, Eq)]
@@ -21,6 +22,59 @@ pub enum Key {
     Root(Domain, Name),
     /// A sub-resource, by the serial of its parent resource and its name.
     Below(u32, Name),
+}
+
+impl PartialEq for Key {
+    ghost use Rattle.std.specs.Cmp.{decided, partial_equiv_from_equiv};
+    ghost use Rattle.vlm_words.specs.Keys.{is_same_key, is_same_key-Decides};
+
+    ghost eq = { is_same_key };
+
+    ghost laws = { partial_equiv_from_equiv (decided is_same_key is_same_key-Decides) };
+
+    fn eq(&self, other: &Key) -> bool {
+        match (self, other) {
+            (Key::Root(domain, name), Key::Root(other_domain, other_name)) => {
+                *domain == *other_domain && name.bytes() == other_name.bytes()
+            }
+            (Key::Below(parent, name), Key::Below(other_parent, other_name)) => {
+                *parent == *other_parent && name.bytes() == other_name.bytes()
+            }
+            _ => false,
+        }
+    }
+}
+
+impl Eq for Key {
+    ghost use Rattle.std.specs.Cmp.{decided};
+    ghost use Rattle.vlm_words.specs.Keys.{is_same_key, is_same_key-Decides};
+
+    ghost laws = { decided is_same_key is_same_key-Decides };
+}
+
+impl Hash for Key {
+    ghost use Rattle.std.specs.Hash.{same_Alike};
+    ghost use Rattle.vlm_words.specs.Keys.{is_same_key-Decides, key_input};
+
+    ghost hash_input = { key_input };
+
+    ghost respects_eq = { (same_Alike key_input is_same_key-Decides).fed };
+
+    fn hash<H: Hasher>(&self, state: &mut H) {
+        match self {
+            Key::Root(domain, name) => {
+                match domain {
+                    Domain::Group(group) => group.hash(state),
+                    Domain::System => state.write_u8(1),
+                }
+                name.bytes().hash(state);
+            }
+            Key::Below(parent, name) => {
+                parent.hash(state);
+                name.bytes().hash(state);
+            }
+        }
+    }
 }
 
 /// The value block of a resource: its bytes, and whether they are valid.
@@ -45,7 +99,7 @@ impl ValueBlock {
 }
 
 /// A queue of a resource.
-#[derive(Clone, Copy)]
+#[derive(Clone, Copy, PartialEq, Eq)]
 pub enum Queue {
     /// Locks that hold a mode and want no other.
     Granted,
