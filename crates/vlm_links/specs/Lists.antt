@@ -66,6 +66,7 @@ module _ {T : Type 0} (links : T → Links) where
   next_in None = None
   next_in (Some r) = (links r).next
 
+  -- the record before, or none where there is no record
   abbrev pub prev_in : Option T → Place
   prev_in None = None
   prev_in (Some r) = (links r).prev

@@ -26,7 +26,8 @@ pub trait Linked<Kind> {
 
     ghost links_written: { (r : Self) (pair : Links) → links (with_links r pair) ≡ pair };
 
-    ghost written_twice: { (r : Self) (a b : Links) → with_links (with_links r a) b ≡ with_links r b };
+    ghost written_twice: { (r : Self) (a b : Links) → with_links (with_links r a) b
+        ≡ with_links r b };
 
     ghost written_as_was: { (r : Self) → with_links r (links r) ≡ r };
 }
