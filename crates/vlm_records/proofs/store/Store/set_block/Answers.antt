@@ -1,0 +1,44 @@
+use Rattle.std.proofs.Common.{ap, refl, nat_eq}
+use Rattle.std.specs.Option.{option_map}
+use Rattle.slab.specs.Slab.{get as slot_of}
+use Rattle.indexmap.specs.IndexMap.{get}
+use Rattle.vlm_words.specs.declared.resources.Queue.TheVariants.{Granted, Conversion, Waiting}
+use Rattle.vlm_records.specs.declared.keys.Place.TheVariants.{Queued}
+use Rattle.vlm_words.specs.Keys.{is_same_key}
+use Rattle.vlm_records.specs.Records.{StoredResource}
+use Rattle.vlm_records.specs.Shown.{face_in, lkid_of, row_in}
+use Rattle.vlm_records.specs.Store.{key_at, lkid_at, tables}
+use Rattle.vlm_records.proofs.Indexing.{Indexes-same}
+use Rattle.vlm_records.proofs.Layouts.{HasResource-order, resource_written}
+use Rattle.vlm_records.proofs.Making.{block_key, block_linked, block_order, block_whole}
+use Rattle.vlm_records.proofs.store.Store.set_block.Goals as goal
+
+pub set_block-requires-clause-there : goal.set_block-requires-clause-there
+set_block-requires-clause-there c =
+    let s = c.self.inside in
+    rw c.slot.ensures (c.self.invariant.linked.present c.args.res (HasResource-order (tables s.queues s.order) c.args.res (rw (← c.self.view_is) at c.requires)))
+
+pub invariant_of-self : goal.invariant_of-self
+invariant_of-self c =
+    let s = c.self.inside in
+    let kept = c.self.invariant in
+    let q' = c.set_block.new.self in
+    let set = c.set_block.ensures in
+    record {
+      placed = set.placed;
+      tallied = set.tallied;
+      linked = block_linked s.queues.resources q'.resources set.rest s.order kept.linked;
+      ordered = block_whole s.queues.resources q'.resources set.rest s.order kept.linked kept.ordered;
+      locks = Indexes-same (get nat_eq s.lock_index) (get nat_eq s.lock_index) (lkid_at s.queues) (lkid_at q') (λ k. refl) (λ x. ap (λ l. option_map lkid_of (slot_of l x)) set.locks) kept.locks;
+      resources = Indexes-same (get is_same_key s.resource_index) (get is_same_key s.resource_index) (key_at s.queues) (key_at q') (λ k. refl) (block_key s.queues.resources q'.resources set.rest) kept.resources;
+    }
+
+pub returns : goal.returns
+returns c =
+    let s = c.self.inside in
+    let q' = c.set_block.new.self in
+    let set = rw c.slot.ensures at c.set_block.ensures in
+    rw (← c.self.view_is)
+    (resource_written (tables s.queues s.order) (tables q' s.order) c.args.res (λ (r : StoredResource). record r { block = c.args.block }) (λ k. ap (λ l. row_in (slot_of l k)) set.locks) set.keys
+    (λ r differs. ap face_in (set.faces r differs)) (block_order s.queues.resources q'.resources set.rest s.order c.self.invariant.linked)
+    (λ lists. rw (set.face, lists (Queued c.args.res Granted), lists (Queued c.args.res Conversion), lists (Queued c.args.res Waiting)) refl))

@@ -1,0 +1,6 @@
+pub mod Index
+pub mod Kept
+pub mod Records
+pub mod Shown
+pub mod Store
+pub mod Tallies

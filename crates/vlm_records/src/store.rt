@@ -1,0 +1,264 @@
+//! The store.
+
+ghost use Rattle.std.specs.Prelude.{◌≡◌, [], ◌∷◌, ◌++◌, IfOk, IfSome, OnErr};
+ghost use Rattle.std.specs.Option.{ForSome};
+ghost use Rattle.vlm_words.specs.declared.locks.Row.{Row};
+ghost use Rattle.vlm_records.specs.declared.keys.Place.{Place};
+ghost use Rattle.vlm_records.specs.Records.{FindsLock, FindsResource, HasPlace, HasResource, IsAmong, at_after, first_at, first_resource_at, fits_beside, resource_at_after, resource_at, IsIdle, IsNewKey, IsNewLock, IsRowOf, IsSound, IsStored, Stores, leaving, locks_at, moving, new_resource, nothing, on_resource, rewriting, with_lists, without_resource};
+
+use crate::keys::{LockAt, Place, ResAt};
+use crate::locks::InQueue;
+use crate::queues::Queues;
+use crate::resources::InOrder;
+use indexmap::IndexMap;
+use slab::Slab;
+use std::alloc::{AllocError, Global};
+use std::marker::Model;
+use vlm_links::{LAST_KEY, LinkedList};
+use vlm_words::locks::Row;
+use vlm_words::modes::Mode;
+use vlm_words::resources::{Key, ValueBlock};
+
+/// The records of the machine. Each call takes constant time but for the growth of an add.
+#[derive(Drop)]
+pub struct Store {
+    queues: Queues,
+    // the resources in order of making
+    order: LinkedList<InOrder>,
+    // where the lock of each identification is
+    lock_index: IndexMap<u32, LockAt>,
+    // where the resource of each key is
+    resource_index: IndexMap<Key, ResAt>,
+}
+
+impl Model for Store {
+    ghost use Rattle.vlm_records.specs.Records.{Records};
+
+    ghost Value = { Records };
+
+    ghost use Rattle.vlm_records.specs.Kept.{IsKept, records_shown};
+
+    ghost view = { records_shown };
+
+    ghost invariant = { IsKept };
+}
+
+impl Store {
+    /// An empty store. It takes no memory.
+    pub fn new(alloc: Global) -> Store
+        ensures { result ≡ nothing }
+    {
+        Store {
+            queues: Queues {
+                locks: Slab::new(alloc),
+                resources: Slab::new(alloc),
+                loose: LinkedList::new(),
+            },
+            order: LinkedList::new(),
+            lock_index: IndexMap::new(alloc),
+            resource_index: IndexMap::new(alloc),
+        }
+    }
+
+    /// Where the lock of this identification is.
+    pub fn lock(&self, lkid: u32) -> Option<LockAt>
+        ensures { FindsLock self.now lkid result }
+    {
+        self.lock_index.get(&lkid).copied()
+    }
+
+    /// Where the resource under this key is.
+    pub fn resource(&self, key: &Key) -> Option<ResAt>
+        ensures found { FindsResource self.now key.now result }
+        ensures there { IfSome result (λ res. HasResource res self.now) }
+    {
+        self.resource_index.get(key).copied()
+    }
+
+    /// What a lock holds and wants.
+    pub fn row(&self, lock: LockAt) -> Row
+        requires { IsStored lock self.now }
+        ensures stored { Stores self.now lock result }
+        ensures only { (row : Row) → Stores self.now lock row → row ≡ result }
+    {
+        self.queues.locks[lock.slot()].row
+    }
+
+    /// Adds a lock that stands in no queue, the last of these. Where memory is refused, or no key is left,
+    /// nothing is changed.
+    pub fn add_lock(&mut self, row: Row) -> Result<LockAt, AllocError>
+        requires { IsNewLock row.lkid self.old }
+        ensures added { IfOk result (λ at. self.new ≡ record self.old {
+          loose = self.old.loose ++ record { at = at; row = row } ∷ [];
+        }) }
+        ensures fresh { IfOk result (λ at. ¬ IsStored at self.old) }
+        ensures err { OnErr result (self.new ≡ self.old) }
+    {
+        if self.queues.locks.vacant_key() > LAST_KEY {
+            return Err(AllocError);
+        }
+        self.queues.locks.reserve(1)?;
+        self.lock_index.reserve(1)?;
+        let at = LockAt::of(self.queues.add(&row));
+        let _ = self.lock_index.insert(row.lkid, at);
+        Ok(at)
+    }
+
+    /// Writes what a lock holds and wants, where it stands.
+    pub fn set_row(&mut self, lock: LockAt, row: Row)
+        requires { IsRowOf lock row self.old }
+        ensures { self.new ≡ with_lists (rewriting lock row) self.old }
+    {
+        self.queues.set_row(lock.slot(), &row);
+    }
+
+    /// Takes a lock from where it stands, writes what it holds and wants, and puts it at the end of the
+    /// list of a place.
+    pub fn move_lock(&mut self, lock: LockAt, row: Row, to: Place)
+        requires lock { IsRowOf lock row self.old }
+        requires there { HasPlace to self.old }
+        ensures { self.new ≡ with_lists (moving to (record { at = lock; row = row })) self.old }
+    {
+        self.queues.move_to(lock.slot(), &row, to);
+    }
+
+    /// Removes a lock, wherever it stands.
+    pub fn remove_lock(&mut self, lock: LockAt)
+        requires { IsStored lock self.old }
+        ensures { self.new ≡ with_lists (leaving lock) self.old }
+    {
+        let lkid = self.queues.locks[lock.slot()].row.lkid;
+        self.queues.remove(lock.slot());
+        self.lock_index.swap_remove(&lkid);
+    }
+
+    /// Adds a resource without locks, the last in order of making, with a valid value block of zeros. Where
+    /// memory is refused, or no key is left, nothing is changed.
+    pub fn add_resource(&mut self, serial: u32, key: &Key) -> Result<ResAt, AllocError>
+        requires { IsNewKey key.now self.old }
+        ensures added { IfOk result (λ res. self.new ≡ record self.old {
+          resources = self.old.resources ++ new_resource res serial key.now ∷ [];
+        }) }
+        ensures fresh { IfOk result (λ res. ¬ HasResource res self.old) }
+        ensures err { OnErr result (self.new ≡ self.old) }
+    {
+        if self.queues.resources.vacant_key() > LAST_KEY {
+            return Err(AllocError);
+        }
+        self.queues.resources.reserve(1)?;
+        self.resource_index.reserve(1)?;
+        let res = ResAt::of(self.queues.add_resource(&mut self.order, serial, key));
+        let _ = self.resource_index.insert(*key, res);
+        Ok(res)
+    }
+
+    /// The key of the first lock at a place, if there is one.
+    pub fn first(&self, place: Place) -> Option<LockAt>
+        requires { HasPlace place self.now }
+        ensures { result ≡ first_at (locks_at place self.now) }
+    {
+        match self.queues.list(place).first(&self.queues.locks) {
+            Some(at) => Some(LockAt::of(at)),
+            None => None,
+        }
+    }
+
+    /// The key of the lock that follows one where it stands, if there is one.
+    pub fn next(&self, lock: LockAt) -> Option<LockAt>
+        requires { IsStored lock self.now }
+        ensures { (place : Place) (row : Row)
+            → IsAmong (record { at = lock; row = row }) (locks_at place self.now)
+            → result ≡ at_after lock (locks_at place self.now) }
+    {
+        let list = self.queues.list(self.queues.locks[lock.slot()].place);
+        match list.next(&self.queues.locks, lock.slot()) {
+            Some(at) => Some(LockAt::of(at)),
+            None => None,
+        }
+    }
+
+    /// The key of the first resource in order of making, if there is one.
+    pub fn first_resource(&self) -> Option<ResAt>
+        ensures { result ≡ first_resource_at self.now.resources }
+    {
+        match self.order.first(&self.queues.resources) {
+            Some(at) => Some(ResAt::of(at)),
+            None => None,
+        }
+    }
+
+    /// The key of the resource made after one, if there is one.
+    pub fn next_resource(&self, res: ResAt) -> Option<ResAt>
+        requires { HasResource res self.now }
+        ensures { result ≡ resource_at_after res self.now.resources }
+    {
+        match self.order.next(&self.queues.resources, res.slot()) {
+            Some(at) => Some(ResAt::of(at)),
+            None => None,
+        }
+    }
+
+    /// The serial of a resource.
+    pub fn serial(&self, res: ResAt) -> u32
+        requires { HasResource res self.now }
+        ensures { IfSome (resource_at res self.now.resources) (λ r. result ≡ r.serial) }
+    {
+        self.queues.resources[res.slot()].serial
+    }
+
+    /// The key under which a resource stands.
+    pub fn key(&self, res: ResAt) -> Key
+        requires { HasResource res self.now }
+        ensures { IfSome (resource_at res self.now.resources) (λ r. result ≡ r.key) }
+    {
+        self.queues.resources[res.slot()].key
+    }
+
+    /// The value block of a resource.
+    pub fn block(&self, res: ResAt) -> ValueBlock
+        requires { HasResource res self.now }
+        ensures { IfSome (resource_at res self.now.resources) (λ r. result ≡ r.block) }
+    {
+        self.queues.resources[res.slot()].block
+    }
+
+    /// Writes the value block of a resource.
+    pub fn set_block(&mut self, res: ResAt, block: ValueBlock)
+        requires { HasResource res self.old }
+        ensures { self.new ≡ record self.old {
+          resources = on_resource res (λ r. record r { block = block }) self.old.resources;
+        } }
+    {
+        self.queues.set_block(res.slot(), block);
+    }
+
+    /// Removes a resource in whose queues no lock stands. The others keep their order.
+    pub fn remove_resource(&mut self, res: ResAt)
+        requires there { HasResource res self.old }
+        requires idle { IsIdle res self.old }
+        ensures { self.new
+            ≡ record self.old { resources = without_resource res self.old.resources } }
+    {
+        let key = self.queues.resources[res.slot()].key;
+        self.queues.remove_resource(&mut self.order, res.slot());
+        self.resource_index.swap_remove(&key);
+    }
+
+    /// Whether the mode is compatible with what every lock of the resource holds, granted or converting,
+    /// but for the lock that asks.
+    pub fn can_hold(&self, res: ResAt, mode: Mode, own: Option<LockAt>) -> bool
+        requires there { HasResource res self.now }
+        requires own { ForSome own (λ lock. IsStored lock self.now) }
+        ensures { IfSome (resource_at res self.now.resources) (λ r. result
+            ≡ fits_beside mode own r) }
+    {
+        self.queues.fits(res, mode, own)
+    }
+
+    /// Each key is that of one record, and no lock stands at two places.
+    pub fn known(&self)
+        ensures { IsSound self.now }
+    {
+        let _queues = &self.queues;
+    }
+}
