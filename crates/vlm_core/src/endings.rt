@@ -75,7 +75,8 @@ fn end_by_withdrawal(store: &mut Store, row: &Row, cancels: bool)
 pub(crate) fn end_in_queue(store: &mut Store, rows: &[Row], lkid: u32, cancels: bool)
     ensures { store.new ≡ record store.old {
       processes = processes_after
-          (queue_endings (if cancels then by_cancel else by_abort) lkid rows.now) store.old.processes;
+          (queue_endings (if cancels then by_cancel else by_abort) lkid rows.now)
+          store.old.processes;
     } }
 {
     for row in rows {

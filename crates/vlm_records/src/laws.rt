@@ -10,13 +10,16 @@ ghost use Rattle.vlm_records.specs.Records.{Records, HasResource, IsAmong, IsSou
 /// A lock that was not there is added and removed again: all is as it was.
 pub fn law_removal_undoes_an_added_lock()
     ensures { (s : Records) (at : ℕ) (row : Row) → IsSound s → ¬ IsStored at s
-        → with_lists (leaving at) (record s { loose = s.loose ++ record { at = at; row = row } ∷ [] }) ≡ s }
+        → with_lists (leaving at)
+        (record s { loose = s.loose ++ record { at = at; row = row } ∷ [] }) ≡ s }
 {}
 
 /// A resource that was not there is added and removed again: all is as it was.
 pub fn law_removal_undoes_an_added_resource()
     ensures { (s : Records) (res serial : ℕ) (key : Key) → ¬ HasResource res s
-        → record s { resources = without_resource res (s.resources ++ new_resource res serial key ∷ []) } ≡ s }
+        → record s {
+          resources = without_resource res (s.resources ++ new_resource res serial key ∷ []);
+        } ≡ s }
 {}
 
 /// A loose lock that moves to a queue joins it at the end, and no other list changes.

@@ -8,6 +8,7 @@ ghost use Rattle.vlm_store.specs.Records.{without_process};
 
 /// A process that was not there is added and removed again: all is as it was.
 pub fn law_removal_undoes_an_addition()
-    ensures { (processes : List Process) (pid : ℕ) (d : Declaration) → process_of processes pid ≡ None
+    ensures { (processes : List Process) (pid : ℕ) (d : Declaration)
+        → process_of processes pid ≡ None
         → without_process pid (processes ++ new_process pid d ∷ []) ≡ processes }
 {}
