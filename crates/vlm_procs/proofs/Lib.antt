@@ -1,1 +1,1 @@
-pub mod Absent
+pub mod Written

@@ -4,10 +4,10 @@ ghost use Rattle.std.specs.Prelude.{◌≡◌, [], IfSome, IfNone};
 ghost use Rattle.std.specs.Bool.{OnTrue, OnFalse};
 ghost use Rattle.std.specs.Option.{ForSome};
 ghost use Rattle.vlm_words.specs.declared.locks.Row.{Row};
-ghost use Rattle.vlm_records.specs.declared.keys.Place.{Place};
-ghost use Rattle.vlm_records.specs.Records.{HasResource, IsAmong, IsIdle, IsStored, Stores, at_after, first_at, fits_beside, locks_at, moving, resource_at, with_lists};
+ghost use Rattle.vlm_store.specs.declared.keys.Place.{Place};
+ghost use Rattle.vlm_store.specs.Records.{HasResource, IsAmong, IsIdle, IsStored, Stores, at_after, first_at, fits_beside, locks_at, moving, resource_at, with_lists};
 
-use vlm_records::{LockAt, Place, ResAt, Store};
+use vlm_store::{LockAt, Place, ResAt, Store};
 use vlm_words::modes::Mode;
 use vlm_words::resources::Queue;
 

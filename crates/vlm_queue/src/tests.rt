@@ -1,12 +1,12 @@
 //! A resource whose three queues are filled, served and emptied.
 
-ghost use Rattle.vlm_records.specs.Records.{HasResource, IsStored};
+ghost use Rattle.vlm_store.specs.Records.{HasResource, IsStored};
 
 use crate::{can_hold, head, is_idle, next, pop_front, push_back, unlink};
 use std::alloc::{AllocError, Global};
 use std::process::Abort;
 use std::test::Fail;
-use vlm_records::{LockAt, ResAt, Store};
+use vlm_store::{LockAt, ResAt, Store};
 use vlm_words::flags::EnqFlags;
 use vlm_words::locks::{Request, Row};
 use vlm_words::modes::Mode;

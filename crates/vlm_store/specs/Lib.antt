@@ -1,1 +1,8 @@
+pub mod Families
+pub mod Holdings
+pub mod Index
+pub mod Kept
 pub mod Records
+pub mod Shown
+pub mod Store
+pub mod Tallies

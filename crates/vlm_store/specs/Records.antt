@@ -1,15 +1,409 @@
--- What the store holds.
-use Rattle.std.specs.Prelude.{ℕ, not, List, [], filter, ◌==◌}
+-- What the store shows: resources with their queues, locks, and processes with their own locks, each under
+-- its key.
+use Rattle.std.specs.Prelude.{◌≡◌, ◌⊎◌, ℕ, Bool, true, false, not, ◌==◌, ◌&&◌, List, [], ◌∷◌, ◌++◌, map, filter, find, Option, None, Some, IsSome, if◌then◌else◌}
+use Rattle.std.specs.Option.{option_map_or}
+use Rattle.vlm_words.specs.declared.locks.Row.{Row}
+use Rattle.vlm_words.specs.declared.modes.Mode.{Mode}
+use Rattle.vlm_words.specs.declared.resources.Domain.{Domain}
+use Rattle.vlm_words.specs.declared.resources.Queue.{Queue}
+use Rattle.vlm_words.specs.declared.resources.Queue.TheVariants.{Granted, Conversion, Waiting}
+use Rattle.vlm_words.specs.declared.steps.Declaration.{Declaration}
+use Rattle.vlm_links.specs.Lists.{IsIn, without}
+use Rattle.vlm_words.specs.Declare.{new_process}
+use Rattle.vlm_words.specs.Grants.{fits}
 use Rattle.vlm_words.specs.State.{Process}
+use Rattle.vlm_words.specs.ValueBlocks.{new_value_block}
+use Rattle.vlm_words.specs.declared.resources.Key.{Key}
+use Rattle.vlm_store.specs.declared.keys.Place.{Place}
+use Rattle.vlm_store.specs.declared.keys.Place.TheVariants.{Loose, Queued}
+use Rattle.vlm_words.specs.declared.resources.ValueBlock.{ValueBlock}
 
--- the records by kind: the processes in order of making
+-- a lock under its key
+pub record StoredLock : Type 0 where
+  pub at : ℕ
+  pub row : Row
+
+-- a resource under its key, with its three queues
+pub record StoredResource : Type 0 where
+  pub at : ℕ
+  pub serial : ℕ
+  pub domain : Domain
+  pub key : Key
+  pub value_block : ValueBlock
+  pub granted : List StoredLock
+  pub converting : List StoredLock
+  pub waiting : List StoredLock
+
+-- a lock among those of its process, with the keys of the locks that were made under it
+pub record OwnLock : Type 0 where
+  pub at : ℕ
+  pub sublocks : List ℕ
+
+-- a process under its key, with its own locks in order of making
+pub record StoredProcess : Type 0 where
+  pub at : ℕ
+  pub process : Process
+  pub own : List OwnLock
+
+-- the resources in order of making, the locks that stand in no queue for the moment, and the processes in
+-- order of making
 pub record Records : Type 0 where
-  pub processes : List Process
+  pub resources : List StoredResource
+  pub loose : List StoredLock
+  pub processes : List StoredProcess
 
 -- nothing is stored
-abbrev pub empty : Records
-empty = record { processes = [] }
+abbrev pub nothing : Records
+nothing = record { resources = []; loose = []; processes = [] }
 
--- the processes but for the one with this identification
-abbrev pub without_process : ℕ → List Process → List Process
-without_process pid processes = filter (λ p. not (p.pid == pid)) processes
+-- a resource at its making
+abbrev pub new_resource : ℕ → ℕ → Domain → Key → StoredResource
+new_resource at serial domain key = record {
+  at = at;
+  serial = serial;
+  domain = domain;
+  key = key;
+  value_block = record { value = new_value_block.value; valid = new_value_block.valid };
+  granted = [];
+  converting = [];
+  waiting = [];
+}
+
+-- the locks of a queue
+abbrev pub queued : Queue → StoredResource → List StoredLock
+queued Granted r = r.granted
+queued Conversion r = r.converting
+queued Waiting r = r.waiting
+
+-- the resource of this key, if there is one
+abbrev pub resource_at : ℕ → List StoredResource → Option StoredResource
+resource_at res resources = find (λ r. r.at == res) resources
+
+-- there is a resource of this key
+abbrev pub HasResource : ℕ → Records → Type 0
+HasResource res s = IsSome (resource_at res s.resources)
+
+-- the place is there, if it is a queue
+abbrev pub HasPlace : Place → Records → Type 0
+HasPlace Loose s = Unit {0}
+HasPlace (Queued res queue) s = HasResource res s
+
+-- the locks at a place, the first in line first
+abbrev pub locks_at : Place → Records → List StoredLock
+locks_at Loose s = s.loose
+locks_at (Queued res queue) s = option_map_or (queued queue) (resource_at res s.resources) []
+
+-- the lock is one of these
+abbrev pub IsAmong : StoredLock → List StoredLock → Type 0
+IsAmong lock [] = ⊥
+IsAmong lock (first ∷ rest) = (first ≡ lock) ⊎ IsAmong lock rest
+
+-- a lock with this key and row stands somewhere
+abbrev pub Stores : Records → ℕ → Row → Type 0
+Stores s at row = (place : Place) × IsAmong (record { at = at; row = row }) (locks_at place s)
+
+-- a lock of this key stands somewhere
+abbrev pub IsStored : ℕ → Records → Type 0
+IsStored at s = (row : Row) × Stores s at row
+
+-- the two rows are those of one lock
+pub record IsSameLock (a b : Row) : Type 0 where
+  pub lkid : a.lkid ≡ b.lkid
+  pub pid : a.pid ≡ b.pid
+  pub parent : a.parent ≡ b.parent
+
+-- the key is that of a stored lock, which the row fits
+abbrev pub IsRowOf : ℕ → Row → Records → Type 0
+IsRowOf at row s = (was : Row) × (Stores s at was × IsSameLock was row)
+
+-- the key of the lock with this identification, or none where no lock has it
+abbrev pub FindsLock : Records → ℕ → Option ℕ → Type 0
+FindsLock s lkid None = (at : ℕ) (row : Row) → Stores s at row → ¬ (row.lkid ≡ lkid)
+FindsLock s lkid (Some at) = (row : Row) × (Stores s at row × (row.lkid ≡ lkid))
+
+-- no lock has this identification
+abbrev pub IsNewLock : ℕ → Records → Type 0
+IsNewLock lkid s = FindsLock s lkid None
+
+-- the resource is one of these
+abbrev pub IsResourceAmong : StoredResource → List StoredResource → Type 0
+IsResourceAmong r [] = ⊥
+IsResourceAmong r (first ∷ rest) = (first ≡ r) ⊎ IsResourceAmong r rest
+
+-- where the resource under this key is stored, or none where there is none
+abbrev pub FindsResource : Records → Key → Option ℕ → Type 0
+FindsResource s key None = (r : StoredResource) → IsResourceAmong r s.resources → ¬ (r.key ≡ key)
+FindsResource s key (Some at) = (r : StoredResource) × (IsResourceAmong r s.resources × (r.at ≡ at) × (r.key ≡ key))
+
+-- no resource stands under this key
+abbrev pub IsNewKey : Key → Records → Type 0
+IsNewKey key s = FindsResource s key None
+
+-- the same queue
+abbrev pub is_queue : Queue → Queue → Bool
+is_queue Granted Granted = true
+is_queue Granted Conversion = false
+is_queue Granted Waiting = false
+is_queue Conversion Granted = false
+is_queue Conversion Conversion = true
+is_queue Conversion Waiting = false
+is_queue Waiting Granted = false
+is_queue Waiting Conversion = false
+is_queue Waiting Waiting = true
+
+-- the same place
+abbrev pub is_place : Place → Place → Bool
+is_place Loose Loose = true
+is_place Loose (Queued b q) = false
+is_place (Queued a p) Loose = false
+is_place (Queued a p) (Queued b q) = (a == b) && is_queue p q
+
+-- the list but for the lock of this key
+abbrev pub without_lock : ℕ → List StoredLock → List StoredLock
+without_lock at locks = filter (λ k. not (k.at == at)) locks
+
+-- a resource whose queues are changed
+abbrev pub resource_with : (Place → List StoredLock → List StoredLock) → StoredResource → StoredResource
+resource_with change r = record r {
+  granted = change (Queued r.at Granted) r.granted;
+  converting = change (Queued r.at Conversion) r.converting;
+  waiting = change (Queued r.at Waiting) r.waiting;
+}
+
+-- the records, each list of locks changed
+abbrev pub with_lists : (Place → List StoredLock → List StoredLock) → Records → Records
+with_lists change s = record s { resources = map (resource_with change) s.resources; loose = change Loose s.loose }
+
+-- a change of lists: the lock of this key leaves its own
+abbrev pub leaving : ℕ → Place → List StoredLock → List StoredLock
+leaving at place locks = without_lock at locks
+
+-- a change of lists: a lock leaves its own, and joins at the end of one
+abbrev pub moving : Place → StoredLock → Place → List StoredLock → List StoredLock
+moving to lock place locks =
+    if is_place place to then without_lock lock.at locks ++ lock ∷ [] else without_lock lock.at locks
+
+-- a change of lists: the lock of this key has another row
+abbrev pub rewriting : ℕ → Row → Place → List StoredLock → List StoredLock
+rewriting at row place locks = map (λ k. if k.at == at then record { at = k.at; row = row } else k) locks
+
+-- a change of the resource of this key alone
+abbrev pub on_resource : ℕ → (StoredResource → StoredResource) → List StoredResource → List StoredResource
+on_resource res change resources = map (λ r. if r.at == res then change r else r) resources
+
+-- the resources but for the one of this key
+abbrev pub without_resource : ℕ → List StoredResource → List StoredResource
+without_resource res resources = filter (λ r. not (r.at == res)) resources
+
+-- no lock stands in a queue of the resource
+abbrev pub IsIdle : ℕ → Records → Type 0
+IsIdle res s = (queue : Queue) → locks_at (Queued res queue) s ≡ []
+
+-- the key of the first lock, if there is one
+abbrev pub first_at : List StoredLock → Option ℕ
+first_at [] = None
+first_at (k ∷ rest) = Some k.at
+
+-- the key of the lock that follows the one of this key, if there is one
+abbrev pub at_after : ℕ → List StoredLock → Option ℕ
+at_after at [] = None
+at_after at (k ∷ rest) = if k.at == at then first_at rest else at_after at rest
+
+-- the rows of locks
+abbrev pub rows_of : List StoredLock → List Row
+rows_of locks = map (λ k. k.row) locks
+
+-- the locks but for the one that asks
+abbrev pub but_own : Option ℕ → List StoredLock → List StoredLock
+but_own None locks = locks
+but_own (Some own) locks = without_lock own locks
+
+-- the mode fits beside the locks that hold one here, but for the one that asks
+abbrev pub fits_beside : Mode → Option ℕ → StoredResource → Bool
+fits_beside mode own r = fits mode (rows_of (but_own own r.granted)) (rows_of (but_own own r.converting))
+
+-- the key of the first resource, if there is one
+abbrev pub first_resource_at : List StoredResource → Option ℕ
+first_resource_at [] = None
+first_resource_at (r ∷ rest) = Some r.at
+
+-- the key of the resource made after the one of this key, if there is one
+abbrev pub resource_at_after : ℕ → List StoredResource → Option ℕ
+resource_at_after res [] = None
+resource_at_after res (r ∷ rest) = if r.at == res then first_resource_at rest else resource_at_after res rest
+
+-- a lock more at the end of a queue
+abbrev pub joined_by : Queue → StoredLock → StoredResource → StoredResource
+joined_by Granted lock r = record r { granted = r.granted ++ lock ∷ [] }
+joined_by Conversion lock r = record r { converting = r.converting ++ lock ∷ [] }
+joined_by Waiting lock r = record r { waiting = r.waiting ++ lock ∷ [] }
+
+-- ---- processes
+
+-- the processes without their keys and locks, in order of making
+abbrev pub plain_processes : Records → List Process
+plain_processes s = map (λ p. p.process) s.processes
+
+-- the process of this key, if there is one
+abbrev pub process_at : ℕ → List StoredProcess → Option StoredProcess
+process_at at processes = find (λ p. p.at == at) processes
+
+-- there is a process of this key
+abbrev pub HasProcess : ℕ → Records → Type 0
+HasProcess at s = IsSome (process_at at s.processes)
+
+-- the process is one of these
+abbrev pub IsProcessAmong : StoredProcess → List StoredProcess → Type 0
+IsProcessAmong p [] = ⊥
+IsProcessAmong p (first ∷ rest) = (first ≡ p) ⊎ IsProcessAmong p rest
+
+-- the key is that of the living process with this identification
+abbrev pub IsProcess : ℕ → ℕ → Records → Type 0
+IsProcess at pid s = (p : StoredProcess) × (IsProcessAmong p s.processes × (p.at ≡ at) × (p.process.pid ≡ pid))
+
+-- the key of the living process with this identification, or none where there is none
+abbrev pub FindsProcess : Records → ℕ → Option ℕ → Type 0
+FindsProcess s pid None = (p : StoredProcess) → IsProcessAmong p s.processes → ¬ (p.process.pid ≡ pid)
+FindsProcess s pid (Some at) = IsProcess at pid s
+
+-- no living process has this identification
+abbrev pub IsNewProcess : ℕ → Records → Type 0
+IsNewProcess pid s = FindsProcess s pid None
+
+-- a process at its making, without locks
+abbrev pub new_stored_process : ℕ → ℕ → Declaration → StoredProcess
+new_stored_process at pid d = record { at = at; process = new_process pid d; own = [] }
+
+-- a process that is changed; its locks stay
+abbrev pub changed_process : (Process → Process) → StoredProcess → StoredProcess
+changed_process change p = record p { process = change p.process }
+
+-- a change of the process of this key alone; its locks stay
+abbrev pub on_process : ℕ → (Process → Process) → List StoredProcess → List StoredProcess
+on_process at change processes = map (λ p. if p.at == at then changed_process change p else p) processes
+
+-- the processes but for the one of this key
+abbrev pub without_process : ℕ → List StoredProcess → List StoredProcess
+without_process at processes = filter (λ p. not (p.at == at)) processes
+
+-- a lock more below its parent, if it has one
+abbrev pub with_sublock : Option ℕ → ℕ → OwnLock → OwnLock
+with_sublock None lock own = own
+with_sublock (Some parent) lock own =
+    if own.at == parent then record own { sublocks = own.sublocks ++ lock ∷ [] } else own
+
+-- a lock at its making, among those of its process
+abbrev pub new_own : ℕ → List OwnLock
+new_own lock = record { at = lock; sublocks = [] } ∷ []
+
+-- a process once a lock is made that has this owner and this parent
+abbrev pub process_with_lock : ℕ → Option ℕ → ℕ → StoredProcess → StoredProcess
+process_with_lock owner parent lock p = record p {
+  own = map (with_sublock parent lock) p.own ++ (if p.at == owner then new_own lock else []);
+}
+
+-- a lock but for one below it
+abbrev pub without_sublock : ℕ → OwnLock → OwnLock
+without_sublock lock own = record own { sublocks = without lock own.sublocks }
+
+-- a process once a lock is gone
+abbrev pub process_without_lock : ℕ → StoredProcess → StoredProcess
+process_without_lock lock p = record p {
+  own = map (without_sublock lock) (filter (λ own. not (own.at == lock)) p.own);
+}
+
+-- a new lock in no queue, of this owner and below this parent
+abbrev pub with_new_lock : ℕ → Row → ℕ → Option ℕ → Records → Records
+with_new_lock at row owner parent s = record s {
+  loose = s.loose ++ record { at = at; row = row } ∷ [];
+  processes = map (process_with_lock owner parent at) s.processes;
+}
+
+-- a lock is gone, from its queue, from those of its process, and from below its parent
+abbrev pub without_stored_lock : ℕ → Records → Records
+without_stored_lock at s = record s {
+  resources = map (resource_with (leaving at)) s.resources;
+  loose = leaving at Loose s.loose;
+  processes = map (process_without_lock at) s.processes;
+}
+
+-- the lock is one of these of a process
+abbrev pub IsOwnAmong : OwnLock → List OwnLock → Type 0
+IsOwnAmong own [] = ⊥
+IsOwnAmong own (first ∷ rest) = (first ≡ own) ⊎ IsOwnAmong own rest
+
+-- no lock stands below the one of this key
+abbrev pub HasNoSublocks : ℕ → Records → Type 0
+HasNoSublocks at s = (p : StoredProcess) (own : OwnLock) → IsProcessAmong p s.processes → IsOwnAmong own p.own
+    → own.at ≡ at → own.sublocks ≡ []
+
+-- the process of this key has no lock
+abbrev pub HasNoLocks : ℕ → Records → Type 0
+HasNoLocks at s = (p : StoredProcess) → IsProcessAmong p s.processes → p.at ≡ at → p.own ≡ []
+
+-- the parent that the row of a new lock names is stored under this key; 0 names none
+abbrev pub IsParentOf : Option ℕ → Row → Records → Type 0
+IsParentOf None row s = row.parent ≡ 0
+IsParentOf (Some parent) row s = (up : Row) × (Stores s parent up × (up.lkid ≡ row.parent))
+
+-- the locks of a process
+abbrev pub own_at : ℕ → Records → List OwnLock
+own_at at s = option_map_or (λ p. p.own) (process_at at s.processes) []
+
+-- the key of the first of these locks, if there is one
+abbrev pub first_own_at : List OwnLock → Option ℕ
+first_own_at [] = None
+first_own_at (own ∷ rest) = Some own.at
+
+-- the key of the lock made after the one of this key, if there is one
+abbrev pub own_at_after : ℕ → List OwnLock → Option ℕ
+own_at_after at [] = None
+own_at_after at (own ∷ rest) = if own.at == at then first_own_at rest else own_at_after at rest
+
+-- a process but for its status blocks
+abbrev pub but_blocks : StoredProcess → StoredProcess
+but_blocks p = record p { process = record p.process { blocks = [] } }
+
+-- status blocks are written, and nothing else
+pub record SameButBlocks (old new : Records) : Type 0 where
+  pub resources : new.resources ≡ old.resources
+  pub loose : new.loose ≡ old.loose
+  pub processes : map but_blocks new.processes ≡ map but_blocks old.processes
+
+-- ---- what holds between the calls
+
+-- no two of the keys are the same
+abbrev pub AreApart : List StoredLock → Type 0
+AreApart [] = Unit {0}
+AreApart (k ∷ rest) = ((row : Row) → ¬ IsAmong (record { at = k.at; row = row }) rest) × AreApart rest
+
+-- no two of the resources have one key
+abbrev pub AreResourcesApart : List StoredResource → Type 0
+AreResourcesApart [] = Unit {0}
+AreResourcesApart (r ∷ rest) = ((other : StoredResource) → IsResourceAmong other rest → ¬ (other.at ≡ r.at)) × AreResourcesApart rest
+
+-- no two of the processes have one key, or one identification
+abbrev pub AreProcessesApart : List StoredProcess → Type 0
+AreProcessesApart [] = Unit {0}
+AreProcessesApart (p ∷ rest) =
+    ((other : StoredProcess) → IsProcessAmong other rest → ¬ (other.at ≡ p.at) × ¬ (other.process.pid ≡ p.process.pid))
+    × AreProcessesApart rest
+
+-- the locks of a process are those whose rows name it, and the locks below a lock those whose rows name it
+-- as their parent
+pub record AreOwned (s : Records) : Type 0 where
+  pub owned : (at : ℕ) (row : Row) → Stores s at row
+      → (p : StoredProcess) × (own : OwnLock) × (IsProcessAmong p s.processes × (p.process.pid ≡ row.pid) × IsOwnAmong own p.own × (own.at ≡ at))
+  pub owns : (p : StoredProcess) (own : OwnLock) → IsProcessAmong p s.processes → IsOwnAmong own p.own
+      → (row : Row) × (Stores s own.at row × (row.pid ≡ p.process.pid))
+  pub below : (p : StoredProcess) (own : OwnLock) (at : ℕ) → IsProcessAmong p s.processes → IsOwnAmong own p.own → IsIn at own.sublocks
+      → (up : Row) × (row : Row) × (Stores s own.at up × Stores s at row × (row.parent ≡ up.lkid))
+
+-- each key is that of one record, no lock stands at two places, and the locks of a process are those whose
+-- rows name it
+pub record IsSound (s : Records) : Type 0 where
+  pub resources_apart : AreResourcesApart s.resources
+  pub locks_apart : (place : Place) → AreApart (locks_at place s)
+  pub one_place : (at : ℕ) (a b : Row) (p q : Place) → IsAmong (record { at = at; row = a }) (locks_at p s) → IsAmong (record { at = at; row = b }) (locks_at q s) → p ≡ q
+  pub processes_apart : AreProcessesApart s.processes
+  pub owned : AreOwned s

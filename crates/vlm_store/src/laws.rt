@@ -1,14 +1,42 @@
 //! What holds of the store's calls together. The functions do nothing: their contracts are the laws.
 
-ghost use Rattle.std.specs.Prelude.{◌≡◌, ℕ, List, [], ◌∷◌, ◌++◌, None};
+ghost use Rattle.std.specs.Prelude.{◌≡◌, ℕ, Option, [], ◌∷◌, ◌++◌};
+ghost use Rattle.vlm_words.specs.declared.locks.Row.{Row};
+ghost use Rattle.vlm_words.specs.declared.resources.Queue.{Queue};
+ghost use Rattle.vlm_words.specs.declared.resources.Domain.{Domain};
+ghost use Rattle.vlm_words.specs.declared.resources.Key.{Key};
 ghost use Rattle.vlm_words.specs.declared.steps.Declaration.{Declaration};
-ghost use Rattle.vlm_words.specs.Declare.{new_process};
-ghost use Rattle.vlm_words.specs.State.{Process, process_of};
-ghost use Rattle.vlm_store.specs.Records.{without_process};
+ghost use Rattle.vlm_store.specs.declared.keys.Place.{Place};
+ghost use Rattle.vlm_store.specs.Records.{Records, HasProcess, HasResource, IsAmong, IsSound, IsStored, joined_by, moving, new_resource, new_stored_process, on_resource, with_lists, with_new_lock, without_lock, without_process, without_resource, without_stored_lock};
+
+/// A lock that was not there is added and removed again: all is as it was.
+pub fn law_removal_undoes_an_added_lock()
+    ensures { (s : Records) (at : ℕ) (row : Row) (owner : ℕ) (parent : Option ℕ) → IsSound s
+        → ¬ IsStored at s → without_stored_lock at (with_new_lock at row owner parent s) ≡ s }
+{}
+
+/// A resource that was not there is added and removed again: all is as it was.
+pub fn law_removal_undoes_an_added_resource()
+    ensures { (s : Records) (res serial : ℕ) (domain : Domain) (key : Key) → ¬ HasResource res s
+        → record s {
+          resources = without_resource res (s.resources ++ new_resource res serial domain key ∷ []);
+        } ≡ s }
+{}
 
 /// A process that was not there is added and removed again: all is as it was.
-pub fn law_removal_undoes_an_addition()
-    ensures { (processes : List Process) (pid : ℕ) (d : Declaration)
-        → process_of processes pid ≡ None
-        → without_process pid (processes ++ new_process pid d ∷ []) ≡ processes }
+pub fn law_removal_undoes_an_added_process()
+    ensures { (s : Records) (at pid : ℕ) (d : Declaration) → ¬ HasProcess at s
+        → record s {
+          processes = without_process at (s.processes ++ new_stored_process at pid d ∷ []);
+        } ≡ s }
+{}
+
+/// A loose lock that moves to a queue joins it at the end, and no other list changes.
+pub fn law_a_loose_lock_joins_one_queue()
+    ensures { (s : Records) (at : ℕ) (row : Row) (res : ℕ) (queue : Queue) → IsSound s
+        → IsAmong (record { at = at; row = row }) s.loose
+        → with_lists (moving (Place.Queued res queue) (record { at = at; row = row })) s ≡ record s {
+          resources = on_resource res (joined_by queue (record { at = at; row = row })) s.resources;
+          loose = without_lock at s.loose;
+        } }
 {}

@@ -1,11 +1,17 @@
 //! The records of the lock machine, each found by its key.
-//!
-//! The store keeps the processes with their status blocks, in order of making. It knows what a record
-//! holds and not what it means: the steps and the rules are those of the crates above.
 #![tactic(auto)]
 
+mod keys;
+mod kin;
 pub mod laws;
+mod locks;
+mod owners;
 mod processes;
+mod queues;
+mod resources;
 mod store;
+#[cfg(test)]
+mod tests;
 
-pub use store::{ProcAt, Store};
+pub use keys::{LockAt, Place, ProcAt, ResAt};
+pub use store::Store;

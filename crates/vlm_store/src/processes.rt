@@ -1,48 +1,45 @@
 //! The record of a process.
 
-ghost use Rattle.std.specs.Prelude.{◌≡◌, ◌<◌, IfOk};
-ghost use Rattle.vlm_words.specs.StatusBlocks.{process_after_write};
+ghost use Rattle.std.specs.Prelude.{◌≡◌, ◌≢◌, ◌≤◌, ℕ, None, Some, [], ◌∷◌, ◌++◌, IfOk, refl};
+ghost use Rattle.std.specs.Option.{option_map};
+ghost use Rattle.slab.specs.Slab.{get, HasRoomFor};
+ghost use Rattle.vlm_links.specs.Lists.{IsIn, IsLinked, IsNoList, keys_of, without};
 ghost use Rattle.vlm_words.specs.Declare.{new_process};
+ghost use Rattle.vlm_words.specs.StatusBlocks.{process_with_block};
+ghost use Rattle.vlm_store.specs.Holdings.{but_order, plain_process, process_links};
 
+use crate::locks::OfProcess;
+use crate::resources::InOrder;
+use slab::Slab;
 use std::alloc::{AllocError, Global};
-use std::marker::Model;
+use vlm_links::{LAST_KEY, Linked, LinkedList, Links};
 use vlm_words::blocks::Block;
 use vlm_words::steps::Declaration;
 
 /// A living process.
 #[derive(Drop)]
 pub(crate) struct Process {
-    pid: u32,
-    group: u16,
-    syslck: bool,
+    pub(crate) pid: u32,
+    pub(crate) group: u16,
+    pub(crate) syslck: bool,
     // how many locks it may have
-    quota: u16,
+    pub(crate) quota: u16,
     // status block n stands at n - 1
-    blocks: Vec<Block>,
-}
-
-impl Model for Process {
-    ghost use Rattle.vlm_words.specs.State.{Process as PlainProcess};
-
-    ghost Value = { PlainProcess };
-
-    ghost view = { λ p. record {
-      pid = p.pid;
-      group = p.group;
-      syslck = p.syslck;
-      quota = p.quota;
-      blocks = p.blocks.items;
-    } };
+    pub(crate) blocks: Vec<Block>,
+    pub(crate) own: LinkedList<OfProcess>,
+    // the processes declared before and after it
+    pub(crate) in_order: Links,
 }
 
 impl Process {
-    /// The process that a declaration makes, with new status blocks.
+    /// The process that a declaration makes, with new status blocks and without locks.
     pub(crate) fn new(
         alloc: Global,
         pid: u32,
         declaration: &Declaration,
     ) -> Result<Self, AllocError>
-        ensures { IfOk result (λ p. p ≡ new_process pid declaration.now) }
+        ensures plain { IfOk result (λ p. plain_process p ≡ new_process pid declaration.now) }
+        ensures own { IfOk result (λ p. IsNoList p.own) }
     {
         Ok(Process {
             pid,
@@ -50,41 +47,80 @@ impl Process {
             syslck: declaration.syslck,
             quota: declaration.quota,
             blocks: vec![in alloc; Block::new(); usize::from(declaration.blocks)]?,
+            own: LinkedList::new(),
+            in_order: Links::none(),
         })
     }
 
-    /// Its identification.
-    pub(crate) fn pid(&self) -> u32
-        ensures { result ≡ self.now.pid }
+    /// Puts a status block in the place of the one with this number, if it is there. Number 0 is taken
+    /// for 1.
+    pub(crate) fn put_status_block(&mut self, number: u8, block: Block)
+        ensures plain { plain_process self.new
+            ≡ process_with_block number block (plain_process self.old) }
+        ensures own { self.new.own ≡ self.old.own }
+        ensures order { self.new.in_order ≡ self.old.in_order }
     {
-        self.pid
-    }
-
-    /// Its UIC group.
-    pub(crate) fn group(&self) -> u16
-        ensures { result ≡ self.now.group }
-    {
-        self.group
-    }
-
-    /// Its status blocks.
-    pub(crate) fn status_blocks(&self) -> &[Block]
-        ensures { result.now ≡ self.now.blocks }
-    {
-        &self.blocks
-    }
-
-    /// Puts a status block in the place of the one with this number, if the process has this
-    /// identification and the block is there. Number 0 is taken for 1.
-    #[tactic(auto, unfolding(vlm_words::specs::StatusBlocks::process_after_write))]
-    pub(crate) fn put_status_block(&mut self, pid: u32, number: u8, block: Block)
-        ensures { self.new ≡ process_after_write pid number block self.old }
-    {
-        if self.pid != pid {
-            return;
-        }
         if let Some(place) = self.blocks.get_mut(usize::from(number).saturating_sub(1)) {
             *place = block;
         }
+    }
+}
+
+/// Takes a new process in, the last in the order of making. There is room for it.
+pub(crate) fn enter(
+    processes: &mut Slab<Process>,
+    order: &mut LinkedList<InOrder>,
+    process: Process,
+) -> usize
+    requires linked { IsLinked process_links processes.old order.old }
+    requires room { HasRoomFor processes.old 1 }
+    requires last { processes.old.vacant_key ≤ LAST_KEY }
+    ensures within { result ≤ LAST_KEY }
+    ensures fresh { get processes.old result ≡ None }
+    ensures linked { IsLinked process_links processes.new order.new }
+    ensures order { keys_of process_links processes.new order.new
+        ≡ keys_of process_links processes.old order.old ++ result ∷ [] }
+    ensures here { option_map but_order (get processes.new result) ≡ Some (but_order process) }
+    ensures others { (other : ℕ) → other ≢ result
+        → option_map but_order (get processes.new other)
+        ≡ option_map but_order (get processes.old other) }
+{
+    let at = processes.insert_reserved(process);
+    order.push_back(processes, at);
+    at
+}
+
+/// Removes a process, and takes it out of the order of making.
+pub(crate) fn leave(processes: &mut Slab<Process>, order: &mut LinkedList<InOrder>, at: usize)
+    requires linked { IsLinked process_links processes.old order.old }
+    requires listed { IsIn at (keys_of process_links processes.old order.old) }
+    ensures linked { IsLinked process_links processes.new order.new }
+    ensures order { keys_of process_links processes.new order.new
+        ≡ without at (keys_of process_links processes.old order.old) }
+    ensures gone { get processes.new at ≡ None }
+    ensures others { (other : ℕ) → other ≢ at → option_map but_order (get processes.new other)
+        ≡ option_map but_order (get processes.old other) }
+{
+    order.unlink(processes, at);
+    processes.remove(at);
+}
+
+impl Linked<InOrder> for Process {
+    ghost links = { λ p. p.in_order };
+
+    ghost with_links = { λ p pair. record p { in_order = pair } };
+
+    ghost links_written = { λ p pair. refl };
+
+    ghost written_twice = { λ p a b. refl };
+
+    ghost written_as_was = { λ p. refl };
+
+    fn links(&self) -> Links {
+        self.in_order
+    }
+
+    fn set_links(&mut self, pair: Links) {
+        self.in_order = pair;
     }
 }

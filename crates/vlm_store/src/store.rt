@@ -1,40 +1,41 @@
 //! The store.
 
-ghost use Rattle.std.specs.Prelude.{◌≡◌, ◌<◌, ◌++◌, List, [], ◌∷◌, None, OnErr, OnOk, option_copied};
-ghost use Rattle.std.specs.Option.{option_map, option_map_or};
-ghost use Rattle.vlm_words.specs.StatusBlocks.{status_blocks_of, processes_after_write};
-ghost use Rattle.vlm_words.specs.Declare.{new_process};
-ghost use Rattle.vlm_words.specs.State.{process_of};
-ghost use Rattle.vlm_store.specs.Records.{empty, without_process};
+ghost use Rattle.std.specs.Prelude.{◌≡◌, [], ◌∷◌, ◌++◌, IfOk, IfSome, OnErr};
+ghost use Rattle.std.specs.Option.{ForSome};
+ghost use Rattle.vlm_words.specs.declared.locks.Row.{Row};
+ghost use Rattle.vlm_store.specs.declared.keys.Place.{Place};
+ghost use Rattle.vlm_store.specs.Records.{FindsLock, FindsResource, HasNoSublocks, HasPlace, HasResource, IsAmong, IsParentOf, IsProcess, at_after, first_at, first_resource_at, fits_beside, resource_at_after, resource_at, IsIdle, IsNewKey, IsNewLock, IsRowOf, IsSound, IsStored, Stores, leaving, locks_at, moving, new_resource, nothing, on_resource, rewriting, with_lists, with_new_lock, without_resource, without_stored_lock};
 
+use crate::keys::{LockAt, Place, ProcAt, ResAt};
+use crate::kin::{join_parent, join_process, leave_parent, leave_process};
 use crate::processes::Process;
+use crate::queues::Queues;
+use crate::resources::InOrder;
+use indexmap::IndexMap;
+use slab::Slab;
 use std::alloc::{AllocError, Global};
 use std::marker::Model;
-use vlm_words::blocks::Block;
-use vlm_words::steps::Declaration;
+use vlm_links::{LAST_KEY, LinkedList};
+use vlm_words::locks::Row;
+use vlm_words::modes::Mode;
+use vlm_words::resources::{Domain, Key, ValueBlock};
 
-/// The key of a process record.
-#[derive(Clone, Copy)]
-pub struct ProcAt {
-    // its identification
-    pid: u32,
-}
-
-impl Model for ProcAt {
-    ghost use Rattle.std.specs.Prelude.{ℕ};
-
-    ghost Value = { ℕ };
-
-    ghost view = { λ at. at.pid };
-
-    ghost inverse = { λ pid. record { pid = pid } };
-}
-
-/// The records of the machine. Look-ups take time that grows with the number of records.
+/// The records of the machine. Each call takes constant time but for the growth of an add.
 #[derive(Drop)]
 pub struct Store {
-    // in order of making
-    processes: Vec<Process>,
+    pub(crate) alloc: Global,
+    pub(crate) queues: Queues,
+    // the resources in order of making
+    order: LinkedList<InOrder>,
+    pub(crate) processes: Slab<Process>,
+    // the processes in order of making
+    pub(crate) process_order: LinkedList<InOrder>,
+    // where the lock of each identification is
+    lock_index: IndexMap<u32, LockAt>,
+    // where the resource of each key is
+    resource_index: IndexMap<Key, ResAt>,
+    // where the process of each identification is
+    pub(crate) process_index: IndexMap<u32, ProcAt>,
 }
 
 impl Model for Store {
@@ -42,93 +43,259 @@ impl Model for Store {
 
     ghost Value = { Records };
 
-    ghost view = { λ s. record { processes = s.processes.items } };
+    ghost use Rattle.vlm_store.specs.Kept.{IsKept, records_shown};
+
+    ghost view = { records_shown };
+
+    ghost invariant = { IsKept };
 }
 
 impl Store {
     /// An empty store. It keeps the allocator and takes no memory.
     pub fn new(alloc: Global) -> Store
-        ensures { result ≡ empty }
+        ensures { result ≡ nothing }
     {
         Store {
-            processes: Vec::new(alloc),
+            alloc,
+            queues: Queues {
+                locks: Slab::new(alloc),
+                resources: Slab::new(alloc),
+                loose: LinkedList::new(),
+            },
+            order: LinkedList::new(),
+            processes: Slab::new(alloc),
+            process_order: LinkedList::new(),
+            lock_index: IndexMap::new(alloc),
+            resource_index: IndexMap::new(alloc),
+            process_index: IndexMap::new(alloc),
         }
     }
 
-    /// The living process with this identification.
-    pub fn process(&self, pid: u32) -> Option<ProcAt>
-        ensures { result ≡ option_map (λ _. pid) (process_of self.now.processes pid) }
+    /// Where the lock of this identification is.
+    pub fn lock(&self, lkid: u32) -> Option<LockAt>
+        ensures { FindsLock self.now lkid result }
     {
-        match find_process(&self.processes, pid) {
-            Some(_) => Some(ProcAt { pid }),
+        self.lock_index.get(&lkid).copied()
+    }
+
+    /// Where the resource under this key is.
+    pub fn resource(&self, key: &Key) -> Option<ResAt>
+        ensures found { FindsResource self.now key.now result }
+        ensures there { IfSome result (λ res. HasResource res self.now) }
+    {
+        self.resource_index.get(key).copied()
+    }
+
+    /// What a lock holds and wants.
+    pub fn row(&self, lock: LockAt) -> Row
+        requires { IsStored lock self.now }
+        ensures stored { Stores self.now lock result }
+        ensures only { (row : Row) → Stores self.now lock row → row ≡ result }
+    {
+        self.queues.locks[lock.slot()].row
+    }
+
+    /// Adds a lock that stands in no queue, the last of these, of its process's locks, and of those below
+    /// its parent. Where memory is refused, or no key is left, nothing is changed.
+    pub fn add_lock(
+        &mut self,
+        row: Row,
+        owner: ProcAt,
+        parent: Option<LockAt>,
+    ) -> Result<LockAt, AllocError>
+        requires new { IsNewLock row.lkid self.old }
+        requires owner { IsProcess owner row.pid self.old }
+        requires parent { IsParentOf parent row self.old }
+        ensures added { IfOk result (λ at. self.new
+            ≡ with_new_lock at row owner parent self.old) }
+        ensures fresh { IfOk result (λ at. ¬ IsStored at self.old) }
+        ensures err { OnErr result (self.new ≡ self.old) }
+    {
+        if self.queues.locks.vacant_key() > LAST_KEY {
+            return Err(AllocError);
+        }
+        self.queues.locks.reserve(1)?;
+        self.lock_index.reserve(1)?;
+        let slot = self.queues.add(&row, owner, parent);
+        join_process(&mut self.processes, &mut self.queues.locks, slot);
+        join_parent(&mut self.queues.locks, slot);
+        let at = LockAt::of(slot);
+        let _ = self.lock_index.insert(row.lkid, at);
+        Ok(at)
+    }
+
+    /// Writes what a lock holds and wants, where it stands.
+    pub fn set_row(&mut self, lock: LockAt, row: Row)
+        requires { IsRowOf lock row self.old }
+        ensures { self.new ≡ with_lists (rewriting lock row) self.old }
+    {
+        self.queues.set_row(lock.slot(), &row);
+    }
+
+    /// Takes a lock from where it stands, writes what it holds and wants, and puts it at the end of the
+    /// list of a place.
+    pub fn move_lock(&mut self, lock: LockAt, row: Row, to: Place)
+        requires lock { IsRowOf lock row self.old }
+        requires there { HasPlace to self.old }
+        ensures { self.new ≡ with_lists (moving to (record { at = lock; row = row })) self.old }
+    {
+        self.queues.move_to(lock.slot(), &row, to);
+    }
+
+    /// Removes a lock below which no other stands: from its queue, from the locks of its process, and from
+    /// those below its parent.
+    pub fn remove_lock(&mut self, lock: LockAt)
+        requires stored { IsStored lock self.old }
+        requires childless { HasNoSublocks lock self.old }
+        ensures { self.new ≡ without_stored_lock lock self.old }
+    {
+        let lkid = self.queues.locks[lock.slot()].row.lkid;
+        leave_parent(&mut self.queues.locks, lock.slot());
+        leave_process(&mut self.processes, &mut self.queues.locks, lock.slot());
+        self.queues.remove(lock.slot());
+        self.lock_index.swap_remove(&lkid);
+    }
+
+    /// Adds a resource without locks, the last in order of making, with a valid value block of zeros. Where
+    /// memory is refused, or no key is left, nothing is changed.
+    pub fn add_resource(
+        &mut self,
+        serial: u32,
+        domain: Domain,
+        key: &Key,
+    ) -> Result<ResAt, AllocError>
+        requires { IsNewKey key.now self.old }
+        ensures added { IfOk result (λ res. self.new ≡ record self.old {
+          resources = self.old.resources ++ new_resource res serial domain key.now ∷ [];
+        }) }
+        ensures fresh { IfOk result (λ res. ¬ HasResource res self.old) }
+        ensures err { OnErr result (self.new ≡ self.old) }
+    {
+        if self.queues.resources.vacant_key() > LAST_KEY {
+            return Err(AllocError);
+        }
+        self.queues.resources.reserve(1)?;
+        self.resource_index.reserve(1)?;
+        let res = ResAt::of(self.queues.add_resource(&mut self.order, serial, domain, key));
+        let _ = self.resource_index.insert(*key, res);
+        Ok(res)
+    }
+
+    /// The key of the first lock at a place, if there is one.
+    pub fn first(&self, place: Place) -> Option<LockAt>
+        requires { HasPlace place self.now }
+        ensures { result ≡ first_at (locks_at place self.now) }
+    {
+        match self.queues.list(place).first(&self.queues.locks) {
+            Some(at) => Some(LockAt::of(at)),
             None => None,
         }
     }
 
-    /// Adds a process with new status blocks. No living process has its identification. Where memory is
-    /// refused nothing is changed.
-    pub fn add_process(&mut self, pid: u32, declaration: &Declaration) -> Result<(), AllocError>
-        requires { process_of self.old.processes pid ≡ None }
-        ensures ok { OnOk result (self.new ≡ record self.old {
-          processes = self.old.processes ++ new_process pid declaration.now ∷ [];
-        }) }
-        ensures err { OnErr result (self.new ≡ self.old) }
+    /// The key of the lock that follows one where it stands, if there is one.
+    pub fn next(&self, lock: LockAt) -> Option<LockAt>
+        requires { IsStored lock self.now }
+        ensures { (place : Place) (row : Row)
+            → IsAmong (record { at = lock; row = row }) (locks_at place self.now)
+            → result ≡ at_after lock (locks_at place self.now) }
     {
-        let process = Process::new(*self.processes.allocator(), pid, declaration)?;
-        self.processes.push(process)?;
-        Ok(())
-    }
-
-    /// Removes a process with all that its record holds.
-    pub fn remove_process(&mut self, at: ProcAt)
-        ensures { self.new ≡ record self.old { processes = without_process at self.old.processes } }
-    {
-        remove_from(&mut self.processes, at.pid);
-    }
-
-    /// The UIC group of a process.
-    pub fn group(&self, at: ProcAt) -> u16
-        ensures { result ≡ option_map_or (λ p. p.group) (process_of self.now.processes at) 0 }
-    {
-        match find_process(&self.processes, at.pid) {
-            Some(process) => process.group(),
-            None => 0,
+        let list = self.queues.list(self.queues.locks[lock.slot()].place);
+        match list.next(&self.queues.locks, lock.slot()) {
+            Some(at) => Some(LockAt::of(at)),
+            None => None,
         }
     }
 
-    /// The status blocks of a process, of which block n stands at n - 1.
-    pub fn status_blocks(&self, at: ProcAt) -> &[Block]
-        ensures { result.now ≡ status_blocks_of self.now.processes at }
+    /// The key of the first resource in order of making, if there is one.
+    pub fn first_resource(&self) -> Option<ResAt>
+        ensures { result ≡ first_resource_at self.now.resources }
     {
-        match find_process(&self.processes, at.pid) {
-            Some(process) => process.status_blocks(),
-            None => &[],
+        match self.order.first(&self.queues.resources) {
+            Some(at) => Some(ResAt::of(at)),
+            None => None,
         }
     }
 
-    /// Puts a status block of a process in the place of the one with this number, if it is there. Number
-    /// 0 is taken for 1.
-    pub fn set_status_block(&mut self, at: ProcAt, number: u8, block: Block)
+    /// The key of the resource made after one, if there is one.
+    pub fn next_resource(&self, res: ResAt) -> Option<ResAt>
+        requires { HasResource res self.now }
+        ensures { result ≡ resource_at_after res self.now.resources }
+    {
+        match self.order.next(&self.queues.resources, res.slot()) {
+            Some(at) => Some(ResAt::of(at)),
+            None => None,
+        }
+    }
+
+    /// The serial of a resource.
+    pub fn serial(&self, res: ResAt) -> u32
+        requires { HasResource res self.now }
+        ensures { IfSome (resource_at res self.now.resources) (λ r. result ≡ r.serial) }
+    {
+        self.queues.resources[res.slot()].serial
+    }
+
+    /// The domain that a resource is in.
+    pub fn domain(&self, res: ResAt) -> Domain
+        requires { HasResource res self.now }
+        ensures { IfSome (resource_at res self.now.resources) (λ r. result ≡ r.domain) }
+    {
+        self.queues.resources[res.slot()].domain
+    }
+
+    /// The key under which a resource stands.
+    pub fn key(&self, res: ResAt) -> Key
+        requires { HasResource res self.now }
+        ensures { IfSome (resource_at res self.now.resources) (λ r. result ≡ r.key) }
+    {
+        self.queues.resources[res.slot()].key
+    }
+
+    /// The value block of a resource.
+    pub fn value_block(&self, res: ResAt) -> ValueBlock
+        requires { HasResource res self.now }
+        ensures { IfSome (resource_at res self.now.resources) (λ r. result ≡ r.value_block) }
+    {
+        self.queues.resources[res.slot()].value_block
+    }
+
+    /// Writes the value block of a resource.
+    pub fn set_value_block(&mut self, res: ResAt, value_block: ValueBlock)
+        requires { HasResource res self.old }
         ensures { self.new ≡ record self.old {
-          processes = processes_after_write at number block self.old.processes;
+          resources = on_resource res (λ r. record r { value_block = value_block }) self.old.resources;
         } }
     {
-        for process in self.processes.iter_mut() {
-            process.put_status_block(at.pid, number, block);
-        }
+        self.queues.set_value_block(res.slot(), value_block);
     }
-}
 
-// The process with this identification.
-fn find_process(processes: &[Process], pid: u32) -> Option<&Process>
-    ensures { option_copied result ≡ process_of processes.now pid }
-{
-    processes.iter().find(|process| process.pid() == pid)
-}
+    /// Removes a resource in whose queues no lock stands. The others keep their order.
+    pub fn remove_resource(&mut self, res: ResAt)
+        requires there { HasResource res self.old }
+        requires idle { IsIdle res self.old }
+        ensures { self.new
+            ≡ record self.old { resources = without_resource res self.old.resources } }
+    {
+        let key = self.queues.resources[res.slot()].key;
+        self.queues.remove_resource(&mut self.order, res.slot());
+        self.resource_index.swap_remove(&key);
+    }
 
-// Removes the process with this identification.
-fn remove_from(processes: &mut Vec<Process>, pid: u32)
-    ensures { processes.new.items ≡ without_process pid processes.old.items }
-{
-    processes.retain(|process| process.pid() != pid);
+    /// Whether the mode is compatible with what every lock of the resource holds, granted or converting,
+    /// but for the lock that asks.
+    pub fn can_hold(&self, res: ResAt, mode: Mode, own: Option<LockAt>) -> bool
+        requires there { HasResource res self.now }
+        requires own { ForSome own (λ lock. IsStored lock self.now) }
+        ensures { IfSome (resource_at res self.now.resources) (λ r. result
+            ≡ fits_beside mode own r) }
+    {
+        self.queues.fits(res, mode, own)
+    }
+
+    /// Each key is that of one record, and no lock stands at two places.
+    pub fn known(&self)
+        ensures { IsSound self.now }
+    {
+        let _queues = &self.queues;
+    }
 }

@@ -1,9 +1,9 @@
 use Rattle.std.proofs.Common.{◌≡◌, ℕ, List, [], ◌∷◌, Option, None, Some, IfSome, sym, ap, inl}
 use Rattle.std.proofs.lemmas.Option.{none-some, same_Some}
 use Rattle.vlm_words.specs.declared.locks.Row.{Row}
-use Rattle.vlm_records.specs.declared.keys.Place.{Place}
-use Rattle.vlm_records.specs.declared.keys.Place.TheVariants.{Queued}
-use Rattle.vlm_records.specs.Records.{Records, StoredLock, IsAmong, IsStored, first_at, locks_at}
+use Rattle.vlm_store.specs.declared.keys.Place.{Place}
+use Rattle.vlm_store.specs.declared.keys.Place.TheVariants.{Queued}
+use Rattle.vlm_store.specs.Records.{Records, StoredLock, IsAmong, IsStored, first_at, locks_at}
 use Rattle.vlm_queue.proofs.queues.head.Goals as goal
 
 -- the first lock of a list is one of it

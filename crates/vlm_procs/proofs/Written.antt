@@ -1,0 +1,33 @@
+-- A status block that is written by the key of its process.
+use Rattle.std.proofs.Common.{◌≡◌, ℕ, List, [], map, Some, refl, sym, ap, ◌∙◌, subst}
+use Rattle.std.specs.Option.{IfSome, option_map_or}
+use Rattle.vlm_words.specs.declared.blocks.Block.{Block}
+use Rattle.vlm_words.specs.State.{Process}
+use Rattle.vlm_words.specs.StatusBlocks.{process_after_write, process_with_block, processes_after_write, status_blocks_of}
+use Rattle.vlm_store.specs.Records.{AreProcessesApart, IsProcess, IsSound, Records, SameButBlocks, StoredProcess, on_process, plain_processes, process_at}
+use Rattle.vlm_store.proofs.Plain.{but_blocks-on_process, plain-on_process, process_at-stored, process_of-stored}
+
+-- the status blocks of the process at the key
+pub blocks_are : (s : Records) (at pid : ℕ) (blocks : List Block) → IsSound s → IsProcess at pid s → IfSome (process_at at s.processes) (λ p. blocks ≡ p.process.blocks)
+    → blocks ≡ status_blocks_of (plain_processes s) pid
+blocks_are s at pid blocks sound is read =
+    let found : process_at at s.processes ≡ Some is.0 = ap (λ x. process_at x s.processes) (sym is.1.1) ∙ process_at-stored is.0 s.processes sound.processes_apart is.1.0 in
+    let told = rw found at read in
+    let named = ap (λ o. option_map_or (λ (p : Process). p.blocks) o []) (process_of-stored is.0 s.processes sound.processes_apart is.1.0) in
+    told ∙ sym named ∙ ap (λ x. status_blocks_of (plain_processes s) x) is.1.2
+
+-- the write of a status block
+pub written_blocks : (s : Records) (at pid n : ℕ) (block : Block) → IsSound s → IsProcess at pid s
+    → map (λ (p : StoredProcess). p.process) (on_process at (process_with_block n block) s.processes) ≡ processes_after_write pid n block (plain_processes s)
+unfolding process_after_write
+written_blocks s at pid n block sound is =
+    ap (λ x. map (λ (p : StoredProcess). p.process) (on_process x (process_with_block n block) s.processes)) (sym is.1.1)
+    ∙ plain-on_process is.0 (process_with_block n block) s.processes sound.processes_apart is.1.0
+    ∙ ap (λ x. processes_after_write x n block (plain_processes s)) is.1.2
+
+pub blocks_alone : (s : Records) (at n : ℕ) (block : Block) → SameButBlocks s (record s { processes = on_process at (process_with_block n block) s.processes })
+blocks_alone s at n block = record {
+  resources = refl;
+  loose = refl;
+  processes = but_blocks-on_process at (process_with_block n block) (λ p. refl) s.processes;
+}

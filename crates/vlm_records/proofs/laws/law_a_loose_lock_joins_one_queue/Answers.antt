@@ -1,5 +1,0 @@
-use Rattle.vlm_records.proofs.Undoing.{loose_moved}
-use Rattle.vlm_records.proofs.laws.law_a_loose_lock_joins_one_queue.Goals as goal
-
-pub returns : goal.returns
-returns c s at row res queue sound stands = loose_moved s at row sound stands res queue

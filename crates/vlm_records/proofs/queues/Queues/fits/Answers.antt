@@ -1,7 +1,0 @@
-use Rattle.std.proofs.Common.{◌∙◌}
-use Rattle.vlm_records.specs.Tallies.{held_of}
-use Rattle.vlm_records.proofs.Fitting.{shares-fit}
-use Rattle.vlm_records.proofs.queues.Queues.fits.Goals as goal
-
-pub returns : goal.returns
-returns c = c.fits.ensures ∙ shares-fit c.args.self.now c.args.mode c.args.own c.args.res (held_of c.tally_without.result) c.tally_without.ensures

@@ -1,6 +1,0 @@
-pub mod Index
-pub mod Kept
-pub mod Records
-pub mod Shown
-pub mod Store
-pub mod Tallies

@@ -1,0 +1,213 @@
+-- What becomes of a family of lists as locks leave them, join them, come and go.
+use Rattle.std.proofs.Common.{◌≡◌, ◌≢◌, ◌⊎◌, ℕ, [], ◌∷◌, ◌++◌, Option, None, Some, refl, sym, ap, ◌∙◌, subst, inl, inr}
+use Rattle.std.proofs.lemmas.Bool.{cases_eq}
+use Rattle.std.proofs.lemmas.Option.{none-some, same_Some}
+use Rattle.slab.specs.Slab.{Slab, get, ContainsKey, Updates}
+use Rattle.vlm_links.specs.declared.link.Links.{Links}
+use Rattle.vlm_links.specs.declared.lists.LinkedList.{LinkedList}
+use Rattle.vlm_links.specs.Lists.{IsIn, IsLinked, IsNoList, keys_of, next_in, prev_in, without}
+use Rattle.vlm_links.proofs.KeyLists.{IsIn-without, IsIn-without_kept, IsIn-push, IsIn-push_kept, IsIn-push_last, without_absent}
+use Rattle.vlm_links.proofs.Rings.{kept-keys, kept-linked, no_list-linked, same-keys, same-linked}
+use Rattle.vlm_store.specs.declared.locks.Lock.{Lock}
+use Rattle.vlm_store.specs.Families.{IsFamily}
+
+module _ {I Kind : Type 0} (links : Lock → Links) (noted : Option Lock → Option I) where
+  module _ (locks : Slab Lock) (lists : I → LinkedList Kind) (out : Option ℕ) (family : IsFamily links noted locks lists out) where
+    -- a lock stands in one list
+    pub one_list : (at : ℕ) (i j : I) → IsIn at (keys_of links locks (lists i)) → IsIn at (keys_of links locks (lists j)) → i ≡ j
+    one_list at i j here there = same_Some i j (sym (family.listed i at here) ∙ family.listed j at there)
+
+    -- the lists stay where heads, links and what is noted do
+    module _ (locks' : Slab Lock) (lists' : I → LinkedList Kind) (same : (i : I) → lists' i ≡ lists i) (nexts : (k : ℕ) → next_in links (get locks' k) ≡ next_in links (get locks k))
+        (prevs : (k : ℕ) → prev_in links (get locks' k) ≡ prev_in links (get locks k)) (there : (k : ℕ) → ContainsKey locks k → ContainsKey locks' k) where
+      pub family-keys : (i : I) → keys_of links locks' (lists' i) ≡ keys_of links locks (lists i)
+      family-keys i = ap (keys_of links locks') (same i) ∙ kept-keys links locks locks' (lists i) (family.linked i) (λ k _. nexts k) (λ k _. prevs k) (λ k _. there k)
+
+      pub family-kept : ((k : ℕ) → noted (get locks' k) ≡ noted (get locks k)) → IsFamily links noted locks' lists' out
+      family-kept notes = record {
+        linked = λ i. subst (IsLinked links locks') (sym (same i)) (kept-linked links locks locks' (lists i) (family.linked i) (λ k _. nexts k) (λ k _. prevs k) (λ k _. there k));
+        listed = λ i at found. notes at ∙ family.listed i at (subst (IsIn at) (family-keys i) found);
+        stands = λ i at differs is. subst (IsIn at) (sym (family-keys i)) (family.stands i at differs (sym (notes at) ∙ is));
+        gone = λ i at out_so found. family.gone i at out_so (subst (IsIn at) (family-keys i) found);
+      }
+
+    -- one record changes, comes or goes that stands in no list
+    module _ (locks' : Slab Lock) (lists' : I → LinkedList Kind) (same : (i : I) → lists' i ≡ lists i) (at : ℕ) (unlisted : (i : I) → ¬ IsIn at (keys_of links locks (lists i)))
+        (nexts : (k : ℕ) → k ≢ at → next_in links (get locks' k) ≡ next_in links (get locks k)) (prevs : (k : ℕ) → k ≢ at → prev_in links (get locks' k) ≡ prev_in links (get locks k))
+        (there : (k : ℕ) → k ≢ at → ContainsKey locks k → ContainsKey locks' k) where
+      other_key : (i : I) (k : ℕ) → IsIn k (keys_of links locks (lists i)) → k ≢ at
+      other_key i k found is = unlisted i (subst (λ x. IsIn x (keys_of links locks (lists i))) is found)
+
+      pub family-other_keys : (i : I) → keys_of links locks' (lists' i) ≡ keys_of links locks (lists i)
+      family-other_keys i =
+          ap (keys_of links locks') (same i)
+          ∙ kept-keys links locks locks' (lists i) (family.linked i) (λ k found. nexts k (other_key i k found)) (λ k found. prevs k (other_key i k found)) (λ k found. there k (other_key i k found))
+
+      other_linked : (i : I) → IsLinked links locks' (lists' i)
+      other_linked i =
+          subst (IsLinked links locks') (sym (same i))
+          (kept-linked links locks locks' (lists i) (family.linked i) (λ k found. nexts k (other_key i k found)) (λ k found. prevs k (other_key i k found)) (λ k found. there k (other_key i k found)))
+
+      module _ (notes : (k : ℕ) → k ≢ at → noted (get locks' k) ≡ noted (get locks k)) where
+        -- the record is new
+        pub family-grown : out ≡ None → IsFamily links noted locks' lists' (Some at)
+        family-grown none = record {
+          linked = other_linked;
+          listed = λ i k found.
+              let was = subst (IsIn k) (family-other_keys i) found in
+              notes k (other_key i k was) ∙ family.listed i k was;
+          stands = λ i k differs is.
+              subst (IsIn k) (sym (family-other_keys i))
+              (family.stands i k (λ e. none-some k (sym none ∙ sym e)) (sym (notes k (λ at_is. differs (ap Some at_is))) ∙ is));
+          gone = λ i k is found. other_key i k (subst (IsIn k) (family-other_keys i) found) (same_Some k at is);
+        }
+
+        -- the record is gone, or notes no list now
+        pub family-shrunk : ((i : I) → noted (get locks' at) ≢ Some i) → out ≡ Some at → IsFamily links noted locks' lists' None
+        family-shrunk none is_out = record {
+          linked = other_linked;
+          listed = λ i k found.
+              let was = subst (IsIn k) (family-other_keys i) found in
+              notes k (other_key i k was) ∙ family.listed i k was;
+          stands = λ i k _ is. elim (cases_eq k at) [
+            | inl at_is ↦ absurd (none i (ap (λ x. noted (get locks' x)) (sym at_is) ∙ is))
+            | inr differs ↦
+                subst (IsIn k) (sym (family-other_keys i)) (family.stands i k (λ e. differs (same_Some k at (e ∙ is_out))) (sym (notes k differs) ∙ is))
+          ];
+          gone = λ i k is found. none-some k (sym is);
+        }
+
+    -- a record comes or goes that stands in no list
+    module _ (locks' : Slab Lock) (lists' : I → LinkedList Kind) (same : (i : I) → lists' i ≡ lists i) (at : ℕ) (slot : Option Lock) (updates : Updates locks locks' at slot)
+        (unlisted : (i : I) → ¬ IsIn at (keys_of links locks (lists i))) where
+      pub family-added : out ≡ None → IsFamily links noted locks' lists' (Some at)
+      family-added =
+          family-grown locks' lists' same at unlisted (λ k differs. ap (next_in links) (updates.others k differs)) (λ k differs. ap (prev_in links) (updates.others k differs))
+          (λ k differs here. rw (updates.others k differs) here) (λ k differs. ap noted (updates.others k differs))
+
+      pub family-removed : ((i : I) → noted slot ≢ Some i) → out ≡ Some at → IsFamily links noted locks' lists' None
+      family-removed none =
+          family-shrunk locks' lists' same at unlisted (λ k differs. ap (next_in links) (updates.others k differs)) (λ k differs. ap (prev_in links) (updates.others k differs))
+          (λ k differs here. rw (updates.others k differs) here) (λ k differs. ap noted (updates.others k differs)) (λ i is. none i (ap noted (sym updates.changed) ∙ is))
+
+  -- no lock is there
+  pub family-empty : (locks : Slab Lock) (lists : I → LinkedList Kind) → ((i : I) → IsNoList (lists i)) → ((k : ℕ) → get locks k ≡ None) → ((i : I) → noted None ≢ Some i) → IsFamily links noted locks lists None
+  family-empty locks lists empty none unnoted = record {
+    linked = λ i. (no_list-linked links locks (lists i) (empty i)).0;
+    listed = λ i k found. absurd (subst (IsIn k) ((no_list-linked links locks (lists i) (empty i)).1) found);
+    stands = λ i k _ is. absurd (unnoted i (sym (ap noted (none k)) ∙ is));
+    gone = λ i k is found. none-some k (sym is);
+  }
+
+  -- a lock that notes no list is out of all
+  pub family-unnoted : (locks : Slab Lock) (lists : I → LinkedList Kind) (at : ℕ) → IsFamily links noted locks lists None → ((i : I) → noted (get locks at) ≢ Some i) → IsFamily links noted locks lists (Some at)
+  family-unnoted locks lists at family none = record {
+    linked = family.linked;
+    listed = family.listed;
+    stands = λ i k _ is. family.stands i k (λ e. none-some k (sym e)) is;
+    gone = λ i k is found. none i (ap (λ x. noted (get locks x)) (sym (same_Some k at is)) ∙ family.listed i k found);
+  }
+
+  pub family-noted_nowhere : (locks : Slab Lock) (lists : I → LinkedList Kind) (at : ℕ) → IsFamily links noted locks lists (Some at) → ((i : I) → noted (get locks at) ≢ Some i) → IsFamily links noted locks lists None
+  family-noted_nowhere locks lists at family none = record {
+    linked = family.linked;
+    listed = family.listed;
+    stands = λ i k _ is. family.stands i k (λ e. none i (ap (λ x. noted (get locks x)) (sym (same_Some k at e)) ∙ is)) is;
+    gone = λ i k is found. none-some k (sym is);
+  }
+
+  -- a lock is taken off its list
+  module _ (cases : (i j : I) → (i ≡ j) ⊎ (i ≢ j)) (locks locks1 locks' : Slab Lock) (lists lists' : I → LinkedList Kind) (list1 : LinkedList Kind) (at : ℕ) (i : I)
+      (nexts : (k : ℕ) → next_in links (get locks' k) ≡ next_in links (get locks1 k)) (prevs : (k : ℕ) → prev_in links (get locks' k) ≡ prev_in links (get locks1 k))
+      (there : (k : ℕ) → ContainsKey locks1 k → ContainsKey locks' k) (linked1 : IsLinked links locks1 list1) (here : lists' i ≡ list1)
+      (elsewhere : (j : I) → j ≢ i → lists' j ≡ lists j) where
+    module _ (family : IsFamily links noted locks lists None) (is : noted (get locks at) ≡ Some i) (keys1 : keys_of links locks1 list1 ≡ without at (keys_of links locks (lists i)))
+        (others1 : (other : ℕ) → ¬ IsIn other (keys_of links locks (lists i)) → get locks1 other ≡ get locks other) where
+      unchanged : (j : I) → j ≢ i → (k : ℕ) → IsIn k (keys_of links locks (lists j)) → get locks1 k ≡ get locks k
+      unchanged j differs k found = others1 k (λ also. differs (one_list locks lists None family k j i found also))
+
+      stood : IsIn at (keys_of links locks (lists i))
+      stood = family.stands i at (λ e. none-some at (sym e)) is
+
+      pub family-taken_keys : (j : I) → keys_of links locks' (lists' j) ≡ without at (keys_of links locks (lists j))
+      family-taken_keys j =
+          elim (cases j i) [
+            | inl same ↦ rw (same, here) (kept-keys links locks1 locks' list1 linked1 (λ k _. nexts k) (λ k _. prevs k) (λ k _. there k) ∙ keys1)
+            | inr differs ↦
+                let absent : ¬ IsIn at (keys_of links locks (lists j)) = λ found. differs (one_list locks lists None family at j i found stood) in
+                let linked = same-linked links locks locks1 (lists j) (family.linked j) (unchanged j differs) in
+                rw (elsewhere j differs)
+                (kept-keys links locks1 locks' (lists j) linked (λ k _. nexts k) (λ k _. prevs k) (λ k _. there k)
+                ∙ same-keys links locks locks1 (lists j) (family.linked j) (unchanged j differs) ∙ sym (without_absent at _ absent))
+          ]
+
+      pub family-taken : ((k : ℕ) → noted (get locks' k) ≡ noted (get locks k)) → IsFamily links noted locks' lists' (Some at)
+      family-taken notes = record {
+        linked = λ j. elim (cases j i) [
+          | inl same ↦ rw (same, here) (kept-linked links locks1 locks' list1 linked1 (λ k _. nexts k) (λ k _. prevs k) (λ k _. there k))
+          | inr differs ↦
+              let linked = same-linked links locks locks1 (lists j) (family.linked j) (unchanged j differs) in
+              rw (elsewhere j differs) (kept-linked links locks1 locks' (lists j) linked (λ k _. nexts k) (λ k _. prevs k) (λ k _. there k))
+        ];
+        listed = λ j k found. notes k ∙ family.listed j k (IsIn-without at k _ (subst (IsIn k) (family-taken_keys j) found)).0;
+        stands = λ j k differs noted_so.
+            subst (IsIn k) (sym (family-taken_keys j))
+            (IsIn-without_kept at k _ (family.stands j k (λ e. none-some k (sym e)) (sym (notes k) ∙ noted_so)) (λ same. differs (ap Some same)));
+        gone = λ j k same found. (IsIn-without at k _ (subst (IsIn k) (family-taken_keys j) found)).1 (same_Some k at same);
+      }
+
+    -- a lock is put at the end of a list
+    module _ (family : IsFamily links noted locks lists (Some at)) (keys1 : keys_of links locks1 list1 ≡ keys_of links locks (lists i) ++ at ∷ [])
+        (others1 : (other : ℕ) → ¬ IsIn other (keys_of links locks (lists i)) → other ≢ at → get locks1 other ≡ get locks other) where
+      unlisted : (j : I) → ¬ IsIn at (keys_of links locks (lists j))
+      unlisted j = family.gone j at refl
+
+      unchanged1 : (j : I) → j ≢ i → (k : ℕ) → IsIn k (keys_of links locks (lists j)) → get locks1 k ≡ get locks k
+      unchanged1 j differs k found =
+          others1 k (λ also. differs (one_list locks lists (Some at) family k j i found also)) (λ same. unlisted j (subst (λ x. IsIn x (keys_of links locks (lists j))) same found))
+
+      pub family-put_here : keys_of links locks' (lists' i) ≡ keys_of links locks (lists i) ++ at ∷ []
+      family-put_here = ap (keys_of links locks') here ∙ kept-keys links locks1 locks' list1 linked1 (λ k _. nexts k) (λ k _. prevs k) (λ k _. there k) ∙ keys1
+
+      pub family-put_others : (j : I) → j ≢ i → keys_of links locks' (lists' j) ≡ keys_of links locks (lists j)
+      family-put_others j differs =
+          let linked = same-linked links locks locks1 (lists j) (family.linked j) (unchanged1 j differs) in
+          ap (keys_of links locks') (elsewhere j differs) ∙ kept-keys links locks1 locks' (lists j) linked (λ k _. nexts k) (λ k _. prevs k) (λ k _. there k)
+          ∙ same-keys links locks locks1 (lists j) (family.linked j) (unchanged1 j differs)
+
+      pub family-put : noted (get locks' at) ≡ Some i → ((k : ℕ) → k ≢ at → noted (get locks' k) ≡ noted (get locks k)) → IsFamily links noted locks' lists' None
+      family-put note notes = record {
+        linked = λ j. elim (cases j i) [
+          | inl same ↦ rw (same, here) (kept-linked links locks1 locks' list1 linked1 (λ k _. nexts k) (λ k _. prevs k) (λ k _. there k))
+          | inr differs ↦
+              let linked = same-linked links locks locks1 (lists j) (family.linked j) (unchanged1 j differs) in
+              rw (elsewhere j differs) (kept-linked links locks1 locks' (lists j) linked (λ k _. nexts k) (λ k _. prevs k) (λ k _. there k))
+        ];
+        listed = λ j k found. elim (cases j i) [
+          | inl same ↦
+              elim (IsIn-push at k _ (subst (IsIn k) family-put_here (subst (λ x. IsIn k (keys_of links locks' (lists' x))) same found))) [
+                | inl old ↦ listed_other i k old ∙ ap Some (sym same)
+                | inr new ↦ ap (λ x. noted (get locks' x)) (sym new) ∙ note ∙ ap Some (sym same)
+              ]
+          | inr differs ↦ listed_other j k (subst (IsIn k) (family-put_others j differs) found)
+        ];
+        stands = λ j k _ noted_so. elim (cases_eq k at) [
+          | inl same ↦
+              let is_list : i ≡ j = same_Some i j (sym note ∙ ap (λ x. noted (get locks' x)) (sym same) ∙ noted_so) in
+              subst (λ x. IsIn k (keys_of links locks' (lists' x))) is_list
+              (subst (IsIn k) (sym family-put_here) (subst (λ x. IsIn x (keys_of links locks (lists i) ++ at ∷ [])) (sym same) (IsIn-push_last at (keys_of links locks (lists i)))))
+          | inr differs ↦
+              let was = family.stands j k (λ same. differs (same_Some k at same)) (sym (notes k differs) ∙ noted_so) in
+              elim (cases j i) [
+                | inl same ↦
+                    subst (λ x. IsIn k (keys_of links locks' (lists' x))) (sym same)
+                    (subst (IsIn k) (sym family-put_here) (IsIn-push_kept at k (keys_of links locks (lists i)) (subst (λ x. IsIn k (keys_of links locks (lists x))) same was)))
+                | inr apart ↦ subst (IsIn k) (sym (family-put_others j apart)) was
+              ]
+        ];
+        gone = λ j k same found. none-some k (sym same);
+      }
+        where
+          listed_other : (j : I) (k : ℕ) → IsIn k (keys_of links locks (lists j)) → noted (get locks' k) ≡ Some j
+          listed_other j k found =
+              notes k (λ same. unlisted j (subst (λ x. IsIn x (keys_of links locks (lists j))) same found)) ∙ family.listed j k found

@@ -1,0 +1,255 @@
+-- What the store keeps, and what a caller learns of it.
+use Rattle.std.proofs.Common.{◌≡◌, ◌≤◌, ℕ, List, [], map, replicate, arith, Option, None, Some, IfSome, IsSome, Result, Ok, Err, IsOk, OnErr, OnOk, refl, sym, ap, ◌∙◌, subst}
+use Rattle.std.proofs.lemmas.Option.{none-some, same_Some}
+use Rattle.std.specs.Option.{option_map}
+use Rattle.slab.specs.Slab.{Slab, get, ContainsKey}
+use Rattle.vlm_links.specs.declared.link.TheConstants.{LAST_KEY}
+use Rattle.vlm_links.specs.declared.lists.LinkedList.{LinkedList}
+use Rattle.vlm_links.specs.Lists.{IsIn, IsLinked, IsNoList, keys_of, next_in, prev_in}
+use Rattle.vlm_links.proofs.Rings.{kept-keys, kept-linked, no_list-linked}
+use Rattle.vlm_words.specs.declared.locks.Row.{Row}
+use Rattle.vlm_words.specs.declared.modes.Mode.{Mode}
+use Rattle.vlm_words.specs.declared.modes.Mode.TheVariants.{Nl, Cr, Cw, Pr, Pw, Ex}
+use Rattle.vlm_words.specs.declared.resources.Queue.{Queue}
+use Rattle.vlm_words.specs.declared.resources.Queue.TheVariants.{Granted, Conversion, Waiting}
+use Rattle.vlm_words.specs.declared.resources.Key.{Key}
+use Rattle.vlm_store.specs.declared.keys.Place.{Place}
+use Rattle.vlm_store.specs.declared.keys.Place.TheVariants.{Loose, Queued}
+use Rattle.vlm_store.specs.declared.locks.Lock.{Lock}
+use Rattle.vlm_store.specs.declared.processes.Process.{Process}
+use Rattle.vlm_store.specs.declared.queues.Queues.{Queues}
+use Rattle.vlm_store.specs.declared.store.Store.TheInside.{Inside}
+use Rattle.vlm_store.specs.Kept.{records_shown}
+use Rattle.vlm_store.specs.declared.resources.InOrder.{InOrder}
+use Rattle.vlm_store.specs.declared.resources.Resource.{Resource}
+use Rattle.vlm_store.specs.Index.{Indexes}
+use Rattle.vlm_store.specs.Records.{FindsLock, FindsResource, HasPlace, HasResource, StoredProcess, Stores, nothing}
+use Rattle.vlm_store.specs.Shown.{IsPlaced, IsTallied, IsThere, SameBut, but_queues, face_in, keys_at, list_at, lkid_of, noted_in, order_links, queue_links, row_in, rows, shares, tally_in}
+use Rattle.vlm_store.specs.Store.{key_at, keyed, lkid_at, records_of, resource_of, tables}
+use Rattle.vlm_store.proofs.Layouts.{HasPlace-seen, IsSeen, Stores-listed, among_resource, listed-Stores, resource_at-found, resource_among}
+use Rattle.vlm_store.specs.Tallies.{count_of, held_of, held_weight, total, wanted_of, wanted_weight}
+use Rattle.vlm_store.proofs.Counting.{shares_same}
+use Rattle.vlm_store.proofs.Families.{family-empty}
+use Rattle.vlm_store.proofs.Places.{kept_keys, kept_placed, lists_same, noted_there, stands_there, there_through, through}
+
+module _ (q : Queues) (order : LinkedList InOrder) (processes : List StoredProcess) (placed : IsPlaced q None) where
+  -- a lock that a caller sees is there
+  pub stored_there : (at : ℕ) (row : Row) → Stores (records_of (tables q order processes)) at row → ContainsKey q.locks at × (at ≤ LAST_KEY) × (rows q at ≡ row)
+  stored_there at row stored =
+      let listed = Stores-listed (tables q order processes) at row stored in
+      let linked = placed.linked listed.0 in
+      (linked.present at listed.1.0, linked.within at listed.1.0, listed.1.1)
+
+  module _ (linked : IsLinked order_links q.resources order) (ordered : (r : ℕ) → ContainsKey q.resources r → IsIn r (keys_of order_links q.resources order)) where
+    -- a lock that is there is seen by a caller
+    pub there_stored : (at : ℕ) → ContainsKey q.locks at → Stores (records_of (tables q order processes)) at (rows q at)
+    there_stored at there =
+        let place = noted_there (get q.locks at) there in
+        let stands = placed.stands place.0 at (λ e. none-some at (sym e)) place.1 in
+        listed-Stores (tables q order processes) place.0 at (seen place.0 (stands_there q place.0 at stands)) stands
+      where
+        seen : (p : Place) → IsThere q.resources p → IsSeen (tables q order processes) p
+        seen Loose there = tt
+        seen (Queued r queue) there = ordered r there
+
+    -- the place that a caller sees is there
+    pub place_there : (p : Place) → HasPlace p (records_of (tables q order processes)) → IsThere q.resources p
+    place_there Loose has = tt
+    place_there (Queued r queue) has = linked.present r (HasPlace-seen (tables q order processes) (Queued r queue) has)
+
+    lkid_there : (slot : Option Lock) (lkid : ℕ) → option_map lkid_of slot ≡ Some lkid → IsSome slot × ((row_in slot).lkid ≡ lkid)
+    lkid_there None lkid is = absurd (none-some lkid is)
+    lkid_there (Some l) lkid is = (refl, same_Some l.row.lkid lkid is)
+
+    pub lkid_of_row : (slot : Option Lock) → IsSome slot → option_map lkid_of slot ≡ Some (row_in slot).lkid
+    lkid_of_row None there = cc
+    lkid_of_row (Some l) there = refl
+
+    -- the index of locks finds what a caller sees
+    pub finds_lock : (found : ℕ → Option ℕ) → Indexes found (lkid_at q) → (lkid : ℕ) (result : Option ℕ) → result ≡ found lkid → FindsLock (records_of (tables q order processes)) lkid result
+    finds_lock found indexes lkid None is = λ at row stored same.
+        let there = stored_there at row stored in
+        let label : lkid_at q at ≡ Some lkid = lkid_of_row (get q.locks at) there.0 ∙ ap (λ (r : Row). Some r.lkid) there.2 ∙ ap Some same in
+        none-some at (is ∙ indexes.complete lkid at label)
+    finds_lock found indexes lkid (Some at) is =
+        let there = lkid_there (get q.locks at) lkid (indexes.sound lkid at (sym is)) in
+        (rows q at, (there_stored at there.0, there.1))
+
+    pub no_lock : (found : ℕ → Option ℕ) → Indexes found (lkid_at q) → (lkid : ℕ) → FindsLock (records_of (tables q order processes)) lkid None → found lkid ≡ None
+    no_lock found indexes lkid absent = by_answer (found lkid) refl
+      where
+        by_answer : (answer : Option ℕ) → answer ≡ found lkid → answer ≡ None
+        by_answer None is = refl
+        by_answer (Some at) is =
+            let there = finds_lock found indexes lkid (Some at) is in
+            absurd (absent at there.0 there.1.0 there.1.1)
+
+    -- and the index of resources
+    key_there : (slot : Option Resource) (key : Key) → option_map (λ (r : Resource). r.key) slot ≡ Some key → IsSome slot × ((face_in slot).key ≡ key)
+    key_there None key is = absurd (none-some key is)
+    key_there (Some r) key is = (refl, same_Some r.key key is)
+
+    key_of_face : (slot : Option Resource) → IsSome slot → option_map (λ (r : Resource). r.key) slot ≡ Some (face_in slot).key
+    key_of_face None there = cc
+    key_of_face (Some r) there = refl
+
+    pub finds_resource : (found : Key → Option ℕ) → Indexes found (key_at q) → (key : Key) (result : Option ℕ) → result ≡ found key → FindsResource (records_of (tables q order processes)) key result
+    unfolding records_of
+    finds_resource found indexes key None is = λ r among same.
+        let there = resource_among (tables q order processes) (keys_of order_links q.resources order) r among in
+        let here = linked.present r.at there.0 in
+        let key_is : (face_in (get q.resources r.at)).key ≡ key = ap (λ x. x.key) there.1 ∙ same in
+        none-some r.at (is ∙ indexes.complete key r.at (key_of_face (get q.resources r.at) here ∙ ap Some key_is))
+    finds_resource found indexes key (Some at) is =
+        let there = key_there (get q.resources at) key (indexes.sound key at (sym is)) in
+        (resource_of (tables q order processes) at, (among_resource (tables q order processes) (keys_of order_links q.resources order) at (ordered at there.0), refl, there.1))
+
+    pub found_there : (found : Key → Option ℕ) → Indexes found (key_at q) → (key : Key) (result : Option ℕ) → result ≡ found key → IfSome result (λ res. HasResource res (records_of (tables q order processes)))
+    found_there found indexes key None is = tt
+    found_there found indexes key (Some at) is =
+        let there = key_there (get q.resources at) key (indexes.sound key at (sym is)) in
+        rw (resource_at-found (tables q order processes) at (ordered at there.0)) refl
+
+    pub no_resource : (found : Key → Option ℕ) → Indexes found (key_at q) → (key : Key) → FindsResource (records_of (tables q order processes)) key None → found key ≡ None
+    no_resource found indexes key absent = by_answer (found key) refl
+      where
+        by_answer : (answer : Option ℕ) → answer ≡ found key → answer ≡ None
+        by_answer None is = refl
+        by_answer (Some at) is =
+            let there = finds_resource found indexes key (Some at) is in
+            absurd (absent there.0 there.1.0 there.1.2)
+
+-- nothing is there yet
+module _ (q : Queues) (no_locks : (k : ℕ) → get q.locks k ≡ None) (no_resources : (r : ℕ) → get q.resources r ≡ None) (loose : IsNoList q.loose) where
+  empty_list : (p : Place) → IsNoList (list_at q p)
+  empty_list Loose = loose
+  empty_list (Queued r queue) = rw (no_resources r) (record { no_first = refl; no_last = refl; no_keys = refl })
+
+  pub empty_keys : (p : Place) → keys_at q p ≡ []
+  empty_keys p = (no_list-linked queue_links q.locks (list_at q p) (empty_list p)).1
+
+  pub empty_placed : IsPlaced q None
+  empty_placed = family-empty queue_links noted_in q.locks (list_at q) empty_list no_locks (λ p. none-some p)
+
+  empty_shares : (weight : Queue → Row → ℕ) (r : ℕ) → shares q weight None r ≡ 0
+  empty_shares weight r =
+      omega (
+        arith,
+        ap (total (weight Granted) (rows q)) (empty_keys (Queued r Granted)),
+        ap (total (weight Conversion) (rows q)) (empty_keys (Queued r Conversion)),
+        ap (total (weight Waiting) (rows q)) (empty_keys (Queued r Waiting)),
+      )
+
+  no_count : (mode : Mode) → count_of (replicate 6 0) mode ≡ 0
+  no_count Nl = refl
+  no_count Cr = refl
+  no_count Cw = refl
+  no_count Pr = refl
+  no_count Pw = refl
+  no_count Ex = refl
+
+  pub empty_tallied : IsTallied q None
+  empty_tallied = record {
+    held = λ r mode. ap (λ slot. held_of (tally_in slot) mode) (no_resources r) ∙ no_count mode ∙ sym (empty_shares (held_weight mode) r);
+    wanted = λ r mode. ap (λ slot. wanted_of (tally_in slot) mode) (no_resources r) ∙ no_count mode ∙ sym (empty_shares (wanted_weight mode) r);
+  }
+
+  module _ (order : LinkedList InOrder) (none : IsNoList order) where
+    pub empty_linked : IsLinked order_links q.resources order
+    empty_linked = (no_list-linked order_links q.resources order none).0
+
+    pub empty_ordered : (r : ℕ) → ContainsKey q.resources r → IsIn r (keys_of order_links q.resources order)
+    empty_ordered r there = let nothing : IsSome {T = Resource} None = rw (no_resources r) at there in absurd (cc)
+
+    pub empty_records : (processes : List StoredProcess) → processes ≡ [] → records_of (tables q order processes) ≡ nothing
+    unfolding records_of
+    empty_records processes no_processes =
+        ap (λ rs. record { resources = map (resource_of (tables q order processes)) rs; loose = map (keyed (rows q)) (keys_at q Loose); processes = processes })
+        (no_list-linked order_links q.resources order none).1
+        ∙ ap (λ ks. record { resources = []; loose = map (keyed (rows q)) ks; processes = processes }) (empty_keys Loose)
+        ∙ ap (λ ps. record { resources = []; loose = []; processes = ps }) no_processes
+
+pub Indexes-empty : {K : Type 0} (found : K → Option ℕ) (label : ℕ → Option K) → ((k : K) → found k ≡ None) → ((at : ℕ) → label at ≡ None) → Indexes found label
+Indexes-empty found label finds labels = record {
+  sound = λ k at is. absurd (none-some at (sym (finds k) ∙ is));
+  complete = λ k at is. absurd (none-some k (sym (labels at) ∙ is));
+}
+
+-- what is seen of resources stays where only their queues change
+face_apart : (slot : Option Resource) → face_in (option_map but_queues slot) ≡ face_in slot
+face_apart None = refl
+face_apart (Some r) = refl
+
+key_apart : (slot : Option Resource) → option_map (λ (r : Resource). r.key) (option_map but_queues slot) ≡ option_map (λ (r : Resource). r.key) slot
+key_apart None = refl
+key_apart (Some r) = refl
+
+next_apart : (slot : Option Resource) → next_in order_links (option_map but_queues slot) ≡ next_in order_links slot
+next_apart None = refl
+next_apart (Some r) = refl
+
+prev_apart : (slot : Option Resource) → prev_in order_links (option_map but_queues slot) ≡ prev_in order_links slot
+prev_apart None = refl
+prev_apart (Some r) = refl
+
+module _ (old new : Slab Resource) (rest : SameBut but_queues old new) where
+  pub faces_same : (r : ℕ) → face_in (get new r) ≡ face_in (get old r)
+  faces_same = through but_queues face_in face_apart old new rest
+
+  pub keys_same : (r : ℕ) → option_map (λ (x : Resource). x.key) (get new r) ≡ option_map (λ (x : Resource). x.key) (get old r)
+  keys_same = through but_queues (option_map (λ (x : Resource). x.key)) key_apart old new rest
+
+  pub order_keys : (order : LinkedList InOrder) → IsLinked order_links old order → keys_of order_links new order ≡ keys_of order_links old order
+  order_keys order linked =
+      kept-keys order_links old new order linked (λ k _. through but_queues (next_in order_links) next_apart old new rest k)
+      (λ k _. through but_queues (prev_in order_links) prev_apart old new rest k) (λ k _. there_through but_queues old new rest k)
+
+  pub order_linked : (order : LinkedList InOrder) → IsLinked order_links old order → IsLinked order_links new order
+  order_linked order linked =
+      kept-linked order_links old new order linked (λ k _. through but_queues (next_in order_links) next_apart old new rest k)
+      (λ k _. through but_queues (prev_in order_links) prev_apart old new rest k) (λ k _. there_through but_queues old new rest k)
+
+  pub order_whole : (order : LinkedList InOrder) → IsLinked order_links old order → ((r : ℕ) → ContainsKey old r → IsIn r (keys_of order_links old order))
+      → (r : ℕ) → ContainsKey new r → IsIn r (keys_of order_links new order)
+  order_whole order linked ordered r there =
+      subst (IsIn r) (sym (order_keys order linked)) (ordered r (there_through but_queues new old (λ k. sym (rest k)) r there))
+
+-- room is made for locks
+module _ (q : Queues) (locks : Slab Lock) (same : (k : ℕ) → get locks k ≡ get q.locks k) (placed : IsPlaced q None) where
+  pub reserved_placed : IsPlaced (record q { locks = locks }) None
+  reserved_placed =
+      kept_placed q None placed (record q { locks = locks }) (lists_same q (record q { locks = locks }) refl refl) (λ k. ap (next_in queue_links) (same k)) (λ k. ap (prev_in queue_links) (same k))
+      (λ k here. rw (same k) here) (λ k. ap noted_in (same k))
+
+  pub reserved_keys : (p : Place) → keys_at (record q { locks = locks }) p ≡ keys_at q p
+  reserved_keys =
+      kept_keys q None placed (record q { locks = locks }) (lists_same q (record q { locks = locks }) refl refl) (λ k. ap (next_in queue_links) (same k)) (λ k. ap (prev_in queue_links) (same k))
+      (λ k here. rw (same k) here)
+
+  pub reserved_tallied : IsTallied q None → IsTallied (record q { locks = locks }) None
+  reserved_tallied tallied = record {
+    held = λ r mode. tallied.held r mode ∙ sym (shares_same q (record q { locks = locks }) (held_weight mode) None r reserved_keys (λ k _. ap row_in (same k)));
+    wanted = λ r mode. tallied.wanted r mode ∙ sym (shares_same q (record q { locks = locks }) (wanted_weight mode) None r reserved_keys (λ k _. ap row_in (same k)));
+  }
+
+-- what an answer says where it is one of success
+pub on_ok : {T E : Type 0} (r : Result T E) (P : Type 0) → IsOk r → OnOk r P → P
+on_ok (Ok x) P is p = p
+on_ok (Err e) P is p = cc
+
+pub on_err : {T E : Type 0} (r : Result T E) (P : Type 0) → P → OnErr r P
+on_err (Ok x) P p = tt
+on_err (Err e) P p = p
+
+-- a caller sees no room
+pub shown_with_room : (s : Inside) (resources : Slab Resource) → resources ≡ record s.queues.resources { capacity = resources.capacity }
+    → records_shown (record s { queues = record s.queues { resources = resources } }) ≡ records_shown s
+shown_with_room s resources is = ap (λ r. records_shown (record s { queues = record s.queues { resources = r } })) is
+
+pub shown_with_process_room : (s : Inside) (processes : Slab Process) → processes ≡ record s.processes { capacity = processes.capacity }
+    → records_shown (record s { processes = processes }) ≡ records_shown s
+shown_with_process_room s processes is = ap (λ p. records_shown (record s { processes = p })) is
+
+pub shown_with_lock_room : (s : Inside) (locks : Slab Lock) → locks ≡ record s.queues.locks { capacity = locks.capacity }
+    → records_shown (record s { queues = record s.queues { locks = locks } }) ≡ records_shown s
+shown_with_lock_room s locks is = ap (λ l. records_shown (record s { queues = record s.queues { locks = l } })) is

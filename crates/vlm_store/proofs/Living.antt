@@ -1,0 +1,190 @@
+-- What a caller learns of the processes and their locks.
+use Rattle.std.proofs.Common.{◌≡◌, ◌≤◌, ℕ, List, [], map, Option, None, Some, IfSome, IsSome, refl, sym, ap, ◌∙◌, subst, nat_eq}
+use Rattle.std.proofs.lemmas.Option.{none-some, same_Some}
+use Rattle.std.specs.Option.{option_map, option_map_or}
+use Rattle.slab.specs.Slab.{Slab, get, ContainsKey}
+use Rattle.indexmap.specs.IndexMap.{get as found}
+use Rattle.vlm_links.specs.declared.link.TheConstants.{LAST_KEY}
+use Rattle.vlm_links.specs.Lists.{IsIn, keys_of}
+use Rattle.vlm_words.specs.declared.locks.Row.{Row}
+use Rattle.vlm_store.specs.declared.locks.Lock.{Lock}
+use Rattle.vlm_store.specs.declared.processes.Process.{Process}
+use Rattle.vlm_store.specs.declared.store.Store.TheInside.{Inside}
+use Rattle.vlm_store.specs.Records.{AreOwned, AreProcessesApart, FindsProcess, HasNoSublocks, HasProcess, IsOwnAmong, IsProcess, IsProcessAmong, OwnLock, StoredProcess, Stores, own_at, process_at}
+use Rattle.vlm_store.specs.Kept.{IsKept, processes_shown, records_shown}
+use Rattle.vlm_store.specs.Shown.{lkid_of, order_links, row_in, rows}
+use Rattle.vlm_store.specs.Holdings.{Holding, NamesParent, OwnerFits, ParentFits, below_keys, holding, own_keys, own_of, owner_in, parent_in, pid_at, pid_of, plain_in, process_links, process_of, processes_of}
+use Rattle.vlm_store.specs.Store.{tables}
+use Rattle.vlm_store.proofs.Kept.{stored_there, there_stored}
+use Rattle.vlm_store.proofs.Kinship.{records_processes}
+use Rattle.vlm_store.proofs.Members.{AreProcessesApart-processes_of, HasProcess-order, among_own, own_among, process_at-found, process_seen, seen_process}
+
+-- what the record of a process tells, where it has an identification
+pid_there : (slot : Option Process) (pid : ℕ) → option_map pid_of slot ≡ Some pid → IsSome slot × ((plain_in slot).pid ≡ pid)
+pid_there None pid is = absurd (none-some pid is)
+pid_there (Some p) pid is = (refl, same_Some p.pid pid is)
+
+pid_told : (slot : Option Process) → IsSome slot → option_map pid_of slot ≡ Some (plain_in slot).pid
+pid_told None there = cc
+pid_told (Some p) there = refl
+
+noted_owner : (slot : Option Lock) (owner : ℕ) → owner_in slot ≡ Some owner → (l : Lock) × ((slot ≡ Some l) × (l.owner ≡ owner))
+noted_owner None owner is = absurd (none-some owner is)
+noted_owner (Some l) owner is = (l, (refl, same_Some l.owner owner is))
+
+noted_parent : (slot : Option Lock) (parent : ℕ) → parent_in slot ≡ Some parent → (l : Lock) × ((slot ≡ Some l) × (l.parent ≡ Some parent))
+noted_parent None parent is = absurd (none-some parent is)
+noted_parent (Some l) parent is = (l, (refl, is))
+
+lkid_told : (slot : Option Lock) (lkid : ℕ) → option_map lkid_of slot ≡ Some lkid → (row_in slot).lkid ≡ lkid
+lkid_told None lkid is = absurd (none-some lkid is)
+lkid_told (Some l) lkid is = same_Some l.row.lkid lkid is
+
+there_is : (slot : Option Lock) → IsSome slot → (l : Lock) × (slot ≡ Some l)
+there_is None there = cc
+there_is (Some l) there = (l, refl)
+
+module _ (s : Inside) (kept : IsKept s) where
+  -- the tables of processes
+  abbrev pub held : Holding
+  held = holding s.processes s.queues.locks s.process_order
+
+  shown : (records_shown s).processes ≡ processes_of held
+  shown = records_processes (tables s.queues s.order (processes_shown s))
+
+  pub process_listed : (at : ℕ) → HasProcess at (records_shown s) → IsIn at (keys_of process_links s.processes s.process_order)
+  process_listed at has = HasProcess-order held at (subst (λ ps. IsSome (process_at at ps)) shown has)
+
+  pub process_there : (at : ℕ) → HasProcess at (records_shown s) → ContainsKey s.processes at
+  process_there at has = kept.processes_linked.present at (process_listed at has)
+
+  pub process_is : (at : ℕ) → HasProcess at (records_shown s) → process_at at (records_shown s).processes ≡ Some (process_of held at)
+  process_is at has = ap (process_at at) shown ∙ process_at-found held at (process_listed at has)
+
+  pub own_is : (at : ℕ) → HasProcess at (records_shown s) → own_at at (records_shown s) ≡ map (own_of held) (own_keys s.processes s.queues.locks at)
+  own_is at has = ap (λ o. option_map_or (λ (p : StoredProcess). p.own) o []) (process_is at has)
+
+  pub among_shown : (at : ℕ) → IsIn at (keys_of process_links s.processes s.process_order) → IsProcessAmong (process_of held at) (records_shown s).processes
+  among_shown at found = subst (IsProcessAmong (process_of held at)) (sym shown) (process_seen held at found)
+
+  pub shown_among : (p : StoredProcess) → IsProcessAmong p (records_shown s).processes → IsIn p.at (keys_of process_links s.processes s.process_order) × (process_of held p.at ≡ p)
+  shown_among p among = seen_process held p (subst (IsProcessAmong p) shown among)
+
+  pub lock_there : (at : ℕ) (row : Row) → Stores (records_shown s) at row → ContainsKey s.queues.locks at × (at ≤ LAST_KEY) × (rows s.queues at ≡ row)
+  lock_there = stored_there s.queues s.order (processes_shown s) kept.placed
+
+  pub lock_stored : (at : ℕ) → ContainsKey s.queues.locks at → Stores (records_shown s) at (rows s.queues at)
+  lock_stored = there_stored s.queues s.order (processes_shown s) kept.placed kept.linked kept.ordered
+
+  -- the process that a lock notes is the one that its row names
+  pub owner_is : (at : ℕ) (l : Lock) → get s.queues.locks at ≡ Some l → IsProcess l.owner l.row.pid (records_shown s)
+  owner_is at l here =
+      let fits = subst (OwnerFits s.processes) here (kept.named.owners at) in
+      let there = pid_there (get s.processes l.owner) l.row.pid fits in
+      (process_of held l.owner, (among_shown l.owner (kept.processes_ordered l.owner there.0), refl, there.1))
+
+  -- the locks of a process that a caller sees
+  pub own_among_shown : (p : StoredProcess) (own : OwnLock) → IsProcessAmong p (records_shown s).processes → IsOwnAmong own p.own
+      → (IsIn own.at (own_keys s.processes s.queues.locks p.at) × (below_keys s.queues.locks own.at ≡ own.sublocks)) × (p.own ≡ map (own_of held) (own_keys s.processes s.queues.locks p.at))
+  own_among_shown p own among has =
+      let is : map (own_of held) (own_keys s.processes s.queues.locks p.at) ≡ p.own = ap (λ (x : StoredProcess). x.own) (shown_among p among).1 in
+      (own_among held (own_keys s.processes s.queues.locks p.at) own (subst (IsOwnAmong own) (sym is) has), sym is)
+
+  pub are_owned : AreOwned (records_shown s)
+  are_owned = record {
+    owned = λ at row stored.
+        let there = lock_there at row stored in
+        let l = there_is (get s.queues.locks at) there.0 in
+        let fits = subst (OwnerFits s.processes) l.1 (kept.named.owners at) in
+        let owner = pid_there (get s.processes l.0.owner) l.0.row.pid fits in
+        let stands = kept.owned.stands l.0.owner at (λ e. none-some at (sym e)) (ap owner_in l.1) in
+        let row_is : l.0.row ≡ row = sym (ap row_in l.1) ∙ there.2 in
+        (
+          process_of held l.0.owner,
+          own_of held at,
+          (
+            among_shown l.0.owner (kept.processes_ordered l.0.owner owner.0),
+            owner.1 ∙ ap (λ (r : Row). r.pid) row_is,
+            among_own held (own_keys s.processes s.queues.locks l.0.owner) at stands,
+            refl,
+          ),
+        );
+    owns = λ p own among has.
+        let own_there = own_among_shown p own among has in
+        let noted = noted_owner (get s.queues.locks own.at) p.at (kept.owned.listed p.at own.at own_there.0.0) in
+        let there : ContainsKey s.queues.locks own.at = (kept.owned.linked p.at).present own.at own_there.0.0 in
+        let fits = subst (OwnerFits s.processes) noted.1.0 (kept.named.owners own.at) in
+        let pid = pid_there (get s.processes noted.0.owner) noted.0.row.pid fits in
+        let plain : (plain_in (get s.processes p.at)).pid ≡ p.process.pid = ap (λ (x : StoredProcess). x.process.pid) (shown_among p among).1 in
+        (
+          rows s.queues own.at,
+          (
+            lock_stored own.at there,
+            ap (λ slot. (row_in slot).pid) noted.1.0 ∙ sym pid.1 ∙ ap (λ x. (plain_in (get s.processes x)).pid) noted.1.1 ∙ plain,
+          ),
+        );
+    below = λ p own at among has stands.
+        let own_there = own_among_shown p own among has in
+        let up_there : ContainsKey s.queues.locks own.at = (kept.owned.linked p.at).present own.at own_there.0.0 in
+        let listed = subst (IsIn at) (sym own_there.0.1) stands in
+        let there : ContainsKey s.queues.locks at = (kept.below.linked own.at).present at listed in
+        let noted = noted_parent (get s.queues.locks at) own.at (kept.below.listed own.at at listed) in
+        let fits = subst (ParentFits s.queues.locks) noted.1.0 (kept.named.parents at) in
+        let names = subst (λ o. NamesParent s.queues.locks o noted.0.row.parent) noted.1.1 fits in
+        (
+          rows s.queues own.at,
+          rows s.queues at,
+          (
+            lock_stored own.at up_there,
+            lock_stored at there,
+            ap (λ slot. (row_in slot).parent) noted.1.0 ∙ sym (lkid_told (get s.queues.locks own.at) noted.0.row.parent names),
+          ),
+        );
+  }
+
+  -- no lock stands below this one
+  pub childless : (at : ℕ) (row : Row) → Stores (records_shown s) at row → HasNoSublocks at (records_shown s) → below_keys s.queues.locks at ≡ []
+  childless at row stored none =
+      let found = are_owned.owned at row stored in
+      let seen = own_among_shown found.0 found.1 found.2.0 found.2.2 in
+      ap (below_keys s.queues.locks) (sym found.2.3) ∙ seen.0.1 ∙ none found.0 found.1 found.2.0 found.2.2 found.2.3
+
+  pub are_apart : AreProcessesApart (processes_shown s)
+  are_apart =
+      AreProcessesApart-processes_of held kept.processes_linked.apart
+      (λ a b here there same.
+          let told_a = pid_told (get s.processes a) (kept.processes_linked.present a here) in
+          let told_b = pid_told (get s.processes b) (kept.processes_linked.present b there) in
+          same_Some a b
+          (sym (kept.processes.complete (plain_in (get s.processes a)).pid a told_a) ∙ kept.processes.complete (plain_in (get s.processes a)).pid b (told_b ∙ ap Some (sym same))))
+
+  -- the index of processes finds what a caller sees
+  pub finds_process : (pid : ℕ) (result : Option ℕ) → result ≡ found nat_eq s.process_index pid → FindsProcess (records_shown s) pid result
+  finds_process pid None is = λ p among same.
+      let seen = shown_among p among in
+      let there = kept.processes_linked.present p.at seen.0 in
+      let told : pid_at s.processes p.at ≡ Some pid = pid_told (get s.processes p.at) there ∙ ap Some (ap (λ (x : StoredProcess). x.process.pid) seen.1 ∙ same) in
+      none-some p.at (is ∙ kept.processes.complete pid p.at told)
+  finds_process pid (Some at) is =
+      let there = pid_there (get s.processes at) pid (kept.processes.sound pid at (sym is)) in
+      (process_of held at, (among_shown at (kept.processes_ordered at there.0), refl, there.1))
+
+  pub no_process_found : (pid : ℕ) → FindsProcess (records_shown s) pid None → found nat_eq s.process_index pid ≡ None
+  no_process_found pid absent = by_answer (found nat_eq s.process_index pid) refl
+    where
+      by_answer : (answer : Option ℕ) → answer ≡ found nat_eq s.process_index pid → answer ≡ None
+      by_answer None is = refl
+      by_answer (Some at) is =
+          let there = finds_process pid (Some at) is in
+          absurd (absent there.0 there.1.0 there.1.2)
+
+  -- the process at the key, with its identification
+  pub process_named : (at pid : ℕ) → IsProcess at pid (records_shown s) → ContainsKey s.processes at × (option_map pid_of (get s.processes at) ≡ Some pid)
+  process_named at pid is =
+      let seen = shown_among is.0 is.1.0 in
+      let there : ContainsKey s.processes at = subst (ContainsKey s.processes) is.1.1 (kept.processes_linked.present is.0.at seen.0) in
+      (
+        there,
+        pid_told (get s.processes at) there
+        ∙ ap Some (ap (λ x. (plain_in (get s.processes x)).pid) (sym is.1.1) ∙ ap (λ (x : StoredProcess). x.process.pid) seen.1 ∙ is.1.2),
+      )

@@ -1,0 +1,251 @@
+-- What stays as resources come, go and are linked.
+use Rattle.std.proofs.Common.{◌≡◌, ◌≢◌, ℕ, List, [], ◌∷◌, ◌++◌, map, length, replicate, Option, None, Some, IsSome, refl, sym, ap, ◌∙◌, subst, inl, inr, arith}
+use Rattle.std.proofs.lemmas.Bool.{cases_eq}
+use Rattle.std.proofs.lemmas.Option.{same_Some}
+use Rattle.std.specs.Option.{option_map}
+use Rattle.slab.specs.Slab.{Slab, get, ContainsKey, Updates, with_value}
+use Rattle.slab.proofs.SlabLemmas.{Updates-with_value}
+use Rattle.vlm_links.specs.declared.link.Links.{Links}
+use Rattle.vlm_links.specs.declared.lists.LinkedList.{LinkedList}
+use Rattle.vlm_links.specs.Lists.{IsIn, IsLinked, IsNoList, IsRelinked, Relinks, keys_of, next_in, prev_in, without}
+use Rattle.vlm_links.proofs.KeyLists.{IsIn-push_kept, IsIn-push_last, IsIn-without_kept}
+use Rattle.vlm_links.proofs.Rings.{kept-keys, kept-linked}
+use Rattle.vlm_words.specs.declared.locks.Row.{Row}
+use Rattle.vlm_words.specs.declared.modes.Mode.{Mode}
+use Rattle.vlm_words.specs.declared.modes.Mode.TheVariants.{Nl, Cr, Cw, Pr, Pw, Ex}
+use Rattle.vlm_words.specs.declared.resources.Queue.{Queue}
+use Rattle.vlm_words.specs.declared.resources.Queue.TheVariants.{Granted, Conversion, Waiting}
+use Rattle.vlm_store.specs.declared.keys.Place.{Place}
+use Rattle.vlm_store.specs.declared.keys.Place.TheVariants.{Loose, Queued}
+use Rattle.vlm_words.specs.declared.resources.ValueBlock.{ValueBlock}
+use Rattle.vlm_store.specs.declared.locks.InQueue.{InQueue}
+use Rattle.vlm_store.specs.declared.locks.Lock.{Lock}
+use Rattle.vlm_store.specs.declared.queues.Queues.{Queues}
+use Rattle.vlm_store.specs.declared.resources.InOrder.{InOrder}
+use Rattle.vlm_store.specs.declared.resources.Resource.{Resource}
+use Rattle.vlm_store.specs.Shown.{Face, IsPlaced, IsTallied, SameBut, but_value_block, face_in, face_of, keys_at, list_at, list_in, no_list, order_links, queue_links, rows, shares, tally_in, with_order_links}
+use Rattle.vlm_store.specs.Tallies.{count_of, held_of, held_weight, no_tally, total, wanted_of, wanted_weight}
+use Rattle.vlm_store.proofs.Counting.{shares_same}
+use Rattle.vlm_store.proofs.Places.{kept_keys, kept_placed, no_list_is, there_through, through}
+
+-- what a record shows that is none of its links
+pub relinked_same : {T X : Type 0} (with_links : T → Links → T) (shown : Option T → X) → ((r : T) (pair : Links) → shown (Some (with_links r pair)) ≡ shown (Some r))
+    → (old new : Slab T) → Relinks with_links old new → (k : ℕ) → shown (get new k) ≡ shown (get old k)
+relinked_same {T} {X} with_links shown apart old new relinks k = slot_same (get old k) (get new k) (relinks.records k)
+  where
+    slot_same : (was now : Option T) → IsRelinked with_links was now → shown now ≡ shown was
+    slot_same None now is = ap shown is
+    slot_same (Some r) now is = ap shown is.1 ∙ apart r is.0
+
+-- the locks stay where the lists of the resources do
+module _ (q : Queues) (resources : Slab Resource) (placed : IsPlaced q None) (lists : (p : Place) → list_at (record q { resources = resources }) p ≡ list_at q p) where
+  pub resources_keys : (p : Place) → keys_at (record q { resources = resources }) p ≡ keys_at q p
+  resources_keys = kept_keys q None placed (record q { resources = resources }) lists (λ k. refl) (λ k. refl) (λ k here. here)
+
+  pub resources_placed : IsPlaced (record q { resources = resources }) None
+  resources_placed = kept_placed q None placed (record q { resources = resources }) lists (λ k. refl) (λ k. refl) (λ k here. here) (λ k. refl)
+
+  pub resources_tallied : ((r : ℕ) → tally_in (get resources r) ≡ tally_in (get q.resources r)) → IsTallied q None → IsTallied (record q { resources = resources }) None
+  resources_tallied tallies tallied = record {
+    held = λ r mode. ap (λ t. held_of t mode) (tallies r) ∙ tallied.held r mode ∙ sym (shares_same q (record q { resources = resources }) (held_weight mode) None r resources_keys (λ k _. refl));
+    wanted = λ r mode. ap (λ t. wanted_of t mode) (tallies r) ∙ tallied.wanted r mode ∙ sym (shares_same q (record q { resources = resources }) (wanted_weight mode) None r resources_keys (λ k _. refl));
+  }
+
+-- a resource comes, and is linked
+module _ (q : Queues) (r1 r2 : Slab Resource) (at : ℕ) (made : Resource) (updates : Updates q.resources r1 at (Some made)) (fresh : get q.resources at ≡ None)
+    (relinks : Relinks with_order_links r1 r2) where
+  module _ (granted : IsNoList made.granted) (converting : IsNoList made.converting) (waiting : IsNoList made.waiting) where
+    made_list : (queue : Queue) → list_in queue (Some made) ≡ no_list
+    made_list Granted = no_list_is made.granted granted
+    made_list Conversion = no_list_is made.converting converting
+    made_list Waiting = no_list_is made.waiting waiting
+
+    list_apart : (queue : Queue) (r : Resource) (pair : Links) → list_in queue (Some (with_order_links r pair)) ≡ list_in queue (Some r)
+    list_apart Granted r pair = refl
+    list_apart Conversion r pair = refl
+    list_apart Waiting r pair = refl
+
+    pub added_lists : (p : Place) → list_at (record q { resources = r2 }) p ≡ list_at q p
+    added_lists Loose = refl
+    added_lists (Queued r queue) =
+        relinked_same with_order_links (list_in queue) (list_apart queue) r1 r2 relinks r
+        ∙ elim (cases_eq r at) [
+          | inl same ↦ ap (λ x. list_in queue (get r1 x)) same ∙ ap (list_in queue) updates.changed ∙ made_list queue ∙ sym (ap (λ x. list_in queue (get q.resources x)) same ∙ ap (list_in queue) fresh)
+          | inr differs ↦ ap (list_in queue) (updates.others r differs)
+        ]
+
+  pub added_tallies : made.tally ≡ no_tally → (r : ℕ) → tally_in (get r2 r) ≡ tally_in (get q.resources r)
+  added_tallies none r =
+      relinked_same with_order_links tally_in (λ x pair. refl) r1 r2 relinks r
+      ∙ elim (cases_eq r at) [
+        | inl same ↦ ap (λ x. tally_in (get r1 x)) same ∙ ap tally_in updates.changed ∙ none ∙ sym (ap (λ x. tally_in (get q.resources x)) same ∙ ap tally_in fresh)
+        | inr differs ↦ ap tally_in (updates.others r differs)
+      ]
+
+-- room is made for resources
+module _ (q : Queues) (resources : Slab Resource) (same : (r : ℕ) → get resources r ≡ get q.resources r) where
+  pub reserved_lists : (p : Place) → list_at (record q { resources = resources }) p ≡ list_at q p
+  reserved_lists Loose = refl
+  reserved_lists (Queued r queue) = ap (list_in queue) (same r)
+
+-- no lock stands in a queue of a resource that is not there
+pub none_keys : (q : Queues) (res : ℕ) (queue : Queue) → get q.resources res ≡ None → keys_at q (Queued res queue) ≡ []
+none_keys q res queue none = ap (λ slot. keys_of queue_links q.locks (list_in queue slot)) none
+
+-- what is read off the face of a resource
+pub key_by_face : (slot : Option Resource) → option_map (λ (r : Resource). r.key) slot ≡ option_map (λ (f : Face). f.key) (option_map face_of slot)
+key_by_face None = refl
+key_by_face (Some r) = refl
+
+pub face_by_face : (new old : Option Resource) → option_map face_of new ≡ option_map face_of old → face_in new ≡ face_in old
+face_by_face None None same = refl
+face_by_face None (Some r) same = cc
+face_by_face (Some r) None same = cc
+face_by_face (Some r) (Some r') same = same_Some (face_of r) (face_of r') same
+
+pub face_is : (slot : Option Resource) (face : Face) → option_map face_of slot ≡ Some face → face_in slot ≡ face
+face_is None face is = cc
+face_is (Some r) face is = same_Some (face_of r) face is
+
+pub there_by_face : (new old : Option Resource) → option_map face_of new ≡ option_map face_of old → IsSome new → IsSome old
+there_by_face None old same there = cc
+there_by_face (Some r) None same there = cc
+there_by_face (Some r) (Some r') same there = refl
+
+-- a new record stands in the order, and so does each other
+pub whole_grown : {T Kind : Type 0} (links : T → Links) (old new : Slab T) (order order' : LinkedList Kind) (at : ℕ) → ((r : ℕ) → ContainsKey old r → IsIn r (keys_of links old order))
+    → keys_of links new order' ≡ keys_of links old order ++ at ∷ [] → ((r : ℕ) → r ≢ at → ContainsKey new r → ContainsKey old r) → (r : ℕ) → ContainsKey new r → IsIn r (keys_of links new order')
+whole_grown links old new order order' at ordered joined was r there =
+    subst (IsIn r) (sym joined)
+    (elim (cases_eq r at) [
+      | inl same ↦ subst (λ x. IsIn x (keys_of links old order ++ at ∷ [])) (sym same) (IsIn-push_last at (keys_of links old order))
+      | inr differs ↦ IsIn-push_kept at r (keys_of links old order) (ordered r (was r differs there))
+    ])
+
+-- each record but the one that is gone stands in the order
+pub whole_left : {T Kind : Type 0} (links : T → Links) (old new : Slab T) (order order' : LinkedList Kind) (at : ℕ) → ((r : ℕ) → ContainsKey old r → IsIn r (keys_of links old order))
+    → keys_of links new order' ≡ without at (keys_of links old order) → get new at ≡ None → ((r : ℕ) → r ≢ at → ContainsKey new r → ContainsKey old r)
+    → (r : ℕ) → ContainsKey new r → IsIn r (keys_of links new order')
+whole_left {T} links old new order order' at ordered left gone was r there =
+    subst (IsIn r) (sym left)
+    (elim (cases_eq r at) [
+      | inl same ↦ let nothing : IsSome {T = T} None = rw (ap (get new) same ∙ gone) at there in absurd (cc)
+      | inr differs ↦ IsIn-without_kept at r (keys_of links old order) (ordered r (was r differs there)) differs
+    ])
+
+-- what stands besides lists and counts is written in one resource
+module _ (q : Queues) (res : ℕ) (was now : Resource) (there : ContainsKey q.resources res) (here : get q.resources res ≡ Some was) where
+  pub written_lists : ((queue : Queue) → list_in queue (Some now) ≡ list_in queue (Some was)) → (p : Place) → list_at (record q { resources = with_value q.resources res now }) p ≡ list_at q p
+  written_lists lists Loose = refl
+  written_lists lists (Queued r queue) =
+      let updates = Updates-with_value q.resources res now there in
+      elim (cases_eq r res) [
+        | inl same ↦
+            ap (λ x. list_in queue (get (with_value q.resources res now) x)) same ∙ ap (list_in queue) updates.changed ∙ lists queue
+            ∙ sym (ap (λ x. list_in queue (get q.resources x)) same ∙ ap (list_in queue) here)
+        | inr differs ↦ ap (list_in queue) (updates.others r differs)
+      ]
+
+  pub written_tallies : now.tally ≡ was.tally → (r : ℕ) → tally_in (get (with_value q.resources res now) r) ≡ tally_in (get q.resources r)
+  written_tallies tally r =
+      let updates = Updates-with_value q.resources res now there in
+      elim (cases_eq r res) [
+        | inl same ↦ ap (λ x. tally_in (get (with_value q.resources res now) x)) same ∙ ap tally_in updates.changed ∙ tally ∙ sym (ap (λ x. tally_in (get q.resources x)) same ∙ ap tally_in here)
+        | inr differs ↦ ap tally_in (updates.others r differs)
+      ]
+
+pub block_list : (r : Resource) (value_block : ValueBlock) (queue : Queue) → list_in queue (Some (record r { value_block = value_block })) ≡ list_in queue (Some r)
+block_list r value_block Granted = refl
+block_list r value_block Conversion = refl
+block_list r value_block Waiting = refl
+
+-- the order stays where value blocks are written
+module _ (old new : Slab Resource) (rest : SameBut but_value_block old new) where
+  next_same : (k : ℕ) → next_in order_links (get new k) ≡ next_in order_links (get old k)
+  next_same = through but_value_block (next_in order_links) apart old new rest
+    where
+      apart : (slot : Option Resource) → next_in order_links (option_map but_value_block slot) ≡ next_in order_links slot
+      apart None = refl
+      apart (Some r) = refl
+
+  prev_same : (k : ℕ) → prev_in order_links (get new k) ≡ prev_in order_links (get old k)
+  prev_same = through but_value_block (prev_in order_links) apart old new rest
+    where
+      apart : (slot : Option Resource) → prev_in order_links (option_map but_value_block slot) ≡ prev_in order_links slot
+      apart None = refl
+      apart (Some r) = refl
+
+  pub block_key : (k : ℕ) → option_map (λ (r : Resource). r.key) (get new k) ≡ option_map (λ (r : Resource). r.key) (get old k)
+  block_key = through but_value_block (option_map (λ (r : Resource). r.key)) apart old new rest
+    where
+      apart : (slot : Option Resource) → option_map (λ (r : Resource). r.key) (option_map but_value_block slot) ≡ option_map (λ (r : Resource). r.key) slot
+      apart None = refl
+      apart (Some r) = refl
+
+  pub block_order : (order : LinkedList InOrder) → IsLinked order_links old order → keys_of order_links new order ≡ keys_of order_links old order
+  block_order order linked = kept-keys order_links old new order linked (λ k _. next_same k) (λ k _. prev_same k) (λ k _. there_through but_value_block old new rest k)
+
+  pub block_linked : (order : LinkedList InOrder) → IsLinked order_links old order → IsLinked order_links new order
+  block_linked order linked = kept-linked order_links old new order linked (λ k _. next_same k) (λ k _. prev_same k) (λ k _. there_through but_value_block old new rest k)
+
+  pub block_whole : (order : LinkedList InOrder) → IsLinked order_links old order → ((r : ℕ) → ContainsKey old r → IsIn r (keys_of order_links old order)) → (r : ℕ) → ContainsKey new r → IsIn r (keys_of order_links new order)
+  block_whole order linked ordered r there = subst (IsIn r) (sym (block_order order linked)) (ordered r (there_through but_value_block new old (λ k. sym (rest k)) r there))
+
+-- a linked list without keys is an empty one
+pub no_list_has : {Kind : Type 0} (links : Lock → Links) (locks : Slab Lock) (list : LinkedList Kind) → IsLinked links locks list → keys_of links locks list ≡ [] → list ≡ no_list
+no_list_has links locks list linked none =
+    let chain = rw none at linked.chained in
+    no_list_is list (record { no_first = chain.0; no_last = chain.1; no_keys = sym linked.counted ∙ ap length none })
+
+no_count : (mode : Mode) → count_of (replicate 6 0) mode ≡ 0
+no_count Nl = refl
+no_count Cr = refl
+no_count Cw = refl
+no_count Pr = refl
+no_count Pw = refl
+no_count Ex = refl
+
+-- an idle resource goes
+module _ (q : Queues) (r1 r2 : Slab Resource) (at : ℕ) (relinks : Relinks with_order_links q.resources r1) (updates : Updates r1 r2 at None) (placed : IsPlaced q None)
+    (idle : (queue : Queue) → keys_at q (Queued at queue) ≡ []) where
+  list_stays : (queue : Queue) (r : Resource) (pair : Links) → list_in queue (Some (with_order_links r pair)) ≡ list_in queue (Some r)
+  list_stays Granted r pair = refl
+  list_stays Conversion r pair = refl
+  list_stays Waiting r pair = refl
+
+  pub removed_lists : (p : Place) → list_at (record q { resources = r2 }) p ≡ list_at q p
+  removed_lists Loose = refl
+  removed_lists (Queued r queue) =
+      elim (cases_eq r at) [
+        | inl same ↦
+            ap (λ x. list_in queue (get r2 x)) same ∙ ap (list_in queue) updates.changed
+            ∙ sym (ap (λ x. list_in queue (get q.resources x)) same ∙ no_list_has queue_links q.locks (list_at q (Queued at queue)) (placed.linked (Queued at queue)) (idle queue))
+        | inr differs ↦ ap (list_in queue) (updates.others r differs) ∙ relinked_same with_order_links (list_in queue) (list_stays queue) q.resources r1 relinks r
+      ]
+
+  no_share : (weight : Queue → Row → ℕ) → shares q weight None at ≡ 0
+  no_share weight = omega (arith, ap (total (weight Granted) (rows q)) (idle Granted), ap (total (weight Conversion) (rows q)) (idle Conversion), ap (total (weight Waiting) (rows q)) (idle Waiting))
+
+  pub removed_tally : IsTallied q None → IsTallied (record q { resources = r2 }) None
+  removed_tally tallied =
+      let q' : Queues = record q { resources = r2 } in
+      let kept : (weight : Queue → Row → ℕ) (r : ℕ) → shares q' weight None r ≡ shares q weight None r =
+      λ weight r. shares_same q q' weight None r (resources_keys q r2 placed removed_lists) (λ k _. refl) in
+      record {
+        held = λ r mode. elim (cases_eq r at) [
+          | inl same ↦ ap (λ x. held_of (tally_in (get r2 x)) mode) same ∙ ap (λ slot. held_of (tally_in slot) mode) updates.changed ∙ no_count mode ∙ sym (ap (shares q' (held_weight mode) None) same ∙ kept (held_weight mode) at ∙ no_share (held_weight mode))
+          | inr differs ↦
+              ap (λ t. held_of t mode) (ap tally_in (updates.others r differs) ∙ relinked_same with_order_links tally_in (λ x pair. refl) q.resources r1 relinks r) ∙ tallied.held r mode
+              ∙ sym (kept (held_weight mode) r)
+        ];
+        wanted = λ r mode. elim (cases_eq r at) [
+          | inl same ↦ ap (λ x. wanted_of (tally_in (get r2 x)) mode) same ∙ ap (λ slot. wanted_of (tally_in slot) mode) updates.changed ∙ no_count mode ∙ sym (ap (shares q' (wanted_weight mode) None) same ∙ kept (wanted_weight mode) at ∙ no_share (wanted_weight mode))
+          | inr differs ↦
+              ap (λ t. wanted_of t mode) (ap tally_in (updates.others r differs) ∙ relinked_same with_order_links tally_in (λ x pair. refl) q.resources r1 relinks r) ∙ tallied.wanted r mode
+              ∙ sym (kept (wanted_weight mode) r)
+        ];
+      }
+
+pub map-nil : {A B : Type 0} (f : A → B) (xs : List A) → map f xs ≡ [] → xs ≡ []
+map-nil f [] none = refl
+map-nil f (x ∷ xs) none = cc

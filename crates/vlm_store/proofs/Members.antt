@@ -1,0 +1,245 @@
+-- What a caller sees of the processes and their locks, and how it changes as the tables do.
+use Rattle.std.proofs.Common.{◌≡◌, ◌≢◌, ℕ, List, [], ◌∷◌, ◌++◌, map, filter, true, false, not, cond, Option, None, Some, IsSome, refl, sym, ap, ◌∙◌, subst, inl, inr, eq-eqb, ne_eqb}
+use Rattle.std.specs.Prelude.{◌==◌, if◌then◌else◌}
+use Rattle.std.proofs.lemmas.Bool.{cases_eq}
+use Rattle.std.proofs.lemmas.Option.{same_Some}
+use Rattle.vlm_links.specs.Lists.{IsApart, IsIn, first_key, key_after, without}
+use Rattle.vlm_links.proofs.KeyLists.{without_head, without_past}
+use Rattle.vlm_words.specs.State.{Process}
+use Rattle.vlm_store.specs.Records.{AreProcessesApart, IsOwnAmong, IsProcessAmong, OwnLock, StoredProcess, changed_process, first_own_at, new_own, on_process, own_at_after, process_at, process_with_lock, process_without_lock, with_sublock, without_process, without_sublock}
+use Rattle.vlm_store.specs.Holdings.{Holding, own_of, process_of, processes_of}
+
+-- ---- what is seen
+
+-- a process that is in the order is found
+process_found : (h : Holding) (at : ℕ) (ps : List ℕ) → IsIn at ps → process_at at (map (process_of h) ps) ≡ Some (process_of h at)
+process_found h at [] found = absurd found
+process_found h at (p ∷ ps) found =
+    elim (cases_eq p at) [
+      | inl same ↦ rw (eq-eqb p at same) (ap (λ x. Some (process_of h x)) same)
+      | inr differs ↦ rw (ne_eqb p at differs) (process_found h at ps (elim found [ inl here ↦ absurd (differs here) | inr there ↦ there ]))
+    ]
+
+process_there : (h : Holding) (at : ℕ) (ps : List ℕ) → IsSome (process_at at (map (process_of h) ps)) → IsIn at ps
+process_there h at [] found = cc
+process_there h at (p ∷ ps) found =
+    elim (cases_eq p at) [
+      | inl same ↦ inl same
+      | inr differs ↦ inr (process_there h at ps (rw (ne_eqb p at differs) at found))
+    ]
+
+pub process_at-found : (h : Holding) (at : ℕ) → IsIn at h.order → process_at at (processes_of h) ≡ Some (process_of h at)
+unfolding processes_of
+process_at-found h at found = process_found h at h.order found
+
+pub HasProcess-order : (h : Holding) (at : ℕ) → IsSome (process_at at (processes_of h)) → IsIn at h.order
+unfolding processes_of
+HasProcess-order h at found = process_there h at h.order found
+
+-- the processes that a caller sees
+process_among : (h : Holding) (ps : List ℕ) (p : StoredProcess) → IsProcessAmong p (map (process_of h) ps) → IsIn p.at ps × (process_of h p.at ≡ p)
+process_among h [] p found = absurd found
+process_among h (x ∷ ps) p found =
+    elim found [
+      | inl here ↦ (inl (ap (λ (y : StoredProcess). y.at) here), ap (process_of h) (sym (ap (λ (y : StoredProcess). y.at) here)) ∙ here)
+      | inr there ↦ let more = process_among h ps p there in (inr more.0, more.1)
+    ]
+
+among_process : (h : Holding) (ps : List ℕ) (at : ℕ) → IsIn at ps → IsProcessAmong (process_of h at) (map (process_of h) ps)
+among_process h [] at found = absurd found
+among_process h (x ∷ ps) at found = elim found [ inl here ↦ inl (ap (process_of h) here) | inr there ↦ inr (among_process h ps at there) ]
+
+pub seen_process : (h : Holding) (p : StoredProcess) → IsProcessAmong p (processes_of h) → IsIn p.at h.order × (process_of h p.at ≡ p)
+unfolding processes_of
+seen_process h p found = process_among h h.order p found
+
+pub process_seen : (h : Holding) (at : ℕ) → IsIn at h.order → IsProcessAmong (process_of h at) (processes_of h)
+unfolding processes_of
+process_seen h at found = among_process h h.order at found
+
+-- the locks of a process that a caller sees
+pub own_among : (h : Holding) (ks : List ℕ) (own : OwnLock) → IsOwnAmong own (map (own_of h) ks) → IsIn own.at ks × (h.below own.at ≡ own.sublocks)
+own_among h [] own found = absurd found
+own_among h (k ∷ ks) own found =
+    elim found [
+      | inl here ↦ (inl (ap (λ (y : OwnLock). y.at) here), ap h.below (sym (ap (λ (y : OwnLock). y.at) here)) ∙ ap (λ (y : OwnLock). y.sublocks) here)
+      | inr there ↦ let more = own_among h ks own there in (inr more.0, more.1)
+    ]
+
+pub among_own : (h : Holding) (ks : List ℕ) (at : ℕ) → IsIn at ks → IsOwnAmong (own_of h at) (map (own_of h) ks)
+among_own h [] at found = absurd found
+among_own h (k ∷ ks) at found = elim found [ inl here ↦ inl (ap (own_of h) here) | inr there ↦ inr (among_own h ks at there) ]
+
+-- keys and identifications are apart
+processes_apart : (h : Holding) (ps : List ℕ) → IsApart ps → ((a b : ℕ) → IsIn a ps → IsIn b ps → (h.plain a).pid ≡ (h.plain b).pid → a ≡ b) → AreProcessesApart (map (process_of h) ps)
+processes_apart h [] apart pids = tt
+processes_apart h (x ∷ ps) apart pids = (
+  λ other found.
+      let seen = process_among h ps other found in
+      let absent : ¬ (other.at ≡ x) = λ same. apart.0 (subst (λ y. IsIn y ps) same seen.0) in
+      (absent, λ same. absent (pids other.at x (inr seen.0) (inl refl) (ap (λ (y : StoredProcess). y.process.pid) seen.1 ∙ same))),
+  processes_apart h ps apart.1 (λ a b here there. pids a b (inr here) (inr there)),
+)
+
+pub AreProcessesApart-processes_of : (h : Holding) → IsApart h.order → ((a b : ℕ) → IsIn a h.order → IsIn b h.order → (h.plain a).pid ≡ (h.plain b).pid → a ≡ b) → AreProcessesApart (processes_of h)
+unfolding processes_of
+AreProcessesApart-processes_of h apart pids = processes_apart h h.order apart pids
+
+-- the first lock of a process, and the one after another
+pub first_own-keys : (h : Holding) (ks : List ℕ) → first_own_at (map (own_of h) ks) ≡ first_key ks
+first_own-keys h [] = refl
+first_own-keys h (k ∷ ks) = refl
+
+pub own_after-keys : (h : Holding) (at : ℕ) (ks : List ℕ) → own_at_after at (map (own_of h) ks) ≡ key_after at ks
+own_after-keys h at [] = refl
+own_after-keys h at (k ∷ ks) =
+    elim (k == at) as (λ b. cond b (first_own_at (map (own_of h) ks)) (own_at_after at (map (own_of h) ks)) ≡ cond b (first_key ks) (key_after at ks)) [
+      | true ↦ first_own-keys h ks
+      | false ↦ own_after-keys h at ks
+    ]
+
+-- ---- how it changes
+
+own_map : (old new : Holding) → ((k : ℕ) → new.below k ≡ old.below k) → (ks : List ℕ) → map (own_of new) ks ≡ map (own_of old) ks
+own_map old new below [] = refl
+own_map old new below (k ∷ ks) = ap (λ b. record { at = k; sublocks = b } ∷ map (own_of new) ks) (below k) ∙ ap (λ rest. own_of old k ∷ rest) (own_map old new below ks)
+
+module _ (old new : Holding) (below : (k : ℕ) → new.below k ≡ old.below k) where
+  process_same : (p : ℕ) → new.plain p ≡ old.plain p → new.own p ≡ old.own p → process_of new p ≡ process_of old p
+  process_same p plain own =
+      ap (λ x. record { at = p; process = x; own = map (own_of new) (new.own p) }) plain
+      ∙ ap (λ x. record { at = p; process = old.plain p; own = x }) (ap (map (own_of new)) own ∙ own_map old new below (old.own p))
+
+  -- all is the same
+  pub processes_same : ((p : ℕ) → new.plain p ≡ old.plain p) → ((p : ℕ) → new.own p ≡ old.own p) → new.order ≡ old.order → processes_of new ≡ processes_of old
+  unfolding processes_of
+  processes_same plain own order = ap (map (process_of new)) order ∙ each old.order
+    where
+      each : (ps : List ℕ) → map (process_of new) ps ≡ map (process_of old) ps
+      each [] = refl
+      each (p ∷ ps) = ap (λ x. x ∷ map (process_of new) ps) (process_same p (plain p) (own p)) ∙ ap (λ rest. process_of old p ∷ rest) (each ps)
+
+  -- a process is made
+  pub process_made : (at : ℕ) (made : StoredProcess) → ((p : ℕ) → p ≢ at → new.plain p ≡ old.plain p) → ((p : ℕ) → p ≢ at → new.own p ≡ old.own p) → ¬ IsIn at old.order
+      → new.order ≡ old.order ++ at ∷ [] → process_of new at ≡ made → processes_of new ≡ processes_of old ++ made ∷ []
+  unfolding processes_of
+  process_made at made plain own absent order is = ap (map (process_of new)) order ∙ each old.order absent
+    where
+      each : (ps : List ℕ) → ¬ IsIn at ps → map (process_of new) (ps ++ at ∷ []) ≡ map (process_of old) ps ++ made ∷ []
+      each [] absent = ap (λ x. x ∷ []) is
+      each (p ∷ ps) absent =
+          let differs : p ≢ at = λ same. absent (inl same) in
+          ap (λ x. x ∷ map (process_of new) (ps ++ at ∷ [])) (process_same p (plain p differs) (own p differs)) ∙ ap (λ rest. process_of old p ∷ rest) (each ps (λ there. absent (inr there)))
+
+  -- a process is removed
+  pub process_removed : (at : ℕ) → ((p : ℕ) → p ≢ at → new.plain p ≡ old.plain p) → ((p : ℕ) → p ≢ at → new.own p ≡ old.own p) → new.order ≡ without at old.order
+      → processes_of new ≡ without_process at (processes_of old)
+  unfolding processes_of
+  process_removed at plain own order = ap (map (process_of new)) order ∙ each old.order
+    where
+      each : (ps : List ℕ) → map (process_of new) (without at ps) ≡ without_process at (map (process_of old) ps)
+      each [] = refl
+      each (p ∷ ps) =
+          elim (cases_eq p at) [
+            | inl same ↦ ap (map (process_of new)) (without_head at p ps same) ∙ each ps ∙ rw (eq-eqb p at same) refl
+            | inr differs ↦
+                ap (map (process_of new)) (without_past at p ps differs)
+                ∙ rw (ne_eqb p at differs)
+                (ap (λ x. x ∷ map (process_of new) (without at ps)) (process_same p (plain p differs) (own p differs)) ∙ ap (λ rest. process_of old p ∷ rest) (each ps))
+          ]
+
+  -- what a process tells is written
+  pub process_written : (at : ℕ) (change : Process → Process) → new.plain at ≡ change (old.plain at) → ((p : ℕ) → p ≢ at → new.plain p ≡ old.plain p) → ((p : ℕ) → new.own p ≡ old.own p)
+      → new.order ≡ old.order → processes_of new ≡ on_process at change (processes_of old)
+  unfolding processes_of
+  process_written at change here others own order = ap (map (process_of new)) order ∙ each old.order
+    where
+      written : (p : ℕ) → p ≡ at → process_of new p ≡ changed_process change (process_of old p)
+      written p same =
+          ap (λ x. record { at = p; process = x; own = map (own_of new) (new.own p) }) (subst (λ x. new.plain x ≡ change (old.plain x)) (sym same) here)
+          ∙ ap (λ x. record { at = p; process = change (old.plain p); own = x }) (ap (map (own_of new)) (own p) ∙ own_map old new below (old.own p))
+
+      each : (ps : List ℕ) → map (process_of new) ps ≡ on_process at change (map (process_of old) ps)
+      each [] = refl
+      each (p ∷ ps) =
+          elim (cases_eq p at) [
+            | inl same ↦
+                rw (eq-eqb p at same) (ap (λ x. x ∷ map (process_of new) ps) (written p same) ∙ ap (λ rest. changed_process change (process_of old p) ∷ rest) (each ps))
+            | inr differs ↦
+                rw (ne_eqb p at differs) (ap (λ x. x ∷ map (process_of new) ps) (process_same p (others p differs) (own p)) ∙ ap (λ rest. process_of old p ∷ rest) (each ps))
+          ]
+
+map_append_one : (h : Holding) (ks : List ℕ) (at : ℕ) → map (own_of h) (ks ++ at ∷ []) ≡ map (own_of h) ks ++ own_of h at ∷ []
+map_append_one h [] at = refl
+map_append_one h (k ∷ ks) at = ap (λ rest. own_of h k ∷ rest) (map_append_one h ks at)
+
+append_nothing : (xs : List OwnLock) → xs ++ [] ≡ xs
+append_nothing [] = refl
+append_nothing (x ∷ xs) = ap (λ rest. x ∷ rest) (append_nothing xs)
+
+-- a lock is made
+module _ (old new : Holding) (owner : ℕ) (parent : Option ℕ) (at : ℕ) (plain : (p : ℕ) → new.plain p ≡ old.plain p) (order : new.order ≡ old.order)
+    (own_here : new.own owner ≡ old.own owner ++ at ∷ []) (own_others : (p : ℕ) → p ≢ owner → new.own p ≡ old.own p) (childless : new.below at ≡ [])
+    (below_here : (k : ℕ) → parent ≡ Some k → new.below k ≡ old.below k ++ at ∷ []) (below_others : (k : ℕ) → parent ≢ Some k → new.below k ≡ old.below k) where
+  sublock_of : (k : ℕ) (up : Option ℕ) → parent ≡ up → own_of new k ≡ with_sublock up at (own_of old k)
+  sublock_of k None is = ap (λ b. record { at = k; sublocks = b }) (below_others k (λ e. cc))
+  sublock_of k (Some up) is =
+      elim (cases_eq k up) [
+        | inl same ↦ rw (eq-eqb k up same) (ap (λ b. record { at = k; sublocks = b }) (below_here k (is ∙ ap Some (sym same))))
+        | inr differs ↦ rw (ne_eqb k up differs) (ap (λ b. record { at = k; sublocks = b }) (below_others k (λ e. differs (sym (same_Some up k (sym is ∙ e))))))
+      ]
+
+  each_own : (ks : List ℕ) → map (own_of new) ks ≡ map (with_sublock parent at) (map (own_of old) ks)
+  each_own [] = refl
+  each_own (k ∷ ks) = ap (λ x. x ∷ map (own_of new) ks) (sublock_of k parent refl) ∙ ap (λ rest. with_sublock parent at (own_of old k) ∷ rest) (each_own ks)
+
+  with_owner : (p : ℕ) → map (own_of new) (new.own p) ≡ map (with_sublock parent at) (map (own_of old) (old.own p)) ++ (if p == owner then new_own at else [])
+  with_owner p =
+      elim (cases_eq p owner) [
+        | inl same ↦
+            rw (eq-eqb p owner same)
+            (ap (λ x. map (own_of new) (new.own x)) same ∙ ap (map (own_of new)) own_here ∙ map_append_one new (old.own owner) at
+            ∙ ap (λ b. map (own_of new) (old.own owner) ++ record { at = at; sublocks = b } ∷ []) childless
+            ∙ ap (λ xs. xs ++ new_own at) (each_own (old.own owner))
+            ∙ ap (λ x. map (with_sublock parent at) (map (own_of old) (old.own x)) ++ new_own at) (sym same))
+        | inr differs ↦ rw (ne_eqb p owner differs) (ap (map (own_of new)) (own_others p differs) ∙ each_own (old.own p) ∙ sym (append_nothing _))
+      ]
+
+  pub lock_joined : processes_of new ≡ map (process_with_lock owner parent at) (processes_of old)
+  unfolding processes_of
+  lock_joined = ap (map (process_of new)) order ∙ each old.order
+    where
+      one : (p : ℕ) → process_of new p ≡ process_with_lock owner parent at (process_of old p)
+      one p =
+          ap (λ x. record { at = p; process = x; own = map (own_of new) (new.own p) }) (plain p) ∙ ap (λ x. record { at = p; process = old.plain p; own = x }) (with_owner p)
+
+      each : (ps : List ℕ) → map (process_of new) ps ≡ map (process_with_lock owner parent at) (map (process_of old) ps)
+      each [] = refl
+      each (p ∷ ps) = ap (λ x. x ∷ map (process_of new) ps) (one p) ∙ ap (λ rest. process_with_lock owner parent at (process_of old p) ∷ rest) (each ps)
+
+-- a lock is gone
+module _ (old new : Holding) (at : ℕ) (plain : (p : ℕ) → new.plain p ≡ old.plain p) (order : new.order ≡ old.order) (own : (p : ℕ) → new.own p ≡ without at (old.own p))
+    (below : (k : ℕ) → k ≢ at → new.below k ≡ without at (old.below k)) where
+  each_left : (ks : List ℕ) → map (own_of new) (without at ks) ≡ map (without_sublock at) (filter (λ (o : OwnLock). not (o.at == at)) (map (own_of old) ks))
+  each_left [] = refl
+  each_left (k ∷ ks) =
+      elim (cases_eq k at) [
+        | inl same ↦ ap (map (own_of new)) (without_head at k ks same) ∙ each_left ks ∙ rw (eq-eqb k at same) refl
+        | inr differs ↦
+            ap (map (own_of new)) (without_past at k ks differs)
+            ∙ rw (ne_eqb k at differs)
+            (ap (λ b. record { at = k; sublocks = b } ∷ map (own_of new) (without at ks)) (below k differs) ∙ ap (λ rest. without_sublock at (own_of old k) ∷ rest) (each_left ks))
+      ]
+
+  pub lock_left : processes_of new ≡ map (process_without_lock at) (processes_of old)
+  unfolding processes_of
+  lock_left = ap (map (process_of new)) order ∙ each old.order
+    where
+      one : (p : ℕ) → process_of new p ≡ process_without_lock at (process_of old p)
+      one p =
+          ap (λ x. record { at = p; process = x; own = map (own_of new) (new.own p) }) (plain p)
+          ∙ ap (λ x. record { at = p; process = old.plain p; own = x }) (ap (map (own_of new)) (own p) ∙ each_left (old.own p))
+
+      each : (ps : List ℕ) → map (process_of new) ps ≡ map (process_without_lock at) (map (process_of old) ps)
+      each [] = refl
+      each (p ∷ ps) = ap (λ x. x ∷ map (process_of new) ps) (one p) ∙ ap (λ rest. process_without_lock at (process_of old p) ∷ rest) (each ps)

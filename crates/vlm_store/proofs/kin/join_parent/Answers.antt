@@ -1,0 +1,27 @@
+use Rattle.std.proofs.Common.{◌≡◌, ◌++◌, ◌∷◌, [], ℕ, Some, ap, sym, subst, ◌∙◌}
+use Rattle.std.proofs.lemmas.Option.{same_Some}
+use Rattle.slab.specs.Slab.{Slab}
+use Rattle.vlm_store.specs.declared.locks.Lock.{Lock}
+use Rattle.vlm_store.specs.Holdings.{below_keys, parent_in}
+use Rattle.vlm_store.proofs.OwnLocks.{below_again, parent_joined, parent_joined_here, parent_joined_others}
+use Rattle.vlm_store.proofs.kin.join_parent.Goals as goal
+
+pub returns-clause-below : goal.returns-clause-below
+returns-clause-below c =
+    rw c.slot-2.ensures
+    (parent_joined c.args.locks.now c.push_back.new.nodes c.args.at c.in-Some.parent c.index-2.result.now c.index_mut.result.now c.push_back.new.self (rw c.slot.ensures at c.index-2.ensures)
+    (rw c.slot-2.ensures at c.index_mut.ensures.value) c.push_back.ensures.relinks c.push_back.ensures.linked c.requires.below (ap parent_in c.index.ensures ∙ c.in-Some.is) c.push_back.ensures.keys c.push_back.ensures.others)
+
+pub returns-clause-here : goal.returns-clause-here
+returns-clause-here c parent is =
+    let same : c.in-Some.parent ≡ parent = same_Some c.in-Some.parent parent (sym (ap parent_in c.index.ensures ∙ c.in-Some.is) ∙ is) in
+    rw (c.slot-2.ensures, ← same)
+    (parent_joined_here c.args.locks.now c.push_back.new.nodes c.args.at c.in-Some.parent c.index-2.result.now c.index_mut.result.now c.push_back.new.self (rw c.slot.ensures at c.index-2.ensures)
+    (rw c.slot-2.ensures at c.index_mut.ensures.value) c.push_back.ensures.relinks c.push_back.ensures.linked c.requires.below (ap parent_in c.index.ensures ∙ c.in-Some.is) c.push_back.ensures.keys c.push_back.ensures.others)
+
+pub returns-clause-elsewhere : goal.returns-clause-elsewhere
+returns-clause-elsewhere c other differs =
+    rw c.slot-2.ensures
+    (parent_joined_others c.args.locks.now c.push_back.new.nodes c.args.at c.in-Some.parent c.index-2.result.now c.index_mut.result.now c.push_back.new.self (rw c.slot.ensures at c.index-2.ensures)
+    (rw c.slot-2.ensures at c.index_mut.ensures.value) c.push_back.ensures.relinks c.push_back.ensures.linked c.requires.below (ap parent_in c.index.ensures ∙ c.in-Some.is) c.push_back.ensures.keys c.push_back.ensures.others other
+    (λ e. differs (ap parent_in c.index.ensures ∙ c.in-Some.is ∙ ap Some (sym e))))

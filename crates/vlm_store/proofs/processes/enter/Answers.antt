@@ -1,0 +1,24 @@
+use Rattle.std.proofs.Common.{◌∙◌, ◌++◌, ◌∷◌, [], ap, subst}
+use Rattle.vlm_links.specs.Lists.{IsIn}
+use Rattle.vlm_links.proofs.Keeping.{updated-keys, updated-linked, vacant_unlisted}
+use Rattle.vlm_store.specs.Holdings.{process_links}
+use Rattle.vlm_store.proofs.processes.enter.Goals as goal
+
+pub push_back-requires-clause-linked : goal.push_back-requires-clause-linked
+push_back-requires-clause-linked c =
+    updated-linked process_links c.args.processes.now c.insert_reserved-at.new.self c.insert_reserved-at.result _ c.insert_reserved-at.ensures.updates c.args.order.now c.requires.linked
+    (vacant_unlisted process_links c.args.processes.now c.args.order.now c.requires.linked c.insert_reserved-at.result c.insert_reserved-at.ensures.was_vacant)
+
+pub push_back-requires-clause-unlisted : goal.push_back-requires-clause-unlisted
+push_back-requires-clause-unlisted c found =
+    let unlisted = vacant_unlisted process_links c.args.processes.now c.args.order.now c.requires.linked c.insert_reserved-at.result c.insert_reserved-at.ensures.was_vacant in
+    unlisted
+    (subst (IsIn c.insert_reserved-at.result)
+    (updated-keys process_links c.args.processes.now c.insert_reserved-at.new.self c.insert_reserved-at.result _ c.insert_reserved-at.ensures.updates c.args.order.now c.requires.linked unlisted) found)
+
+pub returns-clause-order : goal.returns-clause-order
+returns-clause-order c =
+    c.push_back.ensures.keys
+    ∙ ap (λ ks. ks ++ c.insert_reserved-at.result ∷ [])
+    (updated-keys process_links c.args.processes.now c.insert_reserved-at.new.self c.insert_reserved-at.result _ c.insert_reserved-at.ensures.updates c.args.order.now c.requires.linked
+    (vacant_unlisted process_links c.args.processes.now c.args.order.now c.requires.linked c.insert_reserved-at.result c.insert_reserved-at.ensures.was_vacant))

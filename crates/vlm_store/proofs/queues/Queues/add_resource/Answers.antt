@@ -1,0 +1,29 @@
+use Rattle.vlm_links.proofs.Keeping.{updated-linked, vacant_unlisted}
+use Rattle.vlm_store.specs.Shown.{order_links}
+use Rattle.vlm_store.proofs.Making.{added_lists, added_tallies, resources_keys, resources_placed, resources_tallied}
+use Rattle.vlm_store.proofs.queues.Queues.add_resource.Goals as goal
+
+pub push_back-requires-clause-linked : goal.push_back-requires-clause-linked
+push_back-requires-clause-linked c =
+    updated-linked order_links c.args.self.now.resources c.insert_reserved-at.new.self c.insert_reserved-at.result _ c.insert_reserved-at.ensures.updates c.args.order.now c.requires.linked
+    (vacant_unlisted order_links c.args.self.now.resources c.args.order.now c.requires.linked c.insert_reserved-at.result c.insert_reserved-at.ensures.was_vacant)
+
+pub returns-clause-placed : goal.returns-clause-placed
+returns-clause-placed c =
+    resources_placed c.args.self.now c.push_back.new.nodes c.requires.placed
+    (added_lists c.args.self.now c.insert_reserved-at.new.self c.push_back.new.nodes c.insert_reserved-at.result _ c.insert_reserved-at.ensures.updates c.insert_reserved-at.ensures.was_vacant
+    c.push_back.ensures.relinks c.new.ensures c.new-2.ensures c.new-3.ensures)
+
+pub returns-clause-tallied : goal.returns-clause-tallied
+returns-clause-tallied c =
+    resources_tallied c.args.self.now c.push_back.new.nodes c.requires.placed
+    (added_lists c.args.self.now c.insert_reserved-at.new.self c.push_back.new.nodes c.insert_reserved-at.result _ c.insert_reserved-at.ensures.updates c.insert_reserved-at.ensures.was_vacant
+    c.push_back.ensures.relinks c.new.ensures c.new-2.ensures c.new-3.ensures)
+    (added_tallies c.args.self.now c.insert_reserved-at.new.self c.push_back.new.nodes c.insert_reserved-at.result _ c.insert_reserved-at.ensures.updates c.insert_reserved-at.ensures.was_vacant
+    c.push_back.ensures.relinks c.new-4.ensures) c.requires.tallied
+
+pub returns-clause-keys : goal.returns-clause-keys
+returns-clause-keys c =
+    resources_keys c.args.self.now c.push_back.new.nodes c.requires.placed
+    (added_lists c.args.self.now c.insert_reserved-at.new.self c.push_back.new.nodes c.insert_reserved-at.result _ c.insert_reserved-at.ensures.updates c.insert_reserved-at.ensures.was_vacant
+    c.push_back.ensures.relinks c.new.ensures c.new-2.ensures c.new-3.ensures)

@@ -1,0 +1,17 @@
+use Rattle.std.proofs.Common.{refl}
+use Rattle.slab.specs.Slab.{with_value}
+use Rattle.vlm_store.proofs.Making.{block_list, resources_placed, resources_tallied, written_lists, written_tallies}
+use Rattle.vlm_store.proofs.queues.Queues.set_value_block.Goals as goal
+
+pub returns-clause-placed : goal.returns-clause-placed
+returns-clause-placed c =
+    let q = c.args.self.now in
+    resources_placed q (with_value q.resources c.args.res (record c.index_mut.result.now { value_block = c.args.value_block })) c.requires.placed
+    (written_lists q c.args.res c.index_mut.result.now (record c.index_mut.result.now { value_block = c.args.value_block }) c.requires.there c.index_mut.ensures.value (block_list c.index_mut.result.now c.args.value_block))
+
+pub returns-clause-tallied : goal.returns-clause-tallied
+returns-clause-tallied c =
+    let q = c.args.self.now in
+    resources_tallied q (with_value q.resources c.args.res (record c.index_mut.result.now { value_block = c.args.value_block })) c.requires.placed
+    (written_lists q c.args.res c.index_mut.result.now (record c.index_mut.result.now { value_block = c.args.value_block }) c.requires.there c.index_mut.ensures.value (block_list c.index_mut.result.now c.args.value_block))
+    (written_tallies q c.args.res c.index_mut.result.now (record c.index_mut.result.now { value_block = c.args.value_block }) c.requires.there c.index_mut.ensures.value refl) c.requires.tallied

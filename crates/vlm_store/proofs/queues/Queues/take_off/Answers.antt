@@ -1,0 +1,29 @@
+use Rattle.std.proofs.Common.{ap, sym}
+use Rattle.std.proofs.lemmas.Option.{none-some}
+use Rattle.vlm_store.specs.Shown.{noted_in}
+use Rattle.vlm_store.proofs.Places.{stands_there, taken-keys, taken-placed}
+use Rattle.vlm_store.proofs.queues.Queues.take_off.Goals as goal
+
+pub unlink-requires-clause-linked : goal.unlink-requires-clause-linked
+unlink-requires-clause-linked c = rw c.list-list.ensures (c.requires.placed.linked c.index.result.now.place)
+
+pub unlink-requires-clause-listed : goal.unlink-requires-clause-listed
+unlink-requires-clause-listed c =
+    rw c.list-list.ensures (c.requires.placed.stands c.index.result.now.place c.args.at (λ same. none-some c.args.at (sym same)) (ap noted_in c.index.ensures))
+
+pub set_list-requires : goal.set_list-requires
+set_list-requires c =
+    stands_there c.args.self.now c.index.result.now.place c.args.at
+    (c.requires.placed.stands c.index.result.now.place c.args.at (λ same. none-some c.args.at (sym same)) (ap noted_in c.index.ensures))
+
+pub returns-clause-placed : goal.returns-clause-placed
+returns-clause-placed c =
+    taken-placed c.args.self.now c.set_list.new.self c.unlink.new.nodes c.unlink.new.self c.args.at c.index.result.now.place c.requires.placed (ap noted_in c.index.ensures)
+    c.unlink.ensures.linked (rw c.list-list.ensures at c.unlink.ensures.keys) (rw c.list-list.ensures at c.unlink.ensures.others) c.unlink.ensures.relinks
+    c.set_list.ensures.here c.set_list.ensures.elsewhere c.set_list.ensures.locks
+
+pub returns-clause-keys : goal.returns-clause-keys
+returns-clause-keys c =
+    taken-keys c.args.self.now c.set_list.new.self c.unlink.new.nodes c.unlink.new.self c.args.at c.index.result.now.place c.requires.placed (ap noted_in c.index.ensures)
+    c.unlink.ensures.linked (rw c.list-list.ensures at c.unlink.ensures.keys) (rw c.list-list.ensures at c.unlink.ensures.others) c.unlink.ensures.relinks
+    c.set_list.ensures.here c.set_list.ensures.elsewhere c.set_list.ensures.locks

@@ -1,0 +1,43 @@
+use Rattle.std.proofs.Common.{◌≡◌, ℕ, None, refl, ap, nat_eq}
+use Rattle.slab.specs.Slab.{get}
+use Rattle.vlm_store.specs.Shown.{lkid_of}
+use Rattle.std.specs.Map.{lookup}
+use Rattle.std.specs.Option.{option_map}
+use Rattle.indexmap.specs.IndexMap.{get as found}
+use Rattle.vlm_store.specs.declared.queues.Queues.{Queues}
+use Rattle.vlm_store.specs.declared.resources.Resource.{Resource}
+use Rattle.vlm_words.specs.Keys.{is_same_key}
+use Rattle.vlm_store.specs.Holdings.{holding, pid_at, pid_of, processes_of}
+use Rattle.vlm_store.proofs.Declaring.{empty_below, empty_named, empty_owned, empty_processes, empty_processes_linked, empty_processes_ordered}
+use Rattle.vlm_store.specs.Store.{key_at, lkid_at}
+use Rattle.vlm_store.proofs.Kept.{Indexes-empty, empty_linked, empty_ordered, empty_placed, empty_records, empty_tallied}
+use Rattle.vlm_store.proofs.store.Store.new.Goals as goal
+
+pub invariant_of-result : goal.invariant_of-result
+invariant_of-result c =
+    let q : Queues = record { locks = c.new.result; resources = c.new-2.result; loose = c.new-3.result } in
+    let no_locks : (k : ℕ) → get q.locks k ≡ None = λ k. rw c.new.ensures.empty refl in
+    let no_resources : (r : ℕ) → get q.resources r ≡ None = λ r. rw c.new-2.ensures.empty refl in
+    let no_processes : (p : ℕ) → get c.new-5.result p ≡ None = λ p. rw c.new-5.ensures.empty refl in
+    record {
+      placed = empty_placed q no_locks no_resources c.new-3.ensures;
+      tallied = empty_tallied q no_locks no_resources c.new-3.ensures;
+      linked = empty_linked q no_locks no_resources c.new-3.ensures c.new-4.result c.new-4.ensures;
+      ordered = empty_ordered q no_locks no_resources c.new-3.ensures c.new-4.result c.new-4.ensures;
+      locks = Indexes-empty (found nat_eq c.new-7.result) (lkid_at q) (λ k. ap (lookup (nat_eq k)) c.new-7.ensures.empty) (λ at. ap (option_map lkid_of) (no_locks at));
+      resources = Indexes-empty (found is_same_key c.new-8.result) (key_at q) (λ k. ap (lookup (is_same_key k)) c.new-8.ensures.empty) (λ r. ap (option_map (λ (x : Resource). x.key)) (no_resources r));
+      owned = empty_owned c.new-5.result q.locks no_processes no_locks;
+      below = empty_below c.new-5.result q.locks no_processes no_locks;
+      named = empty_named c.new-5.result q.locks no_processes no_locks;
+      processes_linked = empty_processes_linked c.new-5.result q.locks no_processes no_locks c.new-6.result c.new-6.ensures;
+      processes_ordered = empty_processes_ordered c.new-5.result q.locks no_processes no_locks c.new-6.result c.new-6.ensures;
+      processes = Indexes-empty (found nat_eq c.new-9.result) (pid_at c.new-5.result) (λ k. ap (lookup (nat_eq k)) c.new-9.ensures.empty) (λ p. ap (option_map pid_of) (no_processes p));
+    }
+
+pub returns : goal.returns
+returns c =
+    let q : Queues = record { locks = c.new.result; resources = c.new-2.result; loose = c.new-3.result } in
+    let no_locks : (k : ℕ) → get q.locks k ≡ None = λ k. rw c.new.ensures.empty refl in
+    let no_processes : (p : ℕ) → get c.new-5.result p ≡ None = λ p. rw c.new-5.ensures.empty refl in
+    empty_records q no_locks (λ r. rw c.new-2.ensures.empty refl) c.new-3.ensures c.new-4.result c.new-4.ensures (processes_of (holding c.new-5.result q.locks c.new-6.result))
+    (empty_processes c.new-5.result q.locks no_processes no_locks c.new-6.result c.new-6.ensures)

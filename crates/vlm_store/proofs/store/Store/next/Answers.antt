@@ -1,0 +1,52 @@
+use Rattle.std.proofs.Common.{◌≡◌, ◌∙◌, ap, sym, subst}
+use Rattle.std.proofs.lemmas.Option.{none-some, same_Some}
+use Rattle.vlm_store.specs.Records.{IsAmong, Records, StoredLock, locks_at}
+use Rattle.vlm_store.specs.Shown.{keys_at, noted_in, rows}
+use Rattle.vlm_store.specs.Store.{tables}
+use Rattle.vlm_store.proofs.Kept.{stored_there}
+use Rattle.vlm_store.proofs.Layouts.{key_after-in, keyed-after, among-seen, locks_at-among, locks_at-seen}
+use Rattle.vlm_store.specs.Kept.{processes_shown}
+use Rattle.vlm_store.proofs.store.Store.next.Goals as goal
+
+pub index-requires : goal.index-requires
+index-requires c =
+    let s = c.self.inside in
+    let stored = rw (← c.self.view_is) at c.requires in
+    rw c.slot.ensures (stored_there s.queues s.order (processes_shown s) c.self.invariant.placed c.args.lock stored.0 stored.1).0
+
+pub next-requires-clause-listed : goal.next-requires-clause-listed
+next-requires-clause-listed c =
+    let s = c.self.inside in
+    let place = c.index.result.now.place in
+    rw (c.list-list.ensures, c.slot-2.ensures)
+    (c.self.invariant.placed.stands place c.args.lock (λ e. none-some c.args.lock (sym e)) (ap noted_in (rw c.slot.ensures at c.index.ensures)))
+
+pub of-requires : goal.of-requires
+of-requires c =
+    let s = c.self.inside in
+    let is = rw (c.list-list.ensures, c.slot-2.ensures) at c.in-Some.ensures in
+    (c.self.invariant.placed.linked c.index.result.now.place).within c.in-Some.at (key_after-in c.args.lock (keys_at s.queues c.index.result.now.place) c.in-Some.at is)
+
+pub returns-in-Some : goal.returns-in-Some
+returns-in-Some c place row among =
+    let s = c.self.inside in
+    let l = tables s.queues s.order (processes_shown s) in
+    let lock : StoredLock = record { at = c.args.lock; row = row } in
+    let there = subst (λ (x : Records). IsAmong lock (locks_at place x)) (sym c.self.view_is) among in
+    let found = (locks_at-among l place lock there).0 in
+    let is : c.index.result.now.place ≡ place =
+    same_Some c.index.result.now.place place (sym (ap noted_in (rw c.slot.ensures at c.index.ensures)) ∙ c.self.invariant.placed.listed place c.args.lock found) in
+    rw (← c.self.view_is, locks_at-seen l place (among-seen l place lock there), c.of.ensures)
+    ((rw (c.list-list.ensures, c.slot-2.ensures, is) at c.in-Some.ensures) ∙ sym (keyed-after (rows s.queues) c.args.lock (keys_at s.queues place)))
+
+pub returns-in-None : goal.returns-in-None
+returns-in-None c place row among =
+    let s = c.self.inside in
+    let l = tables s.queues s.order (processes_shown s) in
+    let lock : StoredLock = record { at = c.args.lock; row = row } in
+    let there = subst (λ (x : Records). IsAmong lock (locks_at place x)) (sym c.self.view_is) among in
+    let found = (locks_at-among l place lock there).0 in
+    let is : c.index.result.now.place ≡ place =
+    same_Some c.index.result.now.place place (sym (ap noted_in (rw c.slot.ensures at c.index.ensures)) ∙ c.self.invariant.placed.listed place c.args.lock found) in
+    rw (← c.self.view_is, locks_at-seen l place (among-seen l place lock there))
+    ((rw (c.list-list.ensures, c.slot-2.ensures, is) at c.in-None.ensures) ∙ sym (keyed-after (rows s.queues) c.args.lock (keys_at s.queues place)))

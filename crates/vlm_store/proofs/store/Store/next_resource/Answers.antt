@@ -1,0 +1,28 @@
+use Rattle.std.proofs.Common.{◌∙◌, sym}
+use Rattle.vlm_links.specs.Lists.{keys_of}
+use Rattle.vlm_store.specs.Shown.{order_links}
+use Rattle.vlm_store.specs.Store.{tables}
+use Rattle.vlm_store.proofs.Layouts.{HasResource-order, key_after-in, resource_after-is}
+use Rattle.vlm_store.specs.Kept.{processes_shown}
+use Rattle.vlm_store.proofs.store.Store.next_resource.Goals as goal
+
+pub next-requires-clause-listed : goal.next-requires-clause-listed
+next-requires-clause-listed c =
+    let s = c.self.inside in
+    rw c.slot.ensures (HasResource-order (tables s.queues s.order (processes_shown s)) c.args.res (rw (← c.self.view_is) at c.requires))
+
+pub of-requires : goal.of-requires
+of-requires c =
+    let s = c.self.inside in
+    let is = rw c.slot.ensures at c.in-Some.ensures in
+    c.self.invariant.linked.within c.in-Some.at (key_after-in c.args.res (keys_of order_links s.queues.resources s.order) c.in-Some.at is)
+
+pub returns-in-Some : goal.returns-in-Some
+returns-in-Some c =
+    let s = c.self.inside in
+    rw (← c.self.view_is, c.of.ensures) ((rw c.slot.ensures at c.in-Some.ensures) ∙ sym (resource_after-is (tables s.queues s.order (processes_shown s)) c.args.res))
+
+pub returns-in-None : goal.returns-in-None
+returns-in-None c =
+    let s = c.self.inside in
+    rw (← c.self.view_is) ((rw c.slot.ensures at c.in-None.ensures) ∙ sym (resource_after-is (tables s.queues s.order (processes_shown s)) c.args.res))

@@ -1,0 +1,99 @@
+use Rattle.std.proofs.Common.{◌≡◌, ◌∙◌, [], map, None, ap, sym, refl, nat_eq}
+use Rattle.std.specs.Cmp.{unsigned_Decides}
+use Rattle.std.specs.Option.{option_map}
+use Rattle.indexmap.specs.IndexMap.{get}
+use Rattle.slab.specs.Slab.{get as slot_of}
+use Rattle.vlm_links.specs.Lists.{without}
+use Rattle.vlm_words.specs.Keys.{is_same_key}
+use Rattle.vlm_store.specs.Holdings.{below_keys, holding, pid_at, processes_of}
+use Rattle.vlm_store.specs.Kept.{processes_shown}
+use Rattle.vlm_store.specs.Records.{leaving, process_without_lock, with_lists}
+use Rattle.vlm_store.specs.Shown.{but_kin, keys_at, lkid_of, rows}
+use Rattle.vlm_store.specs.Store.{key_at, lkid_at, records_of, tables}
+use Rattle.vlm_store.proofs.Indexing.{Indexes-removed, Indexes-same}
+use Rattle.vlm_store.proofs.Kept.{faces_same, keys_same, order_keys, order_linked, order_whole}
+use Rattle.vlm_store.proofs.Kinship.{below_kin, below_owned, kin_keys, kin_placed, kin_rows, kin_tallied, own_kin, own_pids, own_process_linked, own_process_whole, records_processes}
+use Rattle.vlm_store.proofs.Layouts.{leaving-keyed, lists_changed_beside}
+use Rattle.vlm_store.proofs.Leaving.{left_below, left_kin, left_lkids, left_named, left_owned, left_processes}
+use Rattle.vlm_store.proofs.Living.{childless, lock_there}
+use Rattle.vlm_store.proofs.Places.{same_then}
+use Rattle.vlm_store.proofs.store.Store.remove_lock.Goals as goal
+
+pub index-requires : goal.index-requires
+index-requires c =
+    let stored = rw (← c.self.view_is) at c.requires.stored in
+    rw c.slot.ensures (lock_there c.self.inside c.self.invariant c.args.lock stored.0 stored.1).0
+
+pub leave_process-requires-clause-owned : goal.leave_process-requires-clause-owned
+leave_process-requires-clause-owned c =
+    let s = c.self.inside in
+    below_owned s.processes s.queues.locks c.leave_parent.new.locks c.leave_parent.ensures.rest None c.self.invariant.owned
+
+pub remove-requires-clause-placed : goal.remove-requires-clause-placed
+remove-requires-clause-placed c =
+    let s = c.self.inside in
+    let kept = c.self.invariant in
+    let parent = rw c.slot-2.ensures at c.leave_parent.ensures in
+    let process = rw c.slot-3.ensures at c.leave_process.ensures in
+    kin_placed s.queues c.leave_process.new.locks
+    (same_then but_kin s.queues.locks c.leave_parent.new.locks c.leave_process.new.locks (below_kin s.processes s.queues.locks c.leave_parent.new.locks parent.rest) (own_kin c.leave_parent.new.locks c.leave_process.new.locks process.relinks))
+    kept.placed
+
+pub remove-requires-clause-tallied : goal.remove-requires-clause-tallied
+remove-requires-clause-tallied c =
+    let s = c.self.inside in
+    let kept = c.self.invariant in
+    let parent = rw c.slot-2.ensures at c.leave_parent.ensures in
+    let process = rw c.slot-3.ensures at c.leave_process.ensures in
+    kin_tallied s.queues c.leave_process.new.locks
+    (same_then but_kin s.queues.locks c.leave_parent.new.locks c.leave_process.new.locks (below_kin s.processes s.queues.locks c.leave_parent.new.locks parent.rest) (own_kin c.leave_parent.new.locks c.leave_process.new.locks process.relinks))
+    kept.placed kept.tallied
+
+pub invariant_of-self : goal.invariant_of-self
+invariant_of-self c =
+    let s = c.self.inside in
+    let kept = c.self.invariant in
+    let parent = rw c.slot-2.ensures at c.leave_parent.ensures in
+    let process = rw c.slot-3.ensures at c.leave_process.ensures in
+    let removed = rw c.slot-4.ensures at c.remove.ensures in
+    let q' = c.remove.new.self in
+    let stored = rw (← c.self.view_is) at c.requires.stored in
+    let none : below_keys s.queues.locks c.args.lock ≡ [] = childless s kept c.args.lock stored.0 stored.1 (rw (← c.self.view_is) at c.requires.childless) in
+    record {
+      placed = removed.placed;
+      tallied = removed.tallied;
+      linked = order_linked s.queues.resources q'.resources removed.rest s.order kept.linked;
+      ordered = order_whole s.queues.resources q'.resources removed.rest s.order kept.linked kept.ordered;
+      locks =
+          Indexes-removed nat_eq unsigned_Decides s.lock_index c.swap_remove.new.self c.index.result.now.row.lkid (lkid_at s.queues) (lkid_at q') c.args.lock c.swap_remove.ensures.updates
+          (ap (option_map lkid_of) (rw c.slot.ensures at c.index.ensures)) (ap (option_map lkid_of) removed.gone)
+          (left_lkids s kept c.args.lock none c.leave_parent.new.locks c.leave_process.new.locks q'.locks c.leave_process.new.processes parent.below parent.keys parent.rest process.owned process.keys process.relinks process.rest removed.gone removed.kin) kept.locks;
+      resources = Indexes-same (get is_same_key s.resource_index) (get is_same_key s.resource_index) (key_at s.queues) (key_at q') (λ k. refl) (keys_same s.queues.resources q'.resources removed.rest) kept.resources;
+      owned = left_owned s kept c.args.lock none c.leave_parent.new.locks c.leave_process.new.locks q'.locks c.leave_process.new.processes parent.below parent.keys parent.rest process.owned process.keys process.relinks process.rest removed.gone removed.kin;
+      below = left_below s kept c.args.lock none c.leave_parent.new.locks c.leave_process.new.locks q'.locks c.leave_process.new.processes parent.below parent.keys parent.rest process.owned process.keys process.relinks process.rest removed.gone removed.kin;
+      named = left_named s kept c.args.lock none c.leave_parent.new.locks c.leave_process.new.locks q'.locks c.leave_process.new.processes parent.below parent.keys parent.rest process.owned process.keys process.relinks process.rest removed.gone removed.kin;
+      processes_linked = own_process_linked s.processes c.leave_process.new.processes process.rest s.process_order kept.processes_linked;
+      processes_ordered = own_process_whole s.processes c.leave_process.new.processes process.rest s.process_order kept.processes_linked kept.processes_ordered;
+      processes = Indexes-same (get nat_eq s.process_index) (get nat_eq s.process_index) (pid_at s.processes) (pid_at c.leave_process.new.processes) (λ k. refl) (own_pids s.processes c.leave_process.new.processes process.rest) kept.processes;
+    }
+
+pub returns : goal.returns
+returns c =
+    let s = c.self.inside in
+    let kept = c.self.invariant in
+    let parent = rw c.slot-2.ensures at c.leave_parent.ensures in
+    let process = rw c.slot-3.ensures at c.leave_process.ensures in
+    let removed = rw c.slot-4.ensures at c.remove.ensures in
+    let q' = c.remove.new.self in
+    let stored = rw (← c.self.view_is) at c.requires.stored in
+    let none : below_keys s.queues.locks c.args.lock ≡ [] = childless s kept c.args.lock stored.0 stored.1 (rw (← c.self.view_is) at c.requires.childless) in
+    let q2 = record s.queues { locks = c.leave_process.new.locks } in
+    let kin = left_kin s kept c.args.lock none c.leave_parent.new.locks c.leave_process.new.locks q'.locks c.leave_process.new.processes parent.below parent.keys parent.rest process.owned process.keys process.relinks process.rest removed.gone removed.kin in
+    let old = tables s.queues s.order (processes_shown s) in
+    rw (← c.self.view_is)
+    (lists_changed_beside old (tables q' s.order (processes_of (holding c.leave_process.new.processes q'.locks s.process_order))) (leaving c.args.lock) (faces_same s.queues.resources q'.resources removed.rest)
+    (leaving-keyed (rows s.queues) (rows q') (keys_at s.queues) (keys_at q') c.args.lock (λ k differs. removed.rows k differs ∙ kin_rows s.queues q2.locks kin k)
+    (λ p. removed.keys p ∙ ap (without c.args.lock) (kin_keys s.queues q2.locks kin kept.placed p)))
+    (order_keys s.queues.resources q'.resources removed.rest s.order kept.linked)
+    ∙ ap (λ ps. record (with_lists (leaving c.args.lock) (records_of old)) { processes = ps })
+    (left_processes s kept c.args.lock none c.leave_parent.new.locks c.leave_process.new.locks q'.locks c.leave_process.new.processes parent.below parent.keys parent.rest process.owned process.keys process.relinks process.rest removed.gone removed.kin ∙ ap (map (process_without_lock c.args.lock)) (sym (records_processes old))))

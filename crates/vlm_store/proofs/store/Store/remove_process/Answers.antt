@@ -1,0 +1,70 @@
+use Rattle.std.proofs.Common.{◌≡◌, ◌≢◌, ◌∙◌, ℕ, [], None, Some, ap, sym, refl, subst, nat_eq}
+use Rattle.std.proofs.lemmas.Option.{none-some}
+use Rattle.std.specs.Cmp.{unsigned_Decides}
+use Rattle.std.specs.Option.{option_map}
+use Rattle.slab.specs.Slab.{get}
+use Rattle.vlm_links.specs.Lists.{IsIn}
+use Rattle.vlm_store.specs.declared.locks.Lock.{Lock}
+use Rattle.vlm_store.specs.Holdings.{but_order, holding, own_in, own_keys, own_of, owner_in, pid_at, pid_of, process_links, processes_of}
+use Rattle.vlm_store.specs.Kept.{processes_shown}
+use Rattle.vlm_store.specs.Records.{without_process}
+use Rattle.vlm_store.proofs.Declaring.{names_stay, no_own, owns_stay, pid_by_order, plain_by_order, process_own_keys, process_owned}
+use Rattle.vlm_store.proofs.Indexing.{Indexes-removed}
+use Rattle.vlm_store.proofs.Kinship.{processes_changed, there_by_part}
+use Rattle.vlm_store.proofs.Living.{among_shown, held, process_listed, process_there}
+use Rattle.vlm_store.proofs.Making.{map-nil, whole_left}
+use Rattle.vlm_store.proofs.Members.{process_removed}
+use Rattle.vlm_store.proofs.store.Store.remove_process.Goals as goal
+
+pub index-requires : goal.index-requires
+index-requires c = rw c.slot.ensures (process_there c.self.inside c.self.invariant c.args.at (rw (← c.self.view_is) at c.requires.there))
+
+pub leave-requires-clause-listed : goal.leave-requires-clause-listed
+leave-requires-clause-listed c = rw c.slot-2.ensures (process_listed c.self.inside c.self.invariant c.args.at (rw (← c.self.view_is) at c.requires.there))
+
+pub invariant_of-self : goal.invariant_of-self
+invariant_of-self c =
+    let s = c.self.inside in
+    let kept = c.self.invariant in
+    let left = rw c.slot-2.ensures at c.leave.ensures in
+    let new = c.leave.new.processes in
+    let listed = process_listed s kept c.args.at (rw (← c.self.view_is) at c.requires.there) in
+    let none : own_keys s.processes s.queues.locks c.args.at ≡ [] =
+    map-nil (own_of (held s kept)) (own_keys s.processes s.queues.locks c.args.at) ((rw (← c.self.view_is) at c.requires.idle) _ (among_shown s kept c.args.at listed) refl) in
+    let before = no_own s.processes s.queues.locks c.args.at kept.owned none in
+    let after = ap own_in left.gone in
+    let apart : (k : ℕ) (l : Lock) → get s.queues.locks k ≡ Some l → l.owner ≢ c.args.at =
+    λ k l here same. subst (IsIn k) none (kept.owned.stands c.args.at k (λ e. none-some k (sym e)) (ap owner_in here ∙ ap Some same)) in
+    record {
+      placed = kept.placed;
+      tallied = kept.tallied;
+      linked = kept.linked;
+      ordered = kept.ordered;
+      locks = kept.locks;
+      resources = kept.resources;
+      owned = process_owned s.processes new s.queues.locks (owns_stay s.processes new c.args.at left.others before after) kept.owned;
+      below = kept.below;
+      named = names_stay s.processes new c.args.at left.others before after s.queues.locks apart kept.named;
+      processes_linked = left.linked;
+      processes_ordered = whole_left process_links s.processes new s.process_order c.leave.new.order c.args.at kept.processes_ordered left.order left.gone
+          (λ p differs. there_by_part but_order (get s.processes p) (get new p) (sym (left.others p differs)));
+      processes = Indexes-removed nat_eq unsigned_Decides s.process_index c.swap_remove.new.self c.index.result.now.pid (pid_at s.processes) (pid_at new) c.args.at c.swap_remove.ensures.updates
+          (ap (option_map pid_of) (rw c.slot.ensures at c.index.ensures)) (ap (option_map pid_of) left.gone) (λ p differs. pid_by_order (get new p) (get s.processes p) (left.others p differs)) kept.processes;
+    }
+
+pub returns : goal.returns
+returns c =
+    let s = c.self.inside in
+    let kept = c.self.invariant in
+    let left = rw c.slot-2.ensures at c.leave.ensures in
+    let new = c.leave.new.processes in
+    let listed = process_listed s kept c.args.at (rw (← c.self.view_is) at c.requires.there) in
+    let none : own_keys s.processes s.queues.locks c.args.at ≡ [] =
+    map-nil (own_of (held s kept)) (own_keys s.processes s.queues.locks c.args.at) ((rw (← c.self.view_is) at c.requires.idle) _ (among_shown s kept c.args.at listed) refl) in
+    let before = no_own s.processes s.queues.locks c.args.at kept.owned none in
+    let after = ap own_in left.gone in
+    let owns = owns_stay s.processes new c.args.at left.others before after in
+    rw (← c.self.view_is)
+    (processes_changed s.queues s.order (processes_shown s) (processes_of (holding new s.queues.locks c.leave.new.order)) (without_process c.args.at)
+    (process_removed (holding s.processes s.queues.locks s.process_order) (holding new s.queues.locks c.leave.new.order) (λ k. refl) c.args.at
+    (λ p differs. plain_by_order (get new p) (get s.processes p) (left.others p differs)) (λ p _. process_own_keys s.processes new s.queues.locks owns p) left.order))

@@ -1,0 +1,65 @@
+use Rattle.std.proofs.Common.{None, ◌∙◌, ap, sym, refl, nat_eq}
+use Rattle.std.specs.Option.{option_map}
+use Rattle.slab.specs.Slab.{get as slot_of}
+use Rattle.indexmap.specs.IndexMap.{get}
+use Rattle.vlm_store.specs.declared.keys.Place.TheVariants.{Queued}
+use Rattle.vlm_store.specs.declared.resources.Resource.{Resource}
+use Rattle.vlm_words.specs.Keys.{is_same_key, is_same_key-Decides}
+use Rattle.vlm_store.specs.Shown.{Face, keys_at, lkid_of, order_links, row_in, rows}
+use Rattle.vlm_store.specs.Store.{key_at, keyed, lkid_at, tables}
+use Rattle.vlm_store.proofs.Indexing.{Indexes-removed, Indexes-same}
+use Rattle.vlm_store.proofs.Layouts.{HasResource-order, locks_at-seen, resource_removed}
+use Rattle.vlm_store.proofs.Making.{face_by_face, key_by_face, map-nil, there_by_face, whole_left}
+use Rattle.vlm_store.specs.Kept.{processes_shown}
+use Rattle.vlm_store.specs.Holdings.{holding, processes_of}
+use Rattle.vlm_store.specs.Shown.{but_queued}
+use Rattle.vlm_store.proofs.Kinship.{queued_below, queued_named, queued_owned, queued_processes}
+use Rattle.vlm_store.proofs.Places.{same_eq}
+use Rattle.vlm_store.proofs.store.Store.remove_resource.Goals as goal
+
+pub index-requires : goal.index-requires
+index-requires c =
+    let s = c.self.inside in
+    rw c.slot.ensures (c.self.invariant.linked.present c.args.res (HasResource-order (tables s.queues s.order (processes_shown s)) c.args.res (rw (← c.self.view_is) at c.requires.there)))
+
+pub remove_resource-requires-clause-idle : goal.remove_resource-requires-clause-idle
+remove_resource-requires-clause-idle c queue =
+    let s = c.self.inside in
+    let l = tables s.queues s.order (processes_shown s) in
+    let seen = HasResource-order l c.args.res (rw (← c.self.view_is) at c.requires.there) in
+    rw c.slot-2.ensures
+    (map-nil (keyed (rows s.queues)) (keys_at s.queues (Queued c.args.res queue)) (sym (locks_at-seen l (Queued c.args.res queue) seen) ∙ (rw (← c.self.view_is) at (c.requires.idle queue))))
+
+pub invariant_of-self : goal.invariant_of-self
+invariant_of-self c =
+    let s = c.self.inside in
+    let kept = c.self.invariant in
+    let q' = c.remove_resource.new.self in
+    let gone = rw c.slot-2.ensures at c.remove_resource.ensures in
+    record {
+      placed = gone.placed;
+      tallied = gone.tallied;
+      linked = gone.linked;
+      ordered = whole_left order_links s.queues.resources q'.resources s.order c.remove_resource.new.order c.args.res kept.ordered gone.order gone.gone
+          (λ r differs. there_by_face (slot_of q'.resources r) (slot_of s.queues.resources r) (gone.faces r differs));
+      locks = Indexes-same (get nat_eq s.lock_index) (get nat_eq s.lock_index) (lkid_at s.queues) (lkid_at q') (λ k. refl) (λ x. ap (λ l. option_map lkid_of (slot_of l x)) gone.locks) kept.locks;
+      resources = Indexes-removed is_same_key is_same_key-Decides s.resource_index c.swap_remove.new.self c.index.result.now.key (key_at s.queues) (key_at q') c.args.res c.swap_remove.ensures.updates
+          (ap (option_map (λ (x : Resource). x.key)) (rw c.slot.ensures at c.index.ensures)) (ap (option_map (λ (x : Resource). x.key)) gone.gone)
+          (λ r differs. key_by_face (slot_of q'.resources r) ∙ ap (option_map (λ (f : Face). f.key)) (gone.faces r differs) ∙ sym (key_by_face (slot_of s.queues.resources r))) kept.resources;
+      owned = queued_owned s.processes s.queues.locks q'.locks (same_eq but_queued s.queues.locks q'.locks gone.locks) None kept.owned;
+      below = queued_below s.processes s.queues.locks q'.locks (same_eq but_queued s.queues.locks q'.locks gone.locks) None kept.below;
+      named = queued_named s.processes s.queues.locks q'.locks (same_eq but_queued s.queues.locks q'.locks gone.locks) kept.named;
+      processes_linked = kept.processes_linked;
+      processes_ordered = kept.processes_ordered;
+      processes = kept.processes;
+    }
+
+pub returns : goal.returns
+returns c =
+    let s = c.self.inside in
+    let q' = c.remove_resource.new.self in
+    let gone = rw c.slot-2.ensures at c.remove_resource.ensures in
+    rw (← c.self.view_is)
+    (resource_removed (tables s.queues s.order (processes_shown s)) (tables q' c.remove_resource.new.order (processes_of (holding s.processes q'.locks s.process_order))) c.args.res (λ k. ap (λ l. row_in (slot_of l k)) gone.locks) gone.keys
+    (λ r differs. face_by_face (slot_of q'.resources r) (slot_of s.queues.resources r) (gone.faces r differs)) gone.order
+    (queued_processes s.processes s.queues.locks q'.locks (same_eq but_queued s.queues.locks q'.locks gone.locks) s.process_order c.self.invariant.owned c.self.invariant.below))

@@ -1,0 +1,36 @@
+-- What the fields of the store keep, and what they show.
+use Rattle.std.specs.Prelude.{ℕ, nat_eq, List, None}
+use Rattle.slab.specs.Slab.{ContainsKey}
+use Rattle.indexmap.specs.IndexMap.{get}
+use Rattle.vlm_links.specs.Lists.{IsIn, IsLinked, keys_of}
+use Rattle.vlm_store.specs.declared.store.Store.TheInside.{Inside}
+use Rattle.vlm_store.specs.Index.{Indexes}
+use Rattle.vlm_words.specs.Keys.{is_same_key}
+use Rattle.vlm_store.specs.Records.{Records, StoredProcess}
+use Rattle.vlm_store.specs.Holdings.{IsBelow, IsNamed, IsOwned, holding, pid_at, process_links, processes_of}
+use Rattle.vlm_store.specs.Shown.{IsPlaced, IsTallied, order_links}
+use Rattle.vlm_store.specs.Store.{key_at, lkid_at, records_of, tables}
+
+-- the processes that the fields show
+abbrev pub processes_shown : Inside → List StoredProcess
+processes_shown s = processes_of (holding s.processes s.queues.locks s.process_order)
+
+-- what the fields show to a caller
+abbrev pub records_shown : Inside → Records
+records_shown s = records_of (tables s.queues s.order (processes_shown s))
+
+-- each lock stands in the three lists that it notes, each resource counts its locks, resources and processes
+-- stand in their orders, and each index finds just what is there
+pub record IsKept (s : Inside) : Type 0 where
+  pub placed : IsPlaced s.queues None
+  pub tallied : IsTallied s.queues None
+  pub linked : IsLinked order_links s.queues.resources s.order
+  pub ordered : (res : ℕ) → ContainsKey s.queues.resources res → IsIn res (keys_of order_links s.queues.resources s.order)
+  pub locks : Indexes (get nat_eq s.lock_index) (lkid_at s.queues)
+  pub resources : Indexes (get is_same_key s.resource_index) (key_at s.queues)
+  pub owned : IsOwned s.processes s.queues.locks None
+  pub below : IsBelow s.queues.locks None
+  pub named : IsNamed s.processes s.queues.locks
+  pub processes_linked : IsLinked process_links s.processes s.process_order
+  pub processes_ordered : (at : ℕ) → ContainsKey s.processes at → IsIn at (keys_of process_links s.processes s.process_order)
+  pub processes : Indexes (get nat_eq s.process_index) (pid_at s.processes)

@@ -1,0 +1,66 @@
+-- The fields of the store as tables, and what a caller sees of the tables.
+use Rattle.std.specs.Prelude.{ℕ, List, map, Option}
+use Rattle.std.specs.Option.{option_map}
+use Rattle.slab.specs.Slab.{get}
+use Rattle.vlm_links.specs.declared.lists.LinkedList.{LinkedList}
+use Rattle.vlm_links.specs.Lists.{keys_of}
+use Rattle.vlm_words.specs.declared.locks.Row.{Row}
+use Rattle.vlm_words.specs.declared.resources.Queue.TheVariants.{Granted, Conversion, Waiting}
+use Rattle.vlm_words.specs.declared.resources.Key.{Key}
+use Rattle.vlm_store.specs.declared.keys.Place.{Place}
+use Rattle.vlm_store.specs.declared.keys.Place.TheVariants.{Loose, Queued}
+use Rattle.vlm_store.specs.declared.queues.Queues.{Queues}
+use Rattle.vlm_store.specs.declared.resources.InOrder.{InOrder}
+use Rattle.vlm_store.specs.Records.{Records, StoredLock, StoredProcess, StoredResource}
+use Rattle.vlm_store.specs.Shown.{Face, face_in, keys_at, lkid_of, order_links, rows}
+
+-- what stands under each key, the keys at each place, the resources in order of making, and the processes
+pub record Layout : Type 0 where
+  pub rows : ℕ → Row
+  pub faces : ℕ → Face
+  pub keys : Place → List ℕ
+  pub order : List ℕ
+  pub processes : List StoredProcess
+
+-- a lock under its key
+abbrev pub keyed : (ℕ → Row) → ℕ → StoredLock
+keyed rows at = record { at = at; row = rows at }
+
+-- a resource under its key
+abbrev pub resource_of : Layout → ℕ → StoredResource
+resource_of l r = record {
+  at = r;
+  serial = (l.faces r).serial;
+  domain = (l.faces r).domain;
+  key = (l.faces r).key;
+  value_block = (l.faces r).value_block;
+  granted = map (keyed l.rows) (l.keys (Queued r Granted));
+  converting = map (keyed l.rows) (l.keys (Queued r Conversion));
+  waiting = map (keyed l.rows) (l.keys (Queued r Waiting));
+}
+
+-- what a caller sees of the tables
+unfoldable pub records_of : Layout → Records
+records_of l = record {
+  resources = map (resource_of l) l.order;
+  loose = map (keyed l.rows) (l.keys Loose);
+  processes = l.processes;
+}
+
+-- the fields as tables
+abbrev pub tables : Queues → LinkedList InOrder → List StoredProcess → Layout
+tables q order processes = record {
+  rows = rows q;
+  faces = λ r. face_in (get q.resources r);
+  keys = keys_at q;
+  order = keys_of order_links q.resources order;
+  processes = processes;
+}
+
+-- the identification of the lock under a key, and the key of the resource
+abbrev pub lkid_at : Queues → ℕ → Option ℕ
+lkid_at q at = option_map lkid_of (get q.locks at)
+
+-- the key of the resource under a key of the slab
+abbrev pub key_at : Queues → ℕ → Option Key
+key_at q res = option_map (λ r. r.key) (get q.resources res)

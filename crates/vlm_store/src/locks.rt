@@ -1,0 +1,99 @@
+//! The record of a lock.
+
+ghost use Rattle.std.specs.Prelude.{refl};
+
+use crate::keys::{LockAt, Place, ProcAt};
+use vlm_links::{Linked, LinkedList, Links};
+use vlm_words::locks::Row;
+
+/// The lists of locks that are queues, and that of the loose locks.
+#[derive(Clone, Copy)]
+pub(crate) struct InQueue;
+
+/// The list of the locks of a process, in order of making.
+#[derive(Clone, Copy)]
+pub(crate) struct OfProcess;
+
+/// The list of the locks below a lock, in order of making.
+#[derive(Clone, Copy)]
+pub(crate) struct OfParent;
+
+/// A lock, and where it stands.
+#[derive(Clone, Copy)]
+pub(crate) struct Lock {
+    pub(crate) row: Row,
+    // the queue in which it stands
+    pub(crate) place: Place,
+    // its neighbours there
+    pub(crate) in_queue: Links,
+    // the process that owns it
+    pub(crate) owner: ProcAt,
+    // its neighbours among that process's locks
+    pub(crate) of_process: Links,
+    // the lock that it was made under
+    pub(crate) parent: Option<LockAt>,
+    // its neighbours among that lock's sublocks
+    pub(crate) of_parent: Links,
+    // the locks that were made under it
+    pub(crate) sublocks: LinkedList<OfParent>,
+}
+
+impl Linked<InQueue> for Lock {
+    ghost links = { λ l. l.in_queue };
+
+    ghost with_links = { λ l pair. record l { in_queue = pair } };
+
+    ghost links_written = { λ l pair. refl };
+
+    ghost written_twice = { λ l a b. refl };
+
+    ghost written_as_was = { λ l. refl };
+
+    fn links(&self) -> Links {
+        self.in_queue
+    }
+
+    fn set_links(&mut self, pair: Links) {
+        self.in_queue = pair;
+    }
+}
+
+impl Linked<OfProcess> for Lock {
+    ghost links = { λ l. l.of_process };
+
+    ghost with_links = { λ l pair. record l { of_process = pair } };
+
+    ghost links_written = { λ l pair. refl };
+
+    ghost written_twice = { λ l a b. refl };
+
+    ghost written_as_was = { λ l. refl };
+
+    fn links(&self) -> Links {
+        self.of_process
+    }
+
+    fn set_links(&mut self, pair: Links) {
+        self.of_process = pair;
+    }
+}
+
+impl Linked<OfParent> for Lock {
+    ghost links = { λ l. l.of_parent };
+
+    ghost with_links = { λ l pair. record l { of_parent = pair } };
+
+    ghost links_written = { λ l pair. refl };
+
+    ghost written_twice = { λ l a b. refl };
+
+    ghost written_as_was = { λ l. refl };
+
+    fn links(&self) -> Links {
+        self.of_parent
+    }
+
+    fn set_links(&mut self, pair: Links) {
+        self.of_parent = pair;
+    }
+}

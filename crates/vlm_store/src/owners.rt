@@ -1,0 +1,136 @@
+//! The processes of the store, and the locks of each.
+
+ghost use Rattle.std.specs.Prelude.{◌≡◌, ℕ, [], ◌∷◌, ◌++◌, length, IfOk, IfSome, OnErr};
+ghost use Rattle.vlm_words.specs.declared.locks.Row.{Row};
+ghost use Rattle.vlm_words.specs.StatusBlocks.{process_with_block};
+ghost use Rattle.vlm_store.specs.Records.{FindsProcess, HasNoLocks, HasProcess, IsNewProcess, IsOwnAmong, IsProcess, IsProcessAmong, IsStored, OwnLock, StoredProcess, Stores, first_own_at, new_stored_process, on_process, own_at, own_at_after, process_at, without_process};
+
+use crate::keys::{LockAt, ProcAt};
+use crate::processes::{Process, enter, leave};
+use crate::store::Store;
+use std::alloc::AllocError;
+use vlm_links::LAST_KEY;
+use vlm_words::blocks::Block;
+use vlm_words::steps::Declaration;
+
+impl Store {
+    /// Where the living process with this identification is.
+    pub fn process(&self, pid: u32) -> Option<ProcAt>
+        ensures { FindsProcess self.now pid result }
+    {
+        self.process_index.get(&pid).copied()
+    }
+
+    /// Adds a process with new status blocks and without locks, the last in order of making. Where memory
+    /// is refused, or no key is left, nothing is changed.
+    pub fn add_process(
+        &mut self,
+        pid: u32,
+        declaration: &Declaration,
+    ) -> Result<ProcAt, AllocError>
+        requires { IsNewProcess pid self.old }
+        ensures added { IfOk result (λ at. self.new ≡ record self.old {
+          processes = self.old.processes ++ new_stored_process at pid declaration.now ∷ [];
+        }) }
+        ensures fresh { IfOk result (λ at. ¬ HasProcess at self.old) }
+        ensures err { OnErr result (self.new ≡ self.old) }
+    {
+        if self.processes.vacant_key() > LAST_KEY {
+            return Err(AllocError);
+        }
+        let process = Process::new(self.alloc, pid, declaration)?;
+        self.processes.reserve(1)?;
+        self.process_index.reserve(1)?;
+        let at = ProcAt::of(enter(&mut self.processes, &mut self.process_order, process));
+        let _ = self.process_index.insert(pid, at);
+        Ok(at)
+    }
+
+    /// Removes a process that has no locks, with its status blocks. The others keep their order.
+    pub fn remove_process(&mut self, at: ProcAt)
+        requires there { HasProcess at self.old }
+        requires idle { HasNoLocks at self.old }
+        ensures { self.new ≡ record self.old { processes = without_process at self.old.processes } }
+    {
+        let pid = self.processes[at.slot()].pid;
+        leave(&mut self.processes, &mut self.process_order, at.slot());
+        self.process_index.swap_remove(&pid);
+    }
+
+    /// The UIC group of a process.
+    pub fn group(&self, at: ProcAt) -> u16
+        requires { HasProcess at self.now }
+        ensures { IfSome (process_at at self.now.processes) (λ p. result ≡ p.process.group) }
+    {
+        self.processes[at.slot()].group
+    }
+
+    /// The status blocks of a process, of which block n stands at n - 1.
+    pub fn status_blocks(&self, at: ProcAt) -> &[Block]
+        requires { HasProcess at self.now }
+        ensures { IfSome (process_at at self.now.processes) (λ p. result.now ≡ p.process.blocks) }
+    {
+        &self.processes[at.slot()].blocks
+    }
+
+    /// Puts a status block of a process in the place of the one with this number, if it is there. Number
+    /// 0 is taken for 1.
+    pub fn set_status_block(&mut self, at: ProcAt, number: u8, block: Block)
+        requires { HasProcess at self.old }
+        ensures { self.new ≡ record self.old {
+          processes = on_process at (process_with_block number block) self.old.processes;
+        } }
+    {
+        self.processes[at.slot()].put_status_block(number, block);
+    }
+
+    /// The process that owns a lock.
+    pub fn owner(&self, lock: LockAt) -> ProcAt
+        requires { IsStored lock self.now }
+        ensures { (row : Row) → Stores self.now lock row → IsProcess result row.pid self.now }
+    {
+        self.queues.locks[lock.slot()].owner
+    }
+
+    /// How many locks a process has, in whichever queue.
+    pub fn lock_count(&self, at: ProcAt) -> usize
+        requires { HasProcess at self.now }
+        ensures { result ≡ length (own_at at self.now) }
+    {
+        self.processes[at.slot()].own.len(&self.queues.locks)
+    }
+
+    /// The key of the first of a process's locks in order of making, if there is one.
+    pub fn first_own(&self, at: ProcAt) -> Option<LockAt>
+        requires { HasProcess at self.now }
+        ensures { result ≡ first_own_at (own_at at self.now) }
+    {
+        match self.processes[at.slot()].own.first(&self.queues.locks) {
+            Some(slot) => Some(LockAt::of(slot)),
+            None => None,
+        }
+    }
+
+    /// The key of the lock that the owner of a lock got after it, if there is one.
+    pub fn next_own(&self, lock: LockAt) -> Option<LockAt>
+        requires { IsStored lock self.now }
+        ensures { (p : StoredProcess) (own : OwnLock) → IsProcessAmong p self.now.processes
+            → IsOwnAmong own p.own → own.at ≡ lock → result ≡ own_at_after lock p.own }
+    {
+        let owner = self.queues.locks[lock.slot()].owner;
+        let own = self.processes[owner.slot()].own;
+        match own.next(&self.queues.locks, lock.slot()) {
+            Some(slot) => Some(LockAt::of(slot)),
+            None => None,
+        }
+    }
+
+    /// How many locks stand below a lock.
+    pub fn sublock_count(&self, lock: LockAt) -> usize
+        requires { IsStored lock self.now }
+        ensures { (p : StoredProcess) (own : OwnLock) → IsProcessAmong p self.now.processes
+            → IsOwnAmong own p.own → own.at ≡ lock → result ≡ length own.sublocks }
+    {
+        self.queues.locks[lock.slot()].sublocks.len(&self.queues.locks)
+    }
+}
