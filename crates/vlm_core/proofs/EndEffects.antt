@@ -16,7 +16,7 @@ use Rattle.vlm_words.specs.Rows.{rows_of}
 use Rattle.vlm_words.specs.State.{Process, Resource}
 use Rattle.vlm_words.specs.Sweeps.{blocks_after_service, processes_after_service, resource_after_service, resources_after_service}
 use Rattle.vlm_words.specs.ValueBlocks.{new_value_block}
-use Rattle.vlm_store.specs.Records.{Records}
+use Rattle.vlm_core.specs.Living.{Living}
 use Rattle.vlm_core.specs.Serving.{IsServiceOf}
 
 -- what ends first takes effect first
@@ -122,7 +122,7 @@ service_is r left is none =
     ∙ rw none refl
 
 -- the new requests are served after the conversions
-pub served_then : (r left last : Resource) (old between new : ValueBlock) (before middle after : Records)
+pub served_then : (r left last : Resource) (old between new : ValueBlock) (before middle after : Living)
     → IsServiceOf (service_of_conversions r r.converting) old before left between middle → is_empty left.converting ≡ true
     → IsServiceOf (service_of_waiting left left.waiting) between middle last new after → IsServiceOf (service r) old before last new after
 served_then r left last old between new before middle after first none second =
@@ -141,7 +141,7 @@ served_then r left last old between new before middle after first none second =
     })
 
 -- where conversions are left nothing else is served
-pub served_alone : (r left : Resource) (old between : ValueBlock) (before middle : Records)
+pub served_alone : (r left : Resource) (old between : ValueBlock) (before middle : Living)
     → IsServiceOf (service_of_conversions r r.converting) old before left between middle → is_empty left.converting ≡ false
     → IsServiceOf (service r) old before left between middle
 unfolding service

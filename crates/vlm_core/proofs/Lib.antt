@@ -1,3 +1,4 @@
+pub mod Absent
 pub mod Admitting
 pub mod EndEffects
 pub mod Entering

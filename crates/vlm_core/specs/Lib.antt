@@ -1,3 +1,4 @@
+pub mod Living
 pub mod Machine
 pub mod Resources
 pub mod Views

@@ -8,9 +8,8 @@ ghost use Rattle.vlm_words.specs.Flags.{flag_bits};
 use crate::flags::has_flag;
 use crate::machine::Core;
 use crate::nodes::has_departed;
+use crate::processes::{has_status_block, status_block};
 use crate::tables::is_held;
-use vlm_procs::{has_status_block, status_block};
-use vlm_store::ProcAt;
 use vlm_words::conditions::Cond;
 use vlm_words::flags::EnqFlags;
 use vlm_words::steps::Which;
@@ -19,14 +18,14 @@ impl Core {
     /// The caller. DEPARTED where its node has departed, NONEXPR where no living process has the
     /// identification.
     #[tactic(auto, unfolding(vlm_words::specs::Checks::caller_refusal))]
-    pub(crate) fn caller(&self, pid: u32) -> Result<ProcAt, Cond>
+    pub(crate) fn caller(&self, pid: u32) -> Result<u32, Cond>
         ensures refusal { result_err result ≡ caller_refusal self.now pid }
         ensures caller { IfOk result (λ at. at ≡ pid) }
     {
         if has_departed(&self.nodes, pid / 65536) {
             return Err(Cond::Departed);
         }
-        self.store.process(pid).ok_or(Cond::Nonexpr)
+        self.store.living(pid).ok_or(Cond::Nonexpr)
     }
 
     /// NOLOCKID where the identifications or the request numbers are used up.
@@ -58,7 +57,7 @@ impl Core {
 
     /// ACCVIO where the caller has no status block of the number.
     #[tactic(auto, unfolding(vlm_words::specs::Checks::status_block_refusal))]
-    pub(crate) fn check_status_block(&self, caller: ProcAt, block: u8) -> Result<(), Cond>
+    pub(crate) fn check_status_block(&self, caller: u32, block: u8) -> Result<(), Cond>
         ensures { result_err result ≡ status_block_refusal self.now caller block }
     {
         if has_status_block(&self.store, caller, block) {
@@ -71,7 +70,7 @@ impl Core {
     /// The identification that is named: its own, or what stands in a status block of the caller.
     /// ACCVIO where the caller has no such block.
     #[tactic(auto, unfolding(vlm_words::specs::Checks::which_refusal, vlm_words::specs::Checks::status_block_refusal, vlm_words::specs::StatusBlocks::status_block_at))]
-    pub(crate) fn named(&self, caller: ProcAt, lock: Which) -> Result<u32, Cond>
+    pub(crate) fn named(&self, caller: u32, lock: Which) -> Result<u32, Cond>
         ensures refusal { result_err result ≡ which_refusal self.now caller lock }
         ensures lkid { IfOk result (λ lkid. lkid ≡ named_lkid self.now caller lock) }
     {

@@ -11,10 +11,9 @@ use crate::checks::{acceptance, check_queue};
 use crate::endings::end_by_grant;
 use crate::flags::{enq_flags, has_flag};
 use crate::machine::Core;
+use crate::processes::accept;
 use crate::resources::wanting_row;
 use crate::tables::{convert_all, granted_lock};
-use vlm_procs::accept;
-use vlm_store::ProcAt;
 use vlm_words::conditions::Cond;
 use vlm_words::flags::EnqFlags;
 use vlm_words::locks::{Request, Row};
@@ -25,7 +24,7 @@ use vlm_words::steps::{Answer, Conversion, Step};
 /// A conversion that no check refuses.
 #[derive(Clone, Copy)]
 pub(crate) struct AdmittedConversion {
-    caller: ProcAt,
+    caller: u32,
     lkid: u32,
     // the lock as it is granted
     row: Row,
@@ -79,7 +78,7 @@ impl Core {
     #[tactic(auto, using(crate::proofs::Admitting::admitted_at, crate::proofs::Admitting::not_admitted))]
     fn admission_refusal(
         &self,
-        caller: ProcAt,
+        caller: u32,
         flags: EnqFlags,
         lkid: u32,
         conversion: &Conversion,

@@ -8,9 +8,8 @@ ghost use Rattle.vlm_words.specs.Endings.How.{by_abort, by_cancel};
 ghost use Rattle.vlm_words.specs.Grants.{grant_act, grant_endings};
 
 use crate::flags::has_flag;
+use crate::processes::{Processes, end, end_with_value, value};
 use crate::value_blocks::{return_status, valid_block};
-use vlm_procs::{end, end_with_value, value};
-use vlm_store::Store;
 use vlm_words::conditions::Cond;
 use vlm_words::flags::EnqFlags;
 use vlm_words::locks::{Request, Row};
@@ -20,7 +19,7 @@ use vlm_words::resources::ValueBlock;
 /// The request that the lock wanted is granted: its status is written, and with VALBLK its resource's
 /// value block is returned to its status block, or written from there.
 #[tactic(auto, unfolding(vlm_words::specs::Effects::blocks_after_return, vlm_words::specs::Effects::blocks_after_writing))]
-pub(crate) fn end_by_grant(value_block: &mut ValueBlock, store: &mut Store, row: &Row)
+pub(crate) fn end_by_grant(value_block: &mut ValueBlock, store: &mut Processes, row: &Row)
     ensures value_block { let old = blocks_with value_block.old store.old.processes
         in value_block.new ≡ (blocks_after (grant_endings true row.now) old).value_block }
     ensures statuses { let old = blocks_with value_block.old store.old.processes
@@ -59,7 +58,7 @@ fn grant_act(held: Option<Request>, want: &Request) -> Act
 }
 
 // The request that the lock wanted is withdrawn: it is cancelled, or aborted.
-fn end_by_withdrawal(store: &mut Store, row: &Row, cancels: bool)
+fn end_by_withdrawal(store: &mut Processes, row: &Row, cancels: bool)
     ensures { store.new ≡ record store.old {
       processes = processes_after
           (row_endings (if cancels then by_cancel else by_abort) false row.now) store.old.processes;
@@ -72,7 +71,7 @@ fn end_by_withdrawal(store: &mut Store, row: &Row, cancels: bool)
 }
 
 /// The requests of a lock in a queue are withdrawn.
-pub(crate) fn end_in_queue(store: &mut Store, rows: &[Row], lkid: u32, cancels: bool)
+pub(crate) fn end_in_queue(store: &mut Processes, rows: &[Row], lkid: u32, cancels: bool)
     ensures { store.new ≡ record store.old {
       processes = processes_after
           (queue_endings (if cancels then by_cancel else by_abort) lkid rows.now)

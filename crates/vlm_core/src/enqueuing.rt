@@ -11,10 +11,9 @@ use crate::checks::{acceptance, check_queue};
 use crate::endings::end_by_grant;
 use crate::flags::{enq_flags, has_flag};
 use crate::machine::Core;
+use crate::processes::accept;
 use crate::tables::{enter_among, enters_at_once, value_block_under};
 use std::alloc::AllocError;
-use vlm_procs::accept;
-use vlm_store::ProcAt;
 use vlm_words::conditions::Cond;
 use vlm_words::flags::EnqFlags;
 use vlm_words::locks::{Request, Row};
@@ -26,7 +25,7 @@ use vlm_words::steps::{Answer, NewRequest, Step, Which};
 /// A new request that no check refuses.
 #[derive(Clone, Copy)]
 pub(crate) struct AdmittedRequest {
-    caller: ProcAt,
+    caller: u32,
     // the domain of its resource, and where it stands
     domain: Domain,
     key: Key,
@@ -79,7 +78,7 @@ impl Core {
     #[tactic(auto, unfolding(vlm_words::specs::Enqueue::enq_resource))]
     fn admitted(
         &self,
-        caller: ProcAt,
+        caller: u32,
         flags: EnqFlags,
         name: Name,
         request: &NewRequest,

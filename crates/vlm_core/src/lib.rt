@@ -15,6 +15,7 @@ mod flags;
 mod grants;
 mod machine;
 mod nodes;
+mod processes;
 mod readers;
 mod resources;
 mod running;

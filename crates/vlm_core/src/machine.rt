@@ -5,10 +5,10 @@ ghost use Rattle.vlm_words.specs.State.{start};
 ghost use Rattle.vlm_words.specs.Stepped.{Outcome};
 
 use crate::nodes::{NODES, Node};
+use crate::processes::Processes;
 use crate::resources::Resource;
 use std::alloc::Global;
 use std::marker::Model;
-use vlm_store::Store;
 use vlm_words::conditions::Cond;
 use vlm_words::steps::{Answer, Step};
 
@@ -18,7 +18,7 @@ pub struct Core {
     // node k stands at k - 1
     pub(crate) nodes: [Node; NODES],
     // the records of the living processes
-    pub(crate) store: Store,
+    pub(crate) store: Processes,
     // the resources with locks, by rising serial
     pub(crate) resources: Vec<Resource>,
     // how many identifications, request numbers and serials were given
@@ -47,7 +47,7 @@ impl Core {
     {
         Core {
             nodes: [Node::new(); NODES],
-            store: Store::new(alloc),
+            store: Processes::new(alloc),
             resources: Vec::new(alloc),
             last_lkid: 0,
             last_request: 0,

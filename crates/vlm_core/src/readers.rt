@@ -6,8 +6,8 @@ ghost use Rattle.vlm_core.specs.Views.{resource_view, row_shown};
 ghost use Rattle.vlm_words.specs.StatusBlocks.{status_block_at};
 
 use crate::machine::Core;
+use crate::processes::status_block;
 use crate::views::{ResourceView, RowView, row_view};
-use vlm_procs::status_block;
 use vlm_words::blocks::Block;
 use vlm_words::resources::Queue;
 
@@ -18,7 +18,7 @@ impl Core {
     pub fn block(&self, pid: u32, number: u8) -> Option<Block>
         ensures { result ≡ status_block_at self.now.processes pid number }
     {
-        match self.store.process(pid) {
+        match self.store.living(pid) {
             Some(at) => status_block(&self.store, at, number),
             None => None,
         }

@@ -18,12 +18,12 @@ ghost use Rattle.vlm_words.specs.Sweeps.{blocks_after_service, is_vacant, resour
 use crate::endings::{end_by_grant, end_in_queue};
 use crate::flags::has_flag;
 use crate::grants::{fits, fits_without, granted_row, wanted_fits};
+use crate::processes::Processes;
 use crate::value_blocks::block_after_writer;
 use crate::views::{ResourceView, RowView, row_view};
 use crate::withdrawals::Withdrawal;
 use std::alloc::{AllocError, Global};
 use std::marker::Model;
-use vlm_store::Store;
 use vlm_words::flags::EnqFlags;
 use vlm_words::locks::{Request, Row};
 use vlm_words::modes::Mode;
@@ -68,7 +68,7 @@ impl Resource {
     // Grants conversions from the front of their queue while they fit. Each grant takes effect on the
     // value block and on its status block.
     #[tactic(auto, using(crate::proofs::EndEffects::blocks_after_append, crate::proofs::EndEffects::grant_effect))]
-    fn serve_converting(&mut self, value_block: &mut ValueBlock, store: &mut Store)
+    fn serve_converting(&mut self, value_block: &mut ValueBlock, store: &mut Processes)
         ensures { IsServiceOf (service_of_conversions self.old self.old.converting)
             value_block.old store.old self.new value_block.new store.new }
     {
@@ -85,7 +85,7 @@ impl Resource {
     // Grants new requests from the front of their queue while they fit. Each grant takes effect on the
     // value block and on its status block.
     #[tactic(auto, using(crate::proofs::EndEffects::blocks_after_append, crate::proofs::EndEffects::grant_effect))]
-    fn serve_waiting(&mut self, value_block: &mut ValueBlock, store: &mut Store)
+    fn serve_waiting(&mut self, value_block: &mut ValueBlock, store: &mut Processes)
         ensures { IsServiceOf (service_of_waiting self.old self.old.waiting)
             value_block.old store.old self.new value_block.new store.new }
     {
@@ -100,7 +100,7 @@ impl Resource {
     }
 
     // Grants from the conversion queue, and once that is empty from the waiting queue.
-    fn serve_queues(&mut self, value_block: &mut ValueBlock, store: &mut Store)
+    fn serve_queues(&mut self, value_block: &mut ValueBlock, store: &mut Processes)
         ensures { IsServiceOf (service self.old)
             value_block.old store.old self.new value_block.new store.new }
     {
@@ -113,7 +113,7 @@ impl Resource {
     /// Grants what can be granted: conversions first, then new requests, each queue up to the first
     /// that does not fit. Each grant takes effect on the value block and on its status block.
     #[tactic(auto, unfolding(vlm_words::specs::Sweeps::blocks_after_service))]
-    pub(crate) fn serve(&mut self, store: &mut Store)
+    pub(crate) fn serve(&mut self, store: &mut Processes)
         ensures resource { self.new ≡ resource_after_service store.old.processes self.old }
         ensures statuses { store.new ≡ record store.old {
           processes = (blocks_after_service store.old.processes self.old).processes;
@@ -292,7 +292,7 @@ impl Resource {
 
     /// The requests of a lock that its withdrawal ends write their statuses.
     #[tactic(auto, using(crate::proofs::EndEffects::withdrawal_after))]
-    pub(crate) fn end_withdrawn(&self, store: &mut Store, withdrawal: &Withdrawal)
+    pub(crate) fn end_withdrawn(&self, store: &mut Processes, withdrawal: &Withdrawal)
         ensures { store.new ≡ record store.old {
           processes =
               processes_after (withdrawal_endings withdrawal.now self.now) store.old.processes;

@@ -6,8 +6,7 @@ ghost use Rattle.vlm_words.specs.SetValue.{set_change, set_refusal};
 ghost use Rattle.vlm_words.specs.Stepped.{stepped};
 
 use crate::machine::Core;
-use vlm_procs::set_value;
-use vlm_store::ProcAt;
+use crate::processes::set_value;
 use vlm_words::conditions::Cond;
 use vlm_words::steps::{Answer, Step, ValueSetting};
 
@@ -30,7 +29,7 @@ impl Core {
 
     // The checks in their order.
     #[tactic(auto, unfolding(vlm_words::specs::SetValue::set_refusal))]
-    fn set_refusal(&self, setting: &ValueSetting) -> Result<ProcAt, Cond>
+    fn set_refusal(&self, setting: &ValueSetting) -> Result<u32, Cond>
         ensures refusal { result_err result ≡ set_refusal self.now setting.now }
         ensures caller { IfOk result (λ at. at ≡ setting.now.pid) }
     {
@@ -41,7 +40,7 @@ impl Core {
 
     // The value part is written.
     #[tactic(auto, using(crate::proofs::Identifications::pids_set), unfolding(vlm_words::specs::SetValue::set_change))]
-    fn set_change(&mut self, caller: ProcAt, setting: &ValueSetting)
+    fn set_change(&mut self, caller: u32, setting: &ValueSetting)
         requires { caller ≡ setting.now.pid }
         ensures { self.new ≡ set_change self.old setting.now }
     {

@@ -11,10 +11,10 @@ ghost use Rattle.vlm_words.specs.Resources.{is_at, new_resource};
 ghost use Rattle.vlm_words.specs.Sweeps.{is_vacant, processes_after_service, resources_after_service, resources_after_sweep};
 ghost use Rattle.vlm_core.specs.Granted.{granted_on};
 
+use crate::processes::Processes;
 use crate::resources::Resource;
 use crate::withdrawals::Withdrawal;
 use std::alloc::AllocError;
-use vlm_store::Store;
 use vlm_words::locks::{Request, Row};
 use vlm_words::resources::{Domain, Key, ValueBlock};
 
@@ -88,7 +88,7 @@ pub(crate) fn value_block_under(resources: &[Resource], key: &Key) -> ValueBlock
 /// Serves every resource, and drops those without locks. Each grant takes effect on its resource's value
 /// block and on its status block.
 #[tactic(auto, unfolding(vlm_words::specs::Sweeps::resources_after_sweep))]
-pub(crate) fn sweep(resources: &mut Vec<Resource>, store: &mut Store)
+pub(crate) fn sweep(resources: &mut Vec<Resource>, store: &mut Processes)
     ensures resources { resources.new.items
         ≡ resources_after_sweep store.old.processes resources.old.items }
     ensures statuses { store.new ≡ record store.old {
@@ -99,7 +99,7 @@ pub(crate) fn sweep(resources: &mut Vec<Resource>, store: &mut Store)
     drop_vacant(resources);
 }
 
-fn serve_all(resources: &mut Vec<Resource>, store: &mut Store)
+fn serve_all(resources: &mut Vec<Resource>, store: &mut Processes)
     ensures resources { resources.new.items
         ≡ resources_after_service store.old.processes resources.old.items }
     ensures statuses { store.new ≡ record store.old {
@@ -145,7 +145,7 @@ pub(crate) fn granted_lock(resources: &[Resource], pid: u32, lkid: u32) -> Optio
 }
 
 /// The requests of a lock that its withdrawal ends write their statuses.
-pub(crate) fn end_withdrawn(resources: &[Resource], store: &mut Store, withdrawal: &Withdrawal)
+pub(crate) fn end_withdrawn(resources: &[Resource], store: &mut Processes, withdrawal: &Withdrawal)
     ensures { store.new ≡ record store.old {
       processes = processes_after (flat_map (withdrawal_endings withdrawal.now) resources.now)
           store.old.processes;

@@ -1,17 +1,19 @@
 //! A resource whose three queues are filled, served and emptied.
 
-ghost use Rattle.vlm_store.specs.Records.{HasResource, IsStored};
+ghost use Rattle.std.specs.Prelude.{◌≡◌};
+ghost use Rattle.vlm_store.specs.Records.{HasProcess, HasResource, IsProcess, IsStored};
 
 use crate::{can_hold, head, is_idle, next, pop_front, push_back, unlink};
 use std::alloc::{AllocError, Global};
 use std::process::Abort;
 use std::test::Fail;
-use vlm_store::{LockAt, ResAt, Store};
+use vlm_store::{LockAt, ProcAt, ResAt, Store};
 use vlm_words::flags::EnqFlags;
 use vlm_words::locks::{Request, Row};
 use vlm_words::modes::Mode;
 use vlm_words::names::Name;
 use vlm_words::resources::{Domain, Key, Queue};
+use vlm_words::steps::Declaration;
 
 fn request(mode: Mode) -> Request {
     Request {
@@ -25,7 +27,9 @@ fn request(mode: Mode) -> Request {
     }
 }
 
-fn row(lkid: u32, held: Option<Mode>, want: Option<Mode>) -> Row {
+fn row(lkid: u32, held: Option<Mode>, want: Option<Mode>) -> Row
+    ensures { result.parent ≡ 0 }
+{
     Row {
         lkid,
         pid: 1,
@@ -48,15 +52,98 @@ fn lock(rt: &impl Abort, store: &Store, lkid: u32) -> LockAt
     store.lock(lkid).expect(rt, "the lock is there")
 }
 
-// Adds a resource, unless it is there.
-fn open(store: &mut Store, serial: u32, key: &Key) -> Result<(), AllocError> {
-    match store.resource(key) {
+fn process(rt: &impl Abort, store: &Store, pid: u32) -> ProcAt
+    ensures named { IsProcess result pid store.now }
+    ensures there { HasProcess result store.now }
+{
+    store.process(pid).expect(rt, "the process lives")
+}
+
+fn try_declare(store: &mut Store, pid: u32, declaration: &Declaration) -> Result<(), AllocError> {
+    match store.process(pid) {
         Some(_) => Ok(()),
         None => {
-            store.add_resource(serial, key)?;
+            store.add_process(pid, declaration)?;
             Ok(())
         }
     }
+}
+
+// Declares a process, unless it lives. Where memory was refused once it does not live, and is declared
+// again.
+fn declare(rt: &impl Abort, store: &mut Store, pid: u32) -> Result<(), AllocError> {
+    let declaration = Declaration {
+        node: 1,
+        group: 1,
+        syslck: false,
+        quota: 9,
+        blocks: 1,
+    };
+    if store.process(pid).is_some() {
+        return Ok(());
+    }
+    if try_declare(store, pid, &declaration).is_err() {
+        assert!(rt;
+            store.process(pid).is_none(),
+            "a refused process is not there"
+        );
+        try_declare(store, pid, &declaration)?;
+    }
+    Ok(())
+}
+
+fn try_open(store: &mut Store, serial: u32, key: &Key) -> Result<(), AllocError> {
+    match store.resource(key) {
+        Some(_) => Ok(()),
+        None => {
+            store.add_resource(serial, Domain::System, key)?;
+            Ok(())
+        }
+    }
+}
+
+// Adds a resource, unless it is there. Where memory was refused once it is not there, and is added again.
+fn open(rt: &impl Abort, store: &mut Store, serial: u32, key: &Key) -> Result<(), AllocError> {
+    if try_open(store, serial, key).is_err() {
+        assert!(rt;
+            store.resource(key).is_none(),
+            "a refused resource is not there"
+        );
+        try_open(store, serial, key)?;
+    }
+    Ok(())
+}
+
+fn try_add(rt: &impl Abort, store: &mut Store, row: Row) -> Result<(), AllocError>
+    requires { row.parent ≡ 0 }
+{
+    let owner = process(rt, store, row.pid);
+    match store.lock(row.lkid) {
+        Some(_) => Ok(()),
+        None => {
+            store.add_lock(row, owner, None)?;
+            Ok(())
+        }
+    }
+}
+
+// Adds a lock in no queue, unless it is there. Where memory was refused once it is not there, and is added
+// again.
+fn add(rt: &impl Abort, store: &mut Store, row: Row) -> Result<(), AllocError>
+    requires { row.parent ≡ 0 }
+{
+    let owner = process(rt, store, row.pid);
+    let count = store.lock_count(owner);
+    if try_add(rt, store, row).is_err() {
+        assert!(rt;
+            store.lock(row.lkid).is_none(),
+            "a refused lock is not there"
+        );
+        let owner = process(rt, store, row.pid);
+        assert_eq!(rt; store.lock_count(owner), count);
+        try_add(rt, store, row)?;
+    }
+    Ok(())
 }
 
 // Adds a lock at the end of a queue, unless it is there.
@@ -66,17 +153,14 @@ fn enter(
     key: &Key,
     row: Row,
     queue: Queue,
-) -> Result<(), AllocError> {
-    match store.lock(row.lkid) {
-        Some(_) => Ok(()),
-        None => {
-            store.add_lock(row)?;
-            let res = resource(rt, store, key);
-            let lock = lock(rt, store, row.lkid);
-            push_back(store, res, queue, lock);
-            Ok(())
-        }
-    }
+) -> Result<(), AllocError>
+    requires { row.parent ≡ 0 }
+{
+    add(rt, store, row)?;
+    let res = resource(rt, store, key);
+    let lock = lock(rt, store, row.lkid);
+    push_back(store, res, queue, lock);
+    Ok(())
 }
 
 fn keys() -> Result<(Key, Key), Fail> {
@@ -89,7 +173,8 @@ fn keys() -> Result<(Key, Key), Fail> {
 // A store with one resource whose three queues are filled.
 fn filled(rt: &impl Abort, alloc: Global, key: &Key) -> Result<Store, AllocError> {
     let mut store = Store::new(alloc);
-    open(&mut store, 1, key)?;
+    declare(rt, &mut store, 1)?;
+    open(rt, &mut store, 1, key)?;
     enter(
         rt,
         &mut store,
@@ -124,6 +209,9 @@ fn filled(rt: &impl Abort, alloc: Global, key: &Key) -> Result<Store, AllocError
 // Removes a lock.
 fn leave(rt: &impl Abort, store: &mut Store, lkid: u32) {
     let lock = lock(rt, store, lkid);
+    if store.has_sublocks(lock) {
+        return;
+    }
     store.remove_lock(lock);
 }
 
@@ -189,7 +277,7 @@ fn is_left_idle(rt: &impl Abort, store: &Store, key: &Key) -> bool {
 fn an_emptied_resource_leaves_the_order_of_the_others(rt: HostRuntime) -> Result<(), Fail> {
     let (a, b) = keys()?;
     let mut store = filled(&rt, rt.alloc(), &a)?;
-    open(&mut store, 2, &b)?;
+    open(&rt, &mut store, 2, &b)?;
     leave(&rt, &mut store, 1);
     leave(&rt, &mut store, 2);
     leave(&rt, &mut store, 3);

@@ -7,7 +7,7 @@ use Rattle.slab.specs.Slab.{Slab, get, ContainsKey, Updates, with_value}
 use Rattle.slab.proofs.SlabLemmas.{Updates-with_value}
 use Rattle.vlm_links.specs.declared.link.TheConstants.{LAST_KEY}
 use Rattle.vlm_links.specs.Lists.{IsIn, IsApart, IsLinked, keys_of, without}
-use Rattle.vlm_links.proofs.Keeping.{updated-keys, updated-linked}
+use Rattle.vlm_links.proofs.Keeping.{updated-keys}
 use Rattle.vlm_links.proofs.KeyLists.{IsIn-without, IsApart-without, IsApart-push, length-below, without_head, without_past, without_absent}
 use Rattle.vlm_words.specs.declared.locks.Row.{Row}
 use Rattle.vlm_words.specs.declared.modes.Mode.{Mode}

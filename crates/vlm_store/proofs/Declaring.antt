@@ -1,7 +1,7 @@
 -- What stays as processes come, go and are written.
-use Rattle.std.proofs.Common.{◌≡◌, ◌≢◌, ℕ, List, [], map, Option, None, Some, IsSome, refl, sym, ap, ◌∙◌, subst, inl, inr, nat_eq}
+use Rattle.std.proofs.Common.{◌≡◌, ◌≢◌, ℕ, [], map, Option, None, Some, IsSome, refl, sym, ap, ◌∙◌, subst, inl, inr, nat_eq}
 use Rattle.std.proofs.lemmas.Bool.{cases_eq}
-use Rattle.std.proofs.lemmas.Option.{none-some, same_Some}
+use Rattle.std.proofs.lemmas.Option.{none-some}
 use Rattle.std.specs.Option.{option_map}
 use Rattle.slab.specs.Slab.{Slab, get, ContainsKey, with_value}
 use Rattle.indexmap.specs.IndexMap.{IndexMap, get as found}
@@ -10,12 +10,11 @@ use Rattle.vlm_links.specs.declared.link.Links.{Links}
 use Rattle.vlm_links.specs.declared.lists.LinkedList.{LinkedList}
 use Rattle.vlm_links.specs.Lists.{IsIn, IsLinked, IsNoList, keys_of, next_in, prev_in}
 use Rattle.vlm_links.proofs.Rings.{kept-keys, kept-linked, no_list-linked, same-keys, same-linked}
-use Rattle.vlm_words.specs.State.{Process as PlainProcess}
 use Rattle.vlm_store.specs.declared.locks.Lock.{Lock}
 use Rattle.vlm_store.specs.declared.processes.Process.{Process}
 use Rattle.vlm_store.specs.declared.resources.InOrder.{InOrder}
 use Rattle.vlm_store.specs.Shown.{no_list}
-use Rattle.vlm_store.specs.Holdings.{IsBelow, IsNamed, IsOwned, OwnerFits, ParentFits, below_in, below_links, below_list, but_order, holding, own_in, own_keys, own_links, own_list, owner_in, parent_in, pid_at, pid_of, plain_in, plain_process, process_links, process_of, processes_of}
+use Rattle.vlm_store.specs.Holdings.{IsBelow, IsNamed, IsOwned, OwnerFits, ParentFits, below_links, below_list, but_order, holding, own_in, own_keys, own_links, own_list, owner_in, parent_in, pid_at, pid_of, plain_in, plain_process, process_links, process_of, processes_of}
 use Rattle.vlm_store.specs.Kept.{IsKept}
 use Rattle.vlm_store.specs.declared.store.Store.TheInside.{Inside}
 use Rattle.vlm_store.proofs.Indexing.{Indexes-same}

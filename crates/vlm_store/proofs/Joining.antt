@@ -13,9 +13,9 @@ use Rattle.vlm_store.specs.declared.store.Store.TheInside.{Inside}
 use Rattle.vlm_store.specs.Kept.{IsKept, processes_shown, records_shown}
 use Rattle.vlm_store.specs.Records.{IsParentOf, IsProcess, process_with_lock}
 use Rattle.vlm_store.specs.Shown.{SameBut, but_kin, but_queued, lkid_of, new_lock, row_in}
-use Rattle.vlm_store.specs.Holdings.{IsBelow, IsNamed, IsOwned, NamesParent, OwnerFits, ParentFits, below_in, below_keys, below_links, below_list, but_below, but_own, holding, named_lock, own_keys, own_links, own_list, owner_in, parent_in, pid_of, processes_of, with_own_links}
+use Rattle.vlm_store.specs.Holdings.{IsBelow, IsNamed, IsOwned, NamesParent, below_in, below_keys, below_links, below_list, but_below, but_own, holding, named_lock, own_keys, own_links, own_list, owner_in, parent_in, processes_of, with_own_links}
 use Rattle.vlm_store.proofs.Families.{family-grown, family-other_keys}
-use Rattle.vlm_store.proofs.Kinship.{below-queued, below_kin, below_named, below_next-queued, below_own_keys, below_owned, below_prev-queued, by_part, lkid-named, lkid-queued, named-added, named-kept, own_below, own_below_keys, own_kin, own_named, own_next-queued, own_pids, own_plain, own_prev-queued, own_process_keys, owner-queued, owner_fits, parent-queued, parent_fits, queued_below, queued_below_keys, queued_named, queued_own_keys, queued_owned, there_by_part}
+use Rattle.vlm_store.proofs.Kinship.{below-queued, below_kin, below_named, below_next-queued, below_own_keys, below_owned, below_prev-queued, by_part, lkid-named, lkid-queued, named-added, named-kept, own_below_keys, own_kin, own_named, own_next-queued, own_pids, own_plain, own_prev-queued, own_process_keys, owner-queued, owner_fits, parent-queued, parent_fits, queued_below, queued_below_keys, queued_own_keys, queued_owned, there_by_part}
 use Rattle.vlm_store.proofs.Living.{lock_there, process_named}
 use Rattle.vlm_store.proofs.Members.{lock_joined}
 use Rattle.vlm_store.proofs.Places.{same_then, there_through}

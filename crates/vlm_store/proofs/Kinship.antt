@@ -1,11 +1,10 @@
 -- What of the three families of lists stays as locks move, and as they join and leave their processes and
 -- parents.
-use Rattle.std.proofs.Common.{◌≡◌, ◌≢◌, ◌⊎◌, ℕ, List, [], Option, None, Some, IsSome, refl, sym, ap, ◌∙◌, subst, inl, inr}
+use Rattle.std.proofs.Common.{◌≡◌, ◌≢◌, ◌⊎◌, ℕ, List, Option, None, Some, IsSome, refl, sym, ap, ◌∙◌, subst, inl, inr}
 use Rattle.std.proofs.lemmas.Bool.{cases_eq}
 use Rattle.std.proofs.lemmas.Option.{none-some, same_Some}
 use Rattle.std.specs.Option.{option_map}
 use Rattle.slab.specs.Slab.{Slab, get, ContainsKey}
-use Rattle.vlm_links.specs.declared.link.Links.{Links}
 use Rattle.vlm_links.specs.declared.lists.LinkedList.{LinkedList}
 use Rattle.vlm_links.specs.Lists.{IsIn, IsLinked, Relinks, keys_of, next_in, prev_in}
 use Rattle.vlm_links.proofs.Keeping.{shown_same}
@@ -16,17 +15,16 @@ use Rattle.vlm_store.specs.declared.locks.Lock.{Lock}
 use Rattle.vlm_store.specs.declared.processes.Process.{Process}
 use Rattle.vlm_store.specs.declared.queues.Queues.{Queues}
 use Rattle.vlm_store.specs.declared.resources.InOrder.{InOrder}
-use Rattle.vlm_store.specs.Families.{IsFamily}
-use Rattle.vlm_store.specs.Records.{IsSameLock, Records, StoredProcess}
-use Rattle.vlm_store.specs.Shown.{IsPlaced, IsTallied, SameBut, but_kin, but_queued, keys_at, lkid_of, named_row, noted_in, queue_links, row_in, tally_in}
-use Rattle.vlm_store.specs.Holdings.{IsBelow, IsNamed, IsOwned, NamesParent, OwnerFits, ParentFits, below_in, below_keys, below_links, below_list, but_below, but_own, holding, named_lock, own_in, own_keys, own_links, own_list, owner_in, parent_in, pid_of, plain_in, process_links, processes_of, with_own_links}
+use Rattle.vlm_store.specs.Records.{IsSameLock, StoredProcess}
+use Rattle.vlm_store.specs.Shown.{IsPlaced, IsTallied, SameBut, but_kin, but_queued, keys_at, lkid_of, named_row, noted_in, queue_links, row_in}
+use Rattle.vlm_store.specs.Holdings.{IsBelow, IsNamed, IsOwned, NamesParent, OwnerFits, ParentFits, below_in, below_keys, below_links, below_list, but_below, but_own, holding, named_lock, own_keys, own_links, own_list, owner_in, parent_in, pid_of, plain_in, process_links, processes_of, with_own_links}
 use Rattle.vlm_store.specs.Store.{Layout, records_of, tables}
-use Rattle.vlm_store.specs.Tallies.{held_of, held_weight, wanted_of, wanted_weight}
+use Rattle.vlm_store.specs.Tallies.{held_weight, wanted_weight}
 use Rattle.vlm_store.proofs.Counting.{shares_same}
 use Rattle.vlm_store.proofs.Families.{family-kept, family-keys}
 use Rattle.vlm_store.proofs.Members.{processes_same}
 use Rattle.vlm_store.proofs.Making.{relinked_same}
-use Rattle.vlm_store.proofs.Places.{coarser, kept_keys, kept_placed, lists_same, same_then, there_through, through}
+use Rattle.vlm_store.proofs.Places.{kept_keys, kept_placed, lists_same, there_through, through}
 
 -- the processes that a caller sees
 pub records_processes : (l : Layout) → (records_of l).processes ≡ l.processes

@@ -1,5 +1,5 @@
 -- A lock leaves its queue, its process and its parent.
-use Rattle.std.proofs.Common.{◌≡◌, ◌≢◌, ℕ, [], map, Option, None, Some, IsSome, refl, sym, ap, ◌∙◌, subst, inl, inr}
+use Rattle.std.proofs.Common.{◌≡◌, ◌≢◌, ℕ, [], map, Option, None, Some, refl, sym, ap, ◌∙◌, subst, inl, inr}
 use Rattle.std.proofs.lemmas.Bool.{cases_eq}
 use Rattle.std.proofs.lemmas.Option.{none-some}
 use Rattle.std.specs.Option.{option_map}
@@ -88,8 +88,8 @@ module _ (s : Inside) (kept : IsKept s) (at : ℕ) (childless : below_keys s.que
       lock_left (holding s.processes s.queues.locks s.process_order) (holding processes2 locks3 s.process_order) at (own_plain s.processes processes2 rest2)
       (own_process_keys s.processes processes2 rest2 s.process_order kept.processes_linked)
       (λ p.
-          family-other_keys own_links owner_in locks2 (own_list processes2) (Some at) owned2 locks3 (own_list processes2) (λ p. refl) at (λ p. owned2.gone p at refl) own_nexts own_prevs there3 p
-          ∙ left2 p ∙ ap (without at) (below_own_keys s.processes s.queues.locks locks1 rest1 None kept.owned p))
+      family-other_keys own_links owner_in locks2 (own_list processes2) (Some at) owned2 locks3 (own_list processes2) (λ p. refl) at (λ p. owned2.gone p at refl) own_nexts own_prevs there3 p
+      ∙ left2 p ∙ ap (without at) (below_own_keys s.processes s.queues.locks locks1 rest1 None kept.owned p))
       (λ k _.
-          family-other_keys below_links parent_in locks2 (below_list locks2) (Some at) below2 locks3 (below_list locks3) heads at (λ p. below2.gone p at refl) below_nexts below_prevs there3 k
-          ∙ below_keys2 k)
+      family-other_keys below_links parent_in locks2 (below_list locks2) (Some at) below2 locks3 (below_list locks3) heads at (λ p. below2.gone p at refl) below_nexts below_prevs there3 k
+      ∙ below_keys2 k)

@@ -1,8 +1,10 @@
 -- What a caller learns of the processes and their locks.
-use Rattle.std.proofs.Common.{◌≡◌, ◌≤◌, ℕ, List, [], map, Option, None, Some, IfSome, IsSome, refl, sym, ap, ◌∙◌, subst, nat_eq}
+use Rattle.std.proofs.Common.{◌≡◌, ◌≤◌, ℕ, zero, suc, true, nat_lt, arith, length, List, [], ◌∷◌, map, Option, None, Some, IfSome, IsSome, refl, sym, ap, ◌∙◌, subst, nat_eq}
+use Rattle.std.proofs.lemmas.Bool.Decides.{nat_tests}
 use Rattle.std.proofs.lemmas.Option.{none-some, same_Some}
+use Rattle.std.specs.Bool.{OnFalse, OnTrue}
 use Rattle.std.specs.Option.{option_map, option_map_or}
-use Rattle.slab.specs.Slab.{Slab, get, ContainsKey}
+use Rattle.slab.specs.Slab.{get, ContainsKey}
 use Rattle.indexmap.specs.IndexMap.{get as found}
 use Rattle.vlm_links.specs.declared.link.TheConstants.{LAST_KEY}
 use Rattle.vlm_links.specs.Lists.{IsIn, keys_of}
@@ -12,7 +14,7 @@ use Rattle.vlm_store.specs.declared.processes.Process.{Process}
 use Rattle.vlm_store.specs.declared.store.Store.TheInside.{Inside}
 use Rattle.vlm_store.specs.Records.{AreOwned, AreProcessesApart, FindsProcess, HasNoSublocks, HasProcess, IsOwnAmong, IsProcess, IsProcessAmong, OwnLock, StoredProcess, Stores, own_at, process_at}
 use Rattle.vlm_store.specs.Kept.{IsKept, processes_shown, records_shown}
-use Rattle.vlm_store.specs.Shown.{lkid_of, order_links, row_in, rows}
+use Rattle.vlm_store.specs.Shown.{lkid_of, row_in, rows}
 use Rattle.vlm_store.specs.Holdings.{Holding, NamesParent, OwnerFits, ParentFits, below_keys, holding, own_keys, own_of, owner_in, parent_in, pid_at, pid_of, plain_in, process_links, process_of, processes_of}
 use Rattle.vlm_store.specs.Store.{tables}
 use Rattle.vlm_store.proofs.Kept.{stored_there, there_stored}
@@ -43,6 +45,9 @@ lkid_told (Some l) lkid is = same_Some l.row.lkid lkid is
 there_is : (slot : Option Lock) → IsSome slot → (l : Lock) × (slot ≡ Some l)
 there_is None there = cc
 there_is (Some l) there = (l, refl)
+
+is_positive : (n : ℕ) → nat_lt 0 (suc n) ≡ true
+is_positive n = grind (arith, nat_tests)
 
 module _ (s : Inside) (kept : IsKept s) where
   -- the tables of processes
@@ -98,8 +103,7 @@ module _ (s : Inside) (kept : IsKept s) where
         let fits = subst (OwnerFits s.processes) l.1 (kept.named.owners at) in
         let owner = pid_there (get s.processes l.0.owner) l.0.row.pid fits in
         let stands = kept.owned.stands l.0.owner at (λ e. none-some at (sym e)) (ap owner_in l.1) in
-        let row_is : l.0.row ≡ row = sym (ap row_in l.1) ∙ there.2 in
-        (
+        let row_is : l.0.row ≡ row = sym (ap row_in l.1) ∙ there.2 in (
           process_of held l.0.owner,
           own_of held at,
           (
@@ -115,8 +119,7 @@ module _ (s : Inside) (kept : IsKept s) where
         let there : ContainsKey s.queues.locks own.at = (kept.owned.linked p.at).present own.at own_there.0.0 in
         let fits = subst (OwnerFits s.processes) noted.1.0 (kept.named.owners own.at) in
         let pid = pid_there (get s.processes noted.0.owner) noted.0.row.pid fits in
-        let plain : (plain_in (get s.processes p.at)).pid ≡ p.process.pid = ap (λ (x : StoredProcess). x.process.pid) (shown_among p among).1 in
-        (
+        let plain : (plain_in (get s.processes p.at)).pid ≡ p.process.pid = ap (λ (x : StoredProcess). x.process.pid) (shown_among p among).1 in (
           rows s.queues own.at,
           (
             lock_stored own.at there,
@@ -130,8 +133,7 @@ module _ (s : Inside) (kept : IsKept s) where
         let there : ContainsKey s.queues.locks at = (kept.below.linked own.at).present at listed in
         let noted = noted_parent (get s.queues.locks at) own.at (kept.below.listed own.at at listed) in
         let fits = subst (ParentFits s.queues.locks) noted.1.0 (kept.named.parents at) in
-        let names = subst (λ o. NamesParent s.queues.locks o noted.0.row.parent) noted.1.1 fits in
-        (
+        let names = subst (λ o. NamesParent s.queues.locks o noted.0.row.parent) noted.1.1 fits in (
           rows s.queues own.at,
           rows s.queues at,
           (
@@ -149,14 +151,27 @@ module _ (s : Inside) (kept : IsKept s) where
       let seen = own_among_shown found.0 found.1 found.2.0 found.2.2 in
       ap (below_keys s.queues.locks) (sym found.2.3) ∙ seen.0.1 ∙ none found.0 found.1 found.2.0 found.2.2 found.2.3
 
+  -- whether locks stand below one is told by how many do
+  pub no_sublocks : (at n : ℕ) → n ≡ length (below_keys s.queues.locks at) → OnFalse (nat_lt 0 n) (HasNoSublocks at (records_shown s))
+  no_sublocks at zero is = λ p own among has same. sym (own_among_shown p own among has).0.1 ∙ ap (below_keys s.queues.locks) same ∙ no_length (below_keys s.queues.locks at) (sym is)
+    where
+      no_length : (keys : List ℕ) → length keys ≡ 0 → keys ≡ []
+      no_length [] none = refl
+      no_length (k ∷ rest) none = absurd (omega (arith, none))
+  no_sublocks at (suc n) is = rw (is_positive n) tt
+
+  pub are_sublocks : (at : ℕ) (row : Row) → Stores (records_shown s) at row → (n : ℕ) → n ≡ length (below_keys s.queues.locks at) → OnTrue (nat_lt 0 n) (¬ HasNoSublocks at (records_shown s))
+  are_sublocks at row stored zero is = tt
+  are_sublocks at row stored (suc n) is = rw (is_positive n) (λ none. let nothing : suc n ≡ 0 = is ∙ ap length (childless at row stored none) in absurd (omega (arith, nothing)))
+
   pub are_apart : AreProcessesApart (processes_shown s)
   are_apart =
       AreProcessesApart-processes_of held kept.processes_linked.apart
       (λ a b here there same.
-          let told_a = pid_told (get s.processes a) (kept.processes_linked.present a here) in
-          let told_b = pid_told (get s.processes b) (kept.processes_linked.present b there) in
-          same_Some a b
-          (sym (kept.processes.complete (plain_in (get s.processes a)).pid a told_a) ∙ kept.processes.complete (plain_in (get s.processes a)).pid b (told_b ∙ ap Some (sym same))))
+      let told_a = pid_told (get s.processes a) (kept.processes_linked.present a here) in
+      let told_b = pid_told (get s.processes b) (kept.processes_linked.present b there) in
+      same_Some a b
+      (sym (kept.processes.complete (plain_in (get s.processes a)).pid a told_a) ∙ kept.processes.complete (plain_in (get s.processes a)).pid b (told_b ∙ ap Some (sym same))))
 
   -- the index of processes finds what a caller sees
   pub finds_process : (pid : ℕ) (result : Option ℕ) → result ≡ found nat_eq s.process_index pid → FindsProcess (records_shown s) pid result
@@ -168,6 +183,12 @@ module _ (s : Inside) (kept : IsKept s) where
   finds_process pid (Some at) is =
       let there = pid_there (get s.processes at) pid (kept.processes.sound pid at (sym is)) in
       (process_of held at, (among_shown at (kept.processes_ordered at there.0), refl, there.1))
+
+  pub found_there : (pid : ℕ) (result : Option ℕ) → result ≡ found nat_eq s.process_index pid → IfSome result (λ at. HasProcess at (records_shown s))
+  found_there pid None is = tt
+  found_there pid (Some at) is =
+      let there = pid_there (get s.processes at) pid (kept.processes.sound pid at (sym is)) in
+      rw (ap (process_at at) shown ∙ process_at-found held at (kept.processes_ordered at there.0)) refl
 
   pub no_process_found : (pid : ℕ) → FindsProcess (records_shown s) pid None → found nat_eq s.process_index pid ≡ None
   no_process_found pid absent = by_answer (found nat_eq s.process_index pid) refl
@@ -182,9 +203,8 @@ module _ (s : Inside) (kept : IsKept s) where
   pub process_named : (at pid : ℕ) → IsProcess at pid (records_shown s) → ContainsKey s.processes at × (option_map pid_of (get s.processes at) ≡ Some pid)
   process_named at pid is =
       let seen = shown_among is.0 is.1.0 in
-      let there : ContainsKey s.processes at = subst (ContainsKey s.processes) is.1.1 (kept.processes_linked.present is.0.at seen.0) in
-      (
+      let there : ContainsKey s.processes at = subst (ContainsKey s.processes) is.1.1 (kept.processes_linked.present is.0.at seen.0) in (
         there,
         pid_told (get s.processes at) there
-        ∙ ap Some (ap (λ x. (plain_in (get s.processes x)).pid) (sym is.1.1) ∙ ap (λ (x : StoredProcess). x.process.pid) seen.1 ∙ is.1.2),
+            ∙ ap Some (ap (λ x. (plain_in (get s.processes x)).pid) (sym is.1.1) ∙ ap (λ (x : StoredProcess). x.process.pid) seen.1 ∙ is.1.2),
       )

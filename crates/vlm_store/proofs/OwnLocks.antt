@@ -1,19 +1,18 @@
 -- A lock among those of its process and below its parent: what stays, and what becomes of the lists.
-use Rattle.std.proofs.Common.{◌≡◌, ◌≢◌, ℕ, [], ◌∷◌, ◌++◌, Option, None, Some, IsSome, refl, sym, ap, ◌∙◌, subst, inl, inr}
+use Rattle.std.proofs.Common.{◌≡◌, ◌≢◌, ℕ, [], ◌∷◌, ◌++◌, Option, None, Some, refl, sym, ap, ◌∙◌, subst, inl, inr}
 use Rattle.std.proofs.lemmas.Bool.{cases_eq}
-use Rattle.std.proofs.lemmas.Option.{none-some, same_Some}
+use Rattle.std.proofs.lemmas.Option.{none-some}
 use Rattle.std.specs.Option.{option_map}
 use Rattle.slab.specs.Slab.{Slab, get, ContainsKey, with_value}
 use Rattle.slab.proofs.SlabLemmas.{Updates-with_value}
 use Rattle.vlm_links.specs.declared.lists.LinkedList.{LinkedList}
 use Rattle.vlm_links.specs.Lists.{IsIn, IsLinked, Relinks, keys_of, next_in, prev_in, without}
 use Rattle.vlm_links.proofs.Keeping.{shown_same}
-use Rattle.vlm_links.proofs.Rings.{still_present}
 use Rattle.vlm_store.specs.declared.locks.Lock.{Lock}
 use Rattle.vlm_store.specs.declared.locks.OfParent.{OfParent}
 use Rattle.vlm_store.specs.declared.locks.OfProcess.{OfProcess}
 use Rattle.vlm_store.specs.declared.processes.Process.{Process}
-use Rattle.vlm_store.specs.Shown.{SameBut, no_list}
+use Rattle.vlm_store.specs.Shown.{SameBut}
 use Rattle.vlm_store.specs.Holdings.{IsBelow, IsOwned, below_in, below_keys, below_links, below_list, but_below, but_own, own_in, own_keys, own_links, own_list, owner_in, parent_in, with_below_links, with_own_links}
 use Rattle.vlm_store.proofs.Families.{family-put, family-put_here, family-put_others, family-taken, family-taken_keys, family-unnoted, family-noted_nowhere}
 use Rattle.vlm_store.proofs.Making.{relinked_same}

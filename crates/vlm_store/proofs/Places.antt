@@ -7,8 +7,6 @@ use Rattle.slab.specs.Slab.{Slab, get, ContainsKey}
 use Rattle.vlm_links.specs.declared.lists.LinkedList.{LinkedList}
 use Rattle.vlm_links.specs.Lists.{IsIn, IsLinked, IsNoList, Relinks, keys_of, next_in, prev_in, without}
 use Rattle.vlm_links.proofs.Keeping.{shown_same}
-use Rattle.vlm_links.proofs.KeyLists.{IsIn-without, IsIn-without_kept, IsIn-push, IsIn-push_kept, IsIn-push_last, without_absent}
-use Rattle.vlm_links.proofs.Rings.{kept-keys, kept-linked, same-keys, same-linked}
 use Rattle.vlm_words.specs.declared.resources.Queue.{Queue}
 use Rattle.vlm_words.specs.declared.resources.Queue.TheVariants.{Granted, Conversion, Waiting}
 use Rattle.vlm_store.specs.declared.keys.Place.{Place}

@@ -1,9 +1,9 @@
 -- The processes without their keys: for callers.
-use Rattle.std.proofs.Common.{◌≡◌, ◌≢◌, ℕ, List, [], ◌∷◌, map, Option, None, Some, refl, sym, ap, ◌∙◌, inl, inr, eq-eqb, ne_eqb}
+use Rattle.std.proofs.Common.{◌≡◌, ◌≢◌, ℕ, List, [], ◌∷◌, map, None, Some, refl, sym, ap, ◌∙◌, inl, inr, eq-eqb, ne_eqb}
 use Rattle.std.specs.Prelude.{◌==◌, if◌then◌else◌}
 use Rattle.std.proofs.lemmas.Bool.{cases_eq}
 use Rattle.vlm_words.specs.State.{Process, process_of}
-use Rattle.vlm_store.specs.Records.{AreProcessesApart, FindsProcess, IsProcess, IsProcessAmong, Records, SameButBlocks, StoredProcess, but_blocks, on_process, plain_processes, process_at}
+use Rattle.vlm_store.specs.Records.{AreProcessesApart, IsProcessAmong, StoredProcess, but_blocks, on_process, process_at}
 
 -- the process of an identification
 module _ (p : StoredProcess) where

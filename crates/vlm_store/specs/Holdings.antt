@@ -1,7 +1,7 @@
 -- The processes with their own locks, and the locks below each lock.
 use Rattle.std.specs.Prelude.{◌≡◌, ℕ, false, List, [], map, Option, None, Some}
 use Rattle.std.specs.Option.{option_map}
-use Rattle.slab.specs.Slab.{Slab, get, ContainsKey}
+use Rattle.slab.specs.Slab.{Slab, get}
 use Rattle.vlm_links.specs.declared.link.Links.{Links}
 use Rattle.vlm_links.specs.declared.lists.LinkedList.{LinkedList}
 use Rattle.vlm_links.specs.Lists.{keys_of}

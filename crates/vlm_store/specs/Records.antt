@@ -337,10 +337,6 @@ abbrev pub HasNoSublocks : ℕ → Records → Type 0
 HasNoSublocks at s = (p : StoredProcess) (own : OwnLock) → IsProcessAmong p s.processes → IsOwnAmong own p.own
     → own.at ≡ at → own.sublocks ≡ []
 
--- the process of this key has no lock
-abbrev pub HasNoLocks : ℕ → Records → Type 0
-HasNoLocks at s = (p : StoredProcess) → IsProcessAmong p s.processes → p.at ≡ at → p.own ≡ []
-
 -- the parent that the row of a new lock names is stored under this key; 0 names none
 abbrev pub IsParentOf : Option ℕ → Row → Records → Type 0
 IsParentOf None row s = row.parent ≡ 0
@@ -349,6 +345,10 @@ IsParentOf (Some parent) row s = (up : Row) × (Stores s parent up × (up.lkid �
 -- the locks of a process
 abbrev pub own_at : ℕ → Records → List OwnLock
 own_at at s = option_map_or (λ p. p.own) (process_at at s.processes) []
+
+-- the process of this key has no lock
+abbrev pub HasNoLocks : ℕ → Records → Type 0
+HasNoLocks at s = own_at at s ≡ []
 
 -- the key of the first of these locks, if there is one
 abbrev pub first_own_at : List OwnLock → Option ℕ

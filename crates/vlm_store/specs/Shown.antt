@@ -1,10 +1,10 @@
 -- What the slabs of locks and resources show.
-use Rattle.std.specs.Prelude.{◌≡◌, ◌≢◌, ◌+◌, ◌==◌, if◌then◌else◌, ℕ, false, replicate, List, Option, None, Some}
+use Rattle.std.specs.Prelude.{◌≡◌, ◌+◌, ◌==◌, if◌then◌else◌, ℕ, false, replicate, List, Option, None, Some}
 use Rattle.std.specs.Option.{option_map}
 use Rattle.slab.specs.Slab.{Slab, get, ContainsKey}
 use Rattle.vlm_links.specs.declared.link.Links.{Links}
 use Rattle.vlm_links.specs.declared.lists.LinkedList.{LinkedList}
-use Rattle.vlm_links.specs.Lists.{IsIn, IsLinked, keys_of, without}
+use Rattle.vlm_links.specs.Lists.{keys_of, without}
 use Rattle.vlm_words.specs.declared.locks.Row.{Row}
 use Rattle.vlm_words.specs.declared.modes.Mode.{Mode}
 use Rattle.vlm_words.specs.declared.resources.Domain.{Domain}

@@ -1,9 +1,10 @@
 //! The processes of the store, and the locks of each.
 
 ghost use Rattle.std.specs.Prelude.{◌≡◌, ℕ, [], ◌∷◌, ◌++◌, length, IfOk, IfSome, OnErr};
+ghost use Rattle.std.specs.Bool.{OnFalse, OnTrue};
 ghost use Rattle.vlm_words.specs.declared.locks.Row.{Row};
 ghost use Rattle.vlm_words.specs.StatusBlocks.{process_with_block};
-ghost use Rattle.vlm_store.specs.Records.{FindsProcess, HasNoLocks, HasProcess, IsNewProcess, IsOwnAmong, IsProcess, IsProcessAmong, IsStored, OwnLock, StoredProcess, Stores, first_own_at, new_stored_process, on_process, own_at, own_at_after, process_at, without_process};
+ghost use Rattle.vlm_store.specs.Records.{FindsProcess, HasNoLocks, HasNoSublocks, HasProcess, IsNewProcess, IsOwnAmong, IsProcess, IsProcessAmong, IsStored, OwnLock, StoredProcess, Stores, first_own_at, new_stored_process, on_process, own_at, own_at_after, process_at, without_process};
 
 use crate::keys::{LockAt, ProcAt};
 use crate::processes::{Process, enter, leave};
@@ -16,18 +17,15 @@ use vlm_words::steps::Declaration;
 impl Store {
     /// Where the living process with this identification is.
     pub fn process(&self, pid: u32) -> Option<ProcAt>
-        ensures { FindsProcess self.now pid result }
+        ensures found { FindsProcess self.now pid result }
+        ensures there { IfSome result (λ at. HasProcess at self.now) }
     {
         self.process_index.get(&pid).copied()
     }
 
     /// Adds a process with new status blocks and without locks, the last in order of making. Where memory
     /// is refused, or no key is left, nothing is changed.
-    pub fn add_process(
-        &mut self,
-        pid: u32,
-        declaration: &Declaration,
-    ) -> Result<ProcAt, AllocError>
+    pub fn add_process(&mut self, pid: u32, declaration: &Declaration) -> Result<ProcAt, AllocError>
         requires { IsNewProcess pid self.old }
         ensures added { IfOk result (λ at. self.new ≡ record self.old {
           processes = self.old.processes ++ new_stored_process at pid declaration.now ∷ [];
@@ -125,12 +123,15 @@ impl Store {
         }
     }
 
-    /// How many locks stand below a lock.
-    pub fn sublock_count(&self, lock: LockAt) -> usize
+    /// Whether a lock stands below this one.
+    pub fn has_sublocks(&self, lock: LockAt) -> bool
         requires { IsStored lock self.now }
-        ensures { (p : StoredProcess) (own : OwnLock) → IsProcessAmong p self.now.processes
-            → IsOwnAmong own p.own → own.at ≡ lock → result ≡ length own.sublocks }
+        ensures none { OnFalse result (HasNoSublocks lock self.now) }
+        ensures some { OnTrue result (¬ HasNoSublocks lock self.now) }
     {
-        self.queues.locks[lock.slot()].sublocks.len(&self.queues.locks)
+        self.queues.locks[lock.slot()]
+            .sublocks
+            .len(&self.queues.locks)
+            > 0
     }
 }

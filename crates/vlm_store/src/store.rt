@@ -176,7 +176,10 @@ impl Store {
         }
         self.queues.resources.reserve(1)?;
         self.resource_index.reserve(1)?;
-        let res = ResAt::of(self.queues.add_resource(&mut self.order, serial, domain, key));
+        let res = ResAt::of(
+            self.queues
+                .add_resource(&mut self.order, serial, domain, key),
+        );
         let _ = self.resource_index.insert(*key, res);
         Ok(res)
     }

@@ -1,9 +1,7 @@
-use Rattle.std.proofs.Common.{◌≡◌, ◌++◌, ◌∷◌, [], ℕ, Some, ap, sym, subst, ◌∙◌}
+use Rattle.std.proofs.Common.{◌≡◌, Some, ap, sym, ◌∙◌}
 use Rattle.std.proofs.lemmas.Option.{same_Some}
-use Rattle.slab.specs.Slab.{Slab}
-use Rattle.vlm_store.specs.declared.locks.Lock.{Lock}
-use Rattle.vlm_store.specs.Holdings.{below_keys, parent_in}
-use Rattle.vlm_store.proofs.OwnLocks.{below_again, parent_joined, parent_joined_here, parent_joined_others}
+use Rattle.vlm_store.specs.Holdings.{parent_in}
+use Rattle.vlm_store.proofs.OwnLocks.{parent_joined, parent_joined_here, parent_joined_others}
 use Rattle.vlm_store.proofs.kin.join_parent.Goals as goal
 
 pub returns-clause-below : goal.returns-clause-below

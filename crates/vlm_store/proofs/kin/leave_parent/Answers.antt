@@ -3,7 +3,7 @@ use Rattle.std.proofs.lemmas.Option.{none-some}
 use Rattle.vlm_links.specs.Lists.{IsIn, keys_of}
 use Rattle.vlm_links.proofs.KeyLists.{without_absent}
 use Rattle.vlm_store.specs.Holdings.{below_in, below_keys, below_links, parent_in}
-use Rattle.vlm_store.proofs.OwnLocks.{below_none, parent_left, parent_left_keys, parent_there, parents_rest}
+use Rattle.vlm_store.proofs.OwnLocks.{below_none, parent_left, parent_left_keys, parent_there}
 use Rattle.vlm_store.proofs.kin.leave_parent.Goals as goal
 
 pub index-requires-2 : goal.index-requires-2

@@ -2,7 +2,7 @@ use Rattle.std.proofs.Common.{◌≡◌, ◌∙◌, ◌++◌, ◌∷◌, [], ℕ
 use Rattle.std.specs.Cmp.{unsigned_Decides}
 use Rattle.std.specs.Map.{lookup}
 use Rattle.std.specs.Option.{option_map}
-use Rattle.slab.specs.Slab.{ContainsKey, get as slot_of}
+use Rattle.slab.specs.Slab.{get as slot_of}
 use Rattle.indexmap.specs.IndexMap.{get}
 use Rattle.vlm_links.proofs.Keeping.{vacant_unlisted}
 use Rattle.vlm_links.specs.Lists.{IsIn}
@@ -12,16 +12,14 @@ use Rattle.vlm_store.specs.declared.keys.Place.TheVariants.{Loose}
 use Rattle.vlm_store.specs.declared.locks.Lock.{Lock}
 use Rattle.vlm_store.specs.Holdings.{holding, pid_at, processes_of}
 use Rattle.vlm_store.specs.Kept.{processes_shown}
-use Rattle.vlm_store.specs.Records.{StoredProcess, process_with_lock}
-use Rattle.vlm_store.specs.Shown.{but_kin, but_queued, keys_at, list_at, lkid_of, queue_links, row_in}
+use Rattle.vlm_store.specs.Records.{process_with_lock}
+use Rattle.vlm_store.specs.Shown.{but_queued, keys_at, list_at, lkid_of, queue_links, row_in}
 use Rattle.vlm_store.specs.Store.{key_at, lkid_at, records_of, tables}
 use Rattle.vlm_store.proofs.Indexing.{Indexes-added, Indexes-same}
 use Rattle.vlm_store.proofs.Joining.{new_lkid, other_lkids, joined_kin, joined_lkids, joined_named, joined_owned, joined_processes, linked_parent_there, new_below, new_owned, owner_was_there}
 use Rattle.vlm_store.proofs.Kept.{faces_same, keys_same, no_lock, on_err, on_ok, order_keys, order_linked, order_whole, reserved_keys, reserved_placed, reserved_tallied, shown_with_lock_room, stored_there}
-use Rattle.vlm_store.proofs.Kinship.{kin_keys, kin_placed, kin_rows, kin_tallied, own_below, own_kin, own_named, own_pids, own_process_linked, own_process_whole, queued_below, queued_named, queued_owned, records_processes, by_part}
+use Rattle.vlm_store.proofs.Kinship.{kin_keys, kin_placed, kin_rows, kin_tallied, own_below, own_pids, own_process_linked, own_process_whole, queued_below, queued_named, queued_owned, records_processes}
 use Rattle.vlm_store.proofs.Layouts.{loose_joined}
-use Rattle.vlm_store.proofs.Living.{process_named}
-use Rattle.vlm_store.proofs.Places.{there_through}
 use Rattle.vlm_store.proofs.store.Store.add_lock.Goals as goal
 
 pub invariant_of-self : goal.invariant_of-self

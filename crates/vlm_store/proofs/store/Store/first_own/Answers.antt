@@ -1,4 +1,4 @@
-use Rattle.std.proofs.Common.{◌≡◌, ◌∙◌, ℕ, Option, Some, None, sym, ap}
+use Rattle.std.proofs.Common.{◌∙◌, sym, ap}
 use Rattle.vlm_links.specs.Lists.{first_key, keys_of}
 use Rattle.vlm_store.specs.Holdings.{own_in, own_keys, own_links}
 use Rattle.vlm_store.proofs.Layouts.{first_key-in}

@@ -1,4 +1,4 @@
-use Rattle.std.proofs.Common.{◌∙◌, sym, ap}
+use Rattle.std.proofs.Common.{sym, ap}
 use Rattle.vlm_store.specs.Holdings.{plain_in}
 use Rattle.vlm_store.proofs.Living.{process_is, process_there}
 use Rattle.vlm_store.proofs.store.Store.group.Goals as goal

@@ -1,6 +1,6 @@
-use Rattle.std.proofs.Common.{◌∙◌, map, length, sym, ap, subst}
+use Rattle.std.proofs.Common.{◌∙◌, length, sym, ap}
 use Rattle.std.proofs.lemmas.List.{length-map}
-use Rattle.vlm_links.specs.Lists.{IsLinked, keys_of}
+use Rattle.vlm_links.specs.Lists.{keys_of}
 use Rattle.vlm_store.specs.Holdings.{own_in, own_links}
 use Rattle.vlm_store.proofs.Living.{own_is, process_there}
 use Rattle.vlm_store.proofs.store.Store.lock_count.Goals as goal

@@ -1,6 +1,5 @@
 use Rattle.std.proofs.Common.{None, ◌∙◌, ap, refl, nat_eq}
 use Rattle.indexmap.specs.IndexMap.{get}
-use Rattle.vlm_words.specs.declared.locks.Row.{Row}
 use Rattle.vlm_words.specs.Keys.{is_same_key}
 use Rattle.vlm_store.specs.Shown.{keys_at, named_row, rows}
 use Rattle.vlm_store.specs.Store.{key_at, lkid_at, tables}

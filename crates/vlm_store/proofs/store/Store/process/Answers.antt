@@ -1,6 +1,9 @@
 use Rattle.std.proofs.Common.{◌∙◌}
-use Rattle.vlm_store.proofs.Living.{finds_process}
+use Rattle.vlm_store.proofs.Living.{finds_process, found_there}
 use Rattle.vlm_store.proofs.store.Store.process.Goals as goal
 
-pub returns : goal.returns
-returns c = rw (← c.self.view_is) (finds_process c.self.inside c.self.invariant c.args.pid c.copied.result (c.copied.ensures ∙ c.get.ensures.value))
+pub returns-clause-found : goal.returns-clause-found
+returns-clause-found c = rw (← c.self.view_is) (finds_process c.self.inside c.self.invariant c.args.pid c.copied.result (c.copied.ensures ∙ c.get.ensures.value))
+
+pub returns-clause-there : goal.returns-clause-there
+returns-clause-there c = rw (← c.self.view_is) (found_there c.self.inside c.self.invariant c.args.pid c.copied.result (c.copied.ensures ∙ c.get.ensures.value))

@@ -1,4 +1,4 @@
-use Rattle.std.proofs.Common.{◌≡◌, ◌≢◌, ◌∙◌, ℕ, [], None, Some, ap, sym, refl, subst, nat_eq}
+use Rattle.std.proofs.Common.{◌≡◌, ◌≢◌, ◌∙◌, ℕ, [], Some, ap, sym, refl, subst, nat_eq}
 use Rattle.std.proofs.lemmas.Option.{none-some}
 use Rattle.std.specs.Cmp.{unsigned_Decides}
 use Rattle.std.specs.Option.{option_map}
@@ -11,7 +11,7 @@ use Rattle.vlm_store.specs.Records.{without_process}
 use Rattle.vlm_store.proofs.Declaring.{names_stay, no_own, owns_stay, pid_by_order, plain_by_order, process_own_keys, process_owned}
 use Rattle.vlm_store.proofs.Indexing.{Indexes-removed}
 use Rattle.vlm_store.proofs.Kinship.{processes_changed, there_by_part}
-use Rattle.vlm_store.proofs.Living.{among_shown, held, process_listed, process_there}
+use Rattle.vlm_store.proofs.Living.{held, own_is, process_listed, process_there}
 use Rattle.vlm_store.proofs.Making.{map-nil, whole_left}
 use Rattle.vlm_store.proofs.Members.{process_removed}
 use Rattle.vlm_store.proofs.store.Store.remove_process.Goals as goal
@@ -28,9 +28,9 @@ invariant_of-self c =
     let kept = c.self.invariant in
     let left = rw c.slot-2.ensures at c.leave.ensures in
     let new = c.leave.new.processes in
-    let listed = process_listed s kept c.args.at (rw (← c.self.view_is) at c.requires.there) in
     let none : own_keys s.processes s.queues.locks c.args.at ≡ [] =
-    map-nil (own_of (held s kept)) (own_keys s.processes s.queues.locks c.args.at) ((rw (← c.self.view_is) at c.requires.idle) _ (among_shown s kept c.args.at listed) refl) in
+    map-nil (own_of (held s kept)) (own_keys s.processes s.queues.locks c.args.at)
+    (sym (own_is s kept c.args.at (rw (← c.self.view_is) at c.requires.there)) ∙ (rw (← c.self.view_is) at c.requires.idle)) in
     let before = no_own s.processes s.queues.locks c.args.at kept.owned none in
     let after = ap own_in left.gone in
     let apart : (k : ℕ) (l : Lock) → get s.queues.locks k ≡ Some l → l.owner ≢ c.args.at =
@@ -58,9 +58,9 @@ returns c =
     let kept = c.self.invariant in
     let left = rw c.slot-2.ensures at c.leave.ensures in
     let new = c.leave.new.processes in
-    let listed = process_listed s kept c.args.at (rw (← c.self.view_is) at c.requires.there) in
     let none : own_keys s.processes s.queues.locks c.args.at ≡ [] =
-    map-nil (own_of (held s kept)) (own_keys s.processes s.queues.locks c.args.at) ((rw (← c.self.view_is) at c.requires.idle) _ (among_shown s kept c.args.at listed) refl) in
+    map-nil (own_of (held s kept)) (own_keys s.processes s.queues.locks c.args.at)
+    (sym (own_is s kept c.args.at (rw (← c.self.view_is) at c.requires.there)) ∙ (rw (← c.self.view_is) at c.requires.idle)) in
     let before = no_own s.processes s.queues.locks c.args.at kept.owned none in
     let after = ap own_in left.gone in
     let owns = owns_stay s.processes new c.args.at left.others before after in
