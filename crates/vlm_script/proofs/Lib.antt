@@ -1,3 +1,4 @@
+mod Bound
 pub mod Hexadecimal
 mod Shown
 mod Progress

@@ -1,3 +1,4 @@
+pub mod Bindings
 pub mod Queues
 pub mod Sessions
 pub mod Plays

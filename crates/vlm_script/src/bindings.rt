@@ -1,60 +1,29 @@
 //! The names that a script has bound.
 
-ghost use Rattle.std.specs.Prelude.{◌≡◌, find};
-ghost use Rattle.vlm_words.specs.Lines.{is_text};
+ghost use Rattle.std.specs.Prelude.{◌≡◌, ◌<◌, [], ◌∷◌, ◌++◌, None};
+ghost use Rattle.indexmap.specs.IndexMap.{spare};
 ghost use Rattle.vlm_words.specs.Scripts.{bound_to};
+ghost use Rattle.vlm_script.specs.Bindings.{bindings_of};
 
-use std::marker::Model;
+use indexmap::IndexMap;
 use vlm_words::scripts::ProcessName;
 
-/// A name of the script and its process.
-#[derive(Clone, Copy)]
-pub(crate) struct Binding {
-    name: ProcessName,
-    pid: u32,
-}
-
-impl Model for Binding {
-    ghost use Rattle.vlm_words.specs.Scripts.{Binding as PlainBinding};
-
-    ghost Value = { PlainBinding };
-
-    ghost view = { λ b. record { name = b.name; pid = b.pid } };
-
-    ghost inverse = { λ b. record { name = b.name; pid = b.pid } };
-}
-
-impl Binding {
-    /// The name stands for the process.
-    pub(crate) fn new(name: ProcessName, pid: u32) -> Self
-        ensures { result ≡ record { name = name; pid = pid } }
-    {
-        Binding { name, pid }
-    }
-
-    fn pid(&self) -> u32
-        ensures { result ≡ self.now.pid }
-    {
-        self.pid
-    }
-
-    fn is_of(&self, name: &ProcessName) -> bool
-        ensures { result ≡ is_text self.now.name name.now }
-    {
-        self.name.bytes() == name.bytes()
-    }
-}
+/// The names of the script, each with its process, in the order of their declarations.
+pub(crate) type Bindings = IndexMap<ProcessName, u32>;
 
 /// The process that the name is bound to.
-pub(crate) fn bound_to(names: &[Binding], name: &ProcessName) -> Option<u32>
-    ensures { result ≡ bound_to names.now name.now }
+pub(crate) fn bound_to(names: &Bindings, name: &ProcessName) -> Option<u32>
+    ensures { result ≡ bound_to (bindings_of names.now) name.now }
 {
-    let found = binding_of(names, name);
-    found.map(|binding| binding.pid())
+    names.get(name).copied()
 }
 
-fn binding_of(names: &[Binding], name: &ProcessName) -> Option<Binding>
-    ensures { result ≡ find (λ b. is_text b.name name.now) names.now }
+/// Binds a new name to a process, in room that is there.
+pub(crate) fn bind_reserved(names: &mut Bindings, name: ProcessName, pid: u32)
+    requires room { 0 < spare names.old }
+    requires unbound { bound_to (bindings_of names.old) name ≡ None }
+    ensures { bindings_of names.new
+        ≡ bindings_of names.old ++ record { name = name; pid = pid } ∷ [] }
 {
-    names.iter().copied().find(|binding| binding.is_of(name))
+    let _ = names.insert(name, pid);
 }

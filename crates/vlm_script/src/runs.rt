@@ -22,8 +22,7 @@ const WAITING: usize = 65_536;
 /// ends the run with `Line`, once the text of the lines before it is written; a refused growth ends
 /// it with `Memory` in the same way; a write that fails or takes no byte ends it with `Write`. A
 /// step that answers INSFMEM is printed like any other. Memory grows with the script and with the
-/// state of the machine; the time beyond the steps' own grows with the script's bytes and the
-/// number of bound names.
+/// state of the machine; the time beyond the steps' own grows with the script's bytes.
 pub fn play<R: Read, W: Write>(
     alloc: Global,
     reader: &mut R,
@@ -41,10 +40,7 @@ pub fn play<R: Read, W: Write>(
         (ReadsScript (R.remaining reader.old) (R.remaining reader.new))
         (W.contents writer.new ≡ W.contents writer.old) }
 {
-    let input = match read_whole(alloc, reader) {
-        Ok(input) => input,
-        Err(fault) => return Err(fault),
-    };
+    let input = read_whole(alloc, reader)?;
     run_script(alloc, &input, writer)
 }
 

@@ -5,7 +5,7 @@ ghost use Rattle.vlm_words.specs.Scripts.{bound_to, opening, setting_made, reque
 ghost use Rattle.vlm_words.specs.Texts.{answer_line};
 ghost use Rattle.vlm_script.specs.Sessions.{IsRun, IsPrinted, StopsBytes, StopsLine};
 
-use crate::bindings::{Binding, bound_to};
+use crate::bindings::{Bindings, bind_reserved, bound_to};
 use crate::printing::{answer_line, status_block_line};
 use crate::show::show;
 use crate::stops::Stop;
@@ -23,15 +23,16 @@ use vlm_words::steps::{Answer, Conversion, Declaration, Dequeue, NewRequest, Val
 pub(crate) struct Session {
     core: Core,
     // in the order of their declarations
-    names: Vec<Binding>,
+    names: Bindings,
 }
 
 impl Model for Session {
     ghost use Rattle.vlm_words.specs.Scripts.{Session as PlainSession};
+    ghost use Rattle.vlm_script.specs.Bindings.{bindings_of};
 
     ghost Value = { PlainSession };
 
-    ghost view = { λ s. record { names = s.names.items; state = s.core } };
+    ghost view = { λ s. record { names = bindings_of s.names; state = s.core } };
 }
 
 impl Session {
@@ -41,7 +42,7 @@ impl Session {
     {
         Session {
             core: Core::new(alloc),
-            names: Vec::new(alloc),
+            names: Bindings::new(alloc),
         }
     }
 
@@ -112,7 +113,7 @@ impl Session {
         }
         let answer = self.core.declare(declaration);
         if let Answer::Process(pid) = answer {
-            self.names.push_reserved(Binding::new(name, pid));
+            bind_reserved(&mut self.names, name, pid);
         }
         print_answer(name, answer, out)
     }
