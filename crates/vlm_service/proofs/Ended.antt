@@ -1,0 +1,155 @@
+-- Two services, one after the other, and what a service of a resource comes to in the end.
+use Rattle.std.proofs.Common.{◌≡◌, ◌≢◌, ℕ, List, [], ◌∷◌, ◌++◌, map, true, false, cond, None, Some, IfSome, refl, sym, ap, ◌∙◌, subst, inl, inr, eq-eqb, ne_eqb}
+use Rattle.std.specs.Prelude.{◌==◌}
+use Rattle.std.proofs.lemmas.Bool.{cases_eq}
+use Rattle.std.proofs.lemmas.List.{append-nil}
+use Rattle.std.proofs.lemmas.Option.{same_Some}
+use Rattle.vlm_words.specs.declared.resources.Queue.TheVariants.{Conversion, Waiting}
+use Rattle.vlm_words.specs.declared.resources.ValueBlock.{ValueBlock}
+use Rattle.vlm_words.specs.Effects.{Blocks, blocks_after, blocks_with, with_value_block}
+use Rattle.vlm_words.specs.Grants.{Service, is_empty, no_service, service, service_of_conversions, service_of_new_requests, service_of_waiting, service_then}
+use Rattle.vlm_words.specs.State.{Resource}
+use Rattle.vlm_words.specs.Sweeps.{blocks_after_service, resource_after_service}
+use Rattle.vlm_store.specs.declared.keys.Place.TheVariants.{Queued}
+use Rattle.vlm_store.specs.Records.{IsResourceAmong, IsSound, Records, StoredLock, StoredResource, but_blocks, first_at, locks_at, on_resource, plain_processes, resource_at, rows_of}
+use Rattle.vlm_service.specs.Plain.{plain_resource}
+use Rattle.vlm_service.specs.Serving.{IsLeft, IsServed, IsServiceOf, but_service, service_from}
+use Rattle.vlm_service.proofs.Found.{on_resource-put, resource_alone, resource_at-at}
+use Rattle.vlm_service.proofs.Granting.{blocks_after_append}
+use Rattle.vlm_service.proofs.Moves.{locks_found, none_queued}
+
+-- a change of one resource, and then another
+left_then : (res : ℕ) (had left last : StoredResource) (old s new : Records) → IsLeft res had left old s → IsLeft res left last s new → IsLeft res had last old new
+left_then res had left last old s new first second = record {
+  was = first.was;
+  now = second.now;
+  rest = second.rest ∙ first.rest;
+  resources =
+      second.resources ∙ ap (on_resource res (λ x. last)) first.resources
+      ∙ on_resource-put res left (λ x. last) old.resources (resource_at-at res s.resources left first.now);
+  loose = second.loose ∙ first.loose;
+  processes = second.processes ∙ first.processes;
+}
+
+-- the service of a resource, once no conversion is left
+service_is : (r left : Resource) → left ≡ (service_of_conversions r r.converting).resource → is_empty left.converting ≡ true
+    → service r ≡ service_then (service_of_conversions r r.converting) (service_of_waiting left left.waiting)
+unfolding service
+service_is r left is none =
+    ap (λ (l : Resource). service_then (service_of_conversions r r.converting) (service_of_new_requests l)) (sym is)
+    ∙ rw none refl
+
+-- where conversions are left nothing else is served
+service_alone : (r left : Resource) → left ≡ (service_of_conversions r r.converting).resource → is_empty left.converting ≡ false
+    → service r ≡ service_of_conversions r r.converting
+unfolding service
+service_alone r left is some = alone (service_of_conversions r r.converting) is
+  where
+    alone : (done : Service) → left ≡ done.resource → service_then done (service_of_new_requests done.resource) ≡ done
+    alone done is =
+        let none : service_of_new_requests done.resource ≡ no_service left = ap service_of_new_requests (sym is) ∙ rw some refl in
+        rw none (ap (λ x. record { resource = x; endings = done.endings ++ [] }) is ∙ ap (λ es. record { resource = done.resource; endings = es }) (append-nil done.endings))
+
+module _ (res : ℕ) (old_block : ValueBlock) (old : Records) (block : ValueBlock) (s : Records) (first : IsServiceOf (service_from Conversion) res old_block old block s) where
+  -- no conversion is left: the new requests are served after the conversions
+  pub served_then : (new_block : ValueBlock) (new : Records) → None ≡ first_at (locks_at (Queued res Conversion) s)
+      → IsServiceOf (service_from Waiting) res block s new_block new → IsServiceOf service res old_block old new_block new
+  served_then new_block new none second =
+      let same : second.had ≡ first.left = same_Some second.had first.left (sym second.change.was ∙ first.change.now) in
+      let r : Resource = plain_resource first.had in
+      let left : Resource = plain_resource first.left in
+      let empty : is_empty left.converting ≡ true =
+      ap (λ xs. is_empty (rows_of xs)) (none_queued s res first.left Conversion first.change.now (sym none)) in
+      let is : service r ≡ service_then (service_of_conversions r r.converting) (service_of_waiting left left.waiting) = service_is r left first.resource empty in
+      record {
+        had = first.had;
+        left = second.left;
+        change = left_then res first.had first.left second.left old s new first.change (subst (λ x. IsLeft res x second.left s new) same second.change);
+        resource = second.resource ∙ ap (λ x. (service_from Waiting (plain_resource x)).resource) same ∙ sym (ap (λ (d : Service). d.resource) is);
+        effect =
+            second.effect
+            ∙ ap (λ x. blocks_after (service_from Waiting (plain_resource x)).endings (blocks_with block (plain_processes s))) same
+            ∙ ap (blocks_after (service_of_waiting left left.waiting).endings) first.effect
+            ∙ sym (blocks_after_append (service_of_conversions r r.converting).endings (service_of_waiting left left.waiting).endings (blocks_with old_block (plain_processes old)))
+            ∙ sym (ap (λ (d : Service). blocks_after d.endings (blocks_with old_block (plain_processes old))) is);
+      }
+
+  -- a conversion is left, and nothing else is served
+  pub served_alone : (at : ℕ) → Some at ≡ first_at (locks_at (Queued res Conversion) s) → IsServiceOf service res old_block old block s
+  served_alone at some =
+      let r : Resource = plain_resource first.had in
+      let left : Resource = plain_resource first.left in
+      let filled : is_empty left.converting ≡ false = of_list first.left.converting (ap first_at (sym (locks_found s res first.left Conversion first.change.now)) ∙ sym some) in
+      let is : service r ≡ service_of_conversions r r.converting = service_alone r left first.resource filled in
+      record {
+        had = first.had;
+        left = first.left;
+        change = first.change;
+        resource = first.resource ∙ sym (ap (λ (d : Service). d.resource) is);
+        effect = first.effect ∙ sym (ap (λ (d : Service). blocks_after d.endings (blocks_with old_block (plain_processes old))) is);
+      }
+    where
+      of_list : (locks : List StoredLock) → first_at locks ≡ Some at → is_empty (rows_of locks) ≡ false
+      of_list [] none = cc
+      of_list (k ∷ rest) some = refl
+
+-- what is put in the place of a resource is shown there
+shown_on : {B : Type 0} (res : ℕ) (last : StoredResource) (show all : StoredResource → B) (rs : List StoredResource)
+    → ((x : StoredResource) → IsResourceAmong x rs → show (cond (x.at == res) last x) ≡ all x) → map show (on_resource res (λ x. last) rs) ≡ map all rs
+shown_on res last show all [] each = refl
+shown_on res last show all (x ∷ rs) each =
+    ap (λ y. y ∷ map show (on_resource res (λ x. last) rs)) (each x (inl refl))
+    ∙ ap (λ ys. all x ∷ ys) (shown_on res last show all rs (λ y there. each y (inr there)))
+
+module _ (res : ℕ) (old s new : Records) (old_block block : ValueBlock) (sound : IsSound old) (told : IfSome (resource_at res old.resources) (λ r. old_block ≡ r.value_block))
+    (done : IsServiceOf service res old_block old block s) (wrote : new ≡ record s { resources = on_resource res (λ r. record r { value_block = block }) s.resources }) where
+  -- what the ends of the service wrote
+  blocks : blocks_with block (plain_processes s) ≡ blocks_after_service (plain_processes old) (plain_resource done.had)
+  unfolding blocks_after_service
+  blocks =
+      let was : old_block ≡ done.had.value_block = subst (λ o. IfSome o (λ r. old_block ≡ r.value_block)) done.change.was told in
+      done.effect ∙ ap (λ v. blocks_after (service (plain_resource done.had)).endings (blocks_with v (plain_processes old))) was
+
+  -- the resource in the end
+  abbrev last : StoredResource
+  last = record done.left { value_block = block }
+
+  resources_are : new.resources ≡ on_resource res (λ x. last) old.resources
+  resources_are =
+      ap (λ (x : Records). x.resources) wrote
+      ∙ ap (on_resource res (λ r. record r { value_block = block })) done.change.resources
+      ∙ on_resource-put res done.left (λ r. record r { value_block = block }) old.resources (resource_at-at res s.resources done.left done.change.now)
+
+  -- of the resources only this one changes
+  each_shown : {B : Type 0} (show : StoredResource → B) (all : StoredResource → B) → show last ≡ all done.had → ((x : StoredResource) → x.at ≢ res → show x ≡ all x)
+      → map show new.resources ≡ map all old.resources
+  each_shown show all here there =
+      ap (map show) resources_are
+      ∙ shown_on res last show all old.resources (λ x among. elim (cases_eq x.at res) [
+        | inl same ↦ ap (λ b. show (cond b last x)) (eq-eqb x.at res same) ∙ here ∙ ap all (sym (resource_alone res old.resources done.had x sound.resources_apart done.change.was among same))
+        | inr differs ↦ ap (λ b. show (cond b last x)) (ne_eqb x.at res differs) ∙ there x differs
+      ])
+
+  served_here : plain_resource last ≡ resource_after_service (plain_processes old) (plain_resource done.had)
+  served_here =
+      ap (λ x. with_value_block block x) done.resource
+      ∙ ap (λ (b : Blocks). with_value_block b.value_block (service (plain_resource done.had)).resource) blocks
+
+  -- the service is done
+  pub served : IsServed res old new
+  served = record {
+    resources =
+        each_shown plain_resource (λ r. cond (r.at == res) (resource_after_service (plain_processes old) (plain_resource r)) (plain_resource r))
+        (served_here
+        ∙ sym (ap (λ b. cond b (resource_after_service (plain_processes old) (plain_resource done.had)) (plain_resource done.had))
+        (eq-eqb done.had.at res (resource_at-at res old.resources done.had done.change.was))))
+        (λ x differs. sym (ap (λ b. cond b (resource_after_service (plain_processes old) (plain_resource x)) (plain_resource x)) (ne_eqb x.at res differs)));
+    keys = each_shown (λ r. r.at) (λ r. r.at) (ap (λ (r : StoredResource). r.at) done.change.rest) (λ x differs. refl);
+    names =
+        each_shown but_service but_service (ap (λ (r : StoredResource). but_service r) done.change.rest) (λ x differs. refl);
+    loose = ap (λ (x : Records). x.loose) wrote ∙ done.change.loose;
+    statuses =
+        subst (λ o. IfSome o (λ r. plain_processes new ≡ (blocks_after_service (plain_processes old) (plain_resource r)).processes)) (sym done.change.was)
+        (ap plain_processes wrote ∙ ap (λ (b : Blocks). b.processes) blocks);
+    processes = ap (λ (x : Records). map but_blocks x.processes) wrote ∙ done.change.processes;
+  }

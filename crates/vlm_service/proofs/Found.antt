@@ -1,0 +1,85 @@
+-- Records that are found by their keys.
+use Rattle.std.proofs.Common.{◌≡◌, ℕ, List, [], ◌∷◌, map, cond, Some, IsSome, refl, sym, ap, ◌∙◌, inl, inr, eq-eqb, ne_eqb}
+use Rattle.std.specs.Prelude.{◌==◌}
+use Rattle.std.proofs.lemmas.Bool.{cases_eq}
+use Rattle.std.proofs.lemmas.Option.{none-some, same_Some}
+use Rattle.vlm_store.specs.Records.{AreResourcesApart, HasProcess, IsProcess, IsProcessAmong, IsResourceAmong, Records, StoredProcess, StoredResource, on_resource, process_at, resource_at}
+
+process_found : (at : ℕ) (p : StoredProcess) (ps : List StoredProcess) → IsProcessAmong p ps → p.at ≡ at → IsSome (process_at at ps)
+process_found at p [] among is = absurd among
+process_found at p (x ∷ ps) among is =
+    elim (cases_eq x.at at) [
+      | inl same ↦ rw (eq-eqb x.at at same) refl
+      | inr differs ↦
+          rw (ne_eqb x.at at differs)
+          (elim among [
+            | inl here ↦ absurd (differs (ap (λ (y : StoredProcess). y.at) here ∙ is))
+            | inr there ↦ process_found at p ps there is
+          ])
+    ]
+
+-- a process of this key and this identification is one of this key
+pub process_there : (s : Records) (at pid : ℕ) → IsProcess at pid s → HasProcess at s
+process_there s at pid is = process_found at is.0 s.processes is.1.0 is.1.1
+
+-- the resource that is found has the key
+pub resource_at-at : (res : ℕ) (rs : List StoredResource) (r : StoredResource) → resource_at res rs ≡ Some r → r.at ≡ res
+resource_at-at res [] r found = absurd (none-some r found)
+resource_at-at res (x ∷ rs) r found =
+    elim (cases_eq x.at res) [
+      | inl same ↦ ap (λ (y : StoredResource). y.at) (sym (same_Some x r (rw (eq-eqb x.at res same) at found))) ∙ same
+      | inr differs ↦ resource_at-at res rs r (rw (ne_eqb x.at res differs) at found)
+    ]
+
+-- a resource is found by its key
+pub resource_is : (r : StoredResource) (rs : List StoredResource) → AreResourcesApart rs → IsResourceAmong r rs → resource_at r.at rs ≡ Some r
+resource_is r [] apart among = absurd among
+resource_is r (x ∷ rs) apart among =
+    elim among [
+      | inl here ↦ rw (eq-eqb x.at r.at (ap (λ (y : StoredResource). y.at) here)) (ap Some here)
+      | inr there ↦ rw (ne_eqb x.at r.at (λ same. apart.0 r there (sym same))) (resource_is r rs apart.1 there)
+    ]
+
+-- a resource of the key of the one that is found is that one
+pub resource_alone : (res : ℕ) (rs : List StoredResource) (r x : StoredResource) → AreResourcesApart rs → resource_at res rs ≡ Some r → IsResourceAmong x rs → x.at ≡ res → x ≡ r
+resource_alone res rs r x apart found among same =
+    same_Some x r (sym (resource_is x rs apart among) ∙ ap (λ k. resource_at k rs) same ∙ found)
+
+-- two changes are one where they are the same on each resource
+pub map_on : {B : Type 0} (f g : StoredResource → B) (rs : List StoredResource) → ((r : StoredResource) → IsResourceAmong r rs → f r ≡ g r) → map f rs ≡ map g rs
+map_on f g [] same = refl
+map_on f g (r ∷ rs) same = ap (λ x. x ∷ map f rs) (same r (inl refl)) ∙ ap (λ xs. g r ∷ xs) (map_on f g rs (λ x there. same x (inr there)))
+
+-- the resource in its own place
+pub on_resource-own : (res : ℕ) (r : StoredResource) (rs : List StoredResource) → AreResourcesApart rs → resource_at res rs ≡ Some r → on_resource res (λ x. r) rs ≡ rs
+on_resource-own res r rs apart found = map_on (λ x. cond (x.at == res) r x) (λ x. x) rs each ∙ same rs
+  where
+    each : (x : StoredResource) → IsResourceAmong x rs → cond (x.at == res) r x ≡ x
+    each x among =
+        elim (cases_eq x.at res) [
+          | inl is ↦ rw (eq-eqb x.at res is) (sym (resource_alone res rs r x apart found among is))
+          | inr differs ↦ rw (ne_eqb x.at res differs) refl
+        ]
+
+    same : (xs : List StoredResource) → map (λ x. x) xs ≡ xs
+    same [] = refl
+    same (x ∷ xs) = ap (λ rest. x ∷ rest) (same xs)
+
+-- what is put in the place of a resource is found there
+pub resource_at-put : (res : ℕ) (left : StoredResource) (rs : List StoredResource) (r : StoredResource) → left.at ≡ res → resource_at res rs ≡ Some r → resource_at res (on_resource res (λ x. left) rs) ≡ Some left
+resource_at-put res left [] r keyed found = absurd (none-some r found)
+resource_at-put res left (x ∷ rs) r keyed found =
+    elim (cases_eq x.at res) [
+      | inl same ↦ rw (eq-eqb x.at res same, eq-eqb left.at res keyed) refl
+      | inr differs ↦ rw (ne_eqb x.at res differs, ne_eqb x.at res differs) (resource_at-put res left rs r keyed (rw (ne_eqb x.at res differs) at found))
+    ]
+
+-- what is put in the place of a resource is changed there
+pub on_resource-put : (res : ℕ) (left : StoredResource) (change : StoredResource → StoredResource) (rs : List StoredResource) → left.at ≡ res
+    → on_resource res change (on_resource res (λ x. left) rs) ≡ on_resource res (λ x. change left) rs
+on_resource-put res left change [] keyed = refl
+on_resource-put res left change (x ∷ rs) keyed =
+    elim (cases_eq x.at res) [
+      | inl same ↦ rw (eq-eqb x.at res same, eq-eqb left.at res keyed) (ap (λ rest. change left ∷ rest) (on_resource-put res left change rs keyed))
+      | inr differs ↦ rw (ne_eqb x.at res differs, ne_eqb x.at res differs) (ap (λ rest. x ∷ rest) (on_resource-put res left change rs keyed))
+    ]

@@ -1,0 +1,4 @@
+pub mod Found
+pub mod Moves
+pub mod Granting
+pub mod Ended

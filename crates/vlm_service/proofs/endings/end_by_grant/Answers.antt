@@ -1,0 +1,14 @@
+use Rattle.vlm_service.proofs.Found.{process_there}
+use Rattle.vlm_service.proofs.endings.end_by_grant.Goals as goal
+
+pub end-requires : goal.end-requires
+end-requires c = process_there c.args.store.now _ _ c.requires
+
+pub end_with_value-requires : goal.end_with_value-requires
+end_with_value-requires c = process_there c.args.store.now _ _ c.requires
+
+pub value-requires : goal.value-requires
+value-requires c = process_there c.args.store.now _ _ c.requires
+
+pub end-requires-in-Write : goal.end-requires-in-Write
+end-requires-in-Write c = process_there c.args.store.now _ _ c.requires

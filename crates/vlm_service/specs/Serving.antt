@@ -1,0 +1,72 @@
+-- What the service of one resource leaves of the records.
+use Rattle.std.specs.Prelude.{◌≡◌, ◌==◌, ℕ, Bool, false, [], map, Option, None, Some, IfSome, if◌then◌else◌}
+use Rattle.vlm_words.specs.declared.locks.Request.{Request}
+use Rattle.vlm_words.specs.declared.resources.Queue.{Queue}
+use Rattle.vlm_words.specs.declared.resources.Queue.TheVariants.{Granted, Conversion, Waiting}
+use Rattle.vlm_words.specs.declared.resources.ValueBlock.{ValueBlock}
+use Rattle.vlm_words.specs.Effects.{blocks_after, blocks_with}
+use Rattle.vlm_words.specs.Grants.{Service, no_service, service_of_conversions, service_of_waiting}
+use Rattle.vlm_words.specs.State.{Resource}
+use Rattle.vlm_words.specs.Sweeps.{blocks_after_service, resource_after_service}
+use Rattle.vlm_words.specs.ValueBlocks.{new_value_block}
+use Rattle.vlm_store.specs.Records.{Records, StoredResource, but_blocks, fits_beside, on_resource, plain_processes, resource_at}
+use Rattle.vlm_service.specs.Plain.{plain_resource, plain_resources}
+
+-- a resource but for its queues
+abbrev pub but_queues : StoredResource → StoredResource
+but_queues r = record r { granted = []; converting = []; waiting = [] }
+
+-- a resource but for its queues and its value block
+abbrev pub but_service : StoredResource → StoredResource
+but_service r = record r {
+  value_block = new_value_block;
+  granted = [];
+  converting = [];
+  waiting = [];
+}
+
+-- the resource of this key is served, and its grants write its value block and their status blocks; all else stays:
+-- the other resources, the keys of all, the loose locks, and of each process what is not a status block
+pub record IsServed (res : ℕ) (old new : Records) : Type 0 where
+  pub resources : plain_resources new
+      ≡ map (λ r. if r.at == res then resource_after_service (plain_processes old) (plain_resource r) else plain_resource r) old.resources
+  pub keys : map (λ r. r.at) new.resources ≡ map (λ r. r.at) old.resources
+  pub names : map but_service new.resources ≡ map but_service old.resources
+  pub loose : new.loose ≡ old.loose
+  pub statuses : IfSome (resource_at res old.resources)
+      (λ r. plain_processes new ≡ (blocks_after_service (plain_processes old) (plain_resource r)).processes)
+  pub processes : map but_blocks new.processes ≡ map but_blocks old.processes
+
+-- ---- the parts of a service
+
+-- what a lock wants fits beside the other locks of the resource
+abbrev pub wanted_fits_beside : Option Request → ℕ → StoredResource → Bool
+wanted_fits_beside None lock r = false
+wanted_fits_beside (Some request) lock r = fits_beside request.mode (Some lock) r
+
+-- what is granted from one queue
+abbrev pub service_from : Queue → Resource → Service
+service_from Granted r = no_service r
+service_from Conversion r = service_of_conversions r r.converting
+service_from Waiting r = service_of_waiting r r.waiting
+
+-- of the resources only the one of this key changes, and of that its queues: it had these, and those are left; of the
+-- processes only status blocks change
+pub record IsLeft (res : ℕ) (had left : StoredResource) (old new : Records) : Type 0 where
+  pub was : resource_at res old.resources ≡ Some had
+  pub now : resource_at res new.resources ≡ Some left
+  pub rest : but_queues left ≡ but_queues had
+  pub resources : new.resources ≡ on_resource res (λ r. left) old.resources
+  pub loose : new.loose ≡ old.loose
+  pub processes : map but_blocks new.processes ≡ map but_blocks old.processes
+
+-- a service of the resource of this key is done, but for its value block, which is kept beside the records: its ends took
+-- effect, from this value block and these records to those
+pub record IsServiceOf (done : Resource → Service) (res : ℕ) (old_block : ValueBlock) (old : Records)
+    (new_block : ValueBlock) (new : Records) : Type 0 where
+  pub had : StoredResource
+  pub left : StoredResource
+  pub change : IsLeft res had left old new
+  pub resource : plain_resource left ≡ (done (plain_resource had)).resource
+  pub effect : blocks_with new_block (plain_processes new)
+      ≡ blocks_after (done (plain_resource had)).endings (blocks_with old_block (plain_processes old))

@@ -1,0 +1,90 @@
+//! The service of a resource's queues.
+
+ghost use Rattle.std.specs.Prelude.{◌≡◌, ◌≢◌, IfSome, true};
+ghost use Rattle.vlm_words.specs.declared.resources.Queue.{Queue};
+ghost use Rattle.vlm_words.specs.Effects.{blocks_after, blocks_with};
+ghost use Rattle.vlm_words.specs.Grants.{grant_endings, granted_row, service};
+ghost use Rattle.vlm_store.specs.declared.keys.Place.{Place};
+ghost use Rattle.vlm_store.specs.Records.{HasResource, IsStored, SameButBlocks, StoredLock, Stores, moving, plain_processes, resource_at, with_lists};
+ghost use Rattle.vlm_service.specs.Serving.{IsServed, IsServiceOf, service_from, wanted_fits_beside};
+
+use crate::endings::end_by_grant;
+use crate::grants::granted_row;
+use vlm_queue::{can_hold, head};
+use vlm_store::{LockAt, Place, ResAt, Store};
+use vlm_words::locks::{Request, Row};
+use vlm_words::resources::{Queue, ValueBlock};
+
+// Whether what a lock wants fits beside what the other locks of the resource hold.
+fn wanted_fits(store: &Store, res: ResAt, lock: LockAt, want: Option<Request>) -> bool
+    requires there { HasResource res store.now }
+    requires stored { IsStored lock store.now }
+    ensures { IfSome (resource_at res store.now.resources) (λ r. result
+        ≡ wanted_fits_beside want lock r) }
+{
+    match want {
+        None => false,
+        Some(request) => can_hold(store, res, request.mode, Some(lock)),
+    }
+}
+
+// Grants what a lock with this row wants: the lock joins the granted locks, and the grant takes effect on
+// the value block and on its status block.
+fn grant(value_block: &mut ValueBlock, store: &mut Store, res: ResAt, lock: LockAt, row: &Row)
+    requires there { HasResource res store.old }
+    requires stored { Stores store.old lock row.now }
+    ensures moved { let granted : StoredLock = record { at = lock; row = granted_row row.now }
+        in SameButBlocks
+        (with_lists (moving (Place.Queued res Queue.Granted) granted) store.old) store.new }
+    ensures effect { blocks_with value_block.new (plain_processes store.new)
+        ≡ blocks_after (grant_endings true row.now)
+        (blocks_with value_block.old (plain_processes store.old)) }
+{
+    let owner = store.owner(lock);
+    store.move_lock(lock, granted_row(*row), Place::Queued(res, Queue::Granted));
+    end_by_grant(value_block, store, owner, row);
+}
+
+// Grants from the front of a queue while the first lock fits. Each grant takes effect on the value block
+// and on its status block.
+fn serve_queue(value_block: &mut ValueBlock, store: &mut Store, res: ResAt, queue: Queue)
+    requires there { HasResource res store.old }
+    requires queued { Queue.Granted ≢ queue }
+    ensures { IsServiceOf (service_from queue) res
+        value_block.old store.old value_block.new store.new }
+{
+    store.known();
+    while let Some(lock) = head(store, res, queue) {
+        store.known();
+        let row = store.row(lock);
+        if !wanted_fits(store, res, lock, row.want) {
+            break;
+        }
+        grant(value_block, store, res, lock, &row);
+    }
+}
+
+// Grants from the conversion queue, and once that is empty from the waiting queue.
+fn serve_queues(value_block: &mut ValueBlock, store: &mut Store, res: ResAt)
+    requires { HasResource res store.old }
+    ensures { IsServiceOf service res value_block.old store.old value_block.new store.new }
+{
+    serve_queue(value_block, store, res, Queue::Conversion);
+    match head(store, res, Queue::Conversion) {
+        None => serve_queue(value_block, store, res, Queue::Waiting),
+        Some(_) => {}
+    }
+}
+
+/// Grants what can be granted on a resource: conversions first, then new requests, each queue up to the
+/// first that does not fit. Each grant takes effect on the value block and on its status block. The cost
+/// grows with what is granted.
+pub fn serve(store: &mut Store, res: ResAt)
+    requires { HasResource res store.old }
+    ensures { IsServed res store.old store.new }
+{
+    store.known();
+    let mut value_block = store.value_block(res);
+    serve_queues(&mut value_block, store, res);
+    store.set_value_block(res, value_block);
+}
