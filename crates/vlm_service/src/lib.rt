@@ -10,3 +10,6 @@ mod serving;
 pub use endings::end_by_grant;
 pub use grants::granted_row;
 pub use serving::serve;
+
+#[cfg(test)]
+mod tests;
