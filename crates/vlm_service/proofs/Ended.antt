@@ -1,5 +1,5 @@
 -- Two services, one after the other, and what a service of a resource comes to in the end.
-use Rattle.std.proofs.Common.{◌≡◌, ◌≢◌, ℕ, List, [], ◌∷◌, ◌++◌, map, true, false, cond, None, Some, IfSome, refl, sym, ap, ◌∙◌, subst, inl, inr, eq-eqb, ne_eqb}
+use Rattle.std.proofs.Common.{◌≡◌, ◌≢◌, ℕ, List, [], ◌∷◌, ◌++◌, map, true, false, cond, None, Some, IfSome, IsSome, refl, sym, ap, ◌∙◌, subst, inl, inr, eq-eqb, ne_eqb}
 use Rattle.std.specs.Prelude.{◌==◌}
 use Rattle.std.proofs.lemmas.Bool.{cases_eq}
 use Rattle.std.proofs.lemmas.List.{append-nil}
@@ -11,10 +11,10 @@ use Rattle.vlm_words.specs.Grants.{Service, is_empty, no_service, service, servi
 use Rattle.vlm_words.specs.State.{Resource}
 use Rattle.vlm_words.specs.Sweeps.{blocks_after_service, resource_after_service}
 use Rattle.vlm_store.specs.declared.keys.Place.TheVariants.{Queued}
-use Rattle.vlm_store.specs.Records.{IsResourceAmong, IsSound, Records, StoredLock, StoredResource, but_blocks, first_at, locks_at, on_resource, plain_processes, resource_at, rows_of}
+use Rattle.vlm_store.specs.Records.{HasResource, IsResourceAmong, IsSound, Records, StoredLock, StoredResource, but_blocks, first_at, locks_at, on_resource, plain_processes, resource_at, rows_of}
 use Rattle.vlm_service.specs.Plain.{plain_resource}
 use Rattle.vlm_service.specs.Serving.{IsLeft, IsServed, IsServiceOf, but_service, service_from}
-use Rattle.vlm_service.proofs.Found.{on_resource-put, resource_alone, resource_at-at}
+use Rattle.vlm_service.proofs.Found.{on_resource-put, resource_alone, resource_at-at, resource_at-put}
 use Rattle.vlm_service.proofs.Granting.{blocks_after_append}
 use Rattle.vlm_service.proofs.Moves.{locks_found, none_queued}
 
@@ -119,6 +119,13 @@ module _ (res : ℕ) (old s new : Records) (old_block block : ValueBlock) (sound
       ap (λ (x : Records). x.resources) wrote
       ∙ ap (on_resource res (λ r. record r { value_block = block })) done.change.resources
       ∙ on_resource-put res done.left (λ r. record r { value_block = block }) old.resources (resource_at-at res s.resources done.left done.change.now)
+
+  -- it is there still
+  pub still_there : HasResource res new
+  still_there =
+      subst IsSome
+      (sym (ap (resource_at res) resources_are
+      ∙ resource_at-put res last old.resources done.had (resource_at-at res s.resources done.left done.change.now) done.change.was)) refl
 
   -- of the resources only this one changes
   each_shown : {B : Type 0} (show : StoredResource → B) (all : StoredResource → B) → show last ≡ all done.had → ((x : StoredResource) → x.at ≢ res → show x ≡ all x)

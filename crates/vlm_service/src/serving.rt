@@ -81,7 +81,8 @@ fn serve_queues(value_block: &mut ValueBlock, store: &mut Store, res: ResAt)
 /// grows with what is granted.
 pub fn serve(store: &mut Store, res: ResAt)
     requires { HasResource res store.old }
-    ensures { IsServed res store.old store.new }
+    ensures served { IsServed res store.old store.new }
+    ensures there { HasResource res store.new }
 {
     store.known();
     let mut value_block = store.value_block(res);
