@@ -9,7 +9,7 @@ use Rattle.vlm_script.specs.declared.faults.PlayFault.TheVariants.{Memory, Read,
 use Rattle.vlm_script.specs.declared.faults.PlayFault.{PlayFault}
 use Rattle.vlm_script.specs.declared.stops.Stop.{Stop}
 use Rattle.vlm_script.specs.declared.stops.Stop.TheVariants.{Fault, Memory as out_of_memory}
-use Rattle.vlm_script.specs.Plays.{Passes, Plays, Wrote}
+use Rattle.vlm_script.specs.Plays.{EndsLines, Passes, Plays, Wrote}
 use Rattle.vlm_script.specs.Sessions.{IsPrinted, StopsBytes, stopped_at}
 
 -- the first lines have run; what they print is written but for what still waits to be
@@ -141,3 +141,8 @@ stops-reading (Some input) now writer fault (inr (inr too_long)) long =
     let consumed = long too_long in
     let longer = length-consumed input now consumed.0 consumed.2 in
     rw too_long ([], Appends-nothing writer, (refl, omega (arith, consumed.1, longer)))
+
+-- what stops a line ends the run of lines
+pub stop-ends : (number : ℕ) (stop : Stop) → EndsLines (stopped_at number stop)
+stop-ends number (Fault fault) = tt
+stop-ends number out_of_memory = tt

@@ -3,6 +3,7 @@
 ghost use Rattle.std.specs.Prelude.{◌≡◌, IfSome, IfErr, OnOk, OnErr, MatchResult};
 ghost use Rattle.vlm_script.specs.Plays.{EndsLines, Passes, PassesPart, Plays, ConsumesAtMost, ReadsFirst, ReadsScript, Wrote};
 ghost use Rattle.vlm_script.specs.Sessions.{IsPrinted, StopsBytes};
+ghost use Rattle.vlm_words.specs.Scripts.{opening};
 
 use crate::faults::PlayFault;
 use crate::session::Session;
@@ -51,11 +52,26 @@ fn run_script<W: Write>(alloc: Global, input: &[u8], writer: &mut W) -> Result<(
     ensures faults { IfErr result EndsLines }
 {
     let mut session = Session::new(alloc);
+    run_lines(alloc, &mut session, input, writer)
+}
+
+// Runs the lines of a script in a session in which nothing has happened, and writes what they print.
+fn run_lines<W: Write>(
+    alloc: Global,
+    session: &mut Session,
+    input: &[u8],
+    writer: &mut W,
+) -> Result<(), PlayFault>
+    requires { session.old ≡ opening }
+    ensures played { Wrote (W.contents writer.old) (W.contents writer.new)
+        (Plays input.now result) }
+    ensures faults { IfErr result EndsLines }
+{
     let mut out = Vec::new(alloc);
     let mut rest = input;
     let mut count = 0;
     while let Some((line, after)) = next_line(rest) {
-        if let Err(stop) = run_line(&mut session, line, &mut out) {
+        if let Err(stop) = run_line(session, line, &mut out) {
             match write_whole(writer, &out) {
                 Ok(()) => return Err(stop.at(count + 1)),
                 Err(_) => return Err(PlayFault::Write),

@@ -1,6 +1,6 @@
 use Rattle.std.proofs.Common.{length}
 use Rattle.vlm_script.proofs.Progress.{Progress}
-use Rattle.vlm_script.proofs.runs.run_script.Given as goal
+use Rattle.vlm_script.proofs.runs.run_lines.Given as goal
 
 abbrev pub invariant-loop-line : goal.invariant-loop-line
 invariant-loop-line g l =

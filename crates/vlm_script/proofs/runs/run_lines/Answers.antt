@@ -1,13 +1,13 @@
 use Rattle.std.proofs.Common.{◌≡◌, ◌+◌, [], ◌∷◌, drop, sym, ap, ◌∙◌, refl, arith}
 use Rattle.vlm_words.specs.Lines.{lines_of}
-use Rattle.vlm_script.proofs.Progress.{drop-more, reached-start, reached-more, reached-passed, reached-written, stops-writing, stops-at, ends}
-use Rattle.vlm_script.proofs.runs.run_script.Goals as goal
+use Rattle.vlm_script.proofs.Progress.{drop-more, reached-start, reached-more, reached-passed, reached-written, stop-ends, stops-writing, stops-at, ends}
+use Rattle.vlm_script.proofs.runs.run_lines.Goals as goal
 
 pub loop-line-init : goal.loop-line-init
 loop-line-init g c = record {
   left = refl;
   short = omega arith;
-  reached = rw (c.new-out.ensures.items, c.new-session.ensures) (reached-start c.args.input.now (g.W.Write.contents c.args.writer.now));
+  reached = rw (c.new-out.ensures.items, c.requires) (reached-start c.args.input.now (g.W.Write.contents c.args.writer.now));
 }
 
 pub loop-line-preserved : goal.loop-line-preserved
@@ -60,3 +60,6 @@ returns-clause-played g c =
     let short = rw c.deref-2.ensures.value at c.in-Err-write_whole-2.ensures.part.1 in
     let wrote = rw c.deref-2.ensures.value at c.in-Err-write_whole-2.ensures.part.2 in
     stops-writing c.args.input.now c.loop-line.count _ _ _ _ _ c.in-Err-write_whole-2.ensures.part.0 c.loop-line.invariant.reached short wrote
+
+pub returns-in-Ok-clause-faults : goal.returns-in-Ok-clause-faults
+returns-in-Ok-clause-faults g c = rw c.at.ensures (stop-ends (c.loop-line.count + 1) c.in-Err.stop)
