@@ -16,3 +16,4 @@ pub mod InOrder
 pub mod Keys
 pub mod AtOnce
 pub mod Writes
+pub mod Settled

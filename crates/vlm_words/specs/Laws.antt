@@ -143,6 +143,10 @@ pub data SweptInOrder : List Resource → List Resource → List Ending → Type
       → GrantsFirst before after endings → IsVacant after → SweptInOrder rest left more
       → SweptInOrder (before ∷ rest) left (endings ++ more)
 
+-- on each resource some lock is left
+abbrev pub NoResourceIsVacant : State → Type 0
+NoResourceIsVacant s = All (λ r. IsVacant r → ⊥) s.resources
+
 -- nobody is queued on the resource, and the mode may be held beside all that is
 pub record IsFreeFor (mode : Mode) (r : Resource) : Type 0 where
   pub no_conversions : r.converting ≡ []

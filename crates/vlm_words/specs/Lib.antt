@@ -27,3 +27,4 @@ pub mod Faults
 pub mod Lines
 pub mod Texts
 pub mod Scripts
+pub mod Settled

@@ -2,13 +2,15 @@
 //! are the laws.
 
 ghost use Rattle.std.specs.Prelude.{◌≡◌, List, None};
+ghost use Rattle.std.specs.List.{AllByRecursion};
 ghost use Rattle.vlm_words.specs.declared.steps.Answer.{Answer};
 ghost use Rattle.vlm_words.specs.declared.steps.Step.{Step};
 ghost use Rattle.vlm_words.specs.Endings.{Ending};
-ghost use Rattle.vlm_words.specs.State.{State};
+ghost use Rattle.vlm_words.specs.State.{Process, Resource, State};
+ghost use Rattle.vlm_words.specs.Settled.{IsSettled, IsSweptAlone};
 ghost use Rattle.vlm_words.specs.Runs.{Run};
 ghost use Rattle.vlm_words.specs.Stepped.{step_refusal};
-ghost use Rattle.vlm_words.specs.Laws.{EachRequestEndsOnce, GrantsFollowQueueOrder, HeldModesAreCompatible, IdentificationsAreApart, KeysAreApart, NothingIsLeftToGrant, RowsFitTheirQueues, SerialsRise, WritesAreGrantedAtOnce};
+ghost use Rattle.vlm_words.specs.Laws.{EachRequestEndsOnce, GrantsFollowQueueOrder, HeldModesAreCompatible, IdentificationsAreApart, KeysAreApart, NoResourceIsVacant, NothingIsLeftToGrant, RowsFitTheirQueues, SerialsRise, WritesAreGrantedAtOnce};
 
 /// In each resource the held modes of any two locks are compatible.
 pub fn law_held_modes_are_compatible()
@@ -71,4 +73,25 @@ pub fn law_grants_follow_queue_order()
 pub fn law_writes_are_granted_at_once()
     ensures { (steps : List Step) (answers : List Answer) (endings : List Ending) (old : State)
         → Run steps answers endings old → WritesAreGrantedAtOnce old }
+{}
+
+/// On each resource some lock is left: a resource goes with its last lock.
+pub fn law_no_resource_is_vacant()
+    ensures { (steps : List Step) (answers : List Answer) (endings : List Ending) (last : State)
+        → Run steps answers endings last → NoResourceIsVacant last }
+{}
+
+/// Between the steps a sweep has nothing to do: on no resource can anything be granted, and none is without
+/// locks.
+pub fn law_each_resource_is_settled()
+    ensures { (steps : List Step) (answers : List Answer) (endings : List Ending) (last : State)
+        → Run steps answers endings last → AllByRecursion IsSettled last.resources }
+{}
+
+/// Where a sweep has something to do on one resource alone, serving that one, and dropping it if no lock is
+/// left on it, is the whole sweep.
+pub fn law_a_sweep_touches_only_what_is_not_settled()
+    ensures { (processes : List Process) (before : List Resource) (r : Resource)
+        (after : List Resource) → AllByRecursion IsSettled before → AllByRecursion IsSettled after
+        → IsSweptAlone processes before r after }
 {}
