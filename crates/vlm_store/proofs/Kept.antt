@@ -23,7 +23,7 @@ use Rattle.vlm_store.specs.Kept.{records_shown}
 use Rattle.vlm_store.specs.declared.resources.InOrder.{InOrder}
 use Rattle.vlm_store.specs.declared.resources.Resource.{Resource}
 use Rattle.vlm_store.specs.Index.{Indexes}
-use Rattle.vlm_store.specs.Records.{FindsLock, FindsResource, HasPlace, HasResource, StoredProcess, Stores, nothing}
+use Rattle.vlm_store.specs.Records.{FindsLock, FindsResource, HasPlace, HasResource, IsResourceAmong, StoredProcess, StoredResource, Stores, nothing}
 use Rattle.vlm_store.specs.Shown.{IsPlaced, IsTallied, IsThere, SameBut, but_queues, face_in, keys_at, list_at, lkid_of, noted_in, order_links, queue_links, row_in, rows, shares, tally_in}
 use Rattle.vlm_store.specs.Store.{key_at, keyed, lkid_at, records_of, resource_of, tables}
 use Rattle.vlm_store.proofs.Layouts.{HasPlace-seen, IsSeen, Stores-listed, among_resource, listed-Stores, resource_at-found, resource_among}
@@ -65,12 +65,22 @@ module _ (q : Queues) (order : LinkedList InOrder) (processes : List StoredProce
     lkid_of_row None there = cc
     lkid_of_row (Some l) there = refl
 
+    -- the record of a lock that a caller sees has its identification
+    lkid_seen : (at : ℕ) (row : Row) → Stores (records_of (tables q order processes)) at row → lkid_at q at ≡ Some row.lkid
+    lkid_seen at row stored =
+        let there = stored_there at row stored in
+        lkid_of_row (get q.locks at) there.0 ∙ ap (λ (r : Row). Some r.lkid) there.2
+
+    -- no two locks have one identification
+    pub lkids_apart : (found : ℕ → Option ℕ) → Indexes found (lkid_at q) → (a b : ℕ) (x y : Row) → Stores (records_of (tables q order processes)) a x → Stores (records_of (tables q order processes)) b y
+        → x.lkid ≡ y.lkid → a ≡ b
+    lkids_apart found indexes a b x y stored_a stored_b same =
+        same_Some a b (sym (indexes.complete x.lkid a (lkid_seen a x stored_a)) ∙ indexes.complete x.lkid b (lkid_seen b y stored_b ∙ ap Some (sym same)))
+
     -- the index of locks finds what a caller sees
     pub finds_lock : (found : ℕ → Option ℕ) → Indexes found (lkid_at q) → (lkid : ℕ) (result : Option ℕ) → result ≡ found lkid → FindsLock (records_of (tables q order processes)) lkid result
     finds_lock found indexes lkid None is = λ at row stored same.
-        let there = stored_there at row stored in
-        let label : lkid_at q at ≡ Some lkid = lkid_of_row (get q.locks at) there.0 ∙ ap (λ (r : Row). Some r.lkid) there.2 ∙ ap Some same in
-        none-some at (is ∙ indexes.complete lkid at label)
+        none-some at (is ∙ indexes.complete lkid at (lkid_seen at row stored ∙ ap Some same))
     finds_lock found indexes lkid (Some at) is =
         let there = lkid_there (get q.locks at) lkid (indexes.sound lkid at (sym is)) in
         (rows q at, (there_stored at there.0, there.1))
@@ -93,13 +103,22 @@ module _ (q : Queues) (order : LinkedList InOrder) (processes : List StoredProce
     key_of_face None there = cc
     key_of_face (Some r) there = refl
 
+    -- the record of a resource that a caller sees has its key
+    key_seen : (r : StoredResource) → IsResourceAmong r (records_of (tables q order processes)).resources → key_at q r.at ≡ Some r.key
+    unfolding records_of
+    key_seen r among =
+        let there = resource_among (tables q order processes) (keys_of order_links q.resources order) r among in
+        key_of_face (get q.resources r.at) (linked.present r.at there.0) ∙ ap (λ (x : StoredResource). Some x.key) there.1
+
+    -- no two resources have one key
+    pub keys_apart : (found : Key → Option ℕ) → Indexes found (key_at q) → (a b : StoredResource) → IsResourceAmong a (records_of (tables q order processes)).resources
+        → IsResourceAmong b (records_of (tables q order processes)).resources → a.key ≡ b.key → a.at ≡ b.at
+    keys_apart found indexes a b among_a among_b same =
+        same_Some a.at b.at (sym (indexes.complete a.key a.at (key_seen a among_a)) ∙ indexes.complete a.key b.at (key_seen b among_b ∙ ap Some (sym same)))
+
     pub finds_resource : (found : Key → Option ℕ) → Indexes found (key_at q) → (key : Key) (result : Option ℕ) → result ≡ found key → FindsResource (records_of (tables q order processes)) key result
     unfolding records_of
-    finds_resource found indexes key None is = λ r among same.
-        let there = resource_among (tables q order processes) (keys_of order_links q.resources order) r among in
-        let here = linked.present r.at there.0 in
-        let key_is : (face_in (get q.resources r.at)).key ≡ key = ap (λ x. x.key) there.1 ∙ same in
-        none-some r.at (is ∙ indexes.complete key r.at (key_of_face (get q.resources r.at) here ∙ ap Some key_is))
+    finds_resource found indexes key None is = λ r among same. none-some r.at (is ∙ indexes.complete key r.at (key_seen r among ∙ ap Some same))
     finds_resource found indexes key (Some at) is =
         let there = key_there (get q.resources at) key (indexes.sound key at (sym is)) in
         (resource_of (tables q order processes) at, (among_resource (tables q order processes) (keys_of order_links q.resources order) at (ordered at there.0), refl, there.1))

@@ -1,5 +1,5 @@
 -- What a caller sees of the tables, and how it changes as they do.
-use Rattle.std.proofs.Common.{◌≡◌, ◌≢◌, ◌⊎◌, ℕ, List, [], ◌∷◌, ◌++◌, map, true, false, not, cond, None, Some, IsSome, refl, sym, ap, ◌∙◌, subst, inl, inr, eq-eqb, ne_eqb}
+use Rattle.std.proofs.Common.{◌≡◌, ◌≢◌, ◌⊎◌, ℕ, List, [], ◌∷◌, ◌++◌, map, true, false, not, cond, None, Some, IsSome, refl, sym, ap, ◌∙◌, subst, inl, inr, eq-eqb, ne_eqb, Option}
 use Rattle.std.specs.Prelude.{◌==◌}
 use Rattle.std.specs.Option.{option_map_or}
 use Rattle.std.proofs.lemmas.Bool.{cases_eq}
@@ -11,7 +11,7 @@ use Rattle.vlm_words.specs.declared.resources.Queue.{Queue}
 use Rattle.vlm_words.specs.declared.resources.Queue.TheVariants.{Granted, Conversion, Waiting}
 use Rattle.vlm_store.specs.declared.keys.Place.{Place}
 use Rattle.vlm_store.specs.declared.keys.Place.TheVariants.{Loose, Queued}
-use Rattle.vlm_store.specs.Records.{StoredLock, StoredResource, AreApart, AreOwned, AreProcessesApart, AreResourcesApart, HasPlace, HasResource, IsAmong, IsResourceAmong, IsSound, Stores, at_after, first_at, first_resource_at, resource_at_after, is_place, is_queue, leaving, locks_at, moving, on_resource, queued, resource_at, resource_with, rewriting, with_lists, without_lock, without_resource}
+use Rattle.vlm_store.specs.Records.{Records, StoredLock, StoredResource, AreApart, AreOwned, AreProcessesApart, AreResourcesApart, HasPlace, HasResource, IsAmong, IsResourceAmong, IsSound, Stores, at_after, first_at, first_resource_at, resource_at_after, is_place, is_queue, leaving, locks_at, moving, on_resource, queued, resource_at, resource_with, rewriting, with_lists, without_lock, without_resource}
 use Rattle.vlm_store.specs.Store.{Layout, keyed, records_of, resource_of}
 use Rattle.vlm_store.proofs.Places.{place_cases}
 
@@ -286,6 +286,15 @@ among-seen l p lock found =
 pub Stores-listed : (l : Layout) (at : ℕ) (row : Row) → Stores (records_of l) at row → (p : Place) × (IsIn at (l.keys p) × (l.rows at ≡ row))
 Stores-listed l at row stored = (stored.0, locks_at-among l stored.0 (record { at = at; row = row }) stored.1)
 
+-- a place where a lock stands is there
+pub HasPlace-among : (s : Records) (p : Place) (lock : StoredLock) → IsAmong lock (locks_at p s) → HasPlace p s
+HasPlace-among s Loose lock among = tt
+HasPlace-among s (Queued res queue) lock among = of_found (resource_at res s.resources) among
+  where
+    of_found : (found : Option StoredResource) → IsAmong lock (option_map_or (queued queue) found []) → IsSome found
+    of_found None among = absurd among
+    of_found (Some r) among = refl
+
 pub listed-Stores : (l : Layout) (p : Place) (at : ℕ) → IsSeen l p → IsIn at (l.keys p) → Stores (records_of l) at (l.rows at)
 listed-Stores l p at seen found = (p, rw (locks_at-seen l p seen) (among-keyed l.rows (l.keys p) at found))
 
@@ -311,16 +320,20 @@ resources_apart l (r ∷ rs) apart = (
 
 -- what a caller sees is sound
 pub IsSound-records_of : (l : Layout) → IsApart l.order → ((p : Place) → IsApart (l.keys p)) → ((at : ℕ) (p q : Place) → IsIn at (l.keys p) → IsIn at (l.keys q) → p ≡ q)
+    → ((a b : ℕ) (x y : Row) → Stores (records_of l) a x → Stores (records_of l) b y → x.lkid ≡ y.lkid → a ≡ b)
+    → ((a b : StoredResource) → IsResourceAmong a (records_of l).resources → IsResourceAmong b (records_of l).resources → a.key ≡ b.key → a.at ≡ b.at)
     → AreProcessesApart l.processes → AreOwned (records_of l) → IsSound (records_of l)
 unfolding records_of
-IsSound-records_of l order_apart keys_apart one_place processes_apart owned = record {
+IsSound-records_of l order_apart places_apart one_place lkids_apart keys_apart processes_apart owned = record {
   resources_apart = resources_apart l l.order order_apart;
   locks_apart = λ p. elim (seen_cases l p) [
-    | inl seen ↦ rw (locks_at-seen l p seen) (keyed-apart l.rows (l.keys p) (keys_apart p))
+    | inl seen ↦ rw (locks_at-seen l p seen) (keyed-apart l.rows (l.keys p) (places_apart p))
     | inr none ↦ rw none tt
   ];
   one_place = λ at a b p q here there.
       one_place at p q (locks_at-among l p (record { at = at; row = a }) here).0 (locks_at-among l q (record { at = at; row = b }) there).0;
+  lkids_apart = lkids_apart;
+  keys_apart = keys_apart;
   processes_apart = processes_apart;
   owned = owned;
 }

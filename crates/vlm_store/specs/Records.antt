@@ -399,11 +399,13 @@ pub record AreOwned (s : Records) : Type 0 where
   pub below : (p : StoredProcess) (own : OwnLock) (at : ℕ) → IsProcessAmong p s.processes → IsOwnAmong own p.own → IsIn at own.sublocks
       → (up : Row) × (row : Row) × (Stores s own.at up × Stores s at row × (row.parent ≡ up.lkid))
 
--- each key is that of one record, no lock stands at two places, and the locks of a process are those whose
--- rows name it
+-- each key is that of one record, no lock stands at two places, no two locks have one identification and no two
+-- resources one key, and the locks of a process are those whose rows name it
 pub record IsSound (s : Records) : Type 0 where
   pub resources_apart : AreResourcesApart s.resources
   pub locks_apart : (place : Place) → AreApart (locks_at place s)
   pub one_place : (at : ℕ) (a b : Row) (p q : Place) → IsAmong (record { at = at; row = a }) (locks_at p s) → IsAmong (record { at = at; row = b }) (locks_at q s) → p ≡ q
+  pub lkids_apart : (a b : ℕ) (x y : Row) → Stores s a x → Stores s b y → x.lkid ≡ y.lkid → a ≡ b
+  pub keys_apart : (a b : StoredResource) → IsResourceAmong a s.resources → IsResourceAmong b s.resources → a.key ≡ b.key → a.at ≡ b.at
   pub processes_apart : AreProcessesApart s.processes
   pub owned : AreOwned s

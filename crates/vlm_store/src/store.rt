@@ -95,6 +95,16 @@ impl Store {
         self.queues.locks[lock.slot()].row
     }
 
+    /// Where a lock stands.
+    pub fn place(&self, lock: LockAt) -> Place
+        requires { IsStored lock self.now }
+        ensures stands { (row : Row) → Stores self.now lock row
+            → IsAmong (record { at = lock; row = row }) (locks_at result self.now) }
+        ensures there { HasPlace result self.now }
+    {
+        self.queues.locks[lock.slot()].place
+    }
+
     /// Adds a lock that stands in no queue, the last of these, of its process's locks, and of those below
     /// its parent. Where memory is refused, or no key is left, nothing is changed.
     pub fn add_lock(
@@ -295,7 +305,8 @@ impl Store {
         self.queues.fits(res, mode, own)
     }
 
-    /// Each key is that of one record, and no lock stands at two places.
+    /// Each key is that of one record, no lock stands at two places, and no two locks have one
+    /// identification, no two resources one key.
     pub fn known(&self)
         ensures { IsSound self.now }
     {
