@@ -2,12 +2,10 @@
 
 ghost use Rattle.std.specs.Prelude.{◌≡◌, true, Some};
 ghost use Rattle.vlm_words.specs.Effects.{blocks_after, blocks_with};
-ghost use Rattle.vlm_words.specs.Flags.{flag_bits, has_flag};
 ghost use Rattle.vlm_words.specs.Grants.{grant_act, grant_endings};
 ghost use Rattle.vlm_words.specs.ValueBlocks.{return_status};
 ghost use Rattle.vlm_store.specs.Records.{IsProcess, SameButBlocks, plain_processes};
 
-use bitflags::Flags;
 use vlm_procs::{end, end_with_value, value};
 use vlm_store::{ProcAt, Store};
 use vlm_words::conditions::Cond;
@@ -15,14 +13,6 @@ use vlm_words::flags::EnqFlags;
 use vlm_words::locks::{Request, Row};
 use vlm_words::modes::{Act, value_action};
 use vlm_words::resources::ValueBlock;
-
-// Whether the flag is among the flags.
-#[tactic(auto, unfolding(vlm_words::specs::Flags::has_flag))]
-fn has_flag(flags: EnqFlags, flag: EnqFlags) -> bool
-    ensures { result ≡ has_flag (flag_bits flags) (flag_bits flag) }
-{
-    flags.contains(flag)
-}
 
 // The status of a request that a value block of this validity is returned to.
 fn return_status(valid: bool) -> Cond
@@ -40,7 +30,7 @@ fn return_status(valid: bool) -> Cond
 fn grant_act(held: Option<Request>, want: &Request) -> Act
     ensures { result ≡ grant_act held (Some want.now) }
 {
-    if !has_flag(want.flags, EnqFlags::VALBLK) {
+    if !want.flags.has(EnqFlags::VALBLK) {
         return Act::Nothing;
     }
     match held {

@@ -1,7 +1,7 @@
 //! The flags of requests and dequeues, as far as they are built.
 
-ghost use Rattle.std.specs.Prelude.{⊤, [], ◌∷◌, codes};
-ghost use Rattle.vlm_words.specs.Flags.{cancel, expedite, invvalblk, noqueue, quecvt, syncsts, valblk};
+ghost use Rattle.std.specs.Prelude.{◌≡◌, ⊤, [], ◌∷◌, codes};
+ghost use Rattle.vlm_words.specs.Flags.{cancel, deq_flag_bits, expedite, flag_bits, has_flag, invvalblk, noqueue, quecvt, syncsts, valblk};
 
 use bitflags::{Flag, Flags, bitflag_items};
 
@@ -47,6 +47,16 @@ impl Flags for EnqFlags {
     }
 }
 
+impl EnqFlags {
+    /// Whether the flag is among these.
+    #[tactic(auto, unfolding(crate::specs::Flags::has_flag))]
+    pub fn has(self, flag: EnqFlags) -> bool
+        ensures { result ≡ has_flag (flag_bits self) (flag_bits flag) }
+    {
+        self.contains(flag)
+    }
+}
+
 /// The flags of a dequeue ($DEQ). The bits are this project's own.
 #[derive(Clone, Copy)]
 pub struct DeqFlags(u16);
@@ -79,5 +89,15 @@ impl Flags for DeqFlags {
 
     fn from_bits_retain(bits: u16) -> DeqFlags {
         DeqFlags(bits)
+    }
+}
+
+impl DeqFlags {
+    /// Whether the flag is among these.
+    #[tactic(auto, unfolding(crate::specs::Flags::has_flag))]
+    pub fn has(self, flag: DeqFlags) -> bool
+        ensures { result ≡ has_flag (deq_flag_bits self) (deq_flag_bits flag) }
+    {
+        self.contains(flag)
     }
 }

@@ -1,0 +1,51 @@
+//! Where a lock stands.
+
+ghost use Rattle.std.specs.Prelude.{◌≡◌, IfSome, is_some};
+ghost use Rattle.std.specs.List.{list_any};
+ghost use Rattle.vlm_words.specs.Checks.{holds_lock};
+ghost use Rattle.vlm_service.specs.Plain.{plain_resources};
+ghost use Rattle.vlm_locks.specs.Rest.{IsAtRest};
+ghost use Rattle.vlm_locks.specs.Standing.{IsStandingOf};
+
+use vlm_store::{LockAt, Place, ResAt, Store};
+use vlm_words::locks::Row;
+use vlm_words::resources::Queue;
+
+/// A lock in its queue, with what it holds and wants.
+#[derive(Clone, Copy)]
+pub struct Standing {
+    /// The key of the lock.
+    pub lock: LockAt,
+    /// What it holds and wants.
+    pub row: Row,
+    /// The key of its resource.
+    pub res: ResAt,
+    /// The queue in which it stands there.
+    pub queue: Queue,
+}
+
+/// Where the lock of this identification stands, if it is one of the process. None where it is not, or
+/// where no lock has the identification.
+pub fn find_lock(store: &Store, pid: u32, lkid: u32) -> Option<Standing>
+    requires { IsAtRest store.now }
+    ensures held { is_some result ≡ list_any (holds_lock pid lkid) (plain_resources store.now) }
+    ensures standing { IfSome result (λ f. IsStandingOf pid lkid f store.now) }
+{
+    store.known();
+    let Some(lock) = store.lock(lkid) else {
+        return None;
+    };
+    let row = store.row(lock);
+    if row.pid != pid {
+        return None;
+    }
+    match store.place(lock) {
+        Place::Queued(res, queue) => Some(Standing {
+            lock,
+            row,
+            res,
+            queue,
+        }),
+        Place::Loose => None,
+    }
+}

@@ -1,0 +1,8 @@
+//! What becomes of one lock: it enters a resource, converts, or is withdrawn, and its resource is swept.
+//!
+//! A lock is looked up once, and no resource but its own is touched.
+#![tactic(auto)]
+
+mod finding;
+
+pub use finding::{Standing, find_lock};
