@@ -1,3 +1,6 @@
+pub mod Converted
 pub mod Held
+pub mod Moved
 pub mod Named
+pub mod Replaced
 pub mod Stood

@@ -1,9 +1,10 @@
 -- The records between two steps, and what a step on one resource leaves alone.
-use Rattle.std.specs.Prelude.{◌≡◌, ◌≢◌, ◌<◌, ℕ, []}
+use Rattle.std.specs.Prelude.{◌≡◌, ◌≢◌, ◌<◌, ℕ, [], map, Some}
 use Rattle.vlm_words.specs.declared.resources.Domain.{Domain}
 use Rattle.vlm_words.specs.declared.resources.Key.{Key}
 use Rattle.vlm_words.specs.declared.resources.Key.TheVariants.{Root, Below}
-use Rattle.vlm_store.specs.Records.{IsOwnAmong, IsProcessAmong, IsResourceAmong, OwnLock, Records, StoredProcess, StoredResource}
+use Rattle.vlm_store.specs.Records.{IsOwnAmong, IsProcessAmong, IsResourceAmong, OwnLock, Records, StoredProcess, StoredResource, but_blocks, on_resource, resource_at}
+use Rattle.vlm_service.specs.Serving.{but_service}
 
 -- the key is one in this domain: a root is in its own, and a resource below another names its parent
 abbrev pub IsKeyed : Domain → Key → Type 0
@@ -19,3 +20,12 @@ pub record IsAtRest (s : Records) : Type 0 where
 -- each resource but the one of this key is as it was
 abbrev pub OthersStay : ℕ → Records → Records → Type 0
 OthersStay res old new = (r : StoredResource) → IsResourceAmong r new.resources → r.at ≢ res → IsResourceAmong r old.resources
+
+-- the resource of this key was this one, and that one is in its place now, the same but for its value block and its
+-- queues; all else stays, but for status blocks
+pub record IsReplaced (res : ℕ) (had left : StoredResource) (old new : Records) : Type 0 where
+  pub was : resource_at res old.resources ≡ Some had
+  pub same : but_service left ≡ but_service had
+  pub resources : new.resources ≡ on_resource res (λ r. left) old.resources
+  pub loose : new.loose ≡ old.loose
+  pub processes : map but_blocks new.processes ≡ map but_blocks old.processes

@@ -3,6 +3,8 @@
 //! A lock is looked up once, and no resource but its own is touched.
 #![tactic(auto)]
 
+mod converting;
 mod finding;
 
+pub use converting::{convert, converts_at_once};
 pub use finding::{Standing, find_lock};

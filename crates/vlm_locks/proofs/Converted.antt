@@ -1,0 +1,129 @@
+-- What a conversion makes of the lock's resource.
+use Rattle.std.proofs.Common.{◌≡◌, ◌≢◌, ◌×◌, ℕ, Bool, true, false, List, [], ◌∷◌, ◌++◌, map, find, cond, Some, None, IfSome, refl, sym, ap, ◌∙◌, subst}
+use Rattle.vlm_words.specs.declared.locks.Request.{Request}
+use Rattle.vlm_words.specs.declared.locks.Row.{Row}
+use Rattle.vlm_words.specs.declared.resources.Queue.{Queue}
+use Rattle.vlm_words.specs.declared.resources.Queue.TheVariants.{Granted, Conversion, Waiting}
+use Rattle.vlm_words.specs.declared.resources.ValueBlock.{ValueBlock}
+use Rattle.vlm_words.specs.Convert.{conversion_blocks, converts_at_once, resource_after_conversion, resource_after_conversion_of, wanting_row}
+use Rattle.vlm_words.specs.Effects.{Blocks, blocks_after, blocks_with}
+use Rattle.vlm_words.specs.Grants.{grant_endings, granted_row}
+use Rattle.vlm_words.specs.Rows.{is_lock_of, rows_without}
+use Rattle.vlm_store.specs.declared.keys.Place.TheVariants.{Queued}
+use Rattle.vlm_store.specs.Records.{IsAmong, IsResourceAmong, IsSound, Records, SameButBlocks, StoredResource, but_blocks, moving, on_resource, plain_processes, queued, resource_at, rows_of, with_lists}
+use Rattle.vlm_service.specs.Plain.{plain_resource, plain_resources}
+use Rattle.vlm_service.proofs.Found.{on_resource-put, resource_at-at}
+use Rattle.vlm_locks.specs.declared.finding.Standing.{Standing}
+use Rattle.vlm_locks.specs.Converting.{IsConverted, IsGrantedAtOnce, admission_on, blocks_granted, moved_in}
+use Rattle.vlm_locks.specs.Rest.{IsReplaced}
+use Rattle.vlm_locks.specs.Standing.{IsStanding}
+use Rattle.vlm_locks.proofs.Moved.{joins, leaves, moved_replaced, not_in}
+use Rattle.vlm_locks.proofs.Named.{find-absent, find-only}
+use Rattle.vlm_locks.proofs.Replaced.{plain_replaced}
+use Rattle.vlm_locks.proofs.Stood.{absent, only, own_among}
+
+module _ (s : Records) (sound : IsSound s) (f : Standing) (standing : IsStanding f s) where
+  -- what end_by_grant and the writing of the value block make of the lock that moved
+  pub granted_at_once : (row : Row) (moved ended new : Records) (old_block block : ValueBlock) → IfSome (resource_at f.res s.resources) (λ r. old_block ≡ r.value_block)
+      → moved ≡ with_lists (moving (Queued f.res Granted) (record { at = f.lock; row = granted_row row })) s
+      → record {
+        value_block : block ≡ (blocks_after (grant_endings true row) (blocks_with old_block (plain_processes moved))).value_block;
+        statuses : plain_processes ended ≡ (blocks_after (grant_endings true row) (blocks_with old_block (plain_processes moved))).processes;
+        rest : SameButBlocks moved ended;
+      }
+      → new ≡ record ended { resources = on_resource f.res (λ r. record r { value_block = block }) ended.resources }
+      → IsGrantedAtOnce f row standing.resource s new
+  granted_at_once row moved ended new old_block block told is ends wrote =
+      let first = moved_replaced s sound f standing (granted_row row) Granted moved is in
+      let was : old_block ≡ standing.resource.value_block = subst (λ o. IfSome o (λ r. old_block ≡ r.value_block)) standing.found told in
+      let blocks_are : blocks_with old_block (plain_processes moved) ≡ blocks_with standing.resource.value_block (plain_processes s) =
+      ap (λ b. blocks_with b (plain_processes moved)) was ∙ ap (λ (x : Records). blocks_with standing.resource.value_block (plain_processes x)) is in
+      let block_is : block ≡ (blocks_granted row standing.resource s).value_block = ends.value_block ∙ ap (λ b. (blocks_after (grant_endings true row) b).value_block) blocks_are in
+      record {
+        replaced = record {
+          was = standing.found;
+          same = refl;
+          resources =
+              ap (λ (x : Records). x.resources) wrote
+              ∙ ap (on_resource f.res (λ r. record r { value_block = block })) (ends.rest.resources ∙ first.resources)
+              ∙ on_resource-put f.res (moved_in f (granted_row row) Granted standing.resource) (λ r. record r { value_block = block }) s.resources
+              (resource_at-at f.res s.resources standing.resource standing.found)
+              ∙ ap (λ b. on_resource f.res (λ r. record (moved_in f (granted_row row) Granted standing.resource) { value_block = b }) s.resources) block_is;
+          loose = ap (λ (x : Records). x.loose) wrote ∙ ends.rest.loose ∙ first.loose;
+          processes = ap (λ (x : Records). map but_blocks x.processes) wrote ∙ ends.rest.processes ∙ first.processes;
+        };
+        statuses =
+            ap plain_processes wrote ∙ ends.statuses ∙ ap (λ b. (blocks_after (grant_endings true row) b).processes) blocks_are;
+      }
+
+  -- a conversion changes no other resource
+  others_kept : (asked : Request) (block : ValueBlock) (x : StoredResource) → IsResourceAmong x s.resources → x.at ≢ f.res
+      → resource_after_conversion asked f.row.pid f.row.lkid block (plain_resource x) ≡ plain_resource x
+  unfolding resource_after_conversion
+  others_kept asked block x among differs =
+      ap (resource_after_conversion_of asked f.row.lkid block (plain_resource x))
+      (find-absent f.row.pid f.row.lkid x.granted (absent s sound f standing x among Granted (λ e. differs (cc))))
+
+  -- the lock is found in its queue
+  found_here : f.queue ≡ Granted → find (is_lock_of f.row.pid f.row.lkid) (rows_of standing.resource.granted) ≡ Some f.row
+  found_here granted =
+      find-only (record { at = f.lock; row = f.row }) standing.resource.granted (only s sound f standing standing.resource (own_among s sound f standing) Granted)
+      (subst (λ q. IsAmong (record { at = f.lock; row = f.row }) (queued q standing.resource)) granted standing.among)
+
+  -- it stands in no other queue
+  elsewhere : f.queue ≡ Granted → (queue : Queue) → queue ≢ Granted → queue ≢ f.queue
+  elsewhere granted queue differs same = differs (same ∙ granted)
+
+  -- the conversion is granted
+  pub converted_now : (asked : Request) (new : Records) → f.queue ≡ Granted → converts_at_once asked f.row.lkid (plain_resource standing.resource) ≡ true
+      → IsGrantedAtOnce f (wanting_row f.row asked) standing.resource s new → IsConverted f asked standing.resource s new
+  unfolding resource_after_conversion
+  converted_now asked new granted at_once done =
+      let r = standing.resource in
+      let row = wanting_row f.row asked in
+      let blocks_are : conversion_blocks (admission_on f asked r) (plain_processes s) ≡ blocks_granted row r s =
+      ap (λ b. blocks_after (cond b (grant_endings true row) []) (blocks_with r.value_block (plain_processes s))) at_once in
+      let block = (blocks_granted row r s).value_block in
+      let left : StoredResource = record (moved_in f (granted_row row) Granted r) { value_block = block } in
+      let here : resource_after_conversion asked f.row.pid f.row.lkid block (plain_resource r) ≡ plain_resource left =
+      ap (resource_after_conversion_of asked f.row.lkid block (plain_resource r)) (found_here granted)
+      ∙ rw at_once
+      (ap (λ rows. record (plain_resource r) { value_block = block; granted = rows }) (sym (joins s sound f standing (granted_row row) Granted))
+      ∙ ap (λ rows. record (plain_resource left) { converting = rows; waiting = rows_of r.waiting })
+      (sym (leaves s sound f standing (granted_row row) Granted Conversion (λ e. cc) ∙ not_in s sound f standing Conversion (elsewhere granted Conversion (λ e. cc))))
+      ∙ ap (λ rows. record (plain_resource left) { waiting = rows })
+      (sym (leaves s sound f standing (granted_row row) Granted Waiting (λ e. cc) ∙ not_in s sound f standing Waiting (elsewhere granted Waiting (λ e. cc)))))
+      in
+      record {
+        resources =
+            plain_replaced f.res r left s new done.replaced (resource_after_conversion asked f.row.pid f.row.lkid block) sound here (others_kept asked block)
+            ∙ ap (λ (b : Blocks). map (resource_after_conversion asked f.row.pid f.row.lkid b.value_block) (plain_resources s)) (sym blocks_are);
+        statuses = done.statuses ∙ ap (λ (b : Blocks). b.processes) (sym blocks_are);
+      }
+
+  -- the conversion waits
+  pub converted_later : (asked : Request) (new : Records) → f.queue ≡ Granted → converts_at_once asked f.row.lkid (plain_resource standing.resource) ≡ false
+      → IsReplaced f.res standing.resource (moved_in f (wanting_row f.row asked) Conversion standing.resource) s new → plain_processes new ≡ plain_processes s
+      → IsConverted f asked standing.resource s new
+  unfolding resource_after_conversion
+  converted_later asked new granted later replaced statuses =
+      let r = standing.resource in
+      let row = wanting_row f.row asked in
+      let blocks_are : conversion_blocks (admission_on f asked r) (plain_processes s) ≡ blocks_with r.value_block (plain_processes s) =
+      ap (λ b. blocks_after (cond b (grant_endings true row) []) (blocks_with r.value_block (plain_processes s))) later in
+      let left : StoredResource = moved_in f row Conversion r in
+      let here : resource_after_conversion asked f.row.pid f.row.lkid r.value_block (plain_resource r) ≡ plain_resource left =
+      ap (resource_after_conversion_of asked f.row.lkid r.value_block (plain_resource r)) (found_here granted)
+      ∙ rw later
+      (ap (λ rows. record (plain_resource r) { granted = rows; converting = rows_of r.converting ++ row ∷ [] }) (sym (leaves s sound f standing row Conversion Granted (λ e. cc)))
+      ∙ ap (λ rows. record (plain_resource left) { converting = rows ++ row ∷ []; waiting = rows_of r.waiting }) (sym (not_in s sound f standing Conversion (elsewhere granted Conversion (λ e. cc))))
+      ∙ ap (λ rows. record (plain_resource left) { converting = rows; waiting = rows_of r.waiting }) (sym (joins s sound f standing row Conversion))
+      ∙ ap (λ rows. record (plain_resource left) { waiting = rows })
+      (sym (leaves s sound f standing row Conversion Waiting (λ e. cc) ∙ not_in s sound f standing Waiting (elsewhere granted Waiting (λ e. cc)))))
+      in
+      record {
+        resources =
+            plain_replaced f.res r left s new replaced (resource_after_conversion asked f.row.pid f.row.lkid r.value_block) sound here (others_kept asked r.value_block)
+            ∙ ap (λ (b : Blocks). map (resource_after_conversion asked f.row.pid f.row.lkid b.value_block) (plain_resources s)) (sym blocks_are);
+        statuses = statuses ∙ ap (λ (b : Blocks). b.processes) (sym blocks_are);
+      }

@@ -1,0 +1,88 @@
+-- A lock that stands in a queue moves to the end of one of its resource.
+use Rattle.std.proofs.Common.{◌≡◌, ◌≢◌, ◌⊎◌, ℕ, List, [], ◌∷◌, ◌++◌, map, cond, Some, refl, sym, ap, ◌∙◌, subst, inl, inr, eq-eqb, ne_eqb}
+use Rattle.std.specs.Prelude.{◌==◌}
+use Rattle.std.proofs.lemmas.Bool.{cases_eq}
+use Rattle.std.proofs.lemmas.List.{map-append}
+use Rattle.vlm_words.specs.declared.locks.Row.{Row}
+use Rattle.vlm_words.specs.declared.resources.Queue.{Queue}
+use Rattle.vlm_words.specs.declared.resources.Queue.TheVariants.{Granted, Conversion, Waiting}
+use Rattle.vlm_words.specs.Rows.{rows_without}
+use Rattle.vlm_store.specs.declared.keys.Place.TheVariants.{Loose, Queued}
+use Rattle.vlm_store.specs.Records.{IsResourceAmong, IsSound, Records, StoredLock, StoredResource, but_blocks, is_place, moving, on_resource, queued, resource_with, rows_of, with_lists, without_lock}
+use Rattle.vlm_store.proofs.Layouts.{is_place-other, is_place-same}
+use Rattle.vlm_store.proofs.Undoing.{unmoved}
+use Rattle.vlm_locks.specs.declared.finding.Standing.{Standing}
+use Rattle.vlm_locks.specs.Converting.{moved_in}
+use Rattle.vlm_locks.specs.Rest.{IsReplaced}
+use Rattle.vlm_locks.specs.Standing.{IsStanding}
+use Rattle.vlm_locks.proofs.Named.{without-absent, without-key}
+use Rattle.vlm_locks.proofs.Stood.{absent, only, own_among, queue_is, stands}
+use Rattle.vlm_service.proofs.Found.{map_on, resource_alone, resource_at-at}
+
+module _ (s : Records) (sound : IsSound s) (f : Standing) (standing : IsStanding f s) (row : Row) (to : Queue) where
+  -- another resource stays as it was
+  stays : (x : StoredResource) → IsResourceAmong x s.resources → x.at ≢ f.res → moved_in f row to x ≡ x
+  stays x among differs =
+      let each : (queue : Queue) → moving (Queued f.res to) (record { at = f.lock; row = row }) (Queued x.at queue) (queued queue x) ≡ queued queue x =
+      λ queue.
+      ap (λ b. cond b (without_lock f.lock (queued queue x) ++ record { at = f.lock; row = row } ∷ []) (without_lock f.lock (queued queue x)))
+      (is_place-other (Queued x.at queue) (Queued f.res to) (λ e. differs (cc)))
+      ∙ ap (without_lock f.lock) (sym (queue_is s sound x among queue))
+      ∙ unmoved s f.lock f.row (Queued f.res f.queue) sound (stands s sound f standing) (Queued x.at queue) (λ e. differs (cc))
+      ∙ queue_is s sound x among queue
+      in
+      rw (each Granted, each Conversion, each Waiting) refl
+
+  -- the resource of the lock is changed, and nothing else
+  pub moved : with_lists (moving (Queued f.res to) (record { at = f.lock; row = row })) s
+      ≡ record s { resources = on_resource f.res (λ x. moved_in f row to standing.resource) s.resources }
+  moved =
+      ap (λ x. record s { resources = x; loose = without_lock f.lock s.loose })
+      (map_on (moved_in f row to) (λ x. cond (x.at == f.res) (moved_in f row to standing.resource) x) s.resources
+      (λ x among. elim (cases_eq x.at f.res) [
+        | inl same ↦
+            ap (moved_in f row to) (resource_alone f.res s.resources standing.resource x sound.resources_apart standing.found among same)
+            ∙ sym (ap (λ b. cond b (moved_in f row to standing.resource) x) (eq-eqb x.at f.res same))
+        | inr other ↦ stays x among other ∙ sym (ap (λ b. cond b (moved_in f row to standing.resource) x) (ne_eqb x.at f.res other))
+      ]))
+      ∙ ap (λ x. record s { resources = on_resource f.res (λ x. moved_in f row to standing.resource) s.resources; loose = x })
+      (unmoved s f.lock f.row (Queued f.res f.queue) sound (stands s sound f standing) Loose (λ e. cc))
+
+  own_at : standing.resource.at ≡ f.res
+  own_at = resource_at-at f.res s.resources standing.resource standing.found
+
+  -- the queue that it joins
+  pub joins : rows_of (moving (Queued f.res to) (record { at = f.lock; row = row }) (Queued standing.resource.at to) (queued to standing.resource))
+      ≡ rows_without f.row.lkid (rows_of (queued to standing.resource)) ++ row ∷ []
+  joins =
+      ap (λ b. rows_of (cond b (without_lock f.lock (queued to standing.resource) ++ record { at = f.lock; row = row } ∷ []) (without_lock f.lock (queued to standing.resource))))
+      (ap (λ x. is_place (Queued x to) (Queued f.res to)) own_at ∙ is_place-same (Queued f.res to))
+      ∙ map-append (λ (k : StoredLock). k.row) (without_lock f.lock (queued to standing.resource)) (record { at = f.lock; row = row } ∷ [])
+      ∙ ap (λ rows. rows ++ row ∷ []) (without-key (record { at = f.lock; row = f.row }) (queued to standing.resource) (only s sound f standing standing.resource (own_among s sound f standing) to))
+
+  -- a queue that it does not join
+  pub leaves : (queue : Queue) → queue ≢ to → rows_of (moving (Queued f.res to) (record { at = f.lock; row = row }) (Queued standing.resource.at queue) (queued queue standing.resource))
+      ≡ rows_without f.row.lkid (rows_of (queued queue standing.resource))
+  leaves queue differs =
+      ap (λ b. rows_of (cond b (without_lock f.lock (queued queue standing.resource) ++ record { at = f.lock; row = row } ∷ []) (without_lock f.lock (queued queue standing.resource))))
+      (is_place-other (Queued standing.resource.at queue) (Queued f.res to) (λ e. differs (cc)))
+      ∙ without-key (record { at = f.lock; row = f.row }) (queued queue standing.resource) (only s sound f standing standing.resource (own_among s sound f standing) queue)
+
+-- a queue of the resource in which the lock does not stand
+pub not_in : (s : Records) (sound : IsSound s) (f : Standing) (standing : IsStanding f s) (queue : Queue) → queue ≢ f.queue
+    → rows_without f.row.lkid (rows_of (queued queue standing.resource)) ≡ rows_of (queued queue standing.resource)
+not_in s sound f standing queue differs =
+    without-absent f.row.lkid (queued queue standing.resource) (absent s sound f standing standing.resource (own_among s sound f standing) queue (λ e. differs (cc)))
+
+-- so of the resources just that of the lock is another
+pub moved_replaced : (s : Records) (sound : IsSound s) (f : Standing) (standing : IsStanding f s) (row : Row) (to : Queue) (new : Records)
+    → new ≡ with_lists (moving (Queued f.res to) (record { at = f.lock; row = row })) s → IsReplaced f.res standing.resource (moved_in f row to standing.resource) s new
+moved_replaced s sound f standing row to new is =
+    let moved = is ∙ moved s sound f standing row to in
+    record {
+      was = standing.found;
+      same = refl;
+      resources = ap (λ (x : Records). x.resources) moved;
+      loose = ap (λ (x : Records). x.loose) moved;
+      processes = ap (λ (x : Records). map but_blocks x.processes) moved;
+    }

@@ -1,0 +1,21 @@
+use Rattle.std.proofs.Common.{Some, IfSome, refl, sym, ap, ◌∙◌, subst}
+use Rattle.vlm_words.specs.declared.resources.Queue.TheVariants.{Conversion}
+use Rattle.vlm_store.specs.Records.{Records}
+use Rattle.vlm_locks.specs.Converting.{moved_in}
+use Rattle.vlm_locks.specs.Rest.{IsReplaced}
+use Rattle.vlm_locks.proofs.Moved.{moved_replaced}
+use Rattle.vlm_locks.proofs.Stood.{stored}
+use Rattle.vlm_locks.proofs.converting.convert_later.Goals as goal
+
+pub move_lock-requires-clause-lock : goal.move_lock-requires-clause-lock
+move_lock-requires-clause-lock c =
+    let f = c.args.standing.now in
+    (f.row, (stored c.args.store.now c.known.ensures f c.requires.standing, c.requires.row))
+
+pub returns-clause-replaced : goal.returns-clause-replaced
+returns-clause-replaced c =
+    let s = c.args.store.now in
+    let f = c.args.standing.now in
+    let standing = c.requires.standing in
+    subst (λ o. IfSome o (λ r. IsReplaced f.res r (moved_in f c.args.row Conversion r) s c.move_lock.new.self)) (sym standing.found)
+    (moved_replaced s c.known.ensures f standing c.args.row Conversion c.move_lock.new.self c.move_lock.ensures)

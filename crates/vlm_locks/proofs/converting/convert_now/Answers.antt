@@ -1,0 +1,48 @@
+use Rattle.std.proofs.Common.{Some, IfSome, IsSome, refl, sym, ap, ◌∙◌, subst}
+use Rattle.vlm_words.specs.declared.resources.Queue.TheVariants.{Granted}
+use Rattle.vlm_words.specs.Grants.{granted_row}
+use Rattle.vlm_store.specs.Records.{HasResource, IsProcess, Records, resource_at}
+use Rattle.vlm_locks.specs.Converting.{IsGrantedAtOnce, moved_in}
+use Rattle.vlm_locks.specs.Rest.{IsReplaced}
+use Rattle.vlm_locks.proofs.Converted.{granted_at_once}
+use Rattle.vlm_locks.proofs.Moved.{moved_replaced}
+use Rattle.vlm_locks.proofs.Replaced.{still_there}
+use Rattle.vlm_locks.proofs.Stood.{stored}
+use Rattle.vlm_locks.proofs.converting.convert_now.Goals as goal
+
+pub owner-owner-requires : goal.owner-owner-requires
+owner-owner-requires c =
+    let f = c.args.standing.now in
+    (f.row, stored c.args.store.now c.known.ensures f c.requires.standing)
+
+pub move_lock-requires-clause-lock : goal.move_lock-requires-clause-lock
+move_lock-requires-clause-lock c =
+    let f = c.args.standing.now in
+    (f.row, (stored c.args.store.now c.known.ensures f c.requires.standing, c.requires.row))
+
+-- a lock that moves leaves the processes
+pub end_by_grant-requires : goal.end_by_grant-requires
+end_by_grant-requires c =
+    let f = c.args.standing.now in
+    rw (c.move_lock.ensures)
+    (subst (λ pid. IsProcess c.owner-owner.result pid c.args.store.now) c.requires.row.pid
+    (c.owner-owner.ensures f.row (stored c.args.store.now c.known.ensures f c.requires.standing)))
+
+pub set_value_block-requires : goal.set_value_block-requires
+set_value_block-requires c =
+    let s = c.args.store.now in
+    let f = c.args.standing.now in
+    let standing = c.requires.standing in
+    let moved = moved_replaced s c.known.ensures f standing (granted_row c.args.row.now) Granted c.move_lock.new.self c.move_lock.ensures in
+    let there = still_there f.res standing.resource (moved_in f (granted_row c.args.row.now) Granted standing.resource) s c.move_lock.new.self moved in
+    subst (λ rs. IsSome (resource_at f.res rs)) (sym c.end_by_grant.ensures.rest.resources) there
+
+pub returns : goal.returns
+returns c =
+    let s = c.args.store.now in
+    let f = c.args.standing.now in
+    let standing = c.requires.standing in
+    let row = c.args.row.now in
+    subst (λ o. IfSome o (λ r. IsGrantedAtOnce f row r s c.set_value_block.new.self)) (sym standing.found)
+    (granted_at_once s c.known.ensures f standing row c.move_lock.new.self c.end_by_grant.new.store c.set_value_block.new.self c.value_block-value_block.result c.end_by_grant.new.value_block
+    c.value_block-value_block.ensures c.move_lock.ensures c.end_by_grant.ensures c.set_value_block.ensures)

@@ -1,0 +1,43 @@
+-- The conversion of a lock that stands in the granted queue.
+use Rattle.std.specs.Prelude.{◌≡◌, true, map}
+use Rattle.vlm_words.specs.declared.locks.Request.{Request}
+use Rattle.vlm_words.specs.declared.locks.Row.{Row}
+use Rattle.vlm_words.specs.declared.resources.Queue.{Queue}
+use Rattle.vlm_words.specs.declared.resources.Queue.TheVariants.{Granted}
+use Rattle.vlm_words.specs.Convert.{ConversionAdmission, conversion_blocks, converts_at_once, resource_after_conversion}
+use Rattle.vlm_words.specs.Effects.{Blocks, blocks_after, blocks_with}
+use Rattle.vlm_words.specs.Grants.{grant_endings, granted_row}
+use Rattle.vlm_store.specs.declared.keys.Place.TheVariants.{Queued}
+use Rattle.vlm_store.specs.Records.{Records, StoredLock, StoredResource, moving, plain_processes, resource_with}
+use Rattle.vlm_service.specs.Plain.{plain_resource, plain_resources}
+use Rattle.vlm_locks.specs.declared.finding.Standing.{Standing}
+use Rattle.vlm_locks.specs.Rest.{IsReplaced}
+
+-- the conversion of the lock on its resource, as the plain machine admits it
+abbrev pub admission_on : Standing → Request → StoredResource → ConversionAdmission
+admission_on f asked r = record {
+  resource = plain_resource r;
+  row = f.row;
+  request = asked;
+  at_once = converts_at_once asked f.row.lkid (plain_resource r);
+}
+
+-- the lock is converted on its resource as the plain machine does it
+pub record IsConverted (f : Standing) (asked : Request) (r : StoredResource) (old new : Records) : Type 0 where
+  pub resources : plain_resources new
+      ≡ map (resource_after_conversion asked f.row.pid f.row.lkid (conversion_blocks (admission_on f asked r) (plain_processes old)).value_block)
+      (plain_resources old)
+  pub statuses : plain_processes new ≡ (conversion_blocks (admission_on f asked r) (plain_processes old)).processes
+
+-- the resource once this lock goes to the end of a queue, with this row
+abbrev pub moved_in : Standing → Row → Queue → StoredResource → StoredResource
+moved_in f row queue r = resource_with (moving (Queued f.res queue) (record { at = f.lock; row = row })) r
+
+-- what the grant of the row writes on the resource
+abbrev pub blocks_granted : Row → StoredResource → Records → Blocks
+blocks_granted row r s = blocks_after (grant_endings true row) (blocks_with r.value_block (plain_processes s))
+
+-- what a lock wants is granted on its resource, at once
+pub record IsGrantedAtOnce (f : Standing) (row : Row) (r : StoredResource) (old new : Records) : Type 0 where
+  pub replaced : IsReplaced f.res r (record (moved_in f (granted_row row) Granted r) { value_block = (blocks_granted row r old).value_block }) old new
+  pub statuses : plain_processes new ≡ (blocks_granted row r old).processes

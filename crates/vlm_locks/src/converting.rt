@@ -1,0 +1,105 @@
+//! The conversion of a granted lock.
+
+ghost use Rattle.std.specs.Prelude.{◌≡◌, Some, IfSome};
+ghost use Rattle.vlm_words.specs.declared.resources.Queue.{Queue};
+ghost use Rattle.vlm_words.specs.Convert.{converts_at_once, wanting_row};
+ghost use Rattle.vlm_words.specs.Grants.{is_empty};
+ghost use Rattle.vlm_store.specs.Records.{HasResource, IsSameLock, StoredResource, plain_processes, resource_at, rows_of};
+ghost use Rattle.vlm_service.specs.Plain.{plain_resource};
+ghost use Rattle.vlm_locks.specs.Converting.{IsConverted, IsGrantedAtOnce, moved_in};
+ghost use Rattle.vlm_locks.specs.Rest.{IsAtRest, IsReplaced, OthersStay};
+ghost use Rattle.vlm_locks.specs.Standing.{IsStanding};
+
+use crate::finding::Standing;
+use vlm_queue::{can_hold, head};
+use vlm_service::{end_by_grant, granted_row};
+use vlm_store::{Place, ResAt, Store};
+use vlm_words::flags::EnqFlags;
+use vlm_words::locks::{Request, Row};
+use vlm_words::resources::Queue;
+
+// Whether no conversion is queued on the resource.
+fn converts_none(store: &Store, res: ResAt) -> bool
+    requires { HasResource res store.now }
+    ensures { (r : StoredResource) → resource_at res store.now.resources ≡ Some r
+        → result ≡ is_empty (rows_of r.converting) }
+{
+    head(store, res, Queue::Conversion).is_none()
+}
+
+/// Whether a conversion of a granted lock is granted at once: what it asks for fits beside all other locks
+/// of its resource, and with QUECVT no conversion is queued there.
+#[tactic(auto, unfolding(vlm_words::specs::Convert::converts_at_once))]
+pub fn converts_at_once(store: &Store, standing: &Standing, asked: &Request) -> bool
+    requires standing { IsStanding standing.now store.now }
+    requires granted { standing.now.queue ≡ Queue.Granted }
+    ensures { (r : StoredResource) → resource_at standing.now.res store.now.resources ≡ Some r
+        → result ≡ converts_at_once asked.now standing.now.row.lkid (plain_resource r) }
+{
+    store.known();
+    can_hold(store, standing.res, asked.mode, Some(standing.lock))
+        && (!asked.flags.has(EnqFlags::QUECVT) || converts_none(store, standing.res))
+}
+
+// The row wants the request, and holds what it held.
+fn wanting_row(row: Row, request: &Request) -> Row
+    ensures { result ≡ wanting_row row request.now }
+{
+    Row {
+        want: Some(*request),
+        ..row
+    }
+}
+
+// What a lock wants is granted at once: it goes to the end of the granted queue, and the grant takes effect
+// on the value block of its resource and on its status block.
+fn convert_now(store: &mut Store, standing: &Standing, row: &Row)
+    requires standing { IsStanding standing.now store.old }
+    requires row { IsSameLock standing.now.row row.now }
+    ensures { IfSome (resource_at standing.now.res store.old.resources)
+        (λ r. IsGrantedAtOnce standing.now row.now r store.old store.new) }
+{
+    store.known();
+    let owner = store.owner(standing.lock);
+    let mut value_block = store.value_block(standing.res);
+    let granted = Place::Queued(standing.res, Queue::Granted);
+    store.move_lock(standing.lock, granted_row(*row), granted);
+    end_by_grant(&mut value_block, store, owner, row);
+    store.set_value_block(standing.res, value_block);
+}
+
+// The conversion waits: the lock goes to the end of the conversion queue.
+fn convert_later(store: &mut Store, standing: &Standing, row: Row)
+    requires standing { IsStanding standing.now store.old }
+    requires row { IsSameLock standing.now.row row }
+    ensures replaced { IfSome (resource_at standing.now.res store.old.resources) (λ r.
+        IsReplaced standing.now.res r (moved_in standing.now row Queue.Conversion r) store.old store.new) }
+    ensures statuses { plain_processes store.new ≡ plain_processes store.old }
+{
+    store.known();
+    let queued = Place::Queued(standing.res, Queue::Conversion);
+    store.move_lock(standing.lock, row, queued);
+}
+
+/// Converts a granted lock: at once, or it goes to the end of the conversion queue and holds what it held.
+/// A grant at once takes effect on the value block of the resource and on the status block of the request.
+pub fn convert(store: &mut Store, standing: &Standing, asked: &Request, at_once: bool)
+    requires rest { IsAtRest store.old }
+    requires standing { IsStanding standing.now store.old }
+    requires granted { standing.now.queue ≡ Queue.Granted }
+    requires at_once { IfSome (resource_at standing.now.res store.old.resources)
+        (λ r. at_once ≡ converts_at_once asked.now standing.now.row.lkid (plain_resource r)) }
+    ensures converted { IfSome (resource_at standing.now.res store.old.resources)
+        (λ r. IsConverted standing.now asked.now r store.old store.new) }
+    ensures others { OthersStay standing.now.res store.old store.new }
+    ensures there { HasResource standing.now.res store.new }
+    ensures rest { IsAtRest store.new }
+{
+    store.known();
+    let row = wanting_row(standing.row, asked);
+    if at_once {
+        convert_now(store, standing, &row);
+    } else {
+        convert_later(store, standing, row);
+    }
+}
