@@ -1,16 +1,17 @@
 -- What a conversion makes of the lock's resource.
-use Rattle.std.proofs.Common.{◌≡◌, ◌≢◌, ◌×◌, ℕ, Bool, true, false, List, [], ◌∷◌, ◌++◌, map, find, cond, Some, None, IfSome, refl, sym, ap, ◌∙◌, subst}
+use Rattle.std.proofs.Common.{◌≡◌, ◌≢◌, true, false, [], ◌∷◌, ◌++◌, map, find, cond, Some, IfSome, refl, sym, ap, ◌∙◌, subst}
 use Rattle.vlm_words.specs.declared.locks.Request.{Request}
 use Rattle.vlm_words.specs.declared.locks.Row.{Row}
+use Rattle.vlm_words.specs.declared.modes.Mode.{Mode}
 use Rattle.vlm_words.specs.declared.resources.Queue.{Queue}
 use Rattle.vlm_words.specs.declared.resources.Queue.TheVariants.{Granted, Conversion, Waiting}
 use Rattle.vlm_words.specs.declared.resources.ValueBlock.{ValueBlock}
 use Rattle.vlm_words.specs.Convert.{conversion_blocks, converts_at_once, resource_after_conversion, resource_after_conversion_of, wanting_row}
 use Rattle.vlm_words.specs.Effects.{Blocks, blocks_after, blocks_with}
-use Rattle.vlm_words.specs.Grants.{grant_endings, granted_row}
+use Rattle.vlm_words.specs.Grants.{fits, grant_endings, granted_row}
 use Rattle.vlm_words.specs.Rows.{is_lock_of, rows_without}
 use Rattle.vlm_store.specs.declared.keys.Place.TheVariants.{Queued}
-use Rattle.vlm_store.specs.Records.{IsAmong, IsResourceAmong, IsSound, Records, SameButBlocks, StoredResource, but_blocks, moving, on_resource, plain_processes, queued, resource_at, rows_of, with_lists}
+use Rattle.vlm_store.specs.Records.{IsAmong, IsResourceAmong, IsSound, Records, SameButBlocks, StoredLock, StoredResource, but_blocks, fits_beside, moving, on_resource, plain_processes, queued, resource_at, rows_of, with_lists, without_lock}
 use Rattle.vlm_service.specs.Plain.{plain_resource, plain_resources}
 use Rattle.vlm_service.proofs.Found.{on_resource-put, resource_at-at}
 use Rattle.vlm_locks.specs.declared.finding.Standing.{Standing}
@@ -18,7 +19,7 @@ use Rattle.vlm_locks.specs.Converting.{IsConverted, IsGrantedAtOnce, admission_o
 use Rattle.vlm_locks.specs.Rest.{IsReplaced}
 use Rattle.vlm_locks.specs.Standing.{IsStanding}
 use Rattle.vlm_locks.proofs.Moved.{joins, leaves, moved_replaced, not_in}
-use Rattle.vlm_locks.proofs.Named.{find-absent, find-only}
+use Rattle.vlm_locks.proofs.Named.{find-absent, find-only, without-key}
 use Rattle.vlm_locks.proofs.Replaced.{plain_replaced}
 use Rattle.vlm_locks.proofs.Stood.{absent, only, own_among}
 
@@ -73,6 +74,16 @@ module _ (s : Records) (sound : IsSound s) (f : Standing) (standing : IsStanding
   -- it stands in no other queue
   elsewhere : f.queue ≡ Granted → (queue : Queue) → queue ≢ Granted → queue ≢ f.queue
   elsewhere granted queue differs same = differs (same ∙ granted)
+
+  -- what fits beside the other locks by their keys fits beside them by their identifications
+  pub fits_are : (mode : Mode) → f.queue ≡ Granted
+      → fits_beside mode (Some f.lock) standing.resource ≡ fits mode (rows_without f.row.lkid (rows_of standing.resource.granted)) (rows_of standing.resource.converting)
+  fits_are mode granted =
+      let own = own_among s sound f standing in
+      let lock : StoredLock = record { at = f.lock; row = f.row } in
+      ap (λ rows. fits mode rows (rows_of (without_lock f.lock standing.resource.converting))) (without-key lock standing.resource.granted (only s sound f standing standing.resource own Granted))
+      ∙ ap (λ rows. fits mode (rows_without f.row.lkid (rows_of standing.resource.granted)) rows)
+      (without-key lock standing.resource.converting (only s sound f standing standing.resource own Conversion) ∙ not_in s sound f standing Conversion (elsewhere granted Conversion (λ e. cc)))
 
   -- the conversion is granted
   pub converted_now : (asked : Request) (new : Records) → f.queue ≡ Granted → converts_at_once asked f.row.lkid (plain_resource standing.resource) ≡ true

@@ -1,5 +1,5 @@
 -- A lock that stands in a queue moves to the end of one of its resource.
-use Rattle.std.proofs.Common.{◌≡◌, ◌≢◌, ◌⊎◌, ℕ, List, [], ◌∷◌, ◌++◌, map, cond, Some, refl, sym, ap, ◌∙◌, subst, inl, inr, eq-eqb, ne_eqb}
+use Rattle.std.proofs.Common.{◌≡◌, ◌≢◌, [], ◌∷◌, ◌++◌, map, cond, refl, sym, ap, ◌∙◌, inl, inr, eq-eqb, ne_eqb}
 use Rattle.std.specs.Prelude.{◌==◌}
 use Rattle.std.proofs.lemmas.Bool.{cases_eq}
 use Rattle.std.proofs.lemmas.List.{map-append}
@@ -8,7 +8,7 @@ use Rattle.vlm_words.specs.declared.resources.Queue.{Queue}
 use Rattle.vlm_words.specs.declared.resources.Queue.TheVariants.{Granted, Conversion, Waiting}
 use Rattle.vlm_words.specs.Rows.{rows_without}
 use Rattle.vlm_store.specs.declared.keys.Place.TheVariants.{Loose, Queued}
-use Rattle.vlm_store.specs.Records.{IsResourceAmong, IsSound, Records, StoredLock, StoredResource, but_blocks, is_place, moving, on_resource, queued, resource_with, rows_of, with_lists, without_lock}
+use Rattle.vlm_store.specs.Records.{IsResourceAmong, IsSound, Records, StoredLock, StoredResource, but_blocks, is_place, moving, on_resource, queued, rows_of, with_lists, without_lock}
 use Rattle.vlm_store.proofs.Layouts.{is_place-other, is_place-same}
 use Rattle.vlm_store.proofs.Undoing.{unmoved}
 use Rattle.vlm_locks.specs.declared.finding.Standing.{Standing}

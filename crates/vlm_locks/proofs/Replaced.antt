@@ -1,14 +1,13 @@
 -- One resource is put in the place of another of its key: what stays.
-use Rattle.std.proofs.Common.{◌≡◌, ◌≢◌, ◌⊎◌, ℕ, List, [], ◌∷◌, map, cond, Some, IsSome, refl, sym, ap, ◌∙◌, subst, inl, inr, eq-eqb, ne_eqb}
+use Rattle.std.proofs.Common.{◌≡◌, ◌≢◌, ◌⊎◌, ℕ, List, [], ◌∷◌, map, cond, IsSome, refl, sym, ap, ◌∙◌, subst, inl, inr, eq-eqb, ne_eqb}
 use Rattle.std.specs.Prelude.{◌==◌}
 use Rattle.std.proofs.lemmas.Bool.{cases_eq}
 use Rattle.vlm_words.specs.State.{Resource}
 use Rattle.vlm_store.specs.Records.{HasResource, IsOwnAmong, IsProcessAmong, IsResourceAmong, IsSound, OwnLock, Records, StoredProcess, StoredResource, but_blocks, on_resource, resource_at}
 use Rattle.vlm_service.specs.Plain.{plain_resource, plain_resources}
-use Rattle.vlm_service.specs.Serving.{but_service}
 use Rattle.vlm_locks.specs.Rest.{IsAtRest, IsKeyed, IsReplaced, OthersStay}
 use Rattle.vlm_locks.proofs.Stood.{resource_among}
-use Rattle.vlm_service.proofs.Found.{map_on, resource_alone, resource_at-at, resource_at-put}
+use Rattle.vlm_service.proofs.Found.{resource_alone, resource_at-at, resource_at-put}
 
 -- a resource of the list after is the new one, or it was there and has another key
 replaced_cases : (res : ℕ) (left : StoredResource) (rs : List StoredResource) (x : StoredResource) → IsResourceAmong x (on_resource res (λ r. left) rs)

@@ -3,7 +3,8 @@
 ghost use Rattle.std.specs.Prelude.{◌≡◌, Some, IfSome};
 ghost use Rattle.vlm_words.specs.declared.resources.Queue.{Queue};
 ghost use Rattle.vlm_words.specs.Convert.{converts_at_once, wanting_row};
-ghost use Rattle.vlm_words.specs.Grants.{is_empty};
+ghost use Rattle.vlm_words.specs.Grants.{fits, is_empty};
+ghost use Rattle.vlm_words.specs.Rows.{rows_without};
 ghost use Rattle.vlm_store.specs.Records.{HasResource, IsSameLock, StoredResource, plain_processes, resource_at, rows_of};
 ghost use Rattle.vlm_service.specs.Plain.{plain_resource};
 ghost use Rattle.vlm_locks.specs.Converting.{IsConverted, IsGrantedAtOnce, moved_in};
@@ -16,6 +17,7 @@ use vlm_service::{end_by_grant, granted_row};
 use vlm_store::{Place, ResAt, Store};
 use vlm_words::flags::EnqFlags;
 use vlm_words::locks::{Request, Row};
+use vlm_words::modes::Mode;
 use vlm_words::resources::Queue;
 
 // Whether no conversion is queued on the resource.
@@ -27,6 +29,17 @@ fn converts_none(store: &Store, res: ResAt) -> bool
     head(store, res, Queue::Conversion).is_none()
 }
 
+// Whether the mode fits beside all other locks of the resource of a granted lock.
+fn fits_others(store: &Store, standing: &Standing, mode: Mode) -> bool
+    requires standing { IsStanding standing.now store.now }
+    requires granted { standing.now.queue ≡ Queue.Granted }
+    ensures { (r : StoredResource) → resource_at standing.now.res store.now.resources ≡ Some r
+        → result ≡ fits mode (rows_without standing.now.row.lkid (rows_of r.granted)) (rows_of r.converting) }
+{
+    store.known();
+    can_hold(store, standing.res, mode, Some(standing.lock))
+}
+
 /// Whether a conversion of a granted lock is granted at once: what it asks for fits beside all other locks
 /// of its resource, and with QUECVT no conversion is queued there.
 #[tactic(auto, unfolding(vlm_words::specs::Convert::converts_at_once))]
@@ -36,8 +49,7 @@ pub fn converts_at_once(store: &Store, standing: &Standing, asked: &Request) -> 
     ensures { (r : StoredResource) → resource_at standing.now.res store.now.resources ≡ Some r
         → result ≡ converts_at_once asked.now standing.now.row.lkid (plain_resource r) }
 {
-    store.known();
-    can_hold(store, standing.res, asked.mode, Some(standing.lock))
+    fits_others(store, standing, asked.mode)
         && (!asked.flags.has(EnqFlags::QUECVT) || converts_none(store, standing.res))
 }
 

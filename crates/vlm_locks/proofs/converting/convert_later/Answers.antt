@@ -1,6 +1,5 @@
-use Rattle.std.proofs.Common.{Some, IfSome, refl, sym, ap, ◌∙◌, subst}
+use Rattle.std.proofs.Common.{IfSome, sym, subst}
 use Rattle.vlm_words.specs.declared.resources.Queue.TheVariants.{Conversion}
-use Rattle.vlm_store.specs.Records.{Records}
 use Rattle.vlm_locks.specs.Converting.{moved_in}
 use Rattle.vlm_locks.specs.Rest.{IsReplaced}
 use Rattle.vlm_locks.proofs.Moved.{moved_replaced}

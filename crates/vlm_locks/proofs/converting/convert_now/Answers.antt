@@ -1,9 +1,10 @@
-use Rattle.std.proofs.Common.{Some, IfSome, IsSome, refl, sym, ap, ◌∙◌, subst}
+use Rattle.std.proofs.Common.{IfSome, IsSome, sym, ap, ◌∙◌, subst}
 use Rattle.vlm_words.specs.declared.resources.Queue.TheVariants.{Granted}
+use Rattle.vlm_words.specs.declared.locks.Row.{Row}
+use Rattle.vlm_store.specs.declared.keys.Place.TheVariants.{Queued}
 use Rattle.vlm_words.specs.Grants.{granted_row}
-use Rattle.vlm_store.specs.Records.{HasResource, IsProcess, Records, resource_at}
+use Rattle.vlm_store.specs.Records.{IsProcess, IsSameLock, moving, resource_at, with_lists}
 use Rattle.vlm_locks.specs.Converting.{IsGrantedAtOnce, moved_in}
-use Rattle.vlm_locks.specs.Rest.{IsReplaced}
 use Rattle.vlm_locks.proofs.Converted.{granted_at_once}
 use Rattle.vlm_locks.proofs.Moved.{moved_replaced}
 use Rattle.vlm_locks.proofs.Replaced.{still_there}
@@ -18,7 +19,10 @@ owner-owner-requires c =
 pub move_lock-requires-clause-lock : goal.move_lock-requires-clause-lock
 move_lock-requires-clause-lock c =
     let f = c.args.standing.now in
-    (f.row, (stored c.args.store.now c.known.ensures f c.requires.standing, c.requires.row))
+    (f.row, (stored c.args.store.now c.known.ensures f c.requires.standing, subst (IsSameLock f.row) (sym c.granted_row.ensures) same))
+  where
+    same : IsSameLock c.args.standing.now.row (granted_row c.args.row.now)
+    same = record { lkid = c.requires.row.lkid; pid = c.requires.row.pid; parent = c.requires.row.parent }
 
 -- a lock that moves leaves the processes
 pub end_by_grant-requires : goal.end_by_grant-requires
@@ -33,8 +37,8 @@ set_value_block-requires c =
     let s = c.args.store.now in
     let f = c.args.standing.now in
     let standing = c.requires.standing in
-    let moved = moved_replaced s c.known.ensures f standing (granted_row c.args.row.now) Granted c.move_lock.new.self c.move_lock.ensures in
-    let there = still_there f.res standing.resource (moved_in f (granted_row c.args.row.now) Granted standing.resource) s c.move_lock.new.self moved in
+    let moved = moved_replaced s c.known.ensures f standing c.granted_row.result Granted c.move_lock.new.self c.move_lock.ensures in
+    let there = still_there f.res standing.resource (moved_in f c.granted_row.result Granted standing.resource) s c.move_lock.new.self moved in
     subst (λ rs. IsSome (resource_at f.res rs)) (sym c.end_by_grant.ensures.rest.resources) there
 
 pub returns : goal.returns
@@ -45,4 +49,4 @@ returns c =
     let row = c.args.row.now in
     subst (λ o. IfSome o (λ r. IsGrantedAtOnce f row r s c.set_value_block.new.self)) (sym standing.found)
     (granted_at_once s c.known.ensures f standing row c.move_lock.new.self c.end_by_grant.new.store c.set_value_block.new.self c.value_block-value_block.result c.end_by_grant.new.value_block
-    c.value_block-value_block.ensures c.move_lock.ensures c.end_by_grant.ensures c.set_value_block.ensures)
+    c.value_block-value_block.ensures (c.move_lock.ensures ∙ ap (λ (x : Row). with_lists (moving (Queued f.res Granted) (record { at = f.lock; row = x })) s) c.granted_row.ensures) c.end_by_grant.ensures c.set_value_block.ensures)
