@@ -1,5 +1,6 @@
--- After every run serials rise from one resource to the next, and no two resources have one key.
-use Rattle.std.proofs.Common.{◌≡◌, ◌<◌, ◌+◌, ◌||◌, ◌&&◌, ℕ, Bool, true, false, not, List, [], ◌∷◌, ◌++◌, map, cond, Option, None, Some, refl, sym, subst, ap, ◌∙◌, arith}
+-- After every run serials rise from one resource to the next, no more of them than identifications were given,
+-- and no two resources have one key.
+use Rattle.std.proofs.Common.{◌≡◌, ◌<◌, ◌≤◌, ◌+◌, ◌||◌, ◌&&◌, ℕ, Bool, true, false, not, List, [], ◌∷◌, ◌++◌, map, cond, Option, None, Some, refl, sym, subst, ap, ◌∙◌, arith}
 use Rattle.std.specs.Prelude.{◌==◌}
 use Rattle.std.specs.Cmp.Lexicographic.{pointwise, bytes_decides}
 use Rattle.std.specs.List.{AllByRecursion, find}
@@ -184,10 +185,12 @@ one_key domain name a b first second =
       name = (bytes_decides a.name name).0 left.1 ∙ sym ((bytes_decides b.name name).0 right.1);
     }
 
--- serials rise and are below the one to come, and no two resources have one key
+-- serials rise and are below the one to come, no more of them than identifications were given, and no two
+-- resources have one key
 pub record Placed (s : State) : Type 0 where
   pub rising : EachPair Rises s.resources
   pub given : AllByRecursion (λ r. r.serial < s.next_serial) s.resources
+  pub few : s.next_serial ≤ s.next_lkid
   pub two_keys : EachPair HaveTwoKeys s.resources
 
 -- the serials after a lock's entry are below the one that comes then
@@ -213,6 +216,11 @@ given_after_entry n domain key row request (r ∷ rest) given =
     below_either true m n below = below
     below_either false m n below = omega arith
 
+-- an entry makes a resource at most, and takes one identification
+few_after_entry : (b : Bool) (serial lkid : ℕ) → serial ≤ lkid → cond b serial (serial + 1) ≤ lkid + 1
+few_after_entry true serial lkid few = omega arith
+few_after_entry false serial lkid few = omega arith
+
 -- a sweep keeps the places, where the next serial stays
 swept_placed : (s : State) → Placed s → Placed (state_after_sweep s)
 unfolding resources_after_sweep
@@ -222,13 +230,14 @@ swept_placed s placed = record {
       each_filter (λ r. r.serial < s.next_serial) (λ r. not (is_vacant r)) (resources_after_service s.processes s.resources)
       (each_served (λ r. r.serial < s.next_serial) (λ r. r.serial < s.next_serial)
       (λ block r below. omega (arith, (service_keeps_place block r).serial)) s.processes s.resources placed.given);
+  few = placed.few;
   two_keys = pairs_after_sweep HaveTwoKeys two_keys_on_places s.processes s.resources placed.two_keys;
 }
 
 -- changed resources keep the places
 mapped_placed : (s t : State) (f : Resource → Resource) → KeepsPlace f → t.resources ≡ map f s.resources → t.next_serial ≡ s.next_serial
-    → Placed s → Placed t
-mapped_placed s t f keeps changed same placed =
+    → t.next_lkid ≡ s.next_lkid → Placed s → Placed t
+mapped_placed s t f keeps changed same same_locks placed =
     let rising : EachPair Rises (map f s.resources) = pairs_after_map Rises rises_on_places f keeps s.resources placed.rising in
     let two_keys : EachPair HaveTwoKeys (map f s.resources) = pairs_after_map HaveTwoKeys two_keys_on_places f keeps s.resources placed.two_keys in
     let given : AllByRecursion (λ r. r.serial < t.next_serial) (map f s.resources) =
@@ -236,6 +245,7 @@ mapped_placed s t f keeps changed same placed =
     record {
       rising = subst (EachPair Rises) (sym changed) rising;
       given = subst (AllByRecursion (λ r. r.serial < t.next_serial)) (sym changed) given;
+      few = omega (arith, placed.few, same, same_locks);
       two_keys = subst (EachPair HaveTwoKeys) (sym changed) two_keys;
     }
 
@@ -248,6 +258,7 @@ entry_placed s e placed = record {
       (each_weaker (λ r. r.serial < s.next_serial) (λ r. is_at (enq_key s e) r ≡ false → r.serial < s.next_serial) (λ r below _. below) s.resources
       placed.given) placed.rising;
   given = given_after_entry s.next_serial (enq_domain s e) (enq_key s e) (enq_row s e) (enq_request s e) s.resources placed.given;
+  few = few_after_entry (has_resource (enq_key s e) s.resources) s.next_serial s.next_lkid placed.few;
   two_keys =
       pairs_after_entry HaveTwoKeys two_keys_on_places s.next_serial (enq_domain s e) (enq_key s e) (enq_row s e) (enq_request s e) s.resources
       (each_elsewhere s.resources) placed.two_keys;
@@ -266,19 +277,19 @@ pub placed_always : (steps : List Step) (answers : List Answer) (endings : List 
     → Run steps answers endings last → Placed last
 unfolding declare_change set_change convert_change deq_change
 placed_always =
-    always (λ _ s. Placed s) (record { rising = tt; given = tt; two_keys = tt })
+    always (λ _ s. Placed s) (record { rising = tt; given = tt; few = omega arith; two_keys = tt })
     (λ _ _ endings s _ placed.
     kept_by_stepped (λ _ t. Placed t) endings s placed
-    (λ d _. swept_placed (declare_change s d) (record { rising = placed.rising; given = placed.given; two_keys = placed.two_keys }))
-    (λ v _. swept_placed (set_change s v) (record { rising = placed.rising; given = placed.given; two_keys = placed.two_keys }))
+    (λ d _. swept_placed (declare_change s d) (record { rising = placed.rising; given = placed.given; few = placed.few; two_keys = placed.two_keys }))
+    (λ v _. swept_placed (set_change s v) (record { rising = placed.rising; given = placed.given; few = placed.few; two_keys = placed.two_keys }))
     (λ e _. swept_placed (enq_change s e) (entry_placed s e placed))
     (λ c a _ _.
     swept_placed (convert_change s c a)
     (mapped_placed s (convert_change s c a) (resource_after_conversion a.request c.pid (convert_lkid s c) (convert_blocks s c a).value_block)
-    (conversion_keeps_place a.request c.pid (convert_lkid s c) (convert_blocks s c a).value_block) refl refl placed))
+    (conversion_keeps_place a.request c.pid (convert_lkid s c) (convert_blocks s c a).value_block) refl refl refl placed))
     (λ d _.
     swept_placed (deq_change s d)
-    (mapped_placed s (deq_change s d) (resource_after_withdrawal (withdrawal_of s d)) (withdrawal_keeps_place (withdrawal_of s d)) refl refl placed)))
+    (mapped_placed s (deq_change s d) (resource_after_withdrawal (withdrawal_of s d)) (withdrawal_keeps_place (withdrawal_of s d)) refl refl refl placed)))
 
 -- after every run serials rise
 pub serials_always : (steps : List Step) (answers : List Answer) (endings : List Ending) (last : State)
@@ -288,6 +299,7 @@ serials_always steps answers endings last run =
     record {
       rising = AllPairs-from_recursion Rises last.resources placed.rising;
       given = All-from_recursion (λ r. r.serial < last.next_serial) last.resources placed.given;
+      few = placed.few;
     }
 
 -- after every run keys are apart

@@ -17,3 +17,4 @@ pub mod Keys
 pub mod AtOnce
 pub mod Writes
 pub mod Settled
+pub mod Declarations

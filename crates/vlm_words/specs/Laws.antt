@@ -10,10 +10,11 @@ use Rattle.vlm_words.specs.declared.modes.Act.{Act}
 use Rattle.vlm_words.specs.declared.modes.Mode.TheVariants.{Nl}
 use Rattle.vlm_words.specs.declared.modes.Mode.{Mode}
 use Rattle.vlm_words.specs.declared.resources.Domain.TheVariants.{Group}
-use Rattle.vlm_words.specs.declared.steps.Answer.TheVariants.{Lock}
+use Rattle.vlm_words.specs.declared.steps.Answer.TheVariants.{Lock, Process as process_answer}
 use Rattle.vlm_words.specs.declared.steps.Conversion.{Conversion}
+use Rattle.vlm_words.specs.declared.steps.Declaration.{Declaration}
 use Rattle.vlm_words.specs.declared.steps.NewRequest.{NewRequest}
-use Rattle.vlm_words.specs.declared.steps.Step.TheVariants.{Enq, Convert}
+use Rattle.vlm_words.specs.declared.steps.Step.TheVariants.{Declare, Enq, Convert}
 use Rattle.vlm_words.specs.declared.steps.Step.{Step}
 use Rattle.vlm_words.specs.Modes.{is_compatible, value_action}
 use Rattle.vlm_words.specs.Flags.{expedite, has_flag, quecvt}
@@ -257,7 +258,14 @@ pub record HaveOneKey (a b : Resource) : Type 0 where
 abbrev pub KeysAreApart : State → Type 0
 KeysAreApart s = AllPairs (λ a b. HaveOneKey a b → ⊥) s.resources
 
--- serials rise from one resource to the next, and are below the one to come
+-- serials rise from one resource to the next, and are below the one to come; no more serials than
+-- identifications were given, since each resource that was made came with a lock of its own
 pub record SerialsRise (s : State) : Type 0 where
   pub rising : AllPairs (λ a b. a.serial < b.serial) s.resources
   pub given : All (λ r. r.serial < s.next_serial) s.resources
+  pub few : s.next_serial ≤ s.next_lkid
+
+-- a declaration that is answered with an identification gives one that no living process has
+abbrev pub DeclarationsGiveNewIdentifications : State → Type 0
+DeclarationsGiveNewIdentifications s = (d : Declaration) (pid : ℕ)
+    → (stepped s (Declare d)).answer ≡ process_answer pid → All (λ p. p.pid ≢ pid) s.processes

@@ -10,7 +10,7 @@ ghost use Rattle.vlm_words.specs.State.{Process, Resource, State};
 ghost use Rattle.vlm_words.specs.Settled.{IsSettled, IsSweptAlone};
 ghost use Rattle.vlm_words.specs.Runs.{Run};
 ghost use Rattle.vlm_words.specs.Stepped.{step_refusal};
-ghost use Rattle.vlm_words.specs.Laws.{EachRequestEndsOnce, GrantsFollowQueueOrder, HeldModesAreCompatible, IdentificationsAreApart, KeysAreApart, NoResourceIsVacant, NothingIsLeftToGrant, RowsFitTheirQueues, SerialsRise, WritesAreGrantedAtOnce};
+ghost use Rattle.vlm_words.specs.Laws.{DeclarationsGiveNewIdentifications, EachRequestEndsOnce, GrantsFollowQueueOrder, HeldModesAreCompatible, IdentificationsAreApart, KeysAreApart, NoResourceIsVacant, NothingIsLeftToGrant, RowsFitTheirQueues, SerialsRise, WritesAreGrantedAtOnce};
 
 /// In each resource the held modes of any two locks are compatible.
 pub fn law_held_modes_are_compatible()
@@ -45,10 +45,17 @@ pub fn law_identifications_are_apart()
         → Run steps answers endings last → IdentificationsAreApart last }
 {}
 
-/// Serials rise from one resource to the next, and are below the one to come.
+/// Serials rise from one resource to the next, and are below the one to come. No more serials than
+/// identifications were given: each resource that was made came with a lock of its own.
 pub fn law_serials_rise()
     ensures { (steps : List Step) (answers : List Answer) (endings : List Ending) (last : State)
         → Run steps answers endings last → SerialsRise last }
+{}
+
+/// A declaration gives an identification that no living process has.
+pub fn law_a_declaration_gives_a_new_identification()
+    ensures { (steps : List Step) (answers : List Answer) (endings : List Ending) (last : State)
+        → Run steps answers endings last → DeclarationsGiveNewIdentifications last }
 {}
 
 /// No two resources have one key.

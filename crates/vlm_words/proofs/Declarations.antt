@@ -1,0 +1,246 @@
+-- After every run each living process has an identification that its node has given, and so a declaration gives
+-- a new one.
+use Rattle.std.proofs.Common.{◌≡◌, ◌≢◌, ◌≤◌, ◌<◌, ◌+◌, ◌-◌, ◌*◌, ◌/◌, ◌%◌, ℕ, zero, suc, Bool, true, false, not, cond, List, [], ◌∷◌, ◌++◌, map, length, get_or, set, Option, None, Some, refl, sym, ap, subst, ◌∙◌, arith}
+use Rattle.std.specs.Prelude.{◌==◌, nat_le, nat_lt, All}
+use Rattle.std.specs.List.{AllByRecursion}
+use Rattle.std.proofs.lemmas.Bool.{and_parts, cond_both, leb-true}
+use Rattle.std.proofs.lemmas.Bool.Decides.{nat_tests}
+use Rattle.std.proofs.lemmas.List.{get_or-set_same, length-set}
+use Rattle.std.proofs.lemmas.List.Elements.{All-from_recursion}
+use Rattle.vlm_words.specs.declared.blocks.Block.{Block}
+use Rattle.vlm_words.specs.declared.conditions.Cond.TheVariants.{Badparam, Departed}
+use Rattle.vlm_words.specs.declared.conditions.Cond.{Cond}
+use Rattle.vlm_words.specs.declared.modes.Act.TheVariants.{Nothing, Return, Write}
+use Rattle.vlm_words.specs.declared.steps.Answer.TheVariants.{Process as process_answer}
+use Rattle.vlm_words.specs.declared.steps.Answer.{Answer}
+use Rattle.vlm_words.specs.declared.steps.Conversion.{Conversion}
+use Rattle.vlm_words.specs.declared.steps.Declaration.{Declaration}
+use Rattle.vlm_words.specs.declared.steps.NewRequest.{NewRequest}
+use Rattle.vlm_words.specs.declared.steps.Step.TheVariants.{Declare}
+use Rattle.vlm_words.specs.declared.steps.Step.{Step}
+use Rattle.vlm_words.specs.State.{Node, Process, Resource, State, new_node, node_at}
+use Rattle.vlm_words.specs.StatusBlocks.{process_after_write, process_with_block, processes_after_acceptance, processes_after_return, processes_after_setting, processes_after_status, processes_after_write}
+use Rattle.vlm_words.specs.Endings.{Ending, How}
+use Rattle.vlm_words.specs.Endings.How.{by_grant, by_abort, by_cancel}
+use Rattle.vlm_words.specs.Effects.{Blocks, blocks_after, blocks_after_ending, blocks_after_return, blocks_after_writing, blocks_with}
+use Rattle.vlm_words.specs.ValueBlocks.{new_value_block}
+use Rattle.vlm_words.specs.Grants.{service}
+use Rattle.vlm_words.specs.Sweeps.{blocks_after_service, processes_after_service, state_after_sweep}
+use Rattle.vlm_words.specs.Checks.{has_departed}
+use Rattle.vlm_words.specs.Declare.{declare_change, declare_refusal, declared_process, is_node, next_pid}
+use Rattle.vlm_words.specs.SetValue.{set_change}
+use Rattle.vlm_words.specs.Enqueue.{enq_change, enq_endings, enq_resource}
+use Rattle.vlm_words.specs.Convert.{ConversionAdmission, convert_blocks, convert_change, convert_lkid, conversion_endings}
+use Rattle.vlm_words.specs.Dequeue.{deq_change, deq_endings}
+use Rattle.vlm_words.specs.Stepped.{refused_or, step_change}
+use Rattle.vlm_words.specs.Runs.{Run}
+use Rattle.vlm_words.specs.Laws.{DeclarationsGiveNewIdentifications}
+use Rattle.vlm_words.proofs.Each.{each_append, each_weaker}
+use Rattle.vlm_words.proofs.Always.{always, kept_by_stepped}
+
+-- the identifications of living processes
+abbrev pub pids : List Process → List ℕ
+pids processes = map (λ p. p.pid) processes
+
+-- the identification is one that its node has given: its ordinal is not past the node's last
+abbrev pub IsGiven : List Node → ℕ → Type 0
+IsGiven nodes pid = pid % 65536 ≤ (node_at nodes (pid / 65536)).declared
+
+-- there are eight nodes, and each living process has an identification that its node has given
+pub record AllGiven (s : State) : Type 0 where
+  pub eight : length s.nodes ≡ 8
+  pub living : AllByRecursion (IsGiven s.nodes) (pids s.processes)
+
+-- a write keeps the identification
+write_kept : (pid n : ℕ) (block : Block) (p : Process) → (process_after_write pid n block p).pid ≡ p.pid
+unfolding process_after_write
+write_kept pid n block p = cond_both (p.pid == pid) (process_with_block n block p) p (λ q. q.pid ≡ p.pid) (λ _. refl) (λ _. refl)
+
+-- a write keeps the identifications
+writes_kept : (pid n : ℕ) (block : Block) (processes : List Process) → pids (processes_after_write pid n block processes) ≡ pids processes
+writes_kept pid n block [] = refl
+writes_kept pid n block (p ∷ rest) =
+    ap (λ (first : ℕ). first ∷ pids (processes_after_write pid n block rest)) (write_kept pid n block p)
+    ∙ ap (λ (others : List ℕ). p.pid ∷ others) (writes_kept pid n block rest)
+
+-- so does an acceptance
+pids_accepted : (pid n lkid : ℕ) (processes : List Process) → pids (processes_after_acceptance pid n lkid processes) ≡ pids processes
+unfolding processes_after_acceptance
+pids_accepted pid n lkid processes = writes_kept pid n _ processes
+
+-- the setting of a value
+pids_set : (pid n : ℕ) (value : List ℕ) (processes : List Process) → pids (processes_after_setting pid n value processes) ≡ pids processes
+unfolding processes_after_setting
+pids_set pid n value processes = writes_kept pid n _ processes
+
+-- a status
+pids_status : (pid n : ℕ) (cond : Cond) (processes : List Process) → pids (processes_after_status pid n cond processes) ≡ pids processes
+unfolding processes_after_status
+pids_status pid n cond processes = writes_kept pid n _ processes
+
+-- a returned value block
+pids_returned : (pid n : ℕ) (cond : Cond) (value : List ℕ) (processes : List Process)
+    → pids (processes_after_return pid n cond value processes) ≡ pids processes
+unfolding processes_after_return
+pids_returned pid n cond value processes = writes_kept pid n _ processes
+
+-- an ending
+ending_kept : (how : How) (pid n : ℕ) (b : Blocks) → pids (blocks_after_ending how pid n b).processes ≡ pids b.processes
+unfolding blocks_after_return blocks_after_writing
+ending_kept (by_grant Nothing) pid n b = pids_status pid n _ b.processes
+ending_kept (by_grant Return) pid n b = pids_returned pid n _ _ b.processes
+ending_kept (by_grant Write) pid n b = pids_status pid n _ b.processes
+ending_kept by_abort pid n b = pids_status pid n _ b.processes
+ending_kept by_cancel pid n b = pids_status pid n _ b.processes
+
+-- endings
+pids_ended : (endings : List Ending) (b : Blocks) → pids (blocks_after endings b).processes ≡ pids b.processes
+pids_ended [] b = refl
+pids_ended (ending ∷ endings) b =
+    pids_ended endings (blocks_after_ending ending.how ending.pid ending.request.block b)
+    ∙ ending_kept ending.how ending.pid ending.request.block b
+
+-- a sweep
+pids_swept : (processes : List Process) (resources : List Resource) → pids (processes_after_service processes resources) ≡ pids processes
+unfolding blocks_after_service
+pids_swept processes [] = refl
+pids_swept processes (r ∷ rest) =
+    pids_swept (blocks_after_service processes r).processes rest ∙ pids_ended (service r).endings (blocks_with r.value_block processes)
+
+-- a new request
+pids_entered : (s : State) (e : NewRequest) → pids (enq_change s e).processes ≡ pids s.processes
+unfolding enq_change
+pids_entered s e =
+    pids_ended (enq_endings s e)
+    (blocks_with (enq_resource s e).value_block (processes_after_acceptance e.pid e.block s.next_lkid s.processes))
+    ∙ pids_accepted e.pid e.block s.next_lkid s.processes
+
+-- a conversion
+pids_converted : (s : State) (c : Conversion) (a : ConversionAdmission) → pids (convert_change s c a).processes ≡ pids s.processes
+unfolding convert_change convert_blocks
+pids_converted s c a =
+    pids_ended (conversion_endings a)
+    (blocks_with a.resource.value_block (processes_after_acceptance c.pid c.block (convert_lkid s c) s.processes))
+    ∙ pids_accepted c.pid c.block (convert_lkid s c) s.processes
+
+-- a process that is added
+pids_added : (processes : List Process) (p : Process) → pids (processes ++ p ∷ []) ≡ pids processes ++ p.pid ∷ []
+pids_added [] p = refl
+pids_added (q ∷ rest) p = ap (λ (others : List ℕ). q.pid ∷ others) (pids_added rest p)
+
+-- what was given stays given where no node and no identification changes
+same_given : (s t : State) → t.nodes ≡ s.nodes → pids t.processes ≡ pids s.processes → AllGiven s → AllGiven t
+same_given s t nodes processes given = record {
+  eight = ap (λ (all : List Node). length all) nodes ∙ given.eight;
+  living =
+      subst (λ (all : List ℕ). AllByRecursion (IsGiven t.nodes) all) (sym processes)
+      (subst (λ (all : List Node). AllByRecursion (IsGiven all) (pids s.processes)) (sym nodes) given.living);
+}
+
+-- a sweep keeps what is given
+swept_given : (s : State) → AllGiven s → AllGiven (state_after_sweep s)
+swept_given s given = same_given s (state_after_sweep s) refl (pids_swept s.processes s.resources) given
+
+-- where one node has declared more, no node has declared less
+none_less : (nodes : List Node) (place at : ℕ) (node : Node) → (get_or nodes place new_node).declared ≤ node.declared
+    → (get_or nodes at new_node).declared ≤ (get_or (set nodes place node) at new_node).declared
+none_less [] place at node more = omega arith
+none_less (x ∷ xs) zero zero node more = more
+none_less (x ∷ xs) zero (suc at) node more = omega arith
+none_less (x ∷ xs) (suc place) zero node more = omega arith
+none_less (x ∷ xs) (suc place) (suc at) node more = none_less xs place at node more
+
+-- an accepted declaration names a node that has an ordinal left
+pub record HasOrdinal (s : State) (d : Declaration) : Type 0 where
+  pub first : 1 ≤ d.node
+  pub last : d.node ≤ 8
+  pub left : (node_at s.nodes d.node).declared < 65535
+
+-- where the checks of a declaration pass, its node has an ordinal left
+ordinal_left : (s : State) (d : Declaration) → declare_refusal s d ≡ None → HasOrdinal s d
+unfolding declare_refusal
+ordinal_left s d passed = of_tests (is_node d.node) (has_departed s.nodes d.node) (nat_lt (node_at s.nodes d.node).declared 65535) refl refl passed
+  where
+    of_tests : (node departed left : Bool) → is_node d.node ≡ node → nat_lt (node_at s.nodes d.node).declared 65535 ≡ left
+        → cond (not node) (Some Badparam) (cond departed (Some Departed) (cond left None (Some Badparam))) ≡ None → HasOrdinal s d
+    of_tests true false true is_named is_left passed =
+        let parts = and_parts (nat_le 1 d.node) (nat_le d.node 8) is_named in
+        record {
+          first = leb-true 1 d.node parts.0;
+          last = leb-true d.node 8 parts.1;
+          left = grind (arith, nat_tests);
+        }
+    of_tests true false false is_named is_left passed = cc
+    of_tests true true left is_named is_left passed = cc
+    of_tests false departed left is_named is_left passed = cc
+
+-- the next ordinal of a node is not given yet
+next_is_new : (nodes : List Node) (node pid : ℕ) → (node_at nodes node).declared < 65535
+    → IsGiven nodes pid → pid ≢ node * 65536 + ((node_at nodes node).declared + 1)
+next_is_new nodes node pid left given is =
+    let upper : pid / 65536 ≡ node = omega arith in
+    let lower : pid % 65536 ≡ (node_at nodes node).declared + 1 = omega arith in
+    let last : (node_at nodes (pid / 65536)).declared ≡ (node_at nodes node).declared =
+    ap (λ (number : ℕ). (node_at nodes number).declared) upper in
+    omega arith
+
+-- after a declaration the new identification is given too
+declared_given : (s : State) (d : Declaration) → HasOrdinal s d → AllGiven s → AllGiven (declare_change s d)
+unfolding declare_change
+declared_given s d has given =
+    let node : Node = record (node_at s.nodes d.node) { declared = (node_at s.nodes d.node).declared + 1 } in
+    let nodes : List Node = set s.nodes (d.node - 1) node in
+    let own : node_at nodes d.node ≡ node = get_or-set_same s.nodes (d.node - 1) node new_node (omega (arith, has.first, has.last, given.eight)) in
+    let old : AllByRecursion (IsGiven nodes) (pids s.processes) =
+    each_weaker (IsGiven s.nodes) (IsGiven nodes)
+    (λ pid is. omega (arith, is, none_less s.nodes (d.node - 1) (pid / 65536 - 1) node (omega arith))) (pids s.processes) given.living in
+    let upper : next_pid s d.node / 65536 ≡ d.node = omega (arith, has.left) in
+    let lower : next_pid s d.node % 65536 ≡ (node_at s.nodes d.node).declared + 1 = omega (arith, has.left) in
+    let new : IsGiven nodes (next_pid s d.node) = rw (upper, lower, own) (omega arith) in
+    record {
+      eight = length-set s.nodes (d.node - 1) node ∙ given.eight;
+      living = subst (AllByRecursion (IsGiven nodes)) (sym (pids_added s.processes (declared_process s d)))
+          (each_append (IsGiven nodes) (pids s.processes) (next_pid s d.node ∷ []) old (new, tt));
+    }
+
+-- after every run each living process has an identification that its node has given
+given_always : (steps : List Step) (answers : List Answer) (endings : List Ending) (last : State)
+    → Run steps answers endings last → AllGiven last
+unfolding set_change enq_change convert_change deq_change
+given_always =
+    always (λ _ s. AllGiven s) (record { eight = refl; living = tt })
+    (λ _ _ endings s _ given.
+    kept_by_stepped (λ _ t. AllGiven t) endings s given
+    (λ d passed. swept_given (declare_change s d) (declared_given s d (ordinal_left s d passed) given))
+    (λ v _. swept_given (set_change s v) (same_given s (set_change s v) refl (pids_set v.pid v.block v.value s.processes) given))
+    (λ e _. swept_given (enq_change s e) (same_given s (enq_change s e) refl (pids_entered s e) given))
+    (λ c a _ _. swept_given (convert_change s c a) (same_given s (convert_change s c a) refl (pids_converted s c a) given))
+    (λ d _.
+    swept_given (deq_change s d)
+    (same_given s (deq_change s d) refl (pids_ended (deq_endings s d) (blocks_with new_value_block s.processes)) given)))
+
+-- no living process has the next identification of a node
+each_new : (nodes : List Node) (node pid : ℕ) → node * 65536 + ((node_at nodes node).declared + 1) ≡ pid
+    → (node_at nodes node).declared < 65535 → (processes : List Process) → AllByRecursion (IsGiven nodes) (pids processes)
+    → AllByRecursion (λ p. p.pid ≢ pid) processes
+each_new nodes node pid next left [] given = tt
+each_new nodes node pid next left (p ∷ rest) given = (
+  λ is. next_is_new nodes node p.pid left given.0 (is ∙ sym next),
+  each_new nodes node pid next left rest given.1,
+)
+
+-- after every run a declaration gives a new identification
+pub declarations_always : (steps : List Step) (answers : List Answer) (endings : List Ending) (last : State)
+    → Run steps answers endings last → DeclarationsGiveNewIdentifications last
+declarations_always steps answers endings last run d pid answered = of_refusal (declare_refusal last d) refl answered
+  where
+    given : AllGiven last
+    given = given_always steps answers endings last run
+
+    of_refusal : (refusal : Option Cond) → declare_refusal last d ≡ refusal
+        → (refused_or refusal last (step_change last (Declare d))).answer ≡ process_answer pid → All (λ p. p.pid ≢ pid) last.processes
+    of_refusal (Some refusal) is answered = cc
+    of_refusal None passed answered =
+        let same : next_pid last d.node ≡ pid = cc in
+        let has : HasOrdinal last d = ordinal_left last d passed in
+        All-from_recursion (λ p. p.pid ≢ pid) last.processes (each_new last.nodes d.node pid same has.left last.processes given.living)
