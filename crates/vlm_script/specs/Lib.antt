@@ -1,5 +1,6 @@
 pub mod Bindings
 pub mod Queues
+pub mod QueuesByPlace
 pub mod Sessions
 pub mod Plays
 pub mod Faults

@@ -11,6 +11,7 @@ mod printing;
 mod runs;
 mod session;
 mod show;
+mod show_by_place;
 mod stops;
 mod streams;
 

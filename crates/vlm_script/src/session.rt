@@ -7,7 +7,7 @@ ghost use Rattle.vlm_script.specs.Sessions.{IsRun, IsPrinted, StopsBytes, StopsL
 
 use crate::bindings::{Bindings, bind_reserved, bound_to};
 use crate::printing::{answer_line, status_block_line};
-use crate::show::show;
+use crate::show_by_place::show;
 use crate::stops::Stop;
 use std::alloc::Global;
 use std::marker::Model;

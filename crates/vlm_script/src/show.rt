@@ -1,71 +1,105 @@
-//! All resources with their queues, as the readers of the core show them.
+//! All resources with their queues, as the store has them.
 
-ghost use Rattle.std.specs.Prelude.{◌≡◌, ◌++◌, IfSome, OnOk, slice_get};
-ghost use Rattle.vlm_words.specs.Texts.{resource_text, resources_text};
-ghost use Rattle.vlm_script.specs.Queues.{queue_lines, rows_at, view_line};
+ghost use Rattle.std.specs.Prelude.{◌≡◌, ◌++◌, IfSome, OnOk, flat_map};
+ghost use Rattle.vlm_words.specs.Resources.{key_name, key_parent};
+ghost use Rattle.vlm_words.specs.Texts.{resource_line, resource_text, resources_text};
+ghost use Rattle.vlm_store.specs.declared.keys.Place.{Place};
+ghost use Rattle.vlm_store.specs.Records.{HasResource, locks_at, resource_at, rows_of};
+ghost use Rattle.vlm_service.specs.Plain.{plain_resource, plain_resources};
+ghost use Rattle.vlm_script.specs.Queues.{queue_lines, row_line};
 
 use crate::printing::{converting_line, granted_line, no_resources, resource_line, waiting_line};
 use std::alloc::AllocError;
-use vlm_core::{Core, RowView};
-use vlm_words::resources::Queue;
+use vlm_store::{Place, ResAt, Store};
+use vlm_words::locks::Row;
+use vlm_words::resources::{Key, Queue};
 
 /// Prints every resource by rising serial with its queues, or that there is none.
-pub(crate) fn show(core: &Core, out: &mut Vec<u8>) -> Result<(), AllocError>
-    ensures { OnOk result (out.new.items ≡ out.old.items ++ resources_text core.now.resources) }
+pub(crate) fn show(store: &Store, out: &mut Vec<u8>) -> Result<(), AllocError>
+    ensures { OnOk result (out.new.items
+        ≡ out.old.items ++ resources_text (plain_resources store.now)) }
 {
-    let count = core.resource_count();
-    if count == 0 {
-        return no_resources(out);
+    match store.first_resource() {
+        Some(_) => show_resources(store, out),
+        None => no_resources(out),
     }
-    for place in 0..count {
-        show_resource(core, place, out)?;
+}
+
+// Prints every resource with its queues.
+fn show_resources(store: &Store, out: &mut Vec<u8>) -> Result<(), AllocError>
+    ensures { OnOk result (out.new.items
+        ≡ out.old.items ++ flat_map resource_text (plain_resources store.now)) }
+{
+    store.known();
+    let mut next = store.first_resource();
+    while let Some(res) = next {
+        show_resource(store, res, out)?;
+        next = store.next_resource(res);
     }
     Ok(())
 }
 
-// Prints the resource at a place with its three queues.
-fn show_resource(core: &Core, place: usize, out: &mut Vec<u8>) -> Result<(), AllocError>
-    ensures { OnOk result (IfSome (slice_get core.now.resources place)
-        (λ r. out.new.items ≡ out.old.items ++ resource_text r)) }
+// Prints a resource with its three queues.
+fn show_resource(store: &Store, res: ResAt, out: &mut Vec<u8>) -> Result<(), AllocError>
+    requires { HasResource res store.now }
+    ensures { OnOk result (IfSome (resource_at res store.now.resources)
+        (λ r. out.new.items ≡ out.old.items ++ resource_text (plain_resource r))) }
 {
-    let Some(r) = core.resource_at(place) else {
-        return Ok(());
+    show_head(store, res, out)?;
+    show_queue(store, res, Queue::Granted, out)?;
+    show_queue(store, res, Queue::Conversion, out)?;
+    show_queue(store, res, Queue::Waiting, out)?;
+    Ok(())
+}
+
+// Prints the own line of a resource.
+fn show_head(store: &Store, res: ResAt, out: &mut Vec<u8>) -> Result<(), AllocError>
+    requires { HasResource res store.now }
+    ensures { OnOk result (IfSome (resource_at res store.now.resources)
+        (λ r. out.new.items ≡ out.old.items
+        ++ resource_line r.serial (key_parent r.key) r.domain (key_name r.key)
+        r.value_block.value r.value_block.valid)) }
+{
+    let (parent, name) = match store.key(res) {
+        Key::Root(_, name) => (0, name),
+        Key::Below(parent, name) => (parent, name),
     };
+    let value_block = store.value_block(res);
     resource_line(
         out,
-        r.serial,
-        r.parent,
-        r.domain,
-        r.name.bytes(),
-        &r.value,
-        r.valid,
-    )?;
-    show_queue(core, place, Queue::Granted, out)?;
-    show_queue(core, place, Queue::Conversion, out)?;
-    show_queue(core, place, Queue::Waiting, out)?;
-    Ok(())
+        store.serial(res),
+        parent,
+        store.domain(res),
+        name.bytes(),
+        &value_block.value,
+        value_block.valid,
+    )
 }
 
-// Prints the locks in a queue of the resource at a place.
-fn show_queue(core: &Core, place: usize, queue: Queue, out: &mut Vec<u8>) -> Result<(), AllocError>
-    ensures { OnOk result (out.new.items
-        ≡ out.old.items ++ queue_lines queue (rows_at core.now.resources place queue)) }
+// Prints the locks in a queue of a resource.
+fn show_queue(store: &Store, res: ResAt, queue: Queue, out: &mut Vec<u8>) -> Result<(), AllocError>
+    requires { HasResource res store.now }
+    ensures { OnOk result (out.new.items ≡ out.old.items
+        ++ queue_lines queue (rows_of (locks_at (Place.Queued res queue) store.now))) }
 {
-    let mut next = 0;
-    while let Some(row) = core.row_at(place, queue, next) {
-        show_row(queue, &row, out)?;
-        next += 1;
+    store.known();
+    let mut next = store.first(Place::Queued(res, queue));
+    while let Some(lock) = next {
+        show_row(queue, &store.row(lock), out)?;
+        next = store.next(lock);
     }
     Ok(())
 }
 
 // Prints a lock as it stands in a queue.
-fn show_row(queue: Queue, row: &RowView, out: &mut Vec<u8>) -> Result<(), AllocError>
-    ensures { OnOk result (out.new.items ≡ out.old.items ++ view_line queue row.now) }
+fn show_row(queue: Queue, row: &Row, out: &mut Vec<u8>) -> Result<(), AllocError>
+    ensures { OnOk result (out.new.items ≡ out.old.items ++ row_line queue row.now) }
 {
+    let held = row.held.map(|request| request.mode);
+    let want = row.want.map(|request| request.mode);
     match queue {
-        Queue::Granted => granted_line(out, row.lkid, row.pid, row.held),
-        Queue::Conversion => converting_line(out, row.lkid, row.pid, row.held, row.want),
-        Queue::Waiting => waiting_line(out, row.lkid, row.pid, row.want),
+        Queue::Granted => granted_line(out, row.lkid, row.pid, held),
+        Queue::Conversion => converting_line(out, row.lkid, row.pid, held, want),
+        Queue::Waiting => waiting_line(out, row.lkid, row.pid, want),
     }
 }

@@ -15,3 +15,4 @@ pub mod OwnLocks
 pub mod Places
 pub mod Plain
 pub mod Undoing
+pub mod Walks

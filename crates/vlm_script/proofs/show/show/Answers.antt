@@ -1,20 +1,7 @@
-use Rattle.std.proofs.Common.{◌≢◌, ◌<◌, length, ◌∙◌, arith}
-use Rattle.std.proofs.lemmas.Grind.{common_steps}
-use Rattle.vlm_script.proofs.Shown.{resources_left, resources_text-some}
+use Rattle.std.proofs.Common.{sym}
+use Rattle.vlm_script.proofs.Shown.{resources_text-some}
 use Rattle.vlm_script.proofs.show.show.Goals as goal
 
--- one more resource is printed
-pub loop-place-preserved : goal.loop-place-preserved
-loop-place-preserved c =
-    let all = c.args.core.now.resources in
-    let within : c.loop-place.place < length all = omega (arith, c.resource_count-count.ensures) in
-    resources_left all c.loop-place.place c.loop-place.out.items c.show_resource.new.out.items within c.in_ok-show_resource.ensures
-    ∙ c.loop-place.invariant
-
--- all resources are printed
-pub returns : goal.returns
-returns c =
-    let all = c.args.core.now.resources in
-    let some : length all ≢ 0 = grind arith in
-    let text = resources_text-some all some in
-    grind (arith, common_steps, text, c.loop-place.invariant)
+-- there are resources, and all are printed
+pub returns-in-Some : goal.returns-in-Some
+returns-in-Some c = rw (resources_text-some c.args.store.now.resources c.in-Some.field-0 (sym c.in-Some.ensures)) c.show_resources.ensures

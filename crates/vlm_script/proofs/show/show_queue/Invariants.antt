@@ -1,12 +1,20 @@
-use Rattle.std.proofs.Common.{◌≡◌, ◌++◌, length, drop}
-use Rattle.vlm_script.specs.Queues.{queue_lines, rows_at}
+use Rattle.std.proofs.Common.{◌≡◌, ◌++◌, length}
+use Rattle.std.specs.Option.{ForSome}
+use Rattle.vlm_store.specs.declared.keys.Place.TheVariants.{Queued}
+use Rattle.vlm_store.specs.Records.{locks_at, rows_of}
+use Rattle.vlm_store.proofs.Walks.{HasLock, locks_from}
+use Rattle.vlm_script.specs.Queues.{queue_lines}
+use Rattle.vlm_script.proofs.Shown.{lines_left}
 use Rattle.vlm_script.proofs.show.show_queue.Given as goal
 
--- what is printed so far and what is left give the whole queue
-abbrev pub invariant-loop-row : goal.invariant-loop-row
-invariant-loop-row l =
-    let rows = rows_at l.core.resources l.place l.queue in
-    l.out.items ++ queue_lines l.queue (drop l.next rows) ≡ l.initial.out.items ++ queue_lines l.queue rows
+-- the next lock is there, and what is printed so far and what is left give the whole queue
+abbrev pub invariant-loop-next : goal.invariant-loop-next
+invariant-loop-next l =
+    let ks = locks_at (Queued l.fn.res l.queue) l.store in
+    record {
+      there : ForSome l.next (λ at. HasLock at ks);
+      printed : l.out.items ++ lines_left l.queue l.next ks ≡ l.initial.out.items ++ queue_lines l.queue (rows_of ks);
+    }
 
-abbrev pub decreases-loop-row : goal.decreases-loop-row
-decreases-loop-row l = length (drop l.next (rows_at l.core.resources l.place l.queue))
+abbrev pub decreases-loop-next : goal.decreases-loop-next
+decreases-loop-next l = length (locks_from l.next (locks_at (Queued l.fn.res l.queue) l.store))

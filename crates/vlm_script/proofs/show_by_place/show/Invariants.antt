@@ -1,7 +1,7 @@
 use Rattle.std.proofs.Common.{◌≡◌, ◌++◌, drop}
 use Rattle.std.specs.Prelude.{flat_map}
 use Rattle.vlm_words.specs.Texts.{resource_text}
-use Rattle.vlm_script.proofs.show.show.Given as goal
+use Rattle.vlm_script.proofs.show_by_place.show.Given as goal
 
 -- what is printed so far and what is left give all resources
 abbrev pub invariant-loop-place : goal.invariant-loop-place
