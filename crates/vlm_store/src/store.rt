@@ -1,6 +1,6 @@
 //! The store.
 
-ghost use Rattle.std.specs.Prelude.{◌≡◌, [], ◌∷◌, ◌++◌, IfOk, IfSome, OnErr};
+ghost use Rattle.std.specs.Prelude.{◌≡◌, [], ◌∷◌, ◌++◌, length, IfOk, IfSome, OnErr};
 ghost use Rattle.std.specs.Option.{ForSome};
 ghost use Rattle.vlm_words.specs.declared.locks.Row.{Row};
 ghost use Rattle.vlm_store.specs.declared.keys.Place.{Place};
@@ -217,6 +217,13 @@ impl Store {
             Some(at) => Some(LockAt::of(at)),
             None => None,
         }
+    }
+
+    /// How many resources there are.
+    pub fn resource_count(&self) -> usize
+        ensures { result ≡ length self.now.resources }
+    {
+        self.order.len(&self.queues.resources)
     }
 
     /// The key of the first resource in order of making, if there is one.
