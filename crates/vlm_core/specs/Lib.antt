@@ -1,8 +1,5 @@
-pub mod Living
-pub mod Machine
-pub mod Resources
-pub mod Views
-pub mod Running
 pub mod Admissions
-pub mod Granted
-pub mod Serving
+pub mod Between
+pub mod Machine
+pub mod Running
+pub mod Views

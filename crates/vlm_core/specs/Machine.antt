@@ -1,30 +1,40 @@
--- What the core is in the plain machine.
-use Rattle.std.specs.Prelude.{◌≡◌, ℕ, Bool, true, ◌+◌, ◌/◌, ◌%◌, ◌≤◌, nat_le, List, map}
-use Rattle.std.specs.List.{list_all}
-use Rattle.vlm_words.specs.State.{Node, Process, State, node_at}
-use Rattle.vlm_core.specs.declared.machine.Core.TheInside.{Inside}
+-- What the machine of records keeps, and what it is in the plain machine.
+use Rattle.std.specs.Prelude.{ℕ, List, ◌+◌}
+use Rattle.vlm_words.specs.State.{Node, State}
+use Rattle.vlm_store.specs.Records.{Records, plain_processes}
+use Rattle.vlm_service.specs.Plain.{plain_resources}
+use Rattle.vlm_locks.specs.Rest.{IsAtRest}
+use Rattle.vlm_core.specs.declared.records.Machine.TheInside.{Inside}
 
--- the core as the machine's state: the numbers that come next are one more than those given last
-abbrev pub state_shown : Inside → State
-state_shown c = record {
-  nodes = c.nodes;
-  processes = c.store.processes;
-  resources = c.resources.items;
-  next_lkid = c.last_lkid + 1;
-  next_request = c.last_request + 1;
-  next_serial = c.last_serial + 1;
+-- the nodes, the records under their keys, and the numbers that come next
+pub record Kept : Type 0 where
+  pub nodes : List Node
+  pub records : Records
+  pub next_lkid : ℕ
+  pub next_request : ℕ
+  pub next_serial : ℕ
+
+-- the numbers that come next are one more than those given last
+abbrev pub kept : Inside → Kept
+kept m = record {
+  nodes = m.nodes;
+  records = m.store;
+  next_lkid = m.last_lkid + 1;
+  next_request = m.last_request + 1;
+  next_serial = m.last_serial + 1;
 }
 
--- the identification is one that its node has given: its ordinal is not past the node's last
-unfoldable pub is_given : List Node → ℕ → Bool
-is_given nodes pid = nat_le (pid % 65536) (node_at nodes (pid / 65536)).declared
+-- the state of the plain machine: the records without their keys
+abbrev pub plain_state : Kept → State
+plain_state m = record {
+  nodes = m.nodes;
+  processes = plain_processes m.records;
+  resources = plain_resources m.records;
+  next_lkid = m.next_lkid;
+  next_request = m.next_request;
+  next_serial = m.next_serial;
+}
 
--- the identifications of living processes
-unfoldable pub pids : List Process → List ℕ
-pids processes = map (λ p. p.pid) processes
-
--- each resource that was made came with a lock of its own, and each living process has an identification
--- that its node has given
-pub record IsSound (c : Inside) : Type 0 where
-  pub few_serials : c.last_serial ≤ c.last_lkid
-  pub given : list_all (is_given c.nodes) (pids c.store.processes) ≡ true
+-- the records are as they are to be between two steps, in each part of a step too
+pub record IsSound (m : Inside) : Type 0 where
+  pub rest : IsAtRest m.store

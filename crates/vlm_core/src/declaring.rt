@@ -5,9 +5,12 @@ ghost use Rattle.std.specs.Result.{result_err};
 ghost use Rattle.vlm_words.specs.Declare.{declare_change, declare_refusal, next_pid};
 ghost use Rattle.vlm_words.specs.State.{node_at};
 ghost use Rattle.vlm_words.specs.Stepped.{Outcome};
+ghost use Rattle.vlm_store.specs.Records.{IsNewProcess};
+ghost use Rattle.vlm_core.specs.Between.{IsBetweenSteps};
+ghost use Rattle.vlm_core.specs.Machine.{plain_state};
 
-use crate::machine::Core;
 use crate::nodes::has_departed;
+use crate::records::Machine;
 use std::alloc::AllocError;
 use vlm_words::conditions::Cond;
 use vlm_words::steps::{Answer, Declaration, Step};
@@ -15,27 +18,24 @@ use vlm_words::steps::{Answer, Declaration, Step};
 /// How many processes a node may declare in all.
 const ORDINALS: u16 = 65_535;
 
-impl Core {
-    /// Declares a process (this project's own). Refused by BADPARAM where the node is not 1 to 8,
-    /// DEPARTED, BADPARAM where the node has declared 65,535 processes, INSFMEM.
-    pub fn declare(&mut self, declaration: Declaration) -> Answer
-        ensures { Outcome self.old (Step.Declare declaration) self.new result }
+impl Machine {
+    /// Declares a process: its checks and its change. No resource is touched, so nothing is to be swept.
+    pub(crate) fn declare(&mut self, declaration: Declaration) -> Answer
+        requires { IsBetweenSteps (plain_state self.old) }
+        ensures { Outcome (plain_state self.old) (Step.Declare declaration) (plain_state self.new) result }
     {
         if let Err(refusal) = self.declare_refusal(&declaration) {
             return Answer::Plain(refusal);
         }
         match self.declare_change(&declaration) {
-            Ok(pid) => {
-                self.sweep();
-                Answer::Process(pid)
-            }
+            Ok(pid) => Answer::Process(pid),
             Err(AllocError) => Answer::Plain(Cond::Insfmem),
         }
     }
 
     #[tactic(auto, unfolding(vlm_words::specs::Declare::declare_refusal))]
     fn declare_refusal(&self, declaration: &Declaration) -> Result<(), Cond>
-        ensures refusal { result_err result ≡ declare_refusal self.now declaration.now }
+        ensures refusal { result_err result ≡ declare_refusal (plain_state self.now) declaration.now }
         ensures first { OnOk result (1 ≤ declaration.now.node) }
         ensures last { OnOk result (declaration.now.node ≤ 8) }
         ensures ordinal { OnOk result
@@ -56,20 +56,27 @@ impl Core {
     }
 
     // The process lives, under the next ordinal of its node.
-    #[tactic(auto, using(crate::proofs::Identifications::next_is_new, crate::proofs::Identifications::pids_added), unfolding(vlm_words::specs::Declare::declare_change))]
+    #[tactic(auto, unfolding(vlm_words::specs::Declare::declare_change))]
     fn declare_change(&mut self, declaration: &Declaration) -> Result<u32, AllocError>
         requires first { 1 ≤ declaration.now.node }
         requires last { declaration.now.node ≤ 8 }
         requires ordinal { (node_at self.old.nodes declaration.now.node).declared < 65535 }
-        ensures pid { IfOk result (λ pid. pid ≡ next_pid self.old declaration.now.node) }
-        ensures change { OnOk result (self.new ≡ declare_change self.old declaration.now) }
+        requires new { IsNewProcess (next_pid (plain_state self.old) declaration.now.node) self.old.records }
+        ensures pid { IfOk result
+            (λ pid. pid ≡ next_pid (plain_state self.old) declaration.now.node) }
+        ensures change { OnOk result
+            (plain_state self.new ≡ declare_change (plain_state self.old) declaration.now) }
         ensures err { OnErr result (self.new ≡ self.old) }
     {
         let place = usize::from(declaration.node) - 1;
         let node = self.nodes[place].counted();
         let pid = u32::from(declaration.node) * 65_536 + u32::from(node.declared());
-        self.store.add_process(pid, declaration)?;
-        self.nodes[place] = node;
-        Ok(pid)
+        match self.store.add_process(pid, declaration) {
+            Ok(_) => {
+                self.nodes[place] = node;
+                Ok(pid)
+            }
+            Err(AllocError) => Err(AllocError),
+        }
     }
 }

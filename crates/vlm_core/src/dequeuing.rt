@@ -2,70 +2,91 @@
 
 ghost use Rattle.std.specs.Prelude.{◌≡◌, IfOk};
 ghost use Rattle.std.specs.Result.{result_err};
-ghost use Rattle.vlm_words.specs.Dequeue.{cancel_refusal, deq_change, deq_flags_refusal, deq_refusal, withdrawal_of};
+ghost use Rattle.vlm_words.specs.Dequeue.{cancel_refusal, deq_change, deq_flags_refusal, deq_refusal, dequeue_lkid, withdrawal_of};
 ghost use Rattle.vlm_words.specs.Flags.{cancel, deq_flag_bits, has_flag, invvalblk};
-ghost use Rattle.vlm_words.specs.Stepped.{stepped};
+ghost use Rattle.vlm_words.specs.Stepped.{Outcome};
+ghost use Rattle.vlm_store.specs.Records.{HasResource};
+ghost use Rattle.vlm_locks.specs.Rest.{OthersStay};
+ghost use Rattle.vlm_locks.specs.Standing.{IsStandingOf};
+ghost use Rattle.vlm_core.specs.Admissions.{IsAdmittedDequeue};
+ghost use Rattle.vlm_core.specs.Between.{IsBetweenSteps};
+ghost use Rattle.vlm_core.specs.Machine.{plain_state};
 
-use crate::flags::{deq_flags, has_deq_flag};
-use crate::machine::Core;
-use crate::tables::{end_withdrawn, is_granted, withdraw_all};
-use crate::withdrawals::Withdrawal;
+use crate::flags::deq_flags;
+use crate::records::Machine;
+use vlm_locks::{Standing, Withdrawal, withdraw};
 use vlm_words::conditions::Cond;
 use vlm_words::flags::DeqFlags;
+use vlm_words::resources::Queue;
 use vlm_words::steps::{Answer, Dequeue, Step};
 
-impl Core {
-    /// Gives a lock up, or with CANCEL ends its request ($DEQ). A lock that is held at PW or EX writes a
-    /// given value to the value block, and with INVVALBLK then marks it invalid; with CANCEL, at lower
-    /// modes and for a waiting lock both are ignored (this project's own). It takes no memory. Refused by
-    /// DEPARTED, NONEXPR, BADPARAM for an unknown flag, ACCVIO where the lock is named by a status block
-    /// that is not there, IVLOCKID, CANCELGRANT where a granted lock is to be cancelled.
-    pub fn deq(&mut self, dequeue: Dequeue) -> Answer
-        ensures state { self.new ≡ (stepped self.old (Step.Deq dequeue)).state }
-        ensures answer { result ≡ (stepped self.old (Step.Deq dequeue)).answer }
+/// A dequeue that no check refuses.
+#[derive(Clone, Copy)]
+pub(crate) struct AdmittedDequeue {
+    // the lock as it stands
+    standing: Standing,
+    withdrawal: Withdrawal,
+}
+
+impl Machine {
+    /// Gives a lock up, or cancels its request: its checks, its change, and the sweep of its resource.
+    pub(crate) fn deq(&mut self, dequeue: Dequeue) -> Answer
+        requires { IsBetweenSteps (plain_state self.old) }
+        ensures { Outcome (plain_state self.old) (Step.Deq dequeue) (plain_state self.new) result }
     {
         match self.deq_refusal(&dequeue) {
-            Ok(withdrawal) => {
-                self.deq_change(&dequeue, &withdrawal);
-                self.sweep();
+            Ok(admitted) => {
+                self.deq_change(&dequeue, &admitted);
+                self.sweep(admitted.standing.res);
                 Answer::Plain(Cond::Normal)
             }
             Err(refusal) => Answer::Plain(refusal),
         }
     }
 
-    // The lock's requests end, and it is gone from every queue, or only its request is.
-    #[tactic(auto, using(crate::proofs::Identifications::pids_withdrawn), unfolding(vlm_words::specs::Dequeue::deq_change))]
-    fn deq_change(&mut self, dequeue: &Dequeue, withdrawal: &Withdrawal)
-        requires { withdrawal.now ≡ withdrawal_of self.old dequeue.now }
-        ensures { self.new ≡ deq_change self.old dequeue.now }
+    // The lock's requests end, and it is gone from its queue, or only its request is.
+    #[tactic(auto, unfolding(vlm_words::specs::Dequeue::deq_change))]
+    fn deq_change(&mut self, dequeue: &Dequeue, admitted: &AdmittedDequeue)
+        requires { IsAdmittedDequeue self.old dequeue.now admitted.now }
+        ensures change { plain_state self.new ≡ deq_change (plain_state self.old) dequeue.now }
+        ensures others { OthersStay admitted.now.standing.res self.old.records self.new.records }
+        ensures there { HasResource admitted.now.standing.res self.new.records }
     {
-        end_withdrawn(&self.resources, &mut self.store, withdrawal);
-        withdraw_all(&mut self.resources, withdrawal);
+        withdraw(&mut self.store, &admitted.standing, &admitted.withdrawal);
     }
 
     // The checks in their order.
     #[tactic(auto, unfolding(vlm_words::specs::Dequeue::deq_refusal))]
-    fn deq_refusal(&self, dequeue: &Dequeue) -> Result<Withdrawal, Cond>
-        ensures refusal { result_err result ≡ deq_refusal self.now dequeue.now }
-        ensures withdrawal { IfOk result (λ w. w ≡ withdrawal_of self.now dequeue.now) }
+    fn deq_refusal(&self, dequeue: &Dequeue) -> Result<AdmittedDequeue, Cond>
+        ensures refusal { result_err result ≡ deq_refusal (plain_state self.now) dequeue.now }
+        ensures admitted { IfOk result (λ a. IsAdmittedDequeue self.now dequeue.now a) }
     {
         let caller = self.caller(dequeue.pid)?;
         let flags = checked_flags(dequeue)?;
         let lkid = self.named(caller, dequeue.lock)?;
         let withdrawal = withdrawal_of(lkid, flags, dequeue);
-        self.check_lock(dequeue.pid, lkid)?;
-        self.check_cancel(dequeue, &withdrawal)?;
-        Ok(withdrawal)
+        let standing = self.own_lock(caller, lkid)?;
+        self.check_cancel(dequeue, &standing, &withdrawal)?;
+        Ok(AdmittedDequeue {
+            standing,
+            withdrawal,
+        })
     }
 
     // CANCELGRANT where a granted lock is to be cancelled.
     #[tactic(auto, unfolding(vlm_words::specs::Dequeue::cancel_refusal))]
-    fn check_cancel(&self, dequeue: &Dequeue, withdrawal: &Withdrawal) -> Result<(), Cond>
-        requires { withdrawal.now ≡ withdrawal_of self.now dequeue.now }
-        ensures { result_err result ≡ cancel_refusal self.now dequeue.now }
+    fn check_cancel(
+        &self,
+        dequeue: &Dequeue,
+        standing: &Standing,
+        withdrawal: &Withdrawal,
+    ) -> Result<(), Cond>
+        requires standing { IsStandingOf dequeue.now.pid (dequeue_lkid (plain_state self.now) dequeue.now) standing.now self.now.records }
+        requires withdrawal { withdrawal.now ≡ withdrawal_of (plain_state self.now) dequeue.now }
+        ensures { result_err result ≡ cancel_refusal (plain_state self.now) dequeue.now }
     {
-        if withdrawal.cancels && is_granted(&self.resources, dequeue.pid, withdrawal.lkid) {
+        self.store.known();
+        if withdrawal.cancels && matches!(standing.queue, Queue::Granted) {
             Err(Cond::Cancelgrant)
         } else {
             Ok(())
@@ -96,8 +117,8 @@ fn withdrawal_of(lkid: u32, flags: DeqFlags, dequeue: &Dequeue) -> Withdrawal
 {
     Withdrawal {
         lkid,
-        cancels: has_deq_flag(flags, DeqFlags::CANCEL),
+        cancels: flags.has(DeqFlags::CANCEL),
         value: dequeue.value,
-        invalidates: has_deq_flag(flags, DeqFlags::INVVALBLK),
+        invalidates: flags.has(DeqFlags::INVVALBLK),
     }
 }

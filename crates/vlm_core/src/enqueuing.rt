@@ -1,57 +1,91 @@
 //! The step that asks for a new lock.
 
-ghost use Rattle.std.specs.Prelude.{◌≡◌, ◌<◌, ◌^◌, false, IfOk, OnErr, OnOk};
+ghost use Rattle.std.specs.Prelude.{◌≡◌, ◌<◌, ◌^◌, false, [], if◌then◌else◌, IfOk, IfSome, OnErr, OnOk};
 ghost use Rattle.std.specs.Result.{result_err};
+ghost use Rattle.vlm_words.specs.Effects.{blocks_after, blocks_with};
 ghost use Rattle.vlm_words.specs.Enqueue.{enq_argument_refusal, enq_change, enq_refusal, expedite_refusal, is_no_parent, name_refusal};
 ghost use Rattle.vlm_words.specs.Flags.{flag_bits};
+ghost use Rattle.vlm_words.specs.Grants.{grant_endings};
+ghost use Rattle.vlm_words.specs.StatusBlocks.{processes_after_acceptance};
 ghost use Rattle.vlm_words.specs.Stepped.{Outcome};
-ghost use Rattle.vlm_core.specs.Admissions.{IsAdmitted};
+ghost use Rattle.vlm_store.specs.Records.{HasResource, SameButBlocks, plain_processes, resource_at};
+ghost use Rattle.vlm_locks.specs.Rest.{OthersStay};
+ghost use Rattle.vlm_core.specs.Admissions.{IsAdmitted, IsCaller};
+ghost use Rattle.vlm_core.specs.Between.{IsBetweenSteps};
+ghost use Rattle.vlm_core.specs.Machine.{plain_state};
 
 use crate::checks::{acceptance, check_queue};
-use crate::endings::end_by_grant;
-use crate::flags::{enq_flags, has_flag};
-use crate::machine::Core;
-use crate::processes::accept;
-use crate::tables::{enter_among, enters_at_once, value_block_under};
+use crate::flags::enq_flags;
+use crate::processes::{Caller, group_of};
+use crate::records::Machine;
 use std::alloc::AllocError;
+use vlm_locks::{Entry, enter, enters_at_once};
+use vlm_procs::accept;
+use vlm_service::end_by_grant;
+use vlm_store::{ResAt, Store};
 use vlm_words::conditions::Cond;
 use vlm_words::flags::EnqFlags;
 use vlm_words::locks::{Request, Row};
 use vlm_words::modes::Mode;
 use vlm_words::names::{Name, NameArg};
-use vlm_words::resources::{Domain, Key, ValueBlock};
+use vlm_words::resources::{Domain, Key};
 use vlm_words::steps::{Answer, NewRequest, Step, Which};
 
 /// A new request that no check refuses.
 #[derive(Clone, Copy)]
 pub(crate) struct AdmittedRequest {
-    caller: u32,
-    // the domain of its resource, and where it stands
+    caller: Caller,
+    // the domain of its resource, and where that stands
     domain: Domain,
     key: Key,
-    // the value block there
-    value_block: ValueBlock,
+    // where it is stored, if it is there
+    res: Option<ResAt>,
     asked: Request,
     at_once: bool,
 }
 
-impl Core {
-    /// Asks for a new lock ($ENQ). It answers NORMAL, or SYNCH where it is granted at once with
-    /// SYNCSTS. With VALBLK its grant returns the resource's value block. Refused by DEPARTED, NONEXPR,
-    /// BADPARAM for an unknown flag or an argument that is not built yet, ACCVIO, IVBUFLEN, UNSUPPORTED
-    /// for EXPEDITE at a mode other than NL, NOLOCKID, NOTQUEUED where it must not queue and is not
-    /// granted at once, INSFMEM.
-    pub fn enq(&mut self, request: NewRequest) -> Answer
-        ensures { Outcome self.old (Step.Enq request) self.new result }
+// A request is accepted: its status block is that of a pending request, and is written again if the request
+// is granted at once. A new request returns the value block and never writes it.
+fn accept_request(
+    store: &mut Store,
+    res: ResAt,
+    caller: Caller,
+    row: &Row,
+    block: u8,
+    at_once: bool,
+)
+    requires caller { IsCaller caller store.old }
+    requires pid { caller.pid ≡ row.now.pid }
+    requires there { HasResource res store.old }
+    ensures statuses { IfSome (resource_at res store.old.resources) (λ r. plain_processes store.new
+        ≡ (blocks_after (if at_once then grant_endings true row.now else [])
+        (blocks_with r.value_block (processes_after_acceptance caller.pid block row.now.lkid (plain_processes store.old)))).processes) }
+    ensures rest { SameButBlocks store.old store.new }
+{
+    accept(store, caller.at, block, row.lkid);
+    if at_once {
+        let mut value_block = store.value_block(res);
+        end_by_grant(&mut value_block, store, caller.at, row);
+    }
+}
+
+impl Machine {
+    /// Asks for a new lock: its checks, its change, and the sweep of its resource.
+    pub(crate) fn enq(&mut self, request: NewRequest) -> Answer
+        requires { IsBetweenSteps (plain_state self.old) }
+        ensures { Outcome (plain_state self.old) (Step.Enq request) (plain_state self.new) result }
     {
         let admitted = match self.enq_refusal(&request) {
             Ok(admitted) => admitted,
             Err(refusal) => return Answer::Plain(refusal),
         };
         match self.enq_change(&request, &admitted) {
-            Ok(lkid) => {
-                self.sweep();
-                Answer::Lock(acceptance(admitted.asked.flags, admitted.at_once), lkid)
+            Ok(res) => {
+                self.sweep(res);
+                Answer::Lock(
+                    acceptance(admitted.asked.flags, admitted.at_once),
+                    self.last_lkid,
+                )
             }
             Err(AllocError) => Answer::Plain(Cond::Insfmem),
         }
@@ -60,7 +94,7 @@ impl Core {
     // The checks in their order.
     #[tactic(auto, unfolding(vlm_words::specs::Enqueue::enq_refusal))]
     fn enq_refusal(&self, request: &NewRequest) -> Result<AdmittedRequest, Cond>
-        ensures refusal { result_err result ≡ enq_refusal self.now request.now }
+        ensures refusal { result_err result ≡ enq_refusal (plain_state self.now) request.now }
         ensures admitted { IfOk result (λ a. IsAdmitted self.now request.now a) }
     {
         let caller = self.caller(request.pid)?;
@@ -75,72 +109,87 @@ impl Core {
     }
 
     // What the request asks for, and whether it is granted at once.
-    #[tactic(auto, unfolding(vlm_words::specs::Enqueue::enq_resource))]
     fn admitted(
         &self,
-        caller: u32,
+        caller: Caller,
         flags: EnqFlags,
         name: Name,
         request: &NewRequest,
     ) -> AdmittedRequest
-        requires caller { caller ≡ request.now.pid }
+        requires caller { IsCaller caller self.now.records }
+        requires pid { caller.pid ≡ request.now.pid }
         requires flags { flag_bits flags ≡ request.now.flags }
         requires name { name ≡ request.now.name }
         requires lkid { self.now.next_lkid < 2 ^ 32 }
         requires number { self.now.next_request < 2 ^ 64 }
         ensures { IsAdmitted self.now request.now result }
     {
-        let domain = Domain::Group(self.store.group(caller));
+        self.store.known();
+        let domain = Domain::Group(group_of(&self.store, caller));
         let key = Key::Root(domain, name);
         let asked = request_of(self.last_request + 1, flags, request);
+        let res = self.store.resource(&key);
+        let at_once = match res {
+            Some(res) => enters_at_once(&self.store, res, &asked),
+            None => true,
+        };
         AdmittedRequest {
             caller,
             domain,
             key,
-            value_block: value_block_under(&self.resources, &key),
+            res,
             asked,
-            at_once: enters_at_once(&self.resources, &key, &asked),
+            at_once,
         }
     }
 
     // The lock enters its resource, its status block is written, again if the request is granted at once,
     // and the numbers that it took are used up. Where memory is refused nothing is changed.
-    #[tactic(auto, using(crate::proofs::Identifications::pids_accepted, crate::proofs::Identifications::pids_ended), unfolding(vlm_words::specs::Enqueue::enq_change))]
     fn enq_change(
         &mut self,
         request: &NewRequest,
         admitted: &AdmittedRequest,
-    ) -> Result<u32, AllocError>
-        requires { IsAdmitted self.old request.now admitted.now }
-        ensures lkid { IfOk result (λ lkid. lkid ≡ self.old.next_lkid) }
-        ensures change { OnOk result (self.new ≡ enq_change self.old request.now) }
+    ) -> Result<ResAt, AllocError>
+        requires admitted { IsAdmitted self.old request.now admitted.now }
+        requires between { IsBetweenSteps (plain_state self.old) }
+        ensures change { OnOk result
+            (plain_state self.new ≡ enq_change (plain_state self.old) request.now) }
+        ensures others { IfOk result (λ res. OthersStay res self.old.records self.new.records) }
+        ensures there { IfOk result (λ res. HasResource res self.new.records) }
         ensures err { OnErr result (self.new ≡ self.old) }
     {
+        self.store.known();
         let lkid = self.last_lkid + 1;
-        let number = self.last_request + 1;
         let serial = self.last_serial + 1;
-        let asked = admitted.asked;
-        let row = row_of(lkid, request.pid, asked);
-        let made = enter_among(
-            &mut self.resources,
-            serial,
-            admitted.domain,
-            &admitted.key,
+        let row = row_of(lkid, request.pid, admitted.asked);
+        let entry = Entry {
             row,
-            &asked,
-        )?;
-        if made {
+            owner: admitted.caller.at,
+            key: admitted.key,
+            domain: admitted.domain,
+            serial,
+            res: admitted.res,
+            at_once: admitted.at_once,
+        };
+        let res = match enter(&mut self.store, &entry) {
+            Ok(res) => res,
+            Err(AllocError) => return Err(AllocError),
+        };
+        let caller = admitted.caller;
+        accept_request(
+            &mut self.store,
+            res,
+            caller,
+            &row,
+            request.block,
+            admitted.at_once,
+        );
+        self.last_lkid = lkid;
+        self.last_request += 1;
+        if admitted.res.is_none() {
             self.last_serial = serial;
         }
-        accept(&mut self.store, admitted.caller, request.block, lkid);
-        if admitted.at_once {
-            // a new request returns the value block and never writes it
-            let mut value_block = admitted.value_block;
-            end_by_grant(&mut value_block, &mut self.store, &row);
-        }
-        self.last_lkid = lkid;
-        self.last_request = number;
-        Ok(lkid)
+        Ok(res)
     }
 }
 
@@ -184,7 +233,7 @@ fn checked_name(name: &NameArg) -> Result<Name, Cond>
 fn check_expedite(mode: Mode, flags: EnqFlags) -> Result<(), Cond>
     ensures { result_err result ≡ expedite_refusal (flag_bits flags) mode }
 {
-    if has_flag(flags, EnqFlags::EXPEDITE) && !matches!(mode, Mode::Nl) {
+    if flags.has(EnqFlags::EXPEDITE) && !matches!(mode, Mode::Nl) {
         Err(Cond::Unsupported)
     } else {
         Ok(())

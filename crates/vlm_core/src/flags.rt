@@ -1,18 +1,10 @@
 //! Flags by their bits.
 
 ghost use Rattle.std.specs.Prelude.{◌≡◌, true, false, MatchOption};
-ghost use Rattle.vlm_words.specs.Flags.{deq_bits, deq_flag_bits, enq_bits, flag_bits, has_flag, is_known};
+ghost use Rattle.vlm_words.specs.Flags.{deq_bits, deq_flag_bits, enq_bits, flag_bits, is_known};
 
 use bitflags::Flags;
 use vlm_words::flags::{DeqFlags, EnqFlags};
-
-/// Whether the flag is among the flags.
-#[tactic(auto, unfolding(vlm_words::specs::Flags::has_flag))]
-pub(crate) fn has_flag(flags: EnqFlags, flag: EnqFlags) -> bool
-    ensures { result ≡ has_flag (flag_bits flags) (flag_bits flag) }
-{
-    flags.contains(flag)
-}
 
 /// The flags of a request, if all of the bits are built.
 #[tactic(auto, unfolding(vlm_words::specs::Flags::is_known, bitflags::proofs::OnLiterals::bitflags_on_literals))]
@@ -30,12 +22,4 @@ pub(crate) fn deq_flags(bits: u16) -> Option<DeqFlags>
         (λ flags. (is_known deq_bits bits ≡ true) × (deq_flag_bits flags ≡ bits)) }
 {
     DeqFlags::from_bits(bits)
-}
-
-/// Whether the flag is among the flags of a dequeue.
-#[tactic(auto, unfolding(vlm_words::specs::Flags::has_flag))]
-pub(crate) fn has_deq_flag(flags: DeqFlags, flag: DeqFlags) -> bool
-    ensures { result ≡ has_flag (deq_flag_bits flags) (deq_flag_bits flag) }
-{
-    flags.contains(flag)
 }

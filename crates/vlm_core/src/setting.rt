@@ -3,24 +3,27 @@
 ghost use Rattle.std.specs.Prelude.{◌≡◌, IfOk};
 ghost use Rattle.std.specs.Result.{result_err};
 ghost use Rattle.vlm_words.specs.SetValue.{set_change, set_refusal};
-ghost use Rattle.vlm_words.specs.Stepped.{stepped};
+ghost use Rattle.vlm_words.specs.Stepped.{Outcome};
+ghost use Rattle.vlm_core.specs.Admissions.{IsCaller};
+ghost use Rattle.vlm_core.specs.Between.{IsBetweenSteps};
+ghost use Rattle.vlm_core.specs.Machine.{plain_state};
 
-use crate::machine::Core;
-use crate::processes::set_value;
+use crate::processes::Caller;
+use crate::records::Machine;
+use vlm_procs::set_value;
 use vlm_words::conditions::Cond;
 use vlm_words::steps::{Answer, Step, ValueSetting};
 
-impl Core {
-    /// Writes the value part of a status block of the caller, and nothing else (this project's own). It
-    /// takes no memory and answers NORMAL. Refused by DEPARTED, NONEXPR, ACCVIO.
-    pub fn set_value(&mut self, setting: ValueSetting) -> Answer
-        ensures state { self.new ≡ (stepped self.old (Step.SetValue setting)).state }
-        ensures answer { result ≡ (stepped self.old (Step.SetValue setting)).answer }
+impl Machine {
+    /// Writes the value part of a status block of the caller, and nothing else. No resource is touched, so
+    /// nothing is to be swept.
+    pub(crate) fn set_value(&mut self, setting: ValueSetting) -> Answer
+        requires { IsBetweenSteps (plain_state self.old) }
+        ensures { Outcome (plain_state self.old) (Step.SetValue setting) (plain_state self.new) result }
     {
         match self.set_refusal(&setting) {
             Ok(caller) => {
                 self.set_change(caller, &setting);
-                self.sweep();
                 Answer::Plain(Cond::Normal)
             }
             Err(refusal) => Answer::Plain(refusal),
@@ -29,9 +32,10 @@ impl Core {
 
     // The checks in their order.
     #[tactic(auto, unfolding(vlm_words::specs::SetValue::set_refusal))]
-    fn set_refusal(&self, setting: &ValueSetting) -> Result<u32, Cond>
-        ensures refusal { result_err result ≡ set_refusal self.now setting.now }
-        ensures caller { IfOk result (λ at. at ≡ setting.now.pid) }
+    fn set_refusal(&self, setting: &ValueSetting) -> Result<Caller, Cond>
+        ensures refusal { result_err result ≡ set_refusal (plain_state self.now) setting.now }
+        ensures caller { IfOk result (λ caller. IsCaller caller self.now.records) }
+        ensures pid { IfOk result (λ caller. caller.pid ≡ setting.now.pid) }
     {
         let caller = self.caller(setting.pid)?;
         self.check_status_block(caller, setting.block)?;
@@ -39,11 +43,12 @@ impl Core {
     }
 
     // The value part is written.
-    #[tactic(auto, using(crate::proofs::Identifications::pids_set), unfolding(vlm_words::specs::SetValue::set_change))]
-    fn set_change(&mut self, caller: u32, setting: &ValueSetting)
-        requires { caller ≡ setting.now.pid }
-        ensures { self.new ≡ set_change self.old setting.now }
+    #[tactic(auto, unfolding(vlm_words::specs::SetValue::set_change))]
+    fn set_change(&mut self, caller: Caller, setting: &ValueSetting)
+        requires caller { IsCaller caller self.old.records }
+        requires pid { caller.pid ≡ setting.now.pid }
+        ensures { plain_state self.new ≡ set_change (plain_state self.old) setting.now }
     {
-        set_value(&mut self.store, caller, setting.block, setting.value);
+        set_value(&mut self.store, caller.at, setting.block, setting.value);
     }
 }

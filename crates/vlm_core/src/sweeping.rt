@@ -2,17 +2,22 @@
 
 ghost use Rattle.std.specs.Prelude.{◌≡◌};
 ghost use Rattle.vlm_words.specs.Sweeps.{state_after_sweep};
+ghost use Rattle.vlm_store.specs.Records.{HasResource};
+ghost use Rattle.vlm_core.specs.Between.{AreSettledBut};
+ghost use Rattle.vlm_core.specs.Machine.{plain_state};
 
-use crate::machine::Core;
-use crate::tables::sweep;
+use crate::records::Machine;
+use vlm_locks::sweep;
+use vlm_store::ResAt;
 
-impl Core {
-    /// Ends a step: every resource is served, each grant takes effect on its resource's value block and on
-    /// its status block, and resources without locks go.
-    #[tactic(auto, using(crate::proofs::Identifications::pids_swept))]
-    pub(crate) fn sweep(&mut self)
-        ensures { self.new ≡ state_after_sweep self.old }
+impl Machine {
+    /// Ends a step that touched one resource: what is queued there is granted as far as it can be, and it
+    /// goes if no lock is left on it. On the others nothing is to be done.
+    pub(crate) fn sweep(&mut self, res: ResAt)
+        requires there { HasResource res self.old.records }
+        requires settled { AreSettledBut res self.old.records }
+        ensures { plain_state self.new ≡ state_after_sweep (plain_state self.old) }
     {
-        sweep(&mut self.resources, &mut self.store);
+        sweep(&mut self.store, res);
     }
 }

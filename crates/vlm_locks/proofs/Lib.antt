@@ -4,3 +4,4 @@ pub mod Moved
 pub mod Named
 pub mod Replaced
 pub mod Stood
+pub mod Swept

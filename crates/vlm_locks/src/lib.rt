@@ -5,6 +5,8 @@
 
 mod converting;
 mod finding;
+mod sweeping;
 
 pub use converting::{convert, converts_at_once};
 pub use finding::{Standing, find_lock};
+pub use sweeping::sweep;

@@ -1,54 +1,51 @@
-//! The lock machine: what it keeps, and its steps.
+//! The machine of records, whose methods make the parts of a step.
 
 ghost use Rattle.std.specs.Prelude.{◌≡◌};
 ghost use Rattle.vlm_words.specs.State.{start};
 ghost use Rattle.vlm_words.specs.Stepped.{Outcome};
+ghost use Rattle.vlm_core.specs.Between.{IsBetweenSteps};
+ghost use Rattle.vlm_core.specs.Machine.{plain_state};
 
 use crate::nodes::{NODES, Node};
-use crate::processes::Processes;
-use crate::resources::Resource;
 use std::alloc::Global;
 use std::marker::Model;
+use vlm_store::Store;
 use vlm_words::conditions::Cond;
 use vlm_words::steps::{Answer, Step};
 
-/// The lock manager's core: a machine that one thread steps.
+/// The machine, with its records under their keys.
 #[derive(Drop)]
-pub struct Core {
+pub(crate) struct Machine {
     // node k stands at k - 1
     pub(crate) nodes: [Node; NODES],
-    // the records of the living processes
-    pub(crate) store: Processes,
-    // the resources with locks, by rising serial
-    pub(crate) resources: Vec<Resource>,
+    // the processes, the resources and their locks
+    pub(crate) store: Store,
     // how many identifications, request numbers and serials were given
     pub(crate) last_lkid: u32,
     pub(crate) last_request: u64,
     pub(crate) last_serial: u32,
 }
 
-impl Model for Core {
-    ghost use Rattle.vlm_words.specs.State.{State};
+impl Model for Machine {
+    ghost use Rattle.vlm_core.specs.Machine.{Kept};
 
-    ghost Value = { State };
+    ghost Value = { Kept };
 
-    ghost use Rattle.vlm_core.specs.Machine.{state_shown, IsSound};
+    ghost use Rattle.vlm_core.specs.Machine.{IsSound, kept};
 
-    ghost view = { state_shown };
+    ghost view = { kept };
 
     ghost invariant = { IsSound };
 }
 
-impl Core {
+impl Machine {
     /// A machine at its start. It takes no memory.
-    #[tactic(auto, unfolding(crate::specs::Machine::pids))]
-    pub fn new(alloc: Global) -> Core
-        ensures { result ≡ start }
+    pub(crate) fn new(alloc: Global) -> Machine
+        ensures { plain_state result ≡ start }
     {
-        Core {
+        Machine {
             nodes: [Node::new(); NODES],
-            store: Processes::new(alloc),
-            resources: Vec::new(alloc),
+            store: Store::new(alloc),
             last_lkid: 0,
             last_request: 0,
             last_serial: 0,
@@ -56,8 +53,9 @@ impl Core {
     }
 
     /// Makes one step, of whichever kind. A kind that is not built yet answers BADPARAM.
-    pub fn step(&mut self, step: Step) -> Answer
-        ensures { Outcome self.old step self.new result }
+    pub(crate) fn step(&mut self, step: Step) -> Answer
+        requires { IsBetweenSteps (plain_state self.old) }
+        ensures { Outcome (plain_state self.old) step (plain_state self.new) result }
     {
         match step {
             Step::Declare(declaration) => self.declare(declaration),

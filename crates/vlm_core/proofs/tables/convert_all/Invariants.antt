@@ -1,8 +1,0 @@
-use Rattle.std.proofs.Common.{◌≡◌, ◌++◌, take, drop, map}
-use Rattle.vlm_words.specs.Convert.{resource_after_conversion}
-use Rattle.vlm_core.proofs.tables.convert_all.Given as goal
-
--- the resources so far are changed, and the others are as they were
-abbrev pub invariant-loop-resource : goal.invariant-loop-resource
-invariant-loop-resource l =
-    l.resource-items ≡ map (resource_after_conversion l.request l.pid l.lkid l.value_block) (take l.resource-index l.initial.resource-items) ++ drop l.resource-index l.initial.resource-items

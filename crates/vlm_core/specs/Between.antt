@@ -1,0 +1,31 @@
+-- What holds between two steps, and what a step needs of it.
+use Rattle.std.specs.Prelude.{◌≡◌, ◌≢◌, ◌≤◌, ℕ, List, sum_by}
+use Rattle.std.specs.List.{AllByRecursion}
+use Rattle.vlm_words.specs.declared.steps.Answer.{Answer}
+use Rattle.vlm_words.specs.declared.steps.Step.{Step}
+use Rattle.vlm_words.specs.Endings.{Ending}
+use Rattle.vlm_words.specs.Laws.{DeclarationsGiveNewIdentifications, rows_on}
+use Rattle.vlm_words.specs.Runs.{Run}
+use Rattle.vlm_words.specs.Settled.{IsSettled}
+use Rattle.vlm_words.specs.State.{State}
+use Rattle.vlm_store.specs.Records.{IsResourceAmong, Records, StoredResource}
+use Rattle.vlm_service.specs.Plain.{plain_resource}
+
+-- nothing is to be swept, no lock has an identification that is to come, no more serials than identifications were given,
+-- and a declaration gives an identification that no living process has
+pub record IsBetweenSteps (s : State) : Type 0 where
+  pub settled : AllByRecursion IsSettled s.resources
+  pub lkids_to_come : (lkid : ℕ) → s.next_lkid ≤ lkid → sum_by (rows_on lkid) s.resources ≡ 0
+  pub few_serials : s.next_serial ≤ s.next_lkid
+  pub new_processes : DeclarationsGiveNewIdentifications s
+
+-- nothing is to be swept but the resource of this key
+abbrev pub AreSettledBut : ℕ → Records → Type 0
+AreSettledBut res s = (r : StoredResource) → IsResourceAmong r s.resources → r.at ≢ res → IsSettled (plain_resource r)
+
+-- some run leads to the state
+pub record IsReachable (s : State) : Type 0 where
+  pub steps : List Step
+  pub answers : List Answer
+  pub endings : List Ending
+  pub run : Run steps answers endings s

@@ -1,0 +1,122 @@
+//! The core: whole steps alone.
+
+ghost use Rattle.std.specs.Prelude.{◌≡◌};
+ghost use Rattle.vlm_words.specs.State.{start};
+ghost use Rattle.vlm_words.specs.Stepped.{Outcome, stepped};
+ghost use Rattle.vlm_core.specs.Between.{IsBetweenSteps};
+
+use crate::records::Machine;
+use std::alloc::Global;
+use std::marker::Model;
+use vlm_words::laws::{
+    law_a_declaration_gives_a_new_identification, law_each_resource_is_settled,
+    law_identifications_are_apart, law_serials_rise,
+};
+use vlm_words::steps::{
+    Answer, Conversion, Declaration, Dequeue, NewRequest, Step, ValueSetting,
+};
+
+/// The lock manager's core: a machine that one thread steps. Some run of the plain machine leads to its
+/// state, so that each law of such runs holds of it.
+#[derive(Drop)]
+pub struct Core {
+    pub(crate) machine: Machine,
+}
+
+impl Model for Core {
+    ghost use Rattle.vlm_words.specs.State.{State};
+
+    ghost Value = { State };
+
+    ghost use Rattle.vlm_core.specs.Between.{IsReachable};
+    ghost use Rattle.vlm_core.specs.Machine.{plain_state};
+
+    ghost view = { λ c. plain_state c.machine };
+
+    ghost invariant = { λ c. IsReachable (plain_state c.machine) };
+}
+
+impl Core {
+    /// A machine at its start. It takes no memory.
+    pub fn new(alloc: Global) -> Core
+        ensures { result ≡ start }
+    {
+        Core {
+            machine: Machine::new(alloc),
+        }
+    }
+
+    // What the laws say of the state between two steps, as far as a step needs it.
+    fn between_steps(&self)
+        ensures { IsBetweenSteps self.now }
+    {
+        law_each_resource_is_settled();
+        law_identifications_are_apart();
+        law_serials_rise();
+        law_a_declaration_gives_a_new_identification();
+        let _machine = &self.machine;
+    }
+
+    /// Makes one step, of whichever kind. A kind that is not built yet answers BADPARAM. Its cost grows
+    /// with what it grants, and with nothing else that is held.
+    pub fn step(&mut self, step: Step) -> Answer
+        ensures { Outcome self.old step self.new result }
+    {
+        self.between_steps();
+        self.machine.step(step)
+    }
+
+    /// Declares a process (this project's own). Refused by BADPARAM where the node is not 1 to 8,
+    /// DEPARTED, BADPARAM where the node has declared 65,535 processes, INSFMEM.
+    pub fn declare(&mut self, declaration: Declaration) -> Answer
+        ensures { Outcome self.old (Step.Declare declaration) self.new result }
+    {
+        self.step(Step::Declare(declaration))
+    }
+
+    /// Writes the value part of a status block of the caller, and nothing else (this project's own). It
+    /// takes no memory and answers NORMAL. Refused by DEPARTED, NONEXPR, ACCVIO.
+    pub fn set_value(&mut self, setting: ValueSetting) -> Answer
+        ensures state { self.new ≡ (stepped self.old (Step.SetValue setting)).state }
+        ensures answer { result ≡ (stepped self.old (Step.SetValue setting)).answer }
+    {
+        self.step(Step::SetValue(setting))
+    }
+
+    /// Asks for a new lock ($ENQ). It answers NORMAL, or SYNCH where it is granted at once with
+    /// SYNCSTS. With VALBLK its grant returns the resource's value block. Refused by DEPARTED, NONEXPR,
+    /// BADPARAM for an unknown flag or an argument that is not built yet, ACCVIO, IVBUFLEN, UNSUPPORTED
+    /// for EXPEDITE at a mode other than NL, NOLOCKID, NOTQUEUED where it must not queue and is not
+    /// granted at once, INSFMEM.
+    pub fn enq(&mut self, request: NewRequest) -> Answer
+        ensures { Outcome self.old (Step.Enq request) self.new result }
+    {
+        self.step(Step::Enq(request))
+    }
+
+    /// Asks for another mode of a granted lock ($ENQ with LCK$M_CONVERT). It takes no memory. It answers
+    /// NORMAL, or SYNCH where it is granted at once with SYNCSTS. With VALBLK its grant returns the value
+    /// block of the resource, writes it, or does neither, by the held and the wanted mode. Refused by
+    /// DEPARTED, NONEXPR, BADPARAM for an unknown flag or an argument that is not built yet, ACCVIO, also
+    /// where the lock is named by a status block that is not there, IVLOCKID, CVTUNGRANT where the lock
+    /// waits or converts, BADPARAM where QUECVT does not go with the two modes, NOLOCKID, NOTQUEUED where
+    /// it must not queue and is not granted at once.
+    pub fn convert(&mut self, conversion: Conversion) -> Answer
+        ensures state { self.new ≡ (stepped self.old (Step.Convert conversion)).state }
+        ensures answer { result ≡ (stepped self.old (Step.Convert conversion)).answer }
+    {
+        self.step(Step::Convert(conversion))
+    }
+
+    /// Gives a lock up, or with CANCEL ends its request ($DEQ). A lock that is held at PW or EX writes a
+    /// given value to the value block, and with INVVALBLK then marks it invalid; with CANCEL, at lower
+    /// modes and for a waiting lock both are ignored (this project's own). It takes no memory. Refused by
+    /// DEPARTED, NONEXPR, BADPARAM for an unknown flag, ACCVIO where the lock is named by a status block
+    /// that is not there, IVLOCKID, CANCELGRANT where a granted lock is to be cancelled.
+    pub fn deq(&mut self, dequeue: Dequeue) -> Answer
+        ensures state { self.new ≡ (stepped self.old (Step.Deq dequeue)).state }
+        ensures answer { result ≡ (stepped self.old (Step.Deq dequeue)).answer }
+    {
+        self.step(Step::Deq(dequeue))
+    }
+}
