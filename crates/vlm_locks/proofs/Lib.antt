@@ -1,6 +1,9 @@
+pub mod Changed
 pub mod Converted
 pub mod Held
 pub mod Moved
 pub mod Named
 pub mod Replaced
 pub mod Stood
+pub mod Withdrawn
+pub mod WithdrawnEnds

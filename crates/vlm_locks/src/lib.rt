@@ -5,6 +5,10 @@
 
 mod converting;
 mod finding;
+mod withdrawals;
+mod withdrawing;
 
 pub use converting::{convert, converts_at_once};
 pub use finding::{Standing, find_lock};
+pub use withdrawals::Withdrawal;
+pub use withdrawing::withdraw;
