@@ -1,3 +1,4 @@
+pub mod Changed
 pub mod Converted
 pub mod Held
 pub mod Moved
@@ -5,3 +6,5 @@ pub mod Named
 pub mod Replaced
 pub mod Stood
 pub mod Swept
+pub mod Withdrawn
+pub mod WithdrawnEnds

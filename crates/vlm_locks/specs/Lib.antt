@@ -1,3 +1,4 @@
 pub mod Converting
 pub mod Rest
 pub mod Standing
+pub mod Withdrawing

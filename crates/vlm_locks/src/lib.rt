@@ -6,7 +6,11 @@
 mod converting;
 mod finding;
 mod sweeping;
+mod withdrawals;
+mod withdrawing;
 
 pub use converting::{convert, converts_at_once};
 pub use finding::{Standing, find_lock};
 pub use sweeping::sweep;
+pub use withdrawals::Withdrawal;
+pub use withdrawing::withdraw;

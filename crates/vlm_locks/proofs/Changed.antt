@@ -1,0 +1,159 @@
+-- A change of one resource, from what stands in its place after.
+use Rattle.std.proofs.Common.{◌≡◌, ◌≢◌, ℕ, List, [], ◌∷◌, map, filter, not, cond, Some, IsSome, refl, sym, ap, ◌∙◌, subst, inl, inr, eq-eqb, ne_eqb}
+use Rattle.std.specs.Prelude.{◌==◌}
+use Rattle.std.proofs.lemmas.Bool.{cases_eq}
+use Rattle.vlm_words.specs.State.{Resource}
+use Rattle.vlm_words.specs.declared.resources.Queue.{Queue}
+use Rattle.vlm_words.specs.declared.resources.Queue.TheVariants.{Granted, Conversion, Waiting}
+use Rattle.vlm_store.specs.declared.keys.Place.TheVariants.{Loose, Queued}
+use Rattle.vlm_store.specs.Records.{IsOwnAmong, IsProcessAmong, IsResourceAmong, IsSound, OwnLock, Records, SameButBlocks, StoredProcess, StoredResource, leaving, plain_processes, process_without_lock, queued, resource_at, resource_with, without_lock, without_stored_lock, without_sublock}
+use Rattle.vlm_store.proofs.Undoing.{unmoved}
+use Rattle.vlm_service.specs.Plain.{plain_resource}
+use Rattle.vlm_service.proofs.Found.{map_on, resource_alone}
+use Rattle.vlm_locks.specs.declared.finding.Standing.{Standing}
+use Rattle.vlm_locks.specs.Rest.{IsAtRest, IsReplaced, OthersStay}
+use Rattle.vlm_locks.specs.Standing.{IsStanding}
+use Rattle.vlm_locks.specs.Withdrawing.{IsChange}
+use Rattle.vlm_locks.proofs.Replaced.{childless_still, others_stay, plain_replaced, rests, still_there}
+use Rattle.vlm_locks.proofs.Stood.{queue_is, stands}
+
+-- one resource is put in the place of another, as the plain change has it
+pub changed : (res : ℕ) (change : Resource → Resource) (had left : StoredResource) (old new : Records) → IsSound old → IsAtRest old → IsReplaced res had left old new
+    → change (plain_resource had) ≡ plain_resource left
+    → ((x : StoredResource) → IsResourceAmong x old.resources → x.at ≢ res → change (plain_resource x) ≡ plain_resource x)
+    → plain_processes new ≡ plain_processes old → IsChange res change old new
+changed res change had left old new sound rest replaced here there statuses = record {
+  resources = plain_replaced res had left old new replaced change sound here there;
+  statuses = statuses;
+  others = others_stay res had left old new replaced;
+  there = still_there res had left old new replaced;
+  rest = rests res had left old new replaced rest;
+}
+
+-- nothing is changed, and the plain change changes nothing
+pub unchanged : (res : ℕ) (change : Resource → Resource) (had : StoredResource) (s : Records) → IsSound s → IsAtRest s → resource_at res s.resources ≡ Some had
+    → ((x : StoredResource) → IsResourceAmong x s.resources → change (plain_resource x) ≡ plain_resource x) → IsChange res change s s
+unchanged res change had s sound rest was same = record {
+  resources = each s.resources same;
+  statuses = refl;
+  others = λ x among differs. among;
+  there = subst IsSome (sym was) refl;
+  rest = rest;
+}
+  where
+    each : (rs : List StoredResource) → ((x : StoredResource) → IsResourceAmong x rs → change (plain_resource x) ≡ plain_resource x) → map plain_resource rs ≡ map change (map plain_resource rs)
+    each [] same = refl
+    each (x ∷ rs) same = ap (λ y. y ∷ map plain_resource rs) (sym (same x (inl refl))) ∙ ap (λ ys. change (plain_resource x) ∷ ys) (each rs (λ y there. same y (inr there)))
+
+-- two changes that do the same to each resource are one
+pub changed_alike : (res : ℕ) (f g : Resource → Resource) (old new : Records) → ((x : StoredResource) → IsResourceAmong x old.resources → f (plain_resource x) ≡ g (plain_resource x))
+    → IsChange res f old new → IsChange res g old new
+changed_alike res f g old new same change = record {
+  resources = change.resources ∙ each old.resources same;
+  statuses = change.statuses;
+  others = change.others;
+  there = change.there;
+  rest = change.rest;
+}
+  where
+    each : (rs : List StoredResource) → ((x : StoredResource) → IsResourceAmong x rs → f (plain_resource x) ≡ g (plain_resource x)) → map f (map plain_resource rs) ≡ map g (map plain_resource rs)
+    each [] same = refl
+    each (x ∷ rs) same = ap (λ y. y ∷ map f (map plain_resource rs)) (same x (inl refl)) ∙ ap (λ ys. g (plain_resource x) ∷ ys) (each rs (λ y there. same y (inr there)))
+
+-- what held between two steps holds where status blocks alone are written
+pub rests_still : (old new : Records) → SameButBlocks old new → IsAtRest old → IsAtRest new
+rests_still old new same rest = record {
+  none_loose = same.loose ∙ rest.none_loose;
+  keyed = λ r among. rest.keyed r (subst (IsResourceAmong r) same.resources among);
+  childless = childless_still old new same.processes rest.childless;
+}
+
+-- the others stay over two steps
+pub stay_over : (res : ℕ) (old between new : Records) → OthersStay res old between → OthersStay res between new → OthersStay res old new
+stay_over res old between new first second r among differs = first r (second r among differs) differs
+
+-- a lock that is removed leaves the processes as they were
+pub removed_statuses : (lock : ℕ) (ps : List StoredProcess) → map (λ (p : StoredProcess). p.process) (map (process_without_lock lock) ps) ≡ map (λ (p : StoredProcess). p.process) ps
+removed_statuses lock [] = refl
+removed_statuses lock (p ∷ ps) = ap (λ rest. p.process ∷ rest) (removed_statuses lock ps)
+
+-- a process of those without the lock was there with it
+was_process : (lock : ℕ) (ps : List StoredProcess) (p : StoredProcess) → IsProcessAmong p (map (process_without_lock lock) ps)
+    → (q : StoredProcess) × (IsProcessAmong q ps × (process_without_lock lock q ≡ p))
+was_process lock [] p among = absurd among
+was_process lock (x ∷ ps) p among =
+    elim among [
+      | inl here ↦ (x, (inl refl, here))
+      | inr there ↦ let later = was_process lock ps p there in (later.0, (inr later.1.0, later.1.1))
+    ]
+
+-- and so was a lock of its
+was_own : (lock : ℕ) (owns : List OwnLock) (own : OwnLock) → IsOwnAmong own (map (without_sublock lock) (filter (λ (o : OwnLock). not (o.at == lock)) owns))
+    → (o : OwnLock) × (IsOwnAmong o owns × (without_sublock lock o ≡ own))
+was_own lock [] own among = absurd among
+was_own lock (x ∷ owns) own among =
+    elim (cases_eq x.at lock) [
+      | inl same ↦ let later = was_own lock owns own (rw (eq-eqb x.at lock same) at among) in (later.0, (inr later.1.0, later.1.1))
+      | inr differs ↦ elim (rw (ne_eqb x.at lock differs) at among) [
+        | inl here ↦ (x, (inl refl, here))
+        | inr there ↦ let later = was_own lock owns own there in (later.0, (inr later.1.0, later.1.1))
+      ]
+    ]
+
+-- where no lock stands below another, none does once one is removed
+pub childless_without : (lock : ℕ) (ps : List StoredProcess) → ((p : StoredProcess) (own : OwnLock) → IsProcessAmong p ps → IsOwnAmong own p.own → own.sublocks ≡ [])
+    → (p : StoredProcess) (own : OwnLock) → IsProcessAmong p (map (process_without_lock lock) ps) → IsOwnAmong own p.own → own.sublocks ≡ []
+childless_without lock ps childless p own among here =
+    let was = was_process lock ps p among in
+    let had = was_own lock was.0.own own (subst (λ (x : StoredProcess). IsOwnAmong own x.own) (sym was.1.1) here) in
+    ap (λ (x : OwnLock). x.sublocks) (sym had.1.1) ∙ ap (λ keys. (without_sublock lock (record had.0 { sublocks = keys })).sublocks) (childless was.0 had.0 was.1.0 had.1.0)
+
+module _ (s : Records) (sound : IsSound s) (f : Standing) (standing : IsStanding f s) where
+  -- another resource stays as the lock goes
+  stays : (x : StoredResource) → IsResourceAmong x s.resources → x.at ≢ f.res → resource_with (leaving f.lock) x ≡ x
+  stays x among differs =
+      let each : (queue : Queue) → without_lock f.lock (queued queue x) ≡ queued queue x =
+      λ queue.
+      ap (without_lock f.lock) (sym (queue_is s sound x among queue))
+      ∙ unmoved s f.lock f.row (Queued f.res f.queue) sound (stands s sound f standing) (Queued x.at queue) (λ e. differs (cc))
+      ∙ queue_is s sound x among queue
+      in
+      rw (each Granted, each Conversion, each Waiting) refl
+
+  -- the records without the lock, but for the locks of its process
+  abbrev pub without_queued : Records
+  without_queued = record s { resources = map (resource_with (leaving f.lock)) s.resources; loose = without_lock f.lock s.loose }
+
+  -- as the lock goes, just its resource is another
+  pub removed_replaced : IsReplaced f.res standing.resource (resource_with (leaving f.lock) standing.resource) s without_queued
+  removed_replaced = record {
+    was = standing.found;
+    same = refl;
+    resources = map_on (resource_with (leaving f.lock)) (λ x. cond (x.at == f.res) (resource_with (leaving f.lock) standing.resource) x) s.resources
+        (λ x among. elim (cases_eq x.at f.res) [
+          | inl same ↦
+              ap (resource_with (leaving f.lock)) (resource_alone f.res s.resources standing.resource x sound.resources_apart standing.found among same)
+              ∙ sym (ap (λ b. cond b (resource_with (leaving f.lock) standing.resource) x) (eq-eqb x.at f.res same))
+          | inr other ↦ stays x among other ∙ sym (ap (λ b. cond b (resource_with (leaving f.lock) standing.resource) x) (ne_eqb x.at f.res other))
+        ]);
+    loose = unmoved s f.lock f.row (Queued f.res f.queue) sound (stands s sound f standing) Loose (λ e. cc);
+    processes = refl;
+  }
+
+  -- so a change of its resource is that which the plain change has there
+  pub removed_changed : (change : Resource → Resource) → IsAtRest s → change (plain_resource standing.resource) ≡ plain_resource (resource_with (leaving f.lock) standing.resource)
+      → ((x : StoredResource) → IsResourceAmong x s.resources → x.at ≢ f.res → change (plain_resource x) ≡ plain_resource x)
+      → IsChange f.res change s (without_stored_lock f.lock s)
+  removed_changed change rest here there =
+      let queues = changed f.res change standing.resource (resource_with (leaving f.lock) standing.resource) s without_queued sound rest removed_replaced here there refl in
+      record {
+        resources = queues.resources;
+        statuses = removed_statuses f.lock s.processes;
+        others = queues.others;
+        there = queues.there;
+        rest = record {
+          none_loose = queues.rest.none_loose;
+          keyed = queues.rest.keyed;
+          childless = childless_without f.lock s.processes rest.childless;
+        };
+      }

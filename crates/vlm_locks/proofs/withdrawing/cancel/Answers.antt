@@ -1,0 +1,11 @@
+use Rattle.vlm_locks.proofs.Withdrawn.{cancelled_none, cancelled_waiting}
+use Rattle.vlm_locks.proofs.withdrawing.cancel.Goals as goal
+
+-- a granted lock has no request
+pub returns-in-Granted : goal.returns-in-Granted
+returns-in-Granted c =
+    cancelled_none c.args.store.now c.known.ensures c.args.standing.now c.requires.standing c.in-Granted.is c.requires.rest
+
+pub returns-in-Waiting : goal.returns-in-Waiting
+returns-in-Waiting c =
+    cancelled_waiting c.args.store.now c.known.ensures c.args.standing.now c.requires.standing c.in-Waiting.is c.remove.new.store c.remove.ensures

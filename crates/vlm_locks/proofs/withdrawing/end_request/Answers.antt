@@ -1,0 +1,34 @@
+use Rattle.std.proofs.Common.{◌≡◌, cond, sym, ap, ◌∙◌}
+use Rattle.vlm_words.specs.declared.conditions.Cond.TheVariants.{Abort, Cancel}
+use Rattle.vlm_words.specs.StatusBlocks.{processes_after_status}
+use Rattle.vlm_store.specs.Records.{plain_processes}
+use Rattle.vlm_service.proofs.Found.{process_there}
+use Rattle.vlm_locks.proofs.Stood.{stored}
+use Rattle.vlm_locks.proofs.WithdrawnEnds.{end_written}
+use Rattle.vlm_locks.proofs.withdrawing.end_request.Goals as goal
+use Rattle.vlm_locks.proofs.withdrawing.end_request.Goals.{then-cancels, else-cancels}
+
+pub owner-owner-requires : goal.owner-owner-requires
+owner-owner-requires c =
+    let f = c.args.standing.now in
+    (f.row, stored c.args.store.now c.known.ensures f c.requires)
+
+pub end-requires : goal.end-requires
+end-requires c =
+    let s = c.args.store.now in
+    let f = c.args.standing.now in
+    process_there s c.owner-owner.result f.row.pid (c.owner-owner.ensures f.row (stored s c.known.ensures f c.requires))
+
+pub returns-clause-statuses : goal.returns-clause-statuses
+returns-clause-statuses c =
+    let s = c.args.store.now in
+    let f = c.args.standing.now in
+    let cond_is : c.if-cancels.cond ≡ cond c.args.cancels Cancel Abort =
+    elim c.if-cancels.branch [
+      | then-cancels w ↦ w.cond-is ∙ sym (ap (λ b. cond b Cancel Abort) w.if-cancels.true)
+      | else-cancels w ↦ w.cond-is ∙ sym (ap (λ b. cond b Cancel Abort) w.if-cancels.false)
+    ]
+    in
+    c.end.ensures.written f.row.pid (c.owner-owner.ensures f.row (stored s c.known.ensures f c.requires))
+    ∙ ap (λ x. processes_after_status f.row.pid c.in-Some.request.block x (plain_processes s)) cond_is
+    ∙ sym (end_written c.args.cancels f.row c.in-Some.request (plain_processes s) c.in-Some.is)

@@ -1,0 +1,20 @@
+use Rattle.std.proofs.Common.{sym, subst}
+use Rattle.vlm_words.specs.Dequeue.{resource_without}
+use Rattle.vlm_locks.specs.Withdrawing.{IsChange}
+use Rattle.vlm_locks.proofs.Stood.{stored}
+use Rattle.vlm_locks.proofs.Withdrawn.{removed}
+use Rattle.vlm_locks.proofs.withdrawing.remove.Goals as goal
+
+pub remove_lock-requires-clause-stored : goal.remove_lock-requires-clause-stored
+remove_lock-requires-clause-stored c =
+    let f = c.args.standing.now in
+    (f.row, stored c.args.store.now c.known.ensures f c.requires.standing)
+
+pub remove_lock-requires-clause-childless : goal.remove_lock-requires-clause-childless
+remove_lock-requires-clause-childless c = λ p own among here keyed. c.requires.rest.childless p own among here
+
+pub returns : goal.returns
+returns c =
+    let s = c.args.store.now in
+    let f = c.args.standing.now in
+    subst (IsChange f.res (resource_without f.row.lkid) s) (sym c.remove_lock.ensures) (removed s c.known.ensures f c.requires.standing c.requires.rest)

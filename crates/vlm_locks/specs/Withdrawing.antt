@@ -1,0 +1,25 @@
+-- The steps in which a lock is withdrawn.
+use Rattle.std.specs.Prelude.{◌≡◌, ℕ, Bool, false, map}
+use Rattle.vlm_words.specs.declared.locks.Row.{Row}
+use Rattle.vlm_words.specs.declared.resources.Queue.{Queue}
+use Rattle.vlm_words.specs.declared.resources.Queue.TheVariants.{Granted, Conversion, Waiting}
+use Rattle.vlm_words.specs.Dequeue.{is_writer}
+use Rattle.vlm_words.specs.State.{Resource}
+use Rattle.vlm_store.specs.Records.{HasResource, Records, plain_processes}
+use Rattle.vlm_service.specs.Plain.{plain_resources}
+use Rattle.vlm_locks.specs.Rest.{IsAtRest, OthersStay}
+
+-- a lock of this queue may write the value block as it goes: it holds PW or EX, granted or converting
+abbrev pub may_write : Queue → Row → Bool
+may_write Granted row = is_writer row.held
+may_write Conversion row = is_writer row.held
+may_write Waiting row = false
+
+-- a change of the resource of this key: of all resources it makes what the plain machine makes of them, and it writes
+-- no status block
+pub record IsChange (res : ℕ) (change : Resource → Resource) (old new : Records) : Type 0 where
+  pub resources : plain_resources new ≡ map change (plain_resources old)
+  pub statuses : plain_processes new ≡ plain_processes old
+  pub others : OthersStay res old new
+  pub there : HasResource res new
+  pub rest : IsAtRest new
