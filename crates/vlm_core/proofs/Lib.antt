@@ -1,7 +1,3 @@
-pub mod Absent
-pub mod Admitting
-pub mod EndEffects
-pub mod Entering
-pub mod Identifications
+pub mod Callers
 pub mod Making
-pub mod Rows
+pub mod Reaching

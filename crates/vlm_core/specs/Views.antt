@@ -1,10 +1,12 @@
 -- What the readers show of the machine's state.
-use Rattle.std.specs.Prelude.{ℕ, List, Option, None, Some, slice_get}
+use Rattle.std.specs.Prelude.{◌≡◌, ℕ, List, [], ◌∷◌, Option, None, Some, slice_get}
 use Rattle.std.specs.Option.{option_map}
 use Rattle.vlm_words.specs.declared.locks.Row.{Row}
 use Rattle.vlm_words.specs.declared.resources.Queue.{Queue}
 use Rattle.vlm_words.specs.declared.resources.Queue.TheVariants.{Granted, Conversion, Waiting}
 use Rattle.vlm_words.specs.State.{Resource}
+use Rattle.vlm_store.specs.declared.keys.Place.TheVariants.{Queued}
+use Rattle.vlm_store.specs.Records.{IsAmong, Records, StoredLock, StoredResource, at_after, first_at, locks_at}
 use Rattle.vlm_words.specs.Texts.{mode_asked}
 use Rattle.vlm_core.specs.declared.views.ResourceView.{ResourceView}
 use Rattle.vlm_core.specs.declared.views.RowView.{RowView}
@@ -19,6 +21,25 @@ resource_view r = record {
   value = r.value_block.value;
   valid = r.value_block.valid;
 }
+
+-- the key of the resource at a place
+abbrev pub resource_at_place : ℕ → List StoredResource → Option ℕ
+resource_at_place place resources = option_map (λ r. r.at) (slice_get resources place)
+
+-- the key of the lock at a place of a queue
+abbrev pub lock_at_place : ℕ → List StoredLock → Option ℕ
+lock_at_place place locks = option_map (λ k. k.at) (slice_get locks place)
+
+-- from the lock of this key on a queue gives these rows: the lock has the first of them, and the one that follows it
+-- gives the others
+abbrev pub IsGivenFrom : List StoredLock → Option ℕ → List Row → Type 0
+IsGivenFrom locks first [] = first ≡ None
+IsGivenFrom locks first (row ∷ rows) =
+    (at : ℕ) × ((first ≡ Some at) × IsAmong (record { at = at; row = row }) locks × IsGivenFrom locks (at_after at locks) rows)
+
+-- the queue of the resource of this key gives these rows: from its head on, one after the other
+abbrev pub GivesInTurn : ℕ → Queue → List Row → Records → Type 0
+GivesInTurn res queue rows s = IsGivenFrom (locks_at (Queued res queue) s) (first_at (locks_at (Queued res queue) s)) rows
 
 -- a queue of a resource
 abbrev pub rows_in : Queue → Resource → List Row

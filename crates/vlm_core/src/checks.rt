@@ -8,9 +8,9 @@ ghost use Rattle.vlm_core.specs.Admissions.{IsCaller};
 ghost use Rattle.vlm_core.specs.Machine.{plain_state};
 ghost use Rattle.vlm_locks.specs.Standing.{IsStandingOf};
 
-use crate::records::Machine;
 use crate::nodes::has_departed;
 use crate::processes::{Caller, living};
+use crate::records::Machine;
 use vlm_locks::{Standing, find_lock};
 use vlm_procs::{has_status_block, status_block};
 use vlm_words::conditions::Cond;

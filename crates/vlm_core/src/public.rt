@@ -12,9 +12,7 @@ use vlm_words::laws::{
     law_a_declaration_gives_a_new_identification, law_each_resource_is_settled,
     law_identifications_are_apart, law_serials_rise,
 };
-use vlm_words::steps::{
-    Answer, Conversion, Declaration, Dequeue, NewRequest, Step, ValueSetting,
-};
+use vlm_words::steps::{Answer, Conversion, Declaration, Dequeue, NewRequest, Step, ValueSetting};
 
 /// The lock manager's core: a machine that one thread steps. Some run of the plain machine leads to its
 /// state, so that each law of such runs holds of it.

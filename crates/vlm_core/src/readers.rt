@@ -1,25 +1,85 @@
-//! The readers: they show the status blocks, and the resources and their queues, take no memory and change nothing.
+//! The readers: they show the status blocks, and the resources and their queues, take no memory and
+//! change nothing.
 
-ghost use Rattle.std.specs.Prelude.{◌≡◌, ◌<◌, ◌^◌, length, slice_get, OnSome};
+ghost use Rattle.std.specs.Prelude.{◌≡◌, ◌<◌, ◌^◌, length, slice_get, IfSome, OnSome};
 ghost use Rattle.std.specs.Option.{option_map};
-ghost use Rattle.vlm_core.specs.Views.{resource_view, row_shown};
+ghost use Rattle.vlm_words.specs.declared.resources.Queue.{Queue};
+ghost use Rattle.vlm_words.specs.Laws.{HeldModesAreCompatible, NothingIsLeftToGrant};
 ghost use Rattle.vlm_words.specs.StatusBlocks.{status_block_at};
+ghost use Rattle.vlm_store.specs.Records.{HasResource, IsResourceAmong, IsStored, StoredResource, plain_processes, queued, rows_of};
+ghost use Rattle.vlm_service.specs.Plain.{plain_resources};
+ghost use Rattle.vlm_core.specs.Views.{GivesInTurn, lock_at_place, resource_at_place, resource_view, row_shown};
 
-use crate::machine::Core;
-use crate::processes::status_block;
-use crate::views::{ResourceView, RowView, row_view};
+use crate::processes::living;
+use crate::public::Core;
+use crate::views::{ResourceView, RowView, resource_view, row_view};
+use vlm_procs::status_block;
+use vlm_queue::{head, next};
+use vlm_store::{LockAt, ResAt, Store};
 use vlm_words::blocks::Block;
+use vlm_words::laws::{law_held_modes_are_compatible, law_nothing_is_left_to_grant};
 use vlm_words::resources::Queue;
 
+// The key of the resource at a place, from 0, in order of making. It walks to that place.
+fn resource_at(store: &Store, place: usize) -> Option<ResAt>
+    ensures found { result ≡ resource_at_place place store.now.resources }
+    ensures there { IfSome result (λ res. HasResource res store.now) }
+{
+    store.known();
+    let mut at = store.first_resource();
+    for _ in 0..place {
+        let Some(res) = at else {
+            return None;
+        };
+        at = store.next_resource(res);
+    }
+    at
+}
+
+// The key of the lock at a place, from 0, of a queue of the resource. It walks to that place.
+fn lock_at(store: &Store, res: ResAt, queue: Queue, place: usize) -> Option<LockAt>
+    requires { HasResource res store.now }
+    ensures found { (r : StoredResource) → IsResourceAmong r store.now.resources → r.at ≡ res
+        → result ≡ lock_at_place place (queued queue r) }
+    ensures there { IfSome result (λ lock. IsStored lock store.now) }
+{
+    store.known();
+    let mut at = head(store, res, queue);
+    for _ in 0..place {
+        let Some(lock) = at else {
+            return None;
+        };
+        at = next(store, lock);
+    }
+    at
+}
+
 impl Core {
+    /// The records of the core: its resources and its living processes are theirs without their keys, and
+    /// each queue of a resource is the locks that `head` and then `next` give there. No two locks of a
+    /// resource hold incompatible modes, and on none is anything left to grant.
+    pub fn store(&self) -> &Store
+        ensures resources { plain_resources result.now ≡ self.now.resources }
+        ensures processes { plain_processes result.now ≡ self.now.processes }
+        ensures queues { (r : StoredResource) → IsResourceAmong r result.now.resources
+            → (queue : Queue) → GivesInTurn r.at queue (rows_of (queued queue r)) result.now }
+        ensures held { HeldModesAreCompatible self.now }
+        ensures served { NothingIsLeftToGrant self.now }
+    {
+        law_held_modes_are_compatible();
+        law_nothing_is_left_to_grant();
+        self.machine.store.known();
+        &self.machine.store
+    }
+
     /// The status block of this number, from 1, of a process. None where no living process has the
     /// identification, or it has no such block.
     #[tactic(auto, unfolding(vlm_words::specs::StatusBlocks::status_block_at))]
     pub fn block(&self, pid: u32, number: u8) -> Option<Block>
         ensures { result ≡ status_block_at self.now.processes pid number }
     {
-        match self.store.living(pid) {
-            Some(at) => status_block(&self.store, at, number),
+        match living(&self.machine.store, pid) {
+            Some(caller) => status_block(&self.machine.store, caller.at, number),
             None => None,
         }
     }
@@ -28,28 +88,29 @@ impl Core {
     pub fn resource_count(&self) -> usize
         ensures { result ≡ length self.now.resources }
     {
-        self.resources.len()
+        self.machine.store.resource_count()
     }
 
-    /// The resource at a place, from 0, by rising serial. None past the last.
+    /// The resource at a place, from 0, by rising serial. None past the last. The cost grows with the
+    /// place: [`Core::store`] goes from one resource to the next.
     pub fn resource_at(&self, place: usize) -> Option<ResourceView>
         ensures { result ≡ option_map resource_view (slice_get self.now.resources place) }
     {
-        match self.resources.get(place) {
-            Some(resource) => Some(resource.shown()),
+        let store = &self.machine.store;
+        match resource_at(store, place) {
+            Some(res) => Some(resource_view(store, res)),
             None => None,
         }
     }
 
     /// The lock at a place, from 0, of a queue of the resource at its place. None where one of the
-    /// places is past the last.
+    /// places is past the last. The cost grows with both places.
     pub fn row_at(&self, resource: usize, queue: Queue, place: usize) -> Option<RowView>
-        ensures row { result ≡ row_shown (slice_get self.now.resources resource) queue place }
-        ensures bound { OnSome result (place < 2 ^ 63) }
+        ensures { result ≡ row_shown (slice_get self.now.resources resource) queue place }
     {
-        match self.resources.get(resource) {
-            Some(resource) => resource.row_at(queue, place),
-            None => None,
-        }
+        let store = &self.machine.store;
+        let res = resource_at(store, resource)?;
+        let lock = lock_at(store, res, queue, place)?;
+        Some(row_view(&store.row(lock)))
     }
 }

@@ -3,7 +3,7 @@
 ghost use Rattle.std.specs.Prelude.{◌<◌, OnOk, IfErr, length, take};
 ghost use Rattle.vlm_core.specs.Running.{Makes};
 
-use crate::machine::Core;
+use crate::public::Core;
 use vlm_words::steps::{Answer, Step};
 
 /// Memory for an answer was refused: the steps before it are made and answered, and no other is begun.

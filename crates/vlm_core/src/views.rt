@@ -1,12 +1,15 @@
 //! What the readers show.
 
-ghost use Rattle.std.specs.Prelude.{◌≡◌};
-ghost use Rattle.vlm_core.specs.Views.{row_view};
+ghost use Rattle.std.specs.Prelude.{◌≡◌, IfSome};
+ghost use Rattle.vlm_store.specs.Records.{HasResource, resource_at};
+ghost use Rattle.vlm_service.specs.Plain.{plain_resource};
+ghost use Rattle.vlm_core.specs.Views.{resource_view, row_view};
 
+use vlm_store::{ResAt, Store};
 use vlm_words::locks::Row;
 use vlm_words::modes::Mode;
 use vlm_words::names::Name;
-use vlm_words::resources::Domain;
+use vlm_words::resources::{Domain, Key};
 
 /// A resource without its queues.
 #[derive(Clone, Copy)]
@@ -36,6 +39,27 @@ pub struct RowView {
     pub held: Option<Mode>,
     /// The mode that it waits for, if it waits.
     pub want: Option<Mode>,
+}
+
+/// The resource without its key and its queues.
+pub(crate) fn resource_view(store: &Store, res: ResAt) -> ResourceView
+    requires { HasResource res store.now }
+    ensures { IfSome (resource_at res store.now.resources)
+        (λ r. result ≡ resource_view (plain_resource r)) }
+{
+    let (parent, name) = match store.key(res) {
+        Key::Root(_, name) => (0, name),
+        Key::Below(parent, name) => (parent, name),
+    };
+    let block = store.value_block(res);
+    ResourceView {
+        serial: store.serial(res),
+        parent,
+        domain: store.domain(res),
+        name,
+        value: block.value,
+        valid: block.valid,
+    }
 }
 
 /// The row without what a reader does not show.

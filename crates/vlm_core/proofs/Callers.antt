@@ -1,0 +1,23 @@
+-- The process that makes a step, by its key and by its identification.
+use Rattle.std.proofs.Common.{◌≡◌, ℕ, List, Option, None, Some, IfNone, IfSome, IsSome, refl, sym, ap, ◌∙◌}
+use Rattle.std.specs.Option.{option_map_or}
+use Rattle.vlm_words.specs.State.{Process, process_of}
+use Rattle.vlm_store.specs.Records.{FindsProcess, IsProcess, IsSound, Records, plain_processes, process_at}
+use Rattle.vlm_store.proofs.Plain.{process_at-stored, process_of-none, process_of-stored}
+
+-- what is found of a process
+pub found_lives : (s : Records) (at pid : ℕ) → IsSound s → IsProcess at pid s → IsSome (process_of (plain_processes s) pid)
+found_lives s at pid sound is =
+    rw (ap (process_of (plain_processes s)) (sym is.1.2) ∙ process_of-stored is.0 s.processes sound.processes_apart is.1.0) refl
+
+pub found_none : (s : Records) (pid : ℕ) → FindsProcess s pid None → process_of (plain_processes s) pid ≡ None
+found_none s pid found = process_of-none pid s.processes found
+
+-- the group of the process at a key
+pub group_is : (s : Records) (at pid group : ℕ) → IsSound s → IsProcess at pid s → IfSome (process_at at s.processes) (λ p. group ≡ p.process.group)
+    → group ≡ option_map_or (λ (p : Process). p.group) (process_of (plain_processes s) pid) 0
+group_is s at pid group sound is read =
+    let found : process_at at s.processes ≡ Some is.0 = ap (λ x. process_at x s.processes) (sym is.1.1) ∙ process_at-stored is.0 s.processes sound.processes_apart is.1.0 in
+    let told = rw found at read in
+    let named = ap (λ o. option_map_or (λ (p : Process). p.group) o 0) (process_of-stored is.0 s.processes sound.processes_apart is.1.0) in
+    told ∙ sym named ∙ ap (λ x. option_map_or (λ (p : Process). p.group) (process_of (plain_processes s) x) 0) is.1.2
