@@ -1,5 +1,8 @@
 pub mod Converted
+pub mod Entered
 pub mod Held
+pub mod Keyed
+pub mod Made
 pub mod Moved
 pub mod Named
 pub mod Replaced

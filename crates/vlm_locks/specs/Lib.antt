@@ -1,3 +1,4 @@
 pub mod Converting
+pub mod Entering
 pub mod Rest
 pub mod Standing

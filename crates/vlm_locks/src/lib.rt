@@ -4,7 +4,9 @@
 #![tactic(auto)]
 
 mod converting;
+mod entering;
 mod finding;
 
 pub use converting::{convert, converts_at_once};
+pub use entering::{Entry, enter, enters_at_once};
 pub use finding::{Standing, find_lock};
