@@ -1,6 +1,9 @@
 pub mod Changed
 pub mod Converted
+pub mod Entered
 pub mod Held
+pub mod Keyed
+pub mod Made
 pub mod Moved
 pub mod Named
 pub mod Replaced

@@ -1,4 +1,5 @@
 pub mod Converting
+pub mod Entering
 pub mod Rest
 pub mod Standing
 pub mod Withdrawing

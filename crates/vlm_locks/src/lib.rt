@@ -4,12 +4,14 @@
 #![tactic(auto)]
 
 mod converting;
+mod entering;
 mod finding;
 mod sweeping;
 mod withdrawals;
 mod withdrawing;
 
 pub use converting::{convert, converts_at_once};
+pub use entering::{Entry, enter, enters_at_once};
 pub use finding::{Standing, find_lock};
 pub use sweeping::sweep;
 pub use withdrawals::Withdrawal;

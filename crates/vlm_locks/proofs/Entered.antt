@@ -1,0 +1,268 @@
+-- What the entry of a new lock makes of the records.
+use Rattle.std.proofs.Common.{◌≡◌, ◌≢◌, ℕ, Bool, List, [], ◌∷◌, ◌++◌, map, unwrap_or, cond, true, false, ◌&&◌, None, Some, IsSome, IfSome, refl, sym, ap, ◌∙◌, subst, inl, inr, eq-eqb, ne_eqb}
+use Rattle.std.specs.Prelude.{◌==◌}
+use Rattle.std.proofs.lemmas.Bool.{cases_eq}
+use Rattle.std.proofs.lemmas.List.{map-append}
+use Rattle.vlm_words.specs.declared.locks.Request.{Request}
+use Rattle.vlm_words.specs.declared.locks.Row.{Row}
+use Rattle.vlm_words.specs.declared.resources.Queue.{Queue}
+use Rattle.vlm_words.specs.declared.resources.Queue.TheVariants.{Granted, Conversion, Waiting}
+use Rattle.vlm_words.specs.Enqueue.{is_at_once, resource_after_entry, resources_after_entry}
+use Rattle.vlm_words.specs.Grants.{granted_row}
+use Rattle.vlm_words.specs.Resources.{new_resource}
+use Rattle.vlm_store.specs.declared.keys.Place.TheVariants.{Loose, Queued}
+use Rattle.vlm_store.specs.Records.{AreResourcesApart, FindsResource, HasResource, IsAmong, IsOwnAmong, IsProcess, IsProcessAmong, IsResourceAmong, IsSound, OwnLock, Records, StoredLock, StoredProcess, StoredResource, but_blocks, is_queue, joined_by, moving, new_own, on_resource, process_with_lock, queued, resource_at, resource_with, with_lists, with_new_lock, with_sublock, without_lock}
+use Rattle.vlm_store.proofs.Undoing.{unmoved}
+use Rattle.vlm_service.specs.Plain.{plain_resource, plain_resources}
+use Rattle.vlm_service.specs.Serving.{but_service}
+use Rattle.vlm_service.proofs.Found.{map_on, resource_alone, resource_at-put, resource_is}
+use Rattle.vlm_locks.specs.declared.entering.Entry.{Entry}
+use Rattle.vlm_locks.specs.Entering.{IsEntered, resource_for}
+use Rattle.vlm_locks.specs.Rest.{IsAtRest, IsKeyed, IsReplaced}
+use Rattle.vlm_locks.proofs.Keyed.{AreKeyed, finds_one, key_cases}
+use Rattle.vlm_locks.proofs.Replaced.{others_stay, rests, still_there}
+use Rattle.vlm_locks.proofs.Stood.{queue_is}
+
+-- ---- a lock more at the end of a queue
+
+-- the resource is the same but for its queues
+joined-rest : (queue : Queue) (lock : StoredLock) (r : StoredResource) → but_service (joined_by queue lock r) ≡ but_service r
+joined-rest Granted lock r = refl
+joined-rest Conversion lock r = refl
+joined-rest Waiting lock r = refl
+
+-- it keeps its value block
+joined-value_block : (queue : Queue) (lock : StoredLock) (r : StoredResource) → (joined_by queue lock r).value_block ≡ r.value_block
+joined-value_block Granted lock r = refl
+joined-value_block Conversion lock r = refl
+joined-value_block Waiting lock r = refl
+
+-- a request that is granted at once has its lock among the granted ones
+pub joins_granted : (at : ℕ) (row : Row) (asked : Request) (r : StoredResource) → is_at_once asked (plain_resource r) ≡ true
+    → plain_resource (joined_by Granted (record { at = at; row = granted_row row }) r) ≡ resource_after_entry row asked (plain_resource r)
+unfolding resource_after_entry
+joins_granted at row asked r at_once =
+    rw at_once (ap (λ rows. record (plain_resource r) { granted = rows }) (map-append (λ (k : StoredLock). k.row) r.granted (record { at = at; row = granted_row row } ∷ [])))
+
+-- a request that is not granted at once has its lock at the end of the waiting queue
+pub joins_waiting : (at : ℕ) (row : Row) (asked : Request) (r : StoredResource) → is_at_once asked (plain_resource r) ≡ false
+    → plain_resource (joined_by Waiting (record { at = at; row = row }) r) ≡ resource_after_entry row asked (plain_resource r)
+unfolding resource_after_entry
+joins_waiting at row asked r queued =
+    rw queued (ap (λ rows. record (plain_resource r) { waiting = rows }) (map-append (λ (k : StoredLock). k.row) r.waiting (record { at = at; row = row } ∷ [])))
+
+-- ---- a loose lock joins one queue, with another row
+
+-- the locks of a queue, with one more if it joins here
+abbrev with_joined : StoredLock → Bool → List StoredLock → List StoredLock
+with_joined lock here locks = cond here (locks ++ lock ∷ []) locks
+
+module _ (s : Records) (sound : IsSound s) (at : ℕ) (was row : Row) (stands : IsAmong (record { at = at; row = was }) s.loose) (res : ℕ) (to : Queue) where
+  -- the lock stands in no queue
+  kept : (x : StoredResource) → IsResourceAmong x s.resources → (queue : Queue) → without_lock at (queued queue x) ≡ queued queue x
+  kept x among queue =
+      ap (without_lock at) (sym (queue_is s sound x among queue)) ∙ unmoved s at was Loose sound stands (Queued x.at queue) (λ e. cc) ∙ queue_is s sound x among queue
+
+  -- each resource is as it was, but for the one that the lock joins
+  joins : (x : StoredResource) → IsResourceAmong x s.resources
+      → resource_with (moving (Queued res to) (record { at = at; row = row })) x ≡ cond (x.at == res) (joined_by to (record { at = at; row = row }) x) x
+  joins x among = rw (kept x among Granted, kept x among Conversion, kept x among Waiting) (by_queue to (x.at == res))
+    where
+      by_queue : (queue : Queue) (here : Bool)
+          → record x { granted = with_joined (record { at = at; row = row }) (here && is_queue Granted queue) x.granted; converting = with_joined (record { at = at; row = row }) (here && is_queue Conversion queue) x.converting; waiting = with_joined (record { at = at; row = row }) (here && is_queue Waiting queue) x.waiting }
+          ≡ cond here (joined_by queue (record { at = at; row = row }) x) x
+      by_queue Granted true = refl
+      by_queue Conversion true = refl
+      by_queue Waiting true = refl
+      by_queue queue false = refl
+
+  -- it joins the queue of its resource, and nothing else changes
+  pub loose_joins : with_lists (moving (Queued res to) (record { at = at; row = row })) s
+      ≡ record s { resources = map (λ x. cond (x.at == res) (joined_by to (record { at = at; row = row }) x) x) s.resources; loose = without_lock at s.loose }
+  loose_joins =
+      ap (λ x. record s { resources = x; loose = without_lock at s.loose })
+      (map_on (resource_with (moving (Queued res to) (record { at = at; row = row }))) (λ x. cond (x.at == res) (joined_by to (record { at = at; row = row }) x) x) s.resources joins)
+
+-- ---- the processes of a new lock
+
+-- each process is as it was, but for its locks
+processes_kept : (owner : ℕ) (at : ℕ) (ps : List StoredProcess) → map (λ (p : StoredProcess). p.process) (map (process_with_lock owner None at) ps) ≡ map (λ (p : StoredProcess). p.process) ps
+processes_kept owner at [] = refl
+processes_kept owner at (p ∷ rest) = ap (λ ps. p.process ∷ ps) (processes_kept owner at rest)
+
+-- a process is still there, with the lock if it owns it
+owner_kept : (owner : ℕ) (at : ℕ) (ps : List StoredProcess) (p : StoredProcess) → IsProcessAmong p ps → IsProcessAmong (process_with_lock owner None at p) (map (process_with_lock owner None at) ps)
+owner_kept owner at [] p among = absurd among
+owner_kept owner at (x ∷ rest) p among =
+    elim among [
+      | inl here ↦ inl (ap (process_with_lock owner None at) here)
+      | inr there ↦ inr (owner_kept owner at rest p there)
+    ]
+
+-- no lock of the process has one below it
+own_childless : (owner : ℕ) (at : ℕ) (p : StoredProcess) → ((own : OwnLock) → IsOwnAmong own p.own → own.sublocks ≡ []) → (own : OwnLock)
+    → IsOwnAmong own (process_with_lock owner None at p).own → own.sublocks ≡ []
+own_childless owner at p childless own among = of_list p.own childless among
+  where
+    of_new : (here : Bool) → IsOwnAmong own (cond here (new_own at) []) → own.sublocks ≡ []
+    of_new true (inl is) = sym (ap (λ (x : OwnLock). x.sublocks) is)
+    of_new true (inr none) = absurd none
+    of_new false none = absurd none
+
+    of_list : (owns : List OwnLock) → ((x : OwnLock) → IsOwnAmong x owns → x.sublocks ≡ [])
+        → IsOwnAmong own (map (with_sublock None at) owns ++ cond (p.at == owner) (new_own at) []) → own.sublocks ≡ []
+    of_list [] childless among = of_new (p.at == owner) among
+    of_list (x ∷ rest) childless among =
+        elim among [
+          | inl is ↦ sym (ap (λ (y : OwnLock). y.sublocks) is) ∙ childless x (inl refl)
+          | inr there ↦ of_list rest (λ y in_rest. childless y (inr in_rest)) there
+        ]
+
+-- a new lock has none below it, and no other gets one
+childless_with : (owner : ℕ) (at : ℕ) (ps : List StoredProcess)
+    → ((p : StoredProcess) (own : OwnLock) → IsProcessAmong p ps → IsOwnAmong own p.own → own.sublocks ≡ [])
+    → (p : StoredProcess) (own : OwnLock) → IsProcessAmong p (map (process_with_lock owner None at) ps) → IsOwnAmong own p.own → own.sublocks ≡ []
+childless_with owner at [] childless p own among here = absurd among
+childless_with owner at (x ∷ rest) childless p own among here =
+    elim among [
+      | inl is ↦ own_childless owner at x (λ o there. childless x o (inl refl) there) own (subst (λ (y : StoredProcess). IsOwnAmong own y.own) (sym is) here)
+      | inr there ↦ childless_with owner at rest (λ y o in_rest. childless y o (inr in_rest)) p own there here
+    ]
+
+-- ---- the resources as the plain machine leaves them
+
+-- where no resource has the key of the store, none changes
+on_resource-absent : (res : ℕ) (left : StoredResource) (rs : List StoredResource) → ((x : StoredResource) → IsResourceAmong x rs → x.at ≢ res) → on_resource res (λ x. left) rs ≡ rs
+on_resource-absent res left [] absent = refl
+on_resource-absent res left (x ∷ rest) absent =
+    rw (ne_eqb x.at res (absent x (inl refl))) (ap (λ xs. x ∷ xs) (on_resource-absent res left rest (λ y there. absent y (inr there))))
+
+module _ (e : Entry) (asked : Request) (keyed : IsKeyed e.domain e.key) where
+  -- the resource of the key is the only one that changes
+  pub entered_one : (r left : StoredResource) (rs : List StoredResource) → AreKeyed rs → AreResourcesApart rs → IsResourceAmong r rs → r.key ≡ e.key
+      → ((x : StoredResource) → IsResourceAmong x rs → x.key ≡ e.key → x.at ≡ r.at) → plain_resource left ≡ resource_after_entry e.row asked (plain_resource r)
+      → map plain_resource (on_resource r.at (λ x. left) rs) ≡ resources_after_entry e.serial e.domain e.key e.row asked (map plain_resource rs)
+  entered_one r left [] all apart among same only after = absurd among
+  entered_one r left (x ∷ rest) all apart among same only after =
+      elim (key_cases e.domain e.key keyed x (all x (inl refl))) [
+        | inl here ↦
+            let at : x.at ≡ r.at = only x (inl refl) here.1 in
+            let is : x ≡ r = elim among [ inl is ↦ is | inr there ↦ absurd (apart.0 r there (sym at)) ] in
+            rw (eq-eqb x.at r.at at, here.0)
+            (ap (λ y. y ∷ map plain_resource (on_resource r.at (λ y. left) rest)) (after ∙ ap (λ y. resource_after_entry e.row asked (plain_resource y)) (sym is))
+            ∙ ap (λ ys. resource_after_entry e.row asked (plain_resource x) ∷ map plain_resource ys)
+            (on_resource-absent r.at left rest (λ y there there_at. apart.0 y there (there_at ∙ sym at))))
+        | inr other ↦ elim among [
+          | inl is ↦ absurd (other.1 (ap (λ (y : StoredResource). y.key) is ∙ same))
+          | inr there ↦
+              rw (ne_eqb x.at r.at (λ at. apart.0 r there (sym at)), other.0)
+              (ap (λ ys. plain_resource x ∷ ys) (entered_one r left rest (λ y in_rest. all y (inr in_rest)) apart.1 there same (λ y in_rest. only y (inr in_rest)) after))
+        ]
+      ]
+
+-- ---- the entry, on a resource that is there
+
+-- the records once the lock stands in the list of its process and in no queue, and is not loose any more
+abbrev pub owned_by : Entry → ℕ → Records → Records
+owned_by e at s = record { resources = s.resources; loose = []; processes = map (process_with_lock e.owner None at) s.processes }
+
+module _ (s : Records) (sound : IsSound s) (rest : IsAtRest s) (e : Entry) (keyed : IsKeyed e.domain e.key) (res : ℕ) (found : FindsResource s e.key (Some res)) where
+  -- the resource of the key is there
+  pub found_there : resource_at res s.resources ≡ Some found.0
+  found_there = ap (λ x. resource_at x s.resources) (sym found.1.1) ∙ resource_is found.0 s.resources sound.resources_apart found.1.0
+
+  -- it is there still once the lock is made
+  pub there_still : (at : ℕ) (mid : Records) → mid ≡ with_new_lock at e.row e.owner None s → HasResource res mid
+  there_still at mid added = subst IsSome (sym (ap (λ (x : Records). resource_at res x.resources) added ∙ found_there)) refl
+
+  module _ (at : ℕ) (mid : Records) (mid_sound : IsSound mid) (added : mid ≡ with_new_lock at e.row e.owner None s) (row : Row) (to : Queue) (new : Records)
+      (moved : new ≡ with_lists (moving (Queued res to) (record { at = at; row = row })) mid) where
+    -- the resource with the lock in its queue
+    abbrev left : StoredResource
+    left = joined_by to (record { at = at; row = row }) found.0
+
+    -- the new lock is the one loose lock
+    mid_loose : mid.loose ≡ record { at = at; row = e.row } ∷ []
+    mid_loose = ap (λ (x : Records). x.loose) added ∙ ap (λ locks. locks ++ record { at = at; row = e.row } ∷ []) rest.none_loose
+
+    -- the resources are as they were
+    mid_resources : mid.resources ≡ s.resources
+    mid_resources = ap (λ (x : Records). x.resources) added
+
+    -- then it stands in its queue
+    new_is : new ≡ record mid { resources = map (λ x. cond (x.at == res) (joined_by to (record { at = at; row = row }) x) x) mid.resources; loose = without_lock at mid.loose }
+    new_is = moved ∙ loose_joins mid mid_sound at e.row row (subst (IsAmong (record { at = at; row = e.row })) (sym mid_loose) (inl refl)) res to
+
+    -- the resources with it
+    new_resources : new.resources ≡ on_resource res (λ x. left) s.resources
+    new_resources =
+        ap (λ (x : Records). x.resources) new_is
+        ∙ ap (map (λ x. cond (x.at == res) (joined_by to (record { at = at; row = row }) x) x)) mid_resources
+        ∙ map_on (λ x. cond (x.at == res) (joined_by to (record { at = at; row = row }) x) x) (λ x. cond (x.at == res) left x) s.resources each
+      where
+        each : (x : StoredResource) → IsResourceAmong x s.resources → cond (x.at == res) (joined_by to (record { at = at; row = row }) x) x ≡ cond (x.at == res) left x
+        each x among =
+            elim (cases_eq x.at res) [
+              | inl same ↦ ap (λ y. cond (x.at == res) (joined_by to (record { at = at; row = row }) y) x) (resource_alone res s.resources found.0 x sound.resources_apart found_there among same)
+              | inr differs ↦ rw (ne_eqb x.at res differs) refl
+            ]
+
+    -- no lock is loose
+    new_loose : new.loose ≡ []
+    new_loose = ap (λ (x : Records). x.loose) new_is ∙ ap (without_lock at) mid_loose ∙ rw (eq-eqb at at refl) refl
+
+    -- the processes with it
+    new_processes : new.processes ≡ map (process_with_lock e.owner None at) s.processes
+    new_processes = ap (λ (x : Records). x.processes) new_is ∙ ap (λ (x : Records). x.processes) added
+
+    -- of the resources just that of the lock is another
+    replaced : IsReplaced res found.0 left (owned_by e at s) new
+    replaced = record {
+      was = found_there;
+      same = joined-rest to (record { at = at; row = row }) found.0;
+      resources = new_resources;
+      loose = new_loose;
+      processes = ap (map but_blocks) new_processes;
+    }
+
+    -- what held between two steps holds with it
+    owned_rest : IsAtRest (owned_by e at s)
+    owned_rest = record {
+      none_loose = refl;
+      keyed = rest.keyed;
+      childless = childless_with e.owner at s.processes rest.childless;
+    }
+
+    -- the plain machine finds the same resource
+    resource_is_found : resource_for e (plain_resources s) ≡ plain_resource found.0
+    resource_is_found = ap (λ o. unwrap_or o (new_resource e.serial e.domain e.key)) (finds_one e.domain e.key keyed s rest sound res found found.0 found_there)
+
+    -- no other resource has the key
+    same_at : (x : StoredResource) → IsResourceAmong x s.resources → x.key ≡ e.key → x.at ≡ found.0.at
+    same_at x among same = sym (sound.keys_apart found.0 x found.1.0 among (found.1.2 ∙ sym same))
+
+    -- the resources are those of the plain machine
+    entered_here : (asked : Request) → plain_resource left ≡ resource_after_entry e.row asked (plain_resource found.0)
+        → plain_resources new ≡ resources_after_entry e.serial e.domain e.key e.row asked (plain_resources s)
+    entered_here asked after =
+        ap (map plain_resource) new_resources ∙ ap (λ x. map plain_resource (on_resource x (λ y. left) s.resources)) (sym found.1.1)
+        ∙ entered_one e asked keyed found.0 left s.resources rest.keyed sound.resources_apart found.1.0 found.1.2 same_at after
+
+    -- the lock has entered the resource
+    pub entered_by : IsProcess e.owner e.row.pid s → ((asked : Request) → e.at_once ≡ is_at_once asked (plain_resource found.0) → plain_resource left ≡ resource_after_entry e.row asked (plain_resource found.0))
+        → IsEntered e res s new
+    entered_by owner after = record {
+      entered = λ asked told. entered_here asked (after asked (told ∙ ap (is_at_once asked) resource_is_found));
+      processes = ap (map (λ (p : StoredProcess). p.process)) new_processes ∙ processes_kept e.owner at s.processes;
+      owner = (
+        process_with_lock e.owner None at owner.0,
+        (subst (IsProcessAmong (process_with_lock e.owner None at owner.0)) (sym new_processes) (owner_kept e.owner at s.processes owner.0 owner.1.0), owner.1.1, owner.1.2),
+      );
+      value_block =
+          subst (λ o. IfSome o (λ r. r.value_block ≡ (resource_for e (plain_resources s)).value_block))
+          (sym (ap (resource_at res) new_resources ∙ resource_at-put res left s.resources found.0 (ap (λ (r : StoredResource). r.at) (joined-rest to (record { at = at; row = row }) found.0) ∙ found.1.1) found_there))
+          (joined-value_block to (record { at = at; row = row }) found.0 ∙ sym (ap (λ r. r.value_block) resource_is_found));
+      others = others_stay res found.0 left (owned_by e at s) new replaced;
+      there = still_there res found.0 left (owned_by e at s) new replaced;
+      rest = rests res found.0 left (owned_by e at s) new replaced owned_rest;
+    }

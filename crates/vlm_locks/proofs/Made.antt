@@ -1,0 +1,156 @@
+-- A resource is made for the lock that enters it.
+use Rattle.std.proofs.Common.{◌≡◌, ◌⊎◌, ℕ, List, [], ◌∷◌, ◌++◌, map, unwrap_or, Option, None, Some, IsSome, refl, sym, ap, ◌∙◌, subst, inl, inr, eq-eqb, ne_eqb, IfSome}
+use Rattle.std.specs.Option.{option_map_or}
+use Rattle.std.proofs.lemmas.Bool.{cases_eq}
+use Rattle.vlm_words.specs.declared.locks.Request.{Request}
+use Rattle.vlm_words.specs.declared.resources.Queue.{Queue}
+use Rattle.vlm_words.specs.declared.resources.Queue.TheVariants.{Granted, Conversion, Waiting}
+use Rattle.vlm_words.specs.Enqueue.{is_at_once, resources_after_entry}
+use Rattle.vlm_words.specs.Resources as plain
+use Rattle.vlm_store.specs.declared.keys.Place.{Place}
+use Rattle.vlm_store.specs.declared.keys.Place.TheVariants.{Loose, Queued}
+use Rattle.vlm_store.specs.Records.{FindsResource, HasResource, IsAmong, IsIdle, IsNewKey, IsNewLock, IsResourceAmong, Records, StoredResource, locks_at, new_resource, queued, resource_at}
+use Rattle.vlm_service.specs.Plain.{plain_resource, plain_resources}
+use Rattle.vlm_locks.specs.declared.entering.Entry.{Entry}
+use Rattle.vlm_locks.specs.Entering.{IsEntered, resource_for}
+use Rattle.vlm_locks.specs.Rest.{IsAtRest, IsKeyed}
+use Rattle.vlm_locks.proofs.Keyed.{AreKeyed, IsKeyFree, find-free, find-key, key_cases}
+
+-- the resource at its making
+abbrev pub made : Entry → ℕ → StoredResource
+made e res = new_resource res e.serial e.domain e.key
+
+-- the records with the resource, the last
+abbrev pub with_made : Entry → ℕ → Records → Records
+with_made e res s = record s { resources = s.resources ++ made e res ∷ [] }
+
+-- a resource of the longer list is the last, or was there
+made_cases : (r : StoredResource) (rs : List StoredResource) (x : StoredResource) → IsResourceAmong x (rs ++ r ∷ []) → (x ≡ r) ⊎ IsResourceAmong x rs
+made_cases r [] x among = elim among [ inl is ↦ inl (sym is) | inr none ↦ absurd none ]
+made_cases r (y ∷ rest) x among =
+    elim among [
+      | inl is ↦ inr (inl is)
+      | inr there ↦ elim (made_cases r rest x there) [ inl is ↦ inl is | inr was ↦ inr (inr was) ]
+    ]
+
+-- the last is one of them
+made_last : (r : StoredResource) (rs : List StoredResource) → IsResourceAmong r (rs ++ r ∷ [])
+made_last r [] = inl refl
+made_last r (x ∷ rest) = inr (made_last r rest)
+
+-- a resource of its key is found
+made_at : (r : StoredResource) (rs : List StoredResource) → IsSome (resource_at r.at (rs ++ r ∷ []))
+made_at r [] = rw (eq-eqb r.at r.at refl) refl
+made_at r (x ∷ rest) =
+    elim (cases_eq x.at r.at) [
+      | inl same ↦ rw (eq-eqb x.at r.at same) refl
+      | inr differs ↦ rw (ne_eqb x.at r.at differs) (made_at r rest)
+    ]
+
+module _ (e : Entry) (res : ℕ) (s : Records) where
+  -- no lock stands in a queue of the new resource
+  queued_none : (queue : Queue) → queued queue (made e res) ≡ []
+  queued_none Granted = refl
+  queued_none Conversion = refl
+  queued_none Waiting = refl
+
+  -- each queue is as it was, with the new resource
+  same_queue : (x : ℕ) (queue : Queue) (rs : List StoredResource) → option_map_or (queued queue) (resource_at x (rs ++ made e res ∷ [])) [] ≡ option_map_or (queued queue) (resource_at x rs) []
+  same_queue x queue [] =
+      elim (cases_eq res x) [
+        | inl same ↦ rw (eq-eqb res x same) (queued_none queue)
+        | inr differs ↦ rw (ne_eqb res x differs) refl
+      ]
+  same_queue x queue (r ∷ rest) =
+      elim (cases_eq r.at x) [
+        | inl same ↦ rw (eq-eqb r.at x same) refl
+        | inr differs ↦ rw (ne_eqb r.at x differs) (same_queue x queue rest)
+      ]
+
+  -- each place has the locks that it had
+  same_locks : (place : Place) → locks_at place (with_made e res s) ≡ locks_at place s
+  same_locks Loose = refl
+  same_locks (Queued x queue) = same_queue x queue s.resources
+
+  -- no lock is made with it
+  pub new_still : (lkid : ℕ) → IsNewLock lkid s → IsNewLock lkid (with_made e res s)
+  new_still lkid new at row stored = new at row (stored.0, subst (IsAmong (record { at = at; row = row })) (same_locks stored.0) stored.1)
+
+  -- each resource is in the domain of its key
+  keyed_with : IsKeyed e.domain e.key → AreKeyed s.resources → AreKeyed (with_made e res s).resources
+  keyed_with keyed all x among =
+      elim (made_cases (made e res) s.resources x among) [
+        | inl is ↦ subst (λ (r : StoredResource). IsKeyed r.domain r.key) (sym is) keyed
+        | inr was ↦ all x was
+      ]
+
+  -- what held between two steps holds still
+  pub rest_still : IsKeyed e.domain e.key → IsAtRest s → IsAtRest (with_made e res s)
+  rest_still keyed rest = record {
+    none_loose = rest.none_loose;
+    keyed = keyed_with keyed rest.keyed;
+    childless = rest.childless;
+  }
+
+  -- the new resource stands under its key
+  pub made_found : FindsResource (with_made e res s) e.key (Some res)
+  made_found = (made e res, (made_last (made e res) s.resources, refl, refl))
+
+  -- it is there
+  pub made_there : HasResource res (with_made e res s)
+  made_there = made_at (made e res) s.resources
+
+  -- no lock stands in its queues
+  pub made_idle : ¬ HasResource res s → IsIdle res (with_made e res s)
+  made_idle absent queue = same_queue res queue s.resources ∙ of_found (resource_at res s.resources) absent
+    where
+      of_found : (found : Option StoredResource) → ¬ IsSome found → option_map_or (queued queue) found [] ≡ []
+      of_found None none = refl
+      of_found (Some r) none = absurd (none refl)
+
+  -- ---- the entry, with it and without it
+
+  module _ (keyed : IsKeyed e.domain e.key) (rest : IsAtRest s) (free : IsNewKey e.key s) where
+    -- the lock finds the same resource
+    same_for : resource_for e (plain_resources (with_made e res s)) ≡ resource_for e (plain_resources s)
+    same_for =
+        ap (λ o. unwrap_or o (plain.new_resource e.serial e.domain e.key))
+        (find-key e.domain e.key keyed (with_made e res s).resources (made e res) (keyed_with keyed rest.keyed) (made_last (made e res) s.resources) refl only)
+        ∙ sym (ap (λ o. unwrap_or o (plain.new_resource e.serial e.domain e.key)) (find-free e.domain e.key keyed s.resources rest.keyed free))
+      where
+        only : (x : StoredResource) → IsResourceAmong x (with_made e res s).resources → x.key ≡ e.key → x ≡ made e res
+        only x among same = elim (made_cases (made e res) s.resources x among) [ inl is ↦ is | inr was ↦ absurd (free x was same) ]
+
+    -- its entry leaves the same resources
+    same_after : (asked : Request) → resources_after_entry e.serial e.domain e.key e.row asked (plain_resources (with_made e res s))
+        ≡ resources_after_entry e.serial e.domain e.key e.row asked (plain_resources s)
+    same_after asked = of_list s.resources rest.keyed free
+      where
+        of_list : (rs : List StoredResource) → AreKeyed rs → IsKeyFree e.key rs
+            → resources_after_entry e.serial e.domain e.key e.row asked (map plain_resource (rs ++ made e res ∷ []))
+            ≡ resources_after_entry e.serial e.domain e.key e.row asked (map plain_resource rs)
+        of_list [] all free =
+            elim (key_cases e.domain e.key keyed (made e res) keyed) [
+              | inl here ↦ rw (here.0) refl
+              | inr other ↦ absurd (other.1 refl)
+            ]
+        of_list (x ∷ xs) all free =
+            elim (key_cases e.domain e.key keyed x (all x (inl refl))) [
+              | inl here ↦ absurd (free x (inl refl) here.1)
+              | inr other ↦ rw (other.0) (ap (λ ys. plain_resource x ∷ ys) (of_list xs (λ y there. all y (inr there)) (λ y there. free y (inr there))))
+            ]
+
+    -- the lock has entered, and its resource was made for it
+    pub entered_made : (new : Records) → IsEntered e res (with_made e res s) new → IsEntered e res s new
+    entered_made new entered = record {
+      entered = λ asked told. entered.entered asked (told ∙ ap (is_at_once asked) (sym same_for)) ∙ same_after asked;
+      processes = entered.processes;
+      owner = entered.owner;
+      value_block = subst (λ b. IfSome (resource_at res new.resources) (λ r. r.value_block ≡ b)) (ap (λ r. r.value_block) same_for) entered.value_block;
+      others = λ x among differs. elim (made_cases (made e res) s.resources x (entered.others x among differs)) [
+        | inl is ↦ absurd (differs (ap (λ (r : StoredResource). r.at) is))
+        | inr was ↦ was
+      ];
+      there = entered.there;
+      rest = entered.rest;
+    }

@@ -1,0 +1,142 @@
+//! The entry of a new lock.
+
+ghost use Rattle.std.specs.Prelude.{◌≡◌, Some, IfOk, IfSome, OnErr, OnOk};
+ghost use Rattle.vlm_words.specs.declared.locks.Request.{Request};
+ghost use Rattle.vlm_words.specs.Enqueue.{is_at_once, resources_after_entry};
+ghost use Rattle.vlm_words.specs.Grants.{is_empty};
+ghost use Rattle.vlm_store.specs.Records.{FindsResource, HasResource, IsNewKey, IsNewLock, IsProcess, StoredResource, plain_processes, queued, resource_at, rows_of};
+ghost use Rattle.vlm_service.specs.Plain.{plain_resource, plain_resources};
+ghost use Rattle.vlm_locks.specs.Entering.{IsEntered, resource_for};
+ghost use Rattle.vlm_locks.specs.Rest.{IsAtRest, IsKeyed, OthersStay};
+
+use std::alloc::AllocError;
+use vlm_queue::{can_hold, head};
+use vlm_service::granted_row;
+use vlm_store::{Place, ProcAt, ResAt, Store};
+use vlm_words::flags::EnqFlags;
+use vlm_words::locks::{Request, Row};
+use vlm_words::resources::{Domain, Key, Queue};
+
+// Whether no lock stands in the queue of the resource.
+fn is_free(store: &Store, res: ResAt, queue: Queue) -> bool
+    requires { HasResource res store.now }
+    ensures { (r : StoredResource) → resource_at res store.now.resources ≡ Some r
+        → result ≡ is_empty (rows_of (queued queue r)) }
+{
+    head(store, res, queue).is_none()
+}
+
+/// Whether a new request is granted at once on a resource: it is expedited, or it fits and nobody is queued.
+#[tactic(auto, unfolding(vlm_words::specs::Enqueue::is_at_once))]
+pub fn enters_at_once(store: &Store, res: ResAt, asked: &Request) -> bool
+    requires { HasResource res store.now }
+    ensures { (r : StoredResource) → resource_at res store.now.resources ≡ Some r
+        → result ≡ is_at_once asked.now (plain_resource r) }
+{
+    asked.flags.has(EnqFlags::EXPEDITE)
+        || (can_hold(store, res, asked.mode, None)
+            && is_free(store, res, Queue::Conversion)
+            && is_free(store, res, Queue::Waiting))
+}
+
+/// A new lock, and where it is to enter.
+#[derive(Clone, Copy)]
+pub struct Entry {
+    /// Its row, which wants what it asks for and holds nothing.
+    pub row: Row,
+    /// The process that owns it.
+    pub owner: ProcAt,
+    /// The key of its resource.
+    pub key: Key,
+    /// The domain of its resource, if that is made.
+    pub domain: Domain,
+    /// The serial of its resource, if that is made.
+    pub serial: u32,
+    /// Where its resource is, if it is there.
+    pub res: Option<ResAt>,
+    /// Whether the request is granted at once.
+    pub at_once: bool,
+}
+
+// Takes a new lock in on a resource that is there: it holds what it wants where it is granted at once, else it
+// goes to the end of the waiting queue. Where memory is refused, nothing is changed.
+fn enter_at(store: &mut Store, entry: &Entry, res: ResAt) -> Result<(), AllocError>
+    requires rest { IsAtRest store.old }
+    requires new { IsNewLock entry.now.row.lkid store.old }
+    requires owner { IsProcess entry.now.owner entry.now.row.pid store.old }
+    requires root { entry.now.row.parent ≡ 0 }
+    requires found { FindsResource store.old entry.now.key (Some res) }
+    requires keyed { IsKeyed entry.now.domain entry.now.key }
+    ensures entered { OnOk result (IsEntered entry.now res store.old store.new) }
+    ensures err { OnErr result (store.new ≡ store.old) }
+{
+    store.known();
+    let lock = match store.add_lock(entry.row, entry.owner, None) {
+        Ok(lock) => lock,
+        Err(refused) => return Err(refused),
+    };
+    store.known();
+    if entry.at_once {
+        let granted = Place::Queued(res, Queue::Granted);
+        store.move_lock(lock, granted_row(entry.row), granted);
+    } else {
+        let waiting = Place::Queued(res, Queue::Waiting);
+        store.move_lock(lock, entry.row, waiting);
+    }
+    Ok(())
+}
+
+// Takes a new lock in on a resource that is made for it. Where memory is refused, nothing is changed.
+fn enter_new(store: &mut Store, entry: &Entry) -> Result<ResAt, AllocError>
+    requires rest { IsAtRest store.old }
+    requires new { IsNewLock entry.now.row.lkid store.old }
+    requires owner { IsProcess entry.now.owner entry.now.row.pid store.old }
+    requires root { entry.now.row.parent ≡ 0 }
+    requires absent { IsNewKey entry.now.key store.old }
+    requires keyed { IsKeyed entry.now.domain entry.now.key }
+    ensures entered { IfOk result (λ res. IsEntered entry.now res store.old store.new) }
+    ensures err { OnErr result (store.new ≡ store.old) }
+{
+    let res = match store.add_resource(entry.serial, entry.domain, &entry.key) {
+        Ok(res) => res,
+        Err(refused) => return Err(refused),
+    };
+    match enter_at(store, entry, res) {
+        Ok(()) => Ok(res),
+        Err(refused) => {
+            store.remove_resource(res);
+            Err(refused)
+        }
+    }
+}
+
+/// Takes a new lock in on the resource of its key, which is made if it is not there: granted at once, or at the
+/// end of the waiting queue. Where memory is refused, nothing is changed.
+pub fn enter(store: &mut Store, entry: &Entry) -> Result<ResAt, AllocError>
+    requires rest { IsAtRest store.old }
+    requires new { IsNewLock entry.now.row.lkid store.old }
+    requires owner { IsProcess entry.now.owner entry.now.row.pid store.old }
+    requires root { entry.now.row.parent ≡ 0 }
+    requires found { FindsResource store.old entry.now.key entry.now.res }
+    requires keyed { IsKeyed entry.now.domain entry.now.key }
+    ensures entered { OnOk result ((asked : Request)
+        → entry.now.at_once ≡ is_at_once asked (resource_for entry.now (plain_resources store.old))
+        → plain_resources store.new
+        ≡ resources_after_entry entry.now.serial entry.now.domain entry.now.key entry.now.row asked (plain_resources store.old)) }
+    ensures processes { OnOk result (plain_processes store.new ≡ plain_processes store.old) }
+    ensures owner { OnOk result (IsProcess entry.now.owner entry.now.row.pid store.new) }
+    ensures value_block { IfOk result (λ res. IfSome (resource_at res store.new.resources) (λ r. r.value_block
+        ≡ (resource_for entry.now (plain_resources store.old)).value_block)) }
+    ensures others { IfOk result (λ res. OthersStay res store.old store.new) }
+    ensures there { IfOk result (λ res. HasResource res store.new) }
+    ensures rest { OnOk result (IsAtRest store.new) }
+    ensures err { OnErr result (store.new ≡ store.old) }
+{
+    let Some(res) = entry.res else {
+        return enter_new(store, entry);
+    };
+    match enter_at(store, entry, res) {
+        Ok(()) => Ok(res),
+        Err(refused) => Err(refused),
+    }
+}
