@@ -64,10 +64,10 @@ impl Machine {
 
     /// ACCVIO where the caller has no status block of the number.
     #[tactic(auto, unfolding(vlm_words::specs::Checks::status_block_refusal))]
-    pub(crate) fn check_status_block(&self, caller: Caller, block: u8) -> Result<(), Cond>
-        requires { IsCaller caller self.now.records }
+    pub(crate) fn check_status_block(&self, caller: &Caller, block: u8) -> Result<(), Cond>
+        requires { IsCaller caller.now self.now.records }
         ensures { result_err result
-            ≡ status_block_refusal (plain_state self.now) caller.pid block }
+            ≡ status_block_refusal (plain_state self.now) caller.now.pid block }
     {
         if has_status_block(&self.store, caller.at, block) {
             Ok(())
@@ -79,11 +79,11 @@ impl Machine {
     /// The identification that is named: its own, or what stands in a status block of the caller.
     /// ACCVIO where the caller has no such block.
     #[tactic(auto, unfolding(vlm_words::specs::Checks::which_refusal, vlm_words::specs::Checks::status_block_refusal, vlm_words::specs::StatusBlocks::status_block_at))]
-    pub(crate) fn named(&self, caller: Caller, lock: Which) -> Result<u32, Cond>
-        requires { IsCaller caller self.now.records }
-        ensures refusal { result_err result ≡ which_refusal (plain_state self.now) caller.pid lock }
+    pub(crate) fn named(&self, caller: &Caller, lock: Which) -> Result<u32, Cond>
+        requires { IsCaller caller.now self.now.records }
+        ensures refusal { result_err result ≡ which_refusal (plain_state self.now) caller.now.pid lock }
         ensures lkid { IfOk result
-            (λ lkid. lkid ≡ named_lkid (plain_state self.now) caller.pid lock) }
+            (λ lkid. lkid ≡ named_lkid (plain_state self.now) caller.now.pid lock) }
     {
         match lock {
             Which::Id(lkid) => Ok(lkid),
@@ -96,10 +96,10 @@ impl Machine {
 
     /// The lock of the caller with this identification, where it stands. IVLOCKID where it has none.
     #[tactic(auto, unfolding(vlm_words::specs::Checks::lock_refusal))]
-    pub(crate) fn own_lock(&self, caller: Caller, lkid: u32) -> Result<Standing, Cond>
-        ensures refusal { result_err result ≡ lock_refusal (plain_state self.now) caller.pid lkid }
+    pub(crate) fn own_lock(&self, caller: &Caller, lkid: u32) -> Result<Standing, Cond>
+        ensures refusal { result_err result ≡ lock_refusal (plain_state self.now) caller.now.pid lkid }
         ensures standing { IfOk result
-            (λ standing. IsStandingOf caller.pid lkid standing self.now.records) }
+            (λ standing. IsStandingOf caller.now.pid lkid standing self.now.records) }
     {
         match find_lock(&self.store, caller.pid, lkid) {
             Some(standing) => Ok(standing),

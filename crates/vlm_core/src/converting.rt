@@ -22,7 +22,6 @@ use vlm_words::conditions::Cond;
 use vlm_words::flags::EnqFlags;
 use vlm_words::locks::{Request, Row};
 use vlm_words::modes::{Mode, quecvt_legal};
-use vlm_words::resources::Queue;
 use vlm_words::steps::{Answer, Conversion, Step};
 
 /// A conversion that no check refuses.
@@ -43,11 +42,12 @@ impl Machine {
     {
         match self.convert_refusal(&conversion) {
             Ok(admitted) => {
+                let standing = admitted.standing;
                 self.convert_change(&conversion, &admitted);
-                self.sweep(admitted.standing.res);
+                self.sweep(standing.res);
                 Answer::Lock(
                     acceptance(admitted.asked.flags, admitted.at_once),
-                    admitted.standing.row.lkid,
+                    standing.row.lkid,
                 )
             }
             Err(refusal) => Answer::Plain(refusal),
@@ -63,40 +63,40 @@ impl Machine {
     {
         let caller = self.caller(conversion.pid)?;
         let flags = checked_flags(conversion)?;
-        self.check_status_block(caller, conversion.block)?;
-        let lkid = self.named(caller, conversion.lock)?;
-        let standing = self.own_lock(caller, lkid)?;
-        self.admission_refusal(caller, flags, standing, conversion)
+        self.check_status_block(&caller, conversion.block)?;
+        let lkid = self.named(&caller, conversion.lock)?;
+        let standing = self.own_lock(&caller, lkid)?;
+        self.admission_refusal(&caller, flags, &standing, conversion)
     }
 
     // The lock is granted, or CVTUNGRANT; and then the checks of the conversion there, in their order.
     fn admission_refusal(
         &self,
-        caller: Caller,
+        caller: &Caller,
         flags: EnqFlags,
-        standing: Standing,
+        standing: &Standing,
         conversion: &Conversion,
     ) -> Result<AdmittedConversion, Cond>
-        requires caller { IsCaller caller self.now.records }
-        requires pid { caller.pid ≡ conversion.now.pid }
+        requires caller { IsCaller caller.now self.now.records }
+        requires pid { caller.now.pid ≡ conversion.now.pid }
         requires flags { flag_bits flags ≡ conversion.now.flags }
-        requires standing { IsStandingOf conversion.now.pid (convert_lkid (plain_state self.now) conversion.now) standing self.now.records }
+        requires standing { IsStandingOf conversion.now.pid (convert_lkid (plain_state self.now) conversion.now) standing.now self.now.records }
         ensures refusal { let admission = convert_admission (plain_state self.now) conversion.now
             in result_err result ≡ admission_refusal (plain_state self.now) conversion.now admission }
         ensures admitted { IfOk result (λ a. IsAdmittedConversion self.now conversion.now a) }
     {
         self.store.known();
-        let Queue::Granted = standing.queue else {
+        if !standing.is_granted() {
             return Err(Cond::Cvtungrant);
-        };
+        }
         check_pair(conversion, flags, &standing.row)?;
         self.check_request_numbers()?;
         let asked = request_of(self.last_request + 1, flags, conversion);
-        let at_once = converts_at_once(&self.store, &standing, &asked);
+        let at_once = converts_at_once(&self.store, standing, &asked);
         check_queue(flags, at_once)?;
         Ok(AdmittedConversion {
-            caller,
-            standing,
+            caller: *caller,
+            standing: *standing,
             asked,
             at_once,
         })

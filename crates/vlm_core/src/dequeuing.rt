@@ -2,12 +2,11 @@
 
 ghost use Rattle.std.specs.Prelude.{◌≡◌, IfOk};
 ghost use Rattle.std.specs.Result.{result_err};
-ghost use Rattle.vlm_words.specs.Dequeue.{cancel_refusal, deq_change, deq_flags_refusal, deq_refusal, dequeue_lkid, withdrawal_of};
+ghost use Rattle.vlm_words.specs.Dequeue.{cancel_refusal, deq_change, deq_flags_refusal, deq_refusal, withdrawal_of};
 ghost use Rattle.vlm_words.specs.Flags.{cancel, deq_flag_bits, has_flag, invvalblk};
 ghost use Rattle.vlm_words.specs.Stepped.{Outcome};
 ghost use Rattle.vlm_store.specs.Records.{HasResource};
 ghost use Rattle.vlm_locks.specs.Rest.{OthersStay};
-ghost use Rattle.vlm_locks.specs.Standing.{IsStandingOf};
 ghost use Rattle.vlm_core.specs.Admissions.{IsAdmittedDequeue};
 ghost use Rattle.vlm_core.specs.Between.{IsBetweenSteps};
 ghost use Rattle.vlm_core.specs.Machine.{plain_state};
@@ -17,7 +16,6 @@ use crate::records::Machine;
 use vlm_locks::{Standing, Withdrawal, withdraw};
 use vlm_words::conditions::Cond;
 use vlm_words::flags::DeqFlags;
-use vlm_words::resources::Queue;
 use vlm_words::steps::{Answer, Dequeue, Step};
 
 /// A dequeue that no check refuses.
@@ -63,30 +61,25 @@ impl Machine {
     {
         let caller = self.caller(dequeue.pid)?;
         let flags = checked_flags(dequeue)?;
-        let lkid = self.named(caller, dequeue.lock)?;
+        let lkid = self.named(&caller, dequeue.lock)?;
         let withdrawal = withdrawal_of(lkid, flags, dequeue);
-        let standing = self.own_lock(caller, lkid)?;
-        self.check_cancel(dequeue, &standing, &withdrawal)?;
-        Ok(AdmittedDequeue {
+        let standing = self.own_lock(&caller, lkid)?;
+        let admitted = AdmittedDequeue {
             standing,
             withdrawal,
-        })
+        };
+        self.check_cancel(dequeue, &admitted)?;
+        Ok(admitted)
     }
 
     // CANCELGRANT where a granted lock is to be cancelled.
     #[tactic(auto, unfolding(vlm_words::specs::Dequeue::cancel_refusal))]
-    fn check_cancel(
-        &self,
-        dequeue: &Dequeue,
-        standing: &Standing,
-        withdrawal: &Withdrawal,
-    ) -> Result<(), Cond>
-        requires standing { IsStandingOf dequeue.now.pid (dequeue_lkid (plain_state self.now) dequeue.now) standing.now self.now.records }
-        requires withdrawal { withdrawal.now ≡ withdrawal_of (plain_state self.now) dequeue.now }
+    fn check_cancel(&self, dequeue: &Dequeue, admitted: &AdmittedDequeue) -> Result<(), Cond>
+        requires { IsAdmittedDequeue self.now dequeue.now admitted.now }
         ensures { result_err result ≡ cancel_refusal (plain_state self.now) dequeue.now }
     {
         self.store.known();
-        if withdrawal.cancels && matches!(standing.queue, Queue::Granted) {
+        if admitted.withdrawal.cancels && admitted.standing.is_granted() {
             Err(Cond::Cancelgrant)
         } else {
             Ok(())

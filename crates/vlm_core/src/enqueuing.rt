@@ -1,6 +1,6 @@
 //! The step that asks for a new lock.
 
-ghost use Rattle.std.specs.Prelude.{◌≡◌, ◌<◌, ◌^◌, false, [], if◌then◌else◌, IfOk, IfSome, OnErr, OnOk};
+ghost use Rattle.std.specs.Prelude.{◌≡◌, ◌<◌, ◌^◌, true, false, [], if◌then◌else◌, IfOk, IfSome, OnErr, OnOk};
 ghost use Rattle.std.specs.Result.{result_err};
 ghost use Rattle.vlm_words.specs.Effects.{blocks_after, blocks_with};
 ghost use Rattle.vlm_words.specs.Enqueue.{enq_argument_refusal, enq_change, enq_refusal, expedite_refusal, is_no_parent, name_refusal};
@@ -49,17 +49,17 @@ pub(crate) struct AdmittedRequest {
 fn accept_request(
     store: &mut Store,
     res: ResAt,
-    caller: Caller,
+    caller: &Caller,
     row: &Row,
     block: u8,
     at_once: bool,
 )
-    requires caller { IsCaller caller store.old }
-    requires pid { caller.pid ≡ row.now.pid }
+    requires caller { IsCaller caller.now store.old }
+    requires pid { caller.now.pid ≡ row.now.pid }
     requires there { HasResource res store.old }
     ensures statuses { IfSome (resource_at res store.old.resources) (λ r. plain_processes store.new
         ≡ (blocks_after (if at_once then grant_endings true row.now else [])
-        (blocks_with r.value_block (processes_after_acceptance caller.pid block row.now.lkid (plain_processes store.old)))).processes) }
+        (blocks_with r.value_block (processes_after_acceptance caller.now.pid block row.now.lkid (plain_processes store.old)))).processes) }
     ensures rest { SameButBlocks store.old store.new }
 {
     accept(store, caller.at, block, row.lkid);
@@ -99,11 +99,11 @@ impl Machine {
     {
         let caller = self.caller(request.pid)?;
         let flags = checked_flags(request)?;
-        self.check_status_block(caller, request.block)?;
+        self.check_status_block(&caller, request.block)?;
         let name = checked_name(&request.name)?;
         check_expedite(request.mode, flags)?;
         self.check_numbers()?;
-        let admitted = self.admitted(caller, flags, name, request);
+        let admitted = self.admitted(&caller, flags, name, request);
         check_queue(flags, admitted.at_once)?;
         Ok(admitted)
     }
@@ -111,13 +111,13 @@ impl Machine {
     // What the request asks for, and whether it is granted at once.
     fn admitted(
         &self,
-        caller: Caller,
+        caller: &Caller,
         flags: EnqFlags,
         name: Name,
         request: &NewRequest,
     ) -> AdmittedRequest
-        requires caller { IsCaller caller self.now.records }
-        requires pid { caller.pid ≡ request.now.pid }
+        requires caller { IsCaller caller.now self.now.records }
+        requires pid { caller.now.pid ≡ request.now.pid }
         requires flags { flag_bits flags ≡ request.now.flags }
         requires name { name ≡ request.now.name }
         requires lkid { self.now.next_lkid < 2 ^ 32 }
@@ -134,7 +134,7 @@ impl Machine {
             None => true,
         };
         AdmittedRequest {
-            caller,
+            caller: *caller,
             domain,
             key,
             res,
@@ -175,11 +175,10 @@ impl Machine {
             Ok(res) => res,
             Err(AllocError) => return Err(AllocError),
         };
-        let caller = admitted.caller;
         accept_request(
             &mut self.store,
             res,
-            caller,
+            &admitted.caller,
             &row,
             request.block,
             admitted.at_once,

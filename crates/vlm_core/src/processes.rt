@@ -32,10 +32,10 @@ pub(crate) fn living(store: &Store, pid: u32) -> Option<Caller>
 }
 
 /// The UIC group of the caller.
-pub(crate) fn group_of(store: &Store, caller: Caller) -> u16
-    requires { IsCaller caller store.now }
+pub(crate) fn group_of(store: &Store, caller: &Caller) -> u16
+    requires { IsCaller caller.now store.now }
     ensures { result
-        ≡ option_map_or (λ p. p.group) (process_of (plain_processes store.now) caller.pid) 0 }
+        ≡ option_map_or (λ p. p.group) (process_of (plain_processes store.now) caller.now.pid) 0 }
 {
     store.known();
     store.group(caller.at)

@@ -23,7 +23,7 @@ impl Machine {
     {
         match self.set_refusal(&setting) {
             Ok(caller) => {
-                self.set_change(caller, &setting);
+                self.set_change(&caller, &setting);
                 Answer::Plain(Cond::Normal)
             }
             Err(refusal) => Answer::Plain(refusal),
@@ -38,15 +38,15 @@ impl Machine {
         ensures pid { IfOk result (λ caller. caller.pid ≡ setting.now.pid) }
     {
         let caller = self.caller(setting.pid)?;
-        self.check_status_block(caller, setting.block)?;
+        self.check_status_block(&caller, setting.block)?;
         Ok(caller)
     }
 
     // The value part is written.
     #[tactic(auto, unfolding(vlm_words::specs::SetValue::set_change))]
-    fn set_change(&mut self, caller: Caller, setting: &ValueSetting)
-        requires caller { IsCaller caller self.old.records }
-        requires pid { caller.pid ≡ setting.now.pid }
+    fn set_change(&mut self, caller: &Caller, setting: &ValueSetting)
+        requires caller { IsCaller caller.now self.old.records }
+        requires pid { caller.now.pid ≡ setting.now.pid }
         ensures { plain_state self.new ≡ set_change (plain_state self.old) setting.now }
     {
         set_value(&mut self.store, caller.at, setting.block, setting.value);

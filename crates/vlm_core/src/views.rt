@@ -52,12 +52,13 @@ pub(crate) fn resource_view(store: &Store, res: ResAt) -> ResourceView
         Key::Below(parent, name) => (parent, name),
     };
     let block = store.value_block(res);
+    let value = block.value;
     ResourceView {
         serial: store.serial(res),
         parent,
         domain: store.domain(res),
         name,
-        value: block.value,
+        value,
         valid: block.valid,
     }
 }

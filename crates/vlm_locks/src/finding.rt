@@ -1,6 +1,8 @@
 //! Where a lock stands.
 
-ghost use Rattle.std.specs.Prelude.{◌≡◌, IfSome, is_some};
+ghost use Rattle.std.specs.Prelude.{◌≡◌, ◌≢◌, IfSome, is_some};
+ghost use Rattle.std.specs.Bool.{OnFalse, OnTrue};
+ghost use Rattle.vlm_words.specs.declared.resources.Queue.{Queue};
 ghost use Rattle.std.specs.List.{list_any};
 ghost use Rattle.vlm_words.specs.Checks.{holds_lock};
 ghost use Rattle.vlm_service.specs.Plain.{plain_resources};
@@ -22,6 +24,16 @@ pub struct Standing {
     pub res: ResAt,
     /// The queue in which it stands there.
     pub queue: Queue,
+}
+
+impl Standing {
+    /// Whether the lock is granted: it stands in the granted queue.
+    pub fn is_granted(&self) -> bool
+        ensures granted { OnTrue result (self.now.queue ≡ Queue.Granted) }
+        ensures queued { OnFalse result (self.now.queue ≢ Queue.Granted) }
+    {
+        matches!(self.queue, Queue::Granted)
+    }
 }
 
 /// Where the lock of this identification stands, if it is one of the process. None where it is not, or
