@@ -55,6 +55,17 @@ impl Machine {
         }
     }
 
+    // The identification that the next process of the node gets.
+    fn next_pid(&self, node: u8) -> u32
+        requires first { 1 ≤ node }
+        requires last { node ≤ 8 }
+        requires ordinal { (node_at self.now.nodes node).declared < 65535 }
+        ensures { result ≡ next_pid (plain_state self.now) node }
+    {
+        let ordinal = self.nodes[usize::from(node) - 1].declared() + 1;
+        u32::from(node) * 65_536 + u32::from(ordinal)
+    }
+
     // The process lives, under the next ordinal of its node.
     #[tactic(auto, unfolding(vlm_words::specs::Declare::declare_change))]
     fn declare_change(&mut self, declaration: &Declaration) -> Result<u32, AllocError>
@@ -68,9 +79,9 @@ impl Machine {
             (plain_state self.new ≡ declare_change (plain_state self.old) declaration.now) }
         ensures err { OnErr result (self.new ≡ self.old) }
     {
+        let pid = self.next_pid(declaration.node);
         let place = usize::from(declaration.node) - 1;
         let node = self.nodes[place].counted();
-        let pid = u32::from(declaration.node) * 65_536 + u32::from(node.declared());
         match self.store.add_process(pid, declaration) {
             Ok(_) => {
                 self.nodes[place] = node;

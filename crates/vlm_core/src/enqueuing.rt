@@ -1,15 +1,18 @@
 //! The step that asks for a new lock.
 
-ghost use Rattle.std.specs.Prelude.{◌≡◌, ◌<◌, ◌^◌, true, false, [], if◌then◌else◌, IfOk, IfSome, OnErr, OnOk};
+ghost use Rattle.std.specs.Prelude.{◌≡◌, ◌<◌, ◌^◌, ◌+◌, ℕ, true, false, is_some, find, unwrap_or, [], if◌then◌else◌, IfOk, IfSome, OnErr, OnOk};
 ghost use Rattle.std.specs.Result.{result_err};
+ghost use Rattle.vlm_words.specs.declared.resources.Domain.{Domain};
 ghost use Rattle.vlm_words.specs.Effects.{blocks_after, blocks_with};
-ghost use Rattle.vlm_words.specs.Enqueue.{enq_argument_refusal, enq_change, enq_refusal, expedite_refusal, is_no_parent, name_refusal};
+ghost use Rattle.vlm_words.specs.Enqueue.{enq_argument_refusal, enq_change, enq_refusal, expedite_refusal, is_at_once, is_no_parent, name_refusal};
+ghost use Rattle.vlm_words.specs.Resources.{is_at, new_resource};
 ghost use Rattle.vlm_words.specs.Flags.{flag_bits};
 ghost use Rattle.vlm_words.specs.Grants.{grant_endings};
 ghost use Rattle.vlm_words.specs.StatusBlocks.{processes_after_acceptance};
 ghost use Rattle.vlm_words.specs.Stepped.{Outcome};
-ghost use Rattle.vlm_store.specs.Records.{HasResource, SameButBlocks, plain_processes, resource_at};
-ghost use Rattle.vlm_locks.specs.Rest.{OthersStay};
+ghost use Rattle.vlm_store.specs.Records.{FindsResource, HasResource, SameButBlocks, plain_processes, resource_at};
+ghost use Rattle.vlm_service.specs.Plain.{plain_resources};
+ghost use Rattle.vlm_locks.specs.Rest.{IsAtRest, IsKeyed, OthersStay};
 ghost use Rattle.vlm_core.specs.Admissions.{IsAdmitted, IsCaller};
 ghost use Rattle.vlm_core.specs.Between.{IsBetweenSteps};
 ghost use Rattle.vlm_core.specs.Machine.{plain_state};
@@ -44,6 +47,33 @@ pub(crate) struct AdmittedRequest {
     at_once: bool,
 }
 
+// Where the resource under a key is, if it is there, and whether a request is granted at once on it, or on a new
+// one.
+#[derive(Clone, Copy)]
+pub(crate) struct Found {
+    res: Option<ResAt>,
+    at_once: bool,
+}
+
+fn entrance(store: &Store, key: &Key, asked: &Request) -> Found
+    requires { IsAtRest store.now }
+    ensures found { FindsResource store.now key.now result.res }
+    ensures at_once { (serial : ℕ) (domain : Domain) → IsKeyed domain key.now → result.at_once ≡ is_at_once asked.now
+        (unwrap_or (find (is_at key.now) (plain_resources store.now)) (new_resource serial domain key.now)) }
+{
+    store.known();
+    match store.resource(key) {
+        Some(res) => Found {
+            res: Some(res),
+            at_once: enters_at_once(store, res, asked),
+        },
+        None => Found {
+            res: None,
+            at_once: true,
+        },
+    }
+}
+
 // A request is accepted: its status block is that of a pending request, and is written again if the request
 // is granted at once. A new request returns the value block and never writes it.
 fn accept_request(
@@ -66,6 +96,17 @@ fn accept_request(
     if at_once {
         let mut value_block = store.value_block(res);
         end_by_grant(&mut value_block, store, caller.at, row);
+    }
+}
+
+// The serial that was given last, once a resource is made where none is there.
+fn last_given(last_serial: u32, res: Option<ResAt>) -> u32
+    requires { last_serial + 1 < 2 ^ 32 }
+    ensures { result ≡ (if is_some res then last_serial else last_serial + 1) }
+{
+    match res {
+        Some(_) => last_serial,
+        None => last_serial + 1,
     }
 }
 
@@ -124,22 +165,17 @@ impl Machine {
         requires number { self.now.next_request < 2 ^ 64 }
         ensures { IsAdmitted self.now request.now result }
     {
-        self.store.known();
         let domain = Domain::Group(group_of(&self.store, caller));
         let key = Key::Root(domain, name);
         let asked = request_of(self.last_request + 1, flags, request);
-        let res = self.store.resource(&key);
-        let at_once = match res {
-            Some(res) => enters_at_once(&self.store, res, &asked),
-            None => true,
-        };
+        let entrance = entrance(&self.store, &key, &asked);
         AdmittedRequest {
             caller: *caller,
             domain,
             key,
-            res,
+            res: entrance.res,
             asked,
-            at_once,
+            at_once: entrance.at_once,
         }
     }
 
@@ -161,6 +197,7 @@ impl Machine {
         self.store.known();
         let lkid = self.last_lkid + 1;
         let serial = self.last_serial + 1;
+        let last_serial = last_given(self.last_serial, admitted.res);
         let row = row_of(lkid, request.pid, admitted.asked);
         let entry = Entry {
             row,
@@ -185,9 +222,7 @@ impl Machine {
         );
         self.last_lkid = lkid;
         self.last_request += 1;
-        if admitted.res.is_none() {
-            self.last_serial = serial;
-        }
+        self.last_serial = last_serial;
         Ok(res)
     }
 }

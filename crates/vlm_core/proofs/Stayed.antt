@@ -1,0 +1,56 @@
+-- What stays where only processes change.
+use Rattle.std.proofs.Common.{◌≡◌, ◌⊎◌, ℕ, List, [], ◌∷◌, ◌++◌, map, refl, sym, ap, ◌∙◌, subst, inl, inr}
+use Rattle.vlm_words.specs.declared.steps.Declaration.{Declaration}
+use Rattle.vlm_store.specs.Records.{IsOwnAmong, IsProcess, IsProcessAmong, OwnLock, Records, SameButBlocks, StoredProcess, but_blocks, new_stored_process}
+use Rattle.vlm_locks.specs.Rest.{IsAtRest}
+use Rattle.vlm_service.proofs.Found.{process_there}
+use Rattle.vlm_core.specs.declared.processes.Caller.{Caller}
+use Rattle.vlm_core.specs.Admissions.{IsCaller}
+
+-- the first of a list, and what is behind it
+abbrev first_or : {A : Type 0} → A → List A → A
+first_or default [] = default
+first_or default (x ∷ xs) = x
+
+abbrev rest_of : {A : Type 0} → List A → List A
+rest_of [] = []
+rest_of (x ∷ xs) = xs
+
+-- a process of the old list is in the new one, but for its status blocks
+process_kept : (old new : List StoredProcess) → map but_blocks new ≡ map but_blocks old → (p : StoredProcess) → IsProcessAmong p old
+    → (q : StoredProcess) × (IsProcessAmong q new × (but_blocks q ≡ but_blocks p))
+process_kept [] new same p among = absurd among
+process_kept (x ∷ old) [] same p among = cc
+process_kept (x ∷ old) (y ∷ new) same p among =
+    elim among [
+      | inl here ↦ (y, (inl refl, ap (first_or (but_blocks x)) same ∙ ap (λ (z : StoredProcess). but_blocks z) here))
+      | inr there ↦ let later = process_kept old new (ap rest_of same) p there in (later.0, (inr later.1.0, later.1.1))
+    ]
+
+-- a living process lives on where status blocks are written
+pub process_still : (s t : Records) (at pid : ℕ) → SameButBlocks s t → IsProcess at pid s → IsProcess at pid t
+process_still s t at pid same is =
+    let kept = process_kept s.processes t.processes same.processes is.0 is.1.0 in
+    (kept.0, (kept.1.0, ap (λ (p : StoredProcess). p.at) kept.1.1 ∙ is.1.1, ap (λ (p : StoredProcess). p.process.pid) kept.1.1 ∙ is.1.2))
+
+-- a process under its key and its identification makes steps
+pub caller_of : (caller : Caller) (s : Records) → IsProcess caller.at caller.pid s → IsCaller caller s
+caller_of caller s is = record { lives = is; there = process_there s caller.at caller.pid is }
+
+-- a new process has no locks
+among_more : (ps : List StoredProcess) (made p : StoredProcess) → IsProcessAmong p (ps ++ made ∷ []) → IsProcessAmong p ps ⊎ (made ≡ p)
+among_more [] made p among = elim among [ inl here ↦ inr here | inr there ↦ absurd there ]
+among_more (x ∷ ps) made p among =
+    elim among [ inl here ↦ inl (inl here) | inr there ↦ elim (among_more ps made p there) [ inl was ↦ inl (inr was) | inr new ↦ inr new ] ]
+
+pub rests_declared : (s t : Records) (at pid : ℕ) (d : Declaration) → t ≡ record s { processes = s.processes ++ new_stored_process at pid d ∷ [] } → IsAtRest s → IsAtRest t
+rests_declared s t at pid d is rest =
+    subst IsAtRest (sym is) (record {
+      none_loose = rest.none_loose;
+      keyed = rest.keyed;
+      childless = λ p own among here.
+          elim (among_more s.processes (new_stored_process at pid d) p among) [
+            | inl was ↦ rest.childless p own was here
+            | inr new ↦ absurd (subst (λ (q : StoredProcess). IsOwnAmong own q.own) (sym new) here)
+          ];
+    })

@@ -1,0 +1,90 @@
+-- An identification that is to come is that of no lock, and of no process.
+use Rattle.std.proofs.Common.{◌≡◌, ◌≢◌, ◌≤◌, ◌+◌, ◌*◌, ℕ, Bool, true, List, [], ◌∷◌, map, cond, Option, None, Some, refl, sym, ap, ◌∙◌, subst, inl, inr, arith, eq-eqb}
+use Rattle.std.specs.Prelude.{◌==◌}
+use Rattle.std.specs.List.{All, sum_by}
+use Rattle.std.specs.Option.{option_map_or}
+use Rattle.std.proofs.lemmas.List.Elements.{All-head, All-tail}
+use Rattle.std.proofs.lemmas.List.Sums.{sum_by-cons}
+use Rattle.vlm_words.specs.declared.locks.Row.{Row}
+use Rattle.vlm_words.specs.declared.resources.Queue.{Queue}
+use Rattle.vlm_words.specs.declared.resources.Queue.TheVariants.{Granted, Conversion, Waiting}
+use Rattle.vlm_words.specs.declared.steps.Declaration.{Declaration}
+use Rattle.vlm_words.specs.declared.steps.Step.TheVariants.{Declare}
+use Rattle.vlm_words.specs.Declare.{declare_refusal, next_pid}
+use Rattle.vlm_words.specs.Laws.{DeclarationsGiveNewIdentifications, rows_on}
+use Rattle.vlm_words.specs.State.{Process, Resource}
+use Rattle.vlm_words.specs.Stepped.{refused_or, step_change}
+use Rattle.vlm_store.specs.declared.keys.Place.{Place}
+use Rattle.vlm_store.specs.declared.keys.Place.TheVariants.{Loose, Queued}
+use Rattle.vlm_store.specs.Records.{IsAmong, IsNewLock, IsNewProcess, IsProcessAmong, IsResourceAmong, Records, StoredLock, StoredProcess, StoredResource, locks_at, queued, resource_at, rows_of}
+use Rattle.vlm_service.specs.Plain.{plain_resource, plain_resources}
+use Rattle.vlm_locks.proofs.Stood.{resource_among}
+use Rattle.vlm_core.specs.Machine.{Kept, plain_state}
+
+-- ---- locks
+
+-- 1 for a row of this lock
+abbrev one_for : ℕ → Row → ℕ
+one_for lkid row = cond (row.lkid == lkid) 1 0
+
+-- a lock in a queue is counted there
+counted : (lkid : ℕ) (locks : List StoredLock) (k : StoredLock) → IsAmong k locks → k.row.lkid ≡ lkid → 1 ≤ sum_by (one_for lkid) (rows_of locks)
+counted lkid [] k among same = absurd among
+counted lkid (x ∷ rest) k among same =
+    elim among [
+      | inl here ↦
+          let one : one_for lkid x.row ≡ 1 = ap (λ b. cond b 1 0) (eq-eqb x.row.lkid lkid (ap (λ (y : StoredLock). y.row.lkid) here ∙ same)) in
+          omega (arith, one, sum_by-cons (one_for lkid) x.row (rows_of rest))
+      | inr there ↦ omega (arith, counted lkid rest k there same, sum_by-cons (one_for lkid) x.row (rows_of rest))
+    ]
+
+-- and on its resource
+counted_on : (lkid : ℕ) (r : StoredResource) (queue : Queue) (k : StoredLock) → IsAmong k (queued queue r) → k.row.lkid ≡ lkid → 1 ≤ rows_on lkid (plain_resource r)
+counted_on lkid r Granted k among same = omega (arith, counted lkid r.granted k among same)
+counted_on lkid r Conversion k among same = omega (arith, counted lkid r.converting k among same)
+counted_on lkid r Waiting k among same = omega (arith, counted lkid r.waiting k among same)
+
+-- and of all
+counted_all : (lkid : ℕ) (rs : List StoredResource) (r : StoredResource) → IsResourceAmong r rs → rows_on lkid (plain_resource r) ≤ sum_by (rows_on lkid) (map plain_resource rs)
+counted_all lkid [] r among = absurd among
+counted_all lkid (x ∷ rest) r among =
+    elim among [
+      | inl here ↦
+          let same : rows_on lkid (plain_resource x) ≡ rows_on lkid (plain_resource r) = ap (λ (y : StoredResource). rows_on lkid (plain_resource y)) here in
+          omega (arith, same, sum_by-cons (rows_on lkid) (plain_resource x) (map plain_resource rest))
+      | inr there ↦ omega (arith, counted_all lkid rest r there, sum_by-cons (rows_on lkid) (plain_resource x) (map plain_resource rest))
+    ]
+
+-- where no row is counted the identification is new
+pub new_lock : (s : Records) (lkid : ℕ) → s.loose ≡ [] → sum_by (rows_on lkid) (plain_resources s) ≡ 0 → IsNewLock lkid s
+new_lock s lkid none_loose none at row stored same = by_place stored.0 stored.1
+  where
+    by_place : (place : Place) → IsAmong (record { at = at; row = row }) (locks_at place s) → ⊥
+    by_place Loose among = subst (IsAmong (record { at = at; row = row })) none_loose among
+    by_place (Queued res queue) among = of_found (resource_at res s.resources) refl among
+      where
+        of_found : (found : Option StoredResource) → resource_at res s.resources ≡ found → IsAmong (record { at = at; row = row }) (option_map_or (queued queue) found []) → ⊥
+        of_found None is here = here
+        of_found (Some r) is here =
+            let one : 1 ≤ rows_on lkid (plain_resource r) = counted_on lkid r queue (record { at = at; row = row }) here same in
+            let all : rows_on lkid (plain_resource r) ≤ sum_by (rows_on lkid) (plain_resources s) = counted_all lkid s.resources r (resource_among res s.resources r is) in
+            absurd (omega (arith, one, all, none))
+
+-- ---- processes
+
+-- what each process has, a stored one has
+each_stored : (P : Process → Type 0) (ps : List StoredProcess) → All P (map (λ (p : StoredProcess). p.process) ps) → (p : StoredProcess) → IsProcessAmong p ps → P p.process
+each_stored P [] all p among = absurd among
+each_stored P (x ∷ rest) all p among =
+    elim among [
+      | inl here ↦ subst (λ (y : StoredProcess). P y.process) here (All-head P x.process (map (λ (p : StoredProcess). p.process) rest) all)
+      | inr there ↦ each_stored P rest (All-tail P x.process (map (λ (p : StoredProcess). p.process) rest) all) p there
+    ]
+
+-- where a declaration is not refused, no process has the identification that it gives
+pub new_process : (m : Kept) (d : Declaration) → None ≡ declare_refusal (plain_state m) d → DeclarationsGiveNewIdentifications (plain_state m)
+    → IsNewProcess (next_pid (plain_state m) d.node) m.records
+new_process m d passed new p among same =
+    each_stored (λ q. q.pid ≢ next_pid (plain_state m) d.node) m.records.processes
+    (new d (next_pid (plain_state m) d.node) (ap (λ refusal. (refused_or refusal (plain_state m) (step_change (plain_state m) (Declare d))).answer) (sym passed)))
+    p among same

@@ -1,0 +1,14 @@
+use Rattle.std.proofs.Common.{◌∙◌, subst}
+use Rattle.vlm_store.specs.Records.{IsProcessAmong}
+use Rattle.vlm_core.specs.Machine.{Kept}
+use Rattle.vlm_core.proofs.Stayed.{rests_declared}
+use Rattle.vlm_core.proofs.records.Machine.declare_change.Goals as goal
+
+pub add_process-requires : goal.add_process-requires
+add_process-requires c p among same =
+    c.requires.new p (subst (λ (m : Kept). IsProcessAmong p m.records.processes) c.self.view_is among) (same ∙ c.next_pid-pid.ensures)
+
+-- between two steps it is as it was, with one process more
+pub invariant_of-self : goal.invariant_of-self
+invariant_of-self c =
+    record { rest = rests_declared c.self.inside.store c.add_process.new.self c.in-Ok.field-0 c.next_pid-pid.result c.args.declaration.now c.in-Ok.ensures.added c.self.invariant.rest }
