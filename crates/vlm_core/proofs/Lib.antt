@@ -1,4 +1,6 @@
+pub mod Admitting
 pub mod Callers
+pub mod Conversions
 pub mod Entries
 pub mod Made
 pub mod Making

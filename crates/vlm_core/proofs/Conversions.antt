@@ -1,0 +1,79 @@
+-- A conversion and a dequeue on the records are those of the plain machine.
+use Rattle.std.proofs.Common.{◌≡◌, ◌+◌, List, map, flat_map, Some, IfSome, sym, ap, ◌∙◌}
+use Rattle.std.proofs.lemmas.Option.{same_Some}
+use Rattle.vlm_words.specs.declared.resources.ValueBlock.{ValueBlock}
+use Rattle.vlm_words.specs.declared.steps.Conversion.{Conversion}
+use Rattle.vlm_words.specs.declared.steps.Dequeue.{Dequeue}
+use Rattle.vlm_words.specs.Convert.{ConversionAdmission, conversion_blocks, convert_admission, convert_blocks, convert_change, convert_lkid, resource_after_conversion}
+use Rattle.vlm_words.specs.Dequeue.{Withdrawal, deq_change, processes_after, resource_after_withdrawal, withdrawal_endings, withdrawal_of}
+use Rattle.vlm_words.specs.Effects.{Blocks}
+use Rattle.vlm_words.specs.State.{Process, Resource, State}
+use Rattle.vlm_words.specs.StatusBlocks.{processes_after_acceptance}
+use Rattle.vlm_store.specs.Records.{Records, SameButBlocks, StoredResource, plain_processes, resource_at}
+use Rattle.vlm_service.specs.Plain.{plain_resource, plain_resources}
+use Rattle.vlm_locks.specs.Converting.{IsConverted, admission_on}
+use Rattle.vlm_core.specs.declared.converting.AdmittedConversion.{AdmittedConversion}
+use Rattle.vlm_core.specs.Admissions.{IsAdmittedConversion}
+use Rattle.vlm_core.specs.Machine.{Kept, plain_state}
+
+module _ (old : Kept) (c : Conversion) (a : AdmittedConversion) (admitted : IsAdmittedConversion old c a) where
+  -- the resource of the lock
+  abbrev own : StoredResource
+  own = admitted.standing.standing.resource
+
+  -- the conversion there, as it is admitted
+  abbrev admission : ConversionAdmission
+  admission = admission_on a.standing a.asked own
+
+  -- what the conversion writes, once its status block is accepted
+  blocks_is : (accepted : Records) → plain_processes accepted ≡ processes_after_acceptance c.pid c.block a.standing.row.lkid (plain_processes old.records)
+      → conversion_blocks admission (plain_processes accepted) ≡ convert_blocks (plain_state old) c admission
+  unfolding convert_blocks
+  blocks_is accepted written =
+      ap (conversion_blocks admission) (written ∙ ap (λ lkid. processes_after_acceptance c.pid c.block lkid (plain_processes old.records)) admitted.standing.named)
+
+  -- the resources once the lock is converted
+  resources_are : (accepted new : Records) → SameButBlocks old.records accepted → conversion_blocks admission (plain_processes accepted) ≡ convert_blocks (plain_state old) c admission
+      → IsConverted a.standing a.asked own accepted new
+      → plain_resources new ≡ map (resource_after_conversion a.asked c.pid (convert_lkid (plain_state old) c) (convert_blocks (plain_state old) c admission).value_block) (plain_resources old.records)
+  resources_are accepted new same blocks converted =
+      converted.resources
+      ∙ ap (λ (b : Blocks). map (resource_after_conversion a.asked a.standing.row.pid a.standing.row.lkid b.value_block) (plain_resources accepted)) blocks
+      ∙ ap (λ rs. map (resource_after_conversion a.asked a.standing.row.pid a.standing.row.lkid left) (map plain_resource rs)) same.resources
+      ∙ ap (λ pid. map (resource_after_conversion a.asked pid a.standing.row.lkid left) (plain_resources old.records)) admitted.standing.owned
+      ∙ ap (λ lkid. map (resource_after_conversion a.asked c.pid lkid left) (plain_resources old.records)) admitted.standing.named
+    where
+      left : ValueBlock
+      left = (convert_blocks (plain_state old) c admission).value_block
+
+  -- the state once the status block is accepted, the lock is converted and the request number is used up
+  pub state_converted : (accepted new : Records) → SameButBlocks old.records accepted
+      → plain_processes accepted ≡ processes_after_acceptance c.pid c.block a.standing.row.lkid (plain_processes old.records)
+      → IfSome (resource_at a.standing.res accepted.resources) (λ r. IsConverted a.standing a.asked r accepted new)
+      → (there : ConversionAdmission) → convert_admission (plain_state old) c ≡ Some there
+      → plain_state (record old { records = new; next_request = old.next_request + 1 }) ≡ convert_change (plain_state old) c there
+  unfolding convert_change
+  state_converted accepted new same written converts there found =
+      let converted : IsConverted a.standing a.asked own accepted new = rw (ap (resource_at a.standing.res) same.resources ∙ admitted.standing.standing.found) at converts in
+      let blocks = blocks_is accepted written in
+      ap (λ ps. with_parts ps (plain_resources new)) (converted.statuses ∙ ap (λ (b : Blocks). b.processes) blocks)
+      ∙ ap (λ rs. with_parts (convert_blocks (plain_state old) c admission).processes rs) (resources_are accepted new same blocks converted)
+      ∙ ap (convert_change (plain_state old) c) (same_Some admission there (sym admitted.found ∙ found))
+    where
+      with_parts : List Process → List Resource → State
+      with_parts ps rs = record (plain_state old) { processes = ps; resources = rs; next_request = old.next_request + 1 }
+
+-- the state once the lock is withdrawn
+pub state_withdrawn : (old : Kept) (d : Dequeue) (w : Withdrawal) (new : Records) → w ≡ withdrawal_of (plain_state old) d
+    → plain_resources new ≡ map (resource_after_withdrawal w) (plain_resources old.records)
+    → plain_processes new ≡ processes_after (flat_map (withdrawal_endings w) (plain_resources old.records)) (plain_processes old.records)
+    → plain_state (record old { records = new }) ≡ deq_change (plain_state old) d
+unfolding deq_change
+state_withdrawn old d w new is resources statuses =
+    ap (λ ps. with_parts ps (plain_resources new)) statuses
+    ∙ ap (λ rs. with_parts (processes_after (flat_map (withdrawal_endings w) (plain_resources old.records)) (plain_processes old.records)) rs) resources
+    ∙ ap (λ x. with_parts (processes_after (flat_map (withdrawal_endings x) (plain_resources old.records)) (plain_processes old.records))
+    (map (resource_after_withdrawal x) (plain_resources old.records))) is
+  where
+    with_parts : List Process → List Resource → State
+    with_parts ps rs = record (plain_state old) { processes = ps; resources = rs }
