@@ -1,3 +1,4 @@
 pub mod Callers
 pub mod Making
 pub mod Reaching
+pub mod Walked
