@@ -8,3 +8,4 @@ pub mod Reaching
 pub mod Settling
 pub mod Stayed
 pub mod ToCome
+pub mod Walked

@@ -6,7 +6,8 @@ ghost use Rattle.std.specs.Option.{option_map};
 ghost use Rattle.vlm_words.specs.declared.resources.Queue.{Queue};
 ghost use Rattle.vlm_words.specs.Laws.{HeldModesAreCompatible, NothingIsLeftToGrant};
 ghost use Rattle.vlm_words.specs.StatusBlocks.{status_block_at};
-ghost use Rattle.vlm_store.specs.Records.{HasResource, IsResourceAmong, IsStored, StoredResource, plain_processes, queued, rows_of};
+ghost use Rattle.vlm_store.specs.declared.keys.Place.{Place};
+ghost use Rattle.vlm_store.specs.Records.{HasResource, IsResourceAmong, IsStored, StoredResource, locks_at, plain_processes, queued, rows_of};
 ghost use Rattle.vlm_service.specs.Plain.{plain_resources};
 ghost use Rattle.vlm_core.specs.Views.{GivesInTurn, lock_at_place, resource_at_place, resource_view, row_shown};
 
@@ -39,8 +40,7 @@ fn resource_at(store: &Store, place: usize) -> Option<ResAt>
 // The key of the lock at a place, from 0, of a queue of the resource. It walks to that place.
 fn lock_at(store: &Store, res: ResAt, queue: Queue, place: usize) -> Option<LockAt>
     requires { HasResource res store.now }
-    ensures found { (r : StoredResource) → IsResourceAmong r store.now.resources → r.at ≡ res
-        → result ≡ lock_at_place place (queued queue r) }
+    ensures found { result ≡ lock_at_place place (locks_at (Place.Queued res queue) store.now) }
     ensures there { IfSome result (λ lock. IsStored lock store.now) }
 {
     store.known();
@@ -97,6 +97,7 @@ impl Core {
         ensures { result ≡ option_map resource_view (slice_get self.now.resources place) }
     {
         let store = &self.machine.store;
+        store.known();
         match resource_at(store, place) {
             Some(res) => Some(resource_view(store, res)),
             None => None,
@@ -109,6 +110,7 @@ impl Core {
         ensures { result ≡ row_shown (slice_get self.now.resources resource) queue place }
     {
         let store = &self.machine.store;
+        store.known();
         let res = resource_at(store, resource)?;
         let lock = lock_at(store, res, queue, place)?;
         Some(row_view(&store.row(lock)))

@@ -1,0 +1,163 @@
+-- Walks by place: the resource and the lock at a place, and the rows of a queue in turn.
+use Rattle.std.proofs.Common.{◌≡◌, ℕ, zero, suc, ◌≤◌, List, [], ◌∷◌, ◌++◌, map, Option, None, Some, IfSome, IsSome, slice_get, refl, sym, ap, ◌∙◌, subst, inl, inr, append_assoc, eq-eqb, ne_eqb, arith}
+use Rattle.std.specs.Option.{ForSome, option_map, option_map_or}
+use Rattle.std.proofs.lemmas.Option.{same_Some}
+use Rattle.vlm_words.specs.declared.locks.Row.{Row}
+use Rattle.vlm_words.specs.declared.resources.Queue.{Queue}
+use Rattle.vlm_words.specs.declared.resources.Queue.TheVariants.{Granted, Conversion, Waiting}
+use Rattle.vlm_store.specs.declared.keys.Place.TheVariants.{Queued}
+use Rattle.vlm_store.specs.Records.{AreApart, AreResourcesApart, IsAmong, IsResourceAmong, IsSound, Records, StoredLock, StoredResource, Stores, at_after, first_at, first_resource_at, locks_at, queued, resource_at, resource_at_after, rows_of}
+use Rattle.vlm_store.proofs.Walks.{after-among, lock_among}
+use Rattle.vlm_service.specs.Plain.{plain_resource}
+use Rattle.vlm_service.proofs.Found.{resource_is}
+use Rattle.vlm_core.specs.declared.views.ResourceView.{ResourceView}
+use Rattle.vlm_core.specs.Views.{GivesInTurn, IsGivenFrom, lock_at_place, resource_at_place, resource_view, row_shown, row_view, rows_in}
+
+-- what holds of each key that a walk can have come to holds of the key that it has come to
+pub if_some : (key : Option ℕ) (P : ℕ → Type 0) → ForSome key P → IfSome key P
+if_some None P each = tt
+if_some (Some at) P each = each at refl
+
+-- ---- resources
+
+-- the first resource is that at place 0
+pub first_resource-place : (rs : List StoredResource) → first_resource_at rs ≡ resource_at_place 0 rs
+first_resource-place [] = refl
+first_resource-place (r ∷ rs) = refl
+
+-- the resource at a place is one of these
+resource_place-among : (i : ℕ) (rs : List StoredResource) (res : ℕ) → resource_at_place i rs ≡ Some res → (r : StoredResource) × (IsResourceAmong r rs × (r.at ≡ res))
+resource_place-among i [] res is = cc
+resource_place-among zero (x ∷ rs) res is = (x, (inl refl, same_Some x.at res is))
+resource_place-among (suc i) (x ∷ rs) res is = let behind = resource_place-among i rs res is in (behind.0, (inr behind.1.0, behind.1.1))
+
+-- a resource before the one at a place has another key
+resource_place-differs : (i : ℕ) (x : StoredResource) (rs : List StoredResource) (res : ℕ) → AreResourcesApart (x ∷ rs) → resource_at_place i rs ≡ Some res → ¬ (x.at ≡ res)
+resource_place-differs i x rs res apart is same =
+    let behind = resource_place-among i rs res is in
+    apart.0 behind.0 behind.1.0 (behind.1.1 ∙ sym same)
+
+-- the resource at a place is found by its key
+pub resource_at-place : (i : ℕ) (rs : List StoredResource) (res : ℕ) → AreResourcesApart rs → resource_at_place i rs ≡ Some res → resource_at res rs ≡ slice_get rs i
+resource_at-place i [] res apart is = refl
+resource_at-place zero (x ∷ rs) res apart is = rw (eq-eqb x.at res (same_Some x.at res is)) refl
+resource_at-place (suc i) (x ∷ rs) res apart is = rw (ne_eqb x.at res (resource_place-differs i x rs res apart is)) (resource_at-place i rs res apart.1 is)
+
+-- the resource at a place is there
+pub resource_place-there : (i : ℕ) (rs : List StoredResource) → AreResourcesApart rs → ForSome (resource_at_place i rs) (λ res. IsSome (resource_at res rs))
+resource_place-there i [] apart res is = cc
+resource_place-there zero (x ∷ rs) apart res is = rw (eq-eqb x.at res (same_Some x.at res is)) refl
+resource_place-there (suc i) (x ∷ rs) apart res is = rw (ne_eqb x.at res (resource_place-differs i x rs res apart is)) (resource_place-there i rs apart.1 res is)
+
+-- the resource after the one at a place is that at the next place
+pub resource_after-place : (i : ℕ) (rs : List StoredResource) (res : ℕ) → AreResourcesApart rs → resource_at_place i rs ≡ Some res → resource_at_after res rs ≡ resource_at_place (suc i) rs
+resource_after-place i [] res apart is = refl
+resource_after-place zero (x ∷ rs) res apart is = rw (eq-eqb x.at res (same_Some x.at res is)) (first_resource-place rs)
+resource_after-place (suc i) (x ∷ rs) res apart is = rw (ne_eqb x.at res (resource_place-differs i x rs res apart is)) (resource_after-place i rs res apart.1 is)
+
+-- no resource is at a place behind one that is past the last
+pub resource_place-past : (i place : ℕ) (rs : List StoredResource) → resource_at_place i rs ≡ None → i ≤ place → resource_at_place place rs ≡ None
+resource_place-past i place [] past le = refl
+resource_place-past zero place (x ∷ rs) past le = cc
+resource_place-past (suc i) zero (x ∷ rs) past le = absurd (omega (arith, le))
+resource_place-past (suc i) (suc place) (x ∷ rs) past le = resource_place-past i place rs past (omega (arith, le))
+
+-- ---- locks
+
+-- the first lock is that at place 0
+pub first-place : (ks : List StoredLock) → first_at ks ≡ lock_at_place 0 ks
+first-place [] = refl
+first-place (k ∷ ks) = refl
+
+-- the lock at a place is one of these, with the row at this place
+pub lock_place-among : (i : ℕ) (ks : List StoredLock) (at : ℕ) → lock_at_place i ks ≡ Some at → (row : Row) × (IsAmong (record { at = at; row = row }) ks × (slice_get (rows_of ks) i ≡ Some row))
+lock_place-among i [] at is = cc
+lock_place-among zero (k ∷ ks) at is = (k.row, (inl (ap (λ x. record { at = x; row = k.row }) (same_Some k.at at is)), refl))
+lock_place-among (suc i) (k ∷ ks) at is = let behind = lock_place-among i ks at is in (behind.0, (inr behind.1.0, behind.1.1))
+
+-- a lock before the one at a place has another key
+lock_place-differs : (i : ℕ) (k : StoredLock) (ks : List StoredLock) (at : ℕ) → AreApart (k ∷ ks) → lock_at_place i ks ≡ Some at → ¬ (k.at ≡ at)
+lock_place-differs i k ks at apart is same =
+    let behind = lock_place-among i ks at is in
+    apart.0 behind.0 (subst (λ x. IsAmong (record { at = x; row = behind.0 }) ks) (sym same) behind.1.0)
+
+-- the lock after the one at a place is that at the next place
+pub lock_after-place : (i : ℕ) (ks : List StoredLock) (at : ℕ) → AreApart ks → lock_at_place i ks ≡ Some at → at_after at ks ≡ lock_at_place (suc i) ks
+lock_after-place i [] at apart is = refl
+lock_after-place zero (k ∷ ks) at apart is = rw (eq-eqb k.at at (same_Some k.at at is)) (first-place ks)
+lock_after-place (suc i) (k ∷ ks) at apart is = rw (ne_eqb k.at at (lock_place-differs i k ks at apart is)) (lock_after-place i ks at apart.1 is)
+
+-- no lock is at a place behind one that is past the last
+pub lock_place-past : (i place : ℕ) (ks : List StoredLock) → lock_at_place i ks ≡ None → i ≤ place → lock_at_place place ks ≡ None
+lock_place-past i place [] past le = refl
+lock_place-past zero place (k ∷ ks) past le = cc
+lock_place-past (suc i) zero (k ∷ ks) past le = absurd (omega (arith, le))
+lock_place-past (suc i) (suc place) (k ∷ ks) past le = lock_place-past i place ks past (omega (arith, le))
+
+-- from the first of the last locks on a queue gives their rows
+pub given_from : (before rest : List StoredLock) → AreApart (before ++ rest) → IsGivenFrom (before ++ rest) (first_at rest) (rows_of rest)
+given_from before [] apart = refl
+given_from before (k ∷ rest) apart =
+    let one : before ++ k ∷ [] ++ rest ≡ before ++ k ∷ rest = append_assoc before (k ∷ []) rest in
+    let others : AreApart (before ++ k ∷ [] ++ rest) = subst AreApart (sym one) apart in
+    let behind : IsGivenFrom (before ++ k ∷ rest) (first_at rest) (rows_of rest) = subst (λ ks. IsGivenFrom ks (first_at rest) (rows_of rest)) one (given_from (before ++ k ∷ []) rest others) in
+    (k.at, (refl, lock_among k before rest, subst (λ first. IsGivenFrom (before ++ k ∷ rest) first (rows_of rest)) (sym (after-among k before rest apart)) behind))
+
+-- the queue of a stored resource gives its rows in turn
+pub queue_given : (s : Records) (r : StoredResource) (queue : Queue) → IsSound s → IsResourceAmong r s.resources → GivesInTurn r.at queue (rows_of (queued queue r)) s
+queue_given s r queue sound among =
+    let place = Queued r.at queue in
+    let here : locks_at place s ≡ queued queue r = ap (λ o. option_map_or (queued queue) o []) (resource_is r s.resources sound.resources_apart among) in
+    subst (λ ks. IsGivenFrom ks (first_at ks) (rows_of (queued queue r))) (sym here) (given_from [] (queued queue r) (subst AreApart here (sound.locks_apart place)))
+
+-- ---- what is shown
+
+-- the resource at a place is shown as it is stored
+pub resource_shown : (i : ℕ) (rs : List StoredResource) (res : ℕ) (view : ResourceView) → AreResourcesApart rs → resource_at_place i rs ≡ Some res
+    → IfSome (resource_at res rs) (λ r. view ≡ resource_view (plain_resource r)) → Some view ≡ option_map resource_view (slice_get (map plain_resource rs) i)
+resource_shown i [] res view apart is told = cc
+resource_shown zero (x ∷ rs) res view apart is told = ap Some (rw (eq-eqb x.at res (same_Some x.at res is)) at told)
+resource_shown (suc i) (x ∷ rs) res view apart is told =
+    resource_shown i rs res view apart.1 is (rw (ne_eqb x.at res (resource_place-differs i x rs res apart is)) at told)
+
+-- no resource is shown at a place past the last
+pub no_resource_shown : (i : ℕ) (rs : List StoredResource) → resource_at_place i rs ≡ None → None ≡ option_map resource_view (slice_get (map plain_resource rs) i)
+no_resource_shown i [] is = refl
+no_resource_shown zero (x ∷ rs) is = cc
+no_resource_shown (suc i) (x ∷ rs) is = no_resource_shown i rs is
+
+-- a queue without the keys has the rows of its locks
+rows_in-plain : (queue : Queue) (r : StoredResource) → rows_in queue (plain_resource r) ≡ rows_of (queued queue r)
+rows_in-plain Granted r = refl
+rows_in-plain Conversion r = refl
+rows_in-plain Waiting r = refl
+
+-- the lock that is shown stands in the queue of the resource of this key
+row_shown-place : (i : ℕ) (rs : List StoredResource) (res : ℕ) (queue : Queue) (place : ℕ) → AreResourcesApart rs → resource_at_place i rs ≡ Some res
+    → row_shown (slice_get (map plain_resource rs) i) queue place ≡ option_map row_view (slice_get (rows_of (option_map_or (queued queue) (resource_at res rs) [])) place)
+row_shown-place i [] res queue place apart is = cc
+row_shown-place zero (x ∷ rs) res queue place apart is =
+    rw (eq-eqb x.at res (same_Some x.at res is)) (ap (λ rows. option_map row_view (slice_get rows place)) (rows_in-plain queue x))
+row_shown-place (suc i) (x ∷ rs) res queue place apart is =
+    rw (ne_eqb x.at res (resource_place-differs i x rs res apart is)) (row_shown-place i rs res queue place apart.1 is)
+
+-- a lock of the queue is shown as it is stored
+pub lock_shown : (s : Records) (i res : ℕ) (queue : Queue) (place at : ℕ) (row : Row) → IsSound s → resource_at_place i s.resources ≡ Some res
+    → lock_at_place place (locks_at (Queued res queue) s) ≡ Some at → ((other : Row) → Stores s at other → other ≡ row)
+    → Some (row_view row) ≡ row_shown (slice_get (map plain_resource s.resources) i) queue place
+lock_shown s i res queue place at row sound is stands only =
+    let there = lock_place-among place (locks_at (Queued res queue) s) at stands in
+    let same = only there.0 (Queued res queue, there.1.0) in
+    sym (row_shown-place i s.resources res queue place sound.resources_apart is ∙ ap (option_map row_view) there.1.1 ∙ ap (λ x. Some (row_view x)) same)
+
+-- no row is at a place past the last lock
+no_row : (place : ℕ) (ks : List StoredLock) → lock_at_place place ks ≡ None → option_map row_view (slice_get (rows_of ks) place) ≡ None
+no_row place [] is = refl
+no_row zero (k ∷ ks) is = cc
+no_row (suc place) (k ∷ ks) is = no_row place ks is
+
+-- no lock is shown at a place past the last of the queue
+pub no_lock_shown : (s : Records) (i res : ℕ) (queue : Queue) (place : ℕ) → IsSound s → resource_at_place i s.resources ≡ Some res
+    → lock_at_place place (locks_at (Queued res queue) s) ≡ None → row_shown (slice_get (map plain_resource s.resources) i) queue place ≡ None
+no_lock_shown s i res queue place sound is none =
+    row_shown-place i s.resources res queue place sound.resources_apart is ∙ no_row place (locks_at (Queued res queue) s) none
