@@ -1,6 +1,5 @@
 pub mod Bindings
 pub mod Queues
-pub mod QueuesByPlace
 pub mod Sessions
 pub mod Plays
 pub mod Faults

@@ -11,7 +11,6 @@ mod printing;
 mod runs;
 mod session;
 mod show;
-mod show_by_place;
 mod stops;
 mod streams;
 

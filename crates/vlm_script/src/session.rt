@@ -7,7 +7,7 @@ ghost use Rattle.vlm_script.specs.Sessions.{IsRun, IsPrinted, StopsBytes, StopsL
 
 use crate::bindings::{Bindings, bind_reserved, bound_to};
 use crate::printing::{answer_line, status_block_line};
-use crate::show_by_place::show;
+use crate::show::show;
 use crate::stops::Stop;
 use std::alloc::Global;
 use std::marker::Model;
@@ -73,7 +73,7 @@ impl Session {
             Line::Cvt(line) => self.convert(line, out),
             Line::Deq(line) => self.deq(line, out),
             Line::Block(line) => self.show_status_block(line, out),
-            Line::Show => match show(&self.core, out) {
+            Line::Show => match show(self.core.store(), out) {
                 Ok(()) => Ok(()),
                 Err(_) => Err(Stop::Memory),
             },
