@@ -1,5 +1,5 @@
 -- The process that makes a step, by its key and by its identification.
-use Rattle.std.proofs.Common.{◌≡◌, ℕ, List, Option, None, Some, IfNone, IfSome, IsSome, refl, sym, ap, ◌∙◌}
+use Rattle.std.proofs.Common.{◌≡◌, ℕ, None, Some, IfSome, IsSome, refl, sym, ap, ◌∙◌}
 use Rattle.std.specs.Option.{option_map_or}
 use Rattle.vlm_words.specs.State.{Process, process_of}
 use Rattle.vlm_store.specs.Records.{FindsProcess, IsProcess, IsSound, Records, plain_processes, process_at}

@@ -1,5 +1,5 @@
 -- A new request that is admitted, and its lock that has entered: the plain machine's change.
-use Rattle.std.proofs.Common.{◌≡◌, ◌+◌, ℕ, Bool, true, false, List, [], cond, find, unwrap_or, Option, None, Some, IfSome, IsSome, is_some, refl, sym, ap, ◌∙◌, subst, arith}
+use Rattle.std.proofs.Common.{◌≡◌, ◌+◌, ℕ, Bool, true, List, [], cond, find, unwrap_or, Option, None, Some, IfSome, IsSome, is_some, sym, ap, ◌∙◌, subst, arith}
 use Rattle.vlm_words.specs.declared.locks.Request.{Request}
 use Rattle.vlm_words.specs.declared.locks.Row.{Row}
 use Rattle.vlm_words.specs.declared.resources.Domain.{Domain}
@@ -12,7 +12,7 @@ use Rattle.vlm_words.specs.Grants.{fits, grant_endings}
 use Rattle.vlm_words.specs.Resources.{is_at, new_resource}
 use Rattle.vlm_words.specs.State.{Process, Resource, State}
 use Rattle.vlm_words.specs.StatusBlocks.{processes_after_acceptance}
-use Rattle.vlm_store.specs.Records.{FindsResource, HasResource, IsSound, Records, StoredResource, plain_processes, resource_at}
+use Rattle.vlm_store.specs.Records.{FindsResource, HasResource, Records, StoredResource, plain_processes, resource_at}
 use Rattle.vlm_service.specs.Plain.{plain_resources}
 use Rattle.vlm_locks.specs.Entering.{resource_for}
 use Rattle.vlm_locks.specs.Rest.{IsAtRest, IsKeyed}

@@ -1,7 +1,7 @@
 -- Where nothing is to be swept, a sweep changes nothing; and a step that touches one resource leaves nothing to sweep on the others.
-use Rattle.std.proofs.Common.{◌≡◌, ◌≢◌, ℕ, Bool, false, not, cond, List, [], ◌∷◌, map, filter, refl, sym, ap, ◌∙◌, subst, inl, inr}
+use Rattle.std.proofs.Common.{◌≡◌, ℕ, not, cond, List, [], ◌∷◌, map, filter, refl, ap, ◌∙◌, subst, inl, inr}
 use Rattle.std.specs.List.{AllByRecursion}
-use Rattle.vlm_words.specs.Grants.{no_service, service}
+use Rattle.vlm_words.specs.Grants.{service}
 use Rattle.vlm_words.specs.Effects.{Blocks, blocks_after, blocks_with}
 use Rattle.vlm_words.specs.Settled.{IsSettled}
 use Rattle.vlm_words.specs.State.{Process, Resource, State}

@@ -1,5 +1,5 @@
 -- An identification that is to come is that of no lock, and of no process.
-use Rattle.std.proofs.Common.{◌≡◌, ◌≢◌, ◌≤◌, ◌+◌, ◌*◌, ℕ, Bool, true, List, [], ◌∷◌, map, cond, Option, None, Some, refl, sym, ap, ◌∙◌, subst, inl, inr, arith, eq-eqb}
+use Rattle.std.proofs.Common.{◌≡◌, ◌≢◌, ◌≤◌, ℕ, List, [], ◌∷◌, map, cond, Option, None, Some, refl, sym, ap, ◌∙◌, subst, inl, inr, arith, eq-eqb}
 use Rattle.std.specs.Prelude.{◌==◌}
 use Rattle.std.specs.List.{All, sum_by}
 use Rattle.std.specs.Option.{option_map_or}
@@ -12,7 +12,7 @@ use Rattle.vlm_words.specs.declared.steps.Declaration.{Declaration}
 use Rattle.vlm_words.specs.declared.steps.Step.TheVariants.{Declare}
 use Rattle.vlm_words.specs.Declare.{declare_refusal, next_pid}
 use Rattle.vlm_words.specs.Laws.{DeclarationsGiveNewIdentifications, rows_on}
-use Rattle.vlm_words.specs.State.{Process, Resource}
+use Rattle.vlm_words.specs.State.{Process}
 use Rattle.vlm_words.specs.Stepped.{refused_or, step_change}
 use Rattle.vlm_store.specs.declared.keys.Place.{Place}
 use Rattle.vlm_store.specs.declared.keys.Place.TheVariants.{Loose, Queued}

@@ -1,16 +1,23 @@
 //! The core: whole steps alone.
 
 ghost use Rattle.std.specs.Prelude.{◌≡◌};
+ghost use Rattle.vlm_words.specs.declared.resources.Queue.{Queue};
+ghost use Rattle.vlm_words.specs.Laws.{HeldModesAreCompatible, NothingIsLeftToGrant};
 ghost use Rattle.vlm_words.specs.State.{start};
 ghost use Rattle.vlm_words.specs.Stepped.{Outcome, stepped};
+ghost use Rattle.vlm_store.specs.Records.{IsResourceAmong, StoredResource, plain_processes, queued, rows_of};
+ghost use Rattle.vlm_service.specs.Plain.{plain_resources};
 ghost use Rattle.vlm_core.specs.Between.{IsBetweenSteps};
+ghost use Rattle.vlm_core.specs.Views.{GivesInTurn};
 
 use crate::records::Machine;
 use std::alloc::Global;
 use std::marker::Model;
+use vlm_store::Store;
 use vlm_words::laws::{
     law_a_declaration_gives_a_new_identification, law_each_resource_is_settled,
-    law_identifications_are_apart, law_serials_rise,
+    law_held_modes_are_compatible, law_identifications_are_apart, law_nothing_is_left_to_grant,
+    law_serials_rise,
 };
 use vlm_words::steps::{Answer, Conversion, Declaration, Dequeue, NewRequest, Step, ValueSetting};
 
@@ -53,6 +60,23 @@ impl Core {
         law_serials_rise();
         law_a_declaration_gives_a_new_identification();
         let _machine = &self.machine;
+    }
+
+    /// The records of the core: its resources and its living processes are theirs without their keys, and
+    /// each queue of a resource is the locks that `head` and then `next` give there. No two locks of a
+    /// resource hold incompatible modes, and on none is anything left to grant.
+    pub fn store(&self) -> &Store
+        ensures resources { plain_resources result.now ≡ self.now.resources }
+        ensures processes { plain_processes result.now ≡ self.now.processes }
+        ensures queues { (r : StoredResource) → IsResourceAmong r result.now.resources
+            → (queue : Queue) → GivesInTurn r.at queue (rows_of (queued queue r)) result.now }
+        ensures held { HeldModesAreCompatible self.now }
+        ensures served { NothingIsLeftToGrant self.now }
+    {
+        law_held_modes_are_compatible();
+        law_nothing_is_left_to_grant();
+        self.machine.store.known();
+        &self.machine.store
     }
 
     /// Makes one step, of whichever kind. A kind that is not built yet answers BADPARAM. Its cost grows

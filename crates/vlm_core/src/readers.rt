@@ -1,15 +1,12 @@
 //! The readers: they show the status blocks, and the resources and their queues, take no memory and
 //! change nothing.
 
-ghost use Rattle.std.specs.Prelude.{◌≡◌, ◌<◌, ◌^◌, length, slice_get, IfSome, OnSome};
+ghost use Rattle.std.specs.Prelude.{◌≡◌, length, slice_get, IfSome};
 ghost use Rattle.std.specs.Option.{option_map};
-ghost use Rattle.vlm_words.specs.declared.resources.Queue.{Queue};
-ghost use Rattle.vlm_words.specs.Laws.{HeldModesAreCompatible, NothingIsLeftToGrant};
 ghost use Rattle.vlm_words.specs.StatusBlocks.{status_block_at};
 ghost use Rattle.vlm_store.specs.declared.keys.Place.{Place};
-ghost use Rattle.vlm_store.specs.Records.{HasResource, IsResourceAmong, IsStored, StoredResource, locks_at, plain_processes, queued, rows_of};
-ghost use Rattle.vlm_service.specs.Plain.{plain_resources};
-ghost use Rattle.vlm_core.specs.Views.{GivesInTurn, lock_at_place, resource_at_place, resource_view, row_shown};
+ghost use Rattle.vlm_store.specs.Records.{HasResource, IsStored, locks_at};
+ghost use Rattle.vlm_core.specs.Views.{lock_at_place, resource_at_place, resource_view, row_shown};
 
 use crate::processes::living;
 use crate::public::Core;
@@ -18,7 +15,6 @@ use vlm_procs::status_block;
 use vlm_queue::{head, next};
 use vlm_store::{LockAt, ResAt, Store};
 use vlm_words::blocks::Block;
-use vlm_words::laws::{law_held_modes_are_compatible, law_nothing_is_left_to_grant};
 use vlm_words::resources::Queue;
 
 // The key of the resource at a place, from 0, in order of making. It walks to that place.
@@ -55,23 +51,6 @@ fn lock_at(store: &Store, res: ResAt, queue: Queue, place: usize) -> Option<Lock
 }
 
 impl Core {
-    /// The records of the core: its resources and its living processes are theirs without their keys, and
-    /// each queue of a resource is the locks that `head` and then `next` give there. No two locks of a
-    /// resource hold incompatible modes, and on none is anything left to grant.
-    pub fn store(&self) -> &Store
-        ensures resources { plain_resources result.now ≡ self.now.resources }
-        ensures processes { plain_processes result.now ≡ self.now.processes }
-        ensures queues { (r : StoredResource) → IsResourceAmong r result.now.resources
-            → (queue : Queue) → GivesInTurn r.at queue (rows_of (queued queue r)) result.now }
-        ensures held { HeldModesAreCompatible self.now }
-        ensures served { NothingIsLeftToGrant self.now }
-    {
-        law_held_modes_are_compatible();
-        law_nothing_is_left_to_grant();
-        self.machine.store.known();
-        &self.machine.store
-    }
-
     /// The status block of this number, from 1, of a process. None where no living process has the
     /// identification, or it has no such block.
     #[tactic(auto, unfolding(vlm_words::specs::StatusBlocks::status_block_at))]

@@ -5,10 +5,10 @@ use Rattle.vlm_words.specs.declared.resources.Domain.{Domain}
 use Rattle.vlm_words.specs.declared.resources.Domain.TheVariants.{Group}
 use Rattle.vlm_words.specs.declared.resources.Key.{Key}
 use Rattle.vlm_words.specs.declared.resources.Key.TheVariants.{Root}
-use Rattle.vlm_words.specs.Enqueue.{enq_at_once, enq_domain, enq_key, enq_request, enq_resource, is_at_once}
+use Rattle.vlm_words.specs.Enqueue.{enq_domain, enq_key, enq_request, enq_resource, is_at_once}
 use Rattle.vlm_words.specs.Resources.{is_at, new_resource}
 use Rattle.vlm_words.specs.State.{Resource, process_of}
-use Rattle.vlm_store.specs.Records.{FindsResource, plain_processes}
+use Rattle.vlm_store.specs.Records.{plain_processes}
 use Rattle.vlm_service.specs.Plain.{plain_resources}
 use Rattle.vlm_core.specs.Admissions.{IsCaller}
 use Rattle.vlm_core.specs.Machine.{Kept, kept, plain_state}

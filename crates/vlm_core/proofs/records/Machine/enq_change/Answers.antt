@@ -1,6 +1,6 @@
-use Rattle.std.proofs.Common.{◌≡◌, ◌+◌, ℕ, map, None, Some, refl, sym, ap, ◌∙◌, subst, arith}
+use Rattle.std.proofs.Common.{◌≡◌, ◌+◌, map, Some, refl, sym, ap, ◌∙◌, subst, arith}
 use Rattle.vlm_words.specs.declared.locks.Row.{Row}
-use Rattle.vlm_words.specs.Enqueue.{enq_change, enq_row}
+use Rattle.vlm_words.specs.Enqueue.{enq_row}
 use Rattle.vlm_store.specs.Records.{IsProcess, IsResourceAmong}
 use Rattle.vlm_service.specs.Plain.{plain_resource}
 use Rattle.vlm_locks.proofs.Changed.{rests_still}
