@@ -1,9 +1,9 @@
-use Rattle.std.proofs.Common.{None, ap}
+use Rattle.std.proofs.Common.{None, ap, ◌∙◌}
 use Rattle.vlm_links.specs.Lists.{without}
 use Rattle.slab.specs.Slab.{get}
 use Rattle.vlm_store.specs.Shown.{row_in, tally_in}
 use Rattle.vlm_store.proofs.Counting.{tallied_moved}
-use Rattle.vlm_store.proofs.Places.{counted_placed, written_keys, written_placed}
+use Rattle.vlm_store.proofs.Places.{counted_keys, counted_placed, written_keys, written_placed}
 use Rattle.vlm_store.proofs.queues.Queues.set_row.Goals as goal
 
 pub count_in-requires-clause-placed : goal.count_in-requires-clause-placed
@@ -24,3 +24,11 @@ returns-clause-placed c =
     let placed1 = counted_placed c.args.self.now c.count_out.new.self None c.requires.placed c.count_out.ensures.rest c.count_out.ensures.loose c.count_out.ensures.locks in
     let placed2 = written_placed c.count_out.new.self c.write_row.new.self None placed1 c.write_row.ensures.rest c.write_row.ensures.resources c.write_row.ensures.loose in
     counted_placed c.write_row.new.self c.count_in.new.self None placed2 c.count_in.ensures.rest c.count_in.ensures.loose c.count_in.ensures.locks
+
+pub returns-clause-keys : goal.returns-clause-keys
+returns-clause-keys c place =
+    let placed1 = counted_placed c.args.self.now c.count_out.new.self None c.requires.placed c.count_out.ensures.rest c.count_out.ensures.loose c.count_out.ensures.locks in
+    let placed2 = written_placed c.count_out.new.self c.write_row.new.self None placed1 c.write_row.ensures.rest c.write_row.ensures.resources c.write_row.ensures.loose in
+    counted_keys c.write_row.new.self c.count_in.new.self None placed2 c.count_in.ensures.rest c.count_in.ensures.loose c.count_in.ensures.locks place
+    ∙ written_keys c.count_out.new.self c.write_row.new.self None placed1 c.write_row.ensures.rest c.write_row.ensures.resources c.write_row.ensures.loose place
+    ∙ counted_keys c.args.self.now c.count_out.new.self None c.requires.placed c.count_out.ensures.rest c.count_out.ensures.loose c.count_out.ensures.locks place
