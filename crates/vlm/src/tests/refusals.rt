@@ -58,9 +58,8 @@ fn request(name: &[u8]) -> NewRequest {
     }
 }
 
-/// A machine in which P holds EX on A as lock 1, and Q waits for it as lock 2.
-fn machine<R: Abort + AllocGlobal>(rt: &R) -> Core {
-    let mut core = Core::new(rt.alloc());
+/// Lets P hold EX on A as lock 1, and Q wait for it as lock 2.
+fn begin<R: Abort>(rt: &R, core: &mut Core) {
     let steps = [
         (Step::Declare(DECLARATION), Answer::Process(P)),
         (
@@ -82,12 +81,22 @@ fn machine<R: Abort + AllocGlobal>(rt: &R) -> Core {
     for (step, want) in steps {
         assert_eq!(rt; core.step(step), want);
     }
+}
+
+/// A machine in which P holds EX on A as lock 1, and Q waits for it as lock 2.
+fn machine<R: Abort + AllocGlobal>(rt: &R) -> Core {
+    let mut core = Core::new(rt.alloc());
+    begin(rt, &mut core);
     core
 }
 
 /// Each step is refused by its condition.
 fn check<R: Abort + AllocGlobal>(rt: &R, cases: &[(Step, Cond)]) {
     let mut core = machine(rt);
+    refuses(rt, &mut core, cases);
+}
+
+fn refuses<R: Abort>(rt: &R, core: &mut Core, cases: &[(Step, Cond)]) {
     for (number, (step, want)) in cases.iter().copied().enumerate() {
         assert_eq!(rt; core.step(step), Answer::Plain(want), "case {number}");
     }
@@ -120,13 +129,18 @@ fn declarations(rt: HostRuntime) {
     );
 }
 
+// Node 1 declares all its processes.
+fn declare_all<R: Abort>(rt: &R, core: &mut Core) {
+    for pid in P..Q - 1 {
+        assert_eq!(rt; core.declare(DECLARATION), Answer::Process(pid));
+    }
+}
+
 /// BADPARAM once a node has declared 65,535 processes; another node's are still taken.
 #[test]
 fn last_ordinal(rt: HostRuntime) {
     let mut core = Core::new(rt.alloc());
-    for pid in P..Q - 1 {
-        assert_eq!(&rt; core.declare(DECLARATION), Answer::Process(pid));
-    }
+    declare_all(&rt, &mut core);
     assert_eq!(&rt; core.declare(DECLARATION), Answer::Plain(Cond::Badparam));
     let other = Declaration {
         node: 2,
