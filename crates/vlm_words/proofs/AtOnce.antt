@@ -1,5 +1,5 @@
 -- What is granted at once, is granted in its turn.
-use Rattle.std.proofs.Common.{◌≡◌, ◌≢◌, ◌≤◌, ◌+◌, ◌||◌, ℕ, Bool, true, false, not, List, [], ◌∷◌, ◌++◌, cond, Option, None, Some, refl, sym, subst, ap, inl, inr, ⊎_elim, ◌∙◌, arith}
+use Rattle.std.proofs.Common.{◌≡◌, ◌≢◌, ◌≤◌, ◌+◌, ◌||◌, ℕ, zero, suc, Bool, true, false, not, List, [], ◌∷◌, ◌++◌, cond, Option, None, Some, refl, sym, subst, ap, inl, inr, ⊎_elim, ◌∙◌, arith}
 use Rattle.std.specs.Prelude.{◌==◌, ◌&&◌, All, unwrap_or}
 use Rattle.std.specs.Cmp.Lexicographic.{bytes_decides}
 use Rattle.std.specs.List.{AllByRecursion, filter, find, flat_map, list_all, sum_by}
@@ -12,26 +12,29 @@ use Rattle.vlm_words.specs.declared.locks.Request.{Request}
 use Rattle.vlm_words.specs.declared.locks.Row.{Row}
 use Rattle.vlm_words.specs.declared.modes.Mode.{Mode}
 use Rattle.vlm_words.specs.declared.resources.Domain.{Domain}
-use Rattle.vlm_words.specs.declared.resources.Key.TheVariants.{Root}
+use Rattle.vlm_words.specs.declared.resources.Domain.TheVariants.{Group, System}
+use Rattle.vlm_words.specs.declared.resources.Key.{Key}
 use Rattle.vlm_words.specs.declared.steps.Answer.{Answer}
 use Rattle.vlm_words.specs.declared.steps.Conversion.{Conversion}
 use Rattle.vlm_words.specs.declared.steps.NewRequest.{NewRequest}
 use Rattle.vlm_words.specs.declared.steps.Step.TheVariants.{Declare, SetValue, Enq, Convert, Deq, Rundown, Leave, Search, Take}
 use Rattle.vlm_words.specs.declared.steps.Step.{Step}
-use Rattle.vlm_words.specs.Flags.{expedite, flag_bits, has_flag, quecvt}
-use Rattle.vlm_words.specs.State.{Resource, State}
+use Rattle.vlm_words.specs.Flags.{expedite, flag_bits, has_flag, quecvt, system}
+use Rattle.vlm_words.specs.State.{Process, Resource, State, process_of}
 use Rattle.vlm_words.specs.Endings.{Ending, How, row_endings, wanted_endings}
 use Rattle.vlm_words.specs.Endings.How.{by_abort, by_cancel}
 use Rattle.vlm_words.specs.Grants.{fits, grant_endings, is_beside, is_empty}
 use Rattle.vlm_words.specs.Sweeps.{sweep_endings}
 use Rattle.vlm_words.specs.Rows.{is_lock_of, rows_of, rows_without}
-use Rattle.vlm_words.specs.Resources.{is_at, new_resource}
-use Rattle.vlm_words.specs.Enqueue.{enq_at_once, enq_domain, enq_key, enq_refusal, enq_request, enq_resource, enq_row, is_at_once, is_free_for}
+use Rattle.vlm_words.specs.Resources.{IsKeyed, is_at, is_domain, new_resource}
+use Rattle.vlm_words.specs.Checks.{holds_lock}
+use Rattle.vlm_words.specs.Trees.{caller_group, enq_site, parent_lkid, parent_resource, site_below}
+use Rattle.vlm_words.specs.Enqueue.{enq_at_once, enq_key, enq_refusal, enq_request, enq_resource, enq_row, is_at_once, is_free_for}
 use Rattle.vlm_words.specs.Convert.{ConversionAdmission, admission_among, admission_or, conversion_endings, convert_admission, convert_lkid, convert_request, converts_at_once, wanting_row}
 use Rattle.vlm_words.specs.Dequeue.{Withdrawal, queue_endings, withdrawal_endings, withdrawal_of}
 use Rattle.vlm_words.specs.Stepped.{Stepped, conversion_change, refused_or, step_change, step_refusal, stepped, stepped_after_sweep}
 use Rattle.vlm_words.specs.Runs.{Run}
-use Rattle.vlm_words.specs.Laws.{ConvertsInTurn, EntersInTurn, GrantsFollowQueueOrder, IsAskedFor, IsBeside, IsFreeFor, IsGrant, IsGrantedInTurn, Stands, SweptInOrder}
+use Rattle.vlm_words.specs.Laws.{ConvertsInTurn, EntersInTurn, GrantsFollowQueueOrder, IsAskedFor, IsBeside, IsFreeFor, IsGrant, IsGrantedInTurn, IsRootDomain, Stands, StandsAsAskedFor, SweptInOrder}
 use Rattle.vlm_words.specs.Lines.{behind}
 use Rattle.vlm_words.proofs.Each.{Any-none, Any-cases, Found, found_at, each_append, each_passes, each_weaker}
 use Rattle.vlm_words.proofs.Pairs.{EachPair}
@@ -42,7 +45,8 @@ use Rattle.vlm_words.proofs.NothingLeft.{is_empty-true}
 use Rattle.vlm_words.proofs.Weights.{weigh}
 use Rattle.vlm_words.proofs.Apart.{Apart, apart_always, stands, standing}
 use Rattle.vlm_words.proofs.Counts.{found_stands}
-use Rattle.vlm_words.proofs.Keys.{Placed, HaveTwoKeys, one_key, placed_always}
+use Rattle.vlm_words.proofs.Keys.{Placed, HaveTwoKeys, enq_keyed, one_key, placed_always}
+use Rattle.vlm_words.proofs.Holders.{IsHolder, only_holder}
 use Rattle.vlm_words.proofs.InOrder.{sweep_in_order}
 
 -- what the step's own endings are to be
@@ -76,38 +80,70 @@ free_for request r free =
     }
 
 -- where keys are apart, a resource under the key is the one that is found
-found_under : (domain : Domain) (name : List ℕ) (resources : List Resource) → EachPair HaveTwoKeys resources
-    → AllByRecursion (λ r. is_at (Root domain name) r ≡ true → find (is_at (Root domain name)) resources ≡ Some r) resources
-found_under domain name [] apart = tt
-found_under domain name (r ∷ rest) apart =
-    ((λ here. rw here refl), behind rest (found_under domain name rest apart.1) apart.0)
+found_under : (domain : Domain) (key : Key) → IsKeyed domain key → (resources : List Resource) → EachPair HaveTwoKeys resources
+    → AllByRecursion (λ r. is_at key r ≡ true → find (is_at key) resources ≡ Some r) resources
+found_under domain key keyed [] apart = tt
+found_under domain key keyed (r ∷ rest) apart =
+    ((λ here. rw here refl), behind rest (found_under domain key keyed rest apart.1) apart.0)
   where
-    elsewhere : (other : Resource) → HaveTwoKeys r other → is_at (Root domain name) other ≡ true → (b : Bool) → is_at (Root domain name) r ≡ b
-        → b ≡ false
-    elsewhere other two at true is = absurd (two (one_key domain name r other is at))
+    elsewhere : (other : Resource) → HaveTwoKeys r other → is_at key other ≡ true → (b : Bool) → is_at key r ≡ b → b ≡ false
+    elsewhere other two at true is = absurd (two (one_key domain key r other keyed is at))
     elsewhere other two at false is = refl
 
-    behind : (others : List Resource)
-        → AllByRecursion (λ x. is_at (Root domain name) x ≡ true → find (is_at (Root domain name)) rest ≡ Some x) others
-        → AllByRecursion (HaveTwoKeys r) others
-        → AllByRecursion (λ x. is_at (Root domain name) x ≡ true → find (is_at (Root domain name)) (r ∷ rest) ≡ Some x) others
+    behind : (others : List Resource) → AllByRecursion (λ x. is_at key x ≡ true → find (is_at key) rest ≡ Some x) others
+        → AllByRecursion (HaveTwoKeys r) others → AllByRecursion (λ x. is_at key x ≡ true → find (is_at key) (r ∷ rest) ≡ Some x) others
     behind [] each two = tt
     behind (x ∷ xs) each two = (
-      (λ at. cond-false (is_at (Root domain name) r) (Some r) (find (is_at (Root domain name)) rest)
-          (elsewhere x two.0 at (is_at (Root domain name) r) refl) ∙ each.0 at),
+      (λ at. cond-false (is_at key r) (Some r) (find (is_at key) rest) (elsewhere x two.0 at (is_at key r) refl) ∙ each.0 at),
       behind xs each.1 two.1,
     )
 
+-- the process that is found has the identification that is looked for
+found_pid : (pid : ℕ) (processes : List Process) (p : Process) → process_of processes pid ≡ Some p → p.pid ≡ pid
+found_pid pid processes p is = eqb-true p.pid pid (found_at (λ (x : Process). x.pid == pid) processes p is).passes
+
+-- the domain of a root is the one that is asked for
+in_root_domain : (s : State) (e : NewRequest) (caller : Process) → process_of s.processes e.pid ≡ Some caller → (domain : Domain) (flagged : Bool)
+    → IsRootDomain flagged caller domain → is_domain domain (cond flagged System (Group (caller_group s e.pid))) ≡ true
+in_root_domain s e caller lives domain true is = rw is refl
+in_root_domain s e caller lives domain false is = rw is (rw lives (eq-eqb caller.group caller.group refl))
+
+-- no successor is 0
+no_zero : (n : ℕ) → (suc n == 0) ≡ false
+no_zero n = elim (eqb_tells (suc n) 0) [ inl same ↦ absurd (omega (arith, same.1)) | inr differs ↦ differs.0 ]
+
+-- the resource of the parent lock, by its identification
+parent_by_lkid : (s : State) (e : NewRequest) (lkid : ℕ) → parent_lkid s e ≡ lkid
+    → parent_resource s e ≡ cond (lkid == 0) None (find (holds_lock e.pid lkid) s.resources)
+unfolding parent_resource
+parent_by_lkid s e lkid is = ap (λ (n : ℕ). cond (n == 0) None (find (holds_lock e.pid n) s.resources)) is
+
 -- the resource that is asked for stands under the request's key
-asked_at : (s : State) (e : NewRequest) (r : Resource) → IsAskedFor s e r → is_at (enq_key s e) r ≡ true
-asked_at s e r asked =
-    rw (eq-eqb r.parent 0 asked.root) (rw asked.domain (rw asked.lives (rw (eq-eqb asked.caller.group asked.caller.group refl)
-    ((bytes_decides r.name e.name).1 asked.name))))
+asked_at : (s : State) (e : NewRequest) (r : Resource) → Apart s → IsAskedFor s e r → is_at (enq_key s e) r ≡ true
+asked_at s e r apart asked = of_lkid (parent_lkid s e) refl asked.stands
+  where
+    of_parent : (parent : Option Resource) → parent_resource s e ≡ parent → is_at (site_below s e parent).key r ≡ true → is_at (enq_key s e) r ≡ true
+    of_parent parent is at = subst (λ (p : Option Resource). is_at (site_below s e p).key r ≡ true) (sym is) at
+
+    of_lkid : (lkid : ℕ) → parent_lkid s e ≡ lkid → StandsAsAskedFor s e asked.caller lkid r → is_at (enq_key s e) r ≡ true
+    of_lkid zero is there =
+        of_parent None (parent_by_lkid s e 0 is)
+        (rw (eq-eqb r.parent 0 there.0) (rw (in_root_domain s e asked.caller asked.lives r.domain (has_flag e.flags system) there.1)
+        ((bytes_decides r.name e.name).1 asked.name)))
+    of_lkid (suc parent) is there =
+        let up : IsHolder asked.caller.pid (suc parent) (λ up. r.parent ≡ up.serial) s.resources =
+        only_holder asked.caller.pid (suc parent) (λ up. r.parent ≡ up.serial) s.resources (apart.one_row (suc parent)) there in
+        let found : find (holds_lock e.pid (suc parent)) s.resources ≡ Some up.holder =
+        ap (λ (pid : ℕ). find (holds_lock pid (suc parent)) s.resources) (sym (found_pid e.pid s.processes asked.caller asked.lives)) ∙ up.found in
+        let named : find (holds_lock e.pid (suc parent)) s.resources ≡ parent_resource s e =
+        sym (parent_by_lkid s e (suc parent) is ∙ cond-false (suc parent == 0) None (find (holds_lock e.pid (suc parent)) s.resources) (no_zero parent)) in
+        of_parent (Some up.holder) (sym named ∙ found)
+        (rw (eq-eqb r.parent up.holder.serial up.so) ((bytes_decides r.name e.name).1 asked.name))
 
 -- a new request that is granted at once overtakes nobody, or is expedited at NL
-enters_in_turn : (s : State) (e : NewRequest) → Placed s → enq_refusal s e ≡ None → enq_at_once s e ≡ true → EntersInTurn s e
+enters_in_turn : (s : State) (e : NewRequest) → Apart s → Placed s → enq_refusal s e ≡ None → enq_at_once s e ≡ true → EntersInTurn s e
 unfolding is_at_once enq_resource
-enters_in_turn s e placed passed at_once =
+enters_in_turn s e apart placed passed at_once =
     ⊎_elim (λ flagged. inr (flagged, expedited_is_null s e passed flagged))
     (λ free.
     inl (All-from_recursion (λ r. IsAskedFor s e r → IsFreeFor e.mode r) s.resources
@@ -117,9 +153,9 @@ enters_in_turn s e placed passed at_once =
     (λ r found asked.
     free_for (enq_request s e) r
     (subst (λ (there : Option Resource).
-    is_free_for (enq_request s e) (unwrap_or there (new_resource s.next_serial (enq_domain s e) (enq_key s e))) ≡ true)
-    (found (asked_at s e r asked)) free))
-    s.resources (found_under (enq_domain s e) e.name s.resources placed.two_keys))))
+    is_free_for (enq_request s e) (unwrap_or there (new_resource s.next_serial (enq_site s e))) ≡ true)
+    (found (asked_at s e r apart asked)) free))
+    s.resources (found_under (enq_site s e).domain (enq_key s e) (enq_keyed s e placed) s.resources placed.two_keys))))
     (or_cases (has_flag e.flags expedite) (is_free_for (enq_request s e) (enq_resource s e)) at_once)
 
 -- a lock that stands in a queue is counted
@@ -301,7 +337,7 @@ each_in_turn s apart placed (Declare d) passed = tt
 each_in_turn s apart placed (SetValue v) passed = tt
 each_in_turn s apart placed (Enq e) passed =
     cond_both (enq_at_once s e) (grant_endings true (enq_row s e)) [] (AllByRecursion (InTurn s (Enq e)))
-    (λ at_once. ((λ _. (refl, (refl, enters_in_turn s e placed passed at_once))), tt)) (λ _. tt)
+    (λ at_once. ((λ _. (refl, (refl, enters_in_turn s e apart placed passed at_once))), tt)) (λ _. tt)
 each_in_turn s apart placed (Convert c) passed =
     let admitted = admission_of s c passed in
     subst (λ (a : Option ConversionAdmission). AllByRecursion (InTurn s (Convert c)) (conversion_change s c a).endings) (sym admitted.1)

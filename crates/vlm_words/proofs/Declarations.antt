@@ -36,6 +36,7 @@ use Rattle.vlm_words.specs.Stepped.{refused_or, step_change}
 use Rattle.vlm_words.specs.Runs.{Run}
 use Rattle.vlm_words.specs.Laws.{DeclarationsGiveNewIdentifications}
 use Rattle.vlm_words.proofs.Each.{each_append, each_weaker}
+use Rattle.vlm_words.proofs.Processes.{kept_converted, kept_ended, kept_entered, kept_set, kept_swept}
 use Rattle.vlm_words.proofs.Always.{always, kept_by_stepped}
 
 -- the identifications of living processes
@@ -50,78 +51,6 @@ IsGiven nodes pid = pid % 65536 ≤ (node_at nodes (pid / 65536)).declared
 pub record AllGiven (s : State) : Type 0 where
   pub eight : length s.nodes ≡ 8
   pub living : AllByRecursion (IsGiven s.nodes) (pids s.processes)
-
--- a write keeps the identification
-write_kept : (pid n : ℕ) (block : Block) (p : Process) → (process_after_write pid n block p).pid ≡ p.pid
-unfolding process_after_write
-write_kept pid n block p = cond_both (p.pid == pid) (process_with_block n block p) p (λ q. q.pid ≡ p.pid) (λ _. refl) (λ _. refl)
-
--- a write keeps the identifications
-writes_kept : (pid n : ℕ) (block : Block) (processes : List Process) → pids (processes_after_write pid n block processes) ≡ pids processes
-writes_kept pid n block [] = refl
-writes_kept pid n block (p ∷ rest) =
-    ap (λ (first : ℕ). first ∷ pids (processes_after_write pid n block rest)) (write_kept pid n block p)
-    ∙ ap (λ (others : List ℕ). p.pid ∷ others) (writes_kept pid n block rest)
-
--- so does an acceptance
-pids_accepted : (pid n lkid : ℕ) (processes : List Process) → pids (processes_after_acceptance pid n lkid processes) ≡ pids processes
-unfolding processes_after_acceptance
-pids_accepted pid n lkid processes = writes_kept pid n _ processes
-
--- the setting of a value
-pids_set : (pid n : ℕ) (value : List ℕ) (processes : List Process) → pids (processes_after_setting pid n value processes) ≡ pids processes
-unfolding processes_after_setting
-pids_set pid n value processes = writes_kept pid n _ processes
-
--- a status
-pids_status : (pid n : ℕ) (cond : Cond) (processes : List Process) → pids (processes_after_status pid n cond processes) ≡ pids processes
-unfolding processes_after_status
-pids_status pid n cond processes = writes_kept pid n _ processes
-
--- a returned value block
-pids_returned : (pid n : ℕ) (cond : Cond) (value : List ℕ) (processes : List Process)
-    → pids (processes_after_return pid n cond value processes) ≡ pids processes
-unfolding processes_after_return
-pids_returned pid n cond value processes = writes_kept pid n _ processes
-
--- an ending
-ending_kept : (how : How) (pid n : ℕ) (b : Blocks) → pids (blocks_after_ending how pid n b).processes ≡ pids b.processes
-unfolding blocks_after_return blocks_after_writing
-ending_kept (by_grant Nothing) pid n b = pids_status pid n _ b.processes
-ending_kept (by_grant Return) pid n b = pids_returned pid n _ _ b.processes
-ending_kept (by_grant Write) pid n b = pids_status pid n _ b.processes
-ending_kept by_abort pid n b = pids_status pid n _ b.processes
-ending_kept by_cancel pid n b = pids_status pid n _ b.processes
-
--- endings
-pids_ended : (endings : List Ending) (b : Blocks) → pids (blocks_after endings b).processes ≡ pids b.processes
-pids_ended [] b = refl
-pids_ended (ending ∷ endings) b =
-    pids_ended endings (blocks_after_ending ending.how ending.pid ending.request.block b)
-    ∙ ending_kept ending.how ending.pid ending.request.block b
-
--- a sweep
-pids_swept : (processes : List Process) (resources : List Resource) → pids (processes_after_service processes resources) ≡ pids processes
-unfolding blocks_after_service
-pids_swept processes [] = refl
-pids_swept processes (r ∷ rest) =
-    pids_swept (blocks_after_service processes r).processes rest ∙ pids_ended (service r).endings (blocks_with r.value_block processes)
-
--- a new request
-pids_entered : (s : State) (e : NewRequest) → pids (enq_change s e).processes ≡ pids s.processes
-unfolding enq_change
-pids_entered s e =
-    pids_ended (enq_endings s e)
-    (blocks_with (enq_resource s e).value_block (processes_after_acceptance e.pid e.block s.next_lkid s.processes))
-    ∙ pids_accepted e.pid e.block s.next_lkid s.processes
-
--- a conversion
-pids_converted : (s : State) (c : Conversion) (a : ConversionAdmission) → pids (convert_change s c a).processes ≡ pids s.processes
-unfolding convert_change convert_blocks
-pids_converted s c a =
-    pids_ended (conversion_endings a)
-    (blocks_with a.resource.value_block (processes_after_acceptance c.pid c.block (convert_lkid s c) s.processes))
-    ∙ pids_accepted c.pid c.block (convert_lkid s c) s.processes
 
 -- a process that is added
 pids_added : (processes : List Process) (p : Process) → pids (processes ++ p ∷ []) ≡ pids processes ++ p.pid ∷ []
@@ -139,7 +68,7 @@ same_given s t nodes processes given = record {
 
 -- a sweep keeps what is given
 swept_given : (s : State) → AllGiven s → AllGiven (state_after_sweep s)
-swept_given s given = same_given s (state_after_sweep s) refl (pids_swept s.processes s.resources) given
+swept_given s given = same_given s (state_after_sweep s) refl (kept_swept (λ p. p.pid) (λ _ _. refl) s.processes s.resources) given
 
 -- where one node has declared more, no node has declared less
 none_less : (nodes : List Node) (place at : ℕ) (node : Node) → (get_or nodes place new_node).declared ≤ node.declared
@@ -212,12 +141,12 @@ given_always =
     (λ _ _ endings s _ given.
     kept_by_stepped (λ _ t. AllGiven t) endings s given
     (λ d passed. swept_given (declare_change s d) (declared_given s d (ordinal_left s d passed) given))
-    (λ v _. swept_given (set_change s v) (same_given s (set_change s v) refl (pids_set v.pid v.block v.value s.processes) given))
-    (λ e _. swept_given (enq_change s e) (same_given s (enq_change s e) refl (pids_entered s e) given))
-    (λ c a _ _. swept_given (convert_change s c a) (same_given s (convert_change s c a) refl (pids_converted s c a) given))
+    (λ v _. swept_given (set_change s v) (same_given s (set_change s v) refl (kept_set (λ p. p.pid) (λ _ _. refl) v.pid v.block v.value s.processes) given))
+    (λ e _. swept_given (enq_change s e) (same_given s (enq_change s e) refl (kept_entered (λ p. p.pid) (λ _ _. refl) s e) given))
+    (λ c a _ _. swept_given (convert_change s c a) (same_given s (convert_change s c a) refl (kept_converted (λ p. p.pid) (λ _ _. refl) s c a) given))
     (λ d _.
     swept_given (deq_change s d)
-    (same_given s (deq_change s d) refl (pids_ended (deq_endings s d) (blocks_with new_value_block s.processes)) given)))
+    (same_given s (deq_change s d) refl (kept_ended (λ p. p.pid) (λ _ _. refl) (deq_endings s d) (blocks_with new_value_block s.processes)) given)))
 
 -- no living process has the next identification of a node
 each_new : (nodes : List Node) (node pid : ℕ) → node * 65536 + ((node_at nodes node).declared + 1) ≡ pid

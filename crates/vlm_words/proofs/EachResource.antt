@@ -1,11 +1,10 @@
 -- What each step keeps of each resource, and so every run.
-use Rattle.std.proofs.Common.{◌≡◌, ℕ, not, List, [], ◌∷◌, None}
+use Rattle.std.proofs.Common.{◌≡◌, ℕ, true, not, List, [], ◌∷◌, None}
 use Rattle.std.proofs.lemmas.Bool.{cond_both}
 use Rattle.std.specs.List.{AllByRecursion}
 use Rattle.vlm_words.specs.declared.locks.Request.{Request}
 use Rattle.vlm_words.specs.declared.locks.Row.{Row}
-use Rattle.vlm_words.specs.declared.resources.Domain.{Domain}
-use Rattle.vlm_words.specs.declared.resources.Key.{Key}
+use Rattle.vlm_words.specs.declared.resources.Site.{Site}
 use Rattle.vlm_words.specs.declared.resources.ValueBlock.{ValueBlock}
 use Rattle.vlm_words.specs.declared.steps.Answer.{Answer}
 use Rattle.vlm_words.specs.declared.steps.NewRequest.{NewRequest}
@@ -18,7 +17,8 @@ use Rattle.vlm_words.specs.Sweeps.{blocks_after_service, is_vacant, resources_af
 use Rattle.vlm_words.specs.Resources.{is_at, new_resource}
 use Rattle.vlm_words.specs.Declare.{declare_change}
 use Rattle.vlm_words.specs.SetValue.{set_change}
-use Rattle.vlm_words.specs.Enqueue.{enq_change, enq_domain, enq_key, enq_refusal, enq_request, enq_row, resource_after_entry, resources_after_entry}
+use Rattle.vlm_words.specs.Trees.{enq_site}
+use Rattle.vlm_words.specs.Enqueue.{enq_change, enq_refusal, enq_request, enq_row, resource_after_entry, resources_after_entry}
 use Rattle.vlm_words.specs.Convert.{convert_admission, convert_blocks, convert_change, convert_lkid, resource_after_conversion}
 use Rattle.vlm_words.specs.Dequeue.{Withdrawal, deq_change, resource_after_withdrawal, withdrawal_of}
 use Rattle.vlm_words.specs.Runs.{Run}
@@ -39,18 +39,27 @@ unfolding resources_after_sweep
 each_swept P Q serving processes resources each =
     each_filter Q (λ r. not (is_vacant r)) (resources_after_service processes resources) (each_served P Q serving processes resources each)
 
+-- what a new resource has and an entry keeps, where the lock enters, each resource has after an entry
+pub each_entered_at : (P : Resource → Type 0) (serial : ℕ) (site : Site) (row : Row) (request : Request)
+    → P (resource_after_entry row request (new_resource serial site))
+    → (resources : List Resource) → AllByRecursion (λ r. is_at site.key r ≡ true → P (resource_after_entry row request r)) resources
+    → AllByRecursion P resources → AllByRecursion P (resources_after_entry serial site row request resources)
+each_entered_at P serial site row request fresh [] entry each = (fresh, each)
+each_entered_at P serial site row request fresh (r ∷ rest) entry each =
+    cond_both (is_at site.key r) (resource_after_entry row request r ∷ rest) (r ∷ resources_after_entry serial site row request rest) (AllByRecursion P)
+    (λ here. (entry.0 here, each.1)) (λ _. (each.0, each_entered_at P serial site row request fresh rest entry.1 each.1))
+
 -- what a new resource has and an entry keeps, each resource has after an entry
-pub each_entered_among : (P : Resource → Type 0) (serial : ℕ) (domain : Domain) (key : Key) (row : Row) (request : Request)
-    → P (new_resource serial domain key) → ((r : Resource) → P r → P (resource_after_entry row request r))
-    → (resources : List Resource) → AllByRecursion P resources → AllByRecursion P (resources_after_entry serial domain key row request resources)
-each_entered_among P serial domain key row request fresh entry [] each = (entry (new_resource serial domain key) fresh, each)
-each_entered_among P serial domain key row request fresh entry (r ∷ rest) each =
-    cond_both (is_at key r) (resource_after_entry row request r ∷ rest) (r ∷ resources_after_entry serial domain key row request rest) (AllByRecursion P)
-    (λ _. (entry r each.0, each.1)) (λ _. (each.0, each_entered_among P serial domain key row request fresh entry rest each.1))
+pub each_entered_among : (P : Resource → Type 0) (serial : ℕ) (site : Site) (row : Row) (request : Request)
+    → P (new_resource serial site) → ((r : Resource) → P r → P (resource_after_entry row request r))
+    → (resources : List Resource) → AllByRecursion P resources → AllByRecursion P (resources_after_entry serial site row request resources)
+each_entered_among P serial site row request fresh entry resources each =
+    each_entered_at P serial site row request (entry (new_resource serial site) fresh) resources
+    (each_weaker P (λ r. is_at site.key r ≡ true → P (resource_after_entry row request r)) (λ r holds _. entry r holds) resources each) each
 
 -- the changes of the steps keep P of each resource
 pub record KeptByChanges (P : Resource → Type 0) : Type 0 where
-  pub fresh : (serial : ℕ) (domain : Domain) (key : Key) → P (new_resource serial domain key)
+  pub fresh : (serial : ℕ) (site : Site) → P (new_resource serial site)
   pub entry : (s : State) (e : NewRequest) → enq_refusal s e ≡ None → (r : Resource) → P r → P (resource_after_entry (enq_row s e) (enq_request s e) r)
   pub conversion : (request : Request) (pid lkid : ℕ) (block : ValueBlock) (r : Resource) → P r → P (resource_after_conversion request pid lkid block r)
   pub removal : (w : Withdrawal) (r : Resource) → P r → P (resource_after_withdrawal w r)
@@ -70,8 +79,8 @@ each_always P Q weaker serving kept =
     (λ v _. each_swept P Q serving (set_change s v).processes s.resources changed)
     (λ e passed.
     each_swept P Q serving (enq_change s e).processes (enq_change s e).resources
-    (each_entered_among P s.next_serial (enq_domain s e) (enq_key s e) (enq_row s e) (enq_request s e)
-    (kept.fresh s.next_serial (enq_domain s e) (enq_key s e)) (kept.entry s e passed) s.resources changed))
+    (each_entered_among P s.next_serial (enq_site s e) (enq_row s e) (enq_request s e)
+    (kept.fresh s.next_serial (enq_site s e)) (kept.entry s e passed) s.resources changed))
     (λ c a _ _.
     each_swept P Q serving (convert_change s c a).processes (convert_change s c a).resources
     (each_map P P (resource_after_conversion a.request c.pid (convert_lkid s c) (convert_blocks s c a).value_block)

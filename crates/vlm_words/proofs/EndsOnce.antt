@@ -18,7 +18,8 @@ use Rattle.vlm_words.specs.Sweeps.{state_after_sweep, sweep_endings}
 use Rattle.vlm_words.specs.Rows.{is_lock_of}
 use Rattle.vlm_words.specs.Declare.{declare_change}
 use Rattle.vlm_words.specs.SetValue.{set_change}
-use Rattle.vlm_words.specs.Enqueue.{enq_change, enq_domain, enq_endings, enq_key, enq_request, enq_resource, enq_row}
+use Rattle.vlm_words.specs.Trees.{enq_site}
+use Rattle.vlm_words.specs.Enqueue.{enq_change, enq_endings, enq_request, enq_resource, enq_row}
 use Rattle.vlm_words.specs.Convert.{ConversionAdmission, admission_among, admission_or, conversion_endings, convert_admission, convert_blocks, convert_change, convert_lkid, convert_request, converts_at_once, resource_after_conversion, resource_after_conversion_of, wanting_row}
 use Rattle.vlm_words.specs.Dequeue.{deq_change, deq_endings, withdrawal_of}
 use Rattle.vlm_words.specs.Runs.{Run}
@@ -112,7 +113,7 @@ enqueued_counts number s e =
     omega (
       arith,
       sweep_counts number (enq_change s e),
-      entered_among_weighs (wants number) (ends number) (wants_kept number) s.next_serial (enq_domain s e) (enq_key s e) (enq_row s e)
+      entered_among_weighs (wants number) (ends number) (wants_kept number) s.next_serial (enq_site s e) (enq_row s e)
           (enq_request s e) s.resources,
       sum_by-append (ends number) (enq_endings s e) (sweep_endings (enq_change s e).resources),
     )

@@ -234,7 +234,7 @@ pub holders_agree_always : (steps : List Step) (answers : List Answer) (endings 
     → Run steps answers endings last → AllByRecursion HoldersAgree last.resources
 holders_agree_always steps answers endings last run =
     each_always HoldersAgree HoldersAgree (λ _ agree. agree) (λ _ r agree. served_agrees r agree)
-    (record { fresh = λ _ _ _. tt; entry = entered_agrees; conversion = converted_agrees; removal = dequeued_agrees })
+    (record { fresh = λ _ _. tt; entry = entered_agrees; conversion = converted_agrees; removal = dequeued_agrees })
     steps answers endings last run
 
 -- after every run the held modes are compatible

@@ -102,7 +102,7 @@ record SameConverting (before after : Resource) : Type 0 where
 
 -- a resource is itself
 pub same_resource : (r : Resource) → IsSameResource r r
-same_resource r = record { serial = refl; parent = refl; domain = refl; name = refl }
+same_resource r = record { serial = refl; parent = refl; domain = refl; name = refl; level = refl }
 
 -- serving the conversions leaves the waiting queue
 conversions_leave_waiting : (r : Resource) (rows : List Row) → SameWaiting r (service_of_conversions r rows).resource
@@ -113,7 +113,7 @@ conversions_leave_waiting r (row ∷ rows) =
     cond_both (wanted_fits row.want r.granted rows) (service_after_grant row (service_of_conversions granted rows)) (no_service r)
     (λ s. SameWaiting r s.resource)
     (λ _. record {
-      same = record { serial = further.same.serial; parent = further.same.parent; domain = further.same.domain; name = further.same.name };
+      same = record { serial = further.same.serial; parent = further.same.parent; domain = further.same.domain; name = further.same.name; level = further.same.level };
       waiting = further.waiting;
     })
     (λ _. record { same = same_resource r; waiting = refl })
@@ -127,7 +127,7 @@ waiting_leaves_conversions r (row ∷ rows) =
     cond_both (wanted_fits row.want r.granted r.converting) (service_after_grant row (service_of_waiting granted rows)) (no_service r)
     (λ s. SameConverting r s.resource)
     (λ _. record {
-      same = record { serial = further.same.serial; parent = further.same.parent; domain = further.same.domain; name = further.same.name };
+      same = record { serial = further.same.serial; parent = further.same.parent; domain = further.same.domain; name = further.same.name; level = further.same.level };
       converting = further.converting;
     })
     (λ _. record { same = same_resource r; converting = refl })
@@ -147,6 +147,7 @@ same_then a b c first second = record {
   parent = second.parent ∙ first.parent;
   domain = second.domain ∙ first.domain;
   name = second.name ∙ first.name;
+  level = second.level ∙ first.level;
 }
 
 -- once the conversions are served, and none is left, the new requests are
@@ -205,7 +206,7 @@ with_any_value_block block before after endings first = record {
   conversions = first.conversions;
   new_requests = first.new_requests;
   given = first.given;
-  same = record { serial = first.same.serial; parent = first.same.parent; domain = first.same.domain; name = first.same.name };
+  same = record { serial = first.same.serial; parent = first.same.parent; domain = first.same.domain; name = first.same.name; level = first.same.level };
   converting = first.converting;
   waiting = first.waiting;
   granted = first.granted;

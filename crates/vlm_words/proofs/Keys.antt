@@ -10,8 +10,9 @@ use Rattle.vlm_words.specs.declared.locks.Request.{Request}
 use Rattle.vlm_words.specs.declared.locks.Row.{Row}
 use Rattle.vlm_words.specs.declared.resources.Domain.TheVariants.{Group, System}
 use Rattle.vlm_words.specs.declared.resources.Domain.{Domain}
-use Rattle.vlm_words.specs.declared.resources.Key.TheVariants.{Root}
+use Rattle.vlm_words.specs.declared.resources.Key.TheVariants.{Root, Below}
 use Rattle.vlm_words.specs.declared.resources.Key.{Key}
+use Rattle.vlm_words.specs.declared.resources.Site.{Site}
 use Rattle.vlm_words.specs.declared.resources.ValueBlock.{ValueBlock}
 use Rattle.vlm_words.specs.declared.steps.Answer.{Answer}
 use Rattle.vlm_words.specs.declared.steps.NewRequest.{NewRequest}
@@ -22,16 +23,18 @@ use Rattle.vlm_words.specs.Effects.{with_value_block}
 use Rattle.vlm_words.specs.Grants.{resource_after_grant, service}
 use Rattle.vlm_words.specs.Sweeps.{blocks_after_service, is_vacant, resource_after_service, resources_after_service, resources_after_sweep, state_after_sweep}
 use Rattle.vlm_words.specs.Rows.{is_lock_of}
-use Rattle.vlm_words.specs.Resources.{is_at, is_domain, new_resource}
+use Rattle.vlm_words.specs.Resources.{IsKeyed, is_at, is_domain, key_name, key_parent, new_resource}
+use Rattle.vlm_words.specs.Checks.{holds_lock}
+use Rattle.vlm_words.specs.Trees.{enq_site, parent_lkid, parent_resource, site_below}
 use Rattle.vlm_words.specs.Declare.{declare_change}
 use Rattle.vlm_words.specs.SetValue.{set_change}
-use Rattle.vlm_words.specs.Enqueue.{enq_change, enq_domain, enq_key, enq_request, enq_row, has_resource, is_at_once, resource_after_entry, resources_after_entry}
+use Rattle.vlm_words.specs.Enqueue.{enq_change, enq_key, enq_request, enq_row, has_resource, is_at_once, resource_after_entry, resources_after_entry}
 use Rattle.vlm_words.specs.Convert.{convert_blocks, convert_change, convert_lkid, converts_at_once, resource_after_conversion, resource_after_conversion_of, resource_without_granted, wanting_row}
 use Rattle.vlm_words.specs.Dequeue.{Withdrawal, deq_change, is_held_by_writer, resource_after_cancel, resource_after_withdrawal, resource_after_writer, resource_without, value_block_after_writer, withdrawal_of}
 use Rattle.vlm_words.specs.Runs.{Run}
 use Rattle.vlm_words.specs.Laws.{HaveOneKey, IsSameResource, KeysAreApart, SerialsRise}
 use Rattle.vlm_words.specs.Lines.{given}
-use Rattle.vlm_words.proofs.Each.{each_filter, each_map, each_weaker}
+use Rattle.vlm_words.proofs.Each.{Found, each_at, each_filter, each_map, each_weaker, found_at}
 use Rattle.vlm_words.proofs.EachResource.{each_served, each_entered_among}
 use Rattle.vlm_words.proofs.Pairs.{EachPair, AllPairs-from_recursion, each_pair_filter}
 use Rattle.vlm_words.proofs.InOrder.{same_resource, service_in_order}
@@ -42,19 +45,19 @@ abbrev pub StandsOnPlaces : (Resource → Resource → Type 0) → Type 0
 StandsOnPlaces R = (a b c d : Resource) → IsSameResource a c → IsSameResource b d → R a b → R c d
 
 -- a changed resource stands where it stood
-abbrev KeepsPlace : (Resource → Resource) → Type 0
+abbrev pub KeepsPlace : (Resource → Resource) → Type 0
 KeepsPlace f = (r : Resource) → IsSameResource r (f r)
 
 -- a lock's entry
-entry_keeps_place : (row : Row) (request : Request) → KeepsPlace (resource_after_entry row request)
+pub entry_keeps_place : (row : Row) (request : Request) → KeepsPlace (resource_after_entry row request)
 unfolding resource_after_entry
 entry_keeps_place row request r =
     cond_both (is_at_once request r) (resource_after_grant r row) (record r { waiting = r.waiting ++ row ∷ [] }) (IsSameResource r)
-    (λ _. record { serial = refl; parent = refl; domain = refl; name = refl })
-    (λ _. record { serial = refl; parent = refl; domain = refl; name = refl })
+    (λ _. record { serial = refl; parent = refl; domain = refl; name = refl; level = refl })
+    (λ _. record { serial = refl; parent = refl; domain = refl; name = refl; level = refl })
 
 -- a conversion
-conversion_keeps_place : (request : Request) (pid lkid : ℕ) (block : ValueBlock) → KeepsPlace (resource_after_conversion request pid lkid block)
+pub conversion_keeps_place : (request : Request) (pid lkid : ℕ) (block : ValueBlock) → KeepsPlace (resource_after_conversion request pid lkid block)
 unfolding resource_after_conversion
 conversion_keeps_place request pid lkid block r = of_found (find (is_lock_of pid lkid) r.granted)
   where
@@ -64,26 +67,26 @@ conversion_keeps_place request pid lkid block r = of_found (find (is_lock_of pid
         cond_both (converts_at_once request lkid r)
         (with_value_block block (resource_after_grant (resource_without_granted lkid r) (wanting_row row request)))
         (record (resource_without_granted lkid r) { converting = r.converting ++ wanting_row row request ∷ [] }) (IsSameResource r)
-        (λ _. record { serial = refl; parent = refl; domain = refl; name = refl })
-        (λ _. record { serial = refl; parent = refl; domain = refl; name = refl })
+        (λ _. record { serial = refl; parent = refl; domain = refl; name = refl; level = refl })
+        (λ _. record { serial = refl; parent = refl; domain = refl; name = refl; level = refl })
 
 -- a dequeue
-withdrawal_keeps_place : (w : Withdrawal) → KeepsPlace (resource_after_withdrawal w)
+pub withdrawal_keeps_place : (w : Withdrawal) → KeepsPlace (resource_after_withdrawal w)
 unfolding resource_without resource_after_cancel
 withdrawal_keeps_place w r =
     cond_both w.cancels (resource_after_cancel w.lkid r) (resource_without w.lkid (resource_after_writer w r)) (IsSameResource r)
-    (λ _. record { serial = refl; parent = refl; domain = refl; name = refl })
+    (λ _. record { serial = refl; parent = refl; domain = refl; name = refl; level = refl })
     (λ _.
     cond_both (is_held_by_writer w.lkid r) (record r { value_block = value_block_after_writer w r.value_block }) r
     (λ left. IsSameResource r (resource_without w.lkid left))
-    (λ _. record { serial = refl; parent = refl; domain = refl; name = refl })
-    (λ _. record { serial = refl; parent = refl; domain = refl; name = refl }))
+    (λ _. record { serial = refl; parent = refl; domain = refl; name = refl; level = refl })
+    (λ _. record { serial = refl; parent = refl; domain = refl; name = refl; level = refl }))
 
 -- service, whatever value block is left
-service_keeps_place : (block : ValueBlock) (r : Resource) → IsSameResource r (with_value_block block (service r).resource)
+pub service_keeps_place : (block : ValueBlock) (r : Resource) → IsSameResource r (with_value_block block (service r).resource)
 service_keeps_place block r =
     let same : IsSameResource r (service r).resource = (service_in_order r).same in
-    record { serial = same.serial; parent = same.parent; domain = same.domain; name = same.name }
+    record { serial = same.serial; parent = same.parent; domain = same.domain; name = same.name; level = same.level }
 
 -- what holds of each pair holds of each pair of changed resources
 pairs_after_map : (R : Resource → Resource → Type 0) → StandsOnPlaces R → (f : Resource → Resource) → KeepsPlace f → (resources : List Resource)
@@ -115,26 +118,26 @@ pairs_after_sweep R stands processes resources pairs =
     each_pair_filter R (λ r. not (is_vacant r)) (resources_after_service processes resources) (pairs_after_service R stands processes resources pairs)
 
 -- a lock's entry keeps the pairs, where those before a new resource have the relation to it
-pairs_after_entry : (R : Resource → Resource → Type 0) → StandsOnPlaces R → (serial : ℕ) (domain : Domain) (key : Key) (row : Row)
+pairs_after_entry : (R : Resource → Resource → Type 0) → StandsOnPlaces R → (serial : ℕ) (site : Site) (row : Row)
     (request : Request) (resources : List Resource)
-    → AllByRecursion (λ r. is_at key r ≡ false → R r (new_resource serial domain key)) resources
-    → EachPair R resources → EachPair R (resources_after_entry serial domain key row request resources)
-pairs_after_entry R stands serial domain key row request [] fresh pairs = (tt, tt)
-pairs_after_entry R stands serial domain key row request (r ∷ rest) fresh pairs =
-    cond_both (is_at key r) (resource_after_entry row request r ∷ rest) (r ∷ resources_after_entry serial domain key row request rest) (EachPair R)
+    → AllByRecursion (λ r. is_at site.key r ≡ false → R r (new_resource serial site)) resources
+    → EachPair R resources → EachPair R (resources_after_entry serial site row request resources)
+pairs_after_entry R stands serial site row request [] fresh pairs = (tt, tt)
+pairs_after_entry R stands serial site row request (r ∷ rest) fresh pairs =
+    cond_both (is_at site.key r) (resource_after_entry row request r ∷ rest) (r ∷ resources_after_entry serial site row request rest) (EachPair R)
     (λ _. (
       each_weaker (R r) (R (resource_after_entry row request r))
           (λ other to. stands r other (resource_after_entry row request r) other (entry_keeps_place row request r) (same_resource other) to) rest pairs.0,
       pairs.1,
     ))
     (λ elsewhere. (
-      each_entered_among (R r) serial domain key row request (fresh.0 elsewhere)
+      each_entered_among (R r) serial site row request (fresh.0 elsewhere)
           (λ other to. stands r other r (resource_after_entry row request other) (same_resource r) (entry_keeps_place row request other) to) rest pairs.0,
-      pairs_after_entry R stands serial domain key row request rest fresh.1 pairs.1,
+      pairs_after_entry R stands serial site row request rest fresh.1 pairs.1,
     ))
 
 -- serials rise
-abbrev Rises : Resource → Resource → Type 0
+abbrev pub Rises : Resource → Resource → Type 0
 Rises a b = a.serial < b.serial
 
 rises_on_places : StandsOnPlaces Rises
@@ -153,73 +156,100 @@ two_keys_on_places a b c d first second two one =
     })
 
 -- the same domain is itself
-is_domain_refl : (domain : Domain) → is_domain domain domain ≡ true
+pub is_domain_refl : (domain : Domain) → is_domain domain domain ≡ true
 is_domain_refl (Group group) = eq-eqb group group refl
 is_domain_refl System = refl
 
 -- domains that pass the test are the same
-is_domain-true : (a b : Domain) → is_domain a b ≡ true → a ≡ b
+pub is_domain-true : (a b : Domain) → is_domain a b ≡ true → a ≡ b
 is_domain-true (Group a) (Group b) same = ap Group (eqb-true a b same)
 is_domain-true (Group a) System same = cc
 is_domain-true System (Group b) same = cc
 is_domain-true System System same = refl
 
 -- a resource with the key of a new one stands under it
-pub at_key : (serial : ℕ) (domain : Domain) (name : List ℕ) (r : Resource) → HaveOneKey r (new_resource serial domain (Root domain name))
-    → is_at (Root domain name) r ≡ true
-at_key serial domain name r one =
-    rw (eq-eqb r.parent 0 one.parent) (rw (ap (λ (d : Domain). is_domain d domain) (one.domain one.parent) ∙ is_domain_refl domain)
-    ((bytes_decides r.name name).1 one.name))
+pub at_key : (domain : Domain) (key : Key) (r : Resource) → IsKeyed domain key → r.parent ≡ key_parent key → (r.parent ≡ 0 → r.domain ≡ domain)
+    → r.name ≡ key_name key → is_at key r ≡ true
+at_key domain (Root own name) r keyed parent in_domain named =
+    rw (eq-eqb r.parent 0 parent) (rw (ap (λ (d : Domain). is_domain d own) (in_domain parent ∙ keyed) ∙ is_domain_refl own)
+    ((bytes_decides r.name name).1 named))
+at_key domain (Below up name) r keyed parent in_domain named = rw (eq-eqb r.parent up parent) ((bytes_decides r.name name).1 named)
 
--- two resources under one key of a root have one key
-pub one_key : (domain : Domain) (name : List ℕ) (a b : Resource) → is_at (Root domain name) a ≡ true → is_at (Root domain name) b ≡ true
-    → HaveOneKey a b
-one_key domain name a b first second =
-    let left : ((a.parent == 0) && is_domain a.domain domain ≡ true) × (pointwise ◌==◌ a.name name ≡ true) = and_parts _ _ first in
-    let right : ((b.parent == 0) && is_domain b.domain domain ≡ true) × (pointwise ◌==◌ b.name name ≡ true) = and_parts _ _ second in
-    let left_root = and_parts (a.parent == 0) (is_domain a.domain domain) left.0 in
-    let right_root = and_parts (b.parent == 0) (is_domain b.domain domain) right.0 in
+-- where the key leads, the resource has the parent and the name that it says
+pub key_at : (domain : Domain) (key : Key) (r : Resource) → IsKeyed domain key → is_at key r ≡ true
+    → (r.parent ≡ key_parent key) × (r.parent ≡ 0 → r.domain ≡ domain) × (r.name ≡ key_name key)
+key_at domain (Root own name) r keyed at =
+    let parts : ((r.parent == 0) && is_domain r.domain own ≡ true) × (pointwise ◌==◌ r.name name ≡ true) = and_parts _ _ at in
+    let root = and_parts (r.parent == 0) (is_domain r.domain own) parts.0 in (
+      eqb-true r.parent 0 root.0,
+      λ _. is_domain-true r.domain own root.1 ∙ sym keyed,
+      (bytes_decides r.name name).0 parts.1,
+    )
+key_at domain (Below up name) r keyed at =
+    let parts : ((r.parent == up) ≡ true) × (pointwise ◌==◌ r.name name ≡ true) = and_parts _ _ at in
+    let parent : r.parent ≡ up = eqb-true r.parent up parts.0 in (
+      parent,
+      λ root. absurd (omega (arith, keyed, parent, root)),
+      (bytes_decides r.name name).0 parts.1,
+    )
+
+-- two resources under one key have one key
+pub one_key : (domain : Domain) (key : Key) (a b : Resource) → IsKeyed domain key → is_at key a ≡ true → is_at key b ≡ true → HaveOneKey a b
+one_key domain key a b keyed first second =
+    let left = key_at domain key a keyed first in
+    let right = key_at domain key b keyed second in
     record {
-      parent = eqb-true a.parent 0 left_root.0 ∙ sym (eqb-true b.parent 0 right_root.0);
-      domain = λ _. is_domain-true a.domain domain left_root.1 ∙ sym (is_domain-true b.domain domain right_root.1);
-      name = (bytes_decides a.name name).0 left.1 ∙ sym ((bytes_decides b.name name).0 right.1);
+      parent = left.0 ∙ sym right.0;
+      domain = λ root. left.1 root ∙ sym (right.1 (right.0 ∙ sym left.0 ∙ root));
+      name = left.2 ∙ sym right.2;
     }
 
--- serials rise and are below the one to come, no more of them than identifications were given, and no two
--- resources have one key
+-- a serial that was given: from 1, and below the one to come
+abbrev pub WasGiven : ℕ → Resource → Type 0
+WasGiven next r = (0 < r.serial) × (r.serial < next)
+
+-- serials rise, were given, no more of them than identifications, and no two resources have one key
 pub record Placed (s : State) : Type 0 where
   pub rising : EachPair Rises s.resources
-  pub given : AllByRecursion (λ r. r.serial < s.next_serial) s.resources
+  pub given : AllByRecursion (WasGiven s.next_serial) s.resources
+  pub first : 0 < s.next_serial
   pub few : s.next_serial ≤ s.next_lkid
   pub two_keys : EachPair HaveTwoKeys s.resources
 
+-- a serial that was given stays so, on the same resource and once more are given
+still_given : (next later : ℕ) (before after : Resource) → next ≤ later → IsSameResource before after → WasGiven next before → WasGiven later after
+still_given next later before after more same given = (omega (arith, same.serial, given.0), omega (arith, same.serial, given.1))
+
 -- the serials after a lock's entry are below the one that comes then
-given_after_entry : (n : ℕ) (domain : Domain) (key : Key) (row : Row) (request : Request) (resources : List Resource)
-    → AllByRecursion (λ r. r.serial < n) resources
-    → AllByRecursion (λ r. r.serial < cond (has_resource key resources) n (n + 1)) (resources_after_entry n domain key row request resources)
-given_after_entry n domain key row request [] given =
-    let serial : (resource_after_entry row request (new_resource n domain key)).serial ≡ n =
-    (entry_keeps_place row request (new_resource n domain key)).serial in
-    (omega arith, tt)
-given_after_entry n domain key row request (r ∷ rest) given =
-    let serial : (resource_after_entry row request r).serial ≡ r.serial = (entry_keeps_place row request r).serial in
-    let below : r.serial < n = given.0 in
-    let behind : AllByRecursion (λ x. x.serial < cond (has_resource key rest) n (n + 1)) (resources_after_entry n domain key row request rest) =
-    given_after_entry n domain key row request rest given.1 in
-    elim (is_at key r) as (λ b. AllByRecursion (λ x. x.serial < cond (b || has_resource key rest) n (n + 1))
-    (cond b (resource_after_entry row request r ∷ rest) (r ∷ resources_after_entry n domain key row request rest))) [
-      | true ↦ (omega (arith, serial), given.1)
-      | false ↦ (below_either (has_resource key rest) r.serial n below, behind)
+given_after_entry : (n : ℕ) (site : Site) (row : Row) (request : Request) (resources : List Resource) → 0 < n
+    → AllByRecursion (WasGiven n) resources
+    → AllByRecursion (WasGiven (cond (has_resource site.key resources) n (n + 1))) (resources_after_entry n site row request resources)
+given_after_entry n site row request [] first given =
+    let serial : (resource_after_entry row request (new_resource n site)).serial ≡ n =
+    (entry_keeps_place row request (new_resource n site)).serial in
+    ((omega (arith, serial), omega (arith, serial)), tt)
+given_after_entry n site row request (r ∷ rest) first given =
+    let behind : AllByRecursion (WasGiven (cond (has_resource site.key rest) n (n + 1))) (resources_after_entry n site row request rest) =
+    given_after_entry n site row request rest first given.1 in
+    elim (is_at site.key r) as (λ b. AllByRecursion (WasGiven (cond (b || has_resource site.key rest) n (n + 1)))
+    (cond b (resource_after_entry row request r ∷ rest) (r ∷ resources_after_entry n site row request rest))) [
+      | true ↦ (still_given n n r (resource_after_entry row request r) (omega arith) (entry_keeps_place row request r) given.0, given.1)
+      | false ↦ (still_given n (cond (has_resource site.key rest) n (n + 1)) r r (no_less (has_resource site.key rest)) (same_resource r) given.0, behind)
     ]
   where
-    below_either : (b : Bool) (m n : ℕ) → m < n → m < cond b n (n + 1)
-    below_either true m n below = below
-    below_either false m n below = omega arith
+    no_less : (b : Bool) → n ≤ cond b n (n + 1)
+    no_less true = omega arith
+    no_less false = omega arith
 
 -- an entry makes a resource at most, and takes one identification
 few_after_entry : (b : Bool) (serial lkid : ℕ) → serial ≤ lkid → cond b serial (serial + 1) ≤ lkid + 1
 few_after_entry true serial lkid few = omega arith
 few_after_entry false serial lkid few = omega arith
+
+-- the next serial after an entry is none of 0
+first_after_entry : (b : Bool) (serial : ℕ) → 0 < serial → 0 < cond b serial (serial + 1)
+first_after_entry true serial first = first
+first_after_entry false serial first = omega arith
 
 -- a sweep keeps the places, where the next serial stays
 swept_placed : (s : State) → Placed s → Placed (state_after_sweep s)
@@ -227,9 +257,10 @@ unfolding resources_after_sweep
 swept_placed s placed = record {
   rising = pairs_after_sweep Rises rises_on_places s.processes s.resources placed.rising;
   given =
-      each_filter (λ r. r.serial < s.next_serial) (λ r. not (is_vacant r)) (resources_after_service s.processes s.resources)
-      (each_served (λ r. r.serial < s.next_serial) (λ r. r.serial < s.next_serial)
-      (λ block r below. omega (arith, (service_keeps_place block r).serial)) s.processes s.resources placed.given);
+      each_filter (WasGiven s.next_serial) (λ r. not (is_vacant r)) (resources_after_service s.processes s.resources)
+      (each_served (WasGiven s.next_serial) (WasGiven s.next_serial)
+      (λ block r was. still_given s.next_serial s.next_serial r _ (omega arith) (service_keeps_place block r) was) s.processes s.resources placed.given);
+  first = placed.first;
   few = placed.few;
   two_keys = pairs_after_sweep HaveTwoKeys two_keys_on_places s.processes s.resources placed.two_keys;
 }
@@ -240,48 +271,84 @@ mapped_placed : (s t : State) (f : Resource → Resource) → KeepsPlace f → t
 mapped_placed s t f keeps changed same same_locks placed =
     let rising : EachPair Rises (map f s.resources) = pairs_after_map Rises rises_on_places f keeps s.resources placed.rising in
     let two_keys : EachPair HaveTwoKeys (map f s.resources) = pairs_after_map HaveTwoKeys two_keys_on_places f keeps s.resources placed.two_keys in
-    let given : AllByRecursion (λ r. r.serial < t.next_serial) (map f s.resources) =
-    each_map (λ r. r.serial < s.next_serial) (λ r. r.serial < t.next_serial) f (λ r below. omega (arith, (keeps r).serial, same)) s.resources placed.given in
+    let given : AllByRecursion (WasGiven t.next_serial) (map f s.resources) =
+    each_map (WasGiven s.next_serial) (WasGiven t.next_serial) f
+    (λ r was. still_given s.next_serial t.next_serial r (f r) (omega (arith, same)) (keeps r) was) s.resources placed.given in
     record {
       rising = subst (EachPair Rises) (sym changed) rising;
-      given = subst (AllByRecursion (λ r. r.serial < t.next_serial)) (sym changed) given;
+      given = subst (AllByRecursion (WasGiven t.next_serial)) (sym changed) given;
+      first = omega (arith, placed.first, same);
       few = omega (arith, placed.few, same, same_locks);
       two_keys = subst (EachPair HaveTwoKeys) (sym changed) two_keys;
     }
+
+-- what is so of each element is so of the first that passes a test
+pub of_found : {X : Type 0} (P : X → Type 0) (test : X → Bool) (xs : List X) (z : X) → AllByRecursion P xs → find test xs ≡ Some z → P z
+of_found P test xs z each is =
+    let at : Found test xs z = found_at test xs z is in
+    each_at P at.before z at.after (subst (AllByRecursion P) at.split each)
+
+-- the key of what a new request asks for fits its domain
+pub enq_keyed : (s : State) (e : NewRequest) → Placed s → IsKeyed (enq_site s e).domain (enq_site s e).key
+unfolding parent_resource
+enq_keyed s e placed = below (parent_lkid s e == 0)
+  where
+    of_parent : (parent : Option Resource) → find (holds_lock e.pid (parent_lkid s e)) s.resources ≡ parent
+        → IsKeyed (site_below s e parent).domain (site_below s e parent).key
+    of_parent None is = refl
+    of_parent (Some parent) is = (of_found (WasGiven s.next_serial) (holds_lock e.pid (parent_lkid s e)) s.resources parent placed.given is).0
+
+    below : (none : Bool) → IsKeyed (site_below s e (cond none None (find (holds_lock e.pid (parent_lkid s e)) s.resources))).domain
+        (site_below s e (cond none None (find (holds_lock e.pid (parent_lkid s e)) s.resources))).key
+    below true = refl
+    below false = of_parent (find (holds_lock e.pid (parent_lkid s e)) s.resources) refl
 
 -- a new request keeps the places
 entry_placed : (s : State) (e : NewRequest) → Placed s → Placed (enq_change s e)
 unfolding enq_change
 entry_placed s e placed = record {
   rising =
-      pairs_after_entry Rises rises_on_places s.next_serial (enq_domain s e) (enq_key s e) (enq_row s e) (enq_request s e) s.resources
-      (each_weaker (λ r. r.serial < s.next_serial) (λ r. is_at (enq_key s e) r ≡ false → r.serial < s.next_serial) (λ r below _. below) s.resources
+      pairs_after_entry Rises rises_on_places s.next_serial (enq_site s e) (enq_row s e) (enq_request s e) s.resources
+      (each_weaker (WasGiven s.next_serial) (λ r. is_at (enq_key s e) r ≡ false → r.serial < s.next_serial) (λ r was _. was.1) s.resources
       placed.given) placed.rising;
-  given = given_after_entry s.next_serial (enq_domain s e) (enq_key s e) (enq_row s e) (enq_request s e) s.resources placed.given;
+  given = given_after_entry s.next_serial (enq_site s e) (enq_row s e) (enq_request s e) s.resources placed.first placed.given;
+  first = first_after_entry (has_resource (enq_key s e) s.resources) s.next_serial placed.first;
   few = few_after_entry (has_resource (enq_key s e) s.resources) s.next_serial s.next_lkid placed.few;
   two_keys =
-      pairs_after_entry HaveTwoKeys two_keys_on_places s.next_serial (enq_domain s e) (enq_key s e) (enq_row s e) (enq_request s e) s.resources
+      pairs_after_entry HaveTwoKeys two_keys_on_places s.next_serial (enq_site s e) (enq_row s e) (enq_request s e) s.resources
       (each_elsewhere s.resources) placed.two_keys;
 }
   where
     each_elsewhere : (resources : List Resource)
-        → AllByRecursion (λ r. is_at (enq_key s e) r ≡ false → HaveTwoKeys r (new_resource s.next_serial (enq_domain s e) (enq_key s e))) resources
+        → AllByRecursion (λ r. is_at (enq_key s e) r ≡ false → HaveTwoKeys r (new_resource s.next_serial (enq_site s e))) resources
     each_elsewhere [] = tt
     each_elsewhere (r ∷ rest) = (
-      (λ elsewhere one. let here : is_at (enq_key s e) r ≡ true = at_key s.next_serial (enq_domain s e) e.name r one in cc),
+      (λ elsewhere one.
+          let here : is_at (enq_key s e) r ≡ true =
+          at_key (enq_site s e).domain (enq_key s e) r (enq_keyed s e placed) one.parent one.domain one.name in cc),
       each_elsewhere rest,
     )
+
+-- where neither the resources nor the numbers change, the places stay
+unchanged_placed : (s t : State) → t.resources ≡ s.resources → t.next_serial ≡ s.next_serial → t.next_lkid ≡ s.next_lkid → Placed s → Placed t
+unchanged_placed s t resources same same_locks placed = record {
+  rising = subst (EachPair Rises) (sym resources) placed.rising;
+  given = rw (resources, same) placed.given;
+  first = omega (arith, placed.first, same);
+  few = omega (arith, placed.few, same, same_locks);
+  two_keys = subst (EachPair HaveTwoKeys) (sym resources) placed.two_keys;
+}
 
 -- after every run the resources are placed
 pub placed_always : (steps : List Step) (answers : List Answer) (endings : List Ending) (last : State)
     → Run steps answers endings last → Placed last
 unfolding declare_change set_change convert_change deq_change
 placed_always =
-    always (λ _ s. Placed s) (record { rising = tt; given = tt; few = omega arith; two_keys = tt })
+    always (λ _ s. Placed s) (record { rising = tt; given = tt; first = omega arith; few = omega arith; two_keys = tt })
     (λ _ _ endings s _ placed.
     kept_by_stepped (λ _ t. Placed t) endings s placed
-    (λ d _. swept_placed (declare_change s d) (record { rising = placed.rising; given = placed.given; few = placed.few; two_keys = placed.two_keys }))
-    (λ v _. swept_placed (set_change s v) (record { rising = placed.rising; given = placed.given; few = placed.few; two_keys = placed.two_keys }))
+    (λ d _. swept_placed (declare_change s d) (unchanged_placed s (declare_change s d) refl refl refl placed))
+    (λ v _. swept_placed (set_change s v) (unchanged_placed s (set_change s v) refl refl refl placed))
     (λ e _. swept_placed (enq_change s e) (entry_placed s e placed))
     (λ c a _ _.
     swept_placed (convert_change s c a)
@@ -298,7 +365,10 @@ serials_always steps answers endings last run =
     let placed : Placed last = placed_always steps answers endings last run in
     record {
       rising = AllPairs-from_recursion Rises last.resources placed.rising;
-      given = All-from_recursion (λ r. r.serial < last.next_serial) last.resources placed.given;
+      from_1 = All-from_recursion (λ r. 0 < r.serial) last.resources
+          (each_weaker (WasGiven last.next_serial) (λ r. 0 < r.serial) (λ r was. was.0) last.resources placed.given);
+      given = All-from_recursion (λ r. r.serial < last.next_serial) last.resources
+          (each_weaker (WasGiven last.next_serial) (λ r. r.serial < last.next_serial) (λ r was. was.1) last.resources placed.given);
       few = placed.few;
     }
 

@@ -8,7 +8,9 @@ pub mod HeldModes
 pub mod RowsFit
 pub mod Sums
 pub mod Weights
+pub mod Moves
 pub mod Apart
+pub mod Holders
 pub mod Admissions
 pub mod Counts
 pub mod EndsOnce
@@ -17,4 +19,8 @@ pub mod Keys
 pub mod AtOnce
 pub mod Writes
 pub mod Settled
+pub mod Processes
 pub mod Declarations
+pub mod Quotas
+pub mod Holdings
+pub mod Trees

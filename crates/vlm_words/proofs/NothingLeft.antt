@@ -120,7 +120,7 @@ heads_conflict r = heads r.granted r.converting r.waiting
 -- every change keeps what says nothing
 kept_by_all : KeptByChanges (λ _. ⊤)
 kept_by_all = record {
-  fresh = λ _ _ _. tt;
+  fresh = λ _ _. tt;
   entry = λ _ _ _ _ _. tt;
   conversion = λ _ _ _ _ _ _. tt;
   removal = λ _ _ _. tt;

@@ -11,8 +11,9 @@ use Rattle.vlm_words.specs.declared.steps.NewRequest.{NewRequest}
 use Rattle.vlm_words.specs.Modes.{rank}
 use Rattle.vlm_words.specs.Flags.{expedite, has_flag}
 use Rattle.vlm_words.specs.State.{State}
-use Rattle.vlm_words.specs.Checks.{caller_refusal, lock_refusal, numbers_refusal, or_else, queue_refusal, request_numbers_refusal, status_block_refusal, which_refusal}
-use Rattle.vlm_words.specs.Enqueue.{enq_argument_refusal, enq_at_once, enq_refusal, expedite_refusal, name_refusal}
+use Rattle.vlm_words.specs.Checks.{caller_refusal, lock_refusal, or_else, queue_refusal, request_numbers_refusal, status_block_refusal, which_refusal}
+use Rattle.vlm_words.specs.Trees.{site_refusal}
+use Rattle.vlm_words.specs.Enqueue.{enq_argument_refusal, enq_form_refusal, enq_limit_refusal, enq_refusal, expedite_refusal, name_refusal}
 use Rattle.vlm_words.specs.Convert.{ConversionAdmission, admission_refusal, convert_admission, convert_argument_refusal, convert_lkid, convert_refusal, pair_refusal}
 
 -- where neither of two checks refuses, each passes
@@ -44,33 +45,45 @@ second_fails : (a b : Bool) → (a && b) ≡ false → a ≡ true → b ≡ fals
 second_fails true b both first = both
 second_fails false b both first = cc
 
--- where none of the checks refuses, the fifth passes
-pub fifth_passes : (a b c d e later : Option Cond) → or_else a (or_else b (or_else c (or_else d (or_else e later)))) ≡ None → e ≡ None
-fifth_passes None None None None e later passed = (both_pass e later passed).0
-fifth_passes None None None (Some refusal) e later passed = cc
-fifth_passes None None (Some refusal) d e later passed = cc
-fifth_passes None (Some refusal) c d e later passed = cc
-fifth_passes (Some refusal) b c d e later passed = cc
+-- where none of four checks refuses, each passes
+pub four_pass : (a b c d : Option Cond) → or_else a (or_else b (or_else c d)) ≡ None → (a ≡ None) × (b ≡ None) × (c ≡ None) × (d ≡ None)
+four_pass None None None d passed = (refl, refl, refl, passed)
+four_pass None None (Some refusal) d passed = cc
+four_pass None (Some refusal) c d passed = cc
+four_pass (Some refusal) b c d passed = cc
+
+-- where none of five checks refuses, the last passes
+fifth_passes : (a b c d e : Option Cond) → or_else a (or_else b (or_else c (or_else d e))) ≡ None → e ≡ None
+fifth_passes None None None None e passed = passed
+fifth_passes None None None (Some refusal) e passed = cc
+fifth_passes None None (Some refusal) d e passed = cc
+fifth_passes None (Some refusal) c d e passed = cc
+fifth_passes (Some refusal) b c d e passed = cc
+
+-- the four groups of checks of an accepted request pass
+pub enq_passes : (s : State) (e : NewRequest) → enq_refusal s e ≡ None
+    → (caller_refusal s e.pid ≡ None) × (enq_form_refusal s e ≡ None) × (site_refusal s e ≡ None) × (enq_limit_refusal s e ≡ None)
+unfolding enq_refusal
+enq_passes s e passed = four_pass (caller_refusal s e.pid) (enq_form_refusal s e) (site_refusal s e) (enq_limit_refusal s e) passed
 
 -- where none of six checks refuses, the last passes
-last_passes : (a b c d e last : Option Cond) → or_else a (or_else b (or_else c (or_else d (or_else e last)))) ≡ None → last ≡ None
-last_passes None None None None e last passed = (both_pass e last passed).1
-last_passes None None None (Some refusal) e last passed = cc
-last_passes None None (Some refusal) d e last passed = cc
-last_passes None (Some refusal) c d e last passed = cc
-last_passes (Some refusal) b c d e last passed = cc
+pub sixth_passes : (a b c d e last : Option Cond) → or_else a (or_else b (or_else c (or_else d (or_else e last)))) ≡ None → last ≡ None
+sixth_passes None None None None e last passed = (both_pass e last passed).1
+sixth_passes None None None (Some refusal) e last passed = cc
+sixth_passes None None (Some refusal) d e last passed = cc
+sixth_passes None (Some refusal) c d e last passed = cc
+sixth_passes (Some refusal) b c d e last passed = cc
 
 -- an accepted request with EXPEDITE asks for NL
 pub expedited_is_null : (s : State) (e : NewRequest) → enq_refusal s e ≡ None → has_flag e.flags expedite ≡ true → e.mode ≡ Nl
-unfolding enq_refusal expedite_refusal
+unfolding enq_form_refusal expedite_refusal
 expedited_is_null s e passed flagged =
     rank_zero e.mode
     (not-false (rank e.mode == 0)
     (second_fails (has_flag e.flags expedite) (not (rank e.mode == 0))
     (test_fails (has_flag e.flags expedite && not (rank e.mode == 0)) Unsupported
-    (fifth_passes (caller_refusal s e.pid) (enq_argument_refusal e) (status_block_refusal s e.pid e.block) (name_refusal e.name)
-    (cond (has_flag e.flags expedite && not (rank e.mode == 0)) (Some Unsupported) None)
-    (or_else (numbers_refusal s) (queue_refusal e.flags (enq_at_once s e))) passed)) flagged))
+    (fifth_passes (enq_argument_refusal e) (status_block_refusal s e.pid e.block) (which_refusal s e.pid e.parent) (name_refusal e.name)
+    (cond (has_flag e.flags expedite && not (rank e.mode == 0)) (Some Unsupported) None) (enq_passes s e passed).1)) flagged))
 
 -- an admission that is not refused is there
 pub some_admission : (s : State) (c : Conversion) (admission : Option ConversionAdmission) → admission_refusal s c admission ≡ None
@@ -83,7 +96,7 @@ pub admission_passes : (s : State) (c : Conversion) → convert_refusal s c ≡ 
     → admission_refusal s c (convert_admission s c) ≡ None
 unfolding convert_refusal
 admission_passes s c passed =
-    last_passes (caller_refusal s c.pid) (convert_argument_refusal c) (status_block_refusal s c.pid c.block) (which_refusal s c.pid c.lock)
+    sixth_passes (caller_refusal s c.pid) (convert_argument_refusal c) (status_block_refusal s c.pid c.block) (which_refusal s c.pid c.lock)
     (lock_refusal s c.pid (convert_lkid s c)) (admission_refusal s c (convert_admission s c)) passed
 
 -- QUECVT goes with an accepted conversion, if it is asked for

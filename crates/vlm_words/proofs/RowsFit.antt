@@ -155,7 +155,7 @@ pub fit_always : (steps : List Step) (answers : List Answer) (endings : List End
 fit_always steps answers endings last run =
     each_always Fit Fit (λ _ fit. fit) (λ block r fit. same_fit (service r).resource (with_value_block block (service r).resource) refl refl refl (served_fit r fit))
     (record {
-      fresh = λ _ _ _. record { granted = tt; converting = tt; waiting = tt };
+      fresh = λ _ _. record { granted = tt; converting = tt; waiting = tt };
       entry = entered_fit;
       conversion = converted_fit;
       removal = dequeued_fit;

@@ -6,8 +6,7 @@ use Rattle.std.proofs.lemmas.Bool.{and_parts, cond_both}
 use Rattle.std.proofs.lemmas.List.Sums.{sum_by-cons, sum_by-append, sum_by_push}
 use Rattle.vlm_words.specs.declared.locks.Request.{Request}
 use Rattle.vlm_words.specs.declared.locks.Row.{Row}
-use Rattle.vlm_words.specs.declared.resources.Domain.{Domain}
-use Rattle.vlm_words.specs.declared.resources.Key.{Key}
+use Rattle.vlm_words.specs.declared.resources.Site.{Site}
 use Rattle.vlm_words.specs.State.{Process, Resource}
 use Rattle.vlm_words.specs.Endings.{Ending}
 use Rattle.vlm_words.specs.Grants.{Service, grant_endings, granted_row, is_empty, no_service, resource_after_grant, service, service_after_grant, service_of_conversions, service_of_new_requests, service_of_waiting, wanted_fits}
@@ -124,7 +123,7 @@ swept_weighs f g keeps processes (r ∷ rest) =
     )
 
 -- an entry adds the weight of its row
-entered_weighs : (f : Row → ℕ) (g : Ending → ℕ) → GrantKeeps f g → (row : Row) (request : Request) (r : Resource)
+pub entered_weighs : (f : Row → ℕ) (g : Ending → ℕ) → GrantKeeps f g → (row : Row) (request : Request) (r : Resource)
     → weigh f (resource_after_entry row request r) + sum_by g (cond (is_at_once request r) (grant_endings true row) []) ≡ weigh f r + f row
 unfolding resource_after_entry
 entered_weighs f g keeps row request r =
@@ -136,25 +135,25 @@ entered_weighs f g keeps row request r =
     ]
 
 -- an entry among the resources adds the weight of its row
-pub entered_among_weighs : (f : Row → ℕ) (g : Ending → ℕ) → GrantKeeps f g → (serial : ℕ) (domain : Domain) (key : Key) (row : Row) (request : Request)
+pub entered_among_weighs : (f : Row → ℕ) (g : Ending → ℕ) → GrantKeeps f g → (serial : ℕ) (site : Site) (row : Row) (request : Request)
     → (resources : List Resource)
-    → sum_by (weigh f) (resources_after_entry serial domain key row request resources)
-    + sum_by g (cond (is_at_once request (unwrap_or (find (is_at key) resources) (new_resource serial domain key))) (grant_endings true row) [])
+    → sum_by (weigh f) (resources_after_entry serial site row request resources)
+    + sum_by g (cond (is_at_once request (unwrap_or (find (is_at site.key) resources) (new_resource serial site))) (grant_endings true row) [])
     ≡ sum_by (weigh f) resources + f row
-entered_among_weighs f g keeps serial domain key row request [] =
+entered_among_weighs f g keeps serial site row request [] =
     omega (
       arith,
-      entered_weighs f g keeps row request (new_resource serial domain key),
-      sum_of_one (weigh f) (resource_after_entry row request (new_resource serial domain key)),
+      entered_weighs f g keeps row request (new_resource serial site),
+      sum_of_one (weigh f) (resource_after_entry row request (new_resource serial site)),
     )
-entered_among_weighs f g keeps serial domain key row request (r ∷ rest) =
-    let behind : sum_by (weigh f) (resources_after_entry serial domain key row request rest)
-    + sum_by g (cond (is_at_once request (unwrap_or (find (is_at key) rest) (new_resource serial domain key))) (grant_endings true row) [])
-    ≡ sum_by (weigh f) rest + f row = entered_among_weighs f g keeps serial domain key row request rest in
-    elim (is_at key r) as (λ b.
-    sum_by (weigh f) (cond b (resource_after_entry row request r ∷ rest) (r ∷ resources_after_entry serial domain key row request rest))
-    + sum_by g (cond (is_at_once request (unwrap_or (cond b (Some r) (find (is_at key) rest)) (new_resource serial domain key))) (grant_endings true row) [])
+entered_among_weighs f g keeps serial site row request (r ∷ rest) =
+    let behind : sum_by (weigh f) (resources_after_entry serial site row request rest)
+    + sum_by g (cond (is_at_once request (unwrap_or (find (is_at site.key) rest) (new_resource serial site))) (grant_endings true row) [])
+    ≡ sum_by (weigh f) rest + f row = entered_among_weighs f g keeps serial site row request rest in
+    elim (is_at site.key r) as (λ b.
+    sum_by (weigh f) (cond b (resource_after_entry row request r ∷ rest) (r ∷ resources_after_entry serial site row request rest))
+    + sum_by g (cond (is_at_once request (unwrap_or (cond b (Some r) (find (is_at site.key) rest)) (new_resource serial site))) (grant_endings true row) [])
     ≡ sum_by (weigh f) (r ∷ rest) + f row) [
       | true ↦ omega (arith, entered_weighs f g keeps row request r, sum_by-cons (weigh f) (resource_after_entry row request r) rest, sum_by-cons (weigh f) r rest)
-      | false ↦ omega (arith, behind, sum_by-cons (weigh f) r (resources_after_entry serial domain key row request rest), sum_by-cons (weigh f) r rest)
+      | false ↦ omega (arith, behind, sum_by-cons (weigh f) r (resources_after_entry serial site row request rest), sum_by-cons (weigh f) r rest)
     ]

@@ -1,7 +1,7 @@
 -- The step that gives a lock up.
 use Rattle.std.specs.Prelude.{ℕ, Bool, false, not, ◌&&◌, ◌||◌, ◌==◌, List, ◌++◌, map, flat_map, Option, None, Some, is_some, unwrap_or, if◌then◌else◌}
 use Rattle.std.specs.List.{list_any}
-use Rattle.vlm_words.specs.declared.conditions.Cond.TheVariants.{Badparam, Cancelgrant}
+use Rattle.vlm_words.specs.declared.conditions.Cond.TheVariants.{Badparam, Cancelgrant, Sublocks}
 use Rattle.vlm_words.specs.declared.conditions.Cond.{Cond}
 use Rattle.vlm_words.specs.declared.locks.Request.{Request}
 use Rattle.vlm_words.specs.declared.locks.Row.{Row}
@@ -35,13 +35,30 @@ cancel_refusal s d =
     if has_flag d.flags cancel && is_granted d.pid (dequeue_lkid s d) s.resources then Some Cancelgrant
     else None
 
+-- some row is that of a sublock of the lock
+abbrev pub has_sublock : ℕ → List Row → Bool
+has_sublock lkid rows = list_any (λ row. row.parent == lkid) rows
+
+-- a sublock of the lock stands on the resource, in whichever queue
+abbrev pub has_sublock_on : ℕ → Resource → Bool
+has_sublock_on lkid r =
+    has_sublock lkid r.granted || has_sublock lkid r.converting || has_sublock lkid r.waiting
+
+-- a lock that has sublocks is not given up; a cancel gives up none that has
+unfoldable pub sublocks_refusal : State → Dequeue → Option Cond
+sublocks_refusal s d =
+    if not (has_flag d.flags cancel) && list_any (has_sublock_on (dequeue_lkid s d)) s.resources
+    then Some Sublocks
+    else None
+
 -- the checks of a dequeue, in their order
 unfoldable pub deq_refusal : State → Dequeue → Option Cond
 deq_refusal s d =
     or_else (caller_refusal s d.pid)
     (or_else (deq_flags_refusal d)
     (or_else (which_refusal s d.pid d.lock)
-    (or_else (lock_refusal s d.pid (dequeue_lkid s d)) (cancel_refusal s d))))
+    (or_else (lock_refusal s d.pid (dequeue_lkid s d))
+    (or_else (cancel_refusal s d) (sublocks_refusal s d)))))
 
 -- what is to become of a lock: it goes, or only its request is cancelled; and as it goes, a value for the
 -- value block may be given, and the value block may be marked invalid

@@ -1,6 +1,5 @@
 -- The step that asks for a new lock.
 use Rattle.std.specs.Prelude.{ℕ, Bool, true, false, not, ◌&&◌, ◌||◌, ◌==◌, ◌+◌, List, [], ◌∷◌, ◌++◌, Option, None, Some, is_none, find, unwrap_or, if◌then◌else◌}
-use Rattle.std.specs.Option.{option_map_or}
 use Rattle.std.specs.List.{list_any}
 use Rattle.std.specs.Result.{result_err}
 use Rattle.vlm_words.specs.declared.conditions.Cond.TheVariants.{Badparam, Unsupported}
@@ -8,34 +7,26 @@ use Rattle.vlm_words.specs.declared.conditions.Cond.{Cond}
 use Rattle.vlm_words.specs.declared.locks.Request.{Request}
 use Rattle.vlm_words.specs.declared.locks.Row.{Row}
 use Rattle.vlm_words.specs.declared.modes.Mode.{Mode}
-use Rattle.vlm_words.specs.declared.resources.Domain.TheVariants.{Group}
-use Rattle.vlm_words.specs.declared.resources.Domain.{Domain}
-use Rattle.vlm_words.specs.declared.resources.Key.TheVariants.{Root}
 use Rattle.vlm_words.specs.declared.resources.Key.{Key}
+use Rattle.vlm_words.specs.declared.resources.Site.{Site}
 use Rattle.vlm_words.specs.declared.steps.NewRequest.{NewRequest}
-use Rattle.vlm_words.specs.declared.steps.Which.TheVariants.{Id, Block}
-use Rattle.vlm_words.specs.declared.steps.Which.{Which}
 use Rattle.vlm_words.specs.Names.{name_of}
 use Rattle.vlm_words.specs.Modes.{rank}
 use Rattle.vlm_words.specs.Flags.{enq_bits, expedite, flag_bits, has_flag, is_known}
-use Rattle.vlm_words.specs.State.{Process, Resource, State, process_of}
+use Rattle.vlm_words.specs.State.{Process, Resource, State}
 use Rattle.vlm_words.specs.StatusBlocks.{processes_after_acceptance}
 use Rattle.vlm_words.specs.Endings.{Ending}
 use Rattle.vlm_words.specs.Effects.{blocks_after, blocks_with}
 use Rattle.vlm_words.specs.Grants.{fits, grant_endings, is_empty, resource_after_grant}
 use Rattle.vlm_words.specs.Resources.{is_at, new_resource}
-use Rattle.vlm_words.specs.Checks.{caller_refusal, numbers_refusal, or_else, queue_refusal, status_block_refusal}
+use Rattle.vlm_words.specs.Checks.{caller_refusal, numbers_refusal, or_else, queue_refusal, status_block_refusal, which_refusal}
+use Rattle.vlm_words.specs.Trees.{enq_site, parent_lkid, site_refusal}
+use Rattle.vlm_words.specs.Quotas.{quota_refusal}
 
--- the identification 0 names no parent
-abbrev pub is_no_parent : Which → Bool
-is_no_parent (Id lkid) = lkid == 0
-is_no_parent (Block number) = false
-
--- an unknown flag, or an argument that is not built yet: a routine, a parent
+-- an unknown flag, or an argument that is not built yet: a routine
 unfoldable pub enq_argument_refusal : NewRequest → Option Cond
 enq_argument_refusal e =
-    if is_known enq_bits e.flags && is_none e.ast && is_none e.bast && is_no_parent e.parent then None
-    else Some Badparam
+    if is_known enq_bits e.flags && is_none e.ast && is_none e.bast then None else Some Badparam
 
 -- EXPEDITE goes with NL alone
 unfoldable pub expedite_refusal : ℕ → Mode → Option Cond
@@ -46,13 +37,9 @@ expedite_refusal flags mode =
 unfoldable pub name_refusal : List ℕ → Option Cond
 name_refusal bytes = result_err (name_of bytes)
 
--- a root is in the group of its caller
-abbrev pub enq_domain : State → NewRequest → Domain
-enq_domain s e = Group (option_map_or (λ p. p.group) (process_of s.processes e.pid) 0)
-
--- where the resource stands
+-- under which key the resource stands
 abbrev pub enq_key : State → NewRequest → Key
-enq_key s e = Root (enq_domain s e) e.name
+enq_key s e = (enq_site s e).key
 
 -- what is asked for, under the next request number
 abbrev pub enq_request : State → NewRequest → Request
@@ -71,7 +58,7 @@ abbrev pub enq_row : State → NewRequest → Row
 enq_row s e = record {
   lkid = s.next_lkid;
   pid = e.pid;
-  parent = 0;
+  parent = parent_lkid s e;
   held = None;
   want = Some (enq_request s e);
   armed = false;
@@ -96,19 +83,18 @@ resource_after_entry row request r =
 abbrev pub has_resource : Key → List Resource → Bool
 has_resource key resources = list_any (is_at key) resources
 
--- the lock enters the resource under the key, a new one at the end where none is there
-abbrev pub resources_after_entry : ℕ → Domain → Key → Row → Request → List Resource → List Resource
-resources_after_entry serial domain key row request [] =
-    resource_after_entry row request (new_resource serial domain key) ∷ []
-resources_after_entry serial domain key row request (r ∷ rest) =
-    if is_at key r then resource_after_entry row request r ∷ rest
-    else r ∷ resources_after_entry serial domain key row request rest
+-- the lock enters the resource that stands there, a new one at the end where none does
+abbrev pub resources_after_entry : ℕ → Site → Row → Request → List Resource → List Resource
+resources_after_entry serial site row request [] =
+    resource_after_entry row request (new_resource serial site) ∷ []
+resources_after_entry serial site row request (r ∷ rest) =
+    if is_at site.key r then resource_after_entry row request r ∷ rest
+    else r ∷ resources_after_entry serial site row request rest
 
 -- the resource under the key as the lock finds it: a new one where none is there
 unfoldable pub enq_resource : State → NewRequest → Resource
 enq_resource s e =
-    unwrap_or (find (is_at (enq_key s e)) s.resources)
-    (new_resource s.next_serial (enq_domain s e) (enq_key s e))
+    unwrap_or (find (is_at (enq_key s e)) s.resources) (new_resource s.next_serial (enq_site s e))
 
 -- the new request is granted at once
 abbrev pub enq_at_once : State → NewRequest → Bool
@@ -125,23 +111,32 @@ enq_processes s e =
     let accepted = processes_after_acceptance e.pid e.block s.next_lkid s.processes
     in (blocks_after (enq_endings s e) (blocks_with (enq_resource s e).value_block accepted)).processes
 
+-- what is wrong with the request itself
+unfoldable pub enq_form_refusal : State → NewRequest → Option Cond
+enq_form_refusal s e =
+    or_else (enq_argument_refusal e)
+    (or_else (status_block_refusal s e.pid e.block)
+    (or_else (which_refusal s e.pid e.parent)
+    (or_else (name_refusal e.name) (expedite_refusal e.flags e.mode))))
+
+-- what is used up, or in the way
+unfoldable pub enq_limit_refusal : State → NewRequest → Option Cond
+enq_limit_refusal s e =
+    or_else (quota_refusal s e.pid)
+    (or_else (numbers_refusal s) (queue_refusal e.flags (enq_at_once s e)))
+
 -- the checks of a new request, in their order
 unfoldable pub enq_refusal : State → NewRequest → Option Cond
 enq_refusal s e =
     or_else (caller_refusal s e.pid)
-    (or_else (enq_argument_refusal e)
-    (or_else (status_block_refusal s e.pid e.block)
-    (or_else (name_refusal e.name)
-    (or_else (expedite_refusal e.flags e.mode)
-    (or_else (numbers_refusal s) (queue_refusal e.flags (enq_at_once s e)))))))
+    (or_else (enq_form_refusal s e) (or_else (site_refusal s e) (enq_limit_refusal s e)))
 
 -- the lock enters, its status block is written, and the numbers that it took are used up
 unfoldable pub enq_change : State → NewRequest → State
 enq_change s e = record s {
   processes = enq_processes s e;
   resources =
-      resources_after_entry s.next_serial (enq_domain s e) (enq_key s e) (enq_row s e) (enq_request s e)
-      s.resources;
+      resources_after_entry s.next_serial (enq_site s e) (enq_row s e) (enq_request s e) s.resources;
   next_lkid = s.next_lkid + 1;
   next_request = s.next_request + 1;
   next_serial = if has_resource (enq_key s e) s.resources then s.next_serial else s.next_serial + 1;

@@ -1,7 +1,8 @@
 -- What holds after every legal run. The laws say it in words of their own: none rests on how the machine
 -- serves, grants or sweeps.
-use Rattle.std.specs.Prelude.{◌≡◌, ◌≢◌, ◌<◌, ◌≤◌, ◌+◌, ◌==◌, ◌⊎◌, ◌++◌, ℕ, Bool, List, [], ◌∷◌, true, false, All, AllPairs, Any, count_by, sum_by, take, drop, Option, None, Some, IsSome, ⊤}
+use Rattle.std.specs.Prelude.{◌≡◌, ◌≢◌, ◌<◌, ◌≤◌, ◌+◌, ◌==◌, ◌⊎◌, ◌++◌, ℕ, zero, suc, Bool, List, [], ◌∷◌, true, false, All, AllPairs, Any, count_by, sum_by, take, drop, Option, None, Some, IsSome, ⊤}
 use Rattle.std.specs.List.{AllZip}
+use Rattle.std.specs.Option.{option_map_or}
 use Rattle.vlm_words.specs.declared.conditions.Cond.{Cond}
 use Rattle.vlm_words.specs.declared.locks.Request.{Request}
 use Rattle.vlm_words.specs.declared.locks.Row.{Row}
@@ -9,7 +10,8 @@ use Rattle.vlm_words.specs.declared.modes.Act.TheVariants.{Nothing, Write}
 use Rattle.vlm_words.specs.declared.modes.Act.{Act}
 use Rattle.vlm_words.specs.declared.modes.Mode.TheVariants.{Nl}
 use Rattle.vlm_words.specs.declared.modes.Mode.{Mode}
-use Rattle.vlm_words.specs.declared.resources.Domain.TheVariants.{Group}
+use Rattle.vlm_words.specs.declared.resources.Domain.TheVariants.{Group, System}
+use Rattle.vlm_words.specs.declared.resources.Domain.{Domain}
 use Rattle.vlm_words.specs.declared.steps.Answer.TheVariants.{Lock, Process as process_answer}
 use Rattle.vlm_words.specs.declared.steps.Conversion.{Conversion}
 use Rattle.vlm_words.specs.declared.steps.Declaration.{Declaration}
@@ -17,10 +19,11 @@ use Rattle.vlm_words.specs.declared.steps.NewRequest.{NewRequest}
 use Rattle.vlm_words.specs.declared.steps.Step.TheVariants.{Declare, Enq, Convert}
 use Rattle.vlm_words.specs.declared.steps.Step.{Step}
 use Rattle.vlm_words.specs.Modes.{is_compatible, value_action}
-use Rattle.vlm_words.specs.Flags.{expedite, has_flag, quecvt}
+use Rattle.vlm_words.specs.Flags.{expedite, has_flag, quecvt, system}
 use Rattle.vlm_words.specs.State.{Process, Resource, State, process_of}
 use Rattle.vlm_words.specs.Endings.{Ending, How}
 use Rattle.vlm_words.specs.Endings.How.{by_abort, by_cancel, by_grant}
+use Rattle.vlm_words.specs.Checks.{named_lkid}
 use Rattle.vlm_words.specs.Stepped.{step_change, stepped}
 
 -- the mode may be held beside what is held, if anything is
@@ -109,6 +112,7 @@ pub record IsSameResource (before after : Resource) : Type 0 where
   pub parent : after.parent ≡ before.parent
   pub domain : after.domain ≡ before.domain
   pub name : after.name ≡ before.name
+  pub level : after.level ≡ before.level
 
 -- so many rows from the head of the conversion queue, and from that of the waiting queue
 abbrev pub first_rows : ℕ → ℕ → Resource → List Row
@@ -154,13 +158,30 @@ pub record IsFreeFor (mode : Mode) (r : Resource) : Type 0 where
   pub nobody_waits : r.waiting ≡ []
   pub beside : All (λ row. IsBeside mode row.held) r.granted
 
--- the resource is the root of this name in the group of the caller
+-- the lock of this identification and this process stands on the resource
+abbrev pub StandsOn : ℕ → ℕ → Resource → Type 0
+StandsOn lkid pid r =
+    Any (λ row. (row.lkid ≡ lkid) × (row.pid ≡ pid)) (r.granted ++ r.converting ++ r.waiting)
+
+-- a root is in the system's domain where SYSTEM asks for that, else in the group of the process
+abbrev pub IsRootDomain : Bool → Process → Domain → Type 0
+IsRootDomain true p domain = domain ≡ System
+IsRootDomain false p domain = domain ≡ Group p.group
+
+-- where 0 is named as the parent lock the resource is a root; else it stands below a resource on which that lock
+-- of the process stands
+abbrev pub StandsAsAskedFor : State → NewRequest → Process → ℕ → Resource → Type 0
+StandsAsAskedFor s e caller zero r =
+    (r.parent ≡ 0) × IsRootDomain (has_flag e.flags system) caller r.domain
+StandsAsAskedFor s e caller (suc parent) r =
+    Any (λ up. StandsOn (suc parent) caller.pid up × (r.parent ≡ up.serial)) s.resources
+
+-- the resource is the one of this name that the caller asks for
 pub record IsAskedFor (s : State) (e : NewRequest) (r : Resource) : Type 0 where
   pub caller : Process
   pub lives : process_of s.processes e.pid ≡ Some caller
-  pub root : r.parent ≡ 0
-  pub domain : r.domain ≡ Group caller.group
   pub name : r.name ≡ e.name
+  pub stands : StandsAsAskedFor s e caller (named_lkid s e.pid e.parent) r
 
 -- the new request overtakes nobody and fits, or it is expedited at NL
 abbrev pub EntersInTurn : State → NewRequest → Type 0
@@ -243,9 +264,10 @@ rows_on lkid r =
     count_by (λ row. row.lkid == lkid) r.granted + count_by (λ row. row.lkid == lkid) r.converting
     + count_by (λ row. row.lkid == lkid) r.waiting
 
--- no two rows have one identification, and none has an identification that is to come
+-- no two rows have one identification, none has 0, and none has an identification that is to come
 pub record IdentificationsAreApart (s : State) : Type 0 where
   pub one_row : (lkid : ℕ) → sum_by (rows_on lkid) s.resources ≤ 1
+  pub none_is_0 : sum_by (rows_on 0) s.resources ≡ 0
   pub none_to_come : (lkid : ℕ) → s.next_lkid ≤ lkid → sum_by (rows_on lkid) s.resources ≡ 0
 
 -- the two stand at one place: roots of one name in one domain, or below one parent under one name
@@ -258,10 +280,11 @@ pub record HaveOneKey (a b : Resource) : Type 0 where
 abbrev pub KeysAreApart : State → Type 0
 KeysAreApart s = AllPairs (λ a b. HaveOneKey a b → ⊥) s.resources
 
--- serials rise from one resource to the next, and are below the one to come; no more serials than
+-- serials rise from one resource to the next, from 1, and are below the one to come; no more serials than
 -- identifications were given, since each resource that was made came with a lock of its own
 pub record SerialsRise (s : State) : Type 0 where
   pub rising : AllPairs (λ a b. a.serial < b.serial) s.resources
+  pub from_1 : All (λ r. 0 < r.serial) s.resources
   pub given : All (λ r. r.serial < s.next_serial) s.resources
   pub few : s.next_serial ≤ s.next_lkid
 
@@ -269,3 +292,39 @@ pub record SerialsRise (s : State) : Type 0 where
 abbrev pub DeclarationsGiveNewIdentifications : State → Type 0
 DeclarationsGiveNewIdentifications s = (d : Declaration) (pid : ℕ)
     → (stepped s (Declare d)).answer ≡ process_answer pid → All (λ p. p.pid ≢ pid) s.processes
+
+-- the lock of this identification and this process holds a mode on the resource, granted or converting
+abbrev pub HoldsOn : ℕ → ℕ → Resource → Type 0
+HoldsOn lkid pid r = Any (λ row. (row.lkid ≡ lkid) × (row.pid ≡ pid)) (r.granted ++ r.converting)
+
+-- the lock of a root has no parent; that of a sub-resource has one of the same process, which holds a mode on
+-- the parent resource
+abbrev pub HasItsParent : List Resource → Resource → Row → Type 0
+HasItsParent resources r row =
+    ((r.parent ≡ 0) × (row.parent ≡ 0))
+    ⊎ ((r.parent ≢ 0) × (row.parent ≢ 0)
+    × Any (λ up. (up.serial ≡ r.parent) × HoldsOn row.parent row.pid up) resources)
+
+-- a parent lock outlives its sublocks
+abbrev pub ParentsOutliveTheirSublocks : State → Type 0
+ParentsOutliveTheirSublocks s =
+    All (λ r. All (HasItsParent s.resources r) (r.granted ++ r.converting ++ r.waiting)) s.resources
+
+-- a root is at level 0; a sub-resource is one level below its parent resource, which is there, and in its domain
+abbrev pub HasItsLevel : List Resource → Resource → Type 0
+HasItsLevel resources r =
+    ((r.parent ≡ 0) × (r.level ≡ 0))
+    ⊎ Any (λ up. (up.serial ≡ r.parent) × (up.domain ≡ r.domain) × (r.level ≡ up.level + 1)) resources
+
+-- no resource is below level 15, or below a resource that is not there
+abbrev pub TreesAreBounded : State → Type 0
+TreesAreBounded s = All (λ r. HasItsLevel s.resources r × (r.level ≤ 15)) s.resources
+
+-- how many locks of the process stand on the resource, in any queue
+abbrev pub locks_on : ℕ → Resource → ℕ
+locks_on pid r = count_by (λ row. row.pid == pid) (r.granted ++ r.converting ++ r.waiting)
+
+-- a living process has no more locks than its quota, and no other has any
+abbrev pub QuotasAreKept : State → Type 0
+QuotasAreKept s = (pid : ℕ)
+    → sum_by (locks_on pid) s.resources ≤ option_map_or (λ p. p.quota) (process_of s.processes pid) 0

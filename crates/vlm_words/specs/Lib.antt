@@ -15,6 +15,8 @@ pub mod Rows
 pub mod Resources
 pub mod Keys
 pub mod Checks
+pub mod Trees
+pub mod Quotas
 pub mod Declare
 pub mod SetValue
 pub mod Enqueue

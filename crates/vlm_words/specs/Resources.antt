@@ -1,10 +1,11 @@
 -- Where resources stand, and how a new one begins.
-use Rattle.std.specs.Prelude.{ℕ, Bool, true, false, ◌&&◌, ◌==◌, List, []}
+use Rattle.std.specs.Prelude.{◌≡◌, ◌<◌, ℕ, Bool, true, false, ◌&&◌, ◌==◌, List, []}
 use Rattle.std.specs.Cmp.Lexicographic.{pointwise}
 use Rattle.vlm_words.specs.declared.resources.Domain.TheVariants.{Group, System}
 use Rattle.vlm_words.specs.declared.resources.Domain.{Domain}
 use Rattle.vlm_words.specs.declared.resources.Key.TheVariants.{Root, Below}
 use Rattle.vlm_words.specs.declared.resources.Key.{Key}
+use Rattle.vlm_words.specs.declared.resources.Site.{Site}
 use Rattle.vlm_words.specs.ValueBlocks.{new_value_block}
 use Rattle.vlm_words.specs.State.{Resource}
 
@@ -31,14 +32,20 @@ key_name (Root domain name) = name
 key_name (Below parent name) = name
 
 -- a resource at its making: no locks, and a valid value block of zeros
-abbrev pub new_resource : ℕ → Domain → Key → Resource
-new_resource serial domain key = record {
+abbrev pub new_resource : ℕ → Site → Resource
+new_resource serial site = record {
   serial = serial;
-  parent = key_parent key;
-  domain = domain;
-  name = key_name key;
+  parent = key_parent site.key;
+  domain = site.domain;
+  name = key_name site.key;
+  level = site.level;
   value_block = new_value_block;
   granted = [];
   converting = [];
   waiting = [];
 }
+
+-- a site's key fits its domain: a root is in its own, and a sub-resource names a parent
+abbrev pub IsKeyed : Domain → Key → Type 0
+IsKeyed domain (Root own name) = domain ≡ own
+IsKeyed domain (Below parent name) = 0 < parent

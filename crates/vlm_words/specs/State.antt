@@ -5,12 +5,14 @@ use Rattle.vlm_words.specs.declared.locks.Row.{Row}
 use Rattle.vlm_words.specs.declared.resources.Domain.{Domain}
 use Rattle.vlm_words.specs.declared.resources.ValueBlock.{ValueBlock}
 
--- a resource: its place in the tree, its value block, and its three queues of locks
+-- a resource: its place in the tree (its parent's serial, 0 for a root, and how many levels it is below its
+-- root), its value block, and its three queues of locks
 pub record Resource : Type 0 where
   pub serial : ℕ
   pub parent : ℕ
   pub domain : Domain
   pub name : List ℕ
+  pub level : ℕ
   pub value_block : ValueBlock
   pub granted : List Row
   pub converting : List Row

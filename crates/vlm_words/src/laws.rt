@@ -10,7 +10,7 @@ ghost use Rattle.vlm_words.specs.State.{Process, Resource, State};
 ghost use Rattle.vlm_words.specs.Settled.{IsSettled, IsSweptAlone};
 ghost use Rattle.vlm_words.specs.Runs.{Run};
 ghost use Rattle.vlm_words.specs.Stepped.{step_refusal};
-ghost use Rattle.vlm_words.specs.Laws.{DeclarationsGiveNewIdentifications, EachRequestEndsOnce, GrantsFollowQueueOrder, HeldModesAreCompatible, IdentificationsAreApart, KeysAreApart, NoResourceIsVacant, NothingIsLeftToGrant, RowsFitTheirQueues, SerialsRise, WritesAreGrantedAtOnce};
+ghost use Rattle.vlm_words.specs.Laws.{DeclarationsGiveNewIdentifications, EachRequestEndsOnce, GrantsFollowQueueOrder, HeldModesAreCompatible, IdentificationsAreApart, KeysAreApart, NoResourceIsVacant, NothingIsLeftToGrant, ParentsOutliveTheirSublocks, QuotasAreKept, RowsFitTheirQueues, SerialsRise, TreesAreBounded, WritesAreGrantedAtOnce};
 
 /// In each resource the held modes of any two locks are compatible.
 pub fn law_held_modes_are_compatible()
@@ -39,13 +39,13 @@ pub fn law_rows_fit_their_queues()
         → Run steps answers endings last → RowsFitTheirQueues last }
 {}
 
-/// No two locks have one identification.
+/// No two locks have one identification, and none has 0.
 pub fn law_identifications_are_apart()
     ensures { (steps : List Step) (answers : List Answer) (endings : List Ending) (last : State)
         → Run steps answers endings last → IdentificationsAreApart last }
 {}
 
-/// Serials rise from one resource to the next, and are below the one to come. No more serials than
+/// Serials rise from one resource to the next, from 1, and are below the one to come. No more serials than
 /// identifications were given: each resource that was made came with a lock of its own.
 pub fn law_serials_rise()
     ensures { (steps : List Step) (answers : List Answer) (endings : List Ending) (last : State)
@@ -62,6 +62,26 @@ pub fn law_a_declaration_gives_a_new_identification()
 pub fn law_keys_are_apart()
     ensures { (steps : List Step) (answers : List Answer) (endings : List Ending) (last : State)
         → Run steps answers endings last → KeysAreApart last }
+{}
+
+/// A lock of a sub-resource has a parent lock, of the same process, that holds a mode on the parent resource;
+/// a lock of a root has none.
+pub fn law_a_parent_outlives_its_sublocks()
+    ensures { (steps : List Step) (answers : List Answer) (endings : List Ending) (last : State)
+        → Run steps answers endings last → ParentsOutliveTheirSublocks last }
+{}
+
+/// A root is at level 0, and a sub-resource one level below its parent resource, which is there and in the
+/// same domain. None is below level 15.
+pub fn law_trees_are_bounded()
+    ensures { (steps : List Step) (answers : List Answer) (endings : List Ending) (last : State)
+        → Run steps answers endings last → TreesAreBounded last }
+{}
+
+/// A living process has no more locks than its quota, waiting ones too, and no other has any.
+pub fn law_quotas_are_kept()
+    ensures { (steps : List Step) (answers : List Answer) (endings : List Ending) (last : State)
+        → Run steps answers endings last → QuotasAreKept last }
 {}
 
 /// Each step that no check refuses grants in the order of the queues. At once it grants only its own

@@ -1,0 +1,91 @@
+-- What the steps keep of each process: all but its status blocks.
+use Rattle.std.proofs.Common.{◌≡◌, ℕ, List, [], ◌∷◌, map, refl, ap, ◌∙◌}
+use Rattle.std.specs.Prelude.{◌==◌}
+use Rattle.std.proofs.lemmas.Bool.{cond_both}
+use Rattle.vlm_words.specs.declared.blocks.Block.{Block}
+use Rattle.vlm_words.specs.declared.conditions.Cond.{Cond}
+use Rattle.vlm_words.specs.declared.modes.Act.TheVariants.{Nothing, Return, Write}
+use Rattle.vlm_words.specs.declared.steps.NewRequest.{NewRequest}
+use Rattle.vlm_words.specs.declared.steps.Conversion.{Conversion}
+use Rattle.vlm_words.specs.State.{Process, Resource, State}
+use Rattle.vlm_words.specs.StatusBlocks.{process_after_write, process_with_block, processes_after_acceptance, processes_after_return, processes_after_setting, processes_after_status, processes_after_write}
+use Rattle.vlm_words.specs.Endings.{Ending, How}
+use Rattle.vlm_words.specs.Endings.How.{by_grant, by_abort, by_cancel}
+use Rattle.vlm_words.specs.Effects.{Blocks, blocks_after, blocks_after_ending, blocks_after_return, blocks_after_writing, blocks_with}
+use Rattle.vlm_words.specs.Grants.{service}
+use Rattle.vlm_words.specs.Sweeps.{blocks_after_service, processes_after_service}
+use Rattle.vlm_words.specs.Enqueue.{enq_change, enq_endings, enq_resource}
+use Rattle.vlm_words.specs.Convert.{ConversionAdmission, convert_blocks, convert_change, convert_lkid, conversion_endings}
+
+module _ {X : Type 0} (shown : Process → X) (blind : (p : Process) (blocks : List Block) → shown (record p { blocks = blocks }) ≡ shown p) where
+  -- a write keeps what does not show status blocks
+  write_kept : (pid n : ℕ) (block : Block) (p : Process) → shown (process_after_write pid n block p) ≡ shown p
+  unfolding process_after_write
+  write_kept pid n block p = cond_both (p.pid == pid) (process_with_block n block p) p (λ q. shown q ≡ shown p) (λ _. blind p _) (λ _. refl)
+
+  -- of each process
+  writes_kept : (pid n : ℕ) (block : Block) (processes : List Process) → map shown (processes_after_write pid n block processes) ≡ map shown processes
+  writes_kept pid n block [] = refl
+  writes_kept pid n block (p ∷ rest) =
+      ap (λ (first : X). first ∷ map shown (processes_after_write pid n block rest)) (write_kept pid n block p)
+      ∙ ap (λ (others : List X). shown p ∷ others) (writes_kept pid n block rest)
+
+  -- so does an acceptance
+  pub kept_accepted : (pid n lkid : ℕ) (processes : List Process) → map shown (processes_after_acceptance pid n lkid processes) ≡ map shown processes
+  unfolding processes_after_acceptance
+  kept_accepted pid n lkid processes = writes_kept pid n _ processes
+
+  -- the setting of a value
+  pub kept_set : (pid n : ℕ) (value : List ℕ) (processes : List Process) → map shown (processes_after_setting pid n value processes) ≡ map shown processes
+  unfolding processes_after_setting
+  kept_set pid n value processes = writes_kept pid n _ processes
+
+  -- a status
+  kept_status : (pid n : ℕ) (cond : Cond) (processes : List Process) → map shown (processes_after_status pid n cond processes) ≡ map shown processes
+  unfolding processes_after_status
+  kept_status pid n cond processes = writes_kept pid n _ processes
+
+  -- a returned value block
+  kept_returned : (pid n : ℕ) (cond : Cond) (value : List ℕ) (processes : List Process)
+      → map shown (processes_after_return pid n cond value processes) ≡ map shown processes
+  unfolding processes_after_return
+  kept_returned pid n cond value processes = writes_kept pid n _ processes
+
+  -- an ending
+  ending_kept : (how : How) (pid n : ℕ) (b : Blocks) → map shown (blocks_after_ending how pid n b).processes ≡ map shown b.processes
+  unfolding blocks_after_return blocks_after_writing
+  ending_kept (by_grant Nothing) pid n b = kept_status pid n _ b.processes
+  ending_kept (by_grant Return) pid n b = kept_returned pid n _ _ b.processes
+  ending_kept (by_grant Write) pid n b = kept_status pid n _ b.processes
+  ending_kept by_abort pid n b = kept_status pid n _ b.processes
+  ending_kept by_cancel pid n b = kept_status pid n _ b.processes
+
+  -- endings
+  pub kept_ended : (endings : List Ending) (b : Blocks) → map shown (blocks_after endings b).processes ≡ map shown b.processes
+  kept_ended [] b = refl
+  kept_ended (ending ∷ endings) b =
+      kept_ended endings (blocks_after_ending ending.how ending.pid ending.request.block b)
+      ∙ ending_kept ending.how ending.pid ending.request.block b
+
+  -- a sweep
+  pub kept_swept : (processes : List Process) (resources : List Resource) → map shown (processes_after_service processes resources) ≡ map shown processes
+  unfolding blocks_after_service
+  kept_swept processes [] = refl
+  kept_swept processes (r ∷ rest) =
+      kept_swept (blocks_after_service processes r).processes rest ∙ kept_ended (service r).endings (blocks_with r.value_block processes)
+
+  -- a new request
+  pub kept_entered : (s : State) (e : NewRequest) → map shown (enq_change s e).processes ≡ map shown s.processes
+  unfolding enq_change
+  kept_entered s e =
+      kept_ended (enq_endings s e)
+      (blocks_with (enq_resource s e).value_block (processes_after_acceptance e.pid e.block s.next_lkid s.processes))
+      ∙ kept_accepted e.pid e.block s.next_lkid s.processes
+
+  -- a conversion
+  pub kept_converted : (s : State) (c : Conversion) (a : ConversionAdmission) → map shown (convert_change s c a).processes ≡ map shown s.processes
+  unfolding convert_change convert_blocks
+  kept_converted s c a =
+      kept_ended (conversion_endings a)
+      (blocks_with a.resource.value_block (processes_after_acceptance c.pid c.block (convert_lkid s c) s.processes))
+      ∙ kept_accepted c.pid c.block (convert_lkid s c) s.processes

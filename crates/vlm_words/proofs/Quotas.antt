@@ -1,0 +1,179 @@
+-- After every step no process has more locks than its quota.
+use Rattle.std.proofs.Common.{◌≡◌, ◌≤◌, ◌<◌, ◌+◌, ℕ, Bool, true, false, List, [], ◌∷◌, ◌++◌, map, cond, Option, None, Some, refl, sym, ap, subst, ◌∙◌, arith}
+use Rattle.std.specs.Prelude.{◌==◌, nat_lt}
+use Rattle.std.specs.List.{find, sum_by}
+use Rattle.std.specs.Option.{option_map_or}
+use Rattle.std.proofs.lemmas.Bool.{cond_both}
+use Rattle.std.proofs.lemmas.Bool.Decides.{nat_tests}
+use Rattle.std.proofs.lemmas.List.Sums.{sum_by-append, sum_by-cons}
+use Rattle.vlm_words.specs.declared.conditions.Cond.TheVariants.{Exenqlm}
+use Rattle.vlm_words.specs.declared.locks.Row.{Row}
+use Rattle.vlm_words.specs.declared.steps.Answer.{Answer}
+use Rattle.vlm_words.specs.declared.steps.NewRequest.{NewRequest}
+use Rattle.vlm_words.specs.declared.steps.Step.{Step}
+use Rattle.vlm_words.specs.State.{Process, Resource, State, process_of}
+use Rattle.vlm_words.specs.Endings.{Ending}
+use Rattle.vlm_words.specs.Effects.{blocks_with}
+use Rattle.vlm_words.specs.ValueBlocks.{new_value_block}
+use Rattle.vlm_words.specs.Checks.{numbers_refusal, or_else, queue_refusal}
+use Rattle.vlm_words.specs.Quotas.{locks_of, quota_of, quota_refusal}
+use Rattle.vlm_words.specs.Declare.{declare_change, declared_process}
+use Rattle.vlm_words.specs.SetValue.{set_change}
+use Rattle.vlm_words.specs.Sweeps.{state_after_sweep}
+use Rattle.vlm_words.specs.Enqueue.{enq_at_once, enq_change, enq_limit_refusal, enq_refusal}
+use Rattle.vlm_words.specs.Convert.{convert_blocks, convert_change, convert_lkid, resource_after_conversion}
+use Rattle.vlm_words.specs.Dequeue.{deq_change, deq_endings, resource_after_withdrawal, withdrawal_of}
+use Rattle.vlm_words.specs.Runs.{Run}
+use Rattle.vlm_words.specs.Laws.{QuotasAreKept, locks_on}
+use Rattle.vlm_words.proofs.Always.{always, kept_by_stepped}
+use Rattle.vlm_words.proofs.Passed.{both_pass, enq_passes, test_passes}
+use Rattle.vlm_words.proofs.Processes.{kept_converted, kept_ended, kept_entered, kept_set, kept_swept}
+use Rattle.vlm_words.proofs.Sums.{sum_same}
+use Rattle.vlm_words.proofs.Weights.{weigh}
+use Rattle.vlm_words.proofs.Moves.{IsByName, changed_named, converted_named, dequeued_named, entered_named, swept_named}
+
+-- 1 for a row of a lock of the process
+abbrev owned : ℕ → Row → ℕ
+owned pid row = cond (row.pid == pid) 1 0
+
+-- how many locks the process has
+abbrev owning : ℕ → List Resource → ℕ
+owning pid resources = sum_by (weigh (owned pid)) resources
+
+-- a row is counted by its process
+owned_named : (pid : ℕ) → IsByName (owned pid)
+owned_named pid row held want armed = refl
+
+-- the identification of a process, and its quota
+abbrev allowance : Process → ℕ × ℕ
+allowance p = (p.pid, p.quota)
+
+-- no process has more locks than its quota
+abbrev Within : State → Type 0
+Within s = (pid : ℕ) → owning pid s.resources ≤ quota_of s.processes pid
+
+-- the quota of a process, by the allowances of all
+abbrev quota_in : List (ℕ × ℕ) → ℕ → ℕ
+quota_in [] pid = 0
+quota_in (a ∷ rest) pid = cond (a.0 == pid) a.1 (quota_in rest pid)
+
+-- is that by the processes
+quota_by_allowance : (processes : List Process) (pid : ℕ) → quota_of processes pid ≡ quota_in (map allowance processes) pid
+quota_by_allowance [] pid = refl
+quota_by_allowance (p ∷ rest) pid =
+    elim (p.pid == pid) as (λ b. option_map_or (λ q. q.quota) (cond b (Some p) (process_of rest pid)) 0 ≡ cond b p.quota (quota_in (map allowance rest) pid)) [
+      | true ↦ refl
+      | false ↦ quota_by_allowance rest pid
+    ]
+
+-- one process more takes no quota from any
+more_quota : (processes : List Process) (p : Process) (pid : ℕ) → quota_of processes pid ≤ quota_of (processes ++ p ∷ []) pid
+more_quota [] p pid = omega arith
+more_quota (q ∷ rest) p pid =
+    elim (q.pid == pid) as (λ b. option_map_or (λ x. x.quota) (cond b (Some q) (process_of rest pid)) 0
+    ≤ option_map_or (λ x. x.quota) (cond b (Some q) (process_of (rest ++ p ∷ []) pid)) 0) [
+      | true ↦ omega arith
+      | false ↦ more_quota rest p pid
+    ]
+
+-- where no process gets a lock and the allowances stay, all are within their quotas
+still_within : (s t : State) → map allowance t.processes ≡ map allowance s.processes
+    → ((pid : ℕ) → owning pid t.resources ≤ owning pid s.resources) → Within s → Within t
+still_within s t same fewer within pid =
+    omega (
+      arith,
+      within pid,
+      fewer pid,
+      quota_by_allowance s.processes pid,
+      quota_by_allowance t.processes pid,
+      ap (λ (all : List (ℕ × ℕ)). quota_in all pid) same,
+    )
+
+-- the caller of an accepted request has fewer locks than its quota
+room_left : (s : State) (e : NewRequest) → enq_refusal s e ≡ None → owning e.pid s.resources < quota_of s.processes e.pid
+unfolding enq_limit_refusal quota_refusal
+room_left s e passed =
+    let less : nat_lt (locks_of e.pid s.resources) (quota_of s.processes e.pid) ≡ true =
+    test_passes (nat_lt (locks_of e.pid s.resources) (quota_of s.processes e.pid)) Exenqlm
+    (both_pass (cond (nat_lt (locks_of e.pid s.resources) (quota_of s.processes e.pid)) None (Some Exenqlm))
+    (or_else (numbers_refusal s) (queue_refusal e.flags (enq_at_once s e))) (enq_passes s e passed).3).0 in
+    grind (arith, nat_tests, less)
+
+-- the processes after a new request and its sweep
+allowances_entered : (s : State) (e : NewRequest) → map allowance (state_after_sweep (enq_change s e)).processes ≡ map allowance s.processes
+allowances_entered s e =
+    kept_swept allowance (λ _ _. refl) (enq_change s e).processes (enq_change s e).resources ∙ kept_entered allowance (λ _ _. refl) s e
+
+-- a new request takes what is left
+entered_within : (s : State) (e : NewRequest) → enq_refusal s e ≡ None → Within s → Within (state_after_sweep (enq_change s e))
+unfolding enq_change
+entered_within s e passed within pid =
+    let quota : quota_of (state_after_sweep (enq_change s e)).processes pid ≡ quota_of s.processes pid =
+    quota_by_allowance (state_after_sweep (enq_change s e)).processes pid
+    ∙ ap (λ (all : List (ℕ × ℕ)). quota_in all pid) (allowances_entered s e) ∙ sym (quota_by_allowance s.processes pid) in
+    let more : owning pid (state_after_sweep (enq_change s e)).resources ≡ owning pid s.resources + cond (e.pid == pid) 1 0 =
+    entered_named (owned pid) (owned_named pid) s e in
+    elim (e.pid == pid) as (λ b. (e.pid == pid) ≡ b → owning pid (state_after_sweep (enq_change s e)).resources ≡ owning pid s.resources + cond b 1 0
+    → owning pid (state_after_sweep (enq_change s e)).resources ≤ quota_of (state_after_sweep (enq_change s e)).processes pid) [
+      | true ↦ λ own count.
+          let same : e.pid ≡ pid = grind (arith, nat_tests, own) in
+          let left : owning pid s.resources < quota_of s.processes pid =
+          subst (λ (n : ℕ). owning n s.resources < quota_of s.processes n) same (room_left s e passed) in
+          omega (arith, count, left, quota)
+      | false ↦ λ _ count. omega (arith, count, within pid, quota)
+    ] refl more
+
+-- after every run all are within their quotas
+within_always : (steps : List Step) (answers : List Answer) (endings : List Ending) (last : State)
+    → Run steps answers endings last → Within last
+unfolding declare_change set_change convert_change deq_change
+within_always =
+    always (λ _ s. Within s) (λ pid. omega arith)
+    (λ _ _ endings s _ within.
+    kept_by_stepped (λ _ t. Within t) endings s within
+    (λ d _.
+    still_within (declare_change s d) (state_after_sweep (declare_change s d))
+    (kept_swept allowance (λ _ _. refl) (declare_change s d).processes s.resources)
+    (λ pid. omega (arith, swept_named (owned pid) (owned_named pid) (declare_change s d).processes s.resources))
+    (λ pid. omega (arith, within pid, more_quota s.processes (declared_process s d) pid)))
+    (λ v _.
+    still_within s (state_after_sweep (set_change s v))
+    (kept_swept allowance (λ _ _. refl) (set_change s v).processes s.resources ∙ kept_set allowance (λ _ _. refl) v.pid v.block v.value s.processes)
+    (λ pid. omega (arith, swept_named (owned pid) (owned_named pid) (set_change s v).processes s.resources)) within)
+    (λ e passed. entered_within s e passed within)
+    (λ c a _ _.
+    still_within s (state_after_sweep (convert_change s c a))
+    (kept_swept allowance (λ _ _. refl) (convert_change s c a).processes (convert_change s c a).resources ∙ kept_converted allowance (λ _ _. refl) s c a)
+    (λ pid. changed_named (owned pid) (owned_named pid)
+    (resource_after_conversion a.request c.pid (convert_lkid s c) (convert_blocks s c a).value_block)
+    (converted_named (owned pid) (owned_named pid) a.request c.pid (convert_lkid s c) (convert_blocks s c a).value_block)
+    (convert_change s c a).processes s.resources) within)
+    (λ d _.
+    still_within s (state_after_sweep (deq_change s d))
+    (kept_swept allowance (λ _ _. refl) (deq_change s d).processes (deq_change s d).resources
+    ∙ kept_ended allowance (λ _ _. refl) (deq_endings s d) (blocks_with new_value_block s.processes))
+    (λ pid. changed_named (owned pid) (owned_named pid) (resource_after_withdrawal (withdrawal_of s d))
+    (dequeued_named (owned pid) (owned_named pid) (withdrawal_of s d)) (deq_change s d).processes s.resources) within))
+
+-- the locks of a process on a resource, counted over its three queues at once
+counted_at_once : (pid : ℕ) (r : Resource) → locks_on pid r ≡ weigh (owned pid) r
+counted_at_once pid r =
+    omega (arith, sum_by-append (owned pid) (r.granted ++ r.converting) r.waiting, sum_by-append (owned pid) r.granted r.converting)
+
+-- the same over all resources
+all_counted : (pid : ℕ) (resources : List Resource) → sum_by (locks_on pid) resources ≡ owning pid resources
+all_counted pid [] = refl
+all_counted pid (r ∷ rest) =
+    omega (
+      arith,
+      all_counted pid rest,
+      counted_at_once pid r,
+      sum_by-cons (locks_on pid) r rest,
+      sum_by-cons (weigh (owned pid)) r rest,
+    )
+
+-- after every run quotas are kept
+pub quotas_always : (steps : List Step) (answers : List Answer) (endings : List Ending) (last : State)
+    → Run steps answers endings last → QuotasAreKept last
+quotas_always steps answers endings last run pid =
+    omega (arith, within_always steps answers endings last run pid, all_counted pid last.resources)
