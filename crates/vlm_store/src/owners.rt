@@ -63,6 +63,22 @@ impl Store {
         self.processes[at.slot()].group
     }
 
+    /// How many locks a process may have.
+    pub fn quota(&self, at: ProcAt) -> u16
+        requires { HasProcess at self.now }
+        ensures { IfSome (process_at at self.now.processes) (λ p. result ≡ p.process.quota) }
+    {
+        self.processes[at.slot()].quota
+    }
+
+    /// Whether a process has the SYSLCK privilege.
+    pub fn has_syslck(&self, at: ProcAt) -> bool
+        requires { HasProcess at self.now }
+        ensures { IfSome (process_at at self.now.processes) (λ p. result ≡ p.process.syslck) }
+    {
+        self.processes[at.slot()].syslck
+    }
+
     /// The status blocks of a process, of which block n stands at n - 1.
     pub fn status_blocks(&self, at: ProcAt) -> &[Block]
         requires { HasProcess at self.now }
