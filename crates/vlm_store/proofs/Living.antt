@@ -12,12 +12,15 @@ use Rattle.vlm_words.specs.declared.locks.Row.{Row}
 use Rattle.vlm_store.specs.declared.locks.Lock.{Lock}
 use Rattle.vlm_store.specs.declared.processes.Process.{Process}
 use Rattle.vlm_store.specs.declared.store.Store.TheInside.{Inside}
-use Rattle.vlm_store.specs.Records.{AreOwnApart, AreOwned, AreProcessesApart, FindsProcess, HasNoSublocks, HasProcess, IsOwnAmong, IsProcess, IsProcessAmong, OwnLock, StoredProcess, Stores, own_at, process_at}
+use Rattle.vlm_store.specs.Records.{AreOwnApart, AreOwned, AreProcessesApart, FindsProcess, HasNoSublocks, HasProcess, IsOwnAmong, IsProcess, IsProcessAmong, IsSound, OwnLock, StoredProcess, Stores, own_at, process_at}
 use Rattle.vlm_store.specs.Kept.{IsKept, processes_shown, records_shown}
 use Rattle.vlm_store.specs.Shown.{lkid_of, row_in, rows}
 use Rattle.vlm_store.specs.Holdings.{Holding, NamesParent, OwnerFits, ParentFits, below_keys, holding, own_keys, own_of, owner_in, parent_in, pid_at, pid_of, plain_in, process_links, process_of, processes_of}
 use Rattle.vlm_store.specs.Store.{tables}
-use Rattle.vlm_store.proofs.Kept.{stored_there, there_stored}
+use Rattle.vlm_words.specs.Keys.{is_same_key}
+use Rattle.vlm_store.proofs.Kept.{keys_apart, lkids_apart, stored_there, there_stored}
+use Rattle.vlm_store.proofs.Layouts.{IsSound-records_of}
+use Rattle.vlm_store.proofs.Places.{one_place}
 use Rattle.vlm_store.proofs.Kinship.{records_processes}
 use Rattle.vlm_store.proofs.Members.{AreProcessesApart-processes_of, HasProcess-order, among_own, own_among, process_at-found, process_seen, seen_process}
 
@@ -125,6 +128,23 @@ module _ (s : Inside) (kept : IsKept s) where
         ),
       )
 
+  -- a lock whose row names a parent stands below it
+  stands_below : (at : ℕ) (row : Row) → Stores (records_shown s) at row → ¬ (row.parent ≡ 0)
+      → (up : ℕ) × (IsIn at (below_keys s.queues.locks up) × ContainsKey s.queues.locks up × ((rows s.queues up).lkid ≡ row.parent))
+  stands_below at row stored has_parent =
+      let there = lock_there at row stored in
+      let l = there_is (get s.queues.locks at) there.0 in
+      let names : l.0.row.parent ≡ row.parent = ap (λ (r : Row). r.parent) (sym (ap row_in l.1) ∙ there.2) in
+      let fits = subst (ParentFits s.queues.locks) l.1 (kept.named.parents at) in
+      let up = named_parent s.queues.locks l.0.parent l.0.row.parent fits (λ none. has_parent (sym names ∙ none)) in (
+        up.0,
+        (
+          kept.below.stands up.0 at (λ e. none-some at (sym e)) (ap parent_in l.1 ∙ up.1.0),
+          there_named (get s.queues.locks up.0) l.0.row.parent up.1.1,
+          lkid_told (get s.queues.locks up.0) l.0.row.parent up.1.1 ∙ names,
+        ),
+      )
+
   pub are_owned : AreOwned (records_shown s)
   are_owned = record {
     owned = is_owned;
@@ -158,25 +178,19 @@ module _ (s : Inside) (kept : IsKept s) where
           ),
         );
     named = λ at row stored has_parent.
-        let there = lock_there at row stored in
-        let l = there_is (get s.queues.locks at) there.0 in
-        let row_is : l.0.row ≡ row = sym (ap row_in l.1) ∙ there.2 in
-        let fits = subst (ParentFits s.queues.locks) l.1 (kept.named.parents at) in
-        let parent = named_parent s.queues.locks l.0.parent l.0.row.parent fits (λ none. has_parent (sym (ap (λ (r : Row). r.parent) row_is) ∙ none)) in
-        let up_there = there_named (get s.queues.locks parent.0) l.0.row.parent parent.1.1 in
-        let up_stored = lock_stored parent.0 up_there in
-        let up = is_owned parent.0 (rows s.queues parent.0) up_stored in
-        let seen = own_among_shown up.0 up.1 up.2.0 up.2.2 in
-        let stands = kept.below.stands parent.0 at (λ e. none-some at (sym e)) (ap parent_in l.1 ∙ parent.1.0) in (
-          up.0,
-          up.1,
-          rows s.queues parent.0,
+        let up = stands_below at row stored has_parent in
+        let up_stored = lock_stored up.0 up.1.1 in
+        let found = is_owned up.0 (rows s.queues up.0) up_stored in
+        let seen = own_among_shown found.0 found.1 found.2.0 found.2.2 in (
+          found.0,
+          found.1,
+          rows s.queues up.0,
           (
-            up.2.0,
-            up.2.2,
-            subst (IsIn at) (ap (below_keys s.queues.locks) (sym up.2.3) ∙ seen.0.1) stands,
-            subst (λ x. Stores (records_shown s) x (rows s.queues parent.0)) (sym up.2.3) up_stored,
-            lkid_told (get s.queues.locks parent.0) l.0.row.parent parent.1.1 ∙ ap (λ (r : Row). r.parent) row_is,
+            found.2.0,
+            found.2.2,
+            subst (IsIn at) (ap (below_keys s.queues.locks) (sym found.2.3) ∙ seen.0.1) up.1.0,
+            subst (λ x. Stores (records_shown s) x (rows s.queues up.0)) (sym found.2.3) up_stored,
+            up.1.2,
           ),
         );
   }
@@ -222,6 +236,13 @@ module _ (s : Inside) (kept : IsKept s) where
       let told_b = pid_told (get s.processes b) (kept.processes_linked.present b there) in
       same_Some a b
       (sym (kept.processes.complete (plain_in (get s.processes a)).pid a told_a) ∙ kept.processes.complete (plain_in (get s.processes a)).pid b (told_b ∙ ap Some (sym same))))
+
+  -- what a caller sees is sound
+  pub is_sound : IsSound (records_shown s)
+  is_sound =
+      IsSound-records_of (tables s.queues s.order (processes_shown s)) kept.linked.apart (λ p. (kept.placed.linked p).apart) (one_place s.queues None kept.placed)
+      (lkids_apart s.queues s.order (processes_shown s) kept.placed kept.linked kept.ordered (found nat_eq s.lock_index) kept.locks)
+      (keys_apart s.queues s.order (processes_shown s) kept.placed kept.linked kept.ordered (found is_same_key s.resource_index) kept.resources) are_apart are_owned own_apart
 
   -- the index of processes finds what a caller sees
   pub finds_process : (pid : ℕ) (result : Option ℕ) → result ≡ found nat_eq s.process_index pid → FindsProcess (records_shown s) pid result

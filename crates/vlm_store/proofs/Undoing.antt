@@ -34,7 +34,7 @@ without_last at row (k ∷ rest) =
     ]
 
 -- a resource is found by its key
-resource_is : (r : StoredResource) (rs : List StoredResource) → AreResourcesApart rs → IsResourceAmong r rs → resource_at r.at rs ≡ Some r
+pub resource_is : (r : StoredResource) (rs : List StoredResource) → AreResourcesApart rs → IsResourceAmong r rs → resource_at r.at rs ≡ Some r
 resource_is r [] apart found = absurd found
 resource_is r (x ∷ rs) apart found =
     elim found [

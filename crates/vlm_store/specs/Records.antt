@@ -1,6 +1,6 @@
 -- What the store shows: resources with their queues, locks, and processes with their own locks, each under
 -- its key.
-use Rattle.std.specs.Prelude.{◌≡◌, ◌⊎◌, ℕ, Bool, true, false, not, ◌==◌, ◌&&◌, List, [], ◌∷◌, ◌++◌, map, filter, find, Option, None, Some, IsSome, if◌then◌else◌}
+use Rattle.std.specs.Prelude.{◌≡◌, ◌⊎◌, ℕ, Bool, true, false, not, ◌==◌, ◌&&◌, ◌+◌, count_by, sum_by, List, [], ◌∷◌, ◌++◌, map, filter, find, Option, None, Some, IsSome, if◌then◌else◌}
 use Rattle.std.specs.Option.{option_map_or}
 use Rattle.vlm_words.specs.declared.locks.Row.{Row}
 use Rattle.vlm_words.specs.declared.modes.Mode.{Mode}
@@ -348,6 +348,18 @@ IsParentOf (Some parent) row s = (up : Row) × (Stores s parent up × (up.lkid �
 -- the locks of a process
 abbrev pub own_at : ℕ → Records → List OwnLock
 own_at at s = option_map_or (λ p. p.own) (process_at at s.processes) []
+
+-- how many of the locks are of the process
+abbrev pub owned_among : ℕ → List StoredLock → ℕ
+owned_among pid locks = count_by (λ k. k.row.pid == pid) locks
+
+-- how many locks of the process stand on the resource
+abbrev pub owned_on : ℕ → StoredResource → ℕ
+owned_on pid r = owned_among pid r.granted + owned_among pid r.converting + owned_among pid r.waiting
+
+-- how many locks the process has, in whichever queue or in none
+abbrev pub owned_by : ℕ → Records → ℕ
+owned_by pid s = sum_by (owned_on pid) s.resources + owned_among pid s.loose
 
 -- the process of this key has no lock
 abbrev pub HasNoLocks : ℕ → Records → Type 0
