@@ -12,7 +12,7 @@ use vlm_words::flags::EnqFlags;
 use vlm_words::locks::{Request, Row};
 use vlm_words::modes::Mode;
 use vlm_words::names::Name;
-use vlm_words::resources::{Domain, Key, Queue};
+use vlm_words::resources::{Domain, Key, Queue, Site};
 use vlm_words::steps::Declaration;
 
 fn request(mode: Mode) -> Request {
@@ -96,7 +96,12 @@ fn try_open(store: &mut Store, serial: u32, key: &Key) -> Result<(), AllocError>
     match store.resource(key) {
         Some(_) => Ok(()),
         None => {
-            store.add_resource(serial, Domain::System, key)?;
+            let site = Site {
+                key: *key,
+                domain: Domain::System,
+                level: 0,
+            };
+            store.add_resource(serial, &site)?;
             Ok(())
         }
     }

@@ -13,7 +13,7 @@ use vlm_words::flags::EnqFlags;
 use vlm_words::locks::{Request, Row};
 use vlm_words::modes::Mode;
 use vlm_words::names::Name;
-use vlm_words::resources::{Domain, Key, Queue};
+use vlm_words::resources::{Domain, Key, Queue, Site};
 use vlm_words::steps::Declaration;
 
 // A request whose status block has the number of its lock.
@@ -70,7 +70,12 @@ fn open(store: &mut Store, key: &Key) -> Result<(), AllocError> {
     match store.resource(key) {
         Some(_) => Ok(()),
         None => {
-            store.add_resource(1, Domain::System, key)?;
+            let site = Site {
+                key: *key,
+                domain: Domain::System,
+                level: 0,
+            };
+            store.add_resource(1, &site)?;
             Ok(())
         }
     }

@@ -53,12 +53,12 @@ total-kept weight rows rows' (k ∷ ks) same =
     rw (same k (inl refl)) (ap (λ n. weight (rows k) + n) (total-kept weight rows rows' ks (λ at found. same at (inr found))))
 
 -- two lists that are apart from each other
-IsIn-append : (k : ℕ) (xs ys : List ℕ) (P : Type 0) → (IsIn k xs → P) → (IsIn k ys → P) → IsIn k (xs ++ ys) → P
+pub IsIn-append : (k : ℕ) (xs ys : List ℕ) (P : Type 0) → (IsIn k xs → P) → (IsIn k ys → P) → IsIn k (xs ++ ys) → P
 IsIn-append k [] ys P first second found = second found
 IsIn-append k (x ∷ xs) ys P first second found =
     elim found [ inl here ↦ first (inl here) | inr there ↦ IsIn-append k xs ys P (λ h. first (inr h)) second there ]
 
-IsApart-append : (xs ys : List ℕ) → IsApart xs → IsApart ys → ((k : ℕ) → IsIn k xs → ¬ IsIn k ys) → IsApart (xs ++ ys)
+pub IsApart-append : (xs ys : List ℕ) → IsApart xs → IsApart ys → ((k : ℕ) → IsIn k xs → ¬ IsIn k ys) → IsApart (xs ++ ys)
 IsApart-append [] ys apart apart' other = apart'
 IsApart-append (x ∷ xs) ys apart apart' other = (
   λ found. IsIn-append x xs ys ⊥ apart.0 (other x (inl refl)) found,

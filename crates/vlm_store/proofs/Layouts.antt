@@ -11,7 +11,7 @@ use Rattle.vlm_words.specs.declared.resources.Queue.{Queue}
 use Rattle.vlm_words.specs.declared.resources.Queue.TheVariants.{Granted, Conversion, Waiting}
 use Rattle.vlm_store.specs.declared.keys.Place.{Place}
 use Rattle.vlm_store.specs.declared.keys.Place.TheVariants.{Loose, Queued}
-use Rattle.vlm_store.specs.Records.{Records, StoredLock, StoredResource, AreApart, AreOwned, AreProcessesApart, AreResourcesApart, HasPlace, HasResource, IsAmong, IsResourceAmong, IsSound, Stores, at_after, first_at, first_resource_at, resource_at_after, is_place, is_queue, leaving, locks_at, moving, on_resource, queued, resource_at, resource_with, rewriting, with_lists, without_lock, without_resource}
+use Rattle.vlm_store.specs.Records.{AreOwnApart, IsProcessAmong, StoredProcess, Records, StoredLock, StoredResource, AreApart, AreOwned, AreProcessesApart, AreResourcesApart, HasPlace, HasResource, IsAmong, IsResourceAmong, IsSound, Stores, at_after, first_at, first_resource_at, resource_at_after, is_place, is_queue, leaving, locks_at, moving, on_resource, queued, resource_at, resource_with, rewriting, with_lists, without_lock, without_resource}
 use Rattle.vlm_store.specs.Store.{Layout, keyed, records_of, resource_of}
 use Rattle.vlm_store.proofs.Places.{place_cases}
 
@@ -322,9 +322,9 @@ resources_apart l (r ∷ rs) apart = (
 pub IsSound-records_of : (l : Layout) → IsApart l.order → ((p : Place) → IsApart (l.keys p)) → ((at : ℕ) (p q : Place) → IsIn at (l.keys p) → IsIn at (l.keys q) → p ≡ q)
     → ((a b : ℕ) (x y : Row) → Stores (records_of l) a x → Stores (records_of l) b y → x.lkid ≡ y.lkid → a ≡ b)
     → ((a b : StoredResource) → IsResourceAmong a (records_of l).resources → IsResourceAmong b (records_of l).resources → a.key ≡ b.key → a.at ≡ b.at)
-    → AreProcessesApart l.processes → AreOwned (records_of l) → IsSound (records_of l)
+    → AreProcessesApart l.processes → AreOwned (records_of l) → ((p : StoredProcess) → IsProcessAmong p l.processes → AreOwnApart p.own) → IsSound (records_of l)
 unfolding records_of
-IsSound-records_of l order_apart places_apart one_place lkids_apart keys_apart processes_apart owned = record {
+IsSound-records_of l order_apart places_apart one_place lkids_apart keys_apart processes_apart owned own_apart = record {
   resources_apart = resources_apart l l.order order_apart;
   locks_apart = λ p. elim (seen_cases l p) [
     | inl seen ↦ rw (locks_at-seen l p seen) (keyed-apart l.rows (l.keys p) (places_apart p))
@@ -336,6 +336,7 @@ IsSound-records_of l order_apart places_apart one_place lkids_apart keys_apart p
   keys_apart = keys_apart;
   processes_apart = processes_apart;
   owned = owned;
+  own_apart = own_apart;
 }
 
 -- ---- resources change

@@ -1,3 +1,4 @@
+pub mod Counted
 pub mod Counting
 pub mod Declaring
 pub mod Families

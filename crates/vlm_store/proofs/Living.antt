@@ -4,20 +4,23 @@ use Rattle.std.proofs.lemmas.Bool.Decides.{nat_tests}
 use Rattle.std.proofs.lemmas.Option.{none-some, same_Some}
 use Rattle.std.specs.Bool.{OnFalse, OnTrue}
 use Rattle.std.specs.Option.{option_map, option_map_or}
-use Rattle.slab.specs.Slab.{get, ContainsKey}
+use Rattle.slab.specs.Slab.{Slab, get, ContainsKey}
 use Rattle.indexmap.specs.IndexMap.{get as found}
 use Rattle.vlm_links.specs.declared.link.TheConstants.{LAST_KEY}
-use Rattle.vlm_links.specs.Lists.{IsIn, keys_of}
+use Rattle.vlm_links.specs.Lists.{IsApart, IsIn, keys_of}
 use Rattle.vlm_words.specs.declared.locks.Row.{Row}
 use Rattle.vlm_store.specs.declared.locks.Lock.{Lock}
 use Rattle.vlm_store.specs.declared.processes.Process.{Process}
 use Rattle.vlm_store.specs.declared.store.Store.TheInside.{Inside}
-use Rattle.vlm_store.specs.Records.{AreOwned, AreProcessesApart, FindsProcess, HasNoSublocks, HasProcess, IsOwnAmong, IsProcess, IsProcessAmong, OwnLock, StoredProcess, Stores, own_at, process_at}
+use Rattle.vlm_store.specs.Records.{AreOwnApart, AreOwned, AreProcessesApart, FindsProcess, HasNoSublocks, HasProcess, IsOwnAmong, IsProcess, IsProcessAmong, IsSound, OwnLock, StoredProcess, Stores, own_at, process_at}
 use Rattle.vlm_store.specs.Kept.{IsKept, processes_shown, records_shown}
 use Rattle.vlm_store.specs.Shown.{lkid_of, row_in, rows}
 use Rattle.vlm_store.specs.Holdings.{Holding, NamesParent, OwnerFits, ParentFits, below_keys, holding, own_keys, own_of, owner_in, parent_in, pid_at, pid_of, plain_in, process_links, process_of, processes_of}
 use Rattle.vlm_store.specs.Store.{tables}
-use Rattle.vlm_store.proofs.Kept.{stored_there, there_stored}
+use Rattle.vlm_words.specs.Keys.{is_same_key}
+use Rattle.vlm_store.proofs.Kept.{keys_apart, lkids_apart, stored_there, there_stored}
+use Rattle.vlm_store.proofs.Layouts.{IsSound-records_of}
+use Rattle.vlm_store.proofs.Places.{one_place}
 use Rattle.vlm_store.proofs.Kinship.{records_processes}
 use Rattle.vlm_store.proofs.Members.{AreProcessesApart-processes_of, HasProcess-order, among_own, own_among, process_at-found, process_seen, seen_process}
 
@@ -41,6 +44,16 @@ noted_parent (Some l) parent is = (l, (refl, is))
 lkid_told : (slot : Option Lock) (lkid : ℕ) → option_map lkid_of slot ≡ Some lkid → (row_in slot).lkid ≡ lkid
 lkid_told None lkid is = absurd (none-some lkid is)
 lkid_told (Some l) lkid is = same_Some l.row.lkid lkid is
+
+there_named : (slot : Option Lock) (lkid : ℕ) → option_map lkid_of slot ≡ Some lkid → IsSome slot
+there_named None lkid is = absurd (none-some lkid is)
+there_named (Some l) lkid is = refl
+
+-- where the record of a lock notes no parent, its row names none
+named_parent : (locks : Slab Lock) (noted : Option ℕ) (lkid : ℕ) → NamesParent locks noted lkid → ¬ (lkid ≡ 0)
+    → (up : ℕ) × ((noted ≡ Some up) × (option_map lkid_of (get locks up) ≡ Some lkid))
+named_parent locks None lkid names has = absurd (has names)
+named_parent locks (Some up) lkid names has = (up, (refl, names))
 
 there_is : (slot : Option Lock) → IsSome slot → (l : Lock) × (slot ≡ Some l)
 there_is None there = cc
@@ -95,24 +108,46 @@ module _ (s : Inside) (kept : IsKept s) where
       let is : map (own_of held) (own_keys s.processes s.queues.locks p.at) ≡ p.own = ap (λ (x : StoredProcess). x.own) (shown_among p among).1 in
       (own_among held (own_keys s.processes s.queues.locks p.at) own (subst (IsOwnAmong own) (sym is) has), sym is)
 
+  -- a stored lock is among those of the process that its row names
+  is_owned : (at : ℕ) (row : Row) → Stores (records_shown s) at row
+      → (p : StoredProcess) × (own : OwnLock) × (IsProcessAmong p (records_shown s).processes × (p.process.pid ≡ row.pid) × IsOwnAmong own p.own × (own.at ≡ at))
+  is_owned at row stored =
+      let there = lock_there at row stored in
+      let l = there_is (get s.queues.locks at) there.0 in
+      let fits = subst (OwnerFits s.processes) l.1 (kept.named.owners at) in
+      let owner = pid_there (get s.processes l.0.owner) l.0.row.pid fits in
+      let stands = kept.owned.stands l.0.owner at (λ e. none-some at (sym e)) (ap owner_in l.1) in
+      let row_is : l.0.row ≡ row = sym (ap row_in l.1) ∙ there.2 in (
+        process_of held l.0.owner,
+        own_of held at,
+        (
+          among_shown l.0.owner (kept.processes_ordered l.0.owner owner.0),
+          owner.1 ∙ ap (λ (r : Row). r.pid) row_is,
+          among_own held (own_keys s.processes s.queues.locks l.0.owner) at stands,
+          refl,
+        ),
+      )
+
+  -- a lock whose row names a parent stands below it
+  stands_below : (at : ℕ) (row : Row) → Stores (records_shown s) at row → ¬ (row.parent ≡ 0)
+      → (up : ℕ) × (IsIn at (below_keys s.queues.locks up) × ContainsKey s.queues.locks up × ((rows s.queues up).lkid ≡ row.parent))
+  stands_below at row stored has_parent =
+      let there = lock_there at row stored in
+      let l = there_is (get s.queues.locks at) there.0 in
+      let names : l.0.row.parent ≡ row.parent = ap (λ (r : Row). r.parent) (sym (ap row_in l.1) ∙ there.2) in
+      let fits = subst (ParentFits s.queues.locks) l.1 (kept.named.parents at) in
+      let up = named_parent s.queues.locks l.0.parent l.0.row.parent fits (λ none. has_parent (sym names ∙ none)) in (
+        up.0,
+        (
+          kept.below.stands up.0 at (λ e. none-some at (sym e)) (ap parent_in l.1 ∙ up.1.0),
+          there_named (get s.queues.locks up.0) l.0.row.parent up.1.1,
+          lkid_told (get s.queues.locks up.0) l.0.row.parent up.1.1 ∙ names,
+        ),
+      )
+
   pub are_owned : AreOwned (records_shown s)
   are_owned = record {
-    owned = λ at row stored.
-        let there = lock_there at row stored in
-        let l = there_is (get s.queues.locks at) there.0 in
-        let fits = subst (OwnerFits s.processes) l.1 (kept.named.owners at) in
-        let owner = pid_there (get s.processes l.0.owner) l.0.row.pid fits in
-        let stands = kept.owned.stands l.0.owner at (λ e. none-some at (sym e)) (ap owner_in l.1) in
-        let row_is : l.0.row ≡ row = sym (ap row_in l.1) ∙ there.2 in (
-          process_of held l.0.owner,
-          own_of held at,
-          (
-            among_shown l.0.owner (kept.processes_ordered l.0.owner owner.0),
-            owner.1 ∙ ap (λ (r : Row). r.pid) row_is,
-            among_own held (own_keys s.processes s.queues.locks l.0.owner) at stands,
-            refl,
-          ),
-        );
+    owned = is_owned;
     owns = λ p own among has.
         let own_there = own_among_shown p own among has in
         let noted = noted_owner (get s.queues.locks own.at) p.at (kept.owned.listed p.at own.at own_there.0.0) in
@@ -142,7 +177,36 @@ module _ (s : Inside) (kept : IsKept s) where
             ap (λ slot. (row_in slot).parent) noted.1.0 ∙ sym (lkid_told (get s.queues.locks own.at) noted.0.row.parent names),
           ),
         );
+    named = λ at row stored has_parent.
+        let up = stands_below at row stored has_parent in
+        let up_stored = lock_stored up.0 up.1.1 in
+        let found = is_owned up.0 (rows s.queues up.0) up_stored in
+        let seen = own_among_shown found.0 found.1 found.2.0 found.2.2 in (
+          found.0,
+          found.1,
+          rows s.queues up.0,
+          (
+            found.2.0,
+            found.2.2,
+            subst (IsIn at) (ap (below_keys s.queues.locks) (sym found.2.3) ∙ seen.0.1) up.1.0,
+            subst (λ x. Stores (records_shown s) x (rows s.queues up.0)) (sym found.2.3) up_stored,
+            up.1.2,
+          ),
+        );
   }
+
+  -- no two of the locks of a process have one key
+  pub own_apart : (p : StoredProcess) → IsProcessAmong p (processes_shown s) → AreOwnApart p.own
+  own_apart p among =
+      let seen = seen_process held p among in
+      subst AreOwnApart (ap (λ (x : StoredProcess). x.own) seen.1) (apart (own_keys s.processes s.queues.locks p.at) (kept.owned.linked p.at).apart)
+    where
+      apart : (keys : List ℕ) → IsApart keys → AreOwnApart (map (own_of held) keys)
+      apart [] is = tt
+      apart (k ∷ rest) is = (
+        λ other among same. is.0 (subst (λ x. IsIn x rest) same (own_among held rest other among).0),
+        apart rest is.1,
+      )
 
   -- no lock stands below this one
   pub childless : (at : ℕ) (row : Row) → Stores (records_shown s) at row → HasNoSublocks at (records_shown s) → below_keys s.queues.locks at ≡ []
@@ -172,6 +236,13 @@ module _ (s : Inside) (kept : IsKept s) where
       let told_b = pid_told (get s.processes b) (kept.processes_linked.present b there) in
       same_Some a b
       (sym (kept.processes.complete (plain_in (get s.processes a)).pid a told_a) ∙ kept.processes.complete (plain_in (get s.processes a)).pid b (told_b ∙ ap Some (sym same))))
+
+  -- what a caller sees is sound
+  pub is_sound : IsSound (records_shown s)
+  is_sound =
+      IsSound-records_of (tables s.queues s.order (processes_shown s)) kept.linked.apart (λ p. (kept.placed.linked p).apart) (one_place s.queues None kept.placed)
+      (lkids_apart s.queues s.order (processes_shown s) kept.placed kept.linked kept.ordered (found nat_eq s.lock_index) kept.locks)
+      (keys_apart s.queues s.order (processes_shown s) kept.placed kept.linked kept.ordered (found is_same_key s.resource_index) kept.resources) are_apart are_owned own_apart
 
   -- the index of processes finds what a caller sees
   pub finds_process : (pid : ℕ) (result : Option ℕ) → result ≡ found nat_eq s.process_index pid → FindsProcess (records_shown s) pid result

@@ -6,11 +6,10 @@ use Rattle.std.proofs.lemmas.Bool.{cases_eq}
 use Rattle.vlm_links.specs.Lists.{IsIn, without}
 use Rattle.vlm_links.proofs.KeyLists.{without_absent as key_absent, without_head, without_past}
 use Rattle.vlm_words.specs.declared.locks.Row.{Row}
-use Rattle.vlm_words.specs.declared.resources.Domain.{Domain}
 use Rattle.vlm_words.specs.declared.steps.Declaration.{Declaration}
 use Rattle.vlm_words.specs.declared.resources.Queue.{Queue}
 use Rattle.vlm_words.specs.declared.resources.Queue.TheVariants.{Granted, Conversion, Waiting}
-use Rattle.vlm_words.specs.declared.resources.Key.{Key}
+use Rattle.vlm_words.specs.declared.resources.Site.{Site}
 use Rattle.vlm_store.specs.declared.keys.Place.{Place}
 use Rattle.vlm_store.specs.declared.keys.Place.TheVariants.{Loose, Queued}
 use Rattle.vlm_store.specs.Records.{AreResourcesApart, HasProcess, HasResource, IsAmong, IsOwnAmong, IsProcessAmong, OwnLock, StoredProcess, Stores, new_own, new_stored_process, process_at, process_with_lock, process_without_lock, with_new_lock, with_sublock, without_process, without_stored_lock, without_sublock, IsResourceAmong, IsSound, IsStored, Records, StoredLock, StoredResource, is_place, joined_by, leaving, locks_at, moving, new_resource, on_resource, queued, resource_at, resource_with, with_lists, without_lock, without_resource}
@@ -35,7 +34,7 @@ without_last at row (k ∷ rest) =
     ]
 
 -- a resource is found by its key
-resource_is : (r : StoredResource) (rs : List StoredResource) → AreResourcesApart rs → IsResourceAmong r rs → resource_at r.at rs ≡ Some r
+pub resource_is : (r : StoredResource) (rs : List StoredResource) → AreResourcesApart rs → IsResourceAmong r rs → resource_at r.at rs ≡ Some r
 resource_is r [] apart found = absurd found
 resource_is r (x ∷ rs) apart found =
     elim found [
@@ -142,10 +141,10 @@ module _ (s : Records) (at : ℕ) (sound : IsSound s) (absent : ¬ IsStored at s
           ap (λ x. x ∷ map (process_without_lock at) (map (process_with_lock owner parent at) rest)) (process_same p (within p (inl refl)) owner parent)
           ∙ ap (λ xs. p ∷ xs) (each rest (λ x there. within x (inr there)))
 
-pub resource_undone : (s : Records) (res serial : ℕ) (domain : Domain) (key : Key) → ¬ HasResource res s → record s { resources = without_resource res (s.resources ++ new_resource res serial domain key ∷ []) } ≡ s
-resource_undone s res serial domain key absent = ap (λ x. record s { resources = x }) (each s.resources absent)
+pub resource_undone : (s : Records) (res serial : ℕ) (site : Site) → ¬ HasResource res s → record s { resources = without_resource res (s.resources ++ new_resource res serial site ∷ []) } ≡ s
+resource_undone s res serial site absent = ap (λ x. record s { resources = x }) (each s.resources absent)
   where
-    each : (rs : List StoredResource) → ¬ IsSome (resource_at res rs) → without_resource res (rs ++ new_resource res serial domain key ∷ []) ≡ rs
+    each : (rs : List StoredResource) → ¬ IsSome (resource_at res rs) → without_resource res (rs ++ new_resource res serial site ∷ []) ≡ rs
     each [] absent = rw (eq-eqb res res refl) refl
     each (r ∷ rs) absent =
         elim (cases_eq r.at res) [

@@ -1,6 +1,6 @@
 -- What the store shows: resources with their queues, locks, and processes with their own locks, each under
 -- its key.
-use Rattle.std.specs.Prelude.{◌≡◌, ◌⊎◌, ℕ, Bool, true, false, not, ◌==◌, ◌&&◌, List, [], ◌∷◌, ◌++◌, map, filter, find, Option, None, Some, IsSome, if◌then◌else◌}
+use Rattle.std.specs.Prelude.{◌≡◌, ◌⊎◌, ℕ, Bool, true, false, not, ◌==◌, ◌&&◌, ◌+◌, count_by, sum_by, List, [], ◌∷◌, ◌++◌, map, filter, find, Option, None, Some, IsSome, if◌then◌else◌}
 use Rattle.std.specs.Option.{option_map_or}
 use Rattle.vlm_words.specs.declared.locks.Row.{Row}
 use Rattle.vlm_words.specs.declared.modes.Mode.{Mode}
@@ -14,6 +14,7 @@ use Rattle.vlm_words.specs.Grants.{fits}
 use Rattle.vlm_words.specs.State.{Process}
 use Rattle.vlm_words.specs.ValueBlocks.{new_value_block}
 use Rattle.vlm_words.specs.declared.resources.Key.{Key}
+use Rattle.vlm_words.specs.declared.resources.Site.{Site}
 use Rattle.vlm_store.specs.declared.keys.Place.{Place}
 use Rattle.vlm_store.specs.declared.keys.Place.TheVariants.{Loose, Queued}
 use Rattle.vlm_words.specs.declared.resources.ValueBlock.{ValueBlock}
@@ -29,6 +30,7 @@ pub record StoredResource : Type 0 where
   pub serial : ℕ
   pub domain : Domain
   pub key : Key
+  pub level : ℕ
   pub value_block : ValueBlock
   pub granted : List StoredLock
   pub converting : List StoredLock
@@ -57,12 +59,13 @@ abbrev pub nothing : Records
 nothing = record { resources = []; loose = []; processes = [] }
 
 -- a resource at its making
-abbrev pub new_resource : ℕ → ℕ → Domain → Key → StoredResource
-new_resource at serial domain key = record {
+abbrev pub new_resource : ℕ → ℕ → Site → StoredResource
+new_resource at serial site = record {
   at = at;
   serial = serial;
-  domain = domain;
-  key = key;
+  domain = site.domain;
+  key = site.key;
+  level = site.level;
   value_block = record { value = new_value_block.value; valid = new_value_block.valid };
   granted = [];
   converting = [];
@@ -346,6 +349,18 @@ IsParentOf (Some parent) row s = (up : Row) × (Stores s parent up × (up.lkid �
 abbrev pub own_at : ℕ → Records → List OwnLock
 own_at at s = option_map_or (λ p. p.own) (process_at at s.processes) []
 
+-- how many of the locks are of the process
+abbrev pub owned_among : ℕ → List StoredLock → ℕ
+owned_among pid locks = count_by (λ k. k.row.pid == pid) locks
+
+-- how many locks of the process stand on the resource
+abbrev pub owned_on : ℕ → StoredResource → ℕ
+owned_on pid r = owned_among pid r.granted + owned_among pid r.converting + owned_among pid r.waiting
+
+-- how many locks the process has, in whichever queue or in none
+abbrev pub owned_by : ℕ → Records → ℕ
+owned_by pid s = sum_by (owned_on pid) s.resources + owned_among pid s.loose
+
 -- the process of this key has no lock
 abbrev pub HasNoLocks : ℕ → Records → Type 0
 HasNoLocks at s = own_at at s ≡ []
@@ -389,6 +404,11 @@ AreProcessesApart (p ∷ rest) =
     ((other : StoredProcess) → IsProcessAmong other rest → ¬ (other.at ≡ p.at) × ¬ (other.process.pid ≡ p.process.pid))
     × AreProcessesApart rest
 
+-- no two of the locks of a process have one key
+abbrev pub AreOwnApart : List OwnLock → Type 0
+AreOwnApart [] = Unit {0}
+AreOwnApart (own ∷ rest) = ((other : OwnLock) → IsOwnAmong other rest → ¬ (other.at ≡ own.at)) × AreOwnApart rest
+
 -- the locks of a process are those whose rows name it, and the locks below a lock those whose rows name it
 -- as their parent
 pub record AreOwned (s : Records) : Type 0 where
@@ -398,9 +418,11 @@ pub record AreOwned (s : Records) : Type 0 where
       → (row : Row) × (Stores s own.at row × (row.pid ≡ p.process.pid))
   pub below : (p : StoredProcess) (own : OwnLock) (at : ℕ) → IsProcessAmong p s.processes → IsOwnAmong own p.own → IsIn at own.sublocks
       → (up : Row) × (row : Row) × (Stores s own.at up × Stores s at row × (row.parent ≡ up.lkid))
+  pub named : (at : ℕ) (row : Row) → Stores s at row → ¬ (row.parent ≡ 0)
+      → (p : StoredProcess) × (own : OwnLock) × (up : Row) × (IsProcessAmong p s.processes × IsOwnAmong own p.own × IsIn at own.sublocks × Stores s own.at up × (up.lkid ≡ row.parent))
 
 -- each key is that of one record, no lock stands at two places, no two locks have one identification and no two
--- resources one key, and the locks of a process are those whose rows name it
+-- resources one key, and the locks of a process are those whose rows name it, each once
 pub record IsSound (s : Records) : Type 0 where
   pub resources_apart : AreResourcesApart s.resources
   pub locks_apart : (place : Place) → AreApart (locks_at place s)
@@ -409,3 +431,4 @@ pub record IsSound (s : Records) : Type 0 where
   pub keys_apart : (a b : StoredResource) → IsResourceAmong a s.resources → IsResourceAmong b s.resources → a.key ≡ b.key → a.at ≡ b.at
   pub processes_apart : AreProcessesApart s.processes
   pub owned : AreOwned s
+  pub own_apart : (p : StoredProcess) → IsProcessAmong p s.processes → AreOwnApart p.own

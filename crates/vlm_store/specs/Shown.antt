@@ -13,6 +13,7 @@ use Rattle.vlm_words.specs.declared.resources.Queue.{Queue}
 use Rattle.vlm_words.specs.declared.resources.Queue.TheVariants.{Granted, Conversion, Waiting}
 use Rattle.vlm_words.specs.ValueBlocks.{new_value_block}
 use Rattle.vlm_words.specs.declared.resources.Key.{Key}
+use Rattle.vlm_words.specs.declared.resources.Site.{Site}
 use Rattle.vlm_words.specs.declared.resources.Key.TheVariants.{Below}
 use Rattle.vlm_words.specs.declared.resources.ValueBlock.{ValueBlock}
 use Rattle.vlm_store.specs.declared.keys.Place.{Place}
@@ -195,15 +196,16 @@ pub record Face : Type 0 where
   pub serial : ℕ
   pub domain : Domain
   pub key : Key
+  pub level : ℕ
   pub value_block : ValueBlock
 
 -- what a resource shows besides its queues
 abbrev pub face_of : Resource → Face
-face_of r = record { serial = r.serial; domain = r.domain; key = r.key; value_block = r.value_block }
+face_of r = record { serial = r.serial; domain = r.domain; key = r.key; level = r.level; value_block = r.value_block }
 
 -- what a look-up that finds nothing gives
 abbrev pub no_face : Face
-no_face = record { serial = 0; domain = System; key = Below 0 (replicate 1 0); value_block = record { value = replicate 16 0; valid = false } }
+no_face = record { serial = 0; domain = System; key = Below 0 (replicate 1 0); level = 0; value_block = record { value = replicate 16 0; valid = false } }
 
 -- what stands under a key, or what is told of nothing
 abbrev pub face_in : Option Resource → Face
@@ -211,5 +213,5 @@ face_in None = no_face
 face_in (Some r) = face_of r
 
 -- a resource at its making
-abbrev pub new_face : ℕ → Domain → Key → Face
-new_face serial domain key = record { serial = serial; domain = domain; key = key; value_block = record { value = new_value_block.value; valid = new_value_block.valid } }
+abbrev pub new_face : ℕ → Site → Face
+new_face serial site = record { serial = serial; domain = site.domain; key = site.key; level = site.level; value_block = record { value = new_value_block.value; valid = new_value_block.valid } }

@@ -33,6 +33,7 @@ resource_of l r = record {
   serial = (l.faces r).serial;
   domain = (l.faces r).domain;
   key = (l.faces r).key;
+  level = (l.faces r).level;
   value_block = (l.faces r).value_block;
   granted = map (keyed l.rows) (l.keys (Queued r Granted));
   converting = map (keyed l.rows) (l.keys (Queued r Conversion));

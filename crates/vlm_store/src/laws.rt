@@ -3,8 +3,7 @@
 ghost use Rattle.std.specs.Prelude.{◌≡◌, ℕ, Option, [], ◌∷◌, ◌++◌};
 ghost use Rattle.vlm_words.specs.declared.locks.Row.{Row};
 ghost use Rattle.vlm_words.specs.declared.resources.Queue.{Queue};
-ghost use Rattle.vlm_words.specs.declared.resources.Domain.{Domain};
-ghost use Rattle.vlm_words.specs.declared.resources.Key.{Key};
+ghost use Rattle.vlm_words.specs.declared.resources.Site.{Site};
 ghost use Rattle.vlm_words.specs.declared.steps.Declaration.{Declaration};
 ghost use Rattle.vlm_store.specs.declared.keys.Place.{Place};
 ghost use Rattle.vlm_store.specs.Records.{Records, HasProcess, HasResource, IsAmong, IsSound, IsStored, joined_by, moving, new_resource, new_stored_process, on_resource, with_lists, with_new_lock, without_lock, without_process, without_resource, without_stored_lock};
@@ -17,9 +16,9 @@ pub fn law_removal_undoes_an_added_lock()
 
 /// A resource that was not there is added and removed again: all is as it was.
 pub fn law_removal_undoes_an_added_resource()
-    ensures { (s : Records) (res serial : ℕ) (domain : Domain) (key : Key) → ¬ HasResource res s
+    ensures { (s : Records) (res serial : ℕ) (site : Site) → ¬ HasResource res s
         → record s {
-          resources = without_resource res (s.resources ++ new_resource res serial domain key ∷ []);
+          resources = without_resource res (s.resources ++ new_resource res serial site ∷ []);
         } ≡ s }
 {}
 

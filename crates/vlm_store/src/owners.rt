@@ -4,7 +4,7 @@ ghost use Rattle.std.specs.Prelude.{◌≡◌, ℕ, [], ◌∷◌, ◌++◌, len
 ghost use Rattle.std.specs.Bool.{OnFalse, OnTrue};
 ghost use Rattle.vlm_words.specs.declared.locks.Row.{Row};
 ghost use Rattle.vlm_words.specs.StatusBlocks.{process_with_block};
-ghost use Rattle.vlm_store.specs.Records.{FindsProcess, HasNoLocks, HasNoSublocks, HasProcess, IsNewProcess, IsOwnAmong, IsProcess, IsProcessAmong, IsStored, OwnLock, StoredProcess, Stores, first_own_at, new_stored_process, on_process, own_at, own_at_after, process_at, without_process};
+ghost use Rattle.vlm_store.specs.Records.{FindsProcess, HasNoLocks, HasNoSublocks, HasProcess, IsNewProcess, IsOwnAmong, IsProcess, IsProcessAmong, IsStored, OwnLock, StoredProcess, Stores, first_own_at, new_stored_process, on_process, own_at, own_at_after, owned_by, process_at, without_process};
 
 use crate::keys::{LockAt, ProcAt};
 use crate::processes::{Process, enter, leave};
@@ -63,6 +63,22 @@ impl Store {
         self.processes[at.slot()].group
     }
 
+    /// How many locks a process may have.
+    pub fn quota(&self, at: ProcAt) -> u16
+        requires { HasProcess at self.now }
+        ensures { IfSome (process_at at self.now.processes) (λ p. result ≡ p.process.quota) }
+    {
+        self.processes[at.slot()].quota
+    }
+
+    /// Whether a process has the SYSLCK privilege.
+    pub fn has_syslck(&self, at: ProcAt) -> bool
+        requires { HasProcess at self.now }
+        ensures { IfSome (process_at at self.now.processes) (λ p. result ≡ p.process.syslck) }
+    {
+        self.processes[at.slot()].syslck
+    }
+
     /// The status blocks of a process, of which block n stands at n - 1.
     pub fn status_blocks(&self, at: ProcAt) -> &[Block]
         requires { HasProcess at self.now }
@@ -93,7 +109,8 @@ impl Store {
     /// How many locks a process has, in whichever queue.
     pub fn lock_count(&self, at: ProcAt) -> usize
         requires { HasProcess at self.now }
-        ensures { result ≡ length (own_at at self.now) }
+        ensures own { result ≡ length (own_at at self.now) }
+        ensures owned { (pid : ℕ) → IsProcess at pid self.now → result ≡ owned_by pid self.now }
     {
         self.processes[at.slot()].own.len(&self.queues.locks)
     }

@@ -16,7 +16,7 @@ use slab::Slab;
 use vlm_links::{LAST_KEY, LinkedList, Links};
 use vlm_words::locks::Row;
 use vlm_words::modes::Mode;
-use vlm_words::resources::{Domain, Key, Queue, ValueBlock};
+use vlm_words::resources::{Queue, Site, ValueBlock};
 
 /// The locks, each in one list: a queue of a resource, or that of the loose locks.
 #[derive(Drop)]
@@ -353,8 +353,7 @@ impl Queues {
         &mut self,
         order: &mut LinkedList<InOrder>,
         serial: u32,
-        domain: Domain,
-        key: &Key,
+        site: &Site,
     ) -> usize
         requires placed { IsPlaced self.old None }
         requires tallied { IsTallied self.old None }
@@ -371,14 +370,15 @@ impl Queues {
         ensures order { keys_of order_links self.new.resources order.new
             ≡ keys_of order_links self.old.resources order.old ++ result ∷ [] }
         ensures face { option_map face_of (get self.new.resources result)
-            ≡ Some (new_face serial domain key.now) }
+            ≡ Some (new_face serial site.now) }
         ensures faces { (res : ℕ) → res ≢ result → option_map face_of (get self.new.resources res)
             ≡ option_map face_of (get self.old.resources res) }
     {
         let at = self.resources.insert_reserved(Resource {
             serial,
-            domain,
-            key: *key,
+            domain: site.domain,
+            key: site.key,
+            level: site.level,
             value_block: ValueBlock {
                 value: [0; 16],
                 valid: true,

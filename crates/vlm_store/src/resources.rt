@@ -29,6 +29,7 @@ pub(crate) struct Resource {
     pub(crate) serial: u32,
     pub(crate) domain: Domain,
     pub(crate) key: Key,
+    pub(crate) level: u8,
     pub(crate) value_block: ValueBlock,
     pub(crate) granted: LinkedList<InQueue>,
     pub(crate) converting: LinkedList<InQueue>,

@@ -18,7 +18,7 @@ use std::marker::Model;
 use vlm_links::{LAST_KEY, LinkedList};
 use vlm_words::locks::Row;
 use vlm_words::modes::Mode;
-use vlm_words::resources::{Domain, Key, ValueBlock};
+use vlm_words::resources::{Domain, Key, Site, ValueBlock};
 
 /// The records of the machine. Each call takes constant time but for the growth of an add.
 #[derive(Drop)]
@@ -168,15 +168,10 @@ impl Store {
 
     /// Adds a resource without locks, the last in order of making, with a valid value block of zeros. Where
     /// memory is refused, or no key is left, nothing is changed.
-    pub fn add_resource(
-        &mut self,
-        serial: u32,
-        domain: Domain,
-        key: &Key,
-    ) -> Result<ResAt, AllocError>
-        requires { IsNewKey key.now self.old }
+    pub fn add_resource(&mut self, serial: u32, site: &Site) -> Result<ResAt, AllocError>
+        requires { IsNewKey site.now.key self.old }
         ensures added { IfOk result (λ res. self.new ≡ record self.old {
-          resources = self.old.resources ++ new_resource res serial domain key.now ∷ [];
+          resources = self.old.resources ++ new_resource res serial site.now ∷ [];
         }) }
         ensures fresh { IfOk result (λ res. ¬ HasResource res self.old) }
         ensures err { OnErr result (self.new ≡ self.old) }
@@ -186,11 +181,8 @@ impl Store {
         }
         self.queues.resources.reserve(1)?;
         self.resource_index.reserve(1)?;
-        let res = ResAt::of(
-            self.queues
-                .add_resource(&mut self.order, serial, domain, key),
-        );
-        let _ = self.resource_index.insert(*key, res);
+        let res = ResAt::of(self.queues.add_resource(&mut self.order, serial, site));
+        let _ = self.resource_index.insert(site.key, res);
         Ok(res)
     }
 
@@ -261,6 +253,14 @@ impl Store {
         ensures { IfSome (resource_at res self.now.resources) (λ r. result ≡ r.domain) }
     {
         self.queues.resources[res.slot()].domain
+    }
+
+    /// How many levels a resource stands below its root.
+    pub fn level(&self, res: ResAt) -> u8
+        requires { HasResource res self.now }
+        ensures { IfSome (resource_at res self.now.resources) (λ r. result ≡ r.level) }
+    {
+        self.queues.resources[res.slot()].level
     }
 
     /// The key under which a resource stands.

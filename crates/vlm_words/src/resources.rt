@@ -24,6 +24,17 @@ pub enum Key {
     Below(u32, Name),
 }
 
+/// Where a resource stands: under which key, in which domain, and how many levels below its root.
+#[derive(Clone, Copy)]
+pub struct Site {
+    /// Where it is found.
+    pub key: Key,
+    /// A sub-resource is in its root's.
+    pub domain: Domain,
+    /// 0 for a root, at most 15.
+    pub level: u8,
+}
+
 impl PartialEq for Key {
     ghost use Rattle.std.specs.Cmp.{decided, partial_equiv_from_equiv};
     ghost use Rattle.vlm_words.specs.Keys.{is_same_key, is_same_key-Decides};

@@ -90,9 +90,9 @@ invariant_of-self-2 c =
     let keys1 = same-keys order_links s.queues.resources c.reserve.new.self s.order kept.linked (λ x _. same x) in
     let indexes1 = Indexes-same (get is_same_key s.resource_index) (get is_same_key c.reserve-2.new.self) (key_at s.queues) (key_at q1)
     (λ k. ap (λ es. lookup (is_same_key k) es) c.reserve-2.ensures.entries) (λ r. ap (option_map (λ (x : Resource). x.key)) (same r)) kept.resources in
-    let fresh : get is_same_key c.reserve-2.new.self c.args.key.now ≡ None =
-    ap (λ es. lookup (is_same_key c.args.key.now) es) c.reserve-2.ensures.entries
-    ∙ no_resource s.queues s.order (processes_shown s) kept.placed kept.linked kept.ordered (get is_same_key s.resource_index) kept.resources c.args.key.now (rw (← c.self.view_is) at c.requires) in
+    let fresh : get is_same_key c.reserve-2.new.self c.args.site.now.key ≡ None =
+    ap (λ es. lookup (is_same_key c.args.site.now.key) es) c.reserve-2.ensures.entries
+    ∙ no_resource s.queues s.order (processes_shown s) kept.placed kept.linked kept.ordered (get is_same_key s.resource_index) kept.resources c.args.site.now.key (rw (← c.self.view_is) at c.requires) in
     record {
       placed = added.placed;
       tallied = added.tallied;
@@ -100,7 +100,7 @@ invariant_of-self-2 c =
       ordered = whole_grown order_links c.reserve.new.self q'.resources s.order c.add_resource.new.order at (λ r there. rw keys1 (kept.ordered r (rw (same r) at there))) added.order
           (λ r differs. there_by_face (slot_of q'.resources r) (slot_of c.reserve.new.self r) (added.faces r differs));
       locks = Indexes-same (get nat_eq s.lock_index) (get nat_eq s.lock_index) (lkid_at s.queues) (lkid_at q') (λ k. refl) (λ x. ap (λ l. option_map lkid_of (slot_of l x)) added.locks) kept.locks;
-      resources = Indexes-added is_same_key is_same_key-Decides c.reserve-2.new.self c.insert.new.self c.args.key.now (key_at q1) (key_at q') at
+      resources = Indexes-added is_same_key is_same_key-Decides c.reserve-2.new.self c.insert.new.self c.args.site.now.key (key_at q1) (key_at q') at
           (rw c.of-res.ensures at (on_ok c.insert.result _ (c.insert.ensures.succeeds (omega (arith, c.in_ok-reserve-2.ensures.ok))) c.insert.ensures.updates))
           (ap (option_map (λ (x : Resource). x.key)) added.fresh) (key_by_face (slot_of q'.resources at) ∙ ap (option_map (λ (f : Face). f.key)) added.face)
           (λ r differs. key_by_face (slot_of q'.resources r) ∙ ap (option_map (λ (f : Face). f.key)) (added.faces r differs) ∙ sym (key_by_face (slot_of c.reserve.new.self r)))
@@ -125,15 +125,15 @@ returns-clause-added c =
     let keys1 = same-keys order_links s.queues.resources c.reserve.new.self s.order kept.linked (λ x _. same x) in
     let lists1 = resources_keys s.queues c.reserve.new.self kept.placed (reserved_lists s.queues c.reserve.new.self same) in
     let l' = tables q' c.add_resource.new.order (processes_of (holding s.processes q'.locks s.process_order)) in
-    let made : resource_of l' at ≡ new_resource at c.args.serial c.args.domain c.args.key.now =
+    let made : resource_of l' at ≡ new_resource at c.args.serial c.args.site.now =
     rw (
-      face_is (slot_of q'.resources at) (new_face c.args.serial c.args.domain c.args.key.now) added.face,
+      face_is (slot_of q'.resources at) (new_face c.args.serial c.args.site.now) added.face,
       added.keys (Queued at Granted) ∙ lists1 (Queued at Granted) ∙ none_keys s.queues at Granted vacant,
       added.keys (Queued at Conversion) ∙ lists1 (Queued at Conversion) ∙ none_keys s.queues at Conversion vacant,
       added.keys (Queued at Waiting) ∙ lists1 (Queued at Waiting) ∙ none_keys s.queues at Waiting vacant,
     ) refl in
     rw (← c.self.view_is, c.of-res.ensures)
-    (resource_made (tables s.queues s.order (processes_shown s)) l' at (new_resource at c.args.serial c.args.domain c.args.key.now) (λ k. ap (λ l. row_in (slot_of l k)) added.locks) (λ p. added.keys p ∙ lists1 p)
+    (resource_made (tables s.queues s.order (processes_shown s)) l' at (new_resource at c.args.serial c.args.site.now) (λ k. ap (λ l. row_in (slot_of l k)) added.locks) (λ p. added.keys p ∙ lists1 p)
     (λ r differs. face_by_face (slot_of q'.resources r) (slot_of c.reserve.new.self r) (added.faces r differs) ∙ ap face_in (same r))
     (vacant_unlisted order_links s.queues.resources s.order kept.linked at vacant) (added.order ∙ ap (λ ks. ks ++ at ∷ []) keys1) made
     (queued_processes s.processes s.queues.locks q'.locks (same_eq but_queued s.queues.locks q'.locks added.locks) s.process_order kept.owned kept.below))

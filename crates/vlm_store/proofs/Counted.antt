@@ -1,0 +1,272 @@
+-- How many locks a process has: as many keys as it has locks of its own.
+use Rattle.std.proofs.Common.{◌≡◌, ◌≢◌, ◌≤◌, ℕ, true, false, cond, List, [], ◌∷◌, ◌++◌, length, map, filter, Some, refl, sym, ap, ◌∙◌, subst, inl, inr, arith, eq-eqb, ne_eqb, length-append}
+use Rattle.std.specs.Prelude.{◌==◌, sum_by}
+use Rattle.std.specs.Option.{option_map_or}
+use Rattle.std.proofs.lemmas.Bool.{cases_eq}
+use Rattle.std.proofs.lemmas.List.{length-map}
+use Rattle.std.proofs.lemmas.List.Sums.{length-filter, sum_by-cons}
+use Rattle.vlm_links.specs.Lists.{IsApart, IsIn, without}
+use Rattle.vlm_links.proofs.KeyLists.{IsApart-without, IsIn-without_kept, length-without}
+use Rattle.vlm_words.specs.declared.locks.Row.{Row}
+use Rattle.vlm_words.specs.declared.resources.Queue.{Queue}
+use Rattle.vlm_words.specs.declared.resources.Queue.TheVariants.{Granted, Conversion, Waiting}
+use Rattle.vlm_store.specs.declared.keys.Place.{Place}
+use Rattle.vlm_store.specs.declared.keys.Place.TheVariants.{Loose, Queued}
+use Rattle.vlm_store.specs.Records.{AreApart, AreOwnApart, AreProcessesApart, AreResourcesApart, IsAmong, IsOwnAmong, IsProcess, IsProcessAmong, IsResourceAmong, IsSound, OwnLock, Records, StoredLock, StoredProcess, StoredResource, Stores, locks_at, own_at, owned_among, owned_by, owned_on, process_at, queued, resource_at}
+use Rattle.vlm_store.proofs.Plain.{process_at-stored}
+use Rattle.vlm_store.proofs.Counting.{IsApart-append, IsIn-append}
+use Rattle.vlm_store.proofs.Undoing.{resource_is}
+
+-- ---- keys
+
+IsIn-first : (k : ℕ) (xs ys : List ℕ) → IsIn k xs → IsIn k (xs ++ ys)
+IsIn-first k [] ys found = absurd found
+IsIn-first k (x ∷ xs) ys found = elim found [ inl here ↦ inl here | inr there ↦ inr (IsIn-first k xs ys there) ]
+
+IsIn-second : (k : ℕ) (xs ys : List ℕ) → IsIn k ys → IsIn k (xs ++ ys)
+IsIn-second k [] ys found = found
+IsIn-second k (x ∷ xs) ys found = inr (IsIn-second k xs ys found)
+
+-- keys that are all among others are no more than these
+no_longer : (xs ys : List ℕ) → IsApart xs → IsApart ys → ((k : ℕ) → IsIn k xs → IsIn k ys) → length xs ≤ length ys
+no_longer [] ys apart others within = omega arith
+no_longer (x ∷ xs) ys apart others within =
+    let rest = no_longer xs (without x ys) apart.1 (IsApart-without x ys others)
+    (λ k found. IsIn-without_kept x k ys (within k (inr found)) (λ same. apart.0 (subst (λ y. IsIn y xs) same found))) in
+    let one = length-without x ys others (within x (inl refl)) in
+    omega (arith, rest, one)
+
+-- two lists with the same keys are equally long
+as_long : (xs ys : List ℕ) → IsApart xs → IsApart ys → ((k : ℕ) → IsIn k xs → IsIn k ys) → ((k : ℕ) → IsIn k ys → IsIn k xs) → length xs ≡ length ys
+as_long xs ys apart others within back = omega (arith, no_longer xs ys apart others within, no_longer ys xs others apart back)
+
+-- ---- the keys of a process's own locks
+
+abbrev own_keys : List OwnLock → List ℕ
+own_keys own = map (λ (o : OwnLock). o.at) own
+
+own_key : (own : List OwnLock) (k : ℕ) → IsIn k (own_keys own) → (o : OwnLock) × (IsOwnAmong o own × (o.at ≡ k))
+own_key [] k found = absurd found
+own_key (o ∷ rest) k found =
+    elim found [
+      | inl here ↦ (o, (inl refl, here))
+      | inr there ↦ let later = own_key rest k there in (later.0, (inr later.1.0, later.1.1))
+    ]
+
+own_keyed : (own : List OwnLock) (o : OwnLock) → IsOwnAmong o own → IsIn o.at (own_keys own)
+own_keyed [] o among = absurd among
+own_keyed (first ∷ rest) o among =
+    elim among [ inl here ↦ inl (ap (λ (x : OwnLock). x.at) here) | inr there ↦ inr (own_keyed rest o there) ]
+
+own_keys-apart : (own : List OwnLock) → AreOwnApart own → IsApart (own_keys own)
+own_keys-apart [] apart = tt
+own_keys-apart (o ∷ rest) apart = (
+  λ found. let other = own_key rest o.at found in apart.0 other.0 other.1.0 other.1.1,
+  own_keys-apart rest apart.1,
+)
+
+-- ---- the keys of the locks whose rows name a process
+
+module _ (pid : ℕ) where
+  abbrev keys_among : List StoredLock → List ℕ
+  keys_among locks = map (λ (k : StoredLock). k.at) (filter (λ (k : StoredLock). k.row.pid == pid) locks)
+
+  keys_among-length : (locks : List StoredLock) → length (keys_among locks) ≡ owned_among pid locks
+  keys_among-length locks =
+      length-map (filter (λ (k : StoredLock). k.row.pid == pid) locks) (λ (k : StoredLock). k.at) ∙ length-filter (λ (k : StoredLock). k.row.pid == pid) locks
+
+  -- the lock of a key
+  among_keys : (locks : List StoredLock) (at : ℕ) → IsIn at (keys_among locks) → (row : Row) × (IsAmong (record { at = at; row = row }) locks × (row.pid ≡ pid))
+  among_keys [] at found = absurd found
+  among_keys (k ∷ rest) at found =
+      elim (cases_eq k.row.pid pid) [
+        | inl same ↦
+            elim (rw (eq-eqb k.row.pid pid same) at found) [
+              | inl here ↦ (k.row, (inl (ap (λ x. record { at = x; row = k.row }) here), same))
+              | inr there ↦ let later = among_keys rest at there in (later.0, (inr later.1.0, later.1.1))
+            ]
+        | inr differs ↦ let later = among_keys rest at (rw (ne_eqb k.row.pid pid differs) at found) in (later.0, (inr later.1.0, later.1.1))
+      ]
+
+  keyed_among : (locks : List StoredLock) (lock : StoredLock) → IsAmong lock locks → lock.row.pid ≡ pid → IsIn lock.at (keys_among locks)
+  keyed_among [] lock among is = absurd among
+  keyed_among (k ∷ rest) lock among is =
+      elim among [
+        | inl here ↦ rw (eq-eqb k.row.pid pid (ap (λ (x : StoredLock). x.row.pid) here ∙ is)) (inl (ap (λ (x : StoredLock). x.at) here))
+        | inr there ↦
+            elim (k.row.pid == pid) as (λ b. IsIn lock.at (map (λ (x : StoredLock). x.at) (cond b (k ∷ filter (λ (x : StoredLock). x.row.pid == pid) rest) (filter (λ (x : StoredLock). x.row.pid == pid) rest)))) [
+              | true ↦ inr (keyed_among rest lock there is)
+              | false ↦ keyed_among rest lock there is
+            ]
+      ]
+
+  keys_among-apart : (locks : List StoredLock) → AreApart locks → IsApart (keys_among locks)
+  keys_among-apart [] apart = tt
+  keys_among-apart (k ∷ rest) apart =
+      elim (k.row.pid == pid) as (λ b. IsApart (map (λ (x : StoredLock). x.at) (cond b (k ∷ filter (λ (x : StoredLock). x.row.pid == pid) rest) (filter (λ (x : StoredLock). x.row.pid == pid) rest)))) [
+        | true ↦ (λ found. let other = among_keys rest k.at found in apart.0 other.0 other.1.0, keys_among-apart rest apart.1)
+        | false ↦ keys_among-apart rest apart.1
+      ]
+
+  -- those on a resource, and on all resources
+  abbrev keys_on : StoredResource → List ℕ
+  keys_on r = keys_among r.granted ++ (keys_among r.converting ++ keys_among r.waiting)
+
+  keys_on-length : (r : StoredResource) → length (keys_on r) ≡ owned_on pid r
+  keys_on-length r =
+      omega (
+        arith,
+        length-append (keys_among r.granted) (keys_among r.converting ++ keys_among r.waiting),
+        length-append (keys_among r.converting) (keys_among r.waiting),
+        keys_among-length r.granted,
+        keys_among-length r.converting,
+        keys_among-length r.waiting,
+      )
+
+  in_queue : (r : StoredResource) (at : ℕ) → IsIn at (keys_on r) → (queue : Queue) × (row : Row) × (IsAmong (record { at = at; row = row }) (queued queue r) × (row.pid ≡ pid))
+  in_queue r at found =
+      IsIn-append at (keys_among r.granted) (keys_among r.converting ++ keys_among r.waiting) _ (λ here. let lock = among_keys r.granted at here in (Granted, lock.0, lock.1))
+      (λ later. IsIn-append at (keys_among r.converting) (keys_among r.waiting) _ (λ here. let lock = among_keys r.converting at here in (Conversion, lock.0, lock.1)) (λ here. let lock = among_keys r.waiting at here in (Waiting, lock.0, lock.1)) later) found
+
+  queue_in : (r : StoredResource) (queue : Queue) (at : ℕ) → IsIn at (keys_among (queued queue r)) → IsIn at (keys_on r)
+  queue_in r Granted at found = IsIn-first at (keys_among r.granted) _ found
+  queue_in r Conversion at found = IsIn-second at (keys_among r.granted) _ (IsIn-first at (keys_among r.converting) _ found)
+  queue_in r Waiting at found = IsIn-second at (keys_among r.granted) _ (IsIn-second at (keys_among r.converting) _ found)
+
+  abbrev keys_in : List StoredResource → List ℕ
+  keys_in [] = []
+  keys_in (r ∷ rest) = keys_on r ++ keys_in rest
+
+  keys_in-length : (rs : List StoredResource) → length (keys_in rs) ≡ sum_by (owned_on pid) rs
+  keys_in-length [] = refl
+  keys_in-length (r ∷ rest) =
+      omega (arith, length-append (keys_on r) (keys_in rest), keys_on-length r, keys_in-length rest, sum_by-cons (owned_on pid) r rest)
+
+  in_resource : (rs : List StoredResource) (at : ℕ) → IsIn at (keys_in rs) → (r : StoredResource) × (IsResourceAmong r rs × IsIn at (keys_on r))
+  in_resource [] at found = absurd found
+  in_resource (r ∷ rest) at found =
+      IsIn-append at (keys_on r) (keys_in rest) _ (λ here. (r, (inl refl, here))) (λ later. let there = in_resource rest at later in (there.0, (inr there.1.0, there.1.1))) found
+
+  resource_in : (rs : List StoredResource) (res : ℕ) (queue : Queue) (lock : StoredLock) → IsAmong lock (option_map_or (queued queue) (resource_at res rs) []) → lock.row.pid ≡ pid → IsIn lock.at (keys_in rs)
+  resource_in [] res queue lock among is = absurd among
+  resource_in (r ∷ rest) res queue lock among is =
+      elim (cases_eq r.at res) [
+        | inl same ↦ IsIn-first lock.at (keys_on r) (keys_in rest) (queue_in r queue lock.at (keyed_among (queued queue r) lock (rw (eq-eqb r.at res same) at among) is))
+        | inr differs ↦ IsIn-second lock.at (keys_on r) (keys_in rest) (resource_in rest res queue lock (rw (ne_eqb r.at res differs) at among) is)
+      ]
+
+  module _ (s : Records) (sound : IsSound s) where
+    -- the queue of a stored resource
+    queue_at : (r : StoredResource) → IsResourceAmong r s.resources → (queue : Queue) → locks_at (Queued r.at queue) s ≡ queued queue r
+    queue_at r among queue = ap (λ o. option_map_or (queued queue) o []) (resource_is r s.resources sound.resources_apart among)
+
+    -- a key of a resource is that of a lock in one of its queues
+    stands_on : (r : StoredResource) → IsResourceAmong r s.resources → (at : ℕ) → IsIn at (keys_on r)
+        → (queue : Queue) × (row : Row) × (IsAmong (record { at = at; row = row }) (locks_at (Queued r.at queue) s) × (row.pid ≡ pid))
+    stands_on r among at found =
+        let stands = in_queue r at found in
+        (stands.0, stands.1, (subst (IsAmong (record { at = at; row = stands.1 })) (sym (queue_at r among stands.0)) stands.2.0, stands.2.1))
+
+    -- no key is that of two locks
+    queue_apart : (r : StoredResource) → IsResourceAmong r s.resources → (queue : Queue) → IsApart (keys_among (queued queue r))
+    queue_apart r among queue = keys_among-apart (queued queue r) (subst AreApart (queue_at r among queue) (sound.locks_apart (Queued r.at queue)))
+
+    queues_apart : (r : StoredResource) → IsResourceAmong r s.resources → (a b : Queue) → Queued r.at a ≢ Queued r.at b → (k : ℕ) → IsIn k (keys_among (queued a r)) → ¬ IsIn k (keys_among (queued b r))
+    queues_apart r among a b differs k here there =
+        let one = among_keys (queued a r) k here in
+        let other = among_keys (queued b r) k there in
+        differs (
+        sound.one_place k one.0 other.0 (Queued r.at a) (Queued r.at b) (subst (IsAmong (record { at = k; row = one.0 })) (sym (queue_at r among a)) one.1.0)
+        (subst (IsAmong (record { at = k; row = other.0 })) (sym (queue_at r among b)) other.1.0)
+        )
+
+    keys_on-apart : (r : StoredResource) → IsResourceAmong r s.resources → IsApart (keys_on r)
+    keys_on-apart r among =
+        IsApart-append (keys_among r.granted) (keys_among r.converting ++ keys_among r.waiting) (queue_apart r among Granted)
+        (IsApart-append (keys_among r.converting) (keys_among r.waiting) (queue_apart r among Conversion) (queue_apart r among Waiting) (queues_apart r among Conversion Waiting (λ e. cc)))
+        (λ k here there.
+        IsIn-append k (keys_among r.converting) (keys_among r.waiting) ⊥ (queues_apart r among Granted Conversion (λ e. cc) k here) (queues_apart r among Granted Waiting (λ e. cc) k here) there)
+
+    keys_in-apart : (rs : List StoredResource) → AreResourcesApart rs → ((r : StoredResource) → IsResourceAmong r rs → IsResourceAmong r s.resources) → IsApart (keys_in rs)
+    keys_in-apart [] apart within = tt
+    keys_in-apart (r ∷ rest) apart within =
+        IsApart-append (keys_on r) (keys_in rest) (keys_on-apart r (within r (inl refl))) (keys_in-apart rest apart.1 (λ x there. within x (inr there)))
+        (λ k here there.
+        let one = stands_on r (within r (inl refl)) k here in
+        let other = in_resource rest k there in
+        let later = stands_on other.0 (within other.0 (inr other.1.0)) k other.1.1 in
+        apart.0 other.0 other.1.0 (sym (same_resource r.at other.0.at one.0 later.0 (sound.one_place k one.1 later.1 (Queued r.at one.0) (Queued other.0.at later.0) one.2.0 later.2.0))))
+      where
+        same_resource : (a b : ℕ) (p q : Queue) → Queued a p ≡ Queued b q → a ≡ b
+        same_resource a b p q same = cc
+
+    -- the keys of all locks of the process
+    abbrev keys_by : List ℕ
+    keys_by = keys_in s.resources ++ keys_among s.loose
+
+    keys_by-length : length keys_by ≡ owned_by pid s
+    keys_by-length = omega (arith, length-append (keys_in s.resources) (keys_among s.loose), keys_in-length s.resources, keys_among-length s.loose)
+
+    keys_by-apart : IsApart keys_by
+    keys_by-apart =
+        IsApart-append (keys_in s.resources) (keys_among s.loose) (keys_in-apart s.resources sound.resources_apart (λ r among. among)) (keys_among-apart s.loose (sound.locks_apart Loose))
+        (λ k here there.
+        let on = in_resource s.resources k here in
+        let one = stands_on on.0 on.1.0 k on.1.1 in
+        let other = among_keys s.loose k there in
+        apart_places on.0.at one.0 (sound.one_place k one.1 other.0 (Queued on.0.at one.0) Loose one.2.0 other.1.0))
+      where
+        apart_places : (res : ℕ) (queue : Queue) → Queued res queue ≢ Loose
+        apart_places res queue same = cc
+
+    stored_key : (at : ℕ) (row : Row) → Stores s at row → row.pid ≡ pid → IsIn at keys_by
+    stored_key at row stored is = by_place stored.0 stored.1
+      where
+        by_place : (place : Place) → IsAmong (record { at = at; row = row }) (locks_at place s) → IsIn at keys_by
+        by_place Loose among = IsIn-second at (keys_in s.resources) (keys_among s.loose) (keyed_among s.loose (record { at = at; row = row }) among is)
+        by_place (Queued res queue) among = IsIn-first at (keys_in s.resources) (keys_among s.loose) (resource_in s.resources res queue (record { at = at; row = row }) among is)
+
+    key_stored : (at : ℕ) → IsIn at keys_by → (row : Row) × (Stores s at row × (row.pid ≡ pid))
+    key_stored at found =
+        IsIn-append at (keys_in s.resources) (keys_among s.loose) _
+        (λ queued_so.
+        let on = in_resource s.resources at queued_so in
+        let stands = stands_on on.0 on.1.0 at on.1.1 in
+        (stands.1, ((Queued on.0.at stands.0, stands.2.0), stands.2.1)))
+        (λ loose. let stands = among_keys s.loose at loose in (stands.0, ((Loose, stands.1.0), stands.1.1))) found
+
+-- two processes with one identification are one
+one_process : (ps : List StoredProcess) → AreProcessesApart ps → (p q : StoredProcess) → IsProcessAmong p ps → IsProcessAmong q ps → p.process.pid ≡ q.process.pid → p ≡ q
+one_process [] apart p q here there same = absurd here
+one_process (x ∷ ps) apart p q here there same =
+    elim here [
+      | inl first ↦ elim there [
+        | inl also ↦ sym first ∙ also
+        | inr later ↦ absurd ((apart.0 q later).1 (sym same ∙ ap (λ (y : StoredProcess). y.process.pid) (sym first)))
+      ]
+      | inr later ↦ elim there [
+        | inl first ↦ absurd ((apart.0 p later).1 (same ∙ ap (λ (y : StoredProcess). y.process.pid) (sym first)))
+        | inr also ↦ one_process ps apart.1 p q later also same
+      ]
+    ]
+
+-- a process has as many locks of its own as rows name it
+pub count_is : (s : Records) (p : StoredProcess) → IsSound s → IsProcessAmong p s.processes → length p.own ≡ owned_by p.process.pid s
+count_is s p sound among =
+    sym (length-map p.own (λ (o : OwnLock). o.at))
+    ∙ as_long (own_keys p.own) (keys_by p.process.pid s sound) (own_keys-apart p.own (sound.own_apart p among)) (keys_by-apart p.process.pid s sound)
+    (λ k found.
+    let own = own_key p.own k found in
+    let stored = sound.owned.owns p own.0 among own.1.0 in
+    stored_key p.process.pid s sound k stored.0 (subst (λ x. Stores s x stored.0) own.1.1 stored.1.0) stored.1.1)
+    (λ k found.
+    let stored = key_stored p.process.pid s sound k found in
+    let owned = sound.owned.owned k stored.0 stored.1.0 in
+    let same = one_process s.processes sound.processes_apart owned.0 p owned.2.0 among (owned.2.1 ∙ stored.1.1) in
+    subst (λ (x : StoredProcess). IsIn k (own_keys x.own)) same (subst (λ x. IsIn x (own_keys owned.0.own)) owned.2.3 (own_keyed owned.0.own owned.1 owned.2.2)))
+    ∙ keys_by-length p.process.pid s sound
+
+pub own_count : (s : Records) (at pid : ℕ) → IsSound s → IsProcess at pid s → length (own_at at s) ≡ owned_by pid s
+own_count s at pid sound is =
+    let found = subst (λ x. process_at x s.processes ≡ Some is.0) is.1.1 (process_at-stored is.0 s.processes sound.processes_apart is.1.0) in
+    ap (λ o. length (option_map_or (λ (x : StoredProcess). x.own) o [])) found ∙ count_is s is.0 sound is.1.0 ∙ ap (λ x. owned_by x s) is.1.2
