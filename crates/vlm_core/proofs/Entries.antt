@@ -15,7 +15,8 @@ use Rattle.vlm_words.specs.StatusBlocks.{processes_after_acceptance}
 use Rattle.vlm_store.specs.Records.{FindsResource, HasResource, Records, StoredResource, plain_processes, resource_at}
 use Rattle.vlm_service.specs.Plain.{plain_resources}
 use Rattle.vlm_locks.specs.Entering.{resource_for}
-use Rattle.vlm_locks.specs.Rest.{IsAtRest, IsKeyed}
+use Rattle.vlm_words.specs.Resources.{IsKeyed}
+use Rattle.vlm_locks.specs.Rest.{IsAtRest}
 use Rattle.vlm_locks.specs.declared.entering.Entry.{Entry}
 use Rattle.vlm_locks.proofs.Keyed.{has_none, has_one}
 use Rattle.vlm_core.specs.declared.enqueuing.AdmittedRequest.{AdmittedRequest}

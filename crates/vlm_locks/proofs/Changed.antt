@@ -14,7 +14,7 @@ use Rattle.vlm_locks.specs.declared.finding.Standing.{Standing}
 use Rattle.vlm_locks.specs.Rest.{IsAtRest, IsReplaced, OthersStay}
 use Rattle.vlm_locks.specs.Standing.{IsStanding}
 use Rattle.vlm_locks.specs.Withdrawing.{IsChange}
-use Rattle.vlm_locks.proofs.Replaced.{childless_still, others_stay, plain_replaced, rests, still_there}
+use Rattle.vlm_locks.proofs.Replaced.{others_stay, plain_replaced, rests, still_there}
 use Rattle.vlm_locks.proofs.Stood.{queue_is, stands}
 
 -- one resource is put in the place of another, as the plain change has it
@@ -65,7 +65,6 @@ pub rests_still : (old new : Records) → SameButBlocks old new → IsAtRest old
 rests_still old new same rest = record {
   none_loose = same.loose ∙ rest.none_loose;
   keyed = λ r among. rest.keyed r (subst (IsResourceAmong r) same.resources among);
-  childless = childless_still old new same.processes rest.childless;
 }
 
 -- the others stay over two steps
@@ -99,14 +98,6 @@ was_own lock (x ∷ owns) own among =
         | inr there ↦ let later = was_own lock owns own there in (later.0, (inr later.1.0, later.1.1))
       ]
     ]
-
--- where no lock stands below another, none does once one is removed
-pub childless_without : (lock : ℕ) (ps : List StoredProcess) → ((p : StoredProcess) (own : OwnLock) → IsProcessAmong p ps → IsOwnAmong own p.own → own.sublocks ≡ [])
-    → (p : StoredProcess) (own : OwnLock) → IsProcessAmong p (map (process_without_lock lock) ps) → IsOwnAmong own p.own → own.sublocks ≡ []
-childless_without lock ps childless p own among here =
-    let was = was_process lock ps p among in
-    let had = was_own lock was.0.own own (subst (λ (x : StoredProcess). IsOwnAmong own x.own) (sym was.1.1) here) in
-    ap (λ (x : OwnLock). x.sublocks) (sym had.1.1) ∙ ap (λ keys. (without_sublock lock (record had.0 { sublocks = keys })).sublocks) (childless was.0 had.0 was.1.0 had.1.0)
 
 module _ (s : Records) (sound : IsSound s) (f : Standing) (standing : IsStanding f s) where
   -- another resource stays as the lock goes
@@ -154,6 +145,5 @@ module _ (s : Records) (sound : IsSound s) (f : Standing) (standing : IsStanding
         rest = record {
           none_loose = queues.rest.none_loose;
           keyed = queues.rest.keyed;
-          childless = childless_without f.lock s.processes rest.childless;
         };
       }

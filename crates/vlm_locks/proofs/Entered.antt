@@ -1,5 +1,5 @@
 -- What the entry of a new lock makes of the records.
-use Rattle.std.proofs.Common.{◌≡◌, ◌≢◌, ℕ, Bool, List, [], ◌∷◌, ◌++◌, map, unwrap_or, cond, true, false, ◌&&◌, None, Some, IsSome, IfSome, refl, sym, ap, ◌∙◌, subst, inl, inr, eq-eqb, ne_eqb}
+use Rattle.std.proofs.Common.{◌≡◌, ◌≢◌, ℕ, Bool, List, [], ◌∷◌, ◌++◌, map, unwrap_or, cond, true, false, ◌&&◌, Option, None, Some, IsSome, IfSome, refl, sym, ap, ◌∙◌, subst, inl, inr, eq-eqb, ne_eqb}
 use Rattle.std.specs.Prelude.{◌==◌}
 use Rattle.std.proofs.lemmas.Bool.{cases_eq}
 use Rattle.std.proofs.lemmas.List.{map-append}
@@ -18,7 +18,8 @@ use Rattle.vlm_service.specs.Serving.{but_service}
 use Rattle.vlm_service.proofs.Found.{map_on, resource_alone, resource_at-put, resource_is}
 use Rattle.vlm_locks.specs.declared.entering.Entry.{Entry}
 use Rattle.vlm_locks.specs.Entering.{IsEntered, resource_for}
-use Rattle.vlm_locks.specs.Rest.{IsAtRest, IsKeyed, IsReplaced}
+use Rattle.vlm_words.specs.Resources.{IsKeyed}
+use Rattle.vlm_locks.specs.Rest.{IsAtRest, IsReplaced}
 use Rattle.vlm_locks.proofs.Keyed.{AreKeyed, finds_one, key_cases}
 use Rattle.vlm_locks.proofs.Replaced.{others_stay, rests, still_there}
 use Rattle.vlm_locks.proofs.Stood.{queue_is}
@@ -86,47 +87,17 @@ module _ (s : Records) (sound : IsSound s) (at : ℕ) (was row : Row) (stands : 
 -- ---- the processes of a new lock
 
 -- each process is as it was, but for its locks
-processes_kept : (owner : ℕ) (at : ℕ) (ps : List StoredProcess) → map (λ (p : StoredProcess). p.process) (map (process_with_lock owner None at) ps) ≡ map (λ (p : StoredProcess). p.process) ps
-processes_kept owner at [] = refl
-processes_kept owner at (p ∷ rest) = ap (λ ps. p.process ∷ ps) (processes_kept owner at rest)
+processes_kept : (owner : ℕ) (parent : Option ℕ) (at : ℕ) (ps : List StoredProcess) → map (λ (p : StoredProcess). p.process) (map (process_with_lock owner parent at) ps) ≡ map (λ (p : StoredProcess). p.process) ps
+processes_kept owner parent at [] = refl
+processes_kept owner parent at (p ∷ rest) = ap (λ ps. p.process ∷ ps) (processes_kept owner parent at rest)
 
 -- a process is still there, with the lock if it owns it
-owner_kept : (owner : ℕ) (at : ℕ) (ps : List StoredProcess) (p : StoredProcess) → IsProcessAmong p ps → IsProcessAmong (process_with_lock owner None at p) (map (process_with_lock owner None at) ps)
-owner_kept owner at [] p among = absurd among
-owner_kept owner at (x ∷ rest) p among =
+owner_kept : (owner : ℕ) (parent : Option ℕ) (at : ℕ) (ps : List StoredProcess) (p : StoredProcess) → IsProcessAmong p ps → IsProcessAmong (process_with_lock owner parent at p) (map (process_with_lock owner parent at) ps)
+owner_kept owner parent at [] p among = absurd among
+owner_kept owner parent at (x ∷ rest) p among =
     elim among [
-      | inl here ↦ inl (ap (process_with_lock owner None at) here)
-      | inr there ↦ inr (owner_kept owner at rest p there)
-    ]
-
--- no lock of the process has one below it
-own_childless : (owner : ℕ) (at : ℕ) (p : StoredProcess) → ((own : OwnLock) → IsOwnAmong own p.own → own.sublocks ≡ []) → (own : OwnLock)
-    → IsOwnAmong own (process_with_lock owner None at p).own → own.sublocks ≡ []
-own_childless owner at p childless own among = of_list p.own childless among
-  where
-    of_new : (here : Bool) → IsOwnAmong own (cond here (new_own at) []) → own.sublocks ≡ []
-    of_new true (inl is) = sym (ap (λ (x : OwnLock). x.sublocks) is)
-    of_new true (inr none) = absurd none
-    of_new false none = absurd none
-
-    of_list : (owns : List OwnLock) → ((x : OwnLock) → IsOwnAmong x owns → x.sublocks ≡ [])
-        → IsOwnAmong own (map (with_sublock None at) owns ++ cond (p.at == owner) (new_own at) []) → own.sublocks ≡ []
-    of_list [] childless among = of_new (p.at == owner) among
-    of_list (x ∷ rest) childless among =
-        elim among [
-          | inl is ↦ sym (ap (λ (y : OwnLock). y.sublocks) is) ∙ childless x (inl refl)
-          | inr there ↦ of_list rest (λ y in_rest. childless y (inr in_rest)) there
-        ]
-
--- a new lock has none below it, and no other gets one
-childless_with : (owner : ℕ) (at : ℕ) (ps : List StoredProcess)
-    → ((p : StoredProcess) (own : OwnLock) → IsProcessAmong p ps → IsOwnAmong own p.own → own.sublocks ≡ [])
-    → (p : StoredProcess) (own : OwnLock) → IsProcessAmong p (map (process_with_lock owner None at) ps) → IsOwnAmong own p.own → own.sublocks ≡ []
-childless_with owner at [] childless p own among here = absurd among
-childless_with owner at (x ∷ rest) childless p own among here =
-    elim among [
-      | inl is ↦ own_childless owner at x (λ o there. childless x o (inl refl) there) own (subst (λ (y : StoredProcess). IsOwnAmong own y.own) (sym is) here)
-      | inr there ↦ childless_with owner at rest (λ y o in_rest. childless y o (inr in_rest)) p own there here
+      | inl here ↦ inl (ap (process_with_lock owner parent at) here)
+      | inr there ↦ inr (owner_kept owner parent at rest p there)
     ]
 
 -- ---- the resources as the plain machine leaves them
@@ -137,14 +108,14 @@ on_resource-absent res left [] absent = refl
 on_resource-absent res left (x ∷ rest) absent =
     rw (ne_eqb x.at res (absent x (inl refl))) (ap (λ xs. x ∷ xs) (on_resource-absent res left rest (λ y there. absent y (inr there))))
 
-module _ (e : Entry) (asked : Request) (keyed : IsKeyed e.domain e.key) where
+module _ (e : Entry) (asked : Request) (keyed : IsKeyed e.site.domain e.site.key) where
   -- the resource of the key is the only one that changes
-  pub entered_one : (r left : StoredResource) (rs : List StoredResource) → AreKeyed rs → AreResourcesApart rs → IsResourceAmong r rs → r.key ≡ e.key
-      → ((x : StoredResource) → IsResourceAmong x rs → x.key ≡ e.key → x.at ≡ r.at) → plain_resource left ≡ resource_after_entry e.row asked (plain_resource r)
-      → map plain_resource (on_resource r.at (λ x. left) rs) ≡ resources_after_entry e.serial e.domain e.key e.row asked (map plain_resource rs)
+  pub entered_one : (r left : StoredResource) (rs : List StoredResource) → AreKeyed rs → AreResourcesApart rs → IsResourceAmong r rs → r.key ≡ e.site.key
+      → ((x : StoredResource) → IsResourceAmong x rs → x.key ≡ e.site.key → x.at ≡ r.at) → plain_resource left ≡ resource_after_entry e.row asked (plain_resource r)
+      → map plain_resource (on_resource r.at (λ x. left) rs) ≡ resources_after_entry e.serial e.site e.row asked (map plain_resource rs)
   entered_one r left [] all apart among same only after = absurd among
   entered_one r left (x ∷ rest) all apart among same only after =
-      elim (key_cases e.domain e.key keyed x (all x (inl refl))) [
+      elim (key_cases e.site.domain e.site.key keyed x (all x (inl refl))) [
         | inl here ↦
             let at : x.at ≡ r.at = only x (inl refl) here.1 in
             let is : x ≡ r = elim among [ inl is ↦ is | inr there ↦ absurd (apart.0 r there (sym at)) ] in
@@ -164,18 +135,18 @@ module _ (e : Entry) (asked : Request) (keyed : IsKeyed e.domain e.key) where
 
 -- the records once the lock stands in the list of its process and in no queue, and is not loose any more
 abbrev pub owned_by : Entry → ℕ → Records → Records
-owned_by e at s = record { resources = s.resources; loose = []; processes = map (process_with_lock e.owner None at) s.processes }
+owned_by e at s = record { resources = s.resources; loose = []; processes = map (process_with_lock e.owner e.parent at) s.processes }
 
-module _ (s : Records) (sound : IsSound s) (rest : IsAtRest s) (e : Entry) (keyed : IsKeyed e.domain e.key) (res : ℕ) (found : FindsResource s e.key (Some res)) where
+module _ (s : Records) (sound : IsSound s) (rest : IsAtRest s) (e : Entry) (keyed : IsKeyed e.site.domain e.site.key) (res : ℕ) (found : FindsResource s e.site.key (Some res)) where
   -- the resource of the key is there
   pub found_there : resource_at res s.resources ≡ Some found.0
   found_there = ap (λ x. resource_at x s.resources) (sym found.1.1) ∙ resource_is found.0 s.resources sound.resources_apart found.1.0
 
   -- it is there still once the lock is made
-  pub there_still : (at : ℕ) (mid : Records) → mid ≡ with_new_lock at e.row e.owner None s → HasResource res mid
+  pub there_still : (at : ℕ) (mid : Records) → mid ≡ with_new_lock at e.row e.owner e.parent s → HasResource res mid
   there_still at mid added = subst IsSome (sym (ap (λ (x : Records). resource_at res x.resources) added ∙ found_there)) refl
 
-  module _ (at : ℕ) (mid : Records) (mid_sound : IsSound mid) (added : mid ≡ with_new_lock at e.row e.owner None s) (row : Row) (to : Queue) (new : Records)
+  module _ (at : ℕ) (mid : Records) (mid_sound : IsSound mid) (added : mid ≡ with_new_lock at e.row e.owner e.parent s) (row : Row) (to : Queue) (new : Records)
       (moved : new ≡ with_lists (moving (Queued res to) (record { at = at; row = row })) mid) where
     -- the resource with the lock in its queue
     abbrev left : StoredResource
@@ -212,7 +183,7 @@ module _ (s : Records) (sound : IsSound s) (rest : IsAtRest s) (e : Entry) (keye
     new_loose = ap (λ (x : Records). x.loose) new_is ∙ ap (without_lock at) mid_loose ∙ rw (eq-eqb at at refl) refl
 
     -- the processes with it
-    new_processes : new.processes ≡ map (process_with_lock e.owner None at) s.processes
+    new_processes : new.processes ≡ map (process_with_lock e.owner e.parent at) s.processes
     new_processes = ap (λ (x : Records). x.processes) new_is ∙ ap (λ (x : Records). x.processes) added
 
     -- of the resources just that of the lock is another
@@ -230,20 +201,19 @@ module _ (s : Records) (sound : IsSound s) (rest : IsAtRest s) (e : Entry) (keye
     owned_rest = record {
       none_loose = refl;
       keyed = rest.keyed;
-      childless = childless_with e.owner at s.processes rest.childless;
     }
 
     -- the plain machine finds the same resource
     resource_is_found : resource_for e (plain_resources s) ≡ plain_resource found.0
-    resource_is_found = ap (λ o. unwrap_or o (new_resource e.serial e.domain e.key)) (finds_one e.domain e.key keyed s rest sound res found found.0 found_there)
+    resource_is_found = ap (λ o. unwrap_or o (new_resource e.serial e.site)) (finds_one e.site.domain e.site.key keyed s rest sound res found found.0 found_there)
 
     -- no other resource has the key
-    same_at : (x : StoredResource) → IsResourceAmong x s.resources → x.key ≡ e.key → x.at ≡ found.0.at
+    same_at : (x : StoredResource) → IsResourceAmong x s.resources → x.key ≡ e.site.key → x.at ≡ found.0.at
     same_at x among same = sym (sound.keys_apart found.0 x found.1.0 among (found.1.2 ∙ sym same))
 
     -- the resources are those of the plain machine
     entered_here : (asked : Request) → plain_resource left ≡ resource_after_entry e.row asked (plain_resource found.0)
-        → plain_resources new ≡ resources_after_entry e.serial e.domain e.key e.row asked (plain_resources s)
+        → plain_resources new ≡ resources_after_entry e.serial e.site e.row asked (plain_resources s)
     entered_here asked after =
         ap (map plain_resource) new_resources ∙ ap (λ x. map plain_resource (on_resource x (λ y. left) s.resources)) (sym found.1.1)
         ∙ entered_one e asked keyed found.0 left s.resources rest.keyed sound.resources_apart found.1.0 found.1.2 same_at after
@@ -253,10 +223,10 @@ module _ (s : Records) (sound : IsSound s) (rest : IsAtRest s) (e : Entry) (keye
         → IsEntered e res s new
     entered_by owner after = record {
       entered = λ asked told. entered_here asked (after asked (told ∙ ap (is_at_once asked) resource_is_found));
-      processes = ap (map (λ (p : StoredProcess). p.process)) new_processes ∙ processes_kept e.owner at s.processes;
+      processes = ap (map (λ (p : StoredProcess). p.process)) new_processes ∙ processes_kept e.owner e.parent at s.processes;
       owner = (
-        process_with_lock e.owner None at owner.0,
-        (subst (IsProcessAmong (process_with_lock e.owner None at owner.0)) (sym new_processes) (owner_kept e.owner at s.processes owner.0 owner.1.0), owner.1.1, owner.1.2),
+        process_with_lock e.owner e.parent at owner.0,
+        (subst (IsProcessAmong (process_with_lock e.owner e.parent at owner.0)) (sym new_processes) (owner_kept e.owner e.parent at s.processes owner.0 owner.1.0), owner.1.1, owner.1.2),
       );
       value_block =
           subst (λ o. IfSome o (λ r. r.value_block ≡ (resource_for e (plain_resources s)).value_block))

@@ -10,7 +10,8 @@ use Rattle.vlm_words.specs.Resources.{is_at, is_domain}
 use Rattle.vlm_store.specs.Records.{FindsResource, IsResourceAmong, IsSound, Records, StoredResource, resource_at}
 use Rattle.vlm_service.specs.Plain.{plain_resource, plain_resources}
 use Rattle.vlm_service.proofs.Found.{resource_alone}
-use Rattle.vlm_locks.specs.Rest.{IsAtRest, IsKeyed}
+use Rattle.vlm_words.specs.Resources.{IsKeyed}
+use Rattle.vlm_locks.specs.Rest.{IsAtRest}
 use Rattle.vlm_locks.proofs.Stood.{resource_among}
 
 -- each of the resources is in the domain of its key

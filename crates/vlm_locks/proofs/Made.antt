@@ -9,16 +9,18 @@ use Rattle.vlm_words.specs.Enqueue.{is_at_once, resources_after_entry}
 use Rattle.vlm_words.specs.Resources as plain
 use Rattle.vlm_store.specs.declared.keys.Place.{Place}
 use Rattle.vlm_store.specs.declared.keys.Place.TheVariants.{Loose, Queued}
-use Rattle.vlm_store.specs.Records.{FindsResource, HasResource, IsAmong, IsIdle, IsNewKey, IsNewLock, IsResourceAmong, Records, StoredResource, locks_at, new_resource, queued, resource_at}
+use Rattle.vlm_store.specs.Records.{FindsResource, HasResource, IsAmong, IsIdle, IsNewKey, IsNewLock, IsParentOf, IsResourceAmong, Records, StoredResource, locks_at, new_resource, queued, resource_at}
+use Rattle.vlm_words.specs.declared.locks.Row.{Row}
 use Rattle.vlm_service.specs.Plain.{plain_resource, plain_resources}
 use Rattle.vlm_locks.specs.declared.entering.Entry.{Entry}
 use Rattle.vlm_locks.specs.Entering.{IsEntered, resource_for}
-use Rattle.vlm_locks.specs.Rest.{IsAtRest, IsKeyed}
+use Rattle.vlm_words.specs.Resources.{IsKeyed}
+use Rattle.vlm_locks.specs.Rest.{IsAtRest}
 use Rattle.vlm_locks.proofs.Keyed.{AreKeyed, IsKeyFree, find-free, find-key, key_cases}
 
 -- the resource at its making
 abbrev pub made : Entry → ℕ → StoredResource
-made e res = new_resource res e.serial e.domain e.key
+made e res = new_resource res e.serial e.site
 
 -- the records with the resource, the last
 abbrev pub with_made : Entry → ℕ → Records → Records
@@ -76,8 +78,14 @@ module _ (e : Entry) (res : ℕ) (s : Records) where
   pub new_still : (lkid : ℕ) → IsNewLock lkid s → IsNewLock lkid (with_made e res s)
   new_still lkid new at row stored = new at row (stored.0, subst (IsAmong (record { at = at; row = row })) (same_locks stored.0) stored.1)
 
+  -- a parent is stored still
+  pub parent_still : (parent : Option ℕ) (row : Row) → IsParentOf parent row s → IsParentOf parent row (with_made e res s)
+  parent_still None row is = is
+  parent_still (Some at) row is =
+      (is.0, ((is.1.0.0, subst (IsAmong (record { at = at; row = is.0 })) (sym (same_locks is.1.0.0)) is.1.0.1), is.1.1))
+
   -- each resource is in the domain of its key
-  keyed_with : IsKeyed e.domain e.key → AreKeyed s.resources → AreKeyed (with_made e res s).resources
+  keyed_with : IsKeyed e.site.domain e.site.key → AreKeyed s.resources → AreKeyed (with_made e res s).resources
   keyed_with keyed all x among =
       elim (made_cases (made e res) s.resources x among) [
         | inl is ↦ subst (λ (r : StoredResource). IsKeyed r.domain r.key) (sym is) keyed
@@ -85,15 +93,14 @@ module _ (e : Entry) (res : ℕ) (s : Records) where
       ]
 
   -- what held between two steps holds still
-  pub rest_still : IsKeyed e.domain e.key → IsAtRest s → IsAtRest (with_made e res s)
+  pub rest_still : IsKeyed e.site.domain e.site.key → IsAtRest s → IsAtRest (with_made e res s)
   rest_still keyed rest = record {
     none_loose = rest.none_loose;
     keyed = keyed_with keyed rest.keyed;
-    childless = rest.childless;
   }
 
   -- the new resource stands under its key
-  pub made_found : FindsResource (with_made e res s) e.key (Some res)
+  pub made_found : FindsResource (with_made e res s) e.site.key (Some res)
   made_found = (made e res, (made_last (made e res) s.resources, refl, refl))
 
   -- it is there
@@ -110,32 +117,32 @@ module _ (e : Entry) (res : ℕ) (s : Records) where
 
   -- ---- the entry, with it and without it
 
-  module _ (keyed : IsKeyed e.domain e.key) (rest : IsAtRest s) (free : IsNewKey e.key s) where
+  module _ (keyed : IsKeyed e.site.domain e.site.key) (rest : IsAtRest s) (free : IsNewKey e.site.key s) where
     -- the lock finds the same resource
     same_for : resource_for e (plain_resources (with_made e res s)) ≡ resource_for e (plain_resources s)
     same_for =
-        ap (λ o. unwrap_or o (plain.new_resource e.serial e.domain e.key))
-        (find-key e.domain e.key keyed (with_made e res s).resources (made e res) (keyed_with keyed rest.keyed) (made_last (made e res) s.resources) refl only)
-        ∙ sym (ap (λ o. unwrap_or o (plain.new_resource e.serial e.domain e.key)) (find-free e.domain e.key keyed s.resources rest.keyed free))
+        ap (λ o. unwrap_or o (plain.new_resource e.serial e.site))
+        (find-key e.site.domain e.site.key keyed (with_made e res s).resources (made e res) (keyed_with keyed rest.keyed) (made_last (made e res) s.resources) refl only)
+        ∙ sym (ap (λ o. unwrap_or o (plain.new_resource e.serial e.site)) (find-free e.site.domain e.site.key keyed s.resources rest.keyed free))
       where
-        only : (x : StoredResource) → IsResourceAmong x (with_made e res s).resources → x.key ≡ e.key → x ≡ made e res
+        only : (x : StoredResource) → IsResourceAmong x (with_made e res s).resources → x.key ≡ e.site.key → x ≡ made e res
         only x among same = elim (made_cases (made e res) s.resources x among) [ inl is ↦ is | inr was ↦ absurd (free x was same) ]
 
     -- its entry leaves the same resources
-    same_after : (asked : Request) → resources_after_entry e.serial e.domain e.key e.row asked (plain_resources (with_made e res s))
-        ≡ resources_after_entry e.serial e.domain e.key e.row asked (plain_resources s)
+    same_after : (asked : Request) → resources_after_entry e.serial e.site e.row asked (plain_resources (with_made e res s))
+        ≡ resources_after_entry e.serial e.site e.row asked (plain_resources s)
     same_after asked = of_list s.resources rest.keyed free
       where
-        of_list : (rs : List StoredResource) → AreKeyed rs → IsKeyFree e.key rs
-            → resources_after_entry e.serial e.domain e.key e.row asked (map plain_resource (rs ++ made e res ∷ []))
-            ≡ resources_after_entry e.serial e.domain e.key e.row asked (map plain_resource rs)
+        of_list : (rs : List StoredResource) → AreKeyed rs → IsKeyFree e.site.key rs
+            → resources_after_entry e.serial e.site e.row asked (map plain_resource (rs ++ made e res ∷ []))
+            ≡ resources_after_entry e.serial e.site e.row asked (map plain_resource rs)
         of_list [] all free =
-            elim (key_cases e.domain e.key keyed (made e res) keyed) [
+            elim (key_cases e.site.domain e.site.key keyed (made e res) keyed) [
               | inl here ↦ rw (here.0) refl
               | inr other ↦ absurd (other.1 refl)
             ]
         of_list (x ∷ xs) all free =
-            elim (key_cases e.domain e.key keyed x (all x (inl refl))) [
+            elim (key_cases e.site.domain e.site.key keyed x (all x (inl refl))) [
               | inl here ↦ absurd (free x (inl refl) here.1)
               | inr other ↦ rw (other.0) (ap (λ ys. plain_resource x ∷ ys) (of_list xs (λ y there. all y (inr there)) (λ y there. free y (inr there))))
             ]

@@ -3,9 +3,10 @@ use Rattle.std.proofs.Common.{◌≡◌, ◌≢◌, ◌⊎◌, ℕ, List, [], �
 use Rattle.std.specs.Prelude.{◌==◌}
 use Rattle.std.proofs.lemmas.Bool.{cases_eq}
 use Rattle.vlm_words.specs.State.{Resource}
-use Rattle.vlm_store.specs.Records.{HasResource, IsOwnAmong, IsProcessAmong, IsResourceAmong, IsSound, OwnLock, Records, StoredProcess, StoredResource, but_blocks, on_resource, resource_at}
+use Rattle.vlm_store.specs.Records.{HasNoSublocks, HasResource, IsOwnAmong, IsProcessAmong, IsResourceAmong, IsSound, OwnLock, Records, StoredProcess, StoredResource, but_blocks, on_resource, resource_at}
 use Rattle.vlm_service.specs.Plain.{plain_resource, plain_resources}
-use Rattle.vlm_locks.specs.Rest.{IsAtRest, IsKeyed, IsReplaced, OthersStay}
+use Rattle.vlm_words.specs.Resources.{IsKeyed}
+use Rattle.vlm_locks.specs.Rest.{IsAtRest, IsReplaced, OthersStay}
 use Rattle.vlm_locks.proofs.Stood.{resource_among}
 use Rattle.vlm_service.proofs.Found.{resource_alone, resource_at-at, resource_at-put}
 
@@ -42,10 +43,8 @@ same_own (y ∷ old) (x ∷ new) same p among =
     rest_of (z ∷ zs) = zs
 
 -- where status blocks alone are written no lock gets one below it
-pub childless_still : (old new : Records) → map but_blocks new.processes ≡ map but_blocks old.processes
-    → ((p : StoredProcess) (own : OwnLock) → IsProcessAmong p old.processes → IsOwnAmong own p.own → own.sublocks ≡ [])
-    → (p : StoredProcess) (own : OwnLock) → IsProcessAmong p new.processes → IsOwnAmong own p.own → own.sublocks ≡ []
-childless_still old new same childless p own among here =
+pub no_sublocks_still : (old new : Records) → map but_blocks new.processes ≡ map but_blocks old.processes → (at : ℕ) → HasNoSublocks at old → HasNoSublocks at new
+no_sublocks_still old new same at childless p own among here =
     let was = same_own old.processes new.processes same p among in
     childless was.0 own was.1.0 (subst (IsOwnAmong own) (sym was.1.1) here)
 
@@ -82,7 +81,6 @@ module _ (res : ℕ) (had left : StoredResource) (old new : Records) (replaced :
   rests rest = record {
     none_loose = replaced.loose ∙ rest.none_loose;
     keyed = keyed_still rest.keyed;
-    childless = childless_still old new replaced.processes rest.childless;
   }
 
   -- of the plain resources just that one changes, if the change leaves the others

@@ -15,8 +15,8 @@ use Rattle.vlm_store.specs.Records.{AreResourcesApart, HasResource, IsIdle, IsRe
 use Rattle.vlm_service.specs.Plain.{plain_resource, plain_resources}
 use Rattle.vlm_service.specs.Serving.{IsServed, but_service}
 use Rattle.vlm_service.proofs.Moves.{locks_found}
-use Rattle.vlm_locks.specs.Rest.{IsAtRest, IsKeyed}
-use Rattle.vlm_locks.proofs.Replaced.{childless_still}
+use Rattle.vlm_words.specs.Resources.{IsKeyed}
+use Rattle.vlm_locks.specs.Rest.{IsAtRest}
 
 -- the first of a list, and what is behind it
 abbrev first_or : {A : Type 0} → A → List A → A
@@ -276,5 +276,4 @@ module _ (res : ℕ) (old s : Records) (sound : IsSound old) (there : HasResourc
     keyed = λ x among.
         let was = same_named old.resources s.resources served.names x (fewer x among) in
         subst (λ (r : StoredResource). IsKeyed r.domain r.key) (sym was.1.1) (rest.keyed was.0 was.1.0);
-    childless = childless_still old new (ap (map but_blocks) own_same ∙ served.processes) rest.childless;
   }

@@ -11,12 +11,12 @@ use Rattle.vlm_locks.specs.Rest.{IsAtRest, OthersStay}
 
 -- the resource that the lock finds under its key: a new one where none is there
 abbrev pub resource_for : Entry → List Resource → Resource
-resource_for e resources = unwrap_or (find (is_at e.key) resources) (new_resource e.serial e.domain e.key)
+resource_for e resources = unwrap_or (find (is_at e.site.key) resources) (new_resource e.serial e.site)
 
 -- the lock has entered the resource of this key, in the queue where its request puts it, and nothing else changed
 pub record IsEntered (e : Entry) (res : ℕ) (old new : Records) : Type 0 where
   pub entered : (asked : Request) → e.at_once ≡ is_at_once asked (resource_for e (plain_resources old))
-      → plain_resources new ≡ resources_after_entry e.serial e.domain e.key e.row asked (plain_resources old)
+      → plain_resources new ≡ resources_after_entry e.serial e.site e.row asked (plain_resources old)
   pub processes : plain_processes new ≡ plain_processes old
   pub owner : IsProcess e.owner e.row.pid new
   pub value_block : IfSome (resource_at res new.resources) (λ r. r.value_block ≡ (resource_for e (plain_resources old)).value_block)

@@ -1,21 +1,13 @@
 -- The records between two steps, and what a step on one resource leaves alone.
-use Rattle.std.specs.Prelude.{◌≡◌, ◌≢◌, ◌<◌, ℕ, [], map, Some}
-use Rattle.vlm_words.specs.declared.resources.Domain.{Domain}
-use Rattle.vlm_words.specs.declared.resources.Key.{Key}
-use Rattle.vlm_words.specs.declared.resources.Key.TheVariants.{Root, Below}
-use Rattle.vlm_store.specs.Records.{IsOwnAmong, IsProcessAmong, IsResourceAmong, OwnLock, Records, StoredProcess, StoredResource, but_blocks, on_resource, resource_at}
+use Rattle.std.specs.Prelude.{◌≡◌, ◌≢◌, ℕ, [], map, Some}
+use Rattle.vlm_words.specs.Resources.{IsKeyed}
+use Rattle.vlm_store.specs.Records.{IsResourceAmong, Records, StoredResource, but_blocks, on_resource, resource_at}
 use Rattle.vlm_service.specs.Serving.{but_service}
 
--- the key is one in this domain: a root is in its own, and a resource below another names its parent
-abbrev pub IsKeyed : Domain → Key → Type 0
-IsKeyed domain (Root own name) = domain ≡ own
-IsKeyed domain (Below parent name) = 0 < parent
-
--- between two steps each lock stands in a queue, none stands below another, and each resource is in the domain of its key
+-- between two steps each lock stands in a queue, and each resource is in the domain of its key
 pub record IsAtRest (s : Records) : Type 0 where
   pub none_loose : s.loose ≡ []
   pub keyed : (r : StoredResource) → IsResourceAmong r s.resources → IsKeyed r.domain r.key
-  pub childless : (p : StoredProcess) (own : OwnLock) → IsProcessAmong p s.processes → IsOwnAmong own p.own → own.sublocks ≡ []
 
 -- each resource but the one of this key is as it was
 abbrev pub OthersStay : ℕ → Records → Records → Type 0

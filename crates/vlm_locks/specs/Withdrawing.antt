@@ -1,5 +1,5 @@
 -- The steps in which a lock is withdrawn.
-use Rattle.std.specs.Prelude.{◌≡◌, ℕ, Bool, false, map}
+use Rattle.std.specs.Prelude.{◌≡◌, ℕ, Bool, true, false, map}
 use Rattle.vlm_words.specs.declared.locks.Row.{Row}
 use Rattle.vlm_words.specs.declared.resources.Queue.{Queue}
 use Rattle.vlm_words.specs.declared.resources.Queue.TheVariants.{Granted, Conversion, Waiting}
@@ -14,6 +14,13 @@ abbrev pub may_write : Queue → Row → Bool
 may_write Granted row = is_writer row.held
 may_write Conversion row = is_writer row.held
 may_write Waiting row = false
+
+-- a lock of this queue goes as it is withdrawn: always, but for a cancel of one that holds a mode
+abbrev pub goes : Bool → Queue → Bool
+goes false queue = true
+goes true Granted = false
+goes true Conversion = false
+goes true Waiting = true
 
 -- a change of the resource of this key: of all resources it makes what the plain machine makes of them, and it writes
 -- no status block

@@ -4,18 +4,19 @@ ghost use Rattle.std.specs.Prelude.{◌≡◌, Some, IfOk, IfSome, OnErr, OnOk};
 ghost use Rattle.vlm_words.specs.declared.locks.Request.{Request};
 ghost use Rattle.vlm_words.specs.Enqueue.{is_at_once, resources_after_entry};
 ghost use Rattle.vlm_words.specs.Grants.{is_empty};
-ghost use Rattle.vlm_store.specs.Records.{FindsResource, HasResource, IsNewKey, IsNewLock, IsProcess, StoredResource, plain_processes, queued, resource_at, rows_of};
+ghost use Rattle.vlm_store.specs.Records.{FindsResource, HasResource, IsNewKey, IsNewLock, IsParentOf, IsProcess, StoredResource, plain_processes, queued, resource_at, rows_of};
 ghost use Rattle.vlm_service.specs.Plain.{plain_resource, plain_resources};
 ghost use Rattle.vlm_locks.specs.Entering.{IsEntered, resource_for};
-ghost use Rattle.vlm_locks.specs.Rest.{IsAtRest, IsKeyed, OthersStay};
+ghost use Rattle.vlm_words.specs.Resources.{IsKeyed};
+ghost use Rattle.vlm_locks.specs.Rest.{IsAtRest, OthersStay};
 
 use std::alloc::AllocError;
 use vlm_queue::{can_hold, head};
 use vlm_service::granted_row;
-use vlm_store::{Place, ProcAt, ResAt, Store};
+use vlm_store::{LockAt, Place, ProcAt, ResAt, Store};
 use vlm_words::flags::EnqFlags;
 use vlm_words::locks::{Request, Row};
-use vlm_words::resources::{Domain, Key, Queue};
+use vlm_words::resources::{Queue, Site};
 
 // Whether no lock stands in the queue of the resource.
 fn is_free(store: &Store, res: ResAt, queue: Queue) -> bool
@@ -46,10 +47,10 @@ pub struct Entry {
     pub row: Row,
     /// The process that owns it.
     pub owner: ProcAt,
-    /// The key of its resource.
-    pub key: Key,
-    /// The domain of its resource, if that is made.
-    pub domain: Domain,
+    /// Its parent, if its row names one.
+    pub parent: Option<LockAt>,
+    /// Where its resource stands.
+    pub site: Site,
     /// The serial of its resource, if that is made.
     pub serial: u32,
     /// Where its resource is, if it is there.
@@ -64,14 +65,14 @@ fn enter_at(store: &mut Store, entry: &Entry, res: ResAt) -> Result<(), AllocErr
     requires rest { IsAtRest store.old }
     requires new { IsNewLock entry.now.row.lkid store.old }
     requires owner { IsProcess entry.now.owner entry.now.row.pid store.old }
-    requires root { entry.now.row.parent ≡ 0 }
-    requires found { FindsResource store.old entry.now.key (Some res) }
-    requires keyed { IsKeyed entry.now.domain entry.now.key }
+    requires parent { IsParentOf entry.now.parent entry.now.row store.old }
+    requires found { FindsResource store.old entry.now.site.key (Some res) }
+    requires keyed { IsKeyed entry.now.site.domain entry.now.site.key }
     ensures entered { OnOk result (IsEntered entry.now res store.old store.new) }
     ensures err { OnErr result (store.new ≡ store.old) }
 {
     store.known();
-    let lock = match store.add_lock(entry.row, entry.owner, None) {
+    let lock = match store.add_lock(entry.row, entry.owner, entry.parent) {
         Ok(lock) => lock,
         Err(refused) => return Err(refused),
     };
@@ -91,13 +92,13 @@ fn enter_new(store: &mut Store, entry: &Entry) -> Result<ResAt, AllocError>
     requires rest { IsAtRest store.old }
     requires new { IsNewLock entry.now.row.lkid store.old }
     requires owner { IsProcess entry.now.owner entry.now.row.pid store.old }
-    requires root { entry.now.row.parent ≡ 0 }
-    requires absent { IsNewKey entry.now.key store.old }
-    requires keyed { IsKeyed entry.now.domain entry.now.key }
+    requires parent { IsParentOf entry.now.parent entry.now.row store.old }
+    requires absent { IsNewKey entry.now.site.key store.old }
+    requires keyed { IsKeyed entry.now.site.domain entry.now.site.key }
     ensures entered { IfOk result (λ res. IsEntered entry.now res store.old store.new) }
     ensures err { OnErr result (store.new ≡ store.old) }
 {
-    let res = match store.add_resource(entry.serial, entry.domain, &entry.key) {
+    let res = match store.add_resource(entry.serial, &entry.site) {
         Ok(res) => res,
         Err(refused) => return Err(refused),
     };
@@ -116,13 +117,13 @@ pub fn enter(store: &mut Store, entry: &Entry) -> Result<ResAt, AllocError>
     requires rest { IsAtRest store.old }
     requires new { IsNewLock entry.now.row.lkid store.old }
     requires owner { IsProcess entry.now.owner entry.now.row.pid store.old }
-    requires root { entry.now.row.parent ≡ 0 }
-    requires found { FindsResource store.old entry.now.key entry.now.res }
-    requires keyed { IsKeyed entry.now.domain entry.now.key }
+    requires parent { IsParentOf entry.now.parent entry.now.row store.old }
+    requires found { FindsResource store.old entry.now.site.key entry.now.res }
+    requires keyed { IsKeyed entry.now.site.domain entry.now.site.key }
     ensures entered { OnOk result ((asked : Request)
         → entry.now.at_once ≡ is_at_once asked (resource_for entry.now (plain_resources store.old))
         → plain_resources store.new
-        ≡ resources_after_entry entry.now.serial entry.now.domain entry.now.key entry.now.row asked (plain_resources store.old)) }
+        ≡ resources_after_entry entry.now.serial entry.now.site entry.now.row asked (plain_resources store.old)) }
     ensures processes { OnOk result (plain_processes store.new ≡ plain_processes store.old) }
     ensures owner { OnOk result (IsProcess entry.now.owner entry.now.row.pid store.new) }
     ensures value_block { IfOk result (λ res. IfSome (resource_at res store.new.resources) (λ r. r.value_block

@@ -1,14 +1,15 @@
 //! The withdrawal of a lock: it goes, or only its request does.
 
-ghost use Rattle.std.specs.Prelude.{◌≡◌, false, flat_map, map, if◌then◌else◌};
+ghost use Rattle.std.specs.Prelude.{◌≡◌, true, false, flat_map, map, if◌then◌else◌};
 ghost use Rattle.vlm_words.specs.Dequeue.{is_writer, processes_after, resource_after_cancel, resource_after_withdrawal, resource_after_writer, resource_without, value_block_after_writer, withdrawal_endings};
 ghost use Rattle.vlm_words.specs.Endings.{row_endings};
 ghost use Rattle.vlm_words.specs.Endings.How.{by_abort, by_cancel};
-ghost use Rattle.vlm_store.specs.Records.{HasResource, SameButBlocks, plain_processes};
+ghost use Rattle.vlm_words.specs.declared.resources.Queue.{Queue};
+ghost use Rattle.vlm_store.specs.Records.{HasNoSublocks, HasResource, SameButBlocks, plain_processes};
 ghost use Rattle.vlm_service.specs.Plain.{plain_resources};
 ghost use Rattle.vlm_locks.specs.Rest.{IsAtRest, OthersStay};
 ghost use Rattle.vlm_locks.specs.Standing.{IsStanding};
-ghost use Rattle.vlm_locks.specs.Withdrawing.{IsChange, may_write};
+ghost use Rattle.vlm_locks.specs.Withdrawing.{IsChange, goes, may_write};
 
 use crate::finding::Standing;
 use crate::withdrawals::Withdrawal;
@@ -96,6 +97,7 @@ fn leave(store: &mut Store, standing: &Standing, withdrawal: &Withdrawal)
     requires named { withdrawal.now.lkid ≡ standing.now.row.lkid }
     ensures left { IsChange standing.now.res (resource_after_writer withdrawal.now) store.old store.new }
     ensures standing { IsStanding standing.now store.new }
+    ensures own_locks { store.new.processes ≡ store.old.processes }
 {
     store.known();
     if may_write(standing) {
@@ -104,10 +106,11 @@ fn leave(store: &mut Store, standing: &Standing, withdrawal: &Withdrawal)
     }
 }
 
-// The lock goes from its queue.
+// The lock goes from its queue. No lock stands below it.
 fn remove(store: &mut Store, standing: &Standing)
     requires rest { IsAtRest store.old }
     requires standing { IsStanding standing.now store.old }
+    requires childless { HasNoSublocks standing.now.lock store.old }
     ensures { IsChange standing.now.res (resource_without standing.now.row.lkid) store.old store.new }
 {
     store.known();
@@ -137,6 +140,8 @@ fn grant_again(store: &mut Store, standing: &Standing)
 fn cancel(store: &mut Store, standing: &Standing)
     requires rest { IsAtRest store.old }
     requires standing { IsStanding standing.now store.old }
+    requires childless { standing.now.queue ≡ Queue.Waiting
+        → HasNoSublocks standing.now.lock store.old }
     ensures { IsChange standing.now.res (resource_after_cancel standing.now.row.lkid) store.old store.new }
 {
     store.known();
@@ -150,11 +155,14 @@ fn cancel(store: &mut Store, standing: &Standing)
 /// Withdraws a lock. What it waits for ends with ABORT, and it goes from its queue; held at PW or EX, granted
 /// or converting, it first leaves a given value in the value block, or marks it invalid. With CANCEL only its
 /// request ends: a conversion with CANCEL, and its lock goes to the end of the granted queue and holds what it
-/// held; a waiting request with ABORT, and its lock goes; a granted lock stays as it is.
+/// held; a waiting request with ABORT, and its lock goes; a granted lock stays as it is. A lock that goes has
+/// no sublocks.
 pub fn withdraw(store: &mut Store, standing: &Standing, withdrawal: &Withdrawal)
     requires rest { IsAtRest store.old }
     requires standing { IsStanding standing.now store.old }
     requires named { withdrawal.now.lkid ≡ standing.now.row.lkid }
+    requires childless { goes withdrawal.now.cancels standing.now.queue ≡ true
+        → HasNoSublocks standing.now.lock store.old }
     ensures resources { plain_resources store.new
         ≡ map (resource_after_withdrawal withdrawal.now) (plain_resources store.old) }
     ensures statuses { plain_processes store.new ≡ processes_after

@@ -11,6 +11,7 @@ plain_resource r = record {
   parent = key_parent r.key;
   domain = r.domain;
   name = key_name r.key;
+  level = r.level;
   value_block = r.value_block;
   granted = rows_of r.granted;
   converting = rows_of r.converting;

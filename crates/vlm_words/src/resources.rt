@@ -88,17 +88,6 @@ impl Hash for Key {
     }
 }
 
-/// Where a resource stands: under which key, in which domain, and how many levels below its root.
-#[derive(Clone, Copy)]
-pub struct Site {
-    /// Where it is found.
-    pub key: Key,
-    /// A sub-resource is in its root's.
-    pub domain: Domain,
-    /// 0 for a root, at most 15.
-    pub level: u8,
-}
-
 /// The value block of a resource: its bytes, and whether they are valid.
 #[derive(Clone, Copy)]
 pub struct ValueBlock {

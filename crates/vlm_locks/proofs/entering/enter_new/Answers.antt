@@ -1,9 +1,9 @@
 use Rattle.std.proofs.Common.{Some, sym, ap, ◌∙◌, subst}
-use Rattle.vlm_store.specs.Records.{FindsResource, HasResource, IsIdle, IsNewLock, Records, without_resource}
+use Rattle.vlm_store.specs.Records.{FindsResource, HasResource, IsIdle, IsNewLock, IsParentOf, Records, without_resource}
 use Rattle.vlm_store.proofs.Undoing.{resource_undone}
 use Rattle.vlm_locks.specs.Entering.{IsEntered}
 use Rattle.vlm_locks.specs.Rest.{IsAtRest}
-use Rattle.vlm_locks.proofs.Made.{entered_made, made_found, made_idle, made_there, new_still, rest_still}
+use Rattle.vlm_locks.proofs.Made.{entered_made, made_found, made_idle, made_there, new_still, parent_still, rest_still}
 use Rattle.vlm_locks.proofs.entering.enter_new.Goals as goal
 
 pub enter_at-requires-clause-rest : goal.enter_at-requires-clause-rest
@@ -14,9 +14,14 @@ pub enter_at-requires-clause-new : goal.enter_at-requires-clause-new
 enter_at-requires-clause-new c =
     subst (IsNewLock c.args.entry.now.row.lkid) (sym c.in-Ok.ensures.added) (new_still c.args.entry.now c.in-Ok.res c.args.store.now c.args.entry.now.row.lkid c.requires.new)
 
+pub enter_at-requires-clause-parent : goal.enter_at-requires-clause-parent
+enter_at-requires-clause-parent c =
+    subst (IsParentOf c.args.entry.now.parent c.args.entry.now.row) (sym c.in-Ok.ensures.added)
+    (parent_still c.args.entry.now c.in-Ok.res c.args.store.now c.args.entry.now.parent c.args.entry.now.row c.requires.parent)
+
 pub enter_at-requires-clause-found : goal.enter_at-requires-clause-found
 enter_at-requires-clause-found c =
-    subst (λ s. FindsResource s c.args.entry.now.key (Some c.in-Ok.res)) (sym c.in-Ok.ensures.added) (made_found c.args.entry.now c.in-Ok.res c.args.store.now)
+    subst (λ s. FindsResource s c.args.entry.now.site.key (Some c.in-Ok.res)) (sym c.in-Ok.ensures.added) (made_found c.args.entry.now c.in-Ok.res c.args.store.now)
 
 -- where the lock is refused, the resource that was made stands as it was made
 pub remove_resource-requires-clause-there : goal.remove_resource-requires-clause-there
@@ -39,4 +44,4 @@ returns-in-Err-enter_at-clause-err c =
     let e = c.args.entry.now in
     c.remove_resource.ensures
     ∙ ap (λ (x : Records). record x { resources = without_resource c.in-Ok.res x.resources }) (c.in-Err-enter_at.ensures.err ∙ c.in-Ok.ensures.added)
-    ∙ resource_undone c.args.store.now c.in-Ok.res e.serial e.domain e.key c.in-Ok.ensures.fresh
+    ∙ resource_undone c.args.store.now c.in-Ok.res e.serial e.site c.in-Ok.ensures.fresh

@@ -6,6 +6,9 @@ pub returns-in-Granted : goal.returns-in-Granted
 returns-in-Granted c =
     cancelled_none c.args.store.now c.known.ensures c.args.standing.now c.requires.standing c.in-Granted.is c.requires.rest
 
+pub remove-requires-clause-childless : goal.remove-requires-clause-childless
+remove-requires-clause-childless c = c.requires.childless c.in-Waiting.is
+
 pub returns-in-Waiting : goal.returns-in-Waiting
 returns-in-Waiting c =
     cancelled_waiting c.args.store.now c.known.ensures c.args.standing.now c.requires.standing c.in-Waiting.is c.remove.new.store c.remove.ensures

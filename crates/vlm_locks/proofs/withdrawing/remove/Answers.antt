@@ -10,9 +10,6 @@ remove_lock-requires-clause-stored c =
     let f = c.args.standing.now in
     (f.row, stored c.args.store.now c.known.ensures f c.requires.standing)
 
-pub remove_lock-requires-clause-childless : goal.remove_lock-requires-clause-childless
-remove_lock-requires-clause-childless c = λ p own among here keyed. c.requires.rest.childless p own among here
-
 pub returns : goal.returns
 returns c =
     let s = c.args.store.now in
