@@ -13,11 +13,11 @@ found_lives s at pid sound is =
 pub found_none : (s : Records) (pid : ℕ) → FindsProcess s pid None → process_of (plain_processes s) pid ≡ None
 found_none s pid found = process_of-none pid s.processes found
 
--- the group of the process at a key
-pub group_is : (s : Records) (at pid group : ℕ) → IsSound s → IsProcess at pid s → IfSome (process_at at s.processes) (λ p. group ≡ p.process.group)
-    → group ≡ option_map_or (λ (p : Process). p.group) (process_of (plain_processes s) pid) 0
-group_is s at pid group sound is read =
+-- what is told of the process at a key
+pub told_is : {X : Type 0} (s : Records) (at pid : ℕ) (field : Process → X) (none told : X) → IsSound s → IsProcess at pid s
+    → IfSome (process_at at s.processes) (λ p. told ≡ field p.process) → told ≡ option_map_or field (process_of (plain_processes s) pid) none
+told_is s at pid field none told sound is read =
     let found : process_at at s.processes ≡ Some is.0 = ap (λ x. process_at x s.processes) (sym is.1.1) ∙ process_at-stored is.0 s.processes sound.processes_apart is.1.0 in
-    let told = rw found at read in
-    let named = ap (λ o. option_map_or (λ (p : Process). p.group) o 0) (process_of-stored is.0 s.processes sound.processes_apart is.1.0) in
-    told ∙ sym named ∙ ap (λ x. option_map_or (λ (p : Process). p.group) (process_of (plain_processes s) x) 0) is.1.2
+    let here = rw found at read in
+    let named = ap (λ o. option_map_or field o none) (process_of-stored is.0 s.processes sound.processes_apart is.1.0) in
+    here ∙ sym named ∙ ap (λ x. option_map_or field (process_of (plain_processes s) x) none) is.1.2

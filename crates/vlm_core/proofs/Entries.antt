@@ -1,13 +1,13 @@
 -- A new request that is admitted, and its lock that has entered: the plain machine's change.
 use Rattle.std.proofs.Common.{◌≡◌, ◌+◌, ℕ, Bool, true, List, [], cond, find, unwrap_or, Option, None, Some, IfSome, IsSome, is_some, sym, ap, ◌∙◌, subst, arith}
+use Rattle.std.specs.Option.{option_map}
 use Rattle.vlm_words.specs.declared.locks.Request.{Request}
 use Rattle.vlm_words.specs.declared.locks.Row.{Row}
-use Rattle.vlm_words.specs.declared.resources.Domain.{Domain}
-use Rattle.vlm_words.specs.declared.resources.Key.{Key}
+use Rattle.vlm_words.specs.declared.resources.Site.{Site}
 use Rattle.vlm_words.specs.declared.resources.ValueBlock.{ValueBlock}
 use Rattle.vlm_words.specs.declared.steps.NewRequest.{NewRequest}
 use Rattle.vlm_words.specs.Effects.{blocks_after, blocks_with}
-use Rattle.vlm_words.specs.Enqueue.{enq_at_once, enq_change, enq_domain, enq_key, enq_processes, enq_request, enq_resource, enq_row, has_resource, is_at_once, resources_after_entry}
+use Rattle.vlm_words.specs.Enqueue.{enq_at_once, enq_change, enq_key, enq_processes, enq_request, enq_resource, enq_row, has_resource, is_at_once, resources_after_entry}
 use Rattle.vlm_words.specs.Grants.{fits, grant_endings}
 use Rattle.vlm_words.specs.Resources.{is_at, new_resource}
 use Rattle.vlm_words.specs.State.{Process, Resource, State}
@@ -15,7 +15,7 @@ use Rattle.vlm_words.specs.StatusBlocks.{processes_after_acceptance}
 use Rattle.vlm_store.specs.Records.{FindsResource, HasResource, Records, StoredResource, plain_processes, resource_at}
 use Rattle.vlm_service.specs.Plain.{plain_resources}
 use Rattle.vlm_locks.specs.Entering.{resource_for}
-use Rattle.vlm_words.specs.Resources.{IsKeyed}
+use Rattle.vlm_words.specs.Trees.{enq_site}
 use Rattle.vlm_locks.specs.Rest.{IsAtRest}
 use Rattle.vlm_locks.specs.declared.entering.Entry.{Entry}
 use Rattle.vlm_locks.proofs.Keyed.{has_none, has_one}
@@ -24,13 +24,13 @@ use Rattle.vlm_core.specs.Admissions.{IsAdmitted}
 use Rattle.vlm_core.specs.Machine.{Kept, plain_state}
 
 -- a new resource is free for every request
-pub is_at_once-new : (serial : ℕ) (domain : Domain) (key : Key) (request : Request) → is_at_once request (new_resource serial domain key) ≡ true
+pub is_at_once-new : (serial : ℕ) (site : Site) (request : Request) → is_at_once request (new_resource serial site) ≡ true
 unfolding is_at_once fits
-is_at_once-new serial domain key request = grind arith
+is_at_once-new serial site request = grind arith
 
 -- the entry of an admitted request
 abbrev pub entry_of : Kept → AdmittedRequest → Row → Entry
-entry_of m a row = record { row = row; owner = a.caller.at; key = a.key; domain = a.domain; serial = m.next_serial; res = a.res; at_once = a.at_once }
+entry_of m a row = record { row = row; owner = a.caller.at; parent = option_map (λ up. up.lock) a.parent; site = a.site; serial = m.next_serial; res = a.res; at_once = a.at_once }
 
 -- what an accepted request writes to status blocks
 abbrev written : ℕ → Bool → Row → ValueBlock → ℕ → ℕ → List Process → List Process
@@ -44,9 +44,7 @@ module _ (m : Kept) (e : NewRequest) (a : AdmittedRequest) (admitted : IsAdmitte
   -- the resource that it finds
   found_is : resource_for (entry_of m a row) s.resources ≡ enq_resource s e
   unfolding enq_resource
-  found_is =
-      ap (λ k. unwrap_or (find (is_at k) s.resources) (new_resource m.next_serial a.domain k)) admitted.key
-      ∙ ap (λ d. unwrap_or (find (is_at (enq_key s e)) s.resources) (new_resource m.next_serial d (enq_key s e))) admitted.domain
+  found_is = ap (λ (x : Site). unwrap_or (find (is_at x.key) s.resources) (new_resource m.next_serial x)) admitted.site
 
   at_once_is : a.at_once ≡ is_at_once (enq_request s e) (resource_for (entry_of m a row) s.resources)
   at_once_is = admitted.at_once ∙ ap (is_at_once (enq_request s e)) (sym found_is)
@@ -54,13 +52,12 @@ module _ (m : Kept) (e : NewRequest) (a : AdmittedRequest) (admitted : IsAdmitte
   -- the resources once it has entered
   pub resources_are : (t : Records)
       → ((asked : Request) → a.at_once ≡ is_at_once asked (resource_for (entry_of m a row) s.resources)
-      → plain_resources t ≡ resources_after_entry m.next_serial a.domain a.key row asked s.resources)
-      → plain_resources t ≡ resources_after_entry m.next_serial (enq_domain s e) (enq_key s e) (enq_row s e) (enq_request s e) s.resources
+      → plain_resources t ≡ resources_after_entry m.next_serial a.site row asked s.resources)
+      → plain_resources t ≡ resources_after_entry m.next_serial (enq_site s e) (enq_row s e) (enq_request s e) s.resources
   resources_are t entered =
       entered (enq_request s e) at_once_is
-      ∙ ap (λ d. resources_after_entry m.next_serial d a.key row (enq_request s e) s.resources) admitted.domain
-      ∙ ap (λ k. resources_after_entry m.next_serial (enq_domain s e) k row (enq_request s e) s.resources) admitted.key
-      ∙ ap (λ x. resources_after_entry m.next_serial (enq_domain s e) (enq_key s e) x (enq_request s e) s.resources) row_is
+      ∙ ap (λ (x : Site). resources_after_entry m.next_serial x row (enq_request s e) s.resources) admitted.site
+      ∙ ap (λ x. resources_after_entry m.next_serial (enq_site s e) x (enq_request s e) s.resources) row_is
 
   -- the processes once it is accepted
   pub processes_are : (res : ℕ) (t u : Records) → plain_processes t ≡ s.processes → HasResource res t
@@ -85,24 +82,21 @@ module _ (m : Kept) (e : NewRequest) (a : AdmittedRequest) (admitted : IsAdmitte
       → last + 1 ≡ cond (has_resource (enq_key s e) s.resources) m.next_serial (m.next_serial + 1)
   serial_is rest last last_serial next given = of_found a.res admitted.found given
     where
-      keyed : IsKeyed a.domain a.key
-      keyed = subst (IsKeyed a.domain) (sym admitted.key) admitted.domain
+      under : has_resource a.site.key s.resources ≡ has_resource (enq_key s e) s.resources
+      under = ap (λ (x : Site). has_resource x.key s.resources) admitted.site
 
-      under : has_resource a.key s.resources ≡ has_resource (enq_key s e) s.resources
-      under = ap (λ k. has_resource k s.resources) admitted.key
-
-      of_found : (res : Option ℕ) → FindsResource m.records a.key res → last ≡ cond (is_some res) last_serial (last_serial + 1)
+      of_found : (res : Option ℕ) → FindsResource m.records a.site.key res → last ≡ cond (is_some res) last_serial (last_serial + 1)
           → last + 1 ≡ cond (has_resource (enq_key s e) s.resources) m.next_serial (m.next_serial + 1)
       of_found None found given =
           ap (λ n. n + 1) given ∙ ap (λ n. n + 1) next
-          ∙ sym (ap (λ b. cond b m.next_serial (m.next_serial + 1)) (sym under ∙ has_none a.domain a.key keyed m.records rest found))
+          ∙ sym (ap (λ b. cond b m.next_serial (m.next_serial + 1)) (sym under ∙ has_none a.site.domain a.site.key admitted.keyed m.records rest found))
       of_found (Some res) found given =
           ap (λ n. n + 1) given ∙ next
-          ∙ sym (ap (λ b. cond b m.next_serial (m.next_serial + 1)) (sym under ∙ has_one a.domain a.key keyed m.records rest res found))
+          ∙ sym (ap (λ b. cond b m.next_serial (m.next_serial + 1)) (sym under ∙ has_one a.site.domain a.site.key admitted.keyed m.records rest res found))
 
   -- the whole change
   pub entered_state : (u : Records) (next_lkid next_request next_serial : ℕ)
-      → plain_resources u ≡ resources_after_entry m.next_serial (enq_domain s e) (enq_key s e) (enq_row s e) (enq_request s e) s.resources
+      → plain_resources u ≡ resources_after_entry m.next_serial (enq_site s e) (enq_row s e) (enq_request s e) s.resources
       → plain_processes u ≡ enq_processes s e → next_lkid ≡ m.next_lkid + 1 → next_request ≡ m.next_request + 1
       → next_serial ≡ cond (has_resource (enq_key s e) s.resources) m.next_serial (m.next_serial + 1)
       → plain_state (record { nodes = m.nodes; records = u; next_lkid = next_lkid; next_request = next_request; next_serial = next_serial }) ≡ enq_change s e

@@ -8,4 +8,7 @@ pub mod Reaching
 pub mod Settling
 pub mod Stayed
 pub mod ToCome
+pub mod Siting
+pub mod Childless
+pub mod Quotas
 pub mod Walked

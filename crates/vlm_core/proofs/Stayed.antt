@@ -48,9 +48,4 @@ rests_declared s t at pid d is rest =
     subst IsAtRest (sym is) (record {
       none_loose = rest.none_loose;
       keyed = rest.keyed;
-      childless = λ p own among here.
-          elim (among_more s.processes (new_stored_process at pid d) p among) [
-            | inl was ↦ rest.childless p own was here
-            | inr new ↦ absurd (subst (λ (q : StoredProcess). IsOwnAmong own q.own) (sym new) here)
-          ];
     })

@@ -39,13 +39,13 @@ counted lkid (x ∷ rest) k among same =
     ]
 
 -- and on its resource
-counted_on : (lkid : ℕ) (r : StoredResource) (queue : Queue) (k : StoredLock) → IsAmong k (queued queue r) → k.row.lkid ≡ lkid → 1 ≤ rows_on lkid (plain_resource r)
+pub counted_on : (lkid : ℕ) (r : StoredResource) (queue : Queue) (k : StoredLock) → IsAmong k (queued queue r) → k.row.lkid ≡ lkid → 1 ≤ rows_on lkid (plain_resource r)
 counted_on lkid r Granted k among same = omega (arith, counted lkid r.granted k among same)
 counted_on lkid r Conversion k among same = omega (arith, counted lkid r.converting k among same)
 counted_on lkid r Waiting k among same = omega (arith, counted lkid r.waiting k among same)
 
 -- and of all
-counted_all : (lkid : ℕ) (rs : List StoredResource) (r : StoredResource) → IsResourceAmong r rs → rows_on lkid (plain_resource r) ≤ sum_by (rows_on lkid) (map plain_resource rs)
+pub counted_all : (lkid : ℕ) (rs : List StoredResource) (r : StoredResource) → IsResourceAmong r rs → rows_on lkid (plain_resource r) ≤ sum_by (rows_on lkid) (map plain_resource rs)
 counted_all lkid [] r among = absurd among
 counted_all lkid (x ∷ rest) r among =
     elim among [

@@ -1,34 +1,49 @@
 -- What the checks of a step decide, for the change that follows.
-use Rattle.std.specs.Prelude.{◌≡◌, ◌<◌, ◌^◌, Some}
+use Rattle.std.specs.Prelude.{◌≡◌, ◌<◌, ◌^◌, true, Some}
 use Rattle.vlm_words.specs.declared.resources.Queue.TheVariants.{Granted}
 use Rattle.vlm_words.specs.declared.steps.Conversion.{Conversion}
 use Rattle.vlm_words.specs.declared.steps.Dequeue.{Dequeue}
 use Rattle.vlm_words.specs.declared.steps.NewRequest.{NewRequest}
 use Rattle.vlm_words.specs.Convert.{convert_admission, convert_lkid, convert_request}
 use Rattle.vlm_words.specs.Dequeue.{dequeue_lkid, withdrawal_of}
-use Rattle.vlm_words.specs.Enqueue.{enq_at_once, enq_domain, enq_key, enq_request}
-use Rattle.vlm_store.specs.Records.{FindsResource, HasProcess, IsProcess, Records}
+use Rattle.vlm_words.specs.Enqueue.{enq_at_once, enq_request}
+use Rattle.vlm_words.specs.Flags.{flag_bits}
+use Rattle.vlm_words.specs.Resources.{IsKeyed}
+use Rattle.vlm_words.specs.State.{State}
+use Rattle.vlm_words.specs.Trees.{enq_site, parent_lkid}
+use Rattle.vlm_store.specs.Records.{FindsResource, HasNoSublocks, HasProcess, IsProcess, Records}
 use Rattle.vlm_locks.specs.Converting.{admission_on}
 use Rattle.vlm_locks.specs.Standing.{IsStandingOf}
+use Rattle.vlm_locks.specs.Withdrawing.{goes}
 use Rattle.vlm_core.specs.declared.converting.AdmittedConversion.{AdmittedConversion}
 use Rattle.vlm_core.specs.declared.dequeuing.AdmittedDequeue.{AdmittedDequeue}
 use Rattle.vlm_core.specs.declared.enqueuing.AdmittedRequest.{AdmittedRequest}
+use Rattle.vlm_core.specs.declared.enqueuing.Form.{Form}
 use Rattle.vlm_core.specs.declared.processes.Caller.{Caller}
 use Rattle.vlm_core.specs.Machine.{Kept, plain_state}
+use Rattle.vlm_core.specs.Parents.{IsParent, lkid_of}
 
 -- the caller is a living process, and this is its key
 pub record IsCaller (caller : Caller) (s : Records) : Type 0 where
   pub lives : IsProcess caller.at caller.pid s
   pub there : HasProcess caller.at s
 
--- the new request is admitted so: its caller, where its resource stands, what is asked for, and whether that is granted
--- at once; and there are numbers for it
+-- what a new request says of itself: its flags, the parent lock that it names, and its name
+pub record IsForm (s : State) (e : NewRequest) (form : Form) : Type 0 where
+  pub flags : flag_bits form.flags ≡ e.flags
+  pub parent : form.parent ≡ parent_lkid s e
+  pub name : form.name ≡ e.name
+
+-- the new request is admitted so: its caller, its parent lock, where its resource stands, what is asked for, and
+-- whether that is granted at once; and there are numbers for it
 pub record IsAdmitted (m : Kept) (e : NewRequest) (a : AdmittedRequest) : Type 0 where
   pub caller : IsCaller a.caller m.records
   pub pid : a.caller.pid ≡ e.pid
-  pub domain : a.domain ≡ enq_domain (plain_state m) e
-  pub key : a.key ≡ enq_key (plain_state m) e
-  pub found : FindsResource m.records a.key a.res
+  pub parent : IsParent e.pid a.parent m.records
+  pub named : lkid_of a.parent ≡ parent_lkid (plain_state m) e
+  pub site : a.site ≡ enq_site (plain_state m) e
+  pub keyed : IsKeyed a.site.domain a.site.key
+  pub found : FindsResource m.records a.site.key a.res
   pub asked : a.asked ≡ enq_request (plain_state m) e
   pub at_once : a.at_once ≡ enq_at_once (plain_state m) e
   pub lkid : m.next_lkid < 2 ^ 32
@@ -50,3 +65,7 @@ pub record IsAdmittedConversion (m : Kept) (c : Conversion) (a : AdmittedConvers
 pub record IsAdmittedDequeue (m : Kept) (d : Dequeue) (a : AdmittedDequeue) : Type 0 where
   pub standing : IsStandingOf d.pid (dequeue_lkid (plain_state m) d) a.standing m.records
   pub withdrawal : a.withdrawal ≡ withdrawal_of (plain_state m) d
+
+-- a lock that the dequeue gives up has no sublocks
+abbrev pub IsChildless : Kept → AdmittedDequeue → Type 0
+IsChildless m a = goes a.withdrawal.cancels a.standing.queue ≡ true → HasNoSublocks a.standing.lock m.records

@@ -1,23 +1,27 @@
 -- What holds between two steps, and what a step needs of it.
-use Rattle.std.specs.Prelude.{◌≡◌, ◌≢◌, ◌≤◌, ℕ, List, sum_by}
+use Rattle.std.specs.Prelude.{◌≡◌, ◌≢◌, ◌≤◌, ◌<◌, ℕ, All, List, sum_by}
 use Rattle.std.specs.List.{AllByRecursion}
 use Rattle.vlm_words.specs.declared.steps.Answer.{Answer}
 use Rattle.vlm_words.specs.declared.steps.Step.{Step}
 use Rattle.vlm_words.specs.Endings.{Ending}
-use Rattle.vlm_words.specs.Laws.{DeclarationsGiveNewIdentifications, rows_on}
+use Rattle.vlm_words.specs.Laws.{DeclarationsGiveNewIdentifications, ParentsOutliveTheirSublocks, rows_on}
 use Rattle.vlm_words.specs.Runs.{Run}
 use Rattle.vlm_words.specs.Settled.{IsSettled}
 use Rattle.vlm_words.specs.State.{State}
 use Rattle.vlm_store.specs.Records.{IsResourceAmong, Records, StoredResource}
 use Rattle.vlm_service.specs.Plain.{plain_resource}
 
--- nothing is to be swept, no lock has an identification that is to come, no more serials than identifications were given,
--- and a declaration gives an identification that no living process has
+-- nothing is to be swept, no lock has an identification that is to come, or 0, serials are from 1, no more of them than
+-- identifications were given, a declaration gives an identification that no living process has, and each parent lock
+-- holds a mode
 pub record IsBetweenSteps (s : State) : Type 0 where
   pub settled : AllByRecursion IsSettled s.resources
   pub lkids_to_come : (lkid : ℕ) → s.next_lkid ≤ lkid → sum_by (rows_on lkid) s.resources ≡ 0
+  pub no_lkid_0 : sum_by (rows_on 0) s.resources ≡ 0
+  pub serials_from_1 : All (λ r. 0 < r.serial) s.resources
   pub few_serials : s.next_serial ≤ s.next_lkid
   pub new_processes : DeclarationsGiveNewIdentifications s
+  pub parents : ParentsOutliveTheirSublocks s
 
 -- nothing is to be swept but the resource of this key
 abbrev pub AreSettledBut : ℕ → Records → Type 0

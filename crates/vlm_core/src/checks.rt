@@ -4,12 +4,13 @@ ghost use Rattle.std.specs.Prelude.{◌≡◌, ◌<◌, ◌^◌, IfOk, OnOk};
 ghost use Rattle.std.specs.Result.{result_err};
 ghost use Rattle.vlm_words.specs.Checks.{acceptance, caller_refusal, lock_refusal, named_lkid, numbers_refusal, queue_refusal, request_numbers_refusal, status_block_refusal, which_refusal};
 ghost use Rattle.vlm_words.specs.Flags.{flag_bits};
+ghost use Rattle.vlm_words.specs.Quotas.{quota_refusal};
 ghost use Rattle.vlm_core.specs.Admissions.{IsCaller};
 ghost use Rattle.vlm_core.specs.Machine.{plain_state};
 ghost use Rattle.vlm_locks.specs.Standing.{IsStandingOf};
 
 use crate::nodes::has_departed;
-use crate::processes::{Caller, living};
+use crate::processes::{Caller, has_room, living};
 use crate::records::Machine;
 use vlm_locks::{Standing, find_lock};
 use vlm_procs::{has_status_block, status_block};
@@ -59,6 +60,19 @@ impl Machine {
             Ok(())
         } else {
             Err(Cond::Nolockid)
+        }
+    }
+
+    /// EXENQLM where the caller has as many locks as it may have.
+    #[tactic(auto, unfolding(vlm_words::specs::Quotas::quota_refusal))]
+    pub(crate) fn check_quota(&self, caller: &Caller) -> Result<(), Cond>
+        requires { IsCaller caller.now self.now.records }
+        ensures { result_err result ≡ quota_refusal (plain_state self.now) caller.now.pid }
+    {
+        if has_room(&self.store, caller) {
+            Ok(())
+        } else {
+            Err(Cond::Exenqlm)
         }
     }
 

@@ -1,13 +1,15 @@
 //! The step that gives a lock up, or cancels its request.
 
-ghost use Rattle.std.specs.Prelude.{◌≡◌, IfOk};
+ghost use Rattle.std.specs.Prelude.{◌≡◌, true, IfOk, OnOk};
 ghost use Rattle.std.specs.Result.{result_err};
-ghost use Rattle.vlm_words.specs.Dequeue.{cancel_refusal, deq_change, deq_flags_refusal, deq_refusal, withdrawal_of};
+ghost use Rattle.vlm_words.specs.Dequeue.{cancel_refusal, deq_change, deq_flags_refusal, deq_refusal, sublocks_refusal, withdrawal_of};
 ghost use Rattle.vlm_words.specs.Flags.{cancel, deq_flag_bits, has_flag, invvalblk};
 ghost use Rattle.vlm_words.specs.Stepped.{Outcome};
-ghost use Rattle.vlm_store.specs.Records.{HasResource};
+ghost use Rattle.vlm_store.specs.Records.{HasNoSublocks, HasResource};
 ghost use Rattle.vlm_locks.specs.Rest.{OthersStay};
-ghost use Rattle.vlm_core.specs.Admissions.{IsAdmittedDequeue};
+ghost use Rattle.vlm_locks.specs.Standing.{IsStanding};
+ghost use Rattle.vlm_locks.specs.Withdrawing.{goes};
+ghost use Rattle.vlm_core.specs.Admissions.{IsAdmittedDequeue, IsChildless};
 ghost use Rattle.vlm_core.specs.Between.{IsBetweenSteps};
 ghost use Rattle.vlm_core.specs.Machine.{plain_state};
 
@@ -45,7 +47,8 @@ impl Machine {
     // The lock's requests end, and it is gone from its queue, or only its request is.
     #[tactic(auto, unfolding(vlm_words::specs::Dequeue::deq_change))]
     fn deq_change(&mut self, dequeue: &Dequeue, admitted: &AdmittedDequeue)
-        requires { IsAdmittedDequeue self.old dequeue.now admitted.now }
+        requires admitted { IsAdmittedDequeue self.old dequeue.now admitted.now }
+        requires childless { IsChildless self.old admitted.now }
         ensures change { plain_state self.new ≡ deq_change (plain_state self.old) dequeue.now }
         ensures others { OthersStay admitted.now.standing.res self.old.records self.new.records }
         ensures there { HasResource admitted.now.standing.res self.new.records }
@@ -56,8 +59,10 @@ impl Machine {
     // The checks in their order.
     #[tactic(auto, unfolding(vlm_words::specs::Dequeue::deq_refusal))]
     fn deq_refusal(&self, dequeue: &Dequeue) -> Result<AdmittedDequeue, Cond>
+        requires { IsBetweenSteps (plain_state self.now) }
         ensures refusal { result_err result ≡ deq_refusal (plain_state self.now) dequeue.now }
         ensures admitted { IfOk result (λ a. IsAdmittedDequeue self.now dequeue.now a) }
+        ensures childless { IfOk result (λ a. IsChildless self.now a) }
     {
         let caller = self.caller(dequeue.pid)?;
         let flags = checked_flags(dequeue)?;
@@ -69,6 +74,7 @@ impl Machine {
             withdrawal,
         };
         self.check_cancel(dequeue, &admitted)?;
+        self.check_sublocks(&admitted.standing, admitted.withdrawal.cancels)?;
         Ok(admitted)
     }
 
@@ -81,6 +87,24 @@ impl Machine {
         self.store.known();
         if admitted.withdrawal.cancels && admitted.standing.is_granted() {
             Err(Cond::Cancelgrant)
+        } else {
+            Ok(())
+        }
+    }
+
+    // SUBLOCKS where a lock that has sublocks is to be given up. A lock that waits has none.
+    #[tactic(auto, unfolding(vlm_words::specs::Dequeue::sublocks_refusal))]
+    fn check_sublocks(&self, standing: &Standing, cancels: bool) -> Result<(), Cond>
+        requires standing { IsStanding standing.now self.now.records }
+        requires between { IsBetweenSteps (plain_state self.now) }
+        ensures refusal { result_err result
+            ≡ sublocks_refusal (plain_state self.now) cancels standing.now.row.lkid }
+        ensures childless { OnOk result (goes cancels standing.now.queue ≡ true
+            → HasNoSublocks standing.now.lock self.now.records) }
+    {
+        self.store.known();
+        if !cancels && self.store.has_sublocks(standing.lock) {
+            Err(Cond::Sublocks)
         } else {
             Ok(())
         }

@@ -2,9 +2,9 @@
 
 ghost use Rattle.std.specs.Prelude.{◌≡◌, ◌<◌, ◌^◌, ◌+◌, ℕ, true, false, is_some, find, unwrap_or, [], if◌then◌else◌, IfOk, IfSome, OnErr, OnOk};
 ghost use Rattle.std.specs.Result.{result_err};
-ghost use Rattle.vlm_words.specs.declared.resources.Domain.{Domain};
+ghost use Rattle.vlm_words.specs.declared.resources.Site.{Site};
 ghost use Rattle.vlm_words.specs.Effects.{blocks_after, blocks_with};
-ghost use Rattle.vlm_words.specs.Enqueue.{enq_argument_refusal, enq_change, enq_refusal, expedite_refusal, is_at_once, is_no_parent, name_refusal};
+ghost use Rattle.vlm_words.specs.Enqueue.{enq_argument_refusal, enq_change, enq_form_refusal, enq_limit_refusal, enq_refusal, expedite_refusal, is_at_once, name_refusal};
 ghost use Rattle.vlm_words.specs.Resources.{is_at, new_resource};
 ghost use Rattle.vlm_words.specs.Flags.{flag_bits};
 ghost use Rattle.vlm_words.specs.Grants.{grant_endings};
@@ -14,16 +14,18 @@ ghost use Rattle.vlm_store.specs.Records.{FindsResource, HasResource, SameButBlo
 ghost use Rattle.vlm_service.specs.Plain.{plain_resources};
 ghost use Rattle.vlm_words.specs.Resources.{IsKeyed};
 ghost use Rattle.vlm_locks.specs.Rest.{IsAtRest, OthersStay};
-ghost use Rattle.vlm_core.specs.Admissions.{IsAdmitted, IsCaller};
+ghost use Rattle.vlm_core.specs.Admissions.{IsAdmitted, IsCaller, IsForm};
 ghost use Rattle.vlm_core.specs.Between.{IsBetweenSteps};
 ghost use Rattle.vlm_core.specs.Machine.{plain_state};
+ghost use Rattle.vlm_core.specs.Parents.{IsParent, lkid_of};
 
 use crate::checks::{acceptance, check_queue};
 use crate::flags::enq_flags;
-use crate::processes::{Caller, group_of};
+use crate::parents::{lkid_of, lock_of};
+use crate::processes::Caller;
 use crate::records::Machine;
 use std::alloc::AllocError;
-use vlm_locks::{Entry, enter, enters_at_once};
+use vlm_locks::{Entry, Standing, enter, enters_at_once};
 use vlm_procs::accept;
 use vlm_service::end_by_grant;
 use vlm_store::{ResAt, Store};
@@ -32,20 +34,30 @@ use vlm_words::flags::EnqFlags;
 use vlm_words::locks::{Request, Row};
 use vlm_words::modes::Mode;
 use vlm_words::names::{Name, NameArg};
-use vlm_words::resources::{Domain, Key};
-use vlm_words::steps::{Answer, NewRequest, Step, Which};
+use vlm_words::resources::{Key, Site};
+use vlm_words::steps::{Answer, NewRequest, Step};
 
 /// A new request that no check refuses.
 #[derive(Clone, Copy)]
 pub(crate) struct AdmittedRequest {
     caller: Caller,
-    // the domain of its resource, and where that stands
-    domain: Domain,
-    key: Key,
-    // where it is stored, if it is there
+    // the parent lock, if it has one
+    parent: Option<Standing>,
+    // where its resource stands
+    site: Site,
+    // where that is stored, if it is there
     res: Option<ResAt>,
     asked: Request,
     at_once: bool,
+}
+
+/// What a new request says of itself.
+#[derive(Clone, Copy)]
+pub(crate) struct Form {
+    flags: EnqFlags,
+    // the identification of its parent lock, 0 for none
+    parent: u32,
+    name: Name,
 }
 
 // Where the resource under a key is, if it is there, and whether a request is granted at once on it, or on a new
@@ -59,8 +71,9 @@ pub(crate) struct Found {
 fn entrance(store: &Store, key: &Key, asked: &Request) -> Found
     requires { IsAtRest store.now }
     ensures found { FindsResource store.now key.now result.res }
-    ensures at_once { (serial : ℕ) (domain : Domain) → IsKeyed domain key.now → result.at_once ≡ is_at_once asked.now
-        (unwrap_or (find (is_at key.now) (plain_resources store.now)) (new_resource serial domain key.now)) }
+    ensures at_once { (serial : ℕ) (site : Site) → site.key ≡ key.now → IsKeyed site.domain site.key
+        → result.at_once ≡ is_at_once asked.now
+        (unwrap_or (find (is_at site.key) (plain_resources store.now)) (new_resource serial site)) }
 {
     store.known();
     match store.resource(key) {
@@ -136,17 +149,58 @@ impl Machine {
     // The checks in their order.
     #[tactic(auto, unfolding(vlm_words::specs::Enqueue::enq_refusal))]
     fn enq_refusal(&self, request: &NewRequest) -> Result<AdmittedRequest, Cond>
+        requires { IsBetweenSteps (plain_state self.now) }
         ensures refusal { result_err result ≡ enq_refusal (plain_state self.now) request.now }
         ensures admitted { IfOk result (λ a. IsAdmitted self.now request.now a) }
     {
         let caller = self.caller(request.pid)?;
+        let form = self.checked_form(&caller, request)?;
+        let parent = self.check_site(&caller, form.flags, form.parent)?;
+        self.checked_limits(&caller, &form, &parent, request)
+    }
+
+    // What is wrong with the request itself.
+    #[tactic(auto, unfolding(vlm_words::specs::Enqueue::enq_form_refusal))]
+    fn checked_form(&self, caller: &Caller, request: &NewRequest) -> Result<Form, Cond>
+        requires caller { IsCaller caller.now self.now.records }
+        requires pid { caller.now.pid ≡ request.now.pid }
+        ensures refusal { result_err result ≡ enq_form_refusal (plain_state self.now) request.now }
+        ensures form { IfOk result (λ form. IsForm (plain_state self.now) request.now form) }
+    {
         let flags = checked_flags(request)?;
-        self.check_status_block(&caller, request.block)?;
+        self.check_status_block(caller, request.block)?;
+        let parent = self.named(caller, request.parent)?;
         let name = checked_name(&request.name)?;
         check_expedite(request.mode, flags)?;
+        Ok(Form {
+            flags,
+            parent,
+            name,
+        })
+    }
+
+    // What is used up, or in the way.
+    #[tactic(auto, unfolding(vlm_words::specs::Enqueue::enq_limit_refusal))]
+    fn checked_limits(
+        &self,
+        caller: &Caller,
+        form: &Form,
+        parent: &Option<Standing>,
+        request: &NewRequest,
+    ) -> Result<AdmittedRequest, Cond>
+        requires caller { IsCaller caller.now self.now.records }
+        requires pid { caller.now.pid ≡ request.now.pid }
+        requires form { IsForm (plain_state self.now) request.now form.now }
+        requires parent { IsParent caller.now.pid parent.now self.now.records }
+        requires named { lkid_of parent.now ≡ form.now.parent }
+        requires between { IsBetweenSteps (plain_state self.now) }
+        ensures refusal { result_err result ≡ enq_limit_refusal (plain_state self.now) request.now }
+        ensures admitted { IfOk result (λ a. IsAdmitted self.now request.now a) }
+    {
+        self.check_quota(caller)?;
         self.check_numbers()?;
-        let admitted = self.admitted(&caller, flags, name, request);
-        check_queue(flags, admitted.at_once)?;
+        let admitted = self.admitted(caller, form, parent, request);
+        check_queue(form.flags, admitted.at_once)?;
         Ok(admitted)
     }
 
@@ -154,26 +208,27 @@ impl Machine {
     fn admitted(
         &self,
         caller: &Caller,
-        flags: EnqFlags,
-        name: Name,
+        form: &Form,
+        parent: &Option<Standing>,
         request: &NewRequest,
     ) -> AdmittedRequest
         requires caller { IsCaller caller.now self.now.records }
         requires pid { caller.now.pid ≡ request.now.pid }
-        requires flags { flag_bits flags ≡ request.now.flags }
-        requires name { name ≡ request.now.name }
+        requires form { IsForm (plain_state self.now) request.now form.now }
+        requires parent { IsParent caller.now.pid parent.now self.now.records }
+        requires named { lkid_of parent.now ≡ form.now.parent }
+        requires between { IsBetweenSteps (plain_state self.now) }
         requires lkid { self.now.next_lkid < 2 ^ 32 }
         requires number { self.now.next_request < 2 ^ 64 }
         ensures { IsAdmitted self.now request.now result }
     {
-        let domain = Domain::Group(group_of(&self.store, caller));
-        let key = Key::Root(domain, name);
-        let asked = request_of(self.last_request + 1, flags, request);
-        let entrance = entrance(&self.store, &key, &asked);
+        let site = self.site_of(caller, form.flags, form.name, parent);
+        let asked = request_of(self.last_request + 1, form.flags, request);
+        let entrance = entrance(&self.store, &site.key, &asked);
         AdmittedRequest {
             caller: *caller,
-            domain,
-            key,
+            parent: *parent,
+            site,
             res: entrance.res,
             asked,
             at_once: entrance.at_once,
@@ -199,12 +254,18 @@ impl Machine {
         let lkid = self.last_lkid + 1;
         let serial = self.last_serial + 1;
         let last_serial = last_given(self.last_serial, admitted.res);
-        let row = row_of(lkid, request.pid, admitted.asked);
+        let row = row_of(
+            lkid,
+            request.pid,
+            lkid_of(&admitted.parent),
+            admitted.asked,
+        );
+        let parent = lock_of(&admitted.parent);
         let entry = Entry {
             row,
             owner: admitted.caller.at,
-            key: admitted.key,
-            domain: admitted.domain,
+            parent,
+            site: admitted.site,
             serial,
             res: admitted.res,
             at_once: admitted.at_once,
@@ -228,8 +289,7 @@ impl Machine {
     }
 }
 
-// The flags. BADPARAM where one of them is unknown, or a routine or a parent is given: these are not
-// built yet.
+// The flags. BADPARAM where one of them is unknown, or a routine is given: these are not built yet.
 #[tactic(auto, unfolding(vlm_words::specs::Enqueue::enq_argument_refusal))]
 fn checked_flags(request: &NewRequest) -> Result<EnqFlags, Cond>
     ensures refusal { result_err result ≡ enq_argument_refusal request.now }
@@ -238,19 +298,10 @@ fn checked_flags(request: &NewRequest) -> Result<EnqFlags, Cond>
     let Some(flags) = enq_flags(request.flags) else {
         return Err(Cond::Badparam);
     };
-    if request.ast.is_none() && request.bast.is_none() && is_no_parent(request.parent) {
+    if request.ast.is_none() && request.bast.is_none() {
         Ok(flags)
     } else {
         Err(Cond::Badparam)
-    }
-}
-
-fn is_no_parent(parent: Which) -> bool
-    ensures { result ≡ is_no_parent parent }
-{
-    match parent {
-        Which::Id(lkid) => lkid == 0,
-        Which::Block(_) => false,
     }
 }
 
@@ -297,11 +348,11 @@ fn request_of(number: u64, flags: EnqFlags, request: &NewRequest) -> Request
     }
 }
 
-fn row_of(lkid: u32, pid: u32, request: Request) -> Row
+fn row_of(lkid: u32, pid: u32, parent: u32, request: Request) -> Row
     ensures { result ≡ record {
       lkid = lkid;
       pid = pid;
-      parent = 0;
+      parent = parent;
       held = None;
       want = Some request;
       armed = false;
@@ -310,7 +361,7 @@ fn row_of(lkid: u32, pid: u32, request: Request) -> Row
     Row {
         lkid,
         pid,
-        parent: 0,
+        parent,
         held: None,
         want: Some(request),
         armed: false,

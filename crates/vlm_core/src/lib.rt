@@ -14,6 +14,7 @@ mod dequeuing;
 mod enqueuing;
 mod flags;
 mod nodes;
+mod parents;
 mod processes;
 mod public;
 mod readers;

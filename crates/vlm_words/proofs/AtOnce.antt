@@ -28,7 +28,7 @@ use Rattle.vlm_words.specs.Sweeps.{sweep_endings}
 use Rattle.vlm_words.specs.Rows.{is_lock_of, rows_of, rows_without}
 use Rattle.vlm_words.specs.Resources.{IsKeyed, is_at, is_domain, new_resource}
 use Rattle.vlm_words.specs.Checks.{holds_lock}
-use Rattle.vlm_words.specs.Trees.{caller_group, enq_site, parent_lkid, parent_resource, site_below}
+use Rattle.vlm_words.specs.Trees.{caller_group, enq_site, parent_lkid, parent_resource, root_domain, site_below}
 use Rattle.vlm_words.specs.Enqueue.{enq_at_once, enq_key, enq_refusal, enq_request, enq_resource, enq_row, is_at_once, is_free_for}
 use Rattle.vlm_words.specs.Convert.{ConversionAdmission, admission_among, admission_or, conversion_endings, convert_admission, convert_lkid, convert_request, converts_at_once, wanting_row}
 use Rattle.vlm_words.specs.Dequeue.{Withdrawal, queue_endings, withdrawal_endings, withdrawal_of}
@@ -114,7 +114,7 @@ no_zero n = elim (eqb_tells (suc n) 0) [ inl same ↦ absurd (omega (arith, same
 
 -- the resource of the parent lock, by its identification
 parent_by_lkid : (s : State) (e : NewRequest) (lkid : ℕ) → parent_lkid s e ≡ lkid
-    → parent_resource s e ≡ cond (lkid == 0) None (find (holds_lock e.pid lkid) s.resources)
+    → parent_resource s e.pid (parent_lkid s e) ≡ cond (lkid == 0) None (find (holds_lock e.pid lkid) s.resources)
 unfolding parent_resource
 parent_by_lkid s e lkid is = ap (λ (n : ℕ). cond (n == 0) None (find (holds_lock e.pid n) s.resources)) is
 
@@ -122,8 +122,8 @@ parent_by_lkid s e lkid is = ap (λ (n : ℕ). cond (n == 0) None (find (holds_l
 asked_at : (s : State) (e : NewRequest) (r : Resource) → Apart s → IsAskedFor s e r → is_at (enq_key s e) r ≡ true
 asked_at s e r apart asked = of_lkid (parent_lkid s e) refl asked.stands
   where
-    of_parent : (parent : Option Resource) → parent_resource s e ≡ parent → is_at (site_below s e parent).key r ≡ true → is_at (enq_key s e) r ≡ true
-    of_parent parent is at = subst (λ (p : Option Resource). is_at (site_below s e p).key r ≡ true) (sym is) at
+    of_parent : (parent : Option Resource) → parent_resource s e.pid (parent_lkid s e) ≡ parent → is_at (site_below (root_domain s e.pid e.flags) e.name parent).key r ≡ true → is_at (enq_key s e) r ≡ true
+    of_parent parent is at = subst (λ (p : Option Resource). is_at (site_below (root_domain s e.pid e.flags) e.name p).key r ≡ true) (sym is) at
 
     of_lkid : (lkid : ℕ) → parent_lkid s e ≡ lkid → StandsAsAskedFor s e asked.caller lkid r → is_at (enq_key s e) r ≡ true
     of_lkid zero is there =
@@ -135,7 +135,7 @@ asked_at s e r apart asked = of_lkid (parent_lkid s e) refl asked.stands
         only_holder asked.caller.pid (suc parent) (λ up. r.parent ≡ up.serial) s.resources (apart.one_row (suc parent)) there in
         let found : find (holds_lock e.pid (suc parent)) s.resources ≡ Some up.holder =
         ap (λ (pid : ℕ). find (holds_lock pid (suc parent)) s.resources) (sym (found_pid e.pid s.processes asked.caller asked.lives)) ∙ up.found in
-        let named : find (holds_lock e.pid (suc parent)) s.resources ≡ parent_resource s e =
+        let named : find (holds_lock e.pid (suc parent)) s.resources ≡ parent_resource s e.pid (parent_lkid s e) =
         sym (parent_by_lkid s e (suc parent) is ∙ cond-false (suc parent == 0) None (find (holds_lock e.pid (suc parent)) s.resources) (no_zero parent)) in
         of_parent (Some up.holder) (sym named ∙ found)
         (rw (eq-eqb r.parent up.holder.serial up.so) ((bytes_decides r.name e.name).1 asked.name))

@@ -25,7 +25,7 @@ use Rattle.vlm_words.specs.Sweeps.{blocks_after_service, is_vacant, resource_aft
 use Rattle.vlm_words.specs.Rows.{is_lock_of}
 use Rattle.vlm_words.specs.Resources.{IsKeyed, is_at, is_domain, key_name, key_parent, new_resource}
 use Rattle.vlm_words.specs.Checks.{holds_lock}
-use Rattle.vlm_words.specs.Trees.{enq_site, parent_lkid, parent_resource, site_below}
+use Rattle.vlm_words.specs.Trees.{enq_site, parent_lkid, parent_resource, root_domain, site_below}
 use Rattle.vlm_words.specs.Declare.{declare_change}
 use Rattle.vlm_words.specs.SetValue.{set_change}
 use Rattle.vlm_words.specs.Enqueue.{enq_change, enq_key, enq_request, enq_row, has_resource, is_at_once, resource_after_entry, resources_after_entry}
@@ -294,12 +294,12 @@ unfolding parent_resource
 enq_keyed s e placed = below (parent_lkid s e == 0)
   where
     of_parent : (parent : Option Resource) → find (holds_lock e.pid (parent_lkid s e)) s.resources ≡ parent
-        → IsKeyed (site_below s e parent).domain (site_below s e parent).key
+        → IsKeyed (site_below (root_domain s e.pid e.flags) e.name parent).domain (site_below (root_domain s e.pid e.flags) e.name parent).key
     of_parent None is = refl
     of_parent (Some parent) is = (of_found (WasGiven s.next_serial) (holds_lock e.pid (parent_lkid s e)) s.resources parent placed.given is).0
 
-    below : (none : Bool) → IsKeyed (site_below s e (cond none None (find (holds_lock e.pid (parent_lkid s e)) s.resources))).domain
-        (site_below s e (cond none None (find (holds_lock e.pid (parent_lkid s e)) s.resources))).key
+    below : (none : Bool) → IsKeyed (site_below (root_domain s e.pid e.flags) e.name (cond none None (find (holds_lock e.pid (parent_lkid s e)) s.resources))).domain
+        (site_below (root_domain s e.pid e.flags) e.name (cond none None (find (holds_lock e.pid (parent_lkid s e)) s.resources))).key
     below true = refl
     below false = of_parent (find (holds_lock e.pid (parent_lkid s e)) s.resources) refl
 

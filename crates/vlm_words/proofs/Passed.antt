@@ -12,7 +12,7 @@ use Rattle.vlm_words.specs.Modes.{rank}
 use Rattle.vlm_words.specs.Flags.{expedite, has_flag}
 use Rattle.vlm_words.specs.State.{State}
 use Rattle.vlm_words.specs.Checks.{caller_refusal, lock_refusal, or_else, queue_refusal, request_numbers_refusal, status_block_refusal, which_refusal}
-use Rattle.vlm_words.specs.Trees.{site_refusal}
+use Rattle.vlm_words.specs.Trees.{parent_lkid, site_refusal}
 use Rattle.vlm_words.specs.Enqueue.{enq_argument_refusal, enq_form_refusal, enq_limit_refusal, enq_refusal, expedite_refusal, name_refusal}
 use Rattle.vlm_words.specs.Convert.{ConversionAdmission, admission_refusal, convert_admission, convert_argument_refusal, convert_lkid, convert_refusal, pair_refusal}
 
@@ -45,8 +45,14 @@ second_fails : (a b : Bool) → (a && b) ≡ false → a ≡ true → b ≡ fals
 second_fails true b both first = both
 second_fails false b both first = cc
 
+-- where none of three checks refuses, each passes
+pub three_pass : (a b c : Option Cond) → or_else a (or_else b c) ≡ None → (a ≡ None) × (b ≡ None) × (c ≡ None)
+three_pass None None c passed = (refl, refl, passed)
+three_pass None (Some refusal) c passed = cc
+three_pass (Some refusal) b c passed = cc
+
 -- where none of four checks refuses, each passes
-pub four_pass : (a b c d : Option Cond) → or_else a (or_else b (or_else c d)) ≡ None → (a ≡ None) × (b ≡ None) × (c ≡ None) × (d ≡ None)
+four_pass : (a b c d : Option Cond) → or_else a (or_else b (or_else c d)) ≡ None → (a ≡ None) × (b ≡ None) × (c ≡ None) × (d ≡ None)
 four_pass None None None d passed = (refl, refl, refl, passed)
 four_pass None None (Some refusal) d passed = cc
 four_pass None (Some refusal) c d passed = cc
@@ -62,9 +68,9 @@ fifth_passes (Some refusal) b c d e passed = cc
 
 -- the four groups of checks of an accepted request pass
 pub enq_passes : (s : State) (e : NewRequest) → enq_refusal s e ≡ None
-    → (caller_refusal s e.pid ≡ None) × (enq_form_refusal s e ≡ None) × (site_refusal s e ≡ None) × (enq_limit_refusal s e ≡ None)
+    → (caller_refusal s e.pid ≡ None) × (enq_form_refusal s e ≡ None) × (site_refusal s e.pid e.flags (parent_lkid s e) ≡ None) × (enq_limit_refusal s e ≡ None)
 unfolding enq_refusal
-enq_passes s e passed = four_pass (caller_refusal s e.pid) (enq_form_refusal s e) (site_refusal s e) (enq_limit_refusal s e) passed
+enq_passes s e passed = four_pass (caller_refusal s e.pid) (enq_form_refusal s e) (site_refusal s e.pid e.flags (parent_lkid s e)) (enq_limit_refusal s e) passed
 
 -- where none of six checks refuses, the last passes
 pub sixth_passes : (a b c d e last : Option Cond) → or_else a (or_else b (or_else c (or_else d (or_else e last)))) ≡ None → last ≡ None

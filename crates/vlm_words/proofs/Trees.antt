@@ -27,8 +27,8 @@ use Rattle.vlm_words.specs.Sweeps.{blocks_after_service, is_vacant, resource_aft
 use Rattle.vlm_words.specs.Settled.{IsSettled}
 use Rattle.vlm_words.specs.Resources.{is_at, is_domain, key_parent, new_resource}
 use Rattle.vlm_words.specs.Rows.{is_lock_of}
-use Rattle.vlm_words.specs.Checks.{caller_refusal, holds_lock, lock_refusal, which_refusal}
-use Rattle.vlm_words.specs.Trees.{depth_refusal, enq_site, parent_lkid, parent_refusal, parent_resource, privilege_refusal, site_below, site_refusal, waiting_refusal}
+use Rattle.vlm_words.specs.Checks.{caller_refusal, holds_lock, lock_refusal, or_else, which_refusal}
+use Rattle.vlm_words.specs.Trees.{depth_refusal, enq_site, parent_lkid, parent_refusal, parent_resource, privilege_refusal, root_domain, site_below, site_refusal, waiting_refusal}
 use Rattle.vlm_words.specs.Enqueue.{enq_change, enq_key, enq_refusal, enq_request, enq_row, resource_after_entry, resources_after_entry}
 use Rattle.vlm_words.specs.Declare.{declare_change}
 use Rattle.vlm_words.specs.SetValue.{set_change}
@@ -39,7 +39,7 @@ use Rattle.vlm_words.specs.Laws.{HasItsLevel, HasItsParent, HoldsOn, IsSameResou
 use Rattle.vlm_words.proofs.Always.{always, kept_by_stepped}
 use Rattle.vlm_words.proofs.Each.{Any-here, Any-there, Any-weaker, each_map, each_weaker, found_at}
 use Rattle.vlm_words.proofs.Pairs.{EachPair}
-use Rattle.vlm_words.proofs.Passed.{enq_passes, four_pass, sixth_passes, test_fails, test_passes}
+use Rattle.vlm_words.proofs.Passed.{both_pass, enq_passes, three_pass, sixth_passes, test_fails, test_passes}
 use Rattle.vlm_words.proofs.EachResource.{each_entered_among, each_entered_at, each_swept}
 use Rattle.vlm_words.proofs.Settled.{settled_law}
 use Rattle.vlm_words.proofs.Keys.{KeepsPlace, Placed, Rises, WasGiven, conversion_keeps_place, enq_keyed, entry_keeps_place, is_domain-true, is_domain_refl, key_at, of_found, placed_always, service_keeps_place, withdrawal_keeps_place}
@@ -323,40 +323,43 @@ holds_mode pid lkid r stands waits =
 -- the parent of an accepted request: its lock holds a mode on it, and it is above the lowest level
 pub record HasParent (s : State) (e : NewRequest) (up : Resource) : Type 0 where
   pub named : (parent_lkid s e == 0) ≡ false
-  pub is : parent_resource s e ≡ Some up
+  pub is : parent_resource s e.pid (parent_lkid s e) ≡ Some up
   pub found : find (holds_lock e.pid (parent_lkid s e)) s.resources ≡ Some up
   pub holds : nat_lt 0 (held_by e.pid (parent_lkid s e) up) ≡ true
   pub level : up.level < 15
 
 -- an accepted request asks for a root, or has its parent
 pub parent_of : (s : State) (e : NewRequest) → enq_refusal s e ≡ None
-    → ((parent_lkid s e ≡ 0) × (parent_resource s e ≡ None)) ⊎ ((up : Resource) × HasParent s e up)
+    → ((parent_lkid s e ≡ 0) × (parent_resource s e.pid (parent_lkid s e) ≡ None)) ⊎ ((up : Resource) × HasParent s e up)
 unfolding site_refusal parent_refusal lock_refusal waiting_refusal depth_refusal parent_resource
 parent_of s e passed = of_test (parent_lkid s e == 0) refl
   where
-    lkid : ℕ
-    lkid = parent_lkid s e
-
-    passes : (parent_refusal s e ≡ None) × (waiting_refusal e.pid (parent_lkid s e) (parent_resource s e) ≡ None)
-        × (depth_refusal (parent_resource s e) ≡ None) × (privilege_refusal s e ≡ None)
+    passes : parent_refusal s e.pid (parent_lkid s e) ≡ None
     passes =
-        four_pass (parent_refusal s e) (waiting_refusal e.pid (parent_lkid s e) (parent_resource s e)) (depth_refusal (parent_resource s e))
-        (privilege_refusal s e) (enq_passes s e passed).2
+        (both_pass (parent_refusal s e.pid (parent_lkid s e)) (privilege_refusal s e.pid e.flags (parent_lkid s e)) (enq_passes s e passed).2).0
+
+    each_passes : (parent_lkid s e == 0) ≡ false → (lock_refusal s e.pid (parent_lkid s e) ≡ None)
+        × (waiting_refusal e.pid (parent_lkid s e) (parent_resource s e.pid (parent_lkid s e)) ≡ None)
+        × (depth_refusal (parent_resource s e.pid (parent_lkid s e)) ≡ None)
+    each_passes named =
+        three_pass (lock_refusal s e.pid (parent_lkid s e)) (waiting_refusal e.pid (parent_lkid s e) (parent_resource s e.pid (parent_lkid s e)))
+        (depth_refusal (parent_resource s e.pid (parent_lkid s e)))
+        (subst (λ (b : Bool). cond b None (or_else (lock_refusal s e.pid (parent_lkid s e))
+        (or_else (waiting_refusal e.pid (parent_lkid s e) (parent_resource s e.pid (parent_lkid s e))) (depth_refusal (parent_resource s e.pid (parent_lkid s e))))) ≡ None) named passes)
 
     of_test : (b : Bool) → (parent_lkid s e == 0) ≡ b
-        → ((parent_lkid s e ≡ 0) × (parent_resource s e ≡ None)) ⊎ ((up : Resource) × HasParent s e up)
+        → ((parent_lkid s e ≡ 0) × (parent_resource s e.pid (parent_lkid s e) ≡ None)) ⊎ ((up : Resource) × HasParent s e up)
     of_test true is = inl (eqb-true (parent_lkid s e) 0 is, rw is refl)
     of_test false is =
         let any : list_any (holds_lock e.pid (parent_lkid s e)) s.resources ≡ true =
-        test_passes (list_any (holds_lock e.pid (parent_lkid s e)) s.resources) Ivlockid
-        (subst (λ (b : Bool). cond b None (cond (list_any (holds_lock e.pid (parent_lkid s e)) s.resources) None (Some Ivlockid)) ≡ None) is passes.0) in
+        test_passes (list_any (holds_lock e.pid (parent_lkid s e)) s.resources) Ivlockid (each_passes is).0 in
         let there = any_found (holds_lock e.pid (parent_lkid s e)) s.resources any in
-        let parent : parent_resource s e ≡ Some there.0 = ap (λ (b : Bool). cond b None (find (holds_lock e.pid (parent_lkid s e)) s.resources)) is ∙ there.1 in
+        let parent : parent_resource s e.pid (parent_lkid s e) ≡ Some there.0 = ap (λ (b : Bool). cond b None (find (holds_lock e.pid (parent_lkid s e)) s.resources)) is ∙ there.1 in
         let waits : list_any (is_lock_of e.pid (parent_lkid s e)) there.0.waiting ≡ false =
         test_fails (list_any (is_lock_of e.pid (parent_lkid s e)) there.0.waiting) Parnotgrant
-        (subst (λ (up : Option Resource). waiting_refusal e.pid (parent_lkid s e) up ≡ None) parent passes.1) in
+        (subst (λ (up : Option Resource). waiting_refusal e.pid (parent_lkid s e) up ≡ None) parent (each_passes is).1) in
         let above : nat_lt there.0.level 15 ≡ true =
-        test_passes (nat_lt there.0.level 15) Exdepth (subst (λ (up : Option Resource). depth_refusal up ≡ None) parent passes.2) in
+        test_passes (nat_lt there.0.level 15) Exdepth (subst (λ (up : Option Resource). depth_refusal up ≡ None) parent (each_passes is).2) in
         inr (there.0, record {
           named = is;
           is = parent;
@@ -459,11 +462,11 @@ own_rooted s e passed placed occupied rooted new stays = elim (parent_of s e pas
     as_root : (r : Resource) → r.parent ≡ 0 → r.level ≡ 0 → parent_lkid s e ≡ 0 → is_rooted new (position r) (enq_row s e) ≡ true
     as_root r parent level none = rw (eq-eqb r.parent 0 parent, eq-eqb (parent_lkid s e) 0 none, eq-eqb r.level 0 level) refl
 
-    of_root : (parent_lkid s e ≡ 0) × (parent_resource s e ≡ None)
+    of_root : (parent_lkid s e ≡ 0) × (parent_resource s e.pid (parent_lkid s e) ≡ None)
         → (is_rooted new (position (new_resource s.next_serial (enq_site s e))) (enq_row s e) ≡ true)
         × AllByRecursion (λ r. is_at (enq_key s e) r ≡ true → is_rooted new (position r) (enq_row s e) ≡ true) s.resources
     of_root root =
-        let site : enq_site s e ≡ site_below s e None = ap (λ (up : Option Resource). site_below s e up) root.1 in (
+        let site : enq_site s e ≡ site_below (root_domain s e.pid e.flags) e.name None = ap (λ (up : Option Resource). site_below (root_domain s e.pid e.flags) e.name up) root.1 in (
           as_root (new_resource s.next_serial (enq_site s e)) (ap (λ (x : Site). key_parent x.key) site) (ap (λ (x : Site). x.level) site) root.0,
           each_at_key s.resources occupied rooted,
         )
@@ -474,7 +477,7 @@ own_rooted s e passed placed occupied rooted new stays = elim (parent_of s e pas
         each_at_key (r ∷ rest) busy each = (
           (λ at.
               let place = key_at (enq_site s e).domain (enq_key s e) r (enq_keyed s e placed) at in
-              let parent : r.parent ≡ 0 = place.0 ∙ ap (λ (up : Option Resource). key_parent (site_below s e up).key) root.1 in
+              let parent : r.parent ≡ 0 = place.0 ∙ ap (λ (up : Option Resource). key_parent (site_below (root_domain s e.pid e.flags) e.name up).key) root.1 in
               elim (stands_well s.resources r busy.0 each.0) [
                 | inl well ↦ as_root r parent well.1 root.0
                 | inr below ↦ (let no : true ≡ false = sym (eq-eqb r.parent 0 parent) ∙ below.0 in cc)
@@ -485,7 +488,7 @@ own_rooted s e passed placed occupied rooted new stays = elim (parent_of s e pas
     of_parent : (up : Resource) → HasParent s e up → (is_rooted new (position (new_resource s.next_serial (enq_site s e))) (enq_row s e) ≡ true)
         × AllByRecursion (λ r. is_at (enq_key s e) r ≡ true → is_rooted new (position r) (enq_row s e) ≡ true) s.resources
     of_parent up has =
-        let site : enq_site s e ≡ site_below s e (Some up) = ap (λ (x : Option Resource). site_below s e x) has.is in (
+        let site : enq_site s e ≡ site_below (root_domain s e.pid e.flags) e.name (Some up) = ap (λ (x : Option Resource). site_below (root_domain s e.pid e.flags) e.name x) has.is in (
           below_up (new_resource s.next_serial (enq_site s e)) (ap (λ (x : Site). key_parent x.key) site)
               (rw (ap (λ (x : Site). key_parent x.key) site, ap (λ (x : Site). x.domain) site, ap (λ (x : Site). x.level) site)
               (rw (eq-eqb up.serial up.serial refl, is_domain_refl up.domain, eq-eqb (up.level + 1) (up.level + 1) refl) refl)),
@@ -519,7 +522,7 @@ own_rooted s e passed placed occupied rooted new stays = elim (parent_of s e pas
         each_at_key (r ∷ rest) busy each = (
           (λ at.
               let place = key_at (enq_site s e).domain (enq_key s e) r (enq_keyed s e placed) at in
-              let parent : r.parent ≡ up.serial = place.0 ∙ ap (λ (x : Option Resource). key_parent (site_below s e x).key) has.is in
+              let parent : r.parent ≡ up.serial = place.0 ∙ ap (λ (x : Option Resource). key_parent (site_below (root_domain s e.pid e.flags) e.name x).key) has.is in
               elim (stands_well s.resources r busy.0 each.0) [
                 | inl well ↦ (let no : true ≡ false = sym (eq-eqb r.parent 0 well.0) ∙ ap (λ (n : ℕ). n == 0) parent ∙ not_root in cc)
                 | inr below ↦ below_up r parent (only_parent r parent below.1)
@@ -545,8 +548,8 @@ tree_swept s tree = record {
 level_fits : (s : State) (e : NewRequest) → enq_refusal s e ≡ None → (enq_site s e).level ≤ 15
 level_fits s e passed =
     elim (parent_of s e passed) [
-      | inl root ↦ omega (arith, ap (λ (up : Option Resource). (site_below s e up).level) root.1)
-      | inr below ↦ omega (arith, ap (λ (up : Option Resource). (site_below s e up).level) below.1.is, below.1.level)
+      | inl root ↦ omega (arith, ap (λ (up : Option Resource). (site_below (root_domain s e.pid e.flags) e.name up).level) root.1)
+      | inr below ↦ omega (arith, ap (λ (up : Option Resource). (site_below (root_domain s e.pid e.flags) e.name up).level) below.1.is, below.1.level)
     ]
 
 -- a new request keeps the tree

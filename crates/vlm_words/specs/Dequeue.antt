@@ -45,11 +45,9 @@ has_sublock_on lkid r =
     has_sublock lkid r.granted || has_sublock lkid r.converting || has_sublock lkid r.waiting
 
 -- a lock that has sublocks is not given up; a cancel gives up none that has
-unfoldable pub sublocks_refusal : State → Dequeue → Option Cond
-sublocks_refusal s d =
-    if not (has_flag d.flags cancel) && list_any (has_sublock_on (dequeue_lkid s d)) s.resources
-    then Some Sublocks
-    else None
+unfoldable pub sublocks_refusal : State → Bool → ℕ → Option Cond
+sublocks_refusal s cancels lkid =
+    if not cancels && list_any (has_sublock_on lkid) s.resources then Some Sublocks else None
 
 -- the checks of a dequeue, in their order
 unfoldable pub deq_refusal : State → Dequeue → Option Cond
@@ -58,7 +56,8 @@ deq_refusal s d =
     (or_else (deq_flags_refusal d)
     (or_else (which_refusal s d.pid d.lock)
     (or_else (lock_refusal s d.pid (dequeue_lkid s d))
-    (or_else (cancel_refusal s d) (sublocks_refusal s d)))))
+    (or_else (cancel_refusal s d)
+    (sublocks_refusal s (has_flag d.flags cancel) (dequeue_lkid s d))))))
 
 -- what is to become of a lock: it goes, or only its request is cancelled; and as it goes, a value for the
 -- value block may be given, and the value block may be marked invalid

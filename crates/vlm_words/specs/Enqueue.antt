@@ -129,7 +129,8 @@ enq_limit_refusal s e =
 unfoldable pub enq_refusal : State → NewRequest → Option Cond
 enq_refusal s e =
     or_else (caller_refusal s e.pid)
-    (or_else (enq_form_refusal s e) (or_else (site_refusal s e) (enq_limit_refusal s e)))
+    (or_else (enq_form_refusal s e)
+    (or_else (site_refusal s e.pid e.flags (parent_lkid s e)) (enq_limit_refusal s e)))
 
 -- the lock enters, its status block is written, and the numbers that it took are used up
 unfoldable pub enq_change : State → NewRequest → State

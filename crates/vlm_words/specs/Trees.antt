@@ -1,5 +1,5 @@
 -- Where the resource of a new request stands in the tree, and the checks of that.
-use Rattle.std.specs.Prelude.{ℕ, Bool, false, not, ◌&&◌, ◌==◌, ◌+◌, Option, None, Some, is_none, nat_lt, find, if◌then◌else◌}
+use Rattle.std.specs.Prelude.{ℕ, Bool, List, false, not, ◌&&◌, ◌==◌, ◌+◌, Option, None, Some, nat_lt, find, if◌then◌else◌}
 use Rattle.std.specs.Option.{option_map_or}
 use Rattle.std.specs.List.{list_any}
 use Rattle.vlm_words.specs.declared.conditions.Cond.TheVariants.{Exdepth, Nosyslck, Parnotgrant}
@@ -18,39 +18,31 @@ use Rattle.vlm_words.specs.Checks.{holds_lock, lock_refusal, named_lkid, or_else
 abbrev pub parent_lkid : State → NewRequest → ℕ
 parent_lkid s e = named_lkid s e.pid e.parent
 
--- the resource on which the parent lock stands, if one is named
-unfoldable pub parent_resource : State → NewRequest → Option Resource
-parent_resource s e =
-    if parent_lkid s e == 0 then None else find (holds_lock e.pid (parent_lkid s e)) s.resources
+-- the resource on which the lock of this identification stands, if it is named as a parent
+unfoldable pub parent_resource : State → ℕ → ℕ → Option Resource
+parent_resource s pid lkid = if lkid == 0 then None else find (holds_lock pid lkid) s.resources
 
 -- the UIC group of the caller
 abbrev pub caller_group : State → ℕ → ℕ
 caller_group s pid = option_map_or (λ p. p.group) (process_of s.processes pid) 0
 
 -- a root is in the system's domain where SYSTEM asks for that, else in its caller's group
-abbrev pub root_domain : State → NewRequest → Domain
-root_domain s e = if has_flag e.flags system then System else Group (caller_group s e.pid)
+abbrev pub root_domain : State → ℕ → ℕ → Domain
+root_domain s pid flags = if has_flag flags system then System else Group (caller_group s pid)
 
--- below a parent resource, in its domain and one level lower; else a root
-abbrev pub site_below : State → NewRequest → Option Resource → Site
-site_below s e None = record {
-  key = Root (root_domain s e) e.name;
-  domain = root_domain s e;
-  level = 0;
-}
-site_below s e (Some parent) = record {
-  key = Below parent.serial e.name;
+-- below a parent resource, in its domain and one level lower; else a root in this domain
+abbrev pub site_below : Domain → List ℕ → Option Resource → Site
+site_below domain name None = record { key = Root domain name; domain = domain; level = 0 }
+site_below domain name (Some parent) = record {
+  key = Below parent.serial name;
   domain = parent.domain;
   level = parent.level + 1;
 }
 
 -- where the resource of the request stands
 abbrev pub enq_site : State → NewRequest → Site
-enq_site s e = site_below s e (parent_resource s e)
-
--- a parent is named that is no lock of the caller
-unfoldable pub parent_refusal : State → NewRequest → Option Cond
-parent_refusal s e = if parent_lkid s e == 0 then None else lock_refusal s e.pid (parent_lkid s e)
+enq_site s e =
+    site_below (root_domain s e.pid e.flags) e.name (parent_resource s e.pid (parent_lkid s e))
 
 -- the parent lock waits; one that converts counts as granted
 unfoldable pub waiting_refusal : ℕ → ℕ → Option Resource → Option Cond
@@ -63,20 +55,24 @@ unfoldable pub depth_refusal : Option Resource → Option Cond
 depth_refusal None = None
 depth_refusal (Some parent) = if nat_lt parent.level 15 then None else Some Exdepth
 
+-- a parent is named that is no lock of the caller, that waits, or that stands on the lowest level
+unfoldable pub parent_refusal : State → ℕ → ℕ → Option Cond
+parent_refusal s pid lkid =
+    if lkid == 0 then None
+    else or_else (lock_refusal s pid lkid)
+    (or_else (waiting_refusal pid lkid (parent_resource s pid lkid))
+    (depth_refusal (parent_resource s pid lkid)))
+
 -- the process has the privilege SYSLCK
 abbrev pub has_syslck : State → ℕ → Bool
 has_syslck s pid = option_map_or (λ p. p.syslck) (process_of s.processes pid) false
 
--- a root is to be in the system's domain, and its caller has not the privilege
-unfoldable pub privilege_refusal : State → NewRequest → Option Cond
-privilege_refusal s e =
-    if is_none (parent_resource s e) && has_flag e.flags system && not (has_syslck s e.pid)
-    then Some Nosyslck
-    else None
+-- SYSTEM asks for a root in the system's domain, and its caller has not the privilege
+unfoldable pub privilege_refusal : State → ℕ → ℕ → ℕ → Option Cond
+privilege_refusal s pid flags parent =
+    if (parent == 0) && has_flag flags system && not (has_syslck s pid) then Some Nosyslck else None
 
--- why the resource of the request cannot stand where it is asked for
-unfoldable pub site_refusal : State → NewRequest → Option Cond
-site_refusal s e =
-    or_else (parent_refusal s e)
-    (or_else (waiting_refusal e.pid (parent_lkid s e) (parent_resource s e))
-    (or_else (depth_refusal (parent_resource s e)) (privilege_refusal s e)))
+-- why the resource of a request with these flags cannot stand below the lock, or, where 0 is named, as a root
+unfoldable pub site_refusal : State → ℕ → ℕ → ℕ → Option Cond
+site_refusal s pid flags parent =
+    or_else (parent_refusal s pid parent) (privilege_refusal s pid flags parent)

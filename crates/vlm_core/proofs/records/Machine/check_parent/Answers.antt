@@ -1,0 +1,23 @@
+use Rattle.std.proofs.Common.{◌≡◌, sym, ap, ◌∙◌}
+use Rattle.vlm_words.specs.declared.resources.Queue.TheVariants.{Granted, Conversion, Waiting}
+use Rattle.vlm_core.proofs.Siting.{refused_depth, refused_waiting}
+use Rattle.vlm_core.proofs.records.Machine.check_parent.Goals as goal
+
+pub returns-in-Waiting : goal.returns-in-Waiting
+returns-in-Waiting c =
+    record { refusal = λ r found. refused_waiting c.args.self.now.records (rw (← c.self.view_is) c.known.ensures) c.args.parent.now c.requires r found c.in-Waiting.is }
+
+-- a lock that holds a mode may be a parent
+pub returns-in-Granted : goal.returns-in-Granted
+returns-in-Granted c = record {
+  refusal = λ r found.
+      c.check_depth.ensures r found
+      ∙ refused_depth c.args.self.now.records (rw (← c.self.view_is) c.known.ensures) c.args.parent.now c.requires r found (λ waits. let no : Granted ≡ Waiting = sym c.in-Granted.is ∙ waits in cc);
+}
+
+pub returns-in-Conversion : goal.returns-in-Conversion
+returns-in-Conversion c = record {
+  refusal = λ r found.
+      c.check_depth-in-Conversion.ensures r found
+      ∙ refused_depth c.args.self.now.records (rw (← c.self.view_is) c.known.ensures) c.args.parent.now c.requires r found (λ waits. let no : Conversion ≡ Waiting = sym c.in-Conversion.is ∙ waits in cc);
+}
