@@ -16,6 +16,10 @@ noqueue = 2
 abbrev pub syncsts : ℕ
 syncsts = 4
 
+-- a root is in the system's domain, which takes a privilege
+abbrev pub system : ℕ
+system = 8
+
 -- a new request at NL is granted at once, whatever is queued
 abbrev pub expedite : ℕ
 expedite = 16
@@ -26,7 +30,7 @@ quecvt = 32
 
 -- the bits of new requests and conversions that are built
 abbrev pub enq_bits : ℕ
-enq_bits = valblk + noqueue + syncsts + expedite + quecvt
+enq_bits = valblk + noqueue + syncsts + system + expedite + quecvt
 
 -- a request is cancelled
 abbrev pub cancel : ℕ

@@ -1,7 +1,7 @@
 //! The flags of requests and dequeues, as far as they are built.
 
 ghost use Rattle.std.specs.Prelude.{◌≡◌, ⊤, [], ◌∷◌, codes};
-ghost use Rattle.vlm_words.specs.Flags.{cancel, deq_flag_bits, expedite, flag_bits, has_flag, invvalblk, noqueue, quecvt, syncsts, valblk};
+ghost use Rattle.vlm_words.specs.Flags.{cancel, deq_flag_bits, expedite, flag_bits, has_flag, invvalblk, noqueue, quecvt, syncsts, system, valblk};
 
 use bitflags::{Flag, Flags, bitflag_items};
 
@@ -18,6 +18,8 @@ bitflag_items! {
         const NOQUEUE = 2;
         /// A request that is granted at once answers SYNCH.
         const SYNCSTS = 4;
+        /// A root is in the system's domain and not in its caller's group. That takes SYSLCK.
+        const SYSTEM = 8;
         /// A new request at NL is granted at once, whatever is queued.
         const EXPEDITE = 16;
         /// A conversion is granted at once only where none is queued.
@@ -30,7 +32,7 @@ impl Flags for EnqFlags {
 
     ghost exact = { ⊤ };
 
-    ghost table = { (codes "VALBLK", valblk) ∷ (codes "NOQUEUE", noqueue) ∷ (codes "SYNCSTS", syncsts) ∷ (codes "EXPEDITE", expedite) ∷ (codes "QUECVT", quecvt) ∷ [] };
+    ghost table = { (codes "VALBLK", valblk) ∷ (codes "NOQUEUE", noqueue) ∷ (codes "SYNCSTS", syncsts) ∷ (codes "SYSTEM", system) ∷ (codes "EXPEDITE", expedite) ∷ (codes "QUECVT", quecvt) ∷ [] };
 
     ghost set_of = { λ f. f.0 };
 
