@@ -30,13 +30,13 @@ const PLAY_ABOUT: &str =
 const PLAY_HELP: &str = "\
 Commands of a script, one a line:
   declare NAME node=N group=N quota=N blocks=N [syslck]
-  enq NAME MODE name=RES block=N [flags]
+  enq NAME MODE name=RES block=N [parent=LOCK] [flags]
   cvt NAME LOCK MODE block=N [flags]
   deq NAME LOCK [value=HEX] [cancel] [invvalblk]
   set NAME block=N value=HEX
   block NAME N
   show
-The flags are valblk, noqueue, syncsts, expedite and quecvt.
+The flags are valblk, noqueue, syncsts, system, expedite and quecvt.
 A LOCK is its number, or @N for the lock in status block N.
 
 Example:

@@ -19,6 +19,8 @@ pub(crate) fn enq_flag(word: &[u8]) -> Option<u16>
         Some(EnqFlags::NOQUEUE.bits())
     } else if is_text(word, b"syncsts") {
         Some(EnqFlags::SYNCSTS.bits())
+    } else if is_text(word, b"system") {
+        Some(EnqFlags::SYSTEM.bits())
     } else if is_text(word, b"expedite") {
         Some(EnqFlags::EXPEDITE.bits())
     } else if is_text(word, b"quecvt") {

@@ -1,15 +1,16 @@
 //! The keyed words and flags behind the places of a line.
 
 ghost use Rattle.std.specs.Prelude.{◌≡◌};
-ghost use Rattle.vlm_words.specs.Lines.{number_once, resource_once, value_once, declare_word, declare_words, no_declare_words, enq_word, enq_words, no_enq_words, cvt_word, cvt_words, no_cvt_words, deq_word, deq_words, no_deq_words, set_word, set_words, no_set_words, words_of};
+ghost use Rattle.vlm_words.specs.Lines.{number_once, resource_once, value_once, lock_once, declare_word, declare_words, no_declare_words, enq_word, enq_words, no_enq_words, cvt_word, cvt_words, no_cvt_words, deq_word, deq_words, no_deq_words, set_word, set_words, no_set_words, words_of};
 
 use crate::cuts::next_word;
 use crate::flags::{deq_flag, enq_flag, flag_once};
-use crate::numbers;
 use crate::values::value_of;
 use crate::words::{behind_key, is_text};
+use crate::{locks, numbers};
 use vlm_words::names::NameArg;
 use vlm_words::scripts::{CvtWords, DeclareWords, DeqWords, EnqWords, LineFault, SetWords};
+use vlm_words::steps::Which;
 
 /// The keyed words of a declare line, in any order.
 pub(crate) fn declare_words(line: &[u8]) -> Result<DeclareWords, LineFault>
@@ -64,6 +65,7 @@ pub(crate) fn enq_words(line: &[u8]) -> Result<EnqWords, LineFault>
     let mut words = EnqWords {
         resource: None,
         block: None,
+        parent: None,
         flags: 0,
     };
     let mut rest = line;
@@ -85,6 +87,9 @@ fn enq_word(words: EnqWords, word: &[u8]) -> Result<EnqWords, LineFault>
     } else if let Some(digits) = behind_key(b"block=", word) {
         let block = byte_once(words.block, digits)?;
         Ok(EnqWords { block, ..words })
+    } else if let Some(lock) = behind_key(b"parent=", word) {
+        let parent = lock_once(words.parent, lock)?;
+        Ok(EnqWords { parent, ..words })
     } else {
         let flags = flag_once(words.flags, enq_flag(word))?;
         Ok(EnqWords { flags, ..words })
@@ -228,4 +233,16 @@ fn value_once(earlier: Option<[u8; 16]>, digits: &[u8]) -> Result<Option<[u8; 16
     }
     let value = value_of(digits)?;
     Ok(Some(value))
+}
+
+/// A lock, which is given once.
+#[tactic(auto, unfolding(vlm_words::specs::Lines::lock_once))]
+fn lock_once(earlier: Option<Which>, word: &[u8]) -> Result<Option<Which>, LineFault>
+    ensures { result ≡ lock_once earlier word.now }
+{
+    if earlier.is_some() {
+        return Err(LineFault::WrongWord);
+    }
+    let lock = locks::lock(word)?;
+    Ok(Some(lock))
 }

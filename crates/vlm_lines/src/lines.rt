@@ -11,7 +11,7 @@ use crate::words::{behind_key, is_text, mode, process_name};
 use vlm_words::scripts::{
     BlockLine, CvtLine, DeclareWords, DeqLine, EnqLine, Line, LineFault, SetLine,
 };
-use vlm_words::steps::Declaration;
+use vlm_words::steps::{Declaration, Which};
 
 /// The longest line, in bytes.
 const LONGEST: usize = 255;
@@ -101,7 +101,7 @@ fn declaration_of(words: DeclareWords) -> Result<Declaration, LineFault>
     })
 }
 
-/// The words of an enq line: NAME MODE name=RES block=N and flags.
+/// The words of an enq line: NAME MODE name=RES block=N [parent=LOCK] and flags.
 #[tactic(auto, unfolding(vlm_words::specs::Lines::enq_line))]
 fn enq_line(line: &[u8]) -> Result<Line, LineFault>
     ensures { result ≡ enq_line (words_of line.now) }
@@ -118,6 +118,7 @@ fn enq_line(line: &[u8]) -> Result<Line, LineFault>
         mode,
         resource,
         block,
+        parent: words.parent.unwrap_or(Which::Id(0)),
         flags: words.flags,
     }))
 }

@@ -16,7 +16,7 @@ use vlm_lines::read_line;
 use vlm_words::scripts::{
     BlockLine, CvtLine, DeqLine, EnqLine, Line, LineFault, ProcessName, SetLine,
 };
-use vlm_words::steps::{Answer, Conversion, Declaration, Dequeue, NewRequest, ValueSetting, Which};
+use vlm_words::steps::{Answer, Conversion, Declaration, Dequeue, NewRequest, ValueSetting};
 
 /// The machine, and the names that are bound to its processes.
 #[derive(Drop)]
@@ -210,7 +210,7 @@ fn request_made(pid: u32, line: &EnqLine) -> NewRequest
         mode: line.mode,
         name: line.resource,
         block: line.block,
-        parent: Which::Id(0),
+        parent: line.parent,
         flags: line.flags,
         ast: None,
         bast: None,

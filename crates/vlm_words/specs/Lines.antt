@@ -1,5 +1,5 @@
 -- The lines and words of a script.
-use Rattle.std.specs.Prelude.{ℕ, Bool, true, false, not, ◌&&◌, ◌||◌, ◌==◌, ◌+◌, ◌-◌, ◌*◌, nat_le, List, [], ◌∷◌, filter, take, drop, length, codes, fold, Option, None, Some, Result, Ok, Err, if◌then◌else◌}
+use Rattle.std.specs.Prelude.{ℕ, Bool, true, false, not, ◌&&◌, ◌||◌, ◌==◌, ◌+◌, ◌-◌, ◌*◌, nat_le, List, [], ◌∷◌, filter, take, drop, length, codes, fold, Option, None, Some, Result, Ok, Err, unwrap_or, if◌then◌else◌}
 use Rattle.std.specs.List.{list_all, starts_with}
 use Rattle.std.specs.Cmp.Lexicographic.{pointwise}
 use Rattle.std.specs.Char.{is_ascii_digit, is_ascii_alphabetic, is_ascii_alphanumeric, is_ascii_hexdigit}
@@ -18,7 +18,7 @@ use Rattle.vlm_words.specs.declared.scripts.Line.{Line}
 use Rattle.vlm_words.specs.declared.scripts.Line.TheVariants.{Empty, Declare, Enq, Cvt, Deq, Set, Block as block_words, Show}
 use Rattle.vlm_words.specs.declared.scripts.LineFault.{LineFault}
 use Rattle.vlm_words.specs.declared.scripts.LineFault.TheVariants.{TooLong, UnknownCommand, WrongWord, NumberOutOfRange}
-use Rattle.vlm_words.specs.Flags.{cancel, expedite, has_flag, invvalblk, noqueue, quecvt, syncsts, valblk}
+use Rattle.vlm_words.specs.Flags.{cancel, expedite, has_flag, invvalblk, noqueue, quecvt, syncsts, system, valblk}
 
 -- the byte goes to the front of the first piece
 abbrev pub onto : ℕ → List (List ℕ) → List (List ℕ)
@@ -140,6 +140,17 @@ unfoldable pub value_once : Option (List ℕ) → List ℕ → Result (Option (L
 value_once None digits = value_of digits >>= λ value. Ok (Some value)
 value_once (Some earlier) digits = Err WrongWord
 
+-- a lock: `@N` is the one whose identification stands in status block N, a number is its identification
+unfoldable pub lock_named : List ℕ → Result Which LineFault
+lock_named word =
+    if has_key (codes "@") word then number_within 255 (behind (codes "@") word) >>= (λ n. Ok (Block n))
+    else number_within 4294967295 word >>= (λ lkid. Ok (Id lkid))
+
+-- a lock behind a key, which is given once
+unfoldable pub lock_once : Option Which → List ℕ → Result (Option Which) LineFault
+lock_once None word = lock_named word >>= λ lock. Ok (Some lock)
+lock_once (Some earlier) word = Err WrongWord
+
 -- nothing of a declare line's keyed words is read yet
 abbrev pub no_declare_words : DeclareWords
 no_declare_words = record { node = None; group = None; quota = None; blocks = None; syslck = false }
@@ -202,6 +213,7 @@ enq_flag word =
     if is_text word (codes "valblk") then Some valblk
     else if is_text word (codes "noqueue") then Some noqueue
     else if is_text word (codes "syncsts") then Some syncsts
+    else if is_text word (codes "system") then Some system
     else if is_text word (codes "expedite") then Some expedite
     else if is_text word (codes "quecvt") then Some quecvt
     else None
@@ -220,7 +232,7 @@ flag_once flags (Some flag) = if has_flag flags flag then Err WrongWord else Ok 
 
 -- nothing of an enq line's keyed words is read yet
 abbrev pub no_enq_words : EnqWords
-no_enq_words = record { resource = None; block = None; flags = 0 }
+no_enq_words = record { resource = None; block = None; parent = None; flags = 0 }
 
 -- one more keyed word or flag of an enq line
 unfoldable pub enq_word : EnqWords → List ℕ → Result EnqWords LineFault
@@ -229,6 +241,8 @@ enq_word e word =
     resource_once e.resource (behind (codes "name=") word) >>= (λ r. Ok (record e { resource = r }))
     else if has_key (codes "block=") word then
     number_once e.block 255 (behind (codes "block=") word) >>= (λ n. Ok (record e { block = n }))
+    else if has_key (codes "parent=") word then
+    lock_once e.parent (behind (codes "parent=") word) >>= (λ lock. Ok (record e { parent = lock }))
     else flag_once e.flags (enq_flag word) >>= (λ flags. Ok (record e { flags = flags }))
 
 -- the keyed words and flags of an enq line, in any order
@@ -236,7 +250,11 @@ abbrev pub enq_words : EnqWords → List (List ℕ) → Result EnqWords LineFaul
 enq_words e [] = Ok e
 enq_words e (word ∷ words) = enq_word e word >>= λ f. enq_words f words
 
--- enq NAME MODE name=RES block=N [flags]
+-- without the word the identification 0 names no parent
+abbrev pub parent_of : EnqWords → Which
+parent_of e = unwrap_or e.parent (Id 0)
+
+-- enq NAME MODE name=RES block=N [parent=LOCK] [flags]
 unfoldable pub enq_line : List (List ℕ) → Result Line LineFault
 enq_line words =
     next_word words >>= λ first.
@@ -246,7 +264,14 @@ enq_line words =
     enq_words no_enq_words second.1 >>= λ e.
     given e.resource >>= λ resource.
     given e.block >>= λ block.
-    Ok (Enq (record { name = name; mode = mode; resource = resource; block = block; flags = e.flags }))
+    Ok (Enq (record {
+      name = name;
+      mode = mode;
+      resource = resource;
+      block = block;
+      parent = parent_of e;
+      flags = e.flags;
+    }))
 
 -- nothing of a cvt line's keyed words is read yet
 abbrev pub no_cvt_words : CvtWords
@@ -263,12 +288,6 @@ cvt_word c word =
 abbrev pub cvt_words : CvtWords → List (List ℕ) → Result CvtWords LineFault
 cvt_words c [] = Ok c
 cvt_words c (word ∷ words) = cvt_word c word >>= λ d. cvt_words d words
-
--- a lock: `@N` is the one whose identification stands in status block N, a number is its identification
-unfoldable pub lock_named : List ℕ → Result Which LineFault
-lock_named word =
-    if has_key (codes "@") word then number_within 255 (behind (codes "@") word) >>= (λ n. Ok (Block n))
-    else number_within 4294967295 word >>= (λ lkid. Ok (Id lkid))
 
 -- cvt NAME LOCK MODE block=N [flags]
 unfoldable pub cvt_line : List (List ℕ) → Result Line LineFault

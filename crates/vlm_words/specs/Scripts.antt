@@ -18,7 +18,6 @@ use Rattle.vlm_words.specs.declared.steps.NewRequest.{NewRequest}
 use Rattle.vlm_words.specs.declared.steps.Step.TheVariants.{Declare as declare_step, SetValue as set_step, Enq as enq_step, Convert as convert_step, Deq as deq_step}
 use Rattle.vlm_words.specs.declared.steps.Step.{Step}
 use Rattle.vlm_words.specs.declared.steps.ValueSetting.{ValueSetting}
-use Rattle.vlm_words.specs.declared.steps.Which.TheVariants.{Id}
 use Rattle.vlm_words.specs.State.{State, start}
 use Rattle.vlm_words.specs.StatusBlocks.{status_block_at}
 use Rattle.vlm_words.specs.Stepped.{Outcome}
@@ -69,7 +68,7 @@ request_made pid line = record {
   mode = line.mode;
   name = line.resource;
   block = line.block;
-  parent = Id 0;
+  parent = line.parent;
   flags = line.flags;
   ast = None;
   bast = None;

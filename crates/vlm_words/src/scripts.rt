@@ -33,6 +33,8 @@ pub struct EnqWords {
     pub resource: Option<NameArg>,
     /// The number of the status block.
     pub block: Option<u8>,
+    /// The lock of the parent resource.
+    pub parent: Option<Which>,
     /// The bits of the flags.
     pub flags: u16,
 }
@@ -75,6 +77,8 @@ pub struct EnqLine {
     pub resource: NameArg,
     /// The number of the status block.
     pub block: u8,
+    /// The lock of the parent resource; the identification 0 for none.
+    pub parent: Which,
     /// The bits of the flags.
     pub flags: u16,
 }
