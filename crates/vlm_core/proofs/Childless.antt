@@ -1,13 +1,15 @@
 -- Locks without sublocks, in the records and in the plain machine.
-use Rattle.std.proofs.Common.{◌≡◌, ◌≢◌, ℕ, Bool, true, false, ◌||◌, List, [], ◌∷◌, ◌++◌, map, Option, None, Some, refl, sym, ap, ◌∙◌, subst, inl, inr, eq-eqb, ne_eqb, arith}
+use Rattle.std.proofs.Common.{◌≡◌, ◌≢◌, ℕ, Bool, true, false, not, ◌||◌, ◌&&◌, cond, List, [], ◌∷◌, ◌++◌, map, Option, None, Some, refl, sym, ap, ◌∙◌, subst, inl, inr, eq-eqb, ne_eqb, arith}
 use Rattle.std.specs.Prelude.{◌==◌, All, Any}
 use Rattle.std.specs.List.{AllByRecursion, list_any, sum_by}
 use Rattle.std.specs.Option.{option_map_or}
 use Rattle.std.proofs.lemmas.List.Elements.{recursion_from_All}
+use Rattle.vlm_words.specs.declared.conditions.Cond.TheVariants.{Sublocks}
+use Rattle.vlm_words.specs.declared.conditions.Cond.{Cond}
 use Rattle.vlm_words.specs.declared.locks.Row.{Row}
 use Rattle.vlm_words.specs.declared.resources.Queue.{Queue}
 use Rattle.vlm_words.specs.declared.resources.Queue.TheVariants.{Granted, Conversion, Waiting}
-use Rattle.vlm_words.specs.Dequeue.{has_sublock, has_sublock_on}
+use Rattle.vlm_words.specs.Dequeue.{has_sublock, has_sublock_on, sublocks_refusal}
 use Rattle.vlm_words.specs.Laws.{HasItsParent, HoldsOn, ParentsOutliveTheirSublocks, rows_on}
 use Rattle.vlm_words.specs.State.{Resource}
 use Rattle.vlm_words.proofs.Each.{Any-cases, Any-none, each_weaker}
@@ -18,7 +20,9 @@ use Rattle.vlm_store.specs.Records.{HasNoSublocks, IsAmong, IsOwnAmong, IsProces
 use Rattle.vlm_service.specs.Plain.{plain_resource, plain_resources}
 use Rattle.vlm_locks.specs.declared.finding.Standing.{Standing}
 use Rattle.vlm_locks.specs.Standing.{IsStanding}
+use Rattle.vlm_locks.specs.Withdrawing.{goes}
 use Rattle.vlm_locks.proofs.Stood.{one_lock, queue_is, queued_stored, resource_among, stands, stored}
+use Rattle.vlm_core.specs.Machine.{Kept, plain_state}
 use Rattle.vlm_core.proofs.Siting.{each_resource}
 use Rattle.vlm_core.proofs.ToCome.{counted_all, counted_on}
 
@@ -101,8 +105,9 @@ module _ (s : Records) (sound : IsSound s) (none_loose : s.loose ≡ []) (f : St
           → list_any (has_sublock_on f.row.lkid) (map plain_resource rs) ≡ false
       of_list [] within = refl
       of_list (r ∷ rest) within =
-          ap (λ b. b || list_any (has_sublock_on f.row.lkid) (map plain_resource rest))
-          (rw (none_on r (within r (inl refl)) Granted, none_on r (within r (inl refl)) Conversion, none_on r (within r (inl refl)) Waiting) refl)
+          let here : has_sublock_on f.row.lkid (plain_resource r) ≡ false =
+          rw (none_on r (within r (inl refl)) Granted, none_on r (within r (inl refl)) Conversion, none_on r (within r (inl refl)) Waiting) refl in
+          ap (λ b. b || list_any (has_sublock_on f.row.lkid) (map plain_resource rest)) here
           ∙ of_list rest (λ x there. within x (inr there))
 
   -- a sublock in the list of the lock is a stored lock whose row names it
@@ -242,3 +247,33 @@ by_recursion resources all =
     (λ r. AllByRecursion (HasItsParent resources r) (r.granted ++ r.converting ++ r.waiting))
     (λ r each. recursion_from_All (HasItsParent resources r) (r.granted ++ r.converting ++ r.waiting) each) resources
     (recursion_from_All (λ r. All (HasItsParent resources r) (r.granted ++ r.converting ++ r.waiting)) resources all)
+
+-- ---- the check of a dequeue
+
+module _ (m : Kept) (sound : IsSound m.records) (none_loose : m.records.loose ≡ []) (f : Standing) (standing : IsStanding f m.records) (cancels : Bool) where
+  -- a lock with sublocks is not given up
+  pub sublocks_refused : cancels ≡ false → ¬ HasNoSublocks f.lock m.records → Some Sublocks ≡ sublocks_refusal (plain_state m) cancels f.row.lkid
+  unfolding sublocks_refusal
+  sublocks_refused plain has = rw (plain, some_in_rows m.records sound none_loose f standing has) refl
+
+  -- one without is
+  pub sublocks_pass : sum_by (rows_on 0) (plain_resources m.records) ≡ 0 → HasNoSublocks f.lock m.records
+      → None ≡ sublocks_refusal (plain_state m) cancels f.row.lkid
+  unfolding sublocks_refusal
+  sublocks_pass no_lkid_0 childless =
+      rw (none_in_rows m.records sound none_loose f standing (not_zero m.records sound none_loose f standing no_lkid_0) childless) (of_flag cancels)
+    where
+      of_flag : (b : Bool) → None ≡ cond (not b && false) (Some Sublocks) None
+      of_flag true = refl
+      of_flag false = refl
+
+  -- a cancel asks nothing of them
+  pub cancel_passes_sublocks : cancels ≡ true → None ≡ sublocks_refusal (plain_state m) cancels f.row.lkid
+  unfolding sublocks_refusal
+  cancel_passes_sublocks is = rw is refl
+
+-- a cancel takes a lock only where it waits
+pub goes_waiting : (queue : Queue) → goes true queue ≡ true → queue ≡ Waiting
+goes_waiting Granted is = cc
+goes_waiting Conversion is = cc
+goes_waiting Waiting is = refl

@@ -1,5 +1,5 @@
 -- The parent lock of a request, as it stands in the records and in the plain machine.
-use Rattle.std.proofs.Common.{◌≡◌, ◌≢◌, ◌<◌, ◌≤◌, ℕ, Bool, true, false, ◌||◌, cond, List, [], ◌∷◌, map, find, Option, None, Some, IfSome, refl, sym, ap, ◌∙◌, subst, inl, inr, eq-eqb, ne_eqb, arith}
+use Rattle.std.proofs.Common.{◌≡◌, ◌≢◌, ◌<◌, ◌≤◌, ◌+◌, ℕ, Bool, true, false, ◌||◌, cond, List, [], ◌∷◌, map, find, Option, None, Some, IfSome, refl, sym, ap, ◌∙◌, subst, inl, inr, eq-eqb, ne_eqb, arith}
 use Rattle.std.specs.Prelude.{◌==◌, All, nat_lt}
 use Rattle.std.specs.List.{AllByRecursion, list_any}
 use Rattle.std.specs.Option.{option_map}
@@ -10,6 +10,9 @@ use Rattle.std.proofs.lemmas.List.Elements.{recursion_from_All}
 use Rattle.vlm_words.specs.declared.conditions.Cond.TheVariants.{Exdepth, Parnotgrant}
 use Rattle.vlm_words.specs.declared.conditions.Cond.{Cond}
 use Rattle.vlm_words.specs.declared.locks.Row.{Row}
+use Rattle.vlm_words.specs.declared.resources.Domain.{Domain}
+use Rattle.vlm_words.specs.declared.resources.Key.TheVariants.{Below}
+use Rattle.vlm_words.specs.declared.resources.Site.{Site}
 use Rattle.vlm_words.specs.declared.resources.Queue.{Queue}
 use Rattle.vlm_words.specs.declared.resources.Queue.TheVariants.{Granted, Conversion, Waiting}
 use Rattle.vlm_words.specs.Checks.{holds_lock, lock_refusal, or_else}
@@ -216,3 +219,11 @@ unfolding depth_refusal
 deep r level is below =
     let test : nat_lt r.level 15 ≡ false = grind (arith, nat_tests, is, below) in
     sym (ap (λ b. cond b None (Some Exdepth)) test)
+
+-- a site below a resource, by what the records tell of that
+pub site_record : (root : Domain) (name : List ℕ) (serial level : ℕ) (domain : Domain) (r : StoredResource) → serial ≡ r.serial → domain ≡ r.domain → level ≡ r.level
+    → record { key = Below serial name; domain = domain; level = level + 1 } ≡ site_below root name (Some (plain_resource r))
+site_record root name serial level domain r is_serial is_domain is_level =
+    ap (λ n. record { key = Below n name; domain = domain; level = level + 1 }) is_serial
+    ∙ ap (λ (d : Domain). record { key = Below r.serial name; domain = d; level = level + 1 }) is_domain
+    ∙ ap (λ n. record { key = Below r.serial name; domain = r.domain; level = n + 1 }) is_level

@@ -74,7 +74,7 @@ impl Machine {
             withdrawal,
         };
         self.check_cancel(dequeue, &admitted)?;
-        self.check_sublocks(&admitted.standing, admitted.withdrawal.cancels)?;
+        self.check_sublocks(&standing, flags.has(DeqFlags::CANCEL))?;
         Ok(admitted)
     }
 
