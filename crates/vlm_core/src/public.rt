@@ -24,9 +24,15 @@ use vlm_words::steps::{Answer, Conversion, Declaration, Dequeue, NewRequest, Ste
 
 /// The lock manager's core: a machine that one thread steps. Some run of the plain machine leads to its
 /// state, so that each law of such runs holds of it.
-#[derive(Drop)]
 pub struct Core {
     pub(crate) machine: Machine,
+}
+
+// Written out, a drop is one call to each owner of a core.
+impl Drop for Core {
+    fn drop(self) {
+        let Core { machine: _ } = self;
+    }
 }
 
 impl Model for Core {

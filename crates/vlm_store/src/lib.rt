@@ -10,8 +10,8 @@ mod processes;
 mod queues;
 mod resources;
 mod store;
-#[cfg(test)]
-mod tests;
 
 pub use keys::{LockAt, Place, ProcAt, ResAt};
+pub use locks::LOCK_SIZE;
+pub use resources::RESOURCE_SIZE;
 pub use store::Store;

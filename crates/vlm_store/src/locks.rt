@@ -3,6 +3,7 @@
 ghost use Rattle.std.specs.Prelude.{refl};
 
 use crate::keys::{LockAt, Place, ProcAt};
+use std::mem::size_of;
 use vlm_links::{Linked, LinkedList, Links};
 use vlm_words::locks::Row;
 
@@ -17,6 +18,9 @@ pub(crate) struct OfProcess;
 /// The list of the locks below a lock, in order of making.
 #[derive(Clone, Copy)]
 pub(crate) struct OfParent;
+
+/// How many bytes the record of a lock takes.
+pub const LOCK_SIZE: usize = size_of::<Lock>();
 
 /// A lock, and where it stands.
 #[derive(Clone, Copy)]

@@ -6,6 +6,7 @@ ghost use Rattle.vlm_words.specs.Modes.{rank};
 ghost use Rattle.vlm_store.specs.Tallies.{count_of, counts_fit, held_of, held_weight, is_free, is_mode, one_if, wanted_of, wanted_weight};
 
 use crate::locks::InQueue;
+use std::mem::size_of;
 use vlm_links::{Linked, LinkedList, Links};
 use vlm_words::locks::{Request, Row};
 use vlm_words::modes::{Mode, compatible};
@@ -22,6 +23,9 @@ pub(crate) struct Tally {
     pub(crate) held: [u32; 6],
     pub(crate) wanted: [u32; 6],
 }
+
+/// How many bytes the record of a resource takes, its name included.
+pub const RESOURCE_SIZE: usize = size_of::<Resource>();
 
 /// A resource with its queues.
 #[derive(Clone, Copy)]

@@ -21,7 +21,6 @@ use vlm_words::modes::Mode;
 use vlm_words::resources::{Domain, Key, Site, ValueBlock};
 
 /// The records of the machine. Each call takes constant time but for the growth of an add.
-#[derive(Drop)]
 pub struct Store {
     pub(crate) alloc: Global,
     pub(crate) queues: Queues,
@@ -36,6 +35,22 @@ pub struct Store {
     resource_index: IndexMap<Key, ResAt>,
     // where the process of each identification is
     pub(crate) process_index: IndexMap<u32, ProcAt>,
+}
+
+// Written out, a drop is one call to each owner of a store.
+impl Drop for Store {
+    fn drop(self) {
+        let Store {
+            alloc: _,
+            queues: _,
+            order: _,
+            processes: _,
+            process_order: _,
+            lock_index: _,
+            resource_index: _,
+            process_index: _,
+        } = self;
+    }
 }
 
 impl Model for Store {

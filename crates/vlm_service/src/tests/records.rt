@@ -1,16 +1,12 @@
-//! How large the records are; and a process with a lock and a lock below it.
+//! How large the records of the store are; and a process with a lock and a lock below it.
 
 ghost use Rattle.std.specs.Prelude.{◌≡◌};
 ghost use Rattle.vlm_store.specs.Records.{HasProcess, IsParentOf, IsProcess, IsStored};
 
-use crate::keys::{LockAt, ProcAt};
-use crate::locks::Lock;
-use crate::resources::Resource;
-use crate::store::Store;
 use std::alloc::AllocError;
-use std::mem::size_of;
 use std::process::Abort;
 use std::test::Fail;
+use vlm_store::{LOCK_SIZE, LockAt, ProcAt, RESOURCE_SIZE, Store};
 use vlm_words::blocks::Block;
 use vlm_words::locks::Row;
 use vlm_words::steps::Declaration;
@@ -19,13 +15,13 @@ const PID: u32 = 65_537;
 
 #[test]
 fn a_lock_takes_at_most_160_bytes(rt: HostRuntime) {
-    let size = size_of::<Lock>();
+    let size = LOCK_SIZE;
     assert!(rt; size <= 160, "a lock takes {size} bytes");
 }
 
 #[test]
 fn a_resource_takes_at_most_256_bytes(rt: HostRuntime) {
-    let size = size_of::<Resource>();
+    let size = RESOURCE_SIZE;
     assert!(rt; size <= 256, "a resource takes {size} bytes");
 }
 
@@ -146,7 +142,7 @@ fn a_process_keeps_what_is_put_in_its_status_blocks(rt: HostRuntime) -> Result<(
     };
     let process = process(&rt, &store, PID);
     store.set_status_block(process, 2, block);
-    let written = crate::tests::process(&rt, &store, PID);
+    let written = crate::tests::records::process(&rt, &store, PID);
     let blocks = store.status_blocks(written);
     assert_eq!(rt; blocks.len(), 2);
     assert_eq!(rt; blocks[1].value, [5; 16]);
