@@ -254,12 +254,7 @@ impl Machine {
         let lkid = self.last_lkid + 1;
         let serial = self.last_serial + 1;
         let last_serial = last_given(self.last_serial, admitted.res);
-        let row = row_of(
-            lkid,
-            request.pid,
-            lkid_of(&admitted.parent),
-            admitted.asked,
-        );
+        let row = row_of(lkid, request.pid, lkid_of(&admitted.parent), admitted.asked);
         let parent = lock_of(&admitted.parent);
         let entry = Entry {
             row,

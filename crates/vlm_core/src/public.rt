@@ -16,9 +16,8 @@ use std::marker::Model;
 use vlm_store::Store;
 use vlm_words::laws::{
     law_a_declaration_gives_a_new_identification, law_a_parent_outlives_its_sublocks,
-    law_each_resource_is_settled,
-    law_held_modes_are_compatible, law_identifications_are_apart, law_nothing_is_left_to_grant,
-    law_serials_rise,
+    law_each_resource_is_settled, law_held_modes_are_compatible, law_identifications_are_apart,
+    law_nothing_is_left_to_grant, law_serials_rise,
 };
 use vlm_words::steps::{Answer, Conversion, Declaration, Dequeue, NewRequest, Step, ValueSetting};
 

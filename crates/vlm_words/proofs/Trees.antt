@@ -207,15 +207,18 @@ rooted_swept processes resources rooted =
     each_still [] each = tt
     each_still (r ∷ rest) each = (
       omega (
-            arith,
-            each.0,
-            weigh_le_both (loose (resources_after_sweep processes resources) (position r)) (loose resources (position r)) (λ row. 0)
-                (λ row. omega (arith, still_rooted resources (resources_after_sweep processes resources) (position r) row
-                (up_swept (position r) row.pid row.parent processes resources))) r,
-            sum_of_zero r.granted,
-            sum_of_zero r.converting,
-            sum_of_zero r.waiting,
-          ),
+        arith,
+        each.0,
+        weigh_le_both (loose (resources_after_sweep processes resources) (position r)) (loose resources (position r)) (λ row. 0)
+            (λ row. omega (
+              arith,
+              still_rooted resources (resources_after_sweep processes resources) (position r) row
+                  (up_swept (position r) row.pid row.parent processes resources),
+            )) r,
+        sum_of_zero r.granted,
+        sum_of_zero r.converting,
+        sum_of_zero r.waiting,
+      ),
       each_still rest each.1,
     )
 
@@ -360,13 +363,16 @@ parent_of s e passed = of_test (parent_lkid s e == 0) refl
         (subst (λ (up : Option Resource). waiting_refusal e.pid (parent_lkid s e) up ≡ None) parent (each_passes is).1) in
         let above : nat_lt there.0.level 15 ≡ true =
         test_passes (nat_lt there.0.level 15) Exdepth (subst (λ (up : Option Resource). depth_refusal up ≡ None) parent (each_passes is).2) in
-        inr (there.0, record {
-          named = is;
-          is = parent;
-          found = there.1;
-          holds = holds_mode e.pid (parent_lkid s e) there.0 (found_at (holds_lock e.pid (parent_lkid s e)) s.resources there.0 there.1).passes waits;
-          level = grind (arith, nat_tests, above);
-        })
+        inr (
+          there.0,
+          record {
+            named = is;
+            is = parent;
+            found = there.1;
+            holds = holds_mode e.pid (parent_lkid s e) there.0 (found_at (holds_lock e.pid (parent_lkid s e)) s.resources there.0 there.1).passes waits;
+            level = grind (arith, nat_tests, above);
+          },
+        )
 
 -- the parent stays as a lock enters
 up_entered : (p : Position) (pid lkid serial : ℕ) (site : Site) (row : Row) (request : Request) (resources : List Resource)
@@ -423,9 +429,11 @@ stands_well all r occupied rooted =
         let first = and_parts (not (r.parent == 0)) (not (row.parent == 0)) parts.0 in
         let up = any_found (is_up (position r) row.pid row.parent) all parts.1 in
         let passes : is_up (position r) row.pid row.parent up.0 ≡ true = (found_at (is_up (position r) row.pid row.parent) all up.0 up.1).passes in
-        inr (not-true (r.parent == 0) first.0,
-        found_any (is_up (position r) row.pid row.parent) (is_parent (position r)) all up.0 up.1
-        (and_parts (is_parent (position r) up.0) (nat_lt 0 (held_by row.pid row.parent up.0)) passes).0)
+        inr (
+          not-true (r.parent == 0) first.0,
+          found_any (is_up (position r) row.pid row.parent) (is_parent (position r)) all up.0 up.1
+              (and_parts (is_parent (position r) up.0) (nat_lt 0 (held_by row.pid row.parent up.0)) passes).0,
+        )
       where
         not-true : (b : Bool) → not b ≡ true → b ≡ false
         not-true true is = cc
@@ -591,14 +599,14 @@ tree_entered s e passed placed occupied tree = record {
     each_still [] each = tt
     each_still (r ∷ rest) each = (
       omega (
-            arith,
-            each.0,
-            weigh_le_both (loose new (position r)) (loose s.resources (position r)) (λ row. 0)
-                (λ row. omega (arith, still_rooted s.resources new (position r) row (stays (position r) row.pid row.parent))) r,
-            sum_of_zero r.granted,
-            sum_of_zero r.converting,
-            sum_of_zero r.waiting,
-          ),
+        arith,
+        each.0,
+        weigh_le_both (loose new (position r)) (loose s.resources (position r)) (λ row. 0)
+            (λ row. omega (arith, still_rooted s.resources new (position r) row (stays (position r) row.pid row.parent))) r,
+        sum_of_zero r.granted,
+        sum_of_zero r.converting,
+        sum_of_zero r.waiting,
+      ),
       each_still rest each.1,
     )
 
@@ -697,11 +705,11 @@ none_left_behind s d passed =
         let queues = both_false plain (has_sublock lkid r.granted || has_sublock lkid r.converting) (has_sublock lkid r.waiting) parts.0 in
         let held = both_false plain (has_sublock lkid r.granted) (has_sublock lkid r.converting) queues.0 in (
           omega (
-                arith,
-                none_counted plain lkid r.granted held.0,
-                none_counted plain lkid r.converting held.1,
-                none_counted plain lkid r.waiting queues.1,
-              ),
+            arith,
+            none_counted plain lkid r.granted held.0,
+            none_counted plain lkid r.converting held.1,
+            none_counted plain lkid r.waiting queues.1,
+          ),
           each_none rest parts.1,
         )
 
@@ -779,9 +787,12 @@ has_its_parent all r row rooted =
           inl (eqb-true r.parent 0 first.0, eqb-true row.parent 0 first.1))
       | inr below ↦ (let parts = and_parts (not (r.parent == 0) && not (row.parent == 0)) (list_any (is_up (position r) row.pid row.parent) all) below in
           let first = and_parts (not (r.parent == 0)) (not (row.parent == 0)) parts.0 in
-          inr (not_zero r.parent first.0, not_zero row.parent first.1,
-          Any-weaker (λ up. is_up (position r) row.pid row.parent up ≡ true) (λ up. (up.serial ≡ r.parent) × HoldsOn row.parent row.pid up) up_holds all
-          (Any-from_list_any (is_up (position r) row.pid row.parent) all parts.1)))
+          inr (
+            not_zero r.parent first.0,
+            not_zero row.parent first.1,
+            Any-weaker (λ up. is_up (position r) row.pid row.parent up ≡ true) (λ up. (up.serial ≡ r.parent) × HoldsOn row.parent row.pid up) up_holds all
+                (Any-from_list_any (is_up (position r) row.pid row.parent) all parts.1),
+          ))
     ]
   where
     not_zero : (n : ℕ) → not (n == 0) ≡ true → n ≢ 0

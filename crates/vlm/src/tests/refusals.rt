@@ -17,6 +17,8 @@ const Q: u32 = 131_073;
 
 const NOQUEUE: u16 = 2;
 
+const SYSTEM: u16 = 8;
+
 const EXPEDITE: u16 = 16;
 
 const QUECVT: u16 = 32;
@@ -157,7 +159,8 @@ fn nameless(block: u8) -> NewRequest {
     }
 }
 
-/// NONEXPR, BADPARAM, ACCVIO, IVBUFLEN, UNSUPPORTED, NOTQUEUED. Each request breaks the rules of the later ones too.
+/// NONEXPR, BADPARAM, ACCVIO, IVBUFLEN, UNSUPPORTED, IVLOCKID, PARNOTGRANT, NOSYSLCK, NOTQUEUED. Each request
+/// breaks the rules of later ones too.
 #[test]
 fn requests(rt: HostRuntime) {
     let cases = [
@@ -190,30 +193,46 @@ fn requests(rt: HostRuntime) {
             },
             Cond::Badparam,
         ),
-        (
-            NewRequest {
-                parent: Which::Id(1),
-                ..nameless(0)
-            },
-            Cond::Badparam,
-        ),
-        (
-            NewRequest {
-                parent: Which::Block(1),
-                ..nameless(0)
-            },
-            Cond::Badparam,
-        ),
         (nameless(0), Cond::Accvio),
         (nameless(5), Cond::Accvio),
+        (
+            NewRequest {
+                parent: Which::Block(5),
+                ..nameless(1)
+            },
+            Cond::Accvio,
+        ),
         (nameless(4), Cond::Ivbuflen),
         (request(&[b'B'; 32]), Cond::Ivbuflen),
         (
             NewRequest {
+                parent: Which::Id(2),
                 flags: EXPEDITE | NOQUEUE,
                 ..request(b"A")
             },
             Cond::Unsupported,
+        ),
+        (
+            NewRequest {
+                parent: Which::Id(2),
+                ..request(b"A")
+            },
+            Cond::Ivlockid,
+        ),
+        (
+            NewRequest {
+                pid: Q,
+                parent: Which::Id(2),
+                ..request(b"A")
+            },
+            Cond::Parnotgrant,
+        ),
+        (
+            NewRequest {
+                flags: SYSTEM | NOQUEUE,
+                ..request(b"A")
+            },
+            Cond::Nosyslck,
         ),
         (
             NewRequest {
