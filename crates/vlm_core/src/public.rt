@@ -112,11 +112,14 @@ impl Core {
         self.step(Step::SetValue(setting))
     }
 
-    /// Asks for a new lock ($ENQ). It answers NORMAL, or SYNCH where it is granted at once with
-    /// SYNCSTS. With VALBLK its grant returns the resource's value block. Refused by DEPARTED, NONEXPR,
-    /// BADPARAM for an unknown flag or an argument that is not built yet, ACCVIO, IVBUFLEN, UNSUPPORTED
-    /// for EXPEDITE at a mode other than NL, NOLOCKID, NOTQUEUED where it must not queue and is not
-    /// granted at once, INSFMEM.
+    /// Asks for a new lock ($ENQ): below the resource of a parent lock of the caller, or on a root in its
+    /// group, or with SYSTEM in the system's domain. It answers NORMAL, or SYNCH where it is granted at
+    /// once with SYNCSTS. With VALBLK its grant returns the resource's value block. Refused by DEPARTED,
+    /// NONEXPR, BADPARAM for an unknown flag or an argument that is not built yet, ACCVIO, IVBUFLEN,
+    /// UNSUPPORTED for EXPEDITE at a mode other than NL, IVLOCKID where the parent is no lock of the caller,
+    /// PARNOTGRANT where it waits, EXDEPTH where it stands at level 15 (this project's own limit), NOSYSLCK
+    /// for a root with SYSTEM without the privilege, EXENQLM where the caller has as many locks as its
+    /// quota, NOLOCKID, NOTQUEUED where it must not queue and is not granted at once, INSFMEM.
     pub fn enq(&mut self, request: NewRequest) -> Answer
         ensures { Outcome self.old (Step.Enq request) self.new result }
     {
@@ -141,7 +144,8 @@ impl Core {
     /// given value to the value block, and with INVVALBLK then marks it invalid; with CANCEL, at lower
     /// modes and for a waiting lock both are ignored (this project's own). It takes no memory. Refused by
     /// DEPARTED, NONEXPR, BADPARAM for an unknown flag, ACCVIO where the lock is named by a status block
-    /// that is not there, IVLOCKID, CANCELGRANT where a granted lock is to be cancelled.
+    /// that is not there, IVLOCKID, CANCELGRANT where a granted lock is to be cancelled, SUBLOCKS where one
+    /// that has sublocks is to be given up.
     pub fn deq(&mut self, dequeue: Dequeue) -> Answer
         ensures state { self.new ≡ (stepped self.old (Step.Deq dequeue)).state }
         ensures answer { result ≡ (stepped self.old (Step.Deq dequeue)).answer }
