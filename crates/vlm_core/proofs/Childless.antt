@@ -5,12 +5,11 @@ use Rattle.std.specs.List.{AllByRecursion, list_any, sum_by}
 use Rattle.std.specs.Option.{option_map_or}
 use Rattle.std.proofs.lemmas.List.Elements.{recursion_from_All}
 use Rattle.vlm_words.specs.declared.conditions.Cond.TheVariants.{Sublocks}
-use Rattle.vlm_words.specs.declared.conditions.Cond.{Cond}
 use Rattle.vlm_words.specs.declared.locks.Row.{Row}
 use Rattle.vlm_words.specs.declared.resources.Queue.{Queue}
 use Rattle.vlm_words.specs.declared.resources.Queue.TheVariants.{Granted, Conversion, Waiting}
 use Rattle.vlm_words.specs.Dequeue.{has_sublock, has_sublock_on, sublocks_refusal}
-use Rattle.vlm_words.specs.Laws.{HasItsParent, HoldsOn, ParentsOutliveTheirSublocks, rows_on}
+use Rattle.vlm_words.specs.Laws.{HasItsParent, HoldsOn, rows_on}
 use Rattle.vlm_words.specs.State.{Resource}
 use Rattle.vlm_words.proofs.Each.{Any-cases, Any-none, each_weaker}
 use Rattle.vlm_links.specs.Lists.{IsIn}

@@ -1,5 +1,5 @@
 -- A new request that is admitted, and its lock that has entered: the plain machine's change.
-use Rattle.std.proofs.Common.{◌≡◌, ◌+◌, ℕ, Bool, true, List, [], cond, find, unwrap_or, Option, None, Some, IfSome, IsSome, is_some, sym, ap, ◌∙◌, subst, arith}
+use Rattle.std.proofs.Common.{◌≡◌, ◌+◌, ℕ, Bool, true, List, [], cond, find, unwrap_or, Option, None, Some, IfSome, IsSome, is_some, sym, ap, ◌∙◌, arith}
 use Rattle.std.specs.Option.{option_map}
 use Rattle.vlm_words.specs.declared.locks.Request.{Request}
 use Rattle.vlm_words.specs.declared.locks.Row.{Row}

@@ -1,7 +1,7 @@
 -- What stays where only processes change.
 use Rattle.std.proofs.Common.{◌≡◌, ◌⊎◌, ℕ, List, [], ◌∷◌, ◌++◌, map, refl, sym, ap, ◌∙◌, subst, inl, inr}
 use Rattle.vlm_words.specs.declared.steps.Declaration.{Declaration}
-use Rattle.vlm_store.specs.Records.{IsOwnAmong, IsProcess, IsProcessAmong, Records, SameButBlocks, StoredProcess, but_blocks, new_stored_process}
+use Rattle.vlm_store.specs.Records.{IsProcess, IsProcessAmong, Records, SameButBlocks, StoredProcess, but_blocks, new_stored_process}
 use Rattle.vlm_locks.specs.Rest.{IsAtRest}
 use Rattle.vlm_service.proofs.Found.{process_there}
 use Rattle.vlm_core.specs.declared.processes.Caller.{Caller}

@@ -1,5 +1,5 @@
 -- The parent of a new request, as it stands in the records.
-use Rattle.std.specs.Prelude.{◌≡◌, ◌≢◌, ◌<◌, ℕ, Option, None, Some, ⊤}
+use Rattle.std.specs.Prelude.{◌≢◌, ◌<◌, ℕ, Option, None, Some, ⊤}
 use Rattle.vlm_store.specs.Records.{Records}
 use Rattle.vlm_locks.specs.declared.finding.Standing.{Standing}
 use Rattle.vlm_locks.specs.Standing.{IsStandingOf}

@@ -1,5 +1,5 @@
 -- What the entry of a new lock makes of the records.
-use Rattle.std.proofs.Common.{◌≡◌, ◌≢◌, ℕ, Bool, List, [], ◌∷◌, ◌++◌, map, unwrap_or, cond, true, false, ◌&&◌, Option, None, Some, IsSome, IfSome, refl, sym, ap, ◌∙◌, subst, inl, inr, eq-eqb, ne_eqb}
+use Rattle.std.proofs.Common.{◌≡◌, ◌≢◌, ℕ, Bool, List, [], ◌∷◌, ◌++◌, map, unwrap_or, cond, true, false, ◌&&◌, Option, Some, IsSome, IfSome, refl, sym, ap, ◌∙◌, subst, inl, inr, eq-eqb, ne_eqb}
 use Rattle.std.specs.Prelude.{◌==◌}
 use Rattle.std.proofs.lemmas.Bool.{cases_eq}
 use Rattle.std.proofs.lemmas.List.{map-append}
@@ -11,7 +11,7 @@ use Rattle.vlm_words.specs.Enqueue.{is_at_once, resource_after_entry, resources_
 use Rattle.vlm_words.specs.Grants.{granted_row}
 use Rattle.vlm_words.specs.Resources.{new_resource}
 use Rattle.vlm_store.specs.declared.keys.Place.TheVariants.{Loose, Queued}
-use Rattle.vlm_store.specs.Records.{AreResourcesApart, FindsResource, HasResource, IsAmong, IsOwnAmong, IsProcess, IsProcessAmong, IsResourceAmong, IsSound, OwnLock, Records, StoredLock, StoredProcess, StoredResource, but_blocks, is_queue, joined_by, moving, new_own, on_resource, process_with_lock, queued, resource_at, resource_with, with_lists, with_new_lock, with_sublock, without_lock}
+use Rattle.vlm_store.specs.Records.{AreResourcesApart, FindsResource, HasResource, IsAmong, IsProcess, IsProcessAmong, IsResourceAmong, IsSound, Records, StoredLock, StoredProcess, StoredResource, but_blocks, is_queue, joined_by, moving, on_resource, process_with_lock, queued, resource_at, resource_with, with_lists, with_new_lock, without_lock}
 use Rattle.vlm_store.proofs.Undoing.{unmoved}
 use Rattle.vlm_service.specs.Plain.{plain_resource, plain_resources}
 use Rattle.vlm_service.specs.Serving.{but_service}

@@ -1,36 +1,29 @@
 -- After every run each living process has an identification that its node has given, and so a declaration gives
 -- a new one.
 use Rattle.std.proofs.Common.{◌≡◌, ◌≢◌, ◌≤◌, ◌<◌, ◌+◌, ◌-◌, ◌*◌, ◌/◌, ◌%◌, ℕ, zero, suc, Bool, true, false, not, cond, List, [], ◌∷◌, ◌++◌, map, length, get_or, set, Option, None, Some, refl, sym, ap, subst, ◌∙◌, arith}
-use Rattle.std.specs.Prelude.{◌==◌, nat_le, nat_lt, All}
+use Rattle.std.specs.Prelude.{nat_le, nat_lt, All}
 use Rattle.std.specs.List.{AllByRecursion}
-use Rattle.std.proofs.lemmas.Bool.{and_parts, cond_both, leb-true}
+use Rattle.std.proofs.lemmas.Bool.{and_parts, leb-true}
 use Rattle.std.proofs.lemmas.Bool.Decides.{nat_tests}
 use Rattle.std.proofs.lemmas.List.{get_or-set_same, length-set}
 use Rattle.std.proofs.lemmas.List.Elements.{All-from_recursion}
-use Rattle.vlm_words.specs.declared.blocks.Block.{Block}
 use Rattle.vlm_words.specs.declared.conditions.Cond.TheVariants.{Badparam, Departed}
 use Rattle.vlm_words.specs.declared.conditions.Cond.{Cond}
-use Rattle.vlm_words.specs.declared.modes.Act.TheVariants.{Nothing, Return, Write}
 use Rattle.vlm_words.specs.declared.steps.Answer.TheVariants.{Process as process_answer}
 use Rattle.vlm_words.specs.declared.steps.Answer.{Answer}
-use Rattle.vlm_words.specs.declared.steps.Conversion.{Conversion}
 use Rattle.vlm_words.specs.declared.steps.Declaration.{Declaration}
-use Rattle.vlm_words.specs.declared.steps.NewRequest.{NewRequest}
 use Rattle.vlm_words.specs.declared.steps.Step.TheVariants.{Declare}
 use Rattle.vlm_words.specs.declared.steps.Step.{Step}
-use Rattle.vlm_words.specs.State.{Node, Process, Resource, State, new_node, node_at}
-use Rattle.vlm_words.specs.StatusBlocks.{process_after_write, process_with_block, processes_after_acceptance, processes_after_return, processes_after_setting, processes_after_status, processes_after_write}
-use Rattle.vlm_words.specs.Endings.{Ending, How}
-use Rattle.vlm_words.specs.Endings.How.{by_grant, by_abort, by_cancel}
-use Rattle.vlm_words.specs.Effects.{Blocks, blocks_after, blocks_after_ending, blocks_after_return, blocks_after_writing, blocks_with}
+use Rattle.vlm_words.specs.State.{Node, Process, State, new_node, node_at}
+use Rattle.vlm_words.specs.Endings.{Ending}
+use Rattle.vlm_words.specs.Effects.{blocks_with}
 use Rattle.vlm_words.specs.ValueBlocks.{new_value_block}
-use Rattle.vlm_words.specs.Grants.{service}
-use Rattle.vlm_words.specs.Sweeps.{blocks_after_service, processes_after_service, state_after_sweep}
+use Rattle.vlm_words.specs.Sweeps.{state_after_sweep}
 use Rattle.vlm_words.specs.Checks.{has_departed}
 use Rattle.vlm_words.specs.Declare.{declare_change, declare_refusal, declared_process, is_node, next_pid}
 use Rattle.vlm_words.specs.SetValue.{set_change}
-use Rattle.vlm_words.specs.Enqueue.{enq_change, enq_endings, enq_resource}
-use Rattle.vlm_words.specs.Convert.{ConversionAdmission, convert_blocks, convert_change, convert_lkid, conversion_endings}
+use Rattle.vlm_words.specs.Enqueue.{enq_change}
+use Rattle.vlm_words.specs.Convert.{convert_change}
 use Rattle.vlm_words.specs.Dequeue.{deq_change, deq_endings}
 use Rattle.vlm_words.specs.Stepped.{refused_or, step_change}
 use Rattle.vlm_words.specs.Runs.{Run}

@@ -1,6 +1,6 @@
 -- How many locks of an identification and a process hold a mode on a resource: no step takes one away, but for the
 -- removal of the lock.
-use Rattle.std.proofs.Common.{◌≡◌, ◌≤◌, ◌+◌, ℕ, zero, suc, Bool, true, false, not, ◌&&◌, List, [], ◌∷◌, ◌++◌, map, take, drop, cond, Option, None, Some, refl, sym, ap, inl, inr, subst, ◌∙◌, arith}
+use Rattle.std.proofs.Common.{◌≡◌, ◌≤◌, ◌+◌, ℕ, zero, suc, Bool, true, false, not, ◌&&◌, List, [], ◌∷◌, ◌++◌, map, drop, cond, Option, None, Some, refl, sym, ap, inl, inr, subst, arith}
 use Rattle.std.specs.Prelude.{◌==◌}
 use Rattle.std.specs.List.{filter, find, sum_by}
 use Rattle.std.proofs.lemmas.Bool.{and_parts, cond_both}
@@ -24,7 +24,6 @@ use Rattle.vlm_words.proofs.Weights.{served_weighs, weigh}
 use Rattle.vlm_words.proofs.Moves.{IsByName, grant_keeps}
 use Rattle.vlm_words.proofs.Apart.{stands}
 use Rattle.vlm_words.proofs.InOrder.{service_in_order}
-use Rattle.std.proofs.lemmas.List.Sums.{sum_by-take-le}
 
 -- 1 for a row of this lock of this process
 abbrev pub locks : ℕ → ℕ → Row → ℕ

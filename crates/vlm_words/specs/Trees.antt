@@ -10,7 +10,7 @@ use Rattle.vlm_words.specs.declared.resources.Key.TheVariants.{Root, Below}
 use Rattle.vlm_words.specs.declared.resources.Site.{Site}
 use Rattle.vlm_words.specs.declared.steps.NewRequest.{NewRequest}
 use Rattle.vlm_words.specs.Flags.{has_flag, system}
-use Rattle.vlm_words.specs.State.{Process, Resource, State, process_of}
+use Rattle.vlm_words.specs.State.{Resource, State, process_of}
 use Rattle.vlm_words.specs.Rows.{is_lock_of}
 use Rattle.vlm_words.specs.Checks.{holds_lock, lock_refusal, named_lkid, or_else}
 

@@ -1,6 +1,5 @@
 use Rattle.std.proofs.Common.{◌≡◌, IsSome, Option, None, Some, refl, sym, ap, ◌∙◌, subst, find, unwrap_or}
 use Rattle.vlm_words.specs.declared.resources.Key.{Key}
-use Rattle.vlm_words.specs.declared.resources.Site.{Site}
 use Rattle.vlm_words.specs.Enqueue.{is_at_once}
 use Rattle.vlm_words.specs.Resources.{is_at, new_resource}
 use Rattle.vlm_store.specs.Records.{FindsResource, StoredResource, resource_at}

@@ -1,6 +1,4 @@
-use Rattle.std.proofs.Common.{◌≡◌, true, false, [], sym, ap, ◌∙◌, subst}
-use Rattle.std.specs.List.{sum_by}
-use Rattle.vlm_words.specs.Laws.{rows_on}
+use Rattle.std.proofs.Common.{◌≡◌, [], sym, ap, ◌∙◌, subst}
 use Rattle.vlm_store.specs.Records.{HasNoSublocks, IsSound}
 use Rattle.vlm_service.specs.Plain.{plain_resources}
 use Rattle.vlm_locks.specs.Standing.{IsStanding}
