@@ -1,7 +1,7 @@
 -- Conversions and dequeues as they are admitted.
 use Rattle.std.proofs.Common.{◌≡◌, ◌≢◌, Bool, true, false, ◌||◌, ◌&&◌, cond, List, [], ◌∷◌, map, find, Option, None, Some, refl, sym, ap, ◌∙◌, subst, inl, inr}
 use Rattle.std.specs.List.{list_any}
-use Rattle.std.proofs.lemmas.Bool.{cases_eq}
+use Rattle.std.proofs.lemmas.Bool.{cases_eq, or_right}
 use Rattle.vlm_words.specs.declared.conditions.Cond.TheVariants.{Cancelgrant}
 use Rattle.vlm_words.specs.declared.locks.Request.{Request}
 use Rattle.vlm_words.specs.declared.locks.Row.{Row}
@@ -24,11 +24,6 @@ use Rattle.vlm_locks.proofs.Stood.{absent, only, own_among}
 use Rattle.vlm_core.specs.declared.dequeuing.AdmittedDequeue.{AdmittedDequeue}
 use Rattle.vlm_core.specs.Admissions.{IsAdmittedDequeue}
 use Rattle.vlm_core.specs.Machine.{Kept, plain_state}
-
--- one of two tests is passed where the second is
-or_true : (a b : Bool) → b ≡ true → (a || b) ≡ true
-or_true true b is = refl
-or_true false b is = is
 
 module _ (s : Records) (sound : IsSound s) (f : Standing) (standing : IsStanding f s) where
   -- the resource of the lock
@@ -104,7 +99,7 @@ module _ (s : Records) (sound : IsSound s) (f : Standing) (standing : IsStanding
             | inl here ↦
                 ap (λ (x : StoredResource). holds x || is_granted f.row.pid f.row.lkid (map plain_resource rest)) here
                 ∙ ap (λ b. b || is_granted f.row.pid f.row.lkid (map plain_resource rest)) (any-among (record { at = f.lock; row = f.row }) own.granted (in_granted granted))
-            | inr there ↦ or_true (holds r) (is_granted f.row.pid f.row.lkid (map plain_resource rest)) (of_list rest there)
+            | inr there ↦ or_right (holds r) (is_granted f.row.pid f.row.lkid (map plain_resource rest)) (of_list rest there)
           ]
 
   -- a lock in another queue is granted nowhere

@@ -4,6 +4,7 @@ use Rattle.std.specs.Prelude.{◌==◌, All, Any}
 use Rattle.std.specs.List.{AllByRecursion, list_any, sum_by}
 use Rattle.std.specs.Option.{option_map_or}
 use Rattle.std.proofs.lemmas.List.Elements.{recursion_from_All}
+use Rattle.std.proofs.lemmas.Bool.{or_right}
 use Rattle.vlm_words.specs.declared.conditions.Cond.TheVariants.{Sublocks}
 use Rattle.vlm_words.specs.declared.locks.Row.{Row}
 use Rattle.vlm_words.specs.declared.resources.Queue.{Queue}
@@ -52,18 +53,13 @@ rows_none lkid [] none = refl
 rows_none lkid (k ∷ rest) none =
     rw (ne_eqb k.row.parent lkid (none k (inl refl))) (rows_none lkid rest (λ x there. none x (inr there)))
 
--- one of two tests is passed where the second is
-or_true : (a b : Bool) → b ≡ true → (a || b) ≡ true
-or_true true b is = refl
-or_true false b is = is
-
 -- rows of which one is a sublock
 rows_some : (lkid : ℕ) (locks : List StoredLock) (k : StoredLock) → IsAmong k locks → k.row.parent ≡ lkid → has_sublock lkid (rows_of locks) ≡ true
 rows_some lkid [] k among is = absurd among
 rows_some lkid (x ∷ rest) k among is =
     elim among [
       | inl here ↦ rw (eq-eqb x.row.parent lkid (ap (λ (y : StoredLock). y.row.parent) here ∙ is)) refl
-      | inr there ↦ or_true (x.row.parent == lkid) (has_sublock lkid (rows_of rest)) (rows_some lkid rest k there is)
+      | inr there ↦ or_right (x.row.parent == lkid) (has_sublock lkid (rows_of rest)) (rows_some lkid rest k there is)
     ]
 
 -- a sublock stands on a resource, whichever its queue
@@ -71,9 +67,9 @@ on_resource_some : (lkid : ℕ) (r : StoredResource) (queue : Queue) (k : Stored
 on_resource_some lkid r Granted k among is = rw (rows_some lkid r.granted k among is) refl
 on_resource_some lkid r Conversion k among is =
     ap (λ b. b || has_sublock lkid (rows_of r.waiting))
-    (or_true (has_sublock lkid (rows_of r.granted)) (has_sublock lkid (rows_of r.converting)) (rows_some lkid r.converting k among is))
+    (or_right (has_sublock lkid (rows_of r.granted)) (has_sublock lkid (rows_of r.converting)) (rows_some lkid r.converting k among is))
 on_resource_some lkid r Waiting k among is =
-    or_true (has_sublock lkid (rows_of r.granted) || has_sublock lkid (rows_of r.converting)) (has_sublock lkid (rows_of r.waiting)) (rows_some lkid r.waiting k among is)
+    or_right (has_sublock lkid (rows_of r.granted) || has_sublock lkid (rows_of r.converting)) (has_sublock lkid (rows_of r.waiting)) (rows_some lkid r.waiting k among is)
 
 -- and among all
 among_all_some : (lkid : ℕ) (rs : List StoredResource) (r : StoredResource) → IsResourceAmong r rs → has_sublock_on lkid (plain_resource r) ≡ true
@@ -82,7 +78,7 @@ among_all_some lkid [] r among is = absurd among
 among_all_some lkid (x ∷ rest) r among is =
     elim among [
       | inl here ↦ ap (λ b. b || list_any (has_sublock_on lkid) (map plain_resource rest)) (ap (λ (y : StoredResource). has_sublock_on lkid (plain_resource y)) here ∙ is)
-      | inr there ↦ or_true (has_sublock_on lkid (plain_resource x)) (list_any (has_sublock_on lkid) (map plain_resource rest)) (among_all_some lkid rest r there is)
+      | inr there ↦ or_right (has_sublock_on lkid (plain_resource x)) (list_any (has_sublock_on lkid) (map plain_resource rest)) (among_all_some lkid rest r there is)
     ]
 
 module _ (s : Records) (sound : IsSound s) (none_loose : s.loose ≡ []) (f : Standing) (standing : IsStanding f s) where

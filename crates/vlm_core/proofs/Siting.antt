@@ -3,7 +3,7 @@ use Rattle.std.proofs.Common.{◌≡◌, ◌≢◌, ◌<◌, ◌≤◌, ◌+◌,
 use Rattle.std.specs.Prelude.{◌==◌, All, nat_lt}
 use Rattle.std.specs.List.{AllByRecursion, list_any}
 use Rattle.std.specs.Option.{option_map}
-use Rattle.std.proofs.lemmas.Bool.{cases_eq}
+use Rattle.std.proofs.lemmas.Bool.{cases_eq, or_right}
 use Rattle.std.proofs.lemmas.Bool.Decides.{nat_tests}
 use Rattle.std.proofs.lemmas.Option.{same_Some}
 use Rattle.std.proofs.lemmas.List.Elements.{recursion_from_All}
@@ -47,11 +47,6 @@ each_resource P (x ∷ rest) each r among =
 pub of_some : {X : Type 0} (P : X → Type 0) (o : Option X) (x : X) → o ≡ Some x → IfSome o P → P x
 of_some P o x is told = subst (λ q. IfSome q P) is told
 
--- one of two tests is passed where the second is
-or_true : (a b : Bool) → b ≡ true → (a || b) ≡ true
-or_true true b is = refl
-or_true false b is = is
-
 module _ (s : Records) (sound : IsSound s) (f : Standing) (standing : IsStanding f s) where
   -- the lock is in this queue of the resource
   abbrev is_in : Queue → StoredResource → Bool
@@ -78,8 +73,8 @@ module _ (s : Records) (sound : IsSound s) (f : Standing) (standing : IsStanding
   holds_own : (queue : Queue) → f.queue ≡ queue → holds_lock f.row.pid f.row.lkid (plain_resource standing.resource) ≡ true
   holds_own Granted is = rw (in_own Granted is) refl
   holds_own Conversion is =
-      ap (λ b. b || is_in Waiting standing.resource) (or_true (is_in Granted standing.resource) (is_in Conversion standing.resource) (in_own Conversion is))
-  holds_own Waiting is = or_true (is_in Granted standing.resource || is_in Conversion standing.resource) (is_in Waiting standing.resource) (in_own Waiting is)
+      ap (λ b. b || is_in Waiting standing.resource) (or_right (is_in Granted standing.resource) (is_in Conversion standing.resource) (in_own Conversion is))
+  holds_own Waiting is = or_right (is_in Granted standing.resource || is_in Conversion standing.resource) (is_in Waiting standing.resource) (in_own Waiting is)
 
   -- no other does
   holds_not : (r : StoredResource) → IsResourceAmong r s.resources → r.at ≢ f.res → holds_lock f.row.pid f.row.lkid (plain_resource r) ≡ false

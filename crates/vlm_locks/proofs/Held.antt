@@ -2,6 +2,7 @@
 use Rattle.std.proofs.Common.{◌≡◌, ◌≢◌, ℕ, Bool, List, [], ◌∷◌, map, true, false, ◌||◌, Option, None, Some, refl, ap, ◌∙◌, inl, inr}
 use Rattle.std.specs.List.{list_any}
 use Rattle.std.specs.Option.{option_map_or}
+use Rattle.std.proofs.lemmas.Bool.{or_right}
 use Rattle.vlm_words.specs.declared.locks.Row.{Row}
 use Rattle.vlm_words.specs.declared.resources.Queue.{Queue}
 use Rattle.vlm_words.specs.declared.resources.Queue.TheVariants.{Granted, Conversion, Waiting}
@@ -14,10 +15,6 @@ use Rattle.vlm_locks.specs.declared.finding.Standing.{Standing}
 use Rattle.vlm_locks.specs.Standing.{IsStanding}
 use Rattle.vlm_locks.proofs.Named.{any-among, any-not}
 use Rattle.vlm_locks.proofs.Stood.{own_among, queued_stored}
-
-or_true : (a b : Bool) → b ≡ true → (a || b) ≡ true
-or_true true b is = refl
-or_true false b is = is
 
 -- where no lock of the identification is the process's, it holds none
 pub none_held : (s : Records) → IsSound s → (pid lkid : ℕ) → ((at : ℕ) (row : Row) → Stores s at row → row.lkid ≡ lkid → row.pid ≢ pid)
@@ -48,9 +45,9 @@ some_held s sound f standing = of_list s.resources (own_among s sound f standing
     in_queue Granted among = rw (any-among (record { at = f.lock; row = f.row }) standing.resource.granted among) refl
     in_queue Conversion among =
         ap (λ b. b || has_lock f.row Waiting standing.resource)
-        (or_true (has_lock f.row Granted standing.resource) (has_lock f.row Conversion standing.resource) (any-among (record { at = f.lock; row = f.row }) standing.resource.converting among))
+        (or_right (has_lock f.row Granted standing.resource) (has_lock f.row Conversion standing.resource) (any-among (record { at = f.lock; row = f.row }) standing.resource.converting among))
     in_queue Waiting among =
-        or_true (has_lock f.row Granted standing.resource || has_lock f.row Conversion standing.resource) (has_lock f.row Waiting standing.resource)
+        or_right (has_lock f.row Granted standing.resource || has_lock f.row Conversion standing.resource) (has_lock f.row Waiting standing.resource)
         (any-among (record { at = f.lock; row = f.row }) standing.resource.waiting among)
 
     of_list : (rs : List StoredResource) → IsResourceAmong standing.resource rs → list_any (holds_lock f.row.pid f.row.lkid) (map plain_resource rs) ≡ true
@@ -60,7 +57,7 @@ some_held s sound f standing = of_list s.resources (own_among s sound f standing
           | inl here ↦
               ap (λ x. holds_lock f.row.pid f.row.lkid (plain_resource x) || list_any (holds_lock f.row.pid f.row.lkid) (map plain_resource rest)) here
               ∙ ap (λ b. b || list_any (holds_lock f.row.pid f.row.lkid) (map plain_resource rest)) (in_queue f.queue standing.among)
-          | inr there ↦ or_true (holds_lock f.row.pid f.row.lkid (plain_resource r)) (list_any (holds_lock f.row.pid f.row.lkid) (map plain_resource rest)) (of_list rest there)
+          | inr there ↦ or_right (holds_lock f.row.pid f.row.lkid (plain_resource r)) (list_any (holds_lock f.row.pid f.row.lkid) (map plain_resource rest)) (of_list rest there)
         ]
 
 -- a lock at a place that is a queue stands there

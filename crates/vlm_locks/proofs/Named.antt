@@ -1,7 +1,8 @@
 -- The rows of a lock in a list: found by its key, and by its identification.
-use Rattle.std.proofs.Common.{◌≡◌, ◌≢◌, ℕ, Bool, List, [], ◌∷◌, true, false, ◌||◌, find, None, Some, refl, sym, ap, ◌∙◌, subst, inl, inr, eq-eqb, ne_eqb}
+use Rattle.std.proofs.Common.{◌≡◌, ◌≢◌, ℕ, List, [], ◌∷◌, true, false, find, None, Some, refl, sym, ap, ◌∙◌, subst, inl, inr, eq-eqb, ne_eqb}
 use Rattle.std.specs.List.{list_any}
 use Rattle.std.proofs.lemmas.Bool.{cases_eq}
+use Rattle.std.proofs.lemmas.Bool.{or_right}
 use Rattle.vlm_words.specs.Rows.{is_lock_of, rows_without}
 use Rattle.vlm_words.specs.Rows as plain
 use Rattle.vlm_store.specs.Records.{AreApart, IsAmong, StoredLock, rows_of, without_lock}
@@ -49,12 +50,9 @@ any-among lock (k ∷ rest) among =
     elim among [
       | inl here ↦
           rw (eq-eqb k.row.lkid lock.row.lkid (ap (λ (x : StoredLock). x.row.lkid) here), eq-eqb k.row.pid lock.row.pid (ap (λ (x : StoredLock). x.row.pid) here)) refl
-      | inr there ↦ or_true (is_lock_of lock.row.pid lock.row.lkid k.row) (any-among lock rest there)
+      | inr there ↦
+          or_right (is_lock_of lock.row.pid lock.row.lkid k.row) (list_any (is_lock_of lock.row.pid lock.row.lkid) (rows_of rest)) (any-among lock rest there)
     ]
-  where
-    or_true : (a : Bool) {b : Bool} → b ≡ true → (a || b) ≡ true
-    or_true true is = refl
-    or_true false is = is
 
 pub find-only : (lock : StoredLock) (locks : List StoredLock) → IsOnly lock locks → IsAmong lock locks → find (is_lock_of lock.row.pid lock.row.lkid) (rows_of locks) ≡ Some lock.row
 find-only lock [] only among = absurd among
