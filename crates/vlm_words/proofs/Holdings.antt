@@ -19,7 +19,7 @@ use Rattle.vlm_words.specs.Convert.{converts_at_once, resource_after_conversion,
 use Rattle.vlm_words.specs.Dequeue.{Withdrawal, is_held_by_writer, resource_after_cancel, resource_after_withdrawal, resource_after_writer, resource_without, row_after_cancel, value_block_after_writer}
 use Rattle.vlm_words.specs.Laws.{GrantsFirst}
 use Rattle.vlm_words.proofs.Each.{Found, found_at}
-use Rattle.vlm_words.proofs.Sums.{sum_same}
+use Rattle.vlm_words.proofs.Sums.{sum_of_zero, sum_same}
 use Rattle.vlm_words.proofs.Weights.{served_weighs, weigh}
 use Rattle.vlm_words.proofs.Moves.{IsByName, grant_keeps}
 use Rattle.vlm_words.proofs.Apart.{stands}
@@ -79,15 +79,11 @@ served_held pid lkid block r =
     omega (
       arith,
       same,
-      no_endings (service r).endings,
+      sum_of_zero (service r).endings,
       ap (sum_by (locks pid lkid)) first.waiting,
       fewer_left first.new_requests r.waiting,
     )
   where
-    no_endings : {X : Type 0} (xs : List X) → sum_by (λ (x : X). 0) xs ≡ 0
-    no_endings [] = refl
-    no_endings {X} (x ∷ xs) = omega (arith, no_endings xs, sum_by-cons (λ (y : X). 0) x xs)
-
     fewer_left : (n : ℕ) (rows : List Row) → sum_by (locks pid lkid) (drop n rows) ≤ sum_by (locks pid lkid) rows
     fewer_left zero rows = omega arith
     fewer_left (suc n) [] = omega arith
