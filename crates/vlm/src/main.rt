@@ -2,8 +2,6 @@
 #![tactic(auto)]
 
 mod run;
-#[cfg(test)]
-mod tests;
 
 use std::process::ExitCode;
 use std::{env, io};

@@ -10,6 +10,3 @@ mod lists;
 
 pub use link::{LAST_KEY, Links};
 pub use lists::{Linked, LinkedList};
-
-#[cfg(test)]
-mod tests;

@@ -7,6 +7,3 @@
 mod queues;
 
 pub use queues::{can_hold, head, is_idle, next, pop_front, push_back, unlink};
-
-#[cfg(test)]
-mod tests;

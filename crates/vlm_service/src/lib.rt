@@ -10,6 +10,3 @@ mod serving;
 pub use endings::end_by_grant;
 pub use grants::granted_row;
 pub use serving::serve;
-
-#[cfg(test)]
-mod tests;

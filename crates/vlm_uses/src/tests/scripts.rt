@@ -1,8 +1,8 @@
 //! Scripts, and what they print.
 
-use crate::run::run_words;
 use crate::tests::failing::Failing;
-use crate::tests::runs::{Outcome, check, run_of};
+use crate::tests::runs::{Outcome, check};
+use vlm_script::{PlayFault, play};
 
 /// How many bytes a script has at most.
 const LIMIT: usize = 16_777_216;
@@ -85,15 +85,7 @@ const FAULTY: [(&[u8], &str, &str); 16] = [
 #[test]
 fn faults(rt: HostRuntime) {
     for (script, printed, faults) in FAULTY {
-        check(
-            &rt,
-            script,
-            Outcome {
-                status: 1,
-                printed,
-                faults,
-            },
-        );
+        check(&rt, script, Outcome { printed, faults });
     }
 }
 
@@ -111,7 +103,6 @@ fn whole_runs(rt: HostRuntime) {
             &rt,
             script,
             Outcome {
-                status: 0,
                 printed,
                 faults: "",
             },
@@ -127,7 +118,6 @@ fn script_too_long(rt: HostRuntime) {
         &rt,
         &script,
         Outcome {
-            status: 3,
             printed: "",
             faults: "script too long\n",
         },
@@ -138,27 +128,17 @@ fn script_too_long(rt: HostRuntime) {
 #[test]
 fn read_fails(rt: HostRuntime) {
     let mut printed = Vec::new(rt.alloc());
-    let mut faults = Vec::new(rt.alloc());
     let mut reader = Failing { left: 3 };
-    let status = run_words(
-        &rt,
-        &["vlm", "play"],
-        &mut reader,
-        &mut printed,
-        &mut faults,
-    );
-    assert_eq!(&rt; status, 3);
+    let ended = play(rt.alloc(), &mut reader, &mut printed);
+    assert!(&rt; matches!(ended, Err(PlayFault::Read)));
     assert!(&rt; printed.is_empty());
-    assert!(&rt; faults.as_slice() == b"read\n".as_slice());
 }
 
 /// A writer that takes some bytes and then fails.
 #[test]
 fn write_fails(rt: HostRuntime) {
-    let mut faults = Vec::new(rt.alloc());
     let mut script: &[u8] = b"show\n";
     let mut writer = Failing { left: 3 };
-    let status = run_words(&rt, &["vlm", "play"], &mut script, &mut writer, &mut faults);
-    assert_eq!(&rt; status, 3);
-    assert!(&rt; faults.as_slice() == b"write\n".as_slice());
+    let ended = play(rt.alloc(), &mut script, &mut writer);
+    assert!(&rt; matches!(ended, Err(PlayFault::Write)));
 }

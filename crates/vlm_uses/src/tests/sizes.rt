@@ -1,24 +1,19 @@
 //! Sizes at which a body that gives up late would give up.
 
+use crate::tests::lists::answers;
 use crate::tests::runs::run_of;
+use crate::tests::steps::{DECLARATION, P, request};
 use std::alloc::AllocError;
 use std::fmt::{self, Write};
 use std::process::Abort;
-use vlm_core::{Core, run_steps};
 use vlm_words::conditions::Cond;
-use vlm_words::modes::Mode;
-use vlm_words::names::NameArg;
-use vlm_words::steps::{Answer, Declaration, Dequeue, NewRequest, Step, Which};
+use vlm_words::steps::{Answer, Declaration, Dequeue, Step, Which};
 
-/// The first process of node 1.
-const P: u32 = 65_537;
-
-const DECLARATION: Declaration = Declaration {
-    node: 1,
-    group: 1,
-    syslck: false,
+/// Has room for one lock.
+const NARROW: Declaration = Declaration {
     quota: 1,
     blocks: 1,
+    ..DECLARATION
 };
 
 // A script that puts a value into each of the 255 status blocks of a process and asks for it, and what it
@@ -50,24 +45,9 @@ fn most_status_blocks(rt: HostRuntime) {
 
 // The script runs to its end, and prints this.
 fn check_printed<R: Abort + AllocGlobal>(rt: &R, script: &str, printed: &str) {
-    let run = run_of(rt, &["vlm", "play"], script.as_bytes());
-    assert_eq!(rt; run.status, 0);
+    let run = run_of(rt, script.as_bytes());
+    assert!(rt; run.faults.is_empty());
     assert!(rt; run.printed.as_slice() == printed.as_bytes());
-}
-
-// A request for EX.
-fn asked() -> Step {
-    Step::Enq(NewRequest {
-        pid: P,
-        mode: Mode::Ex,
-        name: NameArg::of(b"A"),
-        block: 1,
-        parent: Which::Id(0),
-        flags: 0,
-        ast: None,
-        bast: None,
-        param: 0,
-    })
 }
 
 fn given_up(lkid: u32) -> Step {
@@ -81,10 +61,10 @@ fn given_up(lkid: u32) -> Step {
 
 // A declaration, and 500 locks, each asked for and given up, with their answers.
 fn put_steps(steps: &mut Vec<Step>, want: &mut Vec<Answer>) -> Result<(), AllocError> {
-    steps.push(Step::Declare(DECLARATION))?;
+    steps.push(Step::Declare(NARROW))?;
     want.push(Answer::Process(P))?;
     for lkid in 1..=500 {
-        steps.push(asked())?;
+        steps.push(Step::Enq(request(b"A")))?;
         want.push(Answer::Lock(Cond::Normal, lkid))?;
         steps.push(given_up(lkid))?;
         want.push(Answer::Plain(Cond::Normal))?;
@@ -97,11 +77,8 @@ fn put_steps(steps: &mut Vec<Step>, want: &mut Vec<Answer>) -> Result<(), AllocE
 fn many_steps(rt: HostRuntime) {
     let mut steps = Vec::new(rt.alloc());
     let mut want = Vec::new(rt.alloc());
-    let mut core = Core::new(rt.alloc());
-    let mut answers = Vec::new(rt.alloc());
     assert!(&rt; put_steps(&mut steps, &mut want).is_ok());
-    assert!(&rt; run_steps(&mut core, &steps, &mut answers).is_ok());
-    assert_eq!(&rt; answers.as_slice(), want.as_slice());
+    answers(&rt, rt.alloc(), &steps, &want);
 }
 
 // A script that shows 2,300 locks on one resource, what it prints before that, and the lines that it shows.

@@ -1,9 +1,9 @@
 use Rattle.std.proofs.Common.{ap}
 use Rattle.slab.specs.Slab.{get}
-use Rattle.vlm_links.specs.declared.tests.Card.{Card}
+use Rattle.vlm_uses.specs.declared.tests.cards.Card.{Card}
 use Rattle.vlm_links.proofs.Keeping.{updated-linked, vacant_unlisted}
 use Rattle.vlm_links.proofs.Rings.{same-linked}
-use Rattle.vlm_links.proofs.tests.deal.Goals as goal
+use Rattle.vlm_uses.proofs.tests.cards.deal.Goals as goal
 
 pub returns-in_err-reserve-clause-linked : goal.returns-in_err-reserve-clause-linked
 returns-in_err-reserve-clause-linked c =

@@ -3,10 +3,10 @@
 ghost use Rattle.std.specs.Prelude.{◌≡◌, ◌++◌, [], ◌∷◌, refl, IfOk, OnErr};
 ghost use Rattle.vlm_links.specs.Lists.{IsIn, IsLinked, keys_of, without};
 
-use crate::{LAST_KEY, Linked, LinkedList, Links};
 use slab::Slab;
 use std::alloc::AllocError;
 use std::test::Fail;
+use vlm_links::{LAST_KEY, Linked, LinkedList, Links};
 
 #[derive(Clone, Copy)]
 struct InHand;

@@ -1,7 +1,5 @@
 //! The faults that end a run, and their lines.
 
-use crate::run::run_words;
-use crate::tests::failing::Failing;
 use vlm_script::PlayFault;
 use vlm_words::scripts::LineFault;
 
@@ -25,22 +23,5 @@ fn lines(rt: HostRuntime) {
         let mut printed = Vec::new(rt.alloc());
         assert!(&rt; fault.write_line(&mut printed).is_ok());
         assert!(&rt; printed.as_slice() == line.as_bytes());
-    }
-}
-
-/// A fault that can't be told changes no status.
-#[test]
-fn not_told(rt: HostRuntime) {
-    let cases: [(&[&'static str], &[u8], u8); 3] = [
-        (&["vlm", "play"], b"frob", 1),
-        (&["vlm", "frob"], b"", 2),
-        (&["vlm", "play", "--help"], b"", 3),
-    ];
-    for (words, script, want) in cases {
-        let mut reader = script;
-        let mut writer = Failing { left: 3 };
-        let mut faults = Failing { left: 3 };
-        let status = run_words(&rt, words, &mut reader, &mut writer, &mut faults);
-        assert_eq!(&rt; status, want);
     }
 }

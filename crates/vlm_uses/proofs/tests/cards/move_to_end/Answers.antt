@@ -1,9 +1,9 @@
 use Rattle.std.proofs.Common.{refl, ◌∙◌, subst}
-use Rattle.vlm_links.specs.declared.tests.Card.{Card}
+use Rattle.vlm_uses.specs.declared.tests.cards.Card.{Card}
 use Rattle.vlm_links.specs.Lists.{IsIn}
 use Rattle.vlm_links.proofs.Keeping.{other_kind-keys, other_kind-linked}
 use Rattle.vlm_links.proofs.KeyLists.{IsIn-without}
-use Rattle.vlm_links.proofs.tests.move_to_end.Goals as goal
+use Rattle.vlm_uses.proofs.tests.cards.move_to_end.Goals as goal
 
 pub push_back-requires-clause-within : goal.push_back-requires-clause-within
 push_back-requires-clause-within c = c.requires.hand.within c.args.key c.requires.listed

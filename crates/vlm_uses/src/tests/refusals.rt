@@ -1,19 +1,14 @@
 //! The core's refusals in their order, and its answers where memory is ample.
 
+use crate::tests::steps::{DECLARATION, P, Q, request};
 use std::process::Abort;
 use vlm_core::Core;
 use vlm_words::blocks::Block;
 use vlm_words::conditions::Cond;
 use vlm_words::modes::Mode;
-use vlm_words::names::NameArg;
 use vlm_words::steps::{
     Answer, Conversion, Declaration, Dequeue, NewRequest, Step, ValueSetting, Which,
 };
-
-/// The first process of node 1, and the first of node 2.
-const P: u32 = 65_537;
-
-const Q: u32 = 131_073;
 
 const NOQUEUE: u16 = 2;
 
@@ -31,34 +26,12 @@ const UNKNOWN: u16 = 256;
 /// Nobody has it.
 const STRANGER: u32 = 65_538;
 
-const DECLARATION: Declaration = Declaration {
-    node: 1,
-    group: 1,
-    syslck: false,
-    quota: 9,
-    blocks: 4,
-};
-
 const DEQUEUE: Dequeue = Dequeue {
     pid: P,
     lock: Which::Id(1),
     value: None,
     flags: 0,
 };
-
-fn request(name: &[u8]) -> NewRequest {
-    NewRequest {
-        pid: P,
-        mode: Mode::Ex,
-        name: NameArg::of(name),
-        block: 1,
-        parent: Which::Id(0),
-        flags: 0,
-        ast: None,
-        bast: None,
-        param: 0,
-    }
-}
 
 /// Lets P hold EX on A as lock 1, and Q wait for it as lock 2.
 fn begin<R: Abort>(rt: &R, core: &mut Core) {
@@ -104,14 +77,18 @@ fn refuses<R: Abort>(rt: &R, core: &mut Core, cases: &[(Step, Cond)]) {
     }
 }
 
+fn makes_each(rt: &impl Abort, core: &mut Core) {
+    assert_eq!(rt; core.declare(DECLARATION), Answer::Process(STRANGER));
+    assert_eq!(rt; core.enq(request(b"B")), Answer::Lock(Cond::Normal, 3));
+    assert_eq!(rt; core.deq(DEQUEUE), Answer::Plain(Cond::Normal));
+    assert_eq!(rt; core.resource_count(), 2);
+}
+
 /// With ample memory each step is made: the waiting lock is granted once the other is gone.
 #[test]
 fn accepted(rt: HostRuntime) {
     let mut core = machine(&rt);
-    assert_eq!(&rt; core.declare(DECLARATION), Answer::Process(STRANGER));
-    assert_eq!(&rt; core.enq(request(b"B")), Answer::Lock(Cond::Normal, 3));
-    assert_eq!(&rt; core.deq(DEQUEUE), Answer::Plain(Cond::Normal));
-    assert_eq!(&rt; core.resource_count(), 2);
+    makes_each(&rt, &mut core);
 }
 
 /// BADPARAM for a node that is none.
@@ -138,17 +115,22 @@ fn declare_all<R: Abort>(rt: &R, core: &mut Core) {
     }
 }
 
+// Node 1 may declare no more, and node 2 may.
+fn declares_elsewhere(rt: &impl Abort, core: &mut Core) {
+    assert_eq!(rt; core.declare(DECLARATION), Answer::Plain(Cond::Badparam));
+    let other = Declaration {
+        node: 2,
+        ..DECLARATION
+    };
+    assert_eq!(rt; core.declare(other), Answer::Process(Q));
+}
+
 /// BADPARAM once a node has declared 65,535 processes; another node's are still taken.
 #[test]
 fn last_ordinal(rt: HostRuntime) {
     let mut core = Core::new(rt.alloc());
     declare_all(&rt, &mut core);
-    assert_eq!(&rt; core.declare(DECLARATION), Answer::Plain(Cond::Badparam));
-    let other = Declaration {
-        node: 2,
-        ..DECLARATION
-    };
-    assert_eq!(&rt; core.declare(other), Answer::Process(Q));
+    declares_elsewhere(&rt, &mut core);
 }
 
 // A request without a name, for a status block of this number.
@@ -442,35 +424,52 @@ fn granted(lkid: u32) -> Block {
     }
 }
 
+// The blocks of P's granted request and of Q's waiting one; there is none for a number or a process that is
+// not there.
+fn check_blocks(rt: &impl Abort, core: &Core) {
+    let pending = Block {
+        lkid: 2,
+        ..Block::new()
+    };
+    assert_eq!(rt; core.block(P, 1), Some(granted(1)));
+    assert_eq!(rt; core.block(Q, 1), Some(pending));
+    assert_eq!(rt; core.block(P, 2), Some(Block::new()));
+    assert_eq!(rt; core.block(P, 0), None);
+    assert_eq!(rt; core.block(P, 5), None);
+    assert_eq!(rt; core.block(STRANGER, 1), None);
+}
+
+// A value goes to the value part alone.
+fn sets_value(rt: &impl Abort, core: &mut Core) {
+    assert_eq!(rt; core.set_value(SETTING), Answer::Plain(Cond::Normal));
+    let valued = Block {
+        value: [7; 16],
+        ..Block::new()
+    };
+    assert_eq!(rt; core.block(P, 4), Some(valued));
+}
+
+// P gives up the lock that its block names, which is granted to Q; the block keeps its status, and names no
+// lock that is there.
+fn gives_up(rt: &impl Abort, core: &mut Core) {
+    let dequeue = Dequeue {
+        lock: Which::Block(1),
+        ..DEQUEUE
+    };
+    assert_eq!(rt; core.deq(dequeue), Answer::Plain(Cond::Normal));
+    assert_eq!(rt; core.block(P, 1), Some(granted(1)));
+    assert_eq!(rt; core.block(Q, 1), Some(granted(2)));
+    assert_eq!(rt; core.deq(dequeue), Answer::Plain(Cond::Ivlockid));
+}
+
 /// An accepted request leaves its lock in the status block, which names it from then on; its end leaves
 /// its status there; a value goes to the value part alone.
 #[test]
 fn status_blocks(rt: HostRuntime) {
     let mut core = machine(&rt);
-    let pending = Block {
-        lkid: 2,
-        ..Block::new()
-    };
-    assert_eq!(&rt; core.block(P, 1), Some(granted(1)));
-    assert_eq!(&rt; core.block(Q, 1), Some(pending));
-    assert_eq!(&rt; core.block(P, 2), Some(Block::new()));
-    assert_eq!(&rt; core.block(P, 0), None);
-    assert_eq!(&rt; core.block(P, 5), None);
-    assert_eq!(&rt; core.block(STRANGER, 1), None);
-    assert_eq!(&rt; core.set_value(SETTING), Answer::Plain(Cond::Normal));
-    let valued = Block {
-        value: [7; 16],
-        ..Block::new()
-    };
-    assert_eq!(&rt; core.block(P, 4), Some(valued));
-    let dequeue = Dequeue {
-        lock: Which::Block(1),
-        ..DEQUEUE
-    };
-    assert_eq!(&rt; core.deq(dequeue), Answer::Plain(Cond::Normal));
-    assert_eq!(&rt; core.block(P, 1), Some(granted(1)));
-    assert_eq!(&rt; core.block(Q, 1), Some(granted(2)));
-    assert_eq!(&rt; core.deq(dequeue), Answer::Plain(Cond::Ivlockid));
+    check_blocks(&rt, &core);
+    sets_value(&rt, &mut core);
+    gives_up(&rt, &mut core);
 }
 
 /// BADPARAM for each kind that is not built, whoever the caller is.

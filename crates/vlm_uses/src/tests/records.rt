@@ -1,0 +1,132 @@
+//! How large the records of the store are; and a process with a lock and a lock below it.
+
+ghost use Rattle.std.specs.Prelude.{◌≡◌};
+
+use crate::tests::stores;
+use std::alloc::AllocError;
+use std::process::Abort;
+use std::test::Fail;
+use vlm_store::{LOCK_SIZE, RESOURCE_SIZE, Store};
+use vlm_words::blocks::Block;
+use vlm_words::locks::Row;
+use vlm_words::steps::Declaration;
+
+const PID: u32 = 65_537;
+
+#[test]
+fn a_lock_takes_at_most_160_bytes(rt: HostRuntime) {
+    let size = LOCK_SIZE;
+    assert!(rt; size <= 160, "a lock takes {size} bytes");
+}
+
+#[test]
+fn a_resource_takes_at_most_256_bytes(rt: HostRuntime) {
+    let size = RESOURCE_SIZE;
+    assert!(rt; size <= 256, "a resource takes {size} bytes");
+}
+
+fn row(lkid: u32, parent: u32) -> Row
+    ensures { result.parent ≡ parent }
+{
+    Row {
+        lkid,
+        pid: PID,
+        parent,
+        armed: false,
+        held: None,
+        want: None,
+    }
+}
+
+fn declare(store: &mut Store) -> Result<(), AllocError> {
+    let declaration = Declaration {
+        node: 1,
+        group: 7,
+        syslck: false,
+        quota: 9,
+        blocks: 2,
+    };
+    stores::declare(store, PID, &declaration)
+}
+
+// The process has two locks, of which none stands below the other.
+fn make_two(rt: &impl Abort, store: &mut Store) -> Result<(), AllocError> {
+    declare(store)?;
+    stores::add(rt, store, row(1, 0), None)?;
+    stores::add(rt, store, row(2, 0), None)
+}
+
+// The first of two locks stands first, and the other behind it.
+fn check_order(rt: &impl Abort, store: &Store) {
+    let owner = stores::process(rt, store, PID);
+    let first = stores::lock(rt, store, 1);
+    assert_eq!(rt; store.group(owner), 7);
+    assert_eq!(rt; store.lock_count(owner), 2);
+    assert_eq!(rt; store.owner(first), owner);
+    assert_eq!(rt; store.first_own(owner), Some(first));
+    assert_eq!(rt; store.next_own(first), store.lock(2));
+}
+
+// The second of two locks is the first of the process.
+fn check_left(rt: &impl Abort, store: &Store) {
+    let left = stores::process(rt, store, PID);
+    assert_eq!(rt; store.first_own(left), store.lock(2));
+}
+
+#[test]
+fn the_locks_of_a_process_stand_in_order_of_making(rt: HostRuntime) -> Result<(), Fail> {
+    let mut store = Store::new(rt.alloc());
+    make_two(&rt, &mut store)?;
+    check_order(&rt, &store);
+    assert!(rt; stores::leave(&rt, &mut store, 1));
+    check_left(&rt, &store);
+    Ok(())
+}
+
+// The process has a lock, and another below it.
+fn make_tree(rt: &impl Abort, store: &mut Store) -> Result<(), AllocError> {
+    declare(store)?;
+    stores::add(rt, store, row(1, 0), None)?;
+    let parent = stores::lock(rt, store, 1);
+    let below = row(2, store.row(parent).lkid);
+    stores::add(rt, store, below, Some(parent))
+}
+
+#[test]
+fn a_parent_outlives_its_sublock(rt: HostRuntime) -> Result<(), Fail> {
+    let mut store = Store::new(rt.alloc());
+    make_tree(&rt, &mut store)?;
+    assert!(rt; !stores::leave(&rt, &mut store, 1));
+    assert!(rt; stores::leave(&rt, &mut store, 2));
+    assert!(rt; stores::leave(&rt, &mut store, 1));
+    assert!(rt; store.lock(1).is_none());
+    Ok(())
+}
+
+// Writes the process's second status block.
+fn write_block(rt: &impl Abort, store: &mut Store) {
+    let block = Block {
+        status: 4,
+        lkid: 3,
+        value: [5; 16],
+    };
+    let process = stores::process(rt, store, PID);
+    store.set_status_block(process, 2, block);
+}
+
+// The process's second status block has the written value.
+fn check_block(rt: &impl Abort, store: &Store) {
+    let written = stores::process(rt, store, PID);
+    let blocks = store.status_blocks(written);
+    assert_eq!(rt; blocks.len(), 2);
+    assert_eq!(rt; blocks[1].value, [5; 16]);
+}
+
+#[test]
+fn a_process_keeps_what_is_put_in_its_status_blocks(rt: HostRuntime) -> Result<(), Fail> {
+    let mut store = Store::new(rt.alloc());
+    declare(&mut store)?;
+    write_block(&rt, &mut store);
+    check_block(&rt, &store);
+    Ok(())
+}

@@ -1,0 +1,245 @@
+//! A resource whose three queues are filled, served and emptied. What wants memory finds, where it was
+//! refused, that nothing has changed, and tries again: so each test passes with any one allocation refused.
+
+ghost use Rattle.std.specs.Prelude.{◌≡◌};
+
+use crate::tests::stores::{self, key, lock, process, resource};
+use std::alloc::AllocError;
+use std::process::Abort;
+use std::test::Fail;
+use vlm_queue::{can_hold, head, is_idle, next, pop_front, push_back, unlink};
+use vlm_store::Store;
+use vlm_words::flags::EnqFlags;
+use vlm_words::locks::{Request, Row};
+use vlm_words::modes::Mode;
+use vlm_words::resources::{Key, Queue};
+use vlm_words::steps::Declaration;
+
+fn request(mode: Mode) -> Request {
+    Request {
+        number: 1,
+        mode,
+        flags: EnqFlags::EXPEDITE,
+        block: 1,
+        completion: None,
+        blocking: None,
+        param: 0,
+    }
+}
+
+fn row(lkid: u32, held: Option<Mode>, want: Option<Mode>) -> Row
+    ensures { result.parent ≡ 0 }
+{
+    Row {
+        lkid,
+        pid: 1,
+        parent: 0,
+        held: held.map(request),
+        want: want.map(request),
+        armed: false,
+    }
+}
+
+// Declares a process. Where memory was refused once it does not live, and is declared again.
+fn declare(rt: &impl Abort, store: &mut Store, pid: u32) -> Result<(), AllocError> {
+    let declaration = Declaration {
+        node: 1,
+        group: 1,
+        syslck: false,
+        quota: 9,
+        blocks: 1,
+    };
+    if stores::declare(store, pid, &declaration).is_err() {
+        assert!(rt;
+            store.process(pid).is_none(),
+            "a refused process is not there"
+        );
+        stores::declare(store, pid, &declaration)?;
+    }
+    Ok(())
+}
+
+// Adds a resource, unless it is there. Where memory was refused once it is not there, and is added again.
+fn open(rt: &impl Abort, store: &mut Store, serial: u32, key: &Key) -> Result<(), AllocError> {
+    if stores::open(store, serial, key).is_err() {
+        assert!(rt;
+            store.resource(key).is_none(),
+            "a refused resource is not there"
+        );
+        stores::open(store, serial, key)?;
+    }
+    Ok(())
+}
+
+// Adds a lock in no queue, unless it is there. Where memory was refused once it is not there, and is added
+// again.
+fn add(rt: &impl Abort, store: &mut Store, row: Row) -> Result<(), AllocError>
+    requires { row.parent ≡ 0 }
+{
+    let owner = process(rt, store, row.pid);
+    let count = store.lock_count(owner);
+    if stores::add(rt, store, row, None).is_err() {
+        assert!(rt;
+            store.lock(row.lkid).is_none(),
+            "a refused lock is not there"
+        );
+        let owner = process(rt, store, row.pid);
+        assert_eq!(rt; store.lock_count(owner), count);
+        stores::add(rt, store, row, None)?;
+    }
+    Ok(())
+}
+
+// Adds a lock at the end of a queue, unless it is there.
+fn enter(
+    rt: &impl Abort,
+    store: &mut Store,
+    key: &Key,
+    row: Row,
+    queue: Queue,
+) -> Result<(), AllocError>
+    requires { row.parent ≡ 0 }
+{
+    add(rt, store, row)?;
+    let res = resource(rt, store, key);
+    let lock = lock(rt, store, row.lkid);
+    push_back(store, res, queue, lock);
+    Ok(())
+}
+
+// One resource, whose three queues are filled.
+fn fill(rt: &impl Abort, store: &mut Store, key: &Key) -> Result<(), AllocError> {
+    let granted = row(1, Some(Mode::Ex), None);
+    let converting = row(2, Some(Mode::Nl), Some(Mode::Pr));
+    let first_waiting = row(3, None, Some(Mode::Pr));
+    let next_waiting = row(4, None, Some(Mode::Cr));
+    declare(rt, store, 1)?;
+    open(rt, store, 1, key)?;
+    enter(rt, store, key, granted, Queue::Granted)?;
+    enter(rt, store, key, converting, Queue::Conversion)?;
+    enter(rt, store, key, first_waiting, Queue::Waiting)?;
+    enter(rt, store, key, next_waiting, Queue::Waiting)
+}
+
+// Removes a lock, below which none stands.
+fn leave(rt: &impl Abort, store: &mut Store, lkid: u32) {
+    assert!(rt; stores::leave(rt, store, lkid));
+}
+
+// Takes the first converting lock out of its queue, and puts it at the end of the granted locks with this
+// mode.
+fn serve(rt: &impl Abort, store: &mut Store, key: &Key, lkid: u32, mode: Mode) {
+    let res = resource(rt, store, key);
+    let served = pop_front(store, res, Queue::Conversion);
+    let lock = lock(rt, store, lkid);
+    assert!(rt; served == Some(lock));
+    let old = store.row(lock);
+    store.set_row(
+        lock,
+        Row {
+            held: Some(request(mode)),
+            want: None,
+            ..old
+        },
+    );
+}
+
+// Whether a mode can be held beside all locks, or beside all but one.
+fn fits(rt: &impl Abort, store: &Store, key: &Key, mode: Mode, own: Option<u32>) -> bool {
+    let res = resource(rt, store, key);
+    match own {
+        None => can_hold(store, res, mode, None),
+        Some(lkid) => can_hold(store, res, mode, Some(lock(rt, store, lkid))),
+    }
+}
+
+#[test]
+fn a_mode_fits_once_the_holder_has_left(rt: HostRuntime) -> Result<(), Fail> {
+    let key = key(b"A")?;
+    let mut store = Store::new(rt.alloc());
+    fill(&rt, &mut store, &key)?;
+    assert!(rt; !fits(&rt, &store, &key, Mode::Pr, Some(2)));
+    leave(&rt, &mut store, 1);
+    assert!(rt; store.lock(1).is_none());
+    assert!(rt; fits(&rt, &store, &key, Mode::Pr, Some(2)));
+    assert!(rt; fits(&rt, &store, &key, Mode::Ex, None));
+    Ok(())
+}
+
+// The queues of the filled resource have their locks in order.
+fn check_order(rt: &impl Abort, store: &Store, key: &Key) {
+    let res = resource(rt, store, key);
+    let third = lock(rt, store, 3);
+    assert!(rt; !is_idle(store, res));
+    assert_eq!(rt; head(store, res, Queue::Granted), store.lock(1));
+    assert_eq!(rt; head(store, res, Queue::Conversion), store.lock(2));
+    assert_eq!(rt; head(store, res, Queue::Waiting), Some(third));
+    assert_eq!(rt; next(store, third), store.lock(4));
+}
+
+#[test]
+fn queues_keep_their_order(rt: HostRuntime) -> Result<(), Fail> {
+    let key = key(b"A")?;
+    let mut store = Store::new(rt.alloc());
+    fill(&rt, &mut store, &key)?;
+    check_order(&rt, &store, &key);
+    Ok(())
+}
+
+// The locks of the resource leave one by one; it is not idle before the last leaves.
+fn empty(rt: &impl Abort, store: &mut Store, key: &Key) {
+    leave(rt, store, 1);
+    leave(rt, store, 2);
+    leave(rt, store, 3);
+    assert!(rt; !is_idle(store, resource(rt, store, key)));
+    leave(rt, store, 4);
+}
+
+// Removes the resource, which is idle; the other one is the first from then on.
+fn remove(rt: &impl Abort, store: &mut Store, key: &Key, other: &Key) {
+    let res = resource(rt, store, key);
+    assert!(rt; is_idle(store, res));
+    store.remove_resource(res);
+    assert!(rt; store.resource(key).is_none());
+    assert_eq!(rt; store.first_resource(), store.resource(other));
+}
+
+#[test]
+fn an_emptied_resource_leaves_the_order_of_the_others(rt: HostRuntime) -> Result<(), Fail> {
+    let a = key(b"A")?;
+    let b = key(b"B")?;
+    let mut store = Store::new(rt.alloc());
+    fill(&rt, &mut store, &a)?;
+    open(&rt, &mut store, 2, &b)?;
+    empty(&rt, &mut store, &a);
+    remove(&rt, &mut store, &a, &b);
+    Ok(())
+}
+
+// Puts a lock that stands in no queue among the granted.
+fn settle(rt: &impl Abort, store: &mut Store, key: &Key, lkid: u32) {
+    let loose = lock(rt, store, lkid);
+    let res = resource(rt, store, key);
+    push_back(store, res, Queue::Granted, loose);
+}
+
+// Takes a lock out of its queue.
+fn loosen(rt: &impl Abort, store: &mut Store, lkid: u32) {
+    let granted = lock(rt, store, lkid);
+    unlink(store, granted);
+}
+
+#[test]
+fn a_served_lock_is_loose_and_holds_its_mode(rt: HostRuntime) -> Result<(), Fail> {
+    let key = key(b"A")?;
+    let mut store = Store::new(rt.alloc());
+    fill(&rt, &mut store, &key)?;
+    leave(&rt, &mut store, 1);
+    serve(&rt, &mut store, &key, 2, Mode::Pr);
+    settle(&rt, &mut store, &key, 2);
+    assert!(rt; !fits(&rt, &store, &key, Mode::Pw, None));
+    assert!(rt; fits(&rt, &store, &key, Mode::Pw, Some(2)));
+    loosen(&rt, &mut store, 2);
+    assert!(rt; fits(&rt, &store, &key, Mode::Pw, None));
+    Ok(())
+}

@@ -1,0 +1,97 @@
+//! Calls on a store that is as it is between two steps.
+
+ghost use Rattle.std.specs.Prelude.{◌≡◌};
+ghost use Rattle.vlm_store.specs.Records.{HasProcess, HasResource, IsParentOf, IsProcess, IsStored};
+
+use std::alloc::AllocError;
+use std::process::Abort;
+use std::test::Fail;
+use vlm_store::{LockAt, ProcAt, ResAt, Store};
+use vlm_words::locks::Row;
+use vlm_words::names::Name;
+use vlm_words::resources::{Domain, Key, Site};
+use vlm_words::steps::Declaration;
+
+/// The key of a root in the system's domain.
+pub fn key(name: &[u8]) -> Result<Key, Fail> {
+    let name = Name::new(name).ok().ok_or("a name")?;
+    Ok(Key::Root(Domain::System, name))
+}
+
+/// The process, which has to live.
+pub fn process(rt: &impl Abort, store: &Store, pid: u32) -> ProcAt
+    ensures named { IsProcess result pid store.now }
+    ensures there { HasProcess result store.now }
+{
+    store.process(pid).expect(rt, "the process lives")
+}
+
+/// The resource, which has to be there.
+pub fn resource(rt: &impl Abort, store: &Store, key: &Key) -> ResAt
+    ensures { HasResource result store.now }
+{
+    store.resource(key).expect(rt, "the resource is there")
+}
+
+/// The lock, which has to be there.
+pub fn lock(rt: &impl Abort, store: &Store, lkid: u32) -> LockAt
+    ensures { IsStored result store.now }
+{
+    store.lock(lkid).expect(rt, "the lock is there")
+}
+
+/// Adds a process, unless it lives.
+pub fn declare(store: &mut Store, pid: u32, declaration: &Declaration) -> Result<(), AllocError> {
+    match store.process(pid) {
+        Some(_) => Ok(()),
+        None => {
+            store.add_process(pid, declaration)?;
+            Ok(())
+        }
+    }
+}
+
+/// Adds a resource, unless it is there.
+pub fn open(store: &mut Store, serial: u32, key: &Key) -> Result<(), AllocError> {
+    match store.resource(key) {
+        Some(_) => Ok(()),
+        None => {
+            let site = Site {
+                key: *key,
+                domain: Domain::System,
+                level: 0,
+            };
+            store.add_resource(serial, &site)?;
+            Ok(())
+        }
+    }
+}
+
+/// Adds a lock in no queue, below a parent or below none, unless it is there.
+pub fn add(
+    rt: &impl Abort,
+    store: &mut Store,
+    row: Row,
+    parent: Option<LockAt>,
+) -> Result<(), AllocError>
+    requires { IsParentOf parent row store.old }
+{
+    let owner = process(rt, store, row.pid);
+    match store.lock(row.lkid) {
+        Some(_) => Ok(()),
+        None => {
+            store.add_lock(row, owner, parent)?;
+            Ok(())
+        }
+    }
+}
+
+/// Removes a lock, unless another stands below it. Says whether it is gone.
+pub fn leave(rt: &impl Abort, store: &mut Store, lkid: u32) -> bool {
+    let lock = lock(rt, store, lkid);
+    if store.has_sublocks(lock) {
+        return false;
+    }
+    store.remove_lock(lock);
+    true
+}
