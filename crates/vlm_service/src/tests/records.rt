@@ -105,7 +105,7 @@ fn the_locks_of_a_process_stand_in_order_of_making(rt: HostRuntime) -> Result<()
     add(&rt, &mut store, row(2, 0), None)?;
     let owner = process(&rt, &store, PID);
     let first = lock(&rt, &store, 1);
-    assert_eq!(rt; store.group(owner), 7);
+    assert_eq!(rt; store.authorization(owner).group, 7);
     assert_eq!(rt; store.lock_count(owner), 2);
     assert_eq!(rt; store.owner(first), owner);
     assert_eq!(rt; store.first_own(owner), Some(first));
