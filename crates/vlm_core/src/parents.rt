@@ -109,7 +109,7 @@ impl Machine {
         ensures { (r : StoredResource) → resource_at res self.now.records.resources ≡ Some r
             → result_err result ≡ depth_refusal (Some (plain_resource r)) }
     {
-        if self.store.level(res) < LAST_LEVEL {
+        if self.store.site(res).level < LAST_LEVEL {
             Ok(())
         } else {
             Err(Cond::Exdepth)
@@ -149,11 +149,14 @@ impl Machine {
     {
         self.store.known();
         match parent {
-            Some(parent) => Site {
-                key: Key::Below(self.store.serial(parent.res), name),
-                domain: self.store.domain(parent.res),
-                level: self.store.level(parent.res) + 1,
-            },
+            Some(parent) => {
+                let above = self.store.site(parent.res);
+                Site {
+                    key: Key::Below(self.store.serial(parent.res), name),
+                    domain: above.domain,
+                    level: above.level + 1,
+                }
+            }
             None => {
                 let domain = self.root_domain(caller, flags);
                 Site {

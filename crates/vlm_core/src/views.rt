@@ -9,7 +9,7 @@ use vlm_store::{ResAt, Store};
 use vlm_words::locks::Row;
 use vlm_words::modes::Mode;
 use vlm_words::names::Name;
-use vlm_words::resources::{Domain, Key};
+use vlm_words::resources::{Domain, Key, Site};
 
 /// A resource without its queues.
 #[derive(Clone, Copy)]
@@ -47,7 +47,8 @@ pub(crate) fn resource_view(store: &Store, res: ResAt) -> ResourceView
     ensures { IfSome (resource_at res store.now.resources)
         (λ r. result ≡ resource_view (plain_resource r)) }
 {
-    let (parent, name) = match store.key(res) {
+    let Site { key, domain, .. } = store.site(res);
+    let (parent, name) = match key {
         Key::Root(_, name) => (0, name),
         Key::Below(parent, name) => (parent, name),
     };
@@ -56,7 +57,7 @@ pub(crate) fn resource_view(store: &Store, res: ResAt) -> ResourceView
     ResourceView {
         serial: store.serial(res),
         parent,
-        domain: store.domain(res),
+        domain,
         name,
         value,
         valid: block.valid,

@@ -12,7 +12,7 @@ use crate::printing::{converting_line, granted_line, no_resources, resource_line
 use std::alloc::AllocError;
 use vlm_store::{Place, ResAt, Store};
 use vlm_words::locks::Row;
-use vlm_words::resources::{Key, Queue};
+use vlm_words::resources::{Key, Queue, Site};
 
 /// Prints every resource by rising serial with its queues, or that there is none.
 pub(crate) fn show(store: &Store, out: &mut Vec<u8>) -> Result<(), AllocError>
@@ -60,7 +60,8 @@ fn show_head(store: &Store, res: ResAt, out: &mut Vec<u8>) -> Result<(), AllocEr
         ++ resource_line r.serial (key_parent r.key) r.domain (key_name r.key)
         r.value_block.value r.value_block.valid)) }
 {
-    let (parent, name) = match store.key(res) {
+    let Site { key, domain, .. } = store.site(res);
+    let (parent, name) = match key {
         Key::Root(_, name) => (0, name),
         Key::Below(parent, name) => (parent, name),
     };
@@ -69,7 +70,7 @@ fn show_head(store: &Store, res: ResAt, out: &mut Vec<u8>) -> Result<(), AllocEr
         out,
         store.serial(res),
         parent,
-        store.domain(res),
+        domain,
         name.bytes(),
         &value_block.value,
         value_block.valid,

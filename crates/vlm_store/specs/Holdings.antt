@@ -77,7 +77,7 @@ named_lock l = but_kin (but_queued l)
 
 -- what the record of a process tells
 abbrev pub plain_process : Process → PlainProcess
-plain_process p = record { pid = p.pid; group = p.group; syslck = p.syslck; quota = p.quota; blocks = p.blocks.items }
+plain_process p = record { pid = p.pid; group = p.authorization.group; syslck = p.authorization.syslck; quota = p.authorization.quota; blocks = p.blocks.items }
 
 -- what is told of a process that is not there
 abbrev pub no_process : PlainProcess

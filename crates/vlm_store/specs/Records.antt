@@ -17,6 +17,7 @@ use Rattle.vlm_words.specs.declared.resources.Key.{Key}
 use Rattle.vlm_words.specs.declared.resources.Site.{Site}
 use Rattle.vlm_store.specs.declared.keys.Place.{Place}
 use Rattle.vlm_store.specs.declared.keys.Place.TheVariants.{Loose, Queued}
+use Rattle.vlm_store.specs.declared.processes.Authorization.{Authorization}
 use Rattle.vlm_words.specs.declared.resources.ValueBlock.{ValueBlock}
 
 -- a lock under its key
@@ -71,6 +72,10 @@ new_resource at serial site = record {
   converting = [];
   waiting = [];
 }
+
+-- where a resource stands
+abbrev pub resource_site : StoredResource → Site
+resource_site r = record { key = r.key; domain = r.domain; level = r.level }
 
 -- the locks of a queue
 abbrev pub queued : Queue → StoredResource → List StoredLock
@@ -254,6 +259,10 @@ process_at at processes = find (λ p. p.at == at) processes
 -- there is a process of this key
 abbrev pub HasProcess : ℕ → Records → Type 0
 HasProcess at s = IsSome (process_at at s.processes)
+
+-- what a process may do
+abbrev pub authorization_of : Process → Authorization
+authorization_of p = record { group = p.group; quota = p.quota; syslck = p.syslck }
 
 -- the process is one of these
 abbrev pub IsProcessAmong : StoredProcess → List StoredProcess → Type 0

@@ -13,5 +13,6 @@ mod store;
 
 pub use keys::{LockAt, Place, ProcAt, ResAt};
 pub use locks::LOCK_SIZE;
+pub use processes::Authorization;
 pub use resources::RESOURCE_SIZE;
 pub use store::Store;

@@ -4,10 +4,10 @@ ghost use Rattle.std.specs.Prelude.{◌≡◌, ℕ, [], ◌∷◌, ◌++◌, len
 ghost use Rattle.std.specs.Bool.{OnFalse, OnTrue};
 ghost use Rattle.vlm_words.specs.declared.locks.Row.{Row};
 ghost use Rattle.vlm_words.specs.StatusBlocks.{process_with_block};
-ghost use Rattle.vlm_store.specs.Records.{FindsProcess, HasNoLocks, HasNoSublocks, HasProcess, IsNewProcess, IsOwnAmong, IsProcess, IsProcessAmong, IsStored, OwnLock, StoredProcess, Stores, first_own_at, new_stored_process, on_process, own_at, own_at_after, owned_by, process_at, without_process};
+ghost use Rattle.vlm_store.specs.Records.{FindsProcess, HasNoLocks, HasNoSublocks, HasProcess, IsNewProcess, IsOwnAmong, IsProcess, IsProcessAmong, IsStored, OwnLock, StoredProcess, Stores, authorization_of, first_own_at, new_stored_process, on_process, own_at, own_at_after, owned_by, process_at, without_process};
 
 use crate::keys::{LockAt, ProcAt};
-use crate::processes::{Process, enter, leave};
+use crate::processes::{Authorization, Process, enter, leave};
 use crate::store::Store;
 use std::alloc::AllocError;
 use vlm_links::LAST_KEY;
@@ -55,28 +55,13 @@ impl Store {
         self.process_index.swap_remove(&pid);
     }
 
-    /// The UIC group of a process.
-    pub fn group(&self, at: ProcAt) -> u16
+    /// What a process may do.
+    pub fn authorization(&self, at: ProcAt) -> Authorization
         requires { HasProcess at self.now }
-        ensures { IfSome (process_at at self.now.processes) (λ p. result ≡ p.process.group) }
+        ensures { IfSome (process_at at self.now.processes)
+            (λ p. result ≡ authorization_of p.process) }
     {
-        self.processes[at.slot()].group
-    }
-
-    /// How many locks a process may have.
-    pub fn quota(&self, at: ProcAt) -> u16
-        requires { HasProcess at self.now }
-        ensures { IfSome (process_at at self.now.processes) (λ p. result ≡ p.process.quota) }
-    {
-        self.processes[at.slot()].quota
-    }
-
-    /// Whether a process has the SYSLCK privilege.
-    pub fn has_syslck(&self, at: ProcAt) -> bool
-        requires { HasProcess at self.now }
-        ensures { IfSome (process_at at self.now.processes) (λ p. result ≡ p.process.syslck) }
-    {
-        self.processes[at.slot()].syslck
+        self.processes[at.slot()].authorization
     }
 
     /// The status blocks of a process, of which block n stands at n - 1.

@@ -16,14 +16,22 @@ use vlm_links::{LAST_KEY, Linked, LinkedList, Links};
 use vlm_words::blocks::Block;
 use vlm_words::steps::Declaration;
 
+/// What a process may do, as it was declared.
+#[derive(Clone, Copy)]
+pub struct Authorization {
+    /// Its UIC group.
+    pub group: u16,
+    /// How many locks it may have, those that wait too.
+    pub quota: u16,
+    /// Whether it has the privilege SYSLCK.
+    pub syslck: bool,
+}
+
 /// A living process.
 #[derive(Drop)]
 pub(crate) struct Process {
     pub(crate) pid: u32,
-    pub(crate) group: u16,
-    pub(crate) syslck: bool,
-    // how many locks it may have
-    pub(crate) quota: u16,
+    pub(crate) authorization: Authorization,
     // status block n stands at n - 1
     pub(crate) blocks: Vec<Block>,
     pub(crate) own: LinkedList<OfProcess>,
@@ -43,9 +51,11 @@ impl Process {
     {
         Ok(Process {
             pid,
-            group: declaration.group,
-            syslck: declaration.syslck,
-            quota: declaration.quota,
+            authorization: Authorization {
+                group: declaration.group,
+                quota: declaration.quota,
+                syslck: declaration.syslck,
+            },
             blocks: vec![in alloc; Block::new(); usize::from(declaration.blocks)]?,
             own: LinkedList::new(),
             in_order: Links::none(),

@@ -376,9 +376,11 @@ impl Queues {
     {
         let at = self.resources.insert_reserved(Resource {
             serial,
-            domain: site.domain,
-            key: site.key,
-            level: site.level,
+            site: Site {
+                key: site.key,
+                domain: site.domain,
+                level: site.level,
+            },
             value_block: ValueBlock {
                 value: [0; 16],
                 valid: true,

@@ -4,7 +4,7 @@ ghost use Rattle.std.specs.Prelude.{◌≡◌, [], ◌∷◌, ◌++◌, length, 
 ghost use Rattle.std.specs.Option.{ForSome};
 ghost use Rattle.vlm_words.specs.declared.locks.Row.{Row};
 ghost use Rattle.vlm_store.specs.declared.keys.Place.{Place};
-ghost use Rattle.vlm_store.specs.Records.{FindsLock, FindsResource, HasNoSublocks, HasPlace, HasResource, IsAmong, IsParentOf, IsProcess, at_after, first_at, first_resource_at, fits_beside, resource_at_after, resource_at, IsIdle, IsNewKey, IsNewLock, IsRowOf, IsSound, IsStored, Stores, leaving, locks_at, moving, new_resource, nothing, on_resource, rewriting, with_lists, with_new_lock, without_resource, without_stored_lock};
+ghost use Rattle.vlm_store.specs.Records.{FindsLock, FindsResource, HasNoSublocks, HasPlace, HasResource, IsAmong, IsParentOf, IsProcess, at_after, first_at, first_resource_at, fits_beside, resource_at_after, resource_at, resource_site, IsIdle, IsNewKey, IsNewLock, IsRowOf, IsSound, IsStored, Stores, leaving, locks_at, moving, new_resource, nothing, on_resource, rewriting, with_lists, with_new_lock, without_resource, without_stored_lock};
 
 use crate::keys::{LockAt, Place, ProcAt, ResAt};
 use crate::kin::{join_parent, join_process, leave_parent, leave_process};
@@ -18,7 +18,7 @@ use std::marker::Model;
 use vlm_links::{LAST_KEY, LinkedList};
 use vlm_words::locks::Row;
 use vlm_words::modes::Mode;
-use vlm_words::resources::{Domain, Key, Site, ValueBlock};
+use vlm_words::resources::{Key, Site, ValueBlock};
 
 /// The records of the machine. Each call takes constant time but for the growth of an add.
 pub struct Store {
@@ -262,28 +262,12 @@ impl Store {
         self.queues.resources[res.slot()].serial
     }
 
-    /// The domain that a resource is in.
-    pub fn domain(&self, res: ResAt) -> Domain
+    /// Where a resource stands.
+    pub fn site(&self, res: ResAt) -> Site
         requires { HasResource res self.now }
-        ensures { IfSome (resource_at res self.now.resources) (λ r. result ≡ r.domain) }
+        ensures { IfSome (resource_at res self.now.resources) (λ r. result ≡ resource_site r) }
     {
-        self.queues.resources[res.slot()].domain
-    }
-
-    /// How many levels a resource stands below its root.
-    pub fn level(&self, res: ResAt) -> u8
-        requires { HasResource res self.now }
-        ensures { IfSome (resource_at res self.now.resources) (λ r. result ≡ r.level) }
-    {
-        self.queues.resources[res.slot()].level
-    }
-
-    /// The key under which a resource stands.
-    pub fn key(&self, res: ResAt) -> Key
-        requires { HasResource res self.now }
-        ensures { IfSome (resource_at res self.now.resources) (λ r. result ≡ r.key) }
-    {
-        self.queues.resources[res.slot()].key
+        self.queues.resources[res.slot()].site
     }
 
     /// The value block of a resource.
@@ -311,7 +295,7 @@ impl Store {
         ensures { self.new
             ≡ record self.old { resources = without_resource res self.old.resources } }
     {
-        let key = self.queues.resources[res.slot()].key;
+        let key = self.queues.resources[res.slot()].site.key;
         self.queues.remove_resource(&mut self.order, res.slot());
         self.resource_index.swap_remove(&key);
     }

@@ -1,6 +1,6 @@
 use Rattle.std.proofs.Common.{◌≡◌, ap, ◌∙◌, nat_lt}
 use Rattle.vlm_words.specs.Quotas.{locks_of, quota_of}
-use Rattle.vlm_words.specs.State.{Process}
+use Rattle.vlm_store.specs.declared.processes.Authorization.{Authorization}
 use Rattle.vlm_store.specs.Records.{plain_processes}
 use Rattle.vlm_service.specs.Plain.{plain_resources}
 use Rattle.vlm_core.proofs.Callers.{told_is}
@@ -13,6 +13,6 @@ returns c =
     let caller = c.args.caller.now in
     let count : c.lock_count.result ≡ locks_of caller.pid (plain_resources s) =
     c.lock_count.ensures.owned caller.pid c.requires.caller.lives ∙ all_same caller.pid s c.requires.none_loose in
-    let quota : c.quota.result ≡ quota_of (plain_processes s) caller.pid =
-    told_is s caller.at caller.pid (λ (p : Process). p.quota) 0 c.quota.result c.known.ensures c.requires.caller.lives c.quota.ensures in
+    let quota : c.authorization.result.quota ≡ quota_of (plain_processes s) caller.pid =
+    told_is s caller.at caller.pid (λ (a : Authorization). a.quota) 0 c.authorization.result c.known.ensures c.requires.caller.lives c.authorization.ensures in
     ap (λ n. nat_lt n c.from.result) count ∙ ap (nat_lt (locks_of caller.pid (plain_resources s))) (c.from.ensures ∙ quota)

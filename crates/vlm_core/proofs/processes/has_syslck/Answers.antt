@@ -1,8 +1,8 @@
 use Rattle.std.proofs.Common.{false}
-use Rattle.vlm_words.specs.State.{Process}
+use Rattle.vlm_store.specs.declared.processes.Authorization.{Authorization}
 use Rattle.vlm_core.proofs.Callers.{told_is}
 use Rattle.vlm_core.proofs.processes.has_syslck.Goals as goal
 
 pub returns : goal.returns
 returns c =
-    told_is c.args.store.now c.args.caller.now.at c.args.caller.now.pid (λ (p : Process). p.syslck) false c.has_syslck.result c.known.ensures c.requires.lives c.has_syslck.ensures
+    told_is c.args.store.now c.args.caller.now.at c.args.caller.now.pid (λ (a : Authorization). a.syslck) false c.authorization.result c.known.ensures c.requires.lives c.authorization.ensures

@@ -2,7 +2,7 @@ use Rattle.std.proofs.Common.{◌≡◌, ◌<◌, Some, None, sym, ap, ◌∙◌
 use Rattle.vlm_words.specs.declared.resources.Domain.{Domain}
 use Rattle.vlm_words.specs.Flags.{flag_bits}
 use Rattle.vlm_words.specs.Trees.{parent_resource, root_domain, site_below}
-use Rattle.vlm_store.specs.Records.{StoredResource, resource_at}
+use Rattle.vlm_store.specs.Records.{StoredResource, resource_at, resource_site}
 use Rattle.vlm_service.specs.Plain.{plain_resource}
 use Rattle.vlm_locks.proofs.Stood.{resource_among}
 use Rattle.vlm_core.specs.Machine.{Kept, kept, plain_state}
@@ -23,10 +23,9 @@ returns-in-Some-clause-site c =
     let up : parent_resource (plain_state m) pid (lkid_of c.args.parent.now) ≡ Some (plain_resource r) =
     ap (λ o. parent_resource (plain_state m) pid (lkid_of o)) c.in-Some.is ∙ parent_found m c.known.ensures f is.standing.standing pid is.standing.owned is.named in
     rw (← c.self.view_is)
-    (site_record (root_domain (plain_state m) pid (flag_bits c.args.flags)) c.args.name c.serial.result c.level.result c.domain.result r
+    (site_record (root_domain (plain_state m) pid (flag_bits c.args.flags)) c.args.name c.serial.result c.site-above.result r
     (of_some (λ (x : StoredResource). c.serial.result ≡ x.serial) (resource_at f.res m.records.resources) r found c.serial.ensures)
-    (of_some (λ (x : StoredResource). c.domain.result ≡ x.domain) (resource_at f.res m.records.resources) r found c.domain.ensures)
-    (of_some (λ (x : StoredResource). c.level.result ≡ x.level) (resource_at f.res m.records.resources) r found c.level.ensures)
+    (of_some (λ (x : StoredResource). c.site-above.result ≡ resource_site x) (resource_at f.res m.records.resources) r found c.site-above.ensures)
     ∙ sym (ap (site_below (root_domain (plain_state m) pid (flag_bits c.args.flags)) c.args.name) up))
 
 -- a parent has a serial

@@ -3,7 +3,7 @@ use Rattle.vlm_store.specs.Shown.{face_in}
 use Rattle.vlm_store.specs.Store.{tables}
 use Rattle.vlm_store.proofs.Layouts.{HasResource-order, resource_at-found}
 use Rattle.vlm_store.specs.Kept.{processes_shown}
-use Rattle.vlm_store.proofs.store.Store.key.Goals as goal
+use Rattle.vlm_store.proofs.store.Store.site.Goals as goal
 
 pub index-requires : goal.index-requires
 index-requires c =
@@ -14,4 +14,4 @@ pub returns : goal.returns
 returns c =
     let s = c.self.inside in
     let found = resource_at-found (tables s.queues s.order (processes_shown s)) c.args.res (HasResource-order (tables s.queues s.order (processes_shown s)) c.args.res (rw (← c.self.view_is) at c.requires)) in
-    rw (← c.self.view_is, found) (sym (ap (λ slot. (face_in slot).key) (rw c.slot.ensures at c.index.ensures)))
+    rw (← c.self.view_is, found) (sym (ap (λ slot. (face_in slot).site) (rw c.slot.ensures at c.index.ensures)))
