@@ -60,7 +60,7 @@ fn make_two(rt: &impl Abort, store: &mut Store) -> Result<(), AllocError> {
 fn check_order(rt: &impl Abort, store: &Store) {
     let owner = stores::process(rt, store, PID);
     let first = stores::lock(rt, store, 1);
-    assert_eq!(rt; store.group(owner), 7);
+    assert_eq!(rt; store.authorization(owner).group, 7);
     assert_eq!(rt; store.lock_count(owner), 2);
     assert_eq!(rt; store.owner(first), owner);
     assert_eq!(rt; store.first_own(owner), Some(first));
