@@ -61,9 +61,14 @@ fn known_beginnings(rt: HostRuntime) {
         (41, "P: process 65537\n", ""),
     ];
     for (len, printed, faults) in cases {
-        let beginning = SCRIPT.get(..len).expect(&rt, "a beginning");
-        check(&rt, beginning, Outcome { printed, faults });
+        check_known(&rt, SCRIPT, len, Outcome { printed, faults });
     }
+}
+
+// The first bytes of a script come to this.
+fn check_known<R: Abort + AllocGlobal>(rt: &R, script: &[u8], len: usize, want: Outcome) {
+    let beginning = script.get(..len).expect(rt, "a beginning");
+    check(rt, beginning, want);
 }
 
 /// Each beginning prints a beginning of the whole text, and runs to its end or stops at a fault.

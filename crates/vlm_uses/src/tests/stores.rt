@@ -1,6 +1,5 @@
 //! Calls on a store that is as it is between two steps.
 
-ghost use Rattle.std.specs.Prelude.{◌≡◌};
 ghost use Rattle.vlm_store.specs.Records.{HasProcess, HasResource, IsParentOf, IsProcess, IsStored};
 
 use std::alloc::AllocError;
