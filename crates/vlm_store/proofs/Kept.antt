@@ -95,11 +95,11 @@ module _ (q : Queues) (order : LinkedList InOrder) (processes : List StoredProce
             absurd (absent at there.0 there.1.0 there.1.1)
 
     -- and the index of resources
-    key_there : (slot : Option Resource) (key : Key) → option_map (λ (r : Resource). r.site.key) slot ≡ Some key → IsSome slot × ((face_in slot).site.key ≡ key)
+    key_there : (slot : Option Resource) (key : Key) → option_map (λ (r : Resource). r.key) slot ≡ Some key → IsSome slot × ((face_in slot).key ≡ key)
     key_there None key is = absurd (none-some key is)
-    key_there (Some r) key is = (refl, same_Some r.site.key key is)
+    key_there (Some r) key is = (refl, same_Some r.key key is)
 
-    key_of_face : (slot : Option Resource) → IsSome slot → option_map (λ (r : Resource). r.site.key) slot ≡ Some (face_in slot).site.key
+    key_of_face : (slot : Option Resource) → IsSome slot → option_map (λ (r : Resource). r.key) slot ≡ Some (face_in slot).key
     key_of_face None there = cc
     key_of_face (Some r) there = refl
 
@@ -199,7 +199,7 @@ face_apart : (slot : Option Resource) → face_in (option_map but_queues slot) �
 face_apart None = refl
 face_apart (Some r) = refl
 
-key_apart : (slot : Option Resource) → option_map (λ (r : Resource). r.site.key) (option_map but_queues slot) ≡ option_map (λ (r : Resource). r.site.key) slot
+key_apart : (slot : Option Resource) → option_map (λ (r : Resource). r.key) (option_map but_queues slot) ≡ option_map (λ (r : Resource). r.key) slot
 key_apart None = refl
 key_apart (Some r) = refl
 
@@ -215,8 +215,8 @@ module _ (old new : Slab Resource) (rest : SameBut but_queues old new) where
   pub faces_same : (r : ℕ) → face_in (get new r) ≡ face_in (get old r)
   faces_same = through but_queues face_in face_apart old new rest
 
-  pub keys_same : (r : ℕ) → option_map (λ (x : Resource). x.site.key) (get new r) ≡ option_map (λ (x : Resource). x.site.key) (get old r)
-  keys_same = through but_queues (option_map (λ (x : Resource). x.site.key)) key_apart old new rest
+  pub keys_same : (r : ℕ) → option_map (λ (x : Resource). x.key) (get new r) ≡ option_map (λ (x : Resource). x.key) (get old r)
+  keys_same = through but_queues (option_map (λ (x : Resource). x.key)) key_apart old new rest
 
   pub order_keys : (order : LinkedList InOrder) → IsLinked order_links old order → keys_of order_links new order ≡ keys_of order_links old order
   order_keys order linked =

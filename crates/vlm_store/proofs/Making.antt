@@ -92,7 +92,7 @@ pub none_keys : (q : Queues) (res : ℕ) (queue : Queue) → get q.resources res
 none_keys q res queue none = ap (λ slot. keys_of queue_links q.locks (list_in queue slot)) none
 
 -- what is read off the face of a resource
-pub key_by_face : (slot : Option Resource) → option_map (λ (r : Resource). r.site.key) slot ≡ option_map (λ (f : Face). f.site.key) (option_map face_of slot)
+pub key_by_face : (slot : Option Resource) → option_map (λ (r : Resource). r.key) slot ≡ option_map (λ (f : Face). f.key) (option_map face_of slot)
 key_by_face None = refl
 key_by_face (Some r) = refl
 
@@ -174,10 +174,10 @@ module _ (old new : Slab Resource) (rest : SameBut but_value_block old new) wher
       apart None = refl
       apart (Some r) = refl
 
-  pub block_key : (k : ℕ) → option_map (λ (r : Resource). r.site.key) (get new k) ≡ option_map (λ (r : Resource). r.site.key) (get old k)
-  block_key = through but_value_block (option_map (λ (r : Resource). r.site.key)) apart old new rest
+  pub block_key : (k : ℕ) → option_map (λ (r : Resource). r.key) (get new k) ≡ option_map (λ (r : Resource). r.key) (get old k)
+  block_key = through but_value_block (option_map (λ (r : Resource). r.key)) apart old new rest
     where
-      apart : (slot : Option Resource) → option_map (λ (r : Resource). r.site.key) (option_map but_value_block slot) ≡ option_map (λ (r : Resource). r.site.key) slot
+      apart : (slot : Option Resource) → option_map (λ (r : Resource). r.key) (option_map but_value_block slot) ≡ option_map (λ (r : Resource). r.key) slot
       apart None = refl
       apart (Some r) = refl
 

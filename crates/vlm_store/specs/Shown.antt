@@ -7,10 +7,12 @@ use Rattle.vlm_links.specs.declared.lists.LinkedList.{LinkedList}
 use Rattle.vlm_links.specs.Lists.{keys_of, without}
 use Rattle.vlm_words.specs.declared.locks.Row.{Row}
 use Rattle.vlm_words.specs.declared.modes.Mode.{Mode}
+use Rattle.vlm_words.specs.declared.resources.Domain.{Domain}
 use Rattle.vlm_words.specs.declared.resources.Domain.TheVariants.{System}
 use Rattle.vlm_words.specs.declared.resources.Queue.{Queue}
 use Rattle.vlm_words.specs.declared.resources.Queue.TheVariants.{Granted, Conversion, Waiting}
 use Rattle.vlm_words.specs.ValueBlocks.{new_value_block}
+use Rattle.vlm_words.specs.declared.resources.Key.{Key}
 use Rattle.vlm_words.specs.declared.resources.Site.{Site}
 use Rattle.vlm_words.specs.declared.resources.Key.TheVariants.{Below}
 use Rattle.vlm_words.specs.declared.resources.ValueBlock.{ValueBlock}
@@ -192,16 +194,18 @@ share_of weight (Queued at queue) res row = if at == res then weight queue row e
 -- a resource without its queues
 pub record Face : Type 0 where
   pub serial : ℕ
-  pub site : Site
+  pub domain : Domain
+  pub key : Key
+  pub level : ℕ
   pub value_block : ValueBlock
 
 -- what a resource shows besides its queues
 abbrev pub face_of : Resource → Face
-face_of r = record { serial = r.serial; site = r.site; value_block = r.value_block }
+face_of r = record { serial = r.serial; domain = r.domain; key = r.key; level = r.level; value_block = r.value_block }
 
 -- what a look-up that finds nothing gives
 abbrev pub no_face : Face
-no_face = record { serial = 0; site = record { key = Below 0 (replicate 1 0); domain = System; level = 0 }; value_block = record { value = replicate 16 0; valid = false } }
+no_face = record { serial = 0; domain = System; key = Below 0 (replicate 1 0); level = 0; value_block = record { value = replicate 16 0; valid = false } }
 
 -- what stands under a key, or what is told of nothing
 abbrev pub face_in : Option Resource → Face
@@ -210,4 +214,4 @@ face_in (Some r) = face_of r
 
 -- a resource at its making
 abbrev pub new_face : ℕ → Site → Face
-new_face serial site = record { serial = serial; site = site; value_block = record { value = new_value_block.value; valid = new_value_block.valid } }
+new_face serial site = record { serial = serial; domain = site.domain; key = site.key; level = site.level; value_block = record { value = new_value_block.value; valid = new_value_block.valid } }

@@ -31,9 +31,9 @@ abbrev pub resource_of : Layout → ℕ → StoredResource
 resource_of l r = record {
   at = r;
   serial = (l.faces r).serial;
-  domain = (l.faces r).site.domain;
-  key = (l.faces r).site.key;
-  level = (l.faces r).site.level;
+  domain = (l.faces r).domain;
+  key = (l.faces r).key;
+  level = (l.faces r).level;
   value_block = (l.faces r).value_block;
   granted = map (keyed l.rows) (l.keys (Queued r Granted));
   converting = map (keyed l.rows) (l.keys (Queued r Conversion));
@@ -64,4 +64,4 @@ lkid_at q at = option_map lkid_of (get q.locks at)
 
 -- the key of the resource under a key of the slab
 abbrev pub key_at : Queues → ℕ → Option Key
-key_at q res = option_map (λ r. r.site.key) (get q.resources res)
+key_at q res = option_map (λ r. r.key) (get q.resources res)

@@ -376,11 +376,9 @@ impl Queues {
     {
         let at = self.resources.insert_reserved(Resource {
             serial,
-            site: Site {
-                key: site.key,
-                domain: site.domain,
-                level: site.level,
-            },
+            domain: site.domain,
+            key: site.key,
+            level: site.level,
             value_block: ValueBlock {
                 value: [0; 16],
                 valid: true,

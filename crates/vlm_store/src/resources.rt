@@ -10,7 +10,7 @@ use std::mem::size_of;
 use vlm_links::{Linked, LinkedList, Links};
 use vlm_words::locks::{Request, Row};
 use vlm_words::modes::{Mode, compatible};
-use vlm_words::resources::{Queue, Site, ValueBlock};
+use vlm_words::resources::{Domain, Key, Queue, ValueBlock};
 
 /// The list of the resources, and that of the processes, in order of making.
 #[derive(Clone, Copy)]
@@ -31,7 +31,9 @@ pub const RESOURCE_SIZE: usize = size_of::<Resource>();
 #[derive(Clone, Copy)]
 pub(crate) struct Resource {
     pub(crate) serial: u32,
-    pub(crate) site: Site,
+    pub(crate) domain: Domain,
+    pub(crate) key: Key,
+    pub(crate) level: u8,
     pub(crate) value_block: ValueBlock,
     pub(crate) granted: LinkedList<InQueue>,
     pub(crate) converting: LinkedList<InQueue>,

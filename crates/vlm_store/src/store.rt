@@ -267,7 +267,12 @@ impl Store {
         requires { HasResource res self.now }
         ensures { IfSome (resource_at res self.now.resources) (λ r. result ≡ resource_site r) }
     {
-        self.queues.resources[res.slot()].site
+        let resource = &self.queues.resources[res.slot()];
+        Site {
+            key: resource.key,
+            domain: resource.domain,
+            level: resource.level,
+        }
     }
 
     /// The value block of a resource.
@@ -295,7 +300,7 @@ impl Store {
         ensures { self.new
             ≡ record self.old { resources = without_resource res self.old.resources } }
     {
-        let key = self.queues.resources[res.slot()].site.key;
+        let key = self.queues.resources[res.slot()].key;
         self.queues.remove_resource(&mut self.order, res.slot());
         self.resource_index.swap_remove(&key);
     }

@@ -5,7 +5,6 @@ ghost use Rattle.vlm_links.specs.Lists.{IsIn, IsLinked, keys_of, without};
 
 use slab::Slab;
 use std::alloc::AllocError;
-use std::process::Abort;
 use std::test::Fail;
 use vlm_links::{LAST_KEY, Linked, LinkedList, Links};
 
@@ -109,40 +108,6 @@ fn deal(
     Ok(key)
 }
 
-// The first of three cards stands before the second.
-fn check_dealt(
-    rt: &impl Abort,
-    cards: &Slab<Card>,
-    hand: &LinkedList<InHand>,
-    first: usize,
-    second: usize,
-)
-    requires linked { IsLinked ⟦<Card as Linked<InHand>>⟧.links cards.now hand.now }
-    requires listed { IsIn first (keys_of ⟦<Card as Linked<InHand>>⟧.links cards.now hand.now) }
-{
-    assert_eq!(rt; hand.len(cards), 3);
-    assert_eq!(rt; hand.next(cards, first), Some(second));
-}
-
-// The second of three cards stands last.
-fn check_moved(
-    rt: &impl Abort,
-    cards: &Slab<Card>,
-    hand: &LinkedList<InHand>,
-    keys: (usize, usize, usize),
-)
-    requires linked { IsLinked ⟦<Card as Linked<InHand>>⟧.links cards.now hand.now }
-    requires first { IsIn keys.0 (keys_of ⟦<Card as Linked<InHand>>⟧.links cards.now hand.now) }
-    requires second { IsIn keys.1 (keys_of ⟦<Card as Linked<InHand>>⟧.links cards.now hand.now) }
-    requires third { IsIn keys.2 (keys_of ⟦<Card as Linked<InHand>>⟧.links cards.now hand.now) }
-{
-    let (first, second, third) = keys;
-    assert_eq!(rt; hand.first(cards), Some(first));
-    assert_eq!(rt; hand.next(cards, first), Some(third));
-    assert_eq!(rt; hand.next(cards, third), Some(second));
-    assert_eq!(rt; hand.next(cards, second), None);
-}
-
 #[test]
 fn a_hand_keeps_its_order(rt: HostRuntime) -> Result<(), Fail> {
     let mut cards = Slab::new(rt.alloc());
@@ -151,9 +116,13 @@ fn a_hand_keeps_its_order(rt: HostRuntime) -> Result<(), Fail> {
     let first = deal(&mut cards, &mut hand, 1)?;
     let second = deal(&mut cards, &mut hand, 2)?;
     let third = deal(&mut cards, &mut hand, 3)?;
-    check_dealt(&rt, &cards, &hand, first, second);
+    assert_eq!(rt; hand.len(&cards), 3);
+    assert_eq!(rt; hand.next(&cards, first), Some(second));
     move_to_end(&mut cards, &mut hand, &suit, second);
-    check_moved(&rt, &cards, &hand, (first, second, third));
+    assert_eq!(rt; hand.first(&cards), Some(first));
+    assert_eq!(rt; hand.next(&cards, first), Some(third));
+    assert_eq!(rt; hand.next(&cards, third), Some(second));
+    assert_eq!(rt; hand.next(&cards, second), None);
     assert_eq!(rt; suit.first(&cards), None);
     assert_eq!(rt; cards.get(second).map(|card| card.rank), Some(2));
     Ok(())

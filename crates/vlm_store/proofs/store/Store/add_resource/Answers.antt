@@ -37,7 +37,7 @@ invariant_of-self c =
       ordered = λ r there. rw (same-keys order_links s.queues.resources c.reserve.new.self s.order kept.linked (λ x _. same x)) (kept.ordered r (rw (same r) at there));
       locks = kept.locks;
       resources = Indexes-same (get is_same_key s.resource_index) (get is_same_key s.resource_index) (key_at s.queues) (key_at (record s.queues { resources = c.reserve.new.self })) (λ k. refl)
-          (λ r. ap (option_map (λ (x : Resource). x.site.key)) (same r)) kept.resources;
+          (λ r. ap (option_map (λ (x : Resource). x.key)) (same r)) kept.resources;
       owned = kept.owned;
       below = kept.below;
       named = kept.named;
@@ -59,7 +59,7 @@ invariant_of-self-in_err-reserve-2 c =
       ordered = λ r there. rw (same-keys order_links s.queues.resources c.reserve.new.self s.order kept.linked (λ x _. same x)) (kept.ordered r (rw (same r) at there));
       locks = kept.locks;
       resources = Indexes-same (get is_same_key s.resource_index) (get is_same_key c.reserve-2.new.self) (key_at s.queues) (key_at (record s.queues { resources = c.reserve.new.self }))
-          (λ k. ap (λ es. lookup (is_same_key k) es) c.reserve-2.ensures.entries) (λ r. ap (option_map (λ (x : Resource). x.site.key)) (same r)) kept.resources;
+          (λ k. ap (λ es. lookup (is_same_key k) es) c.reserve-2.ensures.entries) (λ r. ap (option_map (λ (x : Resource). x.key)) (same r)) kept.resources;
       owned = kept.owned;
       below = kept.below;
       named = kept.named;
@@ -89,7 +89,7 @@ invariant_of-self-2 c =
     let added = c.add_resource.ensures in
     let keys1 = same-keys order_links s.queues.resources c.reserve.new.self s.order kept.linked (λ x _. same x) in
     let indexes1 = Indexes-same (get is_same_key s.resource_index) (get is_same_key c.reserve-2.new.self) (key_at s.queues) (key_at q1)
-    (λ k. ap (λ es. lookup (is_same_key k) es) c.reserve-2.ensures.entries) (λ r. ap (option_map (λ (x : Resource). x.site.key)) (same r)) kept.resources in
+    (λ k. ap (λ es. lookup (is_same_key k) es) c.reserve-2.ensures.entries) (λ r. ap (option_map (λ (x : Resource). x.key)) (same r)) kept.resources in
     let fresh : get is_same_key c.reserve-2.new.self c.args.site.now.key ≡ None =
     ap (λ es. lookup (is_same_key c.args.site.now.key) es) c.reserve-2.ensures.entries
     ∙ no_resource s.queues s.order (processes_shown s) kept.placed kept.linked kept.ordered (get is_same_key s.resource_index) kept.resources c.args.site.now.key (rw (← c.self.view_is) at c.requires) in
@@ -102,8 +102,8 @@ invariant_of-self-2 c =
       locks = Indexes-same (get nat_eq s.lock_index) (get nat_eq s.lock_index) (lkid_at s.queues) (lkid_at q') (λ k. refl) (λ x. ap (λ l. option_map lkid_of (slot_of l x)) added.locks) kept.locks;
       resources = Indexes-added is_same_key is_same_key-Decides c.reserve-2.new.self c.insert.new.self c.args.site.now.key (key_at q1) (key_at q') at
           (rw c.of-res.ensures at (on_ok c.insert.result _ (c.insert.ensures.succeeds (omega (arith, c.in_ok-reserve-2.ensures.ok))) c.insert.ensures.updates))
-          (ap (option_map (λ (x : Resource). x.site.key)) added.fresh) (key_by_face (slot_of q'.resources at) ∙ ap (option_map (λ (f : Face). f.site.key)) added.face)
-          (λ r differs. key_by_face (slot_of q'.resources r) ∙ ap (option_map (λ (f : Face). f.site.key)) (added.faces r differs) ∙ sym (key_by_face (slot_of c.reserve.new.self r)))
+          (ap (option_map (λ (x : Resource). x.key)) added.fresh) (key_by_face (slot_of q'.resources at) ∙ ap (option_map (λ (f : Face). f.key)) added.face)
+          (λ r differs. key_by_face (slot_of q'.resources r) ∙ ap (option_map (λ (f : Face). f.key)) (added.faces r differs) ∙ sym (key_by_face (slot_of c.reserve.new.self r)))
           fresh indexes1;
       owned = queued_owned s.processes s.queues.locks q'.locks (same_eq but_queued s.queues.locks q'.locks added.locks) None kept.owned;
       below = queued_below s.processes s.queues.locks q'.locks (same_eq but_queued s.queues.locks q'.locks added.locks) None kept.below;

@@ -43,9 +43,9 @@ invariant_of-self c =
       ordered = whole_left order_links s.queues.resources q'.resources s.order c.remove_resource.new.order c.args.res kept.ordered gone.order gone.gone
           (λ r differs. there_by_face (slot_of q'.resources r) (slot_of s.queues.resources r) (gone.faces r differs));
       locks = Indexes-same (get nat_eq s.lock_index) (get nat_eq s.lock_index) (lkid_at s.queues) (lkid_at q') (λ k. refl) (λ x. ap (λ l. option_map lkid_of (slot_of l x)) gone.locks) kept.locks;
-      resources = Indexes-removed is_same_key is_same_key-Decides s.resource_index c.swap_remove.new.self c.index.result.now.site.key (key_at s.queues) (key_at q') c.args.res c.swap_remove.ensures.updates
-          (ap (option_map (λ (x : Resource). x.site.key)) (rw c.slot.ensures at c.index.ensures)) (ap (option_map (λ (x : Resource). x.site.key)) gone.gone)
-          (λ r differs. key_by_face (slot_of q'.resources r) ∙ ap (option_map (λ (f : Face). f.site.key)) (gone.faces r differs) ∙ sym (key_by_face (slot_of s.queues.resources r))) kept.resources;
+      resources = Indexes-removed is_same_key is_same_key-Decides s.resource_index c.swap_remove.new.self c.index.result.now.key (key_at s.queues) (key_at q') c.args.res c.swap_remove.ensures.updates
+          (ap (option_map (λ (x : Resource). x.key)) (rw c.slot.ensures at c.index.ensures)) (ap (option_map (λ (x : Resource). x.key)) gone.gone)
+          (λ r differs. key_by_face (slot_of q'.resources r) ∙ ap (option_map (λ (f : Face). f.key)) (gone.faces r differs) ∙ sym (key_by_face (slot_of s.queues.resources r))) kept.resources;
       owned = queued_owned s.processes s.queues.locks q'.locks (same_eq but_queued s.queues.locks q'.locks gone.locks) None kept.owned;
       below = queued_below s.processes s.queues.locks q'.locks (same_eq but_queued s.queues.locks q'.locks gone.locks) None kept.below;
       named = queued_named s.processes s.queues.locks q'.locks (same_eq but_queued s.queues.locks q'.locks gone.locks) kept.named;
