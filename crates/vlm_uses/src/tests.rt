@@ -1,16 +1,10 @@
-//! What no contract says: worked answers and texts, the order of refusals, sizes, streams that fail.
+//! What no contract says: worked answers, the order of refusals, sizes of records, memory that is refused.
 
-mod cards;
-mod failing;
 mod faults;
 mod lists;
-mod prefixes;
 mod records;
 mod refusals;
 mod retries;
-mod runs;
-mod scripts;
 mod serving;
-mod sizes;
 mod steps;
 mod stores;

@@ -3,7 +3,6 @@
 use crate::tests::steps::{DECLARATION, P, Q, request};
 use std::process::Abort;
 use vlm_core::Core;
-use vlm_words::blocks::Block;
 use vlm_words::conditions::Cond;
 use vlm_words::modes::Mode;
 use vlm_words::steps::{
@@ -413,63 +412,6 @@ fn settings(rt: HostRuntime) {
         &rt,
         &cases.map(|(setting, want)| (Step::SetValue(setting), want)),
     );
-}
-
-// The status block of a request for the lock that was granted.
-fn granted(lkid: u32) -> Block {
-    Block {
-        status: 1,
-        lkid,
-        ..Block::new()
-    }
-}
-
-// The blocks of P's granted request and of Q's waiting one; there is none for a number or a process that is
-// not there.
-fn check_blocks(rt: &impl Abort, core: &Core) {
-    let pending = Block {
-        lkid: 2,
-        ..Block::new()
-    };
-    assert_eq!(rt; core.block(P, 1), Some(granted(1)));
-    assert_eq!(rt; core.block(Q, 1), Some(pending));
-    assert_eq!(rt; core.block(P, 2), Some(Block::new()));
-    assert_eq!(rt; core.block(P, 0), None);
-    assert_eq!(rt; core.block(P, 5), None);
-    assert_eq!(rt; core.block(STRANGER, 1), None);
-}
-
-// A value goes to the value part alone.
-fn sets_value(rt: &impl Abort, core: &mut Core) {
-    assert_eq!(rt; core.set_value(SETTING), Answer::Plain(Cond::Normal));
-    let valued = Block {
-        value: [7; 16],
-        ..Block::new()
-    };
-    assert_eq!(rt; core.block(P, 4), Some(valued));
-}
-
-// P gives up the lock that its block names, which is granted to Q; the block keeps its status, and names no
-// lock that is there.
-fn gives_up(rt: &impl Abort, core: &mut Core) {
-    let dequeue = Dequeue {
-        lock: Which::Block(1),
-        ..DEQUEUE
-    };
-    assert_eq!(rt; core.deq(dequeue), Answer::Plain(Cond::Normal));
-    assert_eq!(rt; core.block(P, 1), Some(granted(1)));
-    assert_eq!(rt; core.block(Q, 1), Some(granted(2)));
-    assert_eq!(rt; core.deq(dequeue), Answer::Plain(Cond::Ivlockid));
-}
-
-/// An accepted request leaves its lock in the status block, which names it from then on; its end leaves
-/// its status there; a value goes to the value part alone.
-#[test]
-fn status_blocks(rt: HostRuntime) {
-    let mut core = machine(&rt);
-    check_blocks(&rt, &core);
-    sets_value(&rt, &mut core);
-    gives_up(&rt, &mut core);
 }
 
 /// BADPARAM for each kind that is not built, whoever the caller is.
