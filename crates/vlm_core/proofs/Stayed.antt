@@ -7,15 +7,6 @@ use Rattle.vlm_service.proofs.Found.{process_there}
 use Rattle.vlm_core.specs.declared.processes.Caller.{Caller}
 use Rattle.vlm_core.specs.Admissions.{IsCaller}
 
--- the first of a list, and what is behind it
-abbrev first_or : {A : Type 0} → A → List A → A
-first_or default [] = default
-first_or default (x ∷ xs) = x
-
-abbrev rest_of : {A : Type 0} → List A → List A
-rest_of [] = []
-rest_of (x ∷ xs) = xs
-
 -- a process of the old list is in the new one, but for its status blocks
 process_kept : (old new : List StoredProcess) → map but_blocks new ≡ map but_blocks old → (p : StoredProcess) → IsProcessAmong p old
     → (q : StoredProcess) × (IsProcessAmong q new × (but_blocks q ≡ but_blocks p))
@@ -23,8 +14,8 @@ process_kept [] new same p among = absurd among
 process_kept (x ∷ old) [] same p among = cc
 process_kept (x ∷ old) (y ∷ new) same p among =
     elim among [
-      | inl here ↦ (y, (inl refl, ap (first_or (but_blocks x)) same ∙ ap (λ (z : StoredProcess). but_blocks z) here))
-      | inr there ↦ let later = process_kept old new (ap rest_of same) p there in (later.0, (inr later.1.0, later.1.1))
+      | inl here ↦ (let first : but_blocks y ≡ but_blocks x = cc in (y, (inl refl, first ∙ ap (λ (z : StoredProcess). but_blocks z) here)))
+      | inr there ↦ let later = process_kept old new (cc) p there in (later.0, (inr later.1.0, later.1.1))
     ]
 
 -- a living process lives on where status blocks are written

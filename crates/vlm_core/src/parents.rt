@@ -98,8 +98,7 @@ impl Machine {
         self.store.known();
         match parent.queue {
             Queue::Waiting => Err(Cond::Parnotgrant),
-            Queue::Granted => self.check_depth(parent.res),
-            Queue::Conversion => self.check_depth(parent.res),
+            Queue::Granted | Queue::Conversion => self.check_depth(parent.res),
         }
     }
 

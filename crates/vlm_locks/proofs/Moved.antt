@@ -10,14 +10,14 @@ use Rattle.vlm_words.specs.Rows.{rows_without}
 use Rattle.vlm_store.specs.declared.keys.Place.TheVariants.{Loose, Queued}
 use Rattle.vlm_store.specs.Records.{IsResourceAmong, IsSound, Records, StoredLock, StoredResource, but_blocks, is_place, moving, on_resource, queued, rows_of, with_lists, without_lock}
 use Rattle.vlm_store.proofs.Layouts.{is_place-other, is_place-same}
-use Rattle.vlm_store.proofs.Undoing.{unmoved}
+use Rattle.vlm_store.proofs.Undoing.{map_on, unmoved}
 use Rattle.vlm_locks.specs.declared.finding.Standing.{Standing}
 use Rattle.vlm_locks.specs.Converting.{moved_in}
 use Rattle.vlm_locks.specs.Rest.{IsReplaced}
 use Rattle.vlm_locks.specs.Standing.{IsStanding}
 use Rattle.vlm_locks.proofs.Named.{without-absent, without-key}
 use Rattle.vlm_locks.proofs.Stood.{absent, only, own_among, queue_is, stands}
-use Rattle.vlm_service.proofs.Found.{map_on, resource_alone, resource_at-at}
+use Rattle.vlm_service.proofs.Found.{resource_alone, resource_at-at}
 
 module _ (s : Records) (sound : IsSound s) (f : Standing) (standing : IsStanding f s) (row : Row) (to : Queue) where
   -- another resource stays as it was

@@ -8,10 +8,10 @@ use Rattle.vlm_words.specs.declared.locks.Row.{Row}
 use Rattle.vlm_words.specs.declared.resources.Queue.{Queue}
 use Rattle.vlm_store.specs.declared.keys.Place.TheVariants.{Queued}
 use Rattle.vlm_store.specs.Records.{AreApart, IsAmong, IsResourceAmong, IsSound, Records, StoredLock, StoredResource, Stores, locks_at, queued, resource_at}
+use Rattle.vlm_store.proofs.Undoing.{resource_is}
 use Rattle.vlm_locks.specs.declared.finding.Standing.{Standing}
 use Rattle.vlm_locks.specs.Standing.{IsStanding}
 use Rattle.vlm_locks.proofs.Named.{IsAbsent, IsOnly}
-use Rattle.vlm_service.proofs.Found.{resource_is}
 
 -- the resource that is found is one of these
 pub resource_among : (res : ℕ) (rs : List StoredResource) (r : StoredResource) → resource_at res rs ≡ Some r → IsResourceAmong r rs

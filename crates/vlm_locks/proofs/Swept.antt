@@ -18,15 +18,6 @@ use Rattle.vlm_service.proofs.Moves.{locks_found}
 use Rattle.vlm_words.specs.Resources.{IsKeyed}
 use Rattle.vlm_locks.specs.Rest.{IsAtRest}
 
--- the first of a list, and what is behind it
-abbrev first_or : {A : Type 0} → A → List A → A
-first_or default [] = default
-first_or default (x ∷ xs) = x
-
-abbrev rest_of : {A : Type 0} → List A → List A
-rest_of [] = []
-rest_of (x ∷ xs) = xs
-
 -- the resource of a key, with those before and behind it, which have others
 record Parted (res : ℕ) (rs : List StoredResource) : Type 0 where
   r : StoredResource
@@ -114,14 +105,14 @@ module _ (res : ℕ) (processes : List Process) where
   found_served [] news keys shown r found = absurd (none-some r found)
   found_served (x ∷ olds) [] keys shown r found = cc
   found_served (x ∷ olds) (y ∷ news) keys shown r found =
-      let key : y.at ≡ x.at = ap (first_or 0) keys in
-      let head : plain_resource y ≡ shown_served x = ap (first_or (plain_resource x)) shown in
+      let key : y.at ≡ x.at = cc in
+      let head : plain_resource y ≡ shown_served x = cc in
       elim (cases_eq x.at res) [
         | inl same ↦
             let is : x ≡ r = same_Some x r (rw (eq-eqb x.at res same) at found) in
             (y, (rw (eq-eqb y.at res (key ∙ same)) refl, head ∙ rw (eq-eqb x.at res same) (ap (λ z. resource_after_service processes (plain_resource z)) is)))
         | inr differs ↦
-            let behind = found_served olds news (ap rest_of keys) (ap rest_of shown) r (rw (ne_eqb x.at res differs) at found) in
+            let behind = found_served olds news (cc) (cc) r (rw (ne_eqb x.at res differs) at found) in
             (behind.0, (rw (ne_eqb y.at res (λ e. differs (sym key ∙ e))) behind.1.0, behind.1.1))
       ]
 
@@ -132,14 +123,14 @@ module _ (res : ℕ) (processes : List Process) where
   dropped [] (y ∷ news) keys shown = cc
   dropped (x ∷ olds) [] keys shown = cc
   dropped (x ∷ olds) (y ∷ news) keys shown =
-      let key : y.at ≡ x.at = ap (first_or 0) keys in
-      let head : plain_resource y ≡ shown_served x = ap (first_or (plain_resource x)) shown in
+      let key : y.at ≡ x.at = cc in
+      let head : plain_resource y ≡ shown_served x = cc in
       elim (cases_eq x.at res) [
-        | inl same ↦ rw (eq-eqb x.at res same, eq-eqb y.at res (key ∙ same)) (dropped olds news (ap rest_of keys) (ap rest_of shown))
+        | inl same ↦ rw (eq-eqb x.at res same, eq-eqb y.at res (key ∙ same)) (dropped olds news (cc) (cc))
         | inr differs ↦
             rw (ne_eqb y.at res (λ e. differs (sym key ∙ e)), ne_eqb x.at res differs)
             (ap (λ z. z ∷ map plain_resource (without_resource res news)) (head ∙ ap (λ b. cond b (resource_after_service processes (plain_resource x)) (plain_resource x)) (ne_eqb x.at res differs))
-            ∙ ap (λ zs. plain_resource x ∷ zs) (dropped olds news (ap rest_of keys) (ap rest_of shown)))
+            ∙ ap (λ zs. plain_resource x ∷ zs) (dropped olds news (cc) (cc)))
       ]
 
 -- no lock stands in a queue that shows none
@@ -176,8 +167,8 @@ same_named [] (y ∷ news) same x among = cc
 same_named (z ∷ olds) [] same x among = absurd among
 same_named (z ∷ olds) (y ∷ news) same x among =
     elim among [
-      | inl here ↦ (z, (inl refl, ap (λ (w : StoredResource). but_service w) (sym here) ∙ ap (first_or (but_service z)) same))
-      | inr there ↦ let later = same_named olds news (ap rest_of same) x there in (later.0, (inr later.1.0, later.1.1))
+      | inl here ↦ (z, (inl refl, ap (λ (w : StoredResource). but_service w) (sym here) ∙ cc))
+      | inr there ↦ let later = same_named olds news (cc) x there in (later.0, (inr later.1.0, later.1.1))
     ]
 
 module _ (res : ℕ) (old s : Records) (sound : IsSound old) (there : HasResource res old)

@@ -3,7 +3,7 @@
 ghost use Rattle.std.specs.Prelude.{◌≡◌, Some, IfSome};
 ghost use Rattle.vlm_words.specs.declared.resources.Queue.{Queue};
 ghost use Rattle.vlm_words.specs.Convert.{converts_at_once, wanting_row};
-ghost use Rattle.vlm_words.specs.Grants.{fits, is_empty};
+ghost use Rattle.vlm_words.specs.Grants.{fits};
 ghost use Rattle.vlm_words.specs.Rows.{rows_without};
 ghost use Rattle.vlm_store.specs.Records.{HasResource, IsSameLock, StoredResource, plain_processes, resource_at, rows_of};
 ghost use Rattle.vlm_service.specs.Plain.{plain_resource};
@@ -11,23 +11,15 @@ ghost use Rattle.vlm_locks.specs.Converting.{IsConverted, IsGrantedAtOnce, moved
 ghost use Rattle.vlm_locks.specs.Rest.{IsAtRest, IsReplaced, OthersStay};
 ghost use Rattle.vlm_locks.specs.Standing.{IsStanding};
 
+use crate::entering::is_free;
 use crate::finding::Standing;
-use vlm_queue::{can_hold, head};
+use vlm_queue::can_hold;
 use vlm_service::{end_by_grant, granted_row};
 use vlm_store::{Place, ResAt, Store};
 use vlm_words::flags::EnqFlags;
 use vlm_words::locks::{Request, Row};
 use vlm_words::modes::Mode;
 use vlm_words::resources::Queue;
-
-// Whether no conversion is queued on the resource.
-fn converts_none(store: &Store, res: ResAt) -> bool
-    requires { HasResource res store.now }
-    ensures { (r : StoredResource) → resource_at res store.now.resources ≡ Some r
-        → result ≡ is_empty (rows_of r.converting) }
-{
-    head(store, res, Queue::Conversion).is_none()
-}
 
 // Whether the mode fits beside all other locks of the resource of a granted lock.
 fn fits_others(store: &Store, standing: &Standing, mode: Mode) -> bool
@@ -50,7 +42,7 @@ pub fn converts_at_once(store: &Store, standing: &Standing, asked: &Request) -> 
         → result ≡ converts_at_once asked.now standing.now.row.lkid (plain_resource r) }
 {
     fits_others(store, standing, asked.mode)
-        && (!asked.flags.has(EnqFlags::QUECVT) || converts_none(store, standing.res))
+        && (!asked.flags.has(EnqFlags::QUECVT) || is_free(store, standing.res, Queue::Conversion))
 }
 
 // The row wants the request, and holds what it held.

@@ -18,8 +18,8 @@ use vlm_words::flags::EnqFlags;
 use vlm_words::locks::{Request, Row};
 use vlm_words::resources::{Queue, Site};
 
-// Whether no lock stands in the queue of the resource.
-fn is_free(store: &Store, res: ResAt, queue: Queue) -> bool
+/// Whether no lock stands in the queue of the resource.
+pub(crate) fn is_free(store: &Store, res: ResAt, queue: Queue) -> bool
     requires { HasResource res store.now }
     ensures { (r : StoredResource) → resource_at res store.now.resources ≡ Some r
         → result ≡ is_empty (rows_of (queued queue r)) }

@@ -4,6 +4,7 @@ use Rattle.std.specs.Prelude.{◌==◌}
 use Rattle.std.proofs.lemmas.Bool.{cases_eq}
 use Rattle.std.proofs.lemmas.Option.{none-some, same_Some}
 use Rattle.vlm_store.specs.Records.{AreResourcesApart, HasProcess, IsProcess, IsProcessAmong, IsResourceAmong, Records, StoredProcess, StoredResource, on_resource, process_at, resource_at}
+use Rattle.vlm_store.proofs.Undoing.{map_on, resource_is}
 
 process_found : (at : ℕ) (p : StoredProcess) (ps : List StoredProcess) → IsProcessAmong p ps → p.at ≡ at → IsSome (process_at at ps)
 process_found at p [] among is = absurd among
@@ -31,24 +32,10 @@ resource_at-at res (x ∷ rs) r found =
       | inr differs ↦ resource_at-at res rs r (rw (ne_eqb x.at res differs) at found)
     ]
 
--- a resource is found by its key
-pub resource_is : (r : StoredResource) (rs : List StoredResource) → AreResourcesApart rs → IsResourceAmong r rs → resource_at r.at rs ≡ Some r
-resource_is r [] apart among = absurd among
-resource_is r (x ∷ rs) apart among =
-    elim among [
-      | inl here ↦ rw (eq-eqb x.at r.at (ap (λ (y : StoredResource). y.at) here)) (ap Some here)
-      | inr there ↦ rw (ne_eqb x.at r.at (λ same. apart.0 r there (sym same))) (resource_is r rs apart.1 there)
-    ]
-
 -- a resource of the key of the one that is found is that one
 pub resource_alone : (res : ℕ) (rs : List StoredResource) (r x : StoredResource) → AreResourcesApart rs → resource_at res rs ≡ Some r → IsResourceAmong x rs → x.at ≡ res → x ≡ r
 resource_alone res rs r x apart found among same =
     same_Some x r (sym (resource_is x rs apart among) ∙ ap (λ k. resource_at k rs) same ∙ found)
-
--- two changes are one where they are the same on each resource
-pub map_on : {B : Type 0} (f g : StoredResource → B) (rs : List StoredResource) → ((r : StoredResource) → IsResourceAmong r rs → f r ≡ g r) → map f rs ≡ map g rs
-map_on f g [] same = refl
-map_on f g (r ∷ rs) same = ap (λ x. x ∷ map f rs) (same r (inl refl)) ∙ ap (λ xs. g r ∷ xs) (map_on f g rs (λ x there. same x (inr there)))
 
 -- the resource in its own place
 pub on_resource-own : (res : ℕ) (r : StoredResource) (rs : List StoredResource) → AreResourcesApart rs → resource_at res rs ≡ Some r → on_resource res (λ x. r) rs ≡ rs

@@ -10,9 +10,9 @@ use Rattle.vlm_words.specs.declared.resources.Queue.TheVariants.{Granted, Conver
 use Rattle.vlm_store.specs.declared.keys.Place.TheVariants.{Loose, Queued}
 use Rattle.vlm_store.specs.Records.{AreApart, IsAmong, IsResourceAmong, IsSound, Records, SameButBlocks, StoredLock, StoredResource, Stores, first_at, is_place, locks_at, moving, on_resource, queued, resource_at, resource_with, with_lists, without_lock}
 use Rattle.vlm_store.proofs.Layouts.{is_place-other, is_place-same}
-use Rattle.vlm_store.proofs.Undoing.{unmoved}
+use Rattle.vlm_store.proofs.Undoing.{map_on, resource_is, unmoved, without_absent}
 use Rattle.vlm_service.specs.Serving.{IsLeft, but_queues}
-use Rattle.vlm_service.proofs.Found.{map_on, on_resource-put, resource_alone, resource_at-at, resource_at-put, resource_is}
+use Rattle.vlm_service.proofs.Found.{on_resource-put, resource_alone, resource_at-at, resource_at-put}
 
 -- the lock of this key and this row is the first of the queue, and these are behind it
 pub record IsHead (queue : Queue) (r : StoredResource) (at : ℕ) (row : Row) : Type 0 where
@@ -64,15 +64,6 @@ none_queued s res r queue found first = of_list (queued queue r) (ap first_at (s
     of_list : (locks : List StoredLock) → first_at locks ≡ None → locks ≡ []
     of_list [] none = refl
     of_list (k ∷ rest) none = absurd (none-some k.at (sym none))
-
--- a list without a lock that it does not have
-without_absent : (at : ℕ) (locks : List StoredLock) → ((row : Row) → ¬ IsAmong (record { at = at; row = row }) locks) → without_lock at locks ≡ locks
-without_absent at [] absent = refl
-without_absent at (k ∷ rest) absent =
-    elim (cases_eq k.at at) [
-      | inl same ↦ absurd (absent k.row (inl (ap (λ x. record { at = x; row = k.row }) same)))
-      | inr differs ↦ rw (ne_eqb k.at at differs) (ap (λ xs. k ∷ xs) (without_absent at rest (λ row there. absent row (inr there))))
-    ]
 
 without_first : (at : ℕ) (row : Row) (rest : List StoredLock) → AreApart (record { at = at; row = row } ∷ rest) → without_lock at (record { at = at; row = row } ∷ rest) ≡ rest
 without_first at row rest apart = rw (eq-eqb at at refl) (without_absent at rest apart.0)

@@ -15,8 +15,8 @@ use Rattle.vlm_store.specs.declared.keys.Place.TheVariants.{Loose, Queued}
 use Rattle.vlm_store.specs.Records.{AreResourcesApart, HasProcess, HasResource, IsAmong, IsOwnAmong, IsProcessAmong, OwnLock, StoredProcess, Stores, new_own, new_stored_process, process_at, process_with_lock, process_without_lock, with_new_lock, with_sublock, without_process, without_stored_lock, without_sublock, IsResourceAmong, IsSound, IsStored, Records, StoredLock, StoredResource, is_place, joined_by, leaving, locks_at, moving, new_resource, on_resource, queued, resource_at, resource_with, with_lists, without_lock, without_resource}
 use Rattle.vlm_store.proofs.Layouts.{is_place-other, is_place-same}
 
--- a list without the lock stays
-without_absent : (at : ℕ) (locks : List StoredLock) → ((row : Row) → ¬ IsAmong (record { at = at; row = row }) locks) → without_lock at locks ≡ locks
+-- a list without a lock that it does not have stays
+pub without_absent : (at : ℕ) (locks : List StoredLock) → ((row : Row) → ¬ IsAmong (record { at = at; row = row }) locks) → without_lock at locks ≡ locks
 without_absent at [] absent = refl
 without_absent at (k ∷ rest) absent =
     elim (cases_eq k.at at) [
@@ -162,7 +162,8 @@ module _ (s : Records) (at : ℕ) (row : Row) (from : Place) (sound : IsSound s)
   pub unmoved : (p : Place) → p ≢ from → without_lock at (locks_at p s) ≡ locks_at p s
   unmoved p differs = without_absent at (locks_at p s) (λ other found. differs (sound.one_place at other row p from found stands))
 
-map_on : (f g : StoredResource → StoredResource) (rs : List StoredResource) → ((r : StoredResource) → IsResourceAmong r rs → f r ≡ g r) → map f rs ≡ map g rs
+-- two changes are one where they are the same on each resource
+pub map_on : {B : Type 0} (f g : StoredResource → B) (rs : List StoredResource) → ((r : StoredResource) → IsResourceAmong r rs → f r ≡ g r) → map f rs ≡ map g rs
 map_on f g [] same = refl
 map_on f g (r ∷ rs) same = ap (λ x. x ∷ map f rs) (same r (inl refl)) ∙ ap (λ xs. g r ∷ xs) (map_on f g rs (λ x there. same x (inr there)))
 

@@ -11,6 +11,7 @@ use Rattle.vlm_words.specs.Rows.{is_lock_of}
 use Rattle.vlm_words.specs.Checks.{holds_lock}
 use Rattle.vlm_words.specs.Laws.{StandsOn}
 use Rattle.vlm_words.proofs.Each.{Any-cases, Any-none, Any-weaker}
+use Rattle.vlm_words.proofs.Sums.{any_counts}
 use Rattle.vlm_words.proofs.Weights.{weigh}
 use Rattle.vlm_words.proofs.Apart.{standing, stands}
 
@@ -20,13 +21,8 @@ is_lock pid lkid row same = rw (eq-eqb row.lkid lkid same.0) (eq-eqb row.pid pid
 
 -- a lock that is found among rows is counted
 pub found_counts : (pid lkid : ℕ) (rows : List Row) → list_any (is_lock_of pid lkid) rows ≡ true → 1 ≤ sum_by (stands lkid) rows
-found_counts pid lkid [] found = cc
-found_counts pid lkid (row ∷ rows) found =
-    elim (or_cases (is_lock_of pid lkid row) (list_any (is_lock_of pid lkid) rows) found) [
-      | inl here ↦ (let one : stands lkid row ≡ 1 = ap (λ (b : Bool). cond b 1 0) (and_parts (row.lkid == lkid) (row.pid == pid) here).0 in
-          omega (arith, one, sum_by-cons (stands lkid) row rows))
-      | inr later ↦ omega (arith, found_counts pid lkid rows later, sum_by-cons (stands lkid) row rows)
-    ]
+found_counts pid lkid =
+    any_counts (is_lock_of pid lkid) (stands lkid) (λ row here. ap (λ (b : Bool). cond b 1 0) (and_parts (row.lkid == lkid) (row.pid == pid) here).0)
 
 -- a lock that stands on a resource is counted there
 pub held_counts : (pid lkid : ℕ) (r : Resource) → holds_lock pid lkid r ≡ true → 1 ≤ weigh (stands lkid) r

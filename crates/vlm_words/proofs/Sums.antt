@@ -1,6 +1,7 @@
 -- Sums over lists whose elements come, go and change.
-use Rattle.std.proofs.Common.{◌≡◌, ◌∙◌, ◌≤◌, ◌+◌, ℕ, Bool, true, false, List, [], ◌∷◌, ◌++◌, map, cond, refl, ap, arith}
-use Rattle.std.specs.List.{AllByRecursion, filter, flat_map, sum_by}
+use Rattle.std.proofs.Common.{◌≡◌, ◌∙◌, ◌≤◌, ◌+◌, ℕ, Bool, true, false, List, [], ◌∷◌, ◌++◌, map, cond, refl, ap, inl, inr, arith}
+use Rattle.std.specs.List.{AllByRecursion, filter, flat_map, list_any, sum_by}
+use Rattle.std.proofs.lemmas.Bool.{or_cases}
 use Rattle.std.proofs.lemmas.List.Sums.{sum_by-cons, sum_by-append}
 use Rattle.vlm_words.proofs.Each.{Found, filter_but}
 
@@ -22,6 +23,15 @@ sum_of_zero {X} (x ∷ xs) =
 -- the sum over one element
 pub sum_of_one : {X : Type 0} (f : X → ℕ) (x : X) → sum_by f (x ∷ []) ≡ f x
 sum_of_one f x = omega (arith, sum_by-cons f x [])
+
+-- a sum has a term of each element that passes a test, where each of these is 1
+pub any_counts : {X : Type 0} (test : X → Bool) (f : X → ℕ) → ((x : X) → test x ≡ true → f x ≡ 1) → (xs : List X) → list_any test xs ≡ true → 1 ≤ sum_by f xs
+any_counts test f one [] any = cc
+any_counts test f one (x ∷ xs) any =
+    elim (or_cases (test x) (list_any test xs) any) [
+      | inl here ↦ omega (arith, one x here, sum_by-cons f x xs)
+      | inr later ↦ omega (arith, any_counts test f one xs later, sum_by-cons f x xs)
+    ]
 
 -- a filter takes nothing but terms from a sum
 pub sum_filter-le : {X : Type 0} (f : X → ℕ) (keep : X → Bool) (xs : List X) → sum_by f (filter keep xs) ≤ sum_by f xs

@@ -47,7 +47,7 @@ use Rattle.vlm_words.proofs.Weights.{entered_weighs, served_weighs, weigh}
 use Rattle.vlm_words.proofs.Moves.{IsByName, converted_named, dequeued_named, grant_keeps}
 use Rattle.vlm_words.proofs.Apart.{Apart, apart_always, standing, stands}
 use Rattle.vlm_words.proofs.Holdings.{converted_held, dequeued_held, entered_held, held_by, locks, served_held}
-use Rattle.vlm_words.proofs.Sums.{sum_of_zero}
+use Rattle.vlm_words.proofs.Sums.{any_counts, sum_of_zero}
 
 -- where a sub-resource stands: its parent's serial, its domain, and its level
 pub record Position : Type 0 where
@@ -298,13 +298,7 @@ picked P test (x ∷ xs) each any =
 
 -- a lock that is found among rows holds there
 found_locks : (pid lkid : ℕ) (rows : List Row) → list_any (is_lock_of pid lkid) rows ≡ true → 1 ≤ sum_by (locks pid lkid) rows
-found_locks pid lkid [] found = cc
-found_locks pid lkid (row ∷ rows) found =
-    elim (or_cases (is_lock_of pid lkid row) (list_any (is_lock_of pid lkid) rows) found) [
-      | inl here ↦ (let one : locks pid lkid row ≡ 1 = ap (λ (b : Bool). cond b 1 0) here in
-          omega (arith, one, sum_by-cons (locks pid lkid) row rows))
-      | inr later ↦ omega (arith, found_locks pid lkid rows later, sum_by-cons (locks pid lkid) row rows)
-    ]
+found_locks pid lkid = any_counts (is_lock_of pid lkid) (locks pid lkid) (λ row here. ap (λ (b : Bool). cond b 1 0) here)
 
 -- a lock that stands on a resource and does not wait holds a mode there
 holds_mode : (pid lkid : ℕ) (r : Resource) → holds_lock pid lkid r ≡ true → list_any (is_lock_of pid lkid) r.waiting ≡ false

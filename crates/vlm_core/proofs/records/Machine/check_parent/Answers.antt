@@ -1,4 +1,4 @@
-use Rattle.std.proofs.Common.{◌≡◌, sym, ◌∙◌}
+use Rattle.std.proofs.Common.{◌≡◌, sym, ◌∙◌, inl, inr}
 use Rattle.vlm_words.specs.declared.resources.Queue.TheVariants.{Granted, Conversion, Waiting}
 use Rattle.vlm_core.proofs.Siting.{refused_depth, refused_waiting}
 use Rattle.vlm_core.proofs.records.Machine.check_parent.Goals as goal
@@ -12,12 +12,8 @@ pub returns-in-Granted : goal.returns-in-Granted
 returns-in-Granted c = record {
   refusal = λ r found.
       c.check_depth.ensures r found
-      ∙ refused_depth c.args.self.now.records (rw (← c.self.view_is) c.known.ensures) c.args.parent.now c.requires r found (λ waits. let no : Granted ≡ Waiting = sym c.in-Granted.is ∙ waits in cc);
-}
-
-pub returns-in-Conversion : goal.returns-in-Conversion
-returns-in-Conversion c = record {
-  refusal = λ r found.
-      c.check_depth-in-Conversion.ensures r found
-      ∙ refused_depth c.args.self.now.records (rw (← c.self.view_is) c.known.ensures) c.args.parent.now c.requires r found (λ waits. let no : Conversion ≡ Waiting = sym c.in-Conversion.is ∙ waits in cc);
+      ∙ refused_depth c.args.self.now.records (rw (← c.self.view_is) c.known.ensures) c.args.parent.now c.requires r found (λ waits. elim c.in-Granted.is [
+        | inl granted ↦ (let no : Granted ≡ Waiting = sym granted ∙ waits in cc)
+        | inr converting ↦ (let no : Conversion ≡ Waiting = sym converting ∙ waits in cc)
+      ]);
 }
