@@ -10,7 +10,7 @@ use Rattle.vlm_words.specs.Effects.{Blocks}
 use Rattle.vlm_words.specs.State.{Process, Resource, State}
 use Rattle.vlm_words.specs.StatusBlocks.{processes_after_acceptance}
 use Rattle.vlm_store.specs.Records.{Records, SameButBlocks, StoredResource, plain_processes, resource_at}
-use Rattle.vlm_service.specs.Plain.{plain_resource, plain_resources}
+use Rattle.vlm_locks.specs.Plain.{plain_resource, plain_resources}
 use Rattle.vlm_locks.specs.Converting.{IsConverted, admission_on}
 use Rattle.vlm_core.specs.declared.converting.AdmittedConversion.{AdmittedConversion}
 use Rattle.vlm_core.specs.Admissions.{IsAdmittedConversion}

@@ -13,7 +13,7 @@ use Rattle.vlm_words.specs.Resources.{is_at, new_resource}
 use Rattle.vlm_words.specs.State.{Process, Resource, State}
 use Rattle.vlm_words.specs.StatusBlocks.{processes_after_acceptance}
 use Rattle.vlm_store.specs.Records.{FindsResource, HasResource, Records, StoredResource, plain_processes, resource_at}
-use Rattle.vlm_service.specs.Plain.{plain_resources}
+use Rattle.vlm_locks.specs.Plain.{plain_resources}
 use Rattle.vlm_locks.specs.Entering.{resource_for}
 use Rattle.vlm_words.specs.Trees.{enq_site}
 use Rattle.vlm_locks.specs.Rest.{IsAtRest}

@@ -7,7 +7,7 @@ use Rattle.vlm_words.specs.Settled.{IsSettled}
 use Rattle.vlm_words.specs.State.{Process, Resource, State}
 use Rattle.vlm_words.specs.Sweeps.{blocks_after_service, is_vacant, processes_after_service, resource_after_service, resources_after_service, resources_after_sweep, state_after_sweep}
 use Rattle.vlm_store.specs.Records.{IsResourceAmong, Records, StoredResource}
-use Rattle.vlm_service.specs.Plain.{plain_resource, plain_resources}
+use Rattle.vlm_locks.specs.Plain.{plain_resource, plain_resources}
 use Rattle.vlm_locks.specs.Rest.{OthersStay}
 use Rattle.vlm_core.specs.Between.{AreSettledBut}
 

@@ -24,8 +24,8 @@ use Rattle.vlm_words.specs.Trees.{depth_refusal, enq_site, parent_refusal, paren
 use Rattle.vlm_words.proofs.Passed.{both_pass, test_passes}
 use Rattle.vlm_store.specs.declared.keys.Place.TheVariants.{Queued}
 use Rattle.vlm_store.specs.Records.{IsAmong, IsParentOf, IsResourceAmong, IsSound, Records, StoredResource, queued, resource_at, resource_site, rows_of}
-use Rattle.vlm_service.specs.Plain.{plain_resource, plain_resources}
-use Rattle.vlm_service.proofs.Found.{resource_alone, resource_at-at}
+use Rattle.vlm_locks.specs.Plain.{plain_resource, plain_resources}
+use Rattle.vlm_locks.proofs.Found.{resource_alone, resource_at-at}
 use Rattle.vlm_locks.specs.declared.finding.Standing.{Standing}
 use Rattle.vlm_locks.specs.Standing.{IsStanding, IsStandingOf}
 use Rattle.vlm_locks.proofs.Named.{any-absent, any-among}

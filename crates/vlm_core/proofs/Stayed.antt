@@ -3,7 +3,7 @@ use Rattle.std.proofs.Common.{◌≡◌, ◌⊎◌, ℕ, List, [], ◌∷◌, �
 use Rattle.vlm_words.specs.declared.steps.Declaration.{Declaration}
 use Rattle.vlm_store.specs.Records.{IsProcess, IsProcessAmong, Records, SameButBlocks, StoredProcess, but_blocks, new_stored_process}
 use Rattle.vlm_locks.specs.Rest.{IsAtRest}
-use Rattle.vlm_service.proofs.Found.{process_there}
+use Rattle.vlm_locks.proofs.Found.{process_there}
 use Rattle.vlm_core.specs.declared.processes.Caller.{Caller}
 use Rattle.vlm_core.specs.Admissions.{IsCaller}
 

@@ -9,7 +9,7 @@ use Rattle.vlm_words.specs.Runs.{Run}
 use Rattle.vlm_words.specs.Settled.{IsSettled}
 use Rattle.vlm_words.specs.State.{State}
 use Rattle.vlm_store.specs.Records.{IsResourceAmong, Records, StoredResource}
-use Rattle.vlm_service.specs.Plain.{plain_resource}
+use Rattle.vlm_locks.specs.Plain.{plain_resource}
 
 -- nothing is to be swept, no lock has an identification that is to come, or 0, serials are from 1, no more of them than
 -- identifications were given, a declaration gives an identification that no living process has, and each parent lock

@@ -2,7 +2,7 @@
 use Rattle.std.specs.Prelude.{ℕ, List, ◌+◌}
 use Rattle.vlm_words.specs.State.{Node, State}
 use Rattle.vlm_store.specs.Records.{Records, plain_processes}
-use Rattle.vlm_service.specs.Plain.{plain_resources}
+use Rattle.vlm_locks.specs.Plain.{plain_resources}
 use Rattle.vlm_locks.specs.Rest.{IsAtRest}
 use Rattle.vlm_core.specs.declared.records.Machine.TheInside.{Inside}
 

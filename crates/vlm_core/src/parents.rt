@@ -9,7 +9,7 @@ ghost use Rattle.vlm_words.specs.Flags.{flag_bits};
 ghost use Rattle.vlm_words.specs.Resources.{IsKeyed};
 ghost use Rattle.vlm_words.specs.Trees.{depth_refusal, parent_refusal, parent_resource, privilege_refusal, root_domain, site_below, site_refusal, waiting_refusal};
 ghost use Rattle.vlm_store.specs.Records.{HasResource, StoredResource, resource_at};
-ghost use Rattle.vlm_service.specs.Plain.{plain_resource};
+ghost use Rattle.vlm_locks.specs.Plain.{plain_resource};
 ghost use Rattle.vlm_locks.specs.Standing.{IsStanding};
 ghost use Rattle.vlm_core.specs.Admissions.{IsCaller};
 ghost use Rattle.vlm_core.specs.Between.{IsBetweenSteps};

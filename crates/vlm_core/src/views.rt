@@ -2,7 +2,7 @@
 
 ghost use Rattle.std.specs.Prelude.{◌≡◌, IfSome};
 ghost use Rattle.vlm_store.specs.Records.{HasResource, resource_at};
-ghost use Rattle.vlm_service.specs.Plain.{plain_resource};
+ghost use Rattle.vlm_locks.specs.Plain.{plain_resource};
 ghost use Rattle.vlm_core.specs.Views.{resource_view, row_view};
 
 use vlm_store::{ResAt, Store};

@@ -8,8 +8,8 @@ use Rattle.vlm_words.specs.declared.resources.Queue.TheVariants.{Granted, Conver
 use Rattle.vlm_store.specs.declared.keys.Place.TheVariants.{Loose, Queued}
 use Rattle.vlm_store.specs.Records.{IsOwnAmong, IsProcessAmong, IsResourceAmong, IsSound, OwnLock, Records, SameButBlocks, StoredProcess, StoredResource, leaving, plain_processes, process_without_lock, queued, resource_at, resource_with, without_lock, without_stored_lock, without_sublock}
 use Rattle.vlm_store.proofs.Undoing.{map_on, unmoved}
-use Rattle.vlm_service.specs.Plain.{plain_resource}
-use Rattle.vlm_service.proofs.Found.{resource_alone}
+use Rattle.vlm_locks.specs.Plain.{plain_resource}
+use Rattle.vlm_locks.proofs.Found.{resource_alone}
 use Rattle.vlm_locks.specs.declared.finding.Standing.{Standing}
 use Rattle.vlm_locks.specs.Rest.{IsAtRest, IsReplaced, OthersStay}
 use Rattle.vlm_locks.specs.Standing.{IsStanding}

@@ -1,3 +1,7 @@
+pub mod Found
+pub mod Moves
+pub mod Granting
+pub mod Ended
 pub mod Changed
 pub mod Converted
 pub mod Entered

@@ -11,7 +11,7 @@ use Rattle.vlm_store.specs.declared.keys.Place.{Place}
 use Rattle.vlm_store.specs.declared.keys.Place.TheVariants.{Loose, Queued}
 use Rattle.vlm_store.specs.Records.{FindsResource, HasResource, IsAmong, IsIdle, IsNewKey, IsNewLock, IsParentOf, IsResourceAmong, Records, StoredResource, locks_at, new_resource, queued, resource_at}
 use Rattle.vlm_words.specs.declared.locks.Row.{Row}
-use Rattle.vlm_service.specs.Plain.{plain_resource, plain_resources}
+use Rattle.vlm_locks.specs.Plain.{plain_resource, plain_resources}
 use Rattle.vlm_locks.specs.declared.entering.Entry.{Entry}
 use Rattle.vlm_locks.specs.Entering.{IsEntered, resource_for}
 use Rattle.vlm_words.specs.Resources.{IsKeyed}

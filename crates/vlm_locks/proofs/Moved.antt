@@ -17,7 +17,7 @@ use Rattle.vlm_locks.specs.Rest.{IsReplaced}
 use Rattle.vlm_locks.specs.Standing.{IsStanding}
 use Rattle.vlm_locks.proofs.Named.{without-absent, without-key}
 use Rattle.vlm_locks.proofs.Stood.{absent, only, own_among, queue_is, stands}
-use Rattle.vlm_service.proofs.Found.{resource_alone, resource_at-at}
+use Rattle.vlm_locks.proofs.Found.{resource_alone, resource_at-at}
 
 module _ (s : Records) (sound : IsSound s) (f : Standing) (standing : IsStanding f s) (row : Row) (to : Queue) where
   -- another resource stays as it was

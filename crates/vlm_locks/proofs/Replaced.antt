@@ -4,11 +4,11 @@ use Rattle.std.specs.Prelude.{◌==◌}
 use Rattle.std.proofs.lemmas.Bool.{cases_eq}
 use Rattle.vlm_words.specs.State.{Resource}
 use Rattle.vlm_store.specs.Records.{HasNoSublocks, HasResource, IsOwnAmong, IsProcessAmong, IsResourceAmong, IsSound, OwnLock, Records, StoredProcess, StoredResource, but_blocks, on_resource, resource_at}
-use Rattle.vlm_service.specs.Plain.{plain_resource, plain_resources}
+use Rattle.vlm_locks.specs.Plain.{plain_resource, plain_resources}
 use Rattle.vlm_words.specs.Resources.{IsKeyed}
 use Rattle.vlm_locks.specs.Rest.{IsAtRest, IsReplaced, OthersStay}
 use Rattle.vlm_locks.proofs.Stood.{resource_among}
-use Rattle.vlm_service.proofs.Found.{resource_alone, resource_at-at, resource_at-put}
+use Rattle.vlm_locks.proofs.Found.{resource_alone, resource_at-at, resource_at-put}
 
 -- a resource of the list after is the new one, or it was there and has another key
 replaced_cases : (res : ℕ) (left : StoredResource) (rs : List StoredResource) (x : StoredResource) → IsResourceAmong x (on_resource res (λ r. left) rs)

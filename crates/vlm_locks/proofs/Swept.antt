@@ -12,9 +12,9 @@ use Rattle.vlm_words.specs.Settled.{IsSettled, IsSweptAlone, unless_vacant}
 use Rattle.vlm_words.specs.State.{Process, Resource}
 use Rattle.vlm_words.specs.Sweeps.{blocks_after_service, is_vacant, processes_after_service, resource_after_service, resources_after_sweep}
 use Rattle.vlm_store.specs.Records.{AreResourcesApart, HasResource, IsIdle, IsResourceAmong, IsSound, Records, StoredLock, StoredResource, plain_processes, queued, resource_at, rows_of, without_resource}
-use Rattle.vlm_service.specs.Plain.{plain_resource, plain_resources}
-use Rattle.vlm_service.specs.Serving.{IsServed, but_service}
-use Rattle.vlm_service.proofs.Moves.{locks_found}
+use Rattle.vlm_locks.specs.Plain.{plain_resource, plain_resources}
+use Rattle.vlm_locks.specs.Serving.{IsServed, but_service}
+use Rattle.vlm_locks.proofs.Moves.{locks_found}
 use Rattle.vlm_words.specs.Resources.{IsKeyed}
 use Rattle.vlm_locks.specs.Rest.{IsAtRest}
 

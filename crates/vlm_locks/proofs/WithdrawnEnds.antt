@@ -15,7 +15,7 @@ use Rattle.vlm_words.specs.State.{Process, Resource}
 use Rattle.vlm_words.specs.StatusBlocks.{processes_after_status}
 use Rattle.vlm_store.specs.declared.keys.Place.TheVariants.{Queued}
 use Rattle.vlm_store.specs.Records.{AreResourcesApart, IsResourceAmong, IsSound, Records, StoredResource, queued, resource_at, rows_of}
-use Rattle.vlm_service.specs.Plain.{plain_resource, plain_resources}
+use Rattle.vlm_locks.specs.Plain.{plain_resource, plain_resources}
 use Rattle.vlm_locks.specs.declared.finding.Standing.{Standing}
 use Rattle.vlm_locks.specs.Standing.{IsStanding}
 use Rattle.vlm_locks.proofs.Stood.{own_among}

@@ -5,7 +5,7 @@ use Rattle.vlm_words.specs.Enqueue.{is_at_once, resources_after_entry}
 use Rattle.vlm_words.specs.Resources.{is_at, new_resource}
 use Rattle.vlm_words.specs.State.{Resource}
 use Rattle.vlm_store.specs.Records.{HasResource, IsProcess, Records, plain_processes, resource_at}
-use Rattle.vlm_service.specs.Plain.{plain_resources}
+use Rattle.vlm_locks.specs.Plain.{plain_resources}
 use Rattle.vlm_locks.specs.declared.entering.Entry.{Entry}
 use Rattle.vlm_locks.specs.Rest.{IsAtRest, OthersStay}
 

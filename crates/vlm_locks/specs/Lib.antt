@@ -1,5 +1,7 @@
-pub mod Converting
-pub mod Entering
-pub mod Rest
+pub mod Plain
+pub mod Serving
 pub mod Standing
+pub mod Rest
+pub mod Entering
+pub mod Converting
 pub mod Withdrawing

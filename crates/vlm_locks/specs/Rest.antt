@@ -2,7 +2,7 @@
 use Rattle.std.specs.Prelude.{◌≡◌, ◌≢◌, ℕ, [], map, Some}
 use Rattle.vlm_words.specs.Resources.{IsKeyed}
 use Rattle.vlm_store.specs.Records.{IsResourceAmong, Records, StoredResource, but_blocks, on_resource, resource_at}
-use Rattle.vlm_service.specs.Serving.{but_service}
+use Rattle.vlm_locks.specs.Serving.{but_service}
 
 -- between two steps each lock stands in a queue, and each resource is in the domain of its key
 pub record IsAtRest (s : Records) : Type 0 where

@@ -6,7 +6,7 @@ use Rattle.vlm_words.specs.declared.resources.Queue.TheVariants.{Granted, Conver
 use Rattle.vlm_words.specs.Dequeue.{is_writer}
 use Rattle.vlm_words.specs.State.{Resource}
 use Rattle.vlm_store.specs.Records.{HasResource, Records, plain_processes}
-use Rattle.vlm_service.specs.Plain.{plain_resources}
+use Rattle.vlm_locks.specs.Plain.{plain_resources}
 use Rattle.vlm_locks.specs.Rest.{IsAtRest, OthersStay}
 
 -- a lock of this queue may write the value block as it goes: it holds PW or EX, granted or converting

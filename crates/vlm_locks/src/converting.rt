@@ -6,15 +6,16 @@ ghost use Rattle.vlm_words.specs.Convert.{converts_at_once, wanting_row};
 ghost use Rattle.vlm_words.specs.Grants.{fits};
 ghost use Rattle.vlm_words.specs.Rows.{rows_without};
 ghost use Rattle.vlm_store.specs.Records.{HasResource, IsSameLock, StoredResource, plain_processes, resource_at, rows_of};
-ghost use Rattle.vlm_service.specs.Plain.{plain_resource};
+ghost use Rattle.vlm_locks.specs.Plain.{plain_resource};
 ghost use Rattle.vlm_locks.specs.Converting.{IsConverted, IsGrantedAtOnce, moved_in};
 ghost use Rattle.vlm_locks.specs.Rest.{IsAtRest, IsReplaced, OthersStay};
 ghost use Rattle.vlm_locks.specs.Standing.{IsStanding};
 
+use crate::endings::end_by_grant;
 use crate::entering::is_free;
 use crate::finding::Standing;
+use crate::grants::granted_row;
 use vlm_queue::can_hold;
-use vlm_service::{end_by_grant, granted_row};
 use vlm_store::{Place, ResAt, Store};
 use vlm_words::flags::EnqFlags;
 use vlm_words::locks::{Request, Row};

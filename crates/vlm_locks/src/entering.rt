@@ -5,14 +5,14 @@ ghost use Rattle.vlm_words.specs.declared.locks.Request.{Request};
 ghost use Rattle.vlm_words.specs.Enqueue.{is_at_once, resources_after_entry};
 ghost use Rattle.vlm_words.specs.Grants.{is_empty};
 ghost use Rattle.vlm_store.specs.Records.{FindsResource, HasResource, IsNewKey, IsNewLock, IsParentOf, IsProcess, StoredResource, plain_processes, queued, resource_at, rows_of};
-ghost use Rattle.vlm_service.specs.Plain.{plain_resource, plain_resources};
+ghost use Rattle.vlm_locks.specs.Plain.{plain_resource, plain_resources};
 ghost use Rattle.vlm_locks.specs.Entering.{IsEntered, resource_for};
 ghost use Rattle.vlm_words.specs.Resources.{IsKeyed};
 ghost use Rattle.vlm_locks.specs.Rest.{IsAtRest, OthersStay};
 
+use crate::grants::granted_row;
 use std::alloc::AllocError;
 use vlm_queue::{can_hold, head};
-use vlm_service::granted_row;
 use vlm_store::{LockAt, Place, ProcAt, ResAt, Store};
 use vlm_words::flags::EnqFlags;
 use vlm_words::locks::{Request, Row};

@@ -1,16 +1,21 @@
-//! What becomes of one lock: it enters a resource, converts, or is withdrawn, and its resource is swept.
+//! What becomes of one lock: it enters a resource, converts, or is withdrawn, and its resource is swept: what is
+//! queued there is granted, as far as it can be.
 //!
-//! A lock is looked up once, and no resource but its own is touched.
+//! A lock is looked up once, and no resource but its own is touched. Only an entry takes memory.
 #![tactic(auto)]
 
 mod converting;
+mod endings;
 mod entering;
 mod finding;
+mod grants;
+mod serving;
 mod sweeping;
 mod withdrawals;
 mod withdrawing;
 
 pub use converting::{convert, converts_at_once};
+pub use endings::end_by_grant;
 pub use entering::{Entry, enter, enters_at_once};
 pub use finding::{Standing, find_lock};
 pub use sweeping::sweep;

@@ -4,11 +4,11 @@ ghost use Rattle.std.specs.Prelude.{◌≡◌, ◌≢◌};
 ghost use Rattle.vlm_words.specs.Settled.{IsSettled};
 ghost use Rattle.vlm_words.specs.Sweeps.{processes_after_service, resources_after_sweep};
 ghost use Rattle.vlm_store.specs.Records.{HasResource, IsResourceAmong, StoredResource, plain_processes};
-ghost use Rattle.vlm_service.specs.Plain.{plain_resource, plain_resources};
+ghost use Rattle.vlm_locks.specs.Plain.{plain_resource, plain_resources};
 ghost use Rattle.vlm_locks.specs.Rest.{IsAtRest};
 
+use crate::serving::serve;
 use vlm_queue::is_idle;
-use vlm_service::serve;
 use vlm_store::{ResAt, Store};
 use vlm_words::laws::law_a_sweep_touches_only_what_is_not_settled;
 

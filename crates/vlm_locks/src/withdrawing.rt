@@ -6,7 +6,7 @@ ghost use Rattle.vlm_words.specs.Endings.{row_endings};
 ghost use Rattle.vlm_words.specs.Endings.How.{by_abort, by_cancel};
 ghost use Rattle.vlm_words.specs.declared.resources.Queue.{Queue};
 ghost use Rattle.vlm_store.specs.Records.{HasNoSublocks, HasResource, SameButBlocks, plain_processes};
-ghost use Rattle.vlm_service.specs.Plain.{plain_resources};
+ghost use Rattle.vlm_locks.specs.Plain.{plain_resources};
 ghost use Rattle.vlm_locks.specs.Rest.{IsAtRest, OthersStay};
 ghost use Rattle.vlm_locks.specs.Standing.{IsStanding};
 ghost use Rattle.vlm_locks.specs.Withdrawing.{IsChange, goes, may_write};

@@ -9,7 +9,7 @@ use Rattle.vlm_words.specs.Resources.{key_name, key_parent}
 use Rattle.vlm_words.specs.Texts.{resource_line, resource_text, resources_text}
 use Rattle.vlm_store.specs.Records.{StoredLock, StoredResource, at_after, first_resource_at, queued, resource_at, resource_at_after, rows_of}
 use Rattle.vlm_store.proofs.Walks.{IsAtLock, IsAtResource, locks_from, resources_from}
-use Rattle.vlm_service.specs.Plain.{plain_resource}
+use Rattle.vlm_locks.specs.Plain.{plain_resource}
 use Rattle.vlm_script.specs.Queues.{queue_lines, row_line}
 
 -- the lines of the locks that a walk of a queue has left

@@ -5,7 +5,7 @@ ghost use Rattle.vlm_words.specs.Resources.{key_name, key_parent};
 ghost use Rattle.vlm_words.specs.Texts.{resource_line, resource_text, resources_text};
 ghost use Rattle.vlm_store.specs.declared.keys.Place.{Place};
 ghost use Rattle.vlm_store.specs.Records.{HasResource, locks_at, resource_at, rows_of};
-ghost use Rattle.vlm_service.specs.Plain.{plain_resource, plain_resources};
+ghost use Rattle.vlm_locks.specs.Plain.{plain_resource, plain_resources};
 ghost use Rattle.vlm_script.specs.Queues.{queue_lines, row_line};
 
 use crate::printing::{converting_line, granted_line, no_resources, resource_line, waiting_line};

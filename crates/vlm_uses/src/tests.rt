@@ -5,6 +5,5 @@ mod lists;
 mod records;
 mod refusals;
 mod retries;
-mod serving;
 mod steps;
 mod stores;

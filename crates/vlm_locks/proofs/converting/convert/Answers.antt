@@ -3,7 +3,7 @@ use Rattle.vlm_words.specs.declared.resources.Queue.TheVariants.{Conversion, Gra
 use Rattle.vlm_words.specs.declared.locks.Row.{Row}
 use Rattle.vlm_words.specs.Convert.{converts_at_once}
 use Rattle.vlm_words.specs.Grants.{granted_row}
-use Rattle.vlm_service.specs.Plain.{plain_resource}
+use Rattle.vlm_locks.specs.Plain.{plain_resource}
 use Rattle.vlm_locks.specs.Converting.{IsConverted, IsGrantedAtOnce, blocks_granted, moved_in}
 use Rattle.vlm_locks.specs.Rest.{IsReplaced}
 use Rattle.vlm_locks.proofs.Converted.{converted_later, converted_now}

@@ -2,7 +2,7 @@ use Rattle.std.proofs.Common.{◌≡◌, cond, sym, ap, ◌∙◌}
 use Rattle.vlm_words.specs.declared.conditions.Cond.TheVariants.{Abort, Cancel}
 use Rattle.vlm_words.specs.StatusBlocks.{processes_after_status}
 use Rattle.vlm_store.specs.Records.{plain_processes}
-use Rattle.vlm_service.proofs.Found.{process_there}
+use Rattle.vlm_locks.proofs.Found.{process_there}
 use Rattle.vlm_locks.proofs.Stood.{stored}
 use Rattle.vlm_locks.proofs.WithdrawnEnds.{end_written}
 use Rattle.vlm_locks.proofs.withdrawing.end_request.Goals as goal

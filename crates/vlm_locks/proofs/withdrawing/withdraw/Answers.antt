@@ -1,7 +1,7 @@
 use Rattle.std.proofs.Common.{◌≡◌, true, false, map, sym, ap, ◌∙◌, subst}
 use Rattle.vlm_words.specs.Dequeue.{Withdrawal, resource_after_withdrawal, resource_without}
 use Rattle.vlm_store.specs.Records.{HasNoSublocks, IsProcessAmong, IsResourceAmong}
-use Rattle.vlm_service.specs.Plain.{plain_resource, plain_resources}
+use Rattle.vlm_locks.specs.Plain.{plain_resource, plain_resources}
 use Rattle.vlm_locks.specs.Withdrawing.{goes}
 use Rattle.vlm_locks.proofs.Replaced.{no_sublocks_still}
 use Rattle.vlm_locks.proofs.Changed.{rests_still, stay_over}

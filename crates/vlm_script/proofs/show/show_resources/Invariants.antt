@@ -4,7 +4,7 @@ use Rattle.std.specs.Option.{ForSome}
 use Rattle.vlm_words.specs.Texts.{resource_text}
 use Rattle.vlm_store.specs.Records.{HasResource}
 use Rattle.vlm_store.proofs.Walks.{resources_from}
-use Rattle.vlm_service.specs.Plain.{plain_resources}
+use Rattle.vlm_locks.specs.Plain.{plain_resources}
 use Rattle.vlm_script.proofs.Shown.{text_left}
 use Rattle.vlm_script.proofs.show.show_resources.Given as goal
 

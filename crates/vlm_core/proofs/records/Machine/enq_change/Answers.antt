@@ -2,7 +2,7 @@ use Rattle.std.proofs.Common.{◌≡◌, ◌+◌, map, Some, refl, sym, ap, ◌�
 use Rattle.vlm_words.specs.declared.locks.Row.{Row}
 use Rattle.vlm_words.specs.Enqueue.{enq_row}
 use Rattle.vlm_store.specs.Records.{IsParentOf, IsProcess, IsResourceAmong}
-use Rattle.vlm_service.specs.Plain.{plain_resource}
+use Rattle.vlm_locks.specs.Plain.{plain_resource}
 use Rattle.vlm_locks.proofs.Changed.{rests_still}
 use Rattle.vlm_core.specs.Admissions.{IsAdmitted}
 use Rattle.vlm_core.specs.Between.{IsBetweenSteps}

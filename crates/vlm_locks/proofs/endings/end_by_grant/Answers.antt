@@ -1,5 +1,5 @@
-use Rattle.vlm_service.proofs.Found.{process_there}
-use Rattle.vlm_service.proofs.endings.end_by_grant.Goals as goal
+use Rattle.vlm_locks.proofs.Found.{process_there}
+use Rattle.vlm_locks.proofs.endings.end_by_grant.Goals as goal
 
 pub end-requires : goal.end-requires
 end-requires c = process_there c.args.store.now _ _ c.requires

@@ -1,4 +1,4 @@
-use Rattle.vlm_service.proofs.serving.grant.Goals as goal
+use Rattle.vlm_locks.proofs.serving.grant.Goals as goal
 
 -- a lock that moves leaves the processes
 pub end_by_grant-requires : goal.end_by_grant-requires

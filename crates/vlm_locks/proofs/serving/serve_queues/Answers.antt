@@ -1,5 +1,5 @@
-use Rattle.vlm_service.proofs.Ended.{served_alone, served_then}
-use Rattle.vlm_service.proofs.serving.serve_queues.Goals as goal
+use Rattle.vlm_locks.proofs.Ended.{served_alone, served_then}
+use Rattle.vlm_locks.proofs.serving.serve_queues.Goals as goal
 
 -- once no conversion is left, the new requests are served
 pub returns-in-None : goal.returns-in-None

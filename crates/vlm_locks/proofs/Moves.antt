@@ -11,8 +11,8 @@ use Rattle.vlm_store.specs.declared.keys.Place.TheVariants.{Loose, Queued}
 use Rattle.vlm_store.specs.Records.{AreApart, IsAmong, IsResourceAmong, IsSound, Records, SameButBlocks, StoredLock, StoredResource, Stores, first_at, is_place, locks_at, moving, on_resource, queued, resource_at, resource_with, with_lists, without_lock}
 use Rattle.vlm_store.proofs.Layouts.{is_place-other, is_place-same}
 use Rattle.vlm_store.proofs.Undoing.{map_on, resource_is, unmoved, without_absent}
-use Rattle.vlm_service.specs.Serving.{IsLeft, but_queues}
-use Rattle.vlm_service.proofs.Found.{on_resource-put, resource_alone, resource_at-at, resource_at-put}
+use Rattle.vlm_locks.specs.Serving.{IsLeft, but_queues}
+use Rattle.vlm_locks.proofs.Found.{on_resource-put, resource_alone, resource_at-at, resource_at-put}
 
 -- the lock of this key and this row is the first of the queue, and these are behind it
 pub record IsHead (queue : Queue) (r : StoredResource) (at : ℕ) (row : Row) : Type 0 where

@@ -12,11 +12,11 @@ use Rattle.vlm_words.specs.State.{Resource}
 use Rattle.vlm_words.specs.Sweeps.{blocks_after_service, resource_after_service}
 use Rattle.vlm_store.specs.declared.keys.Place.TheVariants.{Queued}
 use Rattle.vlm_store.specs.Records.{HasResource, IsResourceAmong, IsSound, Records, StoredLock, StoredResource, but_blocks, first_at, locks_at, on_resource, plain_processes, resource_at, rows_of}
-use Rattle.vlm_service.specs.Plain.{plain_resource}
-use Rattle.vlm_service.specs.Serving.{IsLeft, IsServed, IsServiceOf, but_service, service_from}
-use Rattle.vlm_service.proofs.Found.{on_resource-put, resource_alone, resource_at-at, resource_at-put}
-use Rattle.vlm_service.proofs.Granting.{blocks_after_append}
-use Rattle.vlm_service.proofs.Moves.{locks_found, none_queued}
+use Rattle.vlm_locks.specs.Plain.{plain_resource}
+use Rattle.vlm_locks.specs.Serving.{IsLeft, IsServed, IsServiceOf, but_service, service_from}
+use Rattle.vlm_locks.proofs.Found.{on_resource-put, resource_alone, resource_at-at, resource_at-put}
+use Rattle.vlm_locks.proofs.Granting.{blocks_after_append}
+use Rattle.vlm_locks.proofs.Moves.{locks_found, none_queued}
 
 -- a change of one resource, and then another
 left_then : (res : ℕ) (had left last : StoredResource) (old s new : Records) → IsLeft res had left old s → IsLeft res left last s new → IsLeft res had last old new

@@ -10,7 +10,7 @@ use Rattle.vlm_words.specs.State.{Resource}
 use Rattle.vlm_words.specs.Sweeps.{blocks_after_service, resource_after_service}
 use Rattle.vlm_words.specs.ValueBlocks.{new_value_block}
 use Rattle.vlm_store.specs.Records.{Records, StoredResource, but_blocks, fits_beside, on_resource, plain_processes, resource_at}
-use Rattle.vlm_service.specs.Plain.{plain_resource, plain_resources}
+use Rattle.vlm_locks.specs.Plain.{plain_resource, plain_resources}
 
 -- a resource but for its queues
 abbrev pub but_queues : StoredResource → StoredResource

@@ -1,5 +1,5 @@
-use Rattle.vlm_service.proofs.Ended.{served, still_there}
-use Rattle.vlm_service.proofs.serving.serve.Goals as goal
+use Rattle.vlm_locks.proofs.Ended.{served, still_there}
+use Rattle.vlm_locks.proofs.serving.serve.Goals as goal
 
 pub returns-clause-served : goal.returns-clause-served
 returns-clause-served c =

@@ -1,8 +1,8 @@
 use Rattle.std.proofs.Common.{length}
 use Rattle.vlm_store.specs.declared.keys.Place.TheVariants.{Queued}
 use Rattle.vlm_store.specs.Records.{locks_at}
-use Rattle.vlm_service.proofs.Granting.{IsServing}
-use Rattle.vlm_service.proofs.serving.serve_queue.Given as goal
+use Rattle.vlm_locks.proofs.Granting.{IsServing}
+use Rattle.vlm_locks.proofs.serving.serve_queue.Given as goal
 
 -- the queue is served so far
 abbrev pub invariant-loop-lock : goal.invariant-loop-lock

@@ -16,7 +16,7 @@ fn is_arming(want: Option<Request>) -> bool
 }
 
 /// The row once it holds what it wanted.
-pub fn granted_row(row: Row) -> Row
+pub(crate) fn granted_row(row: Row) -> Row
     ensures { result ≡ granted_row row }
 {
     Row {

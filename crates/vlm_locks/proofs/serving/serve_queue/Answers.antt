@@ -1,5 +1,5 @@
-use Rattle.vlm_service.proofs.Granting.{serving_begun, serving_next, serving_shorter, serving_stopped}
-use Rattle.vlm_service.proofs.serving.serve_queue.Goals as goal
+use Rattle.vlm_locks.proofs.Granting.{serving_begun, serving_next, serving_shorter, serving_stopped}
+use Rattle.vlm_locks.proofs.serving.serve_queue.Goals as goal
 
 pub loop-lock-init : goal.loop-lock-init
 loop-lock-init c = serving_begun c.args.queue c.args.res c.args.value_block.now c.args.store.now c.known.ensures c.requires.there

@@ -12,10 +12,10 @@ use Rattle.vlm_words.specs.Endings.How.{by_grant}
 use Rattle.vlm_words.specs.Grants.{Service, grant_act, grant_endings, granted_row, no_service, service_after_grant, wanted_fits}
 use Rattle.vlm_store.specs.declared.keys.Place.TheVariants.{Queued}
 use Rattle.vlm_store.specs.Records.{HasResource, IsSound, Records, SameButBlocks, StoredLock, StoredResource, Stores, first_at, locks_at, moving, plain_processes, queued, resource_at, rows_of, with_lists}
-use Rattle.vlm_service.specs.Plain.{plain_resource}
-use Rattle.vlm_service.specs.Serving.{IsLeft, IsServiceOf, service_from, wanted_fits_beside}
-use Rattle.vlm_service.proofs.Found.{on_resource-own}
-use Rattle.vlm_service.proofs.Moves.{IsHead, alone_here, behind, granted_first, granted_first-queue, head_is, left_next, locks_found, none_queued}
+use Rattle.vlm_locks.specs.Plain.{plain_resource}
+use Rattle.vlm_locks.specs.Serving.{IsLeft, IsServiceOf, service_from, wanted_fits_beside}
+use Rattle.vlm_locks.proofs.Found.{on_resource-own}
+use Rattle.vlm_locks.proofs.Moves.{IsHead, alone_here, behind, granted_first, granted_first-queue, head_is, left_next, locks_found, none_queued}
 
 -- what ends first takes effect first
 pub blocks_after_append : (first later : List Ending) (b : Blocks) → blocks_after (first ++ later) b ≡ blocks_after later (blocks_after first b)

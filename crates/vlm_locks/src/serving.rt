@@ -6,7 +6,7 @@ ghost use Rattle.vlm_words.specs.Effects.{blocks_after, blocks_with};
 ghost use Rattle.vlm_words.specs.Grants.{grant_endings, granted_row, service};
 ghost use Rattle.vlm_store.specs.declared.keys.Place.{Place};
 ghost use Rattle.vlm_store.specs.Records.{HasResource, IsStored, SameButBlocks, StoredLock, Stores, moving, plain_processes, resource_at, with_lists};
-ghost use Rattle.vlm_service.specs.Serving.{IsServed, IsServiceOf, service_from, wanted_fits_beside};
+ghost use Rattle.vlm_locks.specs.Serving.{IsServed, IsServiceOf, service_from, wanted_fits_beside};
 
 use crate::endings::end_by_grant;
 use crate::grants::granted_row;
@@ -79,7 +79,7 @@ fn serve_queues(value_block: &mut ValueBlock, store: &mut Store, res: ResAt)
 /// Grants what can be granted on a resource: conversions first, then new requests, each queue up to the
 /// first that does not fit. Each grant takes effect on the value block and on its status block. The cost
 /// grows with what is granted.
-pub fn serve(store: &mut Store, res: ResAt)
+pub(crate) fn serve(store: &mut Store, res: ResAt)
     requires { HasResource res store.old }
     ensures served { IsServed res store.old store.new }
     ensures there { HasResource res store.new }

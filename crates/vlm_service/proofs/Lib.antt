@@ -1,4 +1,0 @@
-pub mod Found
-pub mod Moves
-pub mod Granting
-pub mod Ended
