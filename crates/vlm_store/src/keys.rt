@@ -100,7 +100,7 @@ impl ProcAt {
 }
 
 /// Where a lock stands.
-#[derive(Clone, Copy, PartialEq, Eq)]
+#[derive(Clone, Copy)]
 pub enum Place {
     /// In no queue.
     Loose,
