@@ -13,7 +13,7 @@ use crate::nodes::has_departed;
 use crate::processes::{Caller, has_room, living};
 use crate::records::Machine;
 use vlm_locks::{Standing, find_lock};
-use vlm_procs::{has_status_block, status_block};
+use vlm_procs::status_block;
 use vlm_words::conditions::Cond;
 use vlm_words::flags::EnqFlags;
 use vlm_words::steps::Which;
@@ -77,16 +77,15 @@ impl Machine {
     }
 
     /// ACCVIO where the caller has no status block of the number.
-    #[tactic(auto, unfolding(vlm_words::specs::Checks::status_block_refusal))]
+    #[tactic(auto, unfolding(vlm_words::specs::Checks::status_block_refusal, vlm_words::specs::StatusBlocks::status_block_at))]
     pub(crate) fn check_status_block(&self, caller: &Caller, block: u8) -> Result<(), Cond>
         requires { IsCaller caller.now self.now.records }
         ensures { result_err result
             ≡ status_block_refusal (plain_state self.now) caller.now.pid block }
     {
-        if has_status_block(&self.store, caller.at, block) {
-            Ok(())
-        } else {
-            Err(Cond::Accvio)
+        match status_block(&self.store, caller.at, block) {
+            Some(_) => Ok(()),
+            None => Err(Cond::Accvio),
         }
     }
 

@@ -1,23 +1,8 @@
-//! Bytes cut into lines, and a line into words.
+//! A line cut into words.
 
-ghost use Rattle.std.specs.Prelude.{◌≡◌, ◌<◌, ◌≤◌, ◌+◌, ◌↔◌, [], ◌∷◌, not, length, take, drop, IsNone, IfSome, MatchOption};
+ghost use Rattle.std.specs.Prelude.{◌≡◌, ◌<◌, ◌≤◌, ◌+◌, [], ◌∷◌, not, length, take, drop, IfSome, MatchOption};
 ghost use Rattle.std.specs.List.{position_or_len};
-ghost use Rattle.vlm_words.specs.Lines.{lines_of, words_of, is_blank, is_line_feed};
-
-/// The first line without its line feed, and the bytes behind it. None where there are no bytes. A
-/// line ends at its line feed, and the last one at the end of the bytes.
-#[tactic(auto, using(crate::proofs::Pieces::pieces_first))]
-pub fn next_line(bytes: &[u8]) -> Option<(&[u8], &[u8])>
-    ensures none { IsNone result ↔ (bytes.now ≡ []) }
-    ensures some { IfSome result (λ p. lines_of bytes.now ≡ p.0.now ∷ lines_of p.1.now) }
-    ensures shorter { IfSome result (λ p. length p.1.now < length bytes.now) }
-{
-    if bytes.is_empty() {
-        return None;
-    }
-    let end = line_len(bytes);
-    Some(cut_at(bytes, end))
-}
+ghost use Rattle.vlm_words.specs.Lines.{words_of, is_blank};
 
 /// The first word, and the bytes behind it.
 pub(crate) fn next_word(bytes: &[u8]) -> Option<(&[u8], &[u8])>
@@ -45,15 +30,6 @@ fn cut_at(bytes: &[u8], end: usize) -> (&[u8], &[u8])
         [] => (front, back),
         [_, behind @ ..] => (front, behind),
     }
-}
-
-/// How many bytes stand before the first line feed.
-fn line_len(bytes: &[u8]) -> usize
-    ensures value { result ≡ position_or_len is_line_feed bytes.now }
-    ensures within { result ≤ length bytes.now }
-{
-    let end = bytes.iter().position(|byte| *byte == b'\n');
-    end.unwrap_or(bytes.len())
 }
 
 /// How many bytes stand before the first blank.

@@ -1,4 +1,4 @@
-//! A script's lines, cut from its bytes and read.
+//! A line of a script, read.
 //!
 //! Nothing here takes memory.
 #![tactic(auto)]
@@ -12,5 +12,4 @@ mod numbers;
 mod values;
 mod words;
 
-pub use cuts::next_line;
 pub use lines::read_line;

@@ -6,7 +6,7 @@ ghost use Rattle.vlm_words.specs.Grants.{grant_act, grant_endings};
 ghost use Rattle.vlm_words.specs.ValueBlocks.{return_status};
 ghost use Rattle.vlm_store.specs.Records.{IsProcess, SameButBlocks, plain_processes};
 
-use vlm_procs::{end, end_with_value, value};
+use vlm_procs::{end, value};
 use vlm_store::{ProcAt, Store};
 use vlm_words::conditions::Cond;
 use vlm_words::flags::EnqFlags;
@@ -54,17 +54,17 @@ pub fn end_by_grant(value_block: &mut ValueBlock, store: &mut Store, at: ProcAt,
         return;
     };
     match grant_act(row.held, &request) {
-        Act::Nothing => end(store, at, request.block, Cond::Normal),
+        Act::Nothing => end(store, at, request.block, Cond::Normal, None),
         Act::Return => {
             let status = return_status(value_block.valid);
-            end_with_value(store, at, request.block, status, value_block.value);
+            end(store, at, request.block, status, Some(value_block.value));
         }
         Act::Write => {
             *value_block = ValueBlock {
                 value: value(store, at, request.block),
                 valid: true,
             };
-            end(store, at, request.block, Cond::Normal);
+            end(store, at, request.block, Cond::Normal, None);
         }
     }
 }

@@ -34,7 +34,7 @@ fn end_request(store: &mut Store, standing: &Standing, cancels: bool)
     };
     let owner = store.owner(standing.lock);
     let cond = if cancels { Cond::Cancel } else { Cond::Abort };
-    end(store, owner, request.block, cond);
+    end(store, owner, request.block, cond, None);
 }
 
 // The request that is withdrawn ends: a conversion is cancelled, or aborted with its lock, and what waits is

@@ -1,6 +1,6 @@
 //! What is written to status blocks and read from them.
 
-ghost use Rattle.std.specs.Prelude.{◌≡◌, ◌&&◌, ℕ, length, nat_le, nat_lt};
+ghost use Rattle.std.specs.Prelude.{◌≡◌, ℕ, IfNone, IfSome};
 ghost use Rattle.vlm_words.specs.StatusBlocks.{processes_after_acceptance, processes_after_write, status_block_at, status_block_of, status_blocks_of, processes_after_status, processes_after_return, processes_after_setting};
 ghost use Rattle.vlm_store.specs.Records.{HasProcess, IsProcess, SameButBlocks, plain_processes};
 
@@ -27,15 +27,6 @@ fn write(store: &mut Store, at: ProcAt, number: u8, block: Block)
 {
     store.known();
     store.set_status_block(at, number, block);
-}
-
-/// Whether the process has a status block of this number, from 1.
-pub fn has_status_block(store: &Store, at: ProcAt, number: u8) -> bool
-    requires { HasProcess at store.now }
-    ensures { (pid : ℕ) → IsProcess at pid store.now → result ≡ (nat_lt 0 number
-        && nat_le number (length (status_blocks_of (plain_processes store.now) pid))) }
-{
-    0 < number && usize::from(number) <= status_blocks(store, at).len()
 }
 
 /// The status block of this number, from 1. None where the process does not have it.
@@ -105,37 +96,27 @@ pub fn set_value(store: &mut Store, at: ProcAt, number: u8, value: [u8; 16])
     write(store, at, number, Block { value, ..old });
 }
 
-/// A request of the process has ended: its status block gets the number of the condition, and keeps its
-/// lock and its value part.
-#[tactic(auto, unfolding(vlm_words::specs::StatusBlocks::processes_after_status))]
-pub fn end(store: &mut Store, at: ProcAt, number: u8, cond: Cond)
+/// A request of the process has ended: its status block gets the number of the condition and the value
+/// block that the request returns, if it returns one. It keeps its lock, and else its value part.
+#[tactic(auto, unfolding(vlm_words::specs::StatusBlocks::processes_after_status, vlm_words::specs::StatusBlocks::processes_after_return))]
+pub fn end(store: &mut Store, at: ProcAt, number: u8, cond: Cond, returned: Option<[u8; 16]>)
     requires { HasProcess at store.old }
-    ensures written { (pid : ℕ) → IsProcess at pid store.old → plain_processes store.new
-        ≡ processes_after_status pid number cond (plain_processes store.old) }
+    ensures status { IfNone returned ((pid : ℕ) → IsProcess at pid store.old → plain_processes store.new
+        ≡ processes_after_status pid number cond (plain_processes store.old)) }
+    ensures returned { IfSome returned (λ value. (pid : ℕ) → IsProcess at pid store.old
+        → plain_processes store.new
+        ≡ processes_after_return pid number cond value (plain_processes store.old)) }
     ensures rest { SameButBlocks store.old store.new }
 {
     let old = status_block_or_new(store, at, number);
-    let ended = Block {
-        status: cond.number(),
-        ..old
+    let status = cond.number();
+    let ended = match returned {
+        Some(value) => Block {
+            status,
+            value,
+            ..old
+        },
+        None => Block { status, ..old },
     };
     write(store, at, number, ended);
-}
-
-/// A request of the process has ended and returns a value block: its status block gets the number of the
-/// condition and the value, and keeps its lock.
-#[tactic(auto, unfolding(vlm_words::specs::StatusBlocks::processes_after_return))]
-pub fn end_with_value(store: &mut Store, at: ProcAt, number: u8, cond: Cond, value: [u8; 16])
-    requires { HasProcess at store.old }
-    ensures written { (pid : ℕ) → IsProcess at pid store.old → plain_processes store.new
-        ≡ processes_after_return pid number cond value (plain_processes store.old) }
-    ensures rest { SameButBlocks store.old store.new }
-{
-    let old = status_block_or_new(store, at, number);
-    let returned = Block {
-        status: cond.number(),
-        value,
-        ..old
-    };
-    write(store, at, number, returned);
 }

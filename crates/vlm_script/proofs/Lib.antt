@@ -1,4 +1,5 @@
 mod Bound
+mod FirstLine
 pub mod Hexadecimal
 mod Shown
 mod Progress

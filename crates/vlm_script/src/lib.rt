@@ -5,6 +5,7 @@
 #![tactic(auto)]
 
 mod bindings;
+mod cuts;
 mod fault_lines;
 mod faults;
 mod printing;

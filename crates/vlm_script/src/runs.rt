@@ -5,13 +5,13 @@ ghost use Rattle.vlm_script.specs.Plays.{EndsLines, Passes, PassesPart, Plays, C
 ghost use Rattle.vlm_script.specs.Sessions.{IsPrinted, StopsBytes};
 ghost use Rattle.vlm_words.specs.Scripts.{opening};
 
+use crate::cuts::next_line;
 use crate::faults::PlayFault;
 use crate::session::Session;
 use crate::stops::Stop;
 use crate::streams::{read_whole, write_whole};
 use std::alloc::Global;
 use std::io::{Read, Write};
-use vlm_lines::next_line;
 
 /// How many printed bytes wait at most before they are written, but for a line's last ones.
 const WAITING: usize = 65_536;

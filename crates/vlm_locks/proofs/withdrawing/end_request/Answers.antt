@@ -29,6 +29,6 @@ returns-clause-statuses c =
       | else-cancels w ↦ w.cond-is ∙ sym (ap (λ b. cond b Cancel Abort) w.if-cancels.false)
     ]
     in
-    c.end.ensures.written f.row.pid (c.owner-owner.ensures f.row (stored s c.known.ensures f c.requires))
+    c.end.ensures.status f.row.pid (c.owner-owner.ensures f.row (stored s c.known.ensures f c.requires))
     ∙ ap (λ x. processes_after_status f.row.pid c.in-Some.request.block x (plain_processes s)) cond_is
     ∙ sym (end_written c.args.cancels f.row c.in-Some.request (plain_processes s) c.in-Some.is)

@@ -1,0 +1,7 @@
+use Rattle.std.proofs.Common.{rules}
+use Rattle.vlm_words.specs.Lines.{line_read}
+use Rattle.vlm_lines.proofs.lines.read_line.Goals as goal
+
+pub returns : goal.returns
+unfolding line_read
+returns c = search rules

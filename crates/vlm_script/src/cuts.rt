@@ -1,0 +1,31 @@
+//! A script cut into its lines.
+
+ghost use Rattle.std.specs.Prelude.{◌≡◌, ◌<◌, ◌≤◌, ◌↔◌, [], ◌∷◌, length, IsNone, IfSome};
+ghost use Rattle.std.specs.List.{position_or_len};
+ghost use Rattle.vlm_words.specs.Lines.{lines_of, is_line_feed};
+
+/// The first line without its line feed, and the bytes behind it. None where there are no bytes. A
+/// line ends at its line feed, and the last one at the end of the bytes.
+pub(crate) fn next_line(bytes: &[u8]) -> Option<(&[u8], &[u8])>
+    ensures none { IsNone result ↔ (bytes.now ≡ []) }
+    ensures some { IfSome result (λ p. lines_of bytes.now ≡ p.0.now ∷ lines_of p.1.now) }
+    ensures shorter { IfSome result (λ p. length p.1.now < length bytes.now) }
+{
+    if bytes.is_empty() {
+        return None;
+    }
+    let (line, rest) = bytes.split_at(line_len(bytes));
+    match rest {
+        [] => Some((line, rest)),
+        [_, behind @ ..] => Some((line, behind)),
+    }
+}
+
+// How many bytes stand before the first line feed.
+fn line_len(bytes: &[u8]) -> usize
+    ensures value { result ≡ position_or_len is_line_feed bytes.now }
+    ensures within { result ≤ length bytes.now }
+{
+    let end = bytes.iter().position(|byte| *byte == b'\n');
+    end.unwrap_or(bytes.len())
+}

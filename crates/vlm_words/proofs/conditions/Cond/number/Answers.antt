@@ -1,0 +1,5 @@
+use Rattle.std.proofs.Common.{rules}
+use Rattle.vlm_words.proofs.conditions.Cond.number.Goals as goal
+
+pub returns : goal.returns
+returns c = search rules
