@@ -8,23 +8,15 @@ ghost use Rattle.vlm_words.specs.declared.steps.Declaration.{Declaration};
 ghost use Rattle.vlm_store.specs.declared.keys.Place.{Place};
 ghost use Rattle.vlm_store.specs.Records.{Records, HasProcess, HasResource, IsAmong, IsSound, IsStored, joined_by, moving, new_resource, new_stored_process, on_resource, with_lists, with_new_lock, without_lock, without_process, without_resource, without_stored_lock};
 
-/// A lock that was not there is added and removed again: all is as it was.
-pub fn law_removal_undoes_an_added_lock()
-    ensures { (s : Records) (at : ℕ) (row : Row) (owner : ℕ) (parent : Option ℕ) → IsSound s
+/// A lock, a resource or a process that was not there is added and removed again: all is as it was.
+pub fn law_removal_undoes_an_addition()
+    ensures lock { (s : Records) (at : ℕ) (row : Row) (owner : ℕ) (parent : Option ℕ) → IsSound s
         → ¬ IsStored at s → without_stored_lock at (with_new_lock at row owner parent s) ≡ s }
-{}
-
-/// A resource that was not there is added and removed again: all is as it was.
-pub fn law_removal_undoes_an_added_resource()
-    ensures { (s : Records) (res serial : ℕ) (site : Site) → ¬ HasResource res s
+    ensures resource { (s : Records) (res serial : ℕ) (site : Site) → ¬ HasResource res s
         → record s {
           resources = without_resource res (s.resources ++ new_resource res serial site ∷ []);
         } ≡ s }
-{}
-
-/// A process that was not there is added and removed again: all is as it was.
-pub fn law_removal_undoes_an_added_process()
-    ensures { (s : Records) (at pid : ℕ) (d : Declaration) → ¬ HasProcess at s
+    ensures process { (s : Records) (at pid : ℕ) (d : Declaration) → ¬ HasProcess at s
         → record s {
           processes = without_process at (s.processes ++ new_stored_process at pid d ∷ []);
         } ≡ s }

@@ -7,7 +7,6 @@ use std::alloc::AllocError;
 use std::process::Abort;
 use std::test::Fail;
 use vlm_store::{LOCK_SIZE, RESOURCE_SIZE, Store};
-use vlm_words::blocks::Block;
 use vlm_words::locks::Row;
 use vlm_words::steps::Declaration;
 
@@ -100,33 +99,5 @@ fn a_parent_outlives_its_sublock(rt: HostRuntime) -> Result<(), Fail> {
     assert!(rt; stores::leave(&rt, &mut store, 2));
     assert!(rt; stores::leave(&rt, &mut store, 1));
     assert!(rt; store.lock(1).is_none());
-    Ok(())
-}
-
-// Writes the process's second status block.
-fn write_block(rt: &impl Abort, store: &mut Store) {
-    let block = Block {
-        status: 4,
-        lkid: 3,
-        value: [5; 16],
-    };
-    let process = stores::process(rt, store, PID);
-    store.set_status_block(process, 2, block);
-}
-
-// The process's second status block has the written value.
-fn check_block(rt: &impl Abort, store: &Store) {
-    let written = stores::process(rt, store, PID);
-    let blocks = store.status_blocks(written);
-    assert_eq!(rt; blocks.len(), 2);
-    assert_eq!(rt; blocks[1].value, [5; 16]);
-}
-
-#[test]
-fn a_process_keeps_what_is_put_in_its_status_blocks(rt: HostRuntime) -> Result<(), Fail> {
-    let mut store = Store::new(rt.alloc());
-    declare(&mut store)?;
-    write_block(&rt, &mut store);
-    check_block(&rt, &store);
     Ok(())
 }

@@ -90,48 +90,6 @@ fn accepted(rt: HostRuntime) {
     makes_each(&rt, &mut core);
 }
 
-/// BADPARAM for a node that is none.
-#[test]
-fn declarations(rt: HostRuntime) {
-    let of = |node| Step::Declare(Declaration {
-        node,
-        ..DECLARATION
-    });
-    check(
-        &rt,
-        &[
-            (of(0), Cond::Badparam),
-            (of(9), Cond::Badparam),
-            (of(255), Cond::Badparam),
-        ],
-    );
-}
-
-// Node 1 declares all its processes.
-fn declare_all<R: Abort>(rt: &R, core: &mut Core) {
-    for pid in P..Q - 1 {
-        assert_eq!(rt; core.declare(DECLARATION), Answer::Process(pid));
-    }
-}
-
-// Node 1 may declare no more, and node 2 may.
-fn declares_elsewhere(rt: &impl Abort, core: &mut Core) {
-    assert_eq!(rt; core.declare(DECLARATION), Answer::Plain(Cond::Badparam));
-    let other = Declaration {
-        node: 2,
-        ..DECLARATION
-    };
-    assert_eq!(rt; core.declare(other), Answer::Process(Q));
-}
-
-/// BADPARAM once a node has declared 65,535 processes; another node's are still taken.
-#[test]
-fn last_ordinal(rt: HostRuntime) {
-    let mut core = Core::new(rt.alloc());
-    declare_all(&rt, &mut core);
-    declares_elsewhere(&rt, &mut core);
-}
-
 // A request without a name, for a status block of this number.
 fn nameless(block: u8) -> NewRequest {
     NewRequest {
