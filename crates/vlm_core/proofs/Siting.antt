@@ -13,7 +13,6 @@ use Rattle.vlm_words.specs.declared.locks.Row.{Row}
 use Rattle.vlm_words.specs.declared.resources.Domain.{Domain}
 use Rattle.vlm_words.specs.declared.resources.Key.TheVariants.{Below}
 use Rattle.vlm_words.specs.declared.resources.Queue.{Queue}
-use Rattle.vlm_words.specs.declared.resources.Site.{Site}
 use Rattle.vlm_words.specs.declared.resources.Queue.TheVariants.{Granted, Conversion, Waiting}
 use Rattle.vlm_words.specs.Checks.{holds_lock, lock_refusal, or_else}
 use Rattle.vlm_words.specs.Rows.{is_lock_of}
@@ -23,7 +22,7 @@ use Rattle.vlm_words.specs.declared.steps.NewRequest.{NewRequest}
 use Rattle.vlm_words.specs.Trees.{depth_refusal, enq_site, parent_refusal, parent_resource, root_domain, site_below, waiting_refusal}
 use Rattle.vlm_words.proofs.Passed.{both_pass, test_passes}
 use Rattle.vlm_store.specs.declared.keys.Place.TheVariants.{Queued}
-use Rattle.vlm_store.specs.Records.{IsAmong, IsParentOf, IsResourceAmong, IsSound, Records, StoredResource, queued, resource_at, resource_site, rows_of}
+use Rattle.vlm_store.specs.Records.{IsAmong, IsParentOf, IsResourceAmong, IsSound, Records, StoredResource, queued, resource_at, rows_of}
 use Rattle.vlm_locks.specs.Plain.{plain_resource, plain_resources}
 use Rattle.vlm_locks.proofs.Found.{resource_alone, resource_at-at}
 use Rattle.vlm_locks.specs.declared.finding.Standing.{Standing}
@@ -216,8 +215,9 @@ deep r level is below =
     sym (ap (λ b. cond b None (Some Exdepth)) test)
 
 -- a site below a resource, by what the records tell of that
-pub site_record : (root : Domain) (name : List ℕ) (serial : ℕ) (above : Site) (r : StoredResource) → serial ≡ r.serial → above ≡ resource_site r
-    → record { key = Below serial name; domain = above.domain; level = above.level + 1 } ≡ site_below root name (Some (plain_resource r))
-site_record root name serial above r is_serial is_above =
-    ap (λ n. record { key = Below n name; domain = above.domain; level = above.level + 1 }) is_serial
-    ∙ ap (λ (s : Site). record { key = Below r.serial name; domain = s.domain; level = s.level + 1 }) is_above
+pub site_record : (root : Domain) (name : List ℕ) (serial : ℕ) (domain : Domain) (level : ℕ) (r : StoredResource) → serial ≡ r.serial → domain ≡ r.domain → level ≡ r.level
+    → record { key = Below serial name; domain = domain; level = level + 1 } ≡ site_below root name (Some (plain_resource r))
+site_record root name serial domain level r is_serial is_domain is_level =
+    ap (λ n. record { key = Below n name; domain = domain; level = level + 1 }) is_serial
+    ∙ ap (λ (d : Domain). record { key = Below r.serial name; domain = d; level = level + 1 }) is_domain
+    ∙ ap (λ n. record { key = Below r.serial name; domain = r.domain; level = n + 1 }) is_level

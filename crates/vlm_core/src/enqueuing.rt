@@ -107,7 +107,7 @@ fn accept_request(
 {
     accept(store, caller.at, block, row.lkid);
     if at_once {
-        let mut value_block = store.value_block(res);
+        let mut value_block = store.resource_record(res).value_block;
         end_by_grant(&mut value_block, store, caller.at, row);
     }
 }

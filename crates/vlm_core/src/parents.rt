@@ -108,7 +108,7 @@ impl Machine {
         ensures { (r : StoredResource) → resource_at res self.now.records.resources ≡ Some r
             → result_err result ≡ depth_refusal (Some (plain_resource r)) }
     {
-        if self.store.site(res).level < LAST_LEVEL {
+        if self.store.resource_record(res).level < LAST_LEVEL {
             Ok(())
         } else {
             Err(Cond::Exdepth)
@@ -149,9 +149,9 @@ impl Machine {
         self.store.known();
         match parent {
             Some(parent) => {
-                let above = self.store.site(parent.res);
+                let above = self.store.resource_record(parent.res);
                 Site {
-                    key: Key::Below(self.store.serial(parent.res), name),
+                    key: Key::Below(above.serial, name),
                     domain: above.domain,
                     level: above.level + 1,
                 }

@@ -40,7 +40,7 @@ pub(crate) fn group_of(store: &Store, caller: &Caller) -> u16
         ≡ option_map_or (λ p. p.group) (process_of (plain_processes store.now) caller.now.pid) 0 }
 {
     store.known();
-    store.authorization(caller.at).group
+    store.process_record(caller.at).authorization.group
 }
 
 /// Whether the caller has the privilege SYSLCK.
@@ -50,7 +50,7 @@ pub(crate) fn has_syslck(store: &Store, caller: &Caller) -> bool
         ≡ option_map_or (λ p. p.syslck) (process_of (plain_processes store.now) caller.now.pid) false }
 {
     store.known();
-    store.authorization(caller.at).syslck
+    store.process_record(caller.at).authorization.syslck
 }
 
 /// Whether the caller may have one lock more: it has fewer, waiting ones too, than its quota.
@@ -61,5 +61,5 @@ pub(crate) fn has_room(store: &Store, caller: &Caller) -> bool
         (quota_of (plain_processes store.now) caller.now.pid) }
 {
     store.known();
-    store.lock_count(caller.at) < usize::from(store.authorization(caller.at).quota)
+    store.lock_count(caller.at) < usize::from(store.process_record(caller.at).authorization.quota)
 }

@@ -92,6 +92,6 @@ impl Core {
         store.known();
         let res = resource_at(store, resource)?;
         let lock = lock_at(store, res, queue, place)?;
-        Some(row_view(&store.row(lock)))
+        Some(row_view(&store.lock_record(lock).row))
     }
 }

@@ -9,7 +9,7 @@ use vlm_store::{ResAt, Store};
 use vlm_words::locks::Row;
 use vlm_words::modes::Mode;
 use vlm_words::names::Name;
-use vlm_words::resources::{Domain, Key, Site};
+use vlm_words::resources::{Domain, Key};
 
 /// A resource without its queues.
 #[derive(Clone, Copy)]
@@ -47,20 +47,18 @@ pub(crate) fn resource_view(store: &Store, res: ResAt) -> ResourceView
     ensures { IfSome (resource_at res store.now.resources)
         (λ r. result ≡ resource_view (plain_resource r)) }
 {
-    let Site { key, domain, .. } = store.site(res);
-    let (parent, name) = match key {
+    let resource = store.resource_record(res);
+    let (parent, name) = match resource.key {
         Key::Root(_, name) => (0, name),
         Key::Below(parent, name) => (parent, name),
     };
-    let block = store.value_block(res);
-    let value = block.value;
     ResourceView {
-        serial: store.serial(res),
+        serial: resource.serial,
         parent,
-        domain,
+        domain: resource.domain,
         name,
-        value,
-        valid: block.valid,
+        value: resource.value_block.value,
+        valid: resource.value_block.valid,
     }
 }
 

@@ -7,7 +7,7 @@ use Rattle.std.proofs.Common.{eq-eqb, ne_eqb}
 use Rattle.vlm_words.specs.declared.locks.Row.{Row}
 use Rattle.vlm_words.specs.declared.resources.Queue.{Queue}
 use Rattle.vlm_store.specs.declared.keys.Place.TheVariants.{Queued}
-use Rattle.vlm_store.specs.Records.{AreApart, IsAmong, IsResourceAmong, IsSound, Records, StoredLock, StoredResource, Stores, locks_at, queued, resource_at}
+use Rattle.vlm_store.specs.Records.{AreApart, IsAmong, IsProcess, IsResourceAmong, IsSound, Records, StoredLock, StoredResource, Stores, locks_at, queued, resource_at}
 use Rattle.vlm_store.proofs.Undoing.{resource_is}
 use Rattle.vlm_locks.specs.declared.finding.Standing.{Standing}
 use Rattle.vlm_locks.specs.Standing.{IsStanding}
@@ -36,6 +36,10 @@ one_row (k ∷ rest) apart a b in_a in_b same =
         | inr too ↦ one_row rest apart.1 a b there too same
       ]
     ]
+
+-- whose a lock is, by any row that is the one on record
+pub owner_is : (s : Records) (owner : ℕ) (given row : Row) → row ≡ given → IsProcess owner given.pid s → IsProcess owner row.pid s
+owner_is s owner given row same is = subst (λ (x : Row). IsProcess owner x.pid s) (sym same) is
 
 module _ (s : Records) (sound : IsSound s) where
   -- the locks of a queue of a resource

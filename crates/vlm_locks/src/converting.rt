@@ -65,8 +65,8 @@ fn convert_now(store: &mut Store, standing: &Standing, row: &Row)
         (λ r. IsGrantedAtOnce standing.now row.now r store.old store.new) }
 {
     store.known();
-    let owner = store.owner(standing.lock);
-    let mut value_block = store.value_block(standing.res);
+    let owner = store.lock_record(standing.lock).owner;
+    let mut value_block = store.resource_record(standing.res).value_block;
     let granted = Place::Queued(standing.res, Queue::Granted);
     store.move_lock(standing.lock, granted_row(*row), granted);
     end_by_grant(&mut value_block, store, owner, row);

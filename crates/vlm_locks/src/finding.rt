@@ -47,14 +47,14 @@ pub fn find_lock(store: &Store, pid: u32, lkid: u32) -> Option<Standing>
     let Some(lock) = store.lock(lkid) else {
         return None;
     };
-    let row = store.row(lock);
-    if row.pid != pid {
+    let record = store.lock_record(lock);
+    if record.row.pid != pid {
         return None;
     }
-    match store.place(lock) {
+    match record.place {
         Place::Queued(res, queue) => Some(Standing {
             lock,
-            row,
+            row: record.row,
             res,
             queue,
         }),

@@ -40,7 +40,7 @@ fn grant(value_block: &mut ValueBlock, store: &mut Store, res: ResAt, lock: Lock
         ≡ blocks_after (grant_endings true row.now)
         (blocks_with value_block.old (plain_processes store.old)) }
 {
-    let owner = store.owner(lock);
+    let owner = store.lock_record(lock).owner;
     store.move_lock(lock, granted_row(*row), Place::Queued(res, Queue::Granted));
     end_by_grant(value_block, store, owner, row);
 }
@@ -56,7 +56,7 @@ fn serve_queue(value_block: &mut ValueBlock, store: &mut Store, res: ResAt, queu
     store.known();
     while let Some(lock) = head(store, res, queue) {
         store.known();
-        let row = store.row(lock);
+        let row = store.lock_record(lock).row;
         if !wanted_fits(store, res, lock, row.want) {
             break;
         }
@@ -85,7 +85,7 @@ pub(crate) fn serve(store: &mut Store, res: ResAt)
     ensures there { HasResource res store.new }
 {
     store.known();
-    let mut value_block = store.value_block(res);
+    let mut value_block = store.resource_record(res).value_block;
     serve_queues(&mut value_block, store, res);
     store.set_value_block(res, value_block);
 }

@@ -32,7 +32,7 @@ fn end_request(store: &mut Store, standing: &Standing, cancels: bool)
     let Some(request) = standing.row.want else {
         return;
     };
-    let owner = store.owner(standing.lock);
+    let owner = store.lock_record(standing.lock).owner;
     let cond = if cancels { Cond::Cancel } else { Cond::Abort };
     end(store, owner, request.block, cond, None);
 }
@@ -101,7 +101,7 @@ fn leave(store: &mut Store, standing: &Standing, withdrawal: &Withdrawal)
 {
     store.known();
     if may_write(standing) {
-        let block = store.value_block(standing.res);
+        let block = store.resource_record(standing.res).value_block;
         store.set_value_block(standing.res, block_after_writer(block, withdrawal));
     }
 }

@@ -15,7 +15,7 @@ fn status_blocks(store: &Store, at: ProcAt) -> &[Block]
         ≡ status_blocks_of (plain_processes store.now) pid }
 {
     store.known();
-    store.status_blocks(at)
+    &store.process_record(at).blocks
 }
 
 // Puts a status block in the place of the one with this number. Number 0 is taken for 1.

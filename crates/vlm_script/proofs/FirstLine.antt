@@ -1,5 +1,5 @@
 -- Where the first line of a script ends.
-use Rattle.std.proofs.Common.{◌≡◌, ℕ, ◌+◌, ◌-◌, ◌<◌, List, [], ◌∷◌, length, take, drop, length-drop, sym, ap, ◌∙◌, arith}
+use Rattle.std.proofs.Common.{◌≡◌, ℕ, ◌+◌, ◌-◌, ◌<◌, List, ◌∷◌, length, take, drop, length-drop, sym, ap, ◌∙◌, arith}
 use Rattle.std.proofs.lemmas.List.{drop-drop, drop_all, nil_from_length, take_all}
 use Rattle.std.specs.List.{position_or_len}
 use Rattle.vlm_words.specs.Lines.{is_line_feed, lines_of}

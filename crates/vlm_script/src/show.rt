@@ -12,7 +12,7 @@ use crate::printing::{converting_line, granted_line, no_resources, resource_line
 use std::alloc::AllocError;
 use vlm_store::{Place, ResAt, Store};
 use vlm_words::locks::Row;
-use vlm_words::resources::{Key, Queue, Site};
+use vlm_words::resources::{Key, Queue};
 
 /// Prints every resource by rising serial with its queues, or that there is none.
 pub(crate) fn show(store: &Store, out: &mut Vec<u8>) -> Result<(), AllocError>
@@ -60,20 +60,19 @@ fn show_head(store: &Store, res: ResAt, out: &mut Vec<u8>) -> Result<(), AllocEr
         ++ resource_line r.serial (key_parent r.key) r.domain (key_name r.key)
         r.value_block.value r.value_block.valid)) }
 {
-    let Site { key, domain, .. } = store.site(res);
-    let (parent, name) = match key {
+    let resource = store.resource_record(res);
+    let (parent, name) = match resource.key {
         Key::Root(_, name) => (0, name),
         Key::Below(parent, name) => (parent, name),
     };
-    let value_block = store.value_block(res);
     resource_line(
         out,
-        store.serial(res),
+        resource.serial,
         parent,
-        domain,
+        resource.domain,
         name.bytes(),
-        &value_block.value,
-        value_block.valid,
+        &resource.value_block.value,
+        resource.value_block.valid,
     )
 }
 
@@ -86,7 +85,7 @@ fn show_queue(store: &Store, res: ResAt, queue: Queue, out: &mut Vec<u8>) -> Res
     store.known();
     let mut next = store.first(Place::Queued(res, queue));
     while let Some(lock) = next {
-        show_row(queue, &store.row(lock), out)?;
+        show_row(queue, &store.lock_record(lock).row, out)?;
         next = store.next(lock);
     }
     Ok(())

@@ -12,7 +12,7 @@ mod resources;
 mod store;
 
 pub use keys::{LockAt, Place, ProcAt, ResAt};
-pub use locks::LOCK_SIZE;
-pub use processes::Authorization;
-pub use resources::RESOURCE_SIZE;
+pub use locks::Lock;
+pub use processes::{Authorization, Process};
+pub use resources::Resource;
 pub use store::Store;

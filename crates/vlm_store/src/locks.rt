@@ -3,7 +3,6 @@
 ghost use Rattle.std.specs.Prelude.{refl};
 
 use crate::keys::{LockAt, Place, ProcAt};
-use std::mem::size_of;
 use vlm_links::{Linked, LinkedList, Links};
 use vlm_words::locks::Row;
 
@@ -19,19 +18,17 @@ pub(crate) struct OfProcess;
 #[derive(Clone, Copy)]
 pub(crate) struct OfParent;
 
-/// How many bytes the record of a lock takes.
-pub const LOCK_SIZE: usize = size_of::<Lock>();
-
 /// A lock, and where it stands.
 #[derive(Clone, Copy)]
-pub(crate) struct Lock {
-    pub(crate) row: Row,
-    // the queue in which it stands
-    pub(crate) place: Place,
+pub struct Lock {
+    /// What it holds and wants.
+    pub row: Row,
+    /// The queue in which it stands.
+    pub place: Place,
     // its neighbours there
     pub(crate) in_queue: Links,
-    // the process that owns it
-    pub(crate) owner: ProcAt,
+    /// The process that owns it.
+    pub owner: ProcAt,
     // its neighbours among that process's locks
     pub(crate) of_process: Links,
     // the lock that it was made under

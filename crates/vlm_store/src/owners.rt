@@ -2,12 +2,11 @@
 
 ghost use Rattle.std.specs.Prelude.{◌≡◌, ℕ, [], ◌∷◌, ◌++◌, length, IfOk, IfSome, OnErr};
 ghost use Rattle.std.specs.Bool.{OnFalse, OnTrue};
-ghost use Rattle.vlm_words.specs.declared.locks.Row.{Row};
 ghost use Rattle.vlm_words.specs.StatusBlocks.{process_with_block};
-ghost use Rattle.vlm_store.specs.Records.{FindsProcess, HasNoLocks, HasNoSublocks, HasProcess, IsNewProcess, IsOwnAmong, IsProcess, IsProcessAmong, IsStored, OwnLock, StoredProcess, Stores, authorization_of, first_own_at, new_stored_process, on_process, own_at, own_at_after, owned_by, process_at, without_process};
+ghost use Rattle.vlm_store.specs.Records.{FindsProcess, HasNoLocks, HasNoSublocks, HasProcess, IsNewProcess, IsOwnAmong, IsProcess, IsProcessAmong, IsStored, OwnLock, StoredProcess, authorization_of, first_own_at, new_stored_process, on_process, own_at, own_at_after, owned_by, process_at, without_process};
 
 use crate::keys::{LockAt, ProcAt};
-use crate::processes::{Authorization, Process, enter, leave};
+use crate::processes::{Process, enter, leave};
 use crate::store::Store;
 use std::alloc::AllocError;
 use vlm_links::LAST_KEY;
@@ -55,21 +54,15 @@ impl Store {
         self.process_index.swap_remove(&pid);
     }
 
-    /// What a process may do.
-    pub fn authorization(&self, at: ProcAt) -> Authorization
+    /// The record of a process: what it may do, and its status blocks, of which block n stands at n - 1.
+    pub fn process_record(&self, at: ProcAt) -> &Process
         requires { HasProcess at self.now }
-        ensures { IfSome (process_at at self.now.processes)
-            (λ p. result ≡ authorization_of p.process) }
+        ensures authorization { IfSome (process_at at self.now.processes)
+            (λ p. result.now.authorization ≡ authorization_of p.process) }
+        ensures blocks { IfSome (process_at at self.now.processes)
+            (λ p. result.now.blocks.items ≡ p.process.blocks) }
     {
-        self.processes[at.slot()].authorization
-    }
-
-    /// The status blocks of a process, of which block n stands at n - 1.
-    pub fn status_blocks(&self, at: ProcAt) -> &[Block]
-        requires { HasProcess at self.now }
-        ensures { IfSome (process_at at self.now.processes) (λ p. result.now ≡ p.process.blocks) }
-    {
-        &self.processes[at.slot()].blocks
+        &self.processes[at.slot()]
     }
 
     /// Puts a status block of a process in the place of the one with this number, if it is there. Number
@@ -81,14 +74,6 @@ impl Store {
         } }
     {
         self.processes[at.slot()].put_status_block(number, block);
-    }
-
-    /// The process that owns a lock.
-    pub fn owner(&self, lock: LockAt) -> ProcAt
-        requires { IsStored lock self.now }
-        ensures { (row : Row) → Stores self.now lock row → IsProcess result row.pid self.now }
-    {
-        self.queues.locks[lock.slot()].owner
     }
 
     /// How many locks a process has, in whichever queue.

@@ -29,11 +29,12 @@ pub struct Authorization {
 
 /// A living process.
 #[derive(Drop)]
-pub(crate) struct Process {
+pub struct Process {
     pub(crate) pid: u32,
-    pub(crate) authorization: Authorization,
-    // status block n stands at n - 1
-    pub(crate) blocks: Vec<Block>,
+    /// What it may do.
+    pub authorization: Authorization,
+    /// Its status blocks: block n stands at n - 1.
+    pub blocks: Vec<Block>,
     pub(crate) own: LinkedList<OfProcess>,
     // the processes declared before and after it
     pub(crate) in_order: Links,

@@ -6,7 +6,6 @@ ghost use Rattle.vlm_words.specs.Modes.{rank};
 ghost use Rattle.vlm_store.specs.Tallies.{count_of, counts_fit, held_of, held_weight, is_free, is_mode, one_if, wanted_of, wanted_weight};
 
 use crate::locks::InQueue;
-use std::mem::size_of;
 use vlm_links::{Linked, LinkedList, Links};
 use vlm_words::locks::{Request, Row};
 use vlm_words::modes::{Mode, compatible};
@@ -24,17 +23,19 @@ pub(crate) struct Tally {
     pub(crate) wanted: [u32; 6],
 }
 
-/// How many bytes the record of a resource takes, its name included.
-pub const RESOURCE_SIZE: usize = size_of::<Resource>();
-
 /// A resource with its queues.
 #[derive(Clone, Copy)]
-pub(crate) struct Resource {
-    pub(crate) serial: u32,
-    pub(crate) domain: Domain,
-    pub(crate) key: Key,
-    pub(crate) level: u8,
-    pub(crate) value_block: ValueBlock,
+pub struct Resource {
+    /// The number of its making, from 1.
+    pub serial: u32,
+    /// A sub-resource is in its root's.
+    pub domain: Domain,
+    /// Where it is found.
+    pub key: Key,
+    /// 0 for a root, at most 15.
+    pub level: u8,
+    /// What its locks hand on.
+    pub value_block: ValueBlock,
     pub(crate) granted: LinkedList<InQueue>,
     pub(crate) converting: LinkedList<InQueue>,
     pub(crate) waiting: LinkedList<InQueue>,

@@ -4,13 +4,14 @@ ghost use Rattle.std.specs.Prelude.{◌≡◌, [], ◌∷◌, ◌++◌, length, 
 ghost use Rattle.std.specs.Option.{ForSome};
 ghost use Rattle.vlm_words.specs.declared.locks.Row.{Row};
 ghost use Rattle.vlm_store.specs.declared.keys.Place.{Place};
-ghost use Rattle.vlm_store.specs.Records.{FindsLock, FindsResource, HasNoSublocks, HasPlace, HasResource, IsAmong, IsParentOf, IsProcess, at_after, first_at, first_resource_at, fits_beside, resource_at_after, resource_at, resource_site, IsIdle, IsNewKey, IsNewLock, IsRowOf, IsSound, IsStored, Stores, leaving, locks_at, moving, new_resource, nothing, on_resource, rewriting, with_lists, with_new_lock, without_resource, without_stored_lock};
+ghost use Rattle.vlm_store.specs.Records.{FindsLock, FindsResource, HasNoSublocks, HasPlace, HasResource, IsAmong, IsParentOf, IsProcess, at_after, first_at, first_resource_at, fits_beside, resource_at_after, resource_at, IsIdle, IsNewKey, IsNewLock, IsRowOf, IsSound, IsStored, Stores, leaving, locks_at, moving, new_resource, nothing, on_resource, rewriting, with_lists, with_new_lock, without_resource, without_stored_lock};
 
 use crate::keys::{LockAt, Place, ProcAt, ResAt};
 use crate::kin::{join_parent, join_process, leave_parent, leave_process};
 use crate::processes::Process;
 use crate::queues::Queues;
-use crate::resources::InOrder;
+use crate::locks::Lock;
+use crate::resources::{InOrder, Resource};
 use indexmap::IndexMap;
 use slab::Slab;
 use std::alloc::{AllocError, Global};
@@ -101,23 +102,17 @@ impl Store {
         self.resource_index.get(key).copied()
     }
 
-    /// What a lock holds and wants.
-    pub fn row(&self, lock: LockAt) -> Row
+    /// The record of a lock: what it holds and wants, where it stands, and whose it is.
+    pub fn lock_record(&self, lock: LockAt) -> &Lock
         requires { IsStored lock self.now }
-        ensures stored { Stores self.now lock result }
-        ensures only { (row : Row) → Stores self.now lock row → row ≡ result }
+        ensures row { Stores self.now lock result.now.row }
+        ensures only { (row : Row) → Stores self.now lock row → row ≡ result.now.row }
+        ensures stands { IsAmong (record { at = lock; row = result.now.row })
+            (locks_at result.now.place self.now) }
+        ensures there { HasPlace result.now.place self.now }
+        ensures owner { IsProcess result.now.owner result.now.row.pid self.now }
     {
-        self.queues.locks[lock.slot()].row
-    }
-
-    /// Where a lock stands.
-    pub fn place(&self, lock: LockAt) -> Place
-        requires { IsStored lock self.now }
-        ensures stands { (row : Row) → Stores self.now lock row
-            → IsAmong (record { at = lock; row = row }) (locks_at result self.now) }
-        ensures there { HasPlace result self.now }
-    {
-        self.queues.locks[lock.slot()].place
+        &self.queues.locks[lock.slot()]
     }
 
     /// Adds a lock that stands in no queue, the last of these, of its process's locks, and of those below
@@ -254,33 +249,20 @@ impl Store {
         }
     }
 
-    /// The serial of a resource.
-    pub fn serial(&self, res: ResAt) -> u32
+    /// The record of a resource: its serial, where it stands, and its value block.
+    pub fn resource_record(&self, res: ResAt) -> &Resource
         requires { HasResource res self.now }
-        ensures { IfSome (resource_at res self.now.resources) (λ r. result ≡ r.serial) }
+        ensures serial { IfSome (resource_at res self.now.resources)
+            (λ r. result.now.serial ≡ r.serial) }
+        ensures key { IfSome (resource_at res self.now.resources) (λ r. result.now.key ≡ r.key) }
+        ensures domain { IfSome (resource_at res self.now.resources)
+            (λ r. result.now.domain ≡ r.domain) }
+        ensures level { IfSome (resource_at res self.now.resources)
+            (λ r. result.now.level ≡ r.level) }
+        ensures value_block { IfSome (resource_at res self.now.resources)
+            (λ r. result.now.value_block ≡ r.value_block) }
     {
-        self.queues.resources[res.slot()].serial
-    }
-
-    /// Where a resource stands.
-    pub fn site(&self, res: ResAt) -> Site
-        requires { HasResource res self.now }
-        ensures { IfSome (resource_at res self.now.resources) (λ r. result ≡ resource_site r) }
-    {
-        let resource = &self.queues.resources[res.slot()];
-        Site {
-            key: resource.key,
-            domain: resource.domain,
-            level: resource.level,
-        }
-    }
-
-    /// The value block of a resource.
-    pub fn value_block(&self, res: ResAt) -> ValueBlock
-        requires { HasResource res self.now }
-        ensures { IfSome (resource_at res self.now.resources) (λ r. result ≡ r.value_block) }
-    {
-        self.queues.resources[res.slot()].value_block
+        &self.queues.resources[res.slot()]
     }
 
     /// Writes the value block of a resource.

@@ -4,9 +4,10 @@ ghost use Rattle.std.specs.Prelude.{◌≡◌};
 
 use crate::tests::stores;
 use std::alloc::AllocError;
+use std::mem::size_of;
 use std::process::Abort;
 use std::test::Fail;
-use vlm_store::{LOCK_SIZE, RESOURCE_SIZE, Store};
+use vlm_store::{Lock, Resource, Store};
 use vlm_words::locks::Row;
 use vlm_words::steps::Declaration;
 
@@ -14,13 +15,13 @@ const PID: u32 = 65_537;
 
 #[test]
 fn a_lock_takes_at_most_160_bytes(rt: HostRuntime) {
-    let size = LOCK_SIZE;
+    let size = size_of::<Lock>();
     assert!(rt; size <= 160, "a lock takes {size} bytes");
 }
 
 #[test]
 fn a_resource_takes_at_most_256_bytes(rt: HostRuntime) {
-    let size = RESOURCE_SIZE;
+    let size = size_of::<Resource>();
     assert!(rt; size <= 256, "a resource takes {size} bytes");
 }
 
@@ -59,9 +60,9 @@ fn make_two(rt: &impl Abort, store: &mut Store) -> Result<(), AllocError> {
 fn check_order(rt: &impl Abort, store: &Store) {
     let owner = stores::process(rt, store, PID);
     let first = stores::lock(rt, store, 1);
-    assert_eq!(rt; store.authorization(owner).group, 7);
+    assert_eq!(rt; store.process_record(owner).authorization.group, 7);
     assert_eq!(rt; store.lock_count(owner), 2);
-    assert_eq!(rt; store.owner(first), owner);
+    assert_eq!(rt; store.lock_record(first).owner, owner);
     assert_eq!(rt; store.first_own(owner), Some(first));
     assert_eq!(rt; store.next_own(first), store.lock(2));
 }
@@ -87,7 +88,7 @@ fn make_tree(rt: &impl Abort, store: &mut Store) -> Result<(), AllocError> {
     declare(store)?;
     stores::add(rt, store, row(1, 0), None)?;
     let parent = stores::lock(rt, store, 1);
-    let below = row(2, store.row(parent).lkid);
+    let below = row(2, store.lock_record(parent).row.lkid);
     stores::add(rt, store, below, Some(parent))
 }
 

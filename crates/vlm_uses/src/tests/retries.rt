@@ -133,7 +133,7 @@ fn serve(rt: &impl Abort, store: &mut Store, key: &Key, lkid: u32, mode: Mode) {
     let served = pop_front(store, res, Queue::Conversion);
     let lock = lock(rt, store, lkid);
     assert!(rt; served == Some(lock));
-    let old = store.row(lock);
+    let old = store.lock_record(lock).row;
     store.set_row(
         lock,
         Row {

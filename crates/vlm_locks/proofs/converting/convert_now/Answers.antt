@@ -8,11 +8,11 @@ use Rattle.vlm_locks.specs.Converting.{IsGrantedAtOnce, moved_in}
 use Rattle.vlm_locks.proofs.Converted.{granted_at_once}
 use Rattle.vlm_locks.proofs.Moved.{moved_replaced}
 use Rattle.vlm_locks.proofs.Replaced.{still_there}
-use Rattle.vlm_locks.proofs.Stood.{stored}
+use Rattle.vlm_locks.proofs.Stood.{owner_is, stored}
 use Rattle.vlm_locks.proofs.converting.convert_now.Goals as goal
 
-pub owner-owner-requires : goal.owner-owner-requires
-owner-owner-requires c =
+pub lock_record-requires : goal.lock_record-requires
+lock_record-requires c =
     let f = c.args.standing.now in
     (f.row, stored c.args.store.now c.known.ensures f c.requires.standing)
 
@@ -29,8 +29,8 @@ pub end_by_grant-requires : goal.end_by_grant-requires
 end_by_grant-requires c =
     let f = c.args.standing.now in
     rw (c.move_lock.ensures)
-    (subst (λ pid. IsProcess c.owner-owner.result pid c.args.store.now) c.requires.row.pid
-    (c.owner-owner.ensures f.row (stored c.args.store.now c.known.ensures f c.requires.standing)))
+    (subst (λ pid. IsProcess c.lock_record.result.now.owner pid c.args.store.now) c.requires.row.pid
+    (owner_is c.args.store.now c.lock_record.result.now.owner c.lock_record.result.now.row f.row (c.lock_record.ensures.only f.row (stored c.args.store.now c.known.ensures f c.requires.standing)) c.lock_record.ensures.owner))
 
 pub set_value_block-requires : goal.set_value_block-requires
 set_value_block-requires c =
@@ -48,5 +48,5 @@ returns c =
     let standing = c.requires.standing in
     let row = c.args.row.now in
     subst (λ o. IfSome o (λ r. IsGrantedAtOnce f row r s c.set_value_block.new.self)) (sym standing.found)
-    (granted_at_once s c.known.ensures f standing row c.move_lock.new.self c.end_by_grant.new.store c.set_value_block.new.self c.value_block-value_block.result c.end_by_grant.new.value_block
-    c.value_block-value_block.ensures (c.move_lock.ensures ∙ ap (λ (x : Row). with_lists (moving (Queued f.res Granted) (record { at = f.lock; row = x })) s) c.granted_row.ensures) c.end_by_grant.ensures c.set_value_block.ensures)
+    (granted_at_once s c.known.ensures f standing row c.move_lock.new.self c.end_by_grant.new.store c.set_value_block.new.self c.resource_record.result.now.value_block c.end_by_grant.new.value_block
+    c.resource_record.ensures.value_block (c.move_lock.ensures ∙ ap (λ (x : Row). with_lists (moving (Queued f.res Granted) (record { at = f.lock; row = x })) s) c.granted_row.ensures) c.end_by_grant.ensures c.set_value_block.ensures)

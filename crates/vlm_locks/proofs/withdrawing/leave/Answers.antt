@@ -11,8 +11,8 @@ returns-then-may_write-clause-left c =
     let f = c.args.standing.now in
     let w = c.args.withdrawal.now in
     subst (IsChange f.res (resource_after_writer w) s) (sym c.set_value_block.ensures)
-    (left_block s c.known.ensures f c.requires.standing w c.value_block-block.result c.block_after_writer.result c.requires.named (sym c.may_write.ensures ∙ c.if-may_write.true) c.requires.rest
-    c.value_block-block.ensures c.block_after_writer.ensures)
+    (left_block s c.known.ensures f c.requires.standing w c.resource_record.result.now.value_block c.block_after_writer.result c.requires.named (sym c.may_write.ensures ∙ c.if-may_write.true) c.requires.rest
+    c.resource_record.ensures.value_block c.block_after_writer.ensures)
 
 pub returns-then-may_write-clause-standing : goal.returns-then-may_write-clause-standing
 returns-then-may_write-clause-standing c =

@@ -1,5 +1,8 @@
+use Rattle.std.proofs.Common.{◌∙◌}
 use Rattle.vlm_procs.proofs.Written.{blocks_are}
 use Rattle.vlm_procs.proofs.blocks.status_blocks.Goals as goal
 
 pub returns : goal.returns
-returns c pid is = blocks_are c.args.store.now c.args.at pid c.status_blocks.result.now c.known.ensures is c.status_blocks.ensures
+returns c pid is =
+    c.deref.ensures.value
+    ∙ blocks_are c.args.store.now c.args.at pid c.process_record.result.now.blocks.items c.known.ensures is c.process_record.ensures.blocks

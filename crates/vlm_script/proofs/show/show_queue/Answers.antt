@@ -17,8 +17,8 @@ loop-next-init c =
     })
 
 -- the lock where the walk stands is stored
-pub row-requires : goal.row-requires
-row-requires c =
+pub lock_record-requires : goal.lock_record-requires
+lock_record-requires c =
     let there = c.loop-next.invariant.there c.in-Some.lock c.in-Some.is in
     (there.0, (Queued c.args.res c.args.queue, there.1))
 
@@ -36,8 +36,8 @@ loop-next-preserved c =
     let place = Queued c.args.res c.args.queue in
     let ks = locks_at place c.args.store.now in
     let stands = at_lock c.in-Some.lock ks (c.known.ensures.locks_apart place) (c.loop-next.invariant.there c.in-Some.lock c.in-Some.is) in
-    let same = c.row.ensures.only stands.row (place, stands.among) in
-    let more = lines_left-next c.args.queue c.in-Some.lock ks c.loop-next.out.items c.show_row.new.out.items c.row.result stands same c.in_ok-show_row.ensures in
+    let same = c.lock_record.ensures.only stands.row (place, stands.among) in
+    let more = lines_left-next c.args.queue c.in-Some.lock ks c.loop-next.out.items c.show_row.new.out.items c.lock_record.result.now.row stands same c.in_ok-show_row.ensures in
     rw (c.next-next.ensures place stands.row stands.among) (record {
       there = stands.next;
       printed = more ∙ (rw c.in-Some.is at c.loop-next.invariant.printed);

@@ -12,4 +12,4 @@ pub returns : goal.returns
 returns c =
     rw (← c.self.view_is, ← c.self-inside.view_is)
     (ap Some c.row_view.ensures
-    ∙ lock_shown _ c.args.resource c.in_ok-res.res c.args.queue c.args.place c.in_ok-lock.lock c.row.result c.known.ensures (sym c.resource_at.ensures.found ∙ c.in_ok-res.was) (sym c.lock_at.ensures.found ∙ c.in_ok-lock.was) c.row.ensures.only)
+    ∙ lock_shown _ c.args.resource c.in_ok-res.res c.args.queue c.args.place c.in_ok-lock.lock c.lock_record.result.now.row c.known.ensures (sym c.resource_at.ensures.found ∙ c.in_ok-res.was) (sym c.lock_at.ensures.found ∙ c.in_ok-lock.was) c.lock_record.ensures.only)

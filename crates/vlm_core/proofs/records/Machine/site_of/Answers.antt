@@ -2,7 +2,7 @@ use Rattle.std.proofs.Common.{◌≡◌, ◌<◌, Some, None, sym, ap, ◌∙◌
 use Rattle.vlm_words.specs.declared.resources.Domain.{Domain}
 use Rattle.vlm_words.specs.Flags.{flag_bits}
 use Rattle.vlm_words.specs.Trees.{parent_resource, root_domain, site_below}
-use Rattle.vlm_store.specs.Records.{StoredResource, resource_at, resource_site}
+use Rattle.vlm_store.specs.Records.{StoredResource, resource_at}
 use Rattle.vlm_locks.specs.Plain.{plain_resource}
 use Rattle.vlm_locks.proofs.Stood.{resource_among}
 use Rattle.vlm_core.specs.Machine.{Kept, kept, plain_state}
@@ -23,9 +23,10 @@ returns-in-Some-clause-site c =
     let up : parent_resource (plain_state m) pid (lkid_of c.args.parent.now) ≡ Some (plain_resource r) =
     ap (λ o. parent_resource (plain_state m) pid (lkid_of o)) c.in-Some.is ∙ parent_found m c.known.ensures f is.standing.standing pid is.standing.owned is.named in
     rw (← c.self.view_is)
-    (site_record (root_domain (plain_state m) pid (flag_bits c.args.flags)) c.args.name c.serial.result c.site-above.result r
-    (of_some (λ (x : StoredResource). c.serial.result ≡ x.serial) (resource_at f.res m.records.resources) r found c.serial.ensures)
-    (of_some (λ (x : StoredResource). c.site-above.result ≡ resource_site x) (resource_at f.res m.records.resources) r found c.site-above.ensures)
+    (site_record (root_domain (plain_state m) pid (flag_bits c.args.flags)) c.args.name c.resource_record-above.result.now.serial c.resource_record-above.result.now.domain c.resource_record-above.result.now.level r
+    (of_some (λ (x : StoredResource). c.resource_record-above.result.now.serial ≡ x.serial) (resource_at f.res m.records.resources) r found c.resource_record-above.ensures.serial)
+    (of_some (λ (x : StoredResource). c.resource_record-above.result.now.domain ≡ x.domain) (resource_at f.res m.records.resources) r found c.resource_record-above.ensures.domain)
+    (of_some (λ (x : StoredResource). c.resource_record-above.result.now.level ≡ x.level) (resource_at f.res m.records.resources) r found c.resource_record-above.ensures.level)
     ∙ sym (ap (site_below (root_domain (plain_state m) pid (flag_bits c.args.flags)) c.args.name) up))
 
 -- a parent has a serial
@@ -39,7 +40,7 @@ returns-in-Some-clause-keyed c =
     let r = is.standing.standing.resource in
     let found = is.standing.standing.found in
     let between = subst (λ (k : Kept). IsBetweenSteps (plain_state k)) (sym c.self.view_is) c.requires.between in
-    let serial : c.serial.result ≡ r.serial = of_some (λ (x : StoredResource). c.serial.result ≡ x.serial) (resource_at f.res m.records.resources) r found c.serial.ensures in
+    let serial : c.resource_record-above.result.now.serial ≡ r.serial = of_some (λ (x : StoredResource). c.resource_record-above.result.now.serial ≡ x.serial) (resource_at f.res m.records.resources) r found c.resource_record-above.ensures.serial in
     subst (λ n. 0 < n) (sym serial) (serial_from_1 m.records between.serials_from_1 r (resource_among f.res m.records.resources r found))
 
 pub returns-in-None-clause-site : goal.returns-in-None-clause-site

@@ -2,12 +2,17 @@ use Rattle.std.proofs.Common.{sym, ap}
 use Rattle.vlm_store.specs.Holdings.{plain_in}
 use Rattle.vlm_store.specs.Records.{authorization_of}
 use Rattle.vlm_store.proofs.Living.{process_is, process_there}
-use Rattle.vlm_store.proofs.store.Store.authorization.Goals as goal
+use Rattle.vlm_store.proofs.store.Store.process_record.Goals as goal
 
 pub index-requires : goal.index-requires
 index-requires c = rw c.slot.ensures (process_there c.self.inside c.self.invariant c.args.at (rw (← c.self.view_is) at c.requires))
 
-pub returns : goal.returns
-returns c =
+pub returns-clause-authorization : goal.returns-clause-authorization
+returns-clause-authorization c =
     rw (← c.self.view_is, process_is c.self.inside c.self.invariant c.args.at (rw (← c.self.view_is) at c.requires))
     (sym (ap (λ slot. authorization_of (plain_in slot)) (rw c.slot.ensures at c.index.ensures)))
+
+pub returns-clause-blocks : goal.returns-clause-blocks
+returns-clause-blocks c =
+    rw (← c.self.view_is, process_is c.self.inside c.self.invariant c.args.at (rw (← c.self.view_is) at c.requires))
+    (sym (ap (λ slot. (plain_in slot).blocks) (rw c.slot.ensures at c.index.ensures)))
