@@ -8,9 +8,9 @@ ghost use Rattle.vlm_store.specs.Records.{FindsLock, FindsResource, HasNoSublock
 
 use crate::keys::{LockAt, Place, ProcAt, ResAt};
 use crate::kin::{join_parent, join_process, leave_parent, leave_process};
+use crate::locks::Lock;
 use crate::processes::Process;
 use crate::queues::Queues;
-use crate::locks::Lock;
 use crate::resources::{InOrder, Resource};
 use indexmap::IndexMap;
 use slab::Slab;
