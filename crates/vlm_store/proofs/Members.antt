@@ -1,12 +1,12 @@
 -- What a caller sees of the processes and their locks, and how it changes as the tables do.
-use Rattle.std.proofs.Common.{◌≡◌, ◌≢◌, ℕ, List, [], ◌∷◌, ◌++◌, map, filter, true, false, not, cond, Option, None, Some, IsSome, refl, sym, ap, ◌∙◌, subst, inl, inr, eq-eqb, ne_eqb}
+use Rattle.std.proofs.Common.{◌≡◌, ◌≢◌, ℕ, List, [], ◌∷◌, ◌++◌, map, filter, not, Option, None, Some, IsSome, refl, sym, ap, ◌∙◌, subst, inl, inr, eq-eqb, ne_eqb}
 use Rattle.std.specs.Prelude.{◌==◌, if◌then◌else◌}
 use Rattle.std.proofs.lemmas.Bool.{cases_eq}
 use Rattle.std.proofs.lemmas.Option.{same_Some}
-use Rattle.vlm_links.specs.Lists.{IsApart, IsIn, first_key, key_after, without}
+use Rattle.vlm_links.specs.Lists.{IsApart, IsIn, without}
 use Rattle.vlm_links.proofs.KeyLists.{without_head, without_past}
 use Rattle.vlm_words.specs.State.{Process}
-use Rattle.vlm_store.specs.Records.{AreProcessesApart, IsOwnAmong, IsProcessAmong, OwnLock, StoredProcess, changed_process, first_own_at, new_own, on_process, own_at_after, process_at, process_with_lock, process_without_lock, with_sublock, without_process, without_sublock}
+use Rattle.vlm_store.specs.Records.{AreProcessesApart, IsOwnAmong, IsProcessAmong, OwnLock, StoredProcess, changed_process, new_own, on_process, process_at, process_with_lock, process_without_lock, with_sublock, without_process, without_sublock}
 use Rattle.vlm_store.specs.Holdings.{Holding, own_of, process_of, processes_of}
 
 -- ---- what is seen
@@ -84,19 +84,6 @@ processes_apart h (x ∷ ps) apart pids = (
 pub AreProcessesApart-processes_of : (h : Holding) → IsApart h.order → ((a b : ℕ) → IsIn a h.order → IsIn b h.order → (h.plain a).pid ≡ (h.plain b).pid → a ≡ b) → AreProcessesApart (processes_of h)
 unfolding processes_of
 AreProcessesApart-processes_of h apart pids = processes_apart h h.order apart pids
-
--- the first lock of a process, and the one after another
-pub first_own-keys : (h : Holding) (ks : List ℕ) → first_own_at (map (own_of h) ks) ≡ first_key ks
-first_own-keys h [] = refl
-first_own-keys h (k ∷ ks) = refl
-
-pub own_after-keys : (h : Holding) (at : ℕ) (ks : List ℕ) → own_at_after at (map (own_of h) ks) ≡ key_after at ks
-own_after-keys h at [] = refl
-own_after-keys h at (k ∷ ks) =
-    elim (k == at) as (λ b. cond b (first_own_at (map (own_of h) ks)) (own_at_after at (map (own_of h) ks)) ≡ cond b (first_key ks) (key_after at ks)) [
-      | true ↦ first_own-keys h ks
-      | false ↦ own_after-keys h at ks
-    ]
 
 -- ---- how it changes
 

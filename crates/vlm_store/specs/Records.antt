@@ -374,16 +374,6 @@ owned_by pid s = sum_by (owned_on pid) s.resources + owned_among pid s.loose
 abbrev pub HasNoLocks : ℕ → Records → Type 0
 HasNoLocks at s = own_at at s ≡ []
 
--- the key of the first of these locks, if there is one
-abbrev pub first_own_at : List OwnLock → Option ℕ
-first_own_at [] = None
-first_own_at (own ∷ rest) = Some own.at
-
--- the key of the lock made after the one of this key, if there is one
-abbrev pub own_at_after : ℕ → List OwnLock → Option ℕ
-own_at_after at [] = None
-own_at_after at (own ∷ rest) = if own.at == at then first_own_at rest else own_at_after at rest
-
 -- a process but for its status blocks
 abbrev pub but_blocks : StoredProcess → StoredProcess
 but_blocks p = record p { process = record p.process { blocks = [] } }

@@ -3,7 +3,7 @@
 ghost use Rattle.std.specs.Prelude.{◌≡◌, ℕ, [], ◌∷◌, ◌++◌, length, IfOk, IfSome, OnErr};
 ghost use Rattle.std.specs.Bool.{OnFalse, OnTrue};
 ghost use Rattle.vlm_words.specs.StatusBlocks.{process_with_block};
-ghost use Rattle.vlm_store.specs.Records.{FindsProcess, HasNoLocks, HasNoSublocks, HasProcess, IsNewProcess, IsOwnAmong, IsProcess, IsProcessAmong, IsStored, OwnLock, StoredProcess, authorization_of, first_own_at, new_stored_process, on_process, own_at, own_at_after, owned_by, process_at, without_process};
+ghost use Rattle.vlm_store.specs.Records.{FindsProcess, HasNoLocks, HasNoSublocks, HasProcess, IsNewProcess, IsProcess, IsStored, authorization_of, new_stored_process, on_process, own_at, owned_by, process_at, without_process};
 
 use crate::keys::{LockAt, ProcAt};
 use crate::processes::{Process, enter, leave};
@@ -83,31 +83,6 @@ impl Store {
         ensures owned { (pid : ℕ) → IsProcess at pid self.now → result ≡ owned_by pid self.now }
     {
         self.processes[at.slot()].own.len(&self.queues.locks)
-    }
-
-    /// The key of the first of a process's locks in order of making, if there is one.
-    pub fn first_own(&self, at: ProcAt) -> Option<LockAt>
-        requires { HasProcess at self.now }
-        ensures { result ≡ first_own_at (own_at at self.now) }
-    {
-        match self.processes[at.slot()].own.first(&self.queues.locks) {
-            Some(slot) => Some(LockAt::of(slot)),
-            None => None,
-        }
-    }
-
-    /// The key of the lock that the owner of a lock got after it, if there is one.
-    pub fn next_own(&self, lock: LockAt) -> Option<LockAt>
-        requires { IsStored lock self.now }
-        ensures { (p : StoredProcess) (own : OwnLock) → IsProcessAmong p self.now.processes
-            → IsOwnAmong own p.own → own.at ≡ lock → result ≡ own_at_after lock p.own }
-    {
-        let owner = self.queues.locks[lock.slot()].owner;
-        let own = self.processes[owner.slot()].own;
-        match own.next(&self.queues.locks, lock.slot()) {
-            Some(slot) => Some(LockAt::of(slot)),
-            None => None,
-        }
     }
 
     /// Whether a lock stands below this one.

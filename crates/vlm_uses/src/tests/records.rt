@@ -56,30 +56,22 @@ fn make_two(rt: &impl Abort, store: &mut Store) -> Result<(), AllocError> {
     stores::add(rt, store, row(2, 0), None)
 }
 
-// The first of two locks stands first, and the other behind it.
-fn check_order(rt: &impl Abort, store: &Store) {
+// The process has so many locks, of which the second is one.
+fn check_locks(rt: &impl Abort, store: &Store, count: usize) {
     let owner = stores::process(rt, store, PID);
-    let first = stores::lock(rt, store, 1);
-    assert_eq!(rt; store.process_record(owner).authorization.group, 7);
-    assert_eq!(rt; store.lock_count(owner), 2);
-    assert_eq!(rt; store.lock_record(first).owner, owner);
-    assert_eq!(rt; store.first_own(owner), Some(first));
-    assert_eq!(rt; store.next_own(first), store.lock(2));
-}
-
-// The second of two locks is the first of the process.
-fn check_left(rt: &impl Abort, store: &Store) {
-    let left = stores::process(rt, store, PID);
-    assert_eq!(rt; store.first_own(left), store.lock(2));
+    let second = stores::lock(rt, store, 2);
+    assert!(rt; store.process_record(owner).authorization.group == 7);
+    assert!(rt; store.lock_record(second).owner == owner);
+    assert!(rt; store.lock_count(owner) == count);
 }
 
 #[test]
-fn the_locks_of_a_process_stand_in_order_of_making(rt: HostRuntime) -> Result<(), Fail> {
+fn a_process_owns_its_locks(rt: HostRuntime) -> Result<(), Fail> {
     let mut store = Store::new(rt.alloc());
     make_two(&rt, &mut store)?;
-    check_order(&rt, &store);
+    check_locks(&rt, &store, 2);
     assert!(rt; stores::leave(&rt, &mut store, 1));
-    check_left(&rt, &store);
+    check_locks(&rt, &store, 1);
     Ok(())
 }
 

@@ -53,7 +53,7 @@ fn begin<R: Abort>(rt: &R, core: &mut Core) {
         ),
     ];
     for (step, want) in steps {
-        assert_eq!(rt; core.step(step), want);
+        assert!(rt; core.step(step) == want);
     }
 }
 
@@ -72,15 +72,15 @@ fn check<R: Abort + AllocGlobal>(rt: &R, cases: &[(Step, Cond)]) {
 
 fn refuses<R: Abort>(rt: &R, core: &mut Core, cases: &[(Step, Cond)]) {
     for (number, (step, want)) in cases.iter().copied().enumerate() {
-        assert_eq!(rt; core.step(step), Answer::Plain(want), "case {number}");
+        assert!(rt; core.step(step) == Answer::Plain(want), "case {number}");
     }
 }
 
 fn makes_each(rt: &impl Abort, core: &mut Core) {
-    assert_eq!(rt; core.declare(DECLARATION), Answer::Process(STRANGER));
-    assert_eq!(rt; core.enq(request(b"B")), Answer::Lock(Cond::Normal, 3));
-    assert_eq!(rt; core.deq(DEQUEUE), Answer::Plain(Cond::Normal));
-    assert_eq!(rt; core.resource_count(), 2);
+    assert!(rt; core.declare(DECLARATION) == Answer::Process(STRANGER));
+    assert!(rt; core.enq(request(b"B")) == Answer::Lock(Cond::Normal, 3));
+    assert!(rt; core.deq(DEQUEUE) == Answer::Plain(Cond::Normal));
+    assert!(rt; core.resource_count() == 2);
 }
 
 /// With ample memory each step is made: the waiting lock is granted once the other is gone.
