@@ -73,10 +73,6 @@ new_resource at serial site = record {
   waiting = [];
 }
 
--- where a resource stands
-abbrev pub resource_site : StoredResource → Site
-resource_site r = record { key = r.key; domain = r.domain; level = r.level }
-
 -- the locks of a queue
 abbrev pub queued : Queue → StoredResource → List StoredLock
 queued Granted r = r.granted
