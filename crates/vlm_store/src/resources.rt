@@ -28,13 +28,13 @@ pub(crate) struct Tally {
 pub struct Resource {
     /// The number of its making, from 1.
     pub serial: u32,
-    /// A sub-resource is in its root's.
+    /// Its domain: a sub-resource is in its root's.
     pub domain: Domain,
-    /// Where it is found.
+    /// The key under which it is found.
     pub key: Key,
-    /// 0 for a root, at most 15.
+    /// Its level: 0 for a root, at most 15.
     pub level: u8,
-    /// What its locks hand on.
+    /// Its value block, which its locks hand on.
     pub value_block: ValueBlock,
     pub(crate) granted: LinkedList<InQueue>,
     pub(crate) converting: LinkedList<InQueue>,
