@@ -4,7 +4,7 @@ ghost use Rattle.std.specs.Prelude.{◌≡◌, [], ◌∷◌, ◌++◌, length, 
 ghost use Rattle.std.specs.Option.{ForSome};
 ghost use Rattle.vlm_words.specs.declared.locks.Row.{Row};
 ghost use Rattle.vlm_store.specs.declared.keys.Place.{Place};
-ghost use Rattle.vlm_store.specs.Records.{FindsLock, FindsResource, HasNoSublocks, HasPlace, HasResource, IsAmong, IsParentOf, IsProcess, at_after, first_at, first_resource_at, fits_beside, resource_at_after, resource_at, IsIdle, IsNewKey, IsNewLock, IsRowOf, IsSound, IsStored, Stores, leaving, locks_at, moving, new_resource, nothing, on_resource, rewriting, with_lists, with_new_lock, without_resource, without_stored_lock};
+ghost use Rattle.vlm_store.specs.Records.{FindsLock, FindsResource, HasNoSublocks, HasPlace, HasResource, IsAmong, IsParentOf, IsProcess, at_after, first_at, first_resource_at, fits_beside, resource_at_after, resource_at, IsIdle, IsNewKey, IsNewLock, IsRowOf, IsSound, IsStored, Stores, locks_at, moving, new_resource, nothing, on_resource, rewriting, with_lists, with_new_lock, without_resource, without_stored_lock};
 
 use crate::keys::{LockAt, Place, ProcAt, ResAt};
 use crate::kin::{join_parent, join_process, leave_parent, leave_process};
@@ -201,10 +201,8 @@ impl Store {
         requires { HasPlace place self.now }
         ensures { result ≡ first_at (locks_at place self.now) }
     {
-        match self.queues.list(place).first(&self.queues.locks) {
-            Some(at) => Some(LockAt::of(at)),
-            None => None,
-        }
+        let at = self.queues.list(place).first(&self.queues.locks)?;
+        Some(LockAt::of(at))
     }
 
     /// The key of the lock that follows one where it stands, if there is one.
@@ -215,10 +213,8 @@ impl Store {
             → result ≡ at_after lock (locks_at place self.now) }
     {
         let list = self.queues.list(self.queues.locks[lock.slot()].place);
-        match list.next(&self.queues.locks, lock.slot()) {
-            Some(at) => Some(LockAt::of(at)),
-            None => None,
-        }
+        let at = list.next(&self.queues.locks, lock.slot())?;
+        Some(LockAt::of(at))
     }
 
     /// How many resources there are.
@@ -232,10 +228,8 @@ impl Store {
     pub fn first_resource(&self) -> Option<ResAt>
         ensures { result ≡ first_resource_at self.now.resources }
     {
-        match self.order.first(&self.queues.resources) {
-            Some(at) => Some(ResAt::of(at)),
-            None => None,
-        }
+        let at = self.order.first(&self.queues.resources)?;
+        Some(ResAt::of(at))
     }
 
     /// The key of the resource made after one, if there is one.
@@ -243,10 +237,8 @@ impl Store {
         requires { HasResource res self.now }
         ensures { result ≡ resource_at_after res self.now.resources }
     {
-        match self.order.next(&self.queues.resources, res.slot()) {
-            Some(at) => Some(ResAt::of(at)),
-            None => None,
-        }
+        let at = self.order.next(&self.queues.resources, res.slot())?;
+        Some(ResAt::of(at))
     }
 
     /// The record of a resource: its serial, where it stands, and its value block.

@@ -14,7 +14,7 @@ pub struct Text<const N: usize> {
 }
 
 impl<const N: usize> Model for Text<N> {
-    ghost use Rattle.std.specs.Prelude.{◌≡◌, ◌≤◌, ℕ, ◌-◌, List, ◌++◌, length, take};
+    ghost use Rattle.std.specs.Prelude.{◌≡◌, ℕ, ◌-◌, List, length, take};
     ghost use Rattle.vlm_words.specs.Padding.{IsPadded, padded, length-text};
     ghost use Rattle.std.proofs.Common.{sym};
 

@@ -8,17 +8,17 @@ use Rattle.vlm_store.proofs.store.Store.first.Goals as goal
 pub of-requires : goal.of-requires
 of-requires c =
     let s = c.self.inside in
-    let is = rw c.list.ensures at c.in-Some.ensures in
-    (c.self.invariant.placed.linked c.args.place).within c.in-Some.at (first_key-in (keys_at s.queues c.args.place) c.in-Some.at is)
+    let is = rw c.list.ensures at c.in_ok-at.ensures in
+    (c.self.invariant.placed.linked c.args.place).within c.in_ok-at.at (first_key-in (keys_at s.queues c.args.place) c.in_ok-at.at is)
 
-pub returns-in-Some : goal.returns-in-Some
-returns-in-Some c =
+pub returns : goal.returns
+returns c =
     let s = c.self.inside in
     let seen = locks_at-seen (tables s.queues s.order (processes_shown s)) c.args.place (HasPlace-seen (tables s.queues s.order (processes_shown s)) c.args.place (rw (← c.self.view_is) at c.requires)) in
-    rw (← c.self.view_is, seen, c.of.ensures) (rw c.list.ensures at c.in-Some.ensures ∙ sym (keyed-first (rows s.queues) (keys_at s.queues c.args.place)))
+    rw (← c.self.view_is, seen, c.of.ensures) (rw c.list.ensures at c.in_ok-at.ensures ∙ sym (keyed-first (rows s.queues) (keys_at s.queues c.args.place)))
 
-pub returns-in-None : goal.returns-in-None
-returns-in-None c =
+pub returns-in_err-at : goal.returns-in_err-at
+returns-in_err-at c =
     let s = c.self.inside in
     let seen = locks_at-seen (tables s.queues s.order (processes_shown s)) c.args.place (HasPlace-seen (tables s.queues s.order (processes_shown s)) c.args.place (rw (← c.self.view_is) at c.requires)) in
-    rw (← c.self.view_is, seen) (rw c.list.ensures at c.in-None.ensures ∙ sym (keyed-first (rows s.queues) (keys_at s.queues c.args.place)))
+    rw (← c.self.view_is, seen) (c.from_residual.ensures ∙ rw c.list.ensures at c.in_err-at.ensures ∙ sym (keyed-first (rows s.queues) (keys_at s.queues c.args.place)))

@@ -9,14 +9,14 @@ use Rattle.vlm_store.proofs.store.Store.first_resource.Goals as goal
 pub of-requires : goal.of-requires
 of-requires c =
     let s = c.self.inside in
-    c.self.invariant.linked.within c.in-Some.at (first_key-in (keys_of order_links s.queues.resources s.order) c.in-Some.at c.in-Some.ensures)
+    c.self.invariant.linked.within c.in_ok-at.at (first_key-in (keys_of order_links s.queues.resources s.order) c.in_ok-at.at c.in_ok-at.ensures)
 
-pub returns-in-Some : goal.returns-in-Some
-returns-in-Some c =
+pub returns : goal.returns
+returns c =
     let s = c.self.inside in
-    rw (← c.self.view_is, c.of.ensures) (c.in-Some.ensures ∙ sym (first_resource-is (tables s.queues s.order (processes_shown s))))
+    rw (← c.self.view_is, c.of.ensures) (c.in_ok-at.ensures ∙ sym (first_resource-is (tables s.queues s.order (processes_shown s))))
 
-pub returns-in-None : goal.returns-in-None
-returns-in-None c =
+pub returns-in_err-at : goal.returns-in_err-at
+returns-in_err-at c =
     let s = c.self.inside in
-    rw (← c.self.view_is) (c.in-None.ensures ∙ sym (first_resource-is (tables s.queues s.order (processes_shown s))))
+    rw (← c.self.view_is) (c.from_residual.ensures ∙ c.in_err-at.ensures ∙ sym (first_resource-is (tables s.queues s.order (processes_shown s))))

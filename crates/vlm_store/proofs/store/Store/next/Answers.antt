@@ -24,11 +24,11 @@ next-requires-clause-listed c =
 pub of-requires : goal.of-requires
 of-requires c =
     let s = c.self.inside in
-    let is = rw (c.list-list.ensures, c.slot-2.ensures) at c.in-Some.ensures in
-    (c.self.invariant.placed.linked c.index.result.now.place).within c.in-Some.at (key_after-in c.args.lock (keys_at s.queues c.index.result.now.place) c.in-Some.at is)
+    let is = rw (c.list-list.ensures, c.slot-2.ensures) at c.in_ok-at.ensures in
+    (c.self.invariant.placed.linked c.index.result.now.place).within c.in_ok-at.at (key_after-in c.args.lock (keys_at s.queues c.index.result.now.place) c.in_ok-at.at is)
 
-pub returns-in-Some : goal.returns-in-Some
-returns-in-Some c place row among =
+pub returns : goal.returns
+returns c place row among =
     let s = c.self.inside in
     let l = tables s.queues s.order (processes_shown s) in
     let lock : StoredLock = record { at = c.args.lock; row = row } in
@@ -37,10 +37,10 @@ returns-in-Some c place row among =
     let is : c.index.result.now.place ≡ place =
     same_Some c.index.result.now.place place (sym (ap noted_in (rw c.slot.ensures at c.index.ensures)) ∙ c.self.invariant.placed.listed place c.args.lock found) in
     rw (← c.self.view_is, locks_at-seen l place (among-seen l place lock there), c.of.ensures)
-    ((rw (c.list-list.ensures, c.slot-2.ensures, is) at c.in-Some.ensures) ∙ sym (keyed-after (rows s.queues) c.args.lock (keys_at s.queues place)))
+    ((rw (c.list-list.ensures, c.slot-2.ensures, is) at c.in_ok-at.ensures) ∙ sym (keyed-after (rows s.queues) c.args.lock (keys_at s.queues place)))
 
-pub returns-in-None : goal.returns-in-None
-returns-in-None c place row among =
+pub returns-in_err-at : goal.returns-in_err-at
+returns-in_err-at c place row among =
     let s = c.self.inside in
     let l = tables s.queues s.order (processes_shown s) in
     let lock : StoredLock = record { at = c.args.lock; row = row } in
@@ -49,4 +49,4 @@ returns-in-None c place row among =
     let is : c.index.result.now.place ≡ place =
     same_Some c.index.result.now.place place (sym (ap noted_in (rw c.slot.ensures at c.index.ensures)) ∙ c.self.invariant.placed.listed place c.args.lock found) in
     rw (← c.self.view_is, locks_at-seen l place (among-seen l place lock there))
-    ((rw (c.list-list.ensures, c.slot-2.ensures, is) at c.in-None.ensures) ∙ sym (keyed-after (rows s.queues) c.args.lock (keys_at s.queues place)))
+    (c.from_residual.ensures ∙ (rw (c.list-list.ensures, c.slot-2.ensures, is) at c.in_err-at.ensures) ∙ sym (keyed-after (rows s.queues) c.args.lock (keys_at s.queues place)))

@@ -14,15 +14,15 @@ next-requires-clause-listed c =
 pub of-requires : goal.of-requires
 of-requires c =
     let s = c.self.inside in
-    let is = rw c.slot.ensures at c.in-Some.ensures in
-    c.self.invariant.linked.within c.in-Some.at (key_after-in c.args.res (keys_of order_links s.queues.resources s.order) c.in-Some.at is)
+    let is = rw c.slot.ensures at c.in_ok-at.ensures in
+    c.self.invariant.linked.within c.in_ok-at.at (key_after-in c.args.res (keys_of order_links s.queues.resources s.order) c.in_ok-at.at is)
 
-pub returns-in-Some : goal.returns-in-Some
-returns-in-Some c =
+pub returns : goal.returns
+returns c =
     let s = c.self.inside in
-    rw (← c.self.view_is, c.of.ensures) ((rw c.slot.ensures at c.in-Some.ensures) ∙ sym (resource_after-is (tables s.queues s.order (processes_shown s)) c.args.res))
+    rw (← c.self.view_is, c.of.ensures) ((rw c.slot.ensures at c.in_ok-at.ensures) ∙ sym (resource_after-is (tables s.queues s.order (processes_shown s)) c.args.res))
 
-pub returns-in-None : goal.returns-in-None
-returns-in-None c =
+pub returns-in_err-at : goal.returns-in_err-at
+returns-in_err-at c =
     let s = c.self.inside in
-    rw (← c.self.view_is) ((rw c.slot.ensures at c.in-None.ensures) ∙ sym (resource_after-is (tables s.queues s.order (processes_shown s)) c.args.res))
+    rw (← c.self.view_is) (c.from_residual.ensures ∙ (rw c.slot.ensures at c.in_err-at.ensures) ∙ sym (resource_after-is (tables s.queues s.order (processes_shown s)) c.args.res))
