@@ -12,11 +12,10 @@ ghost use Rattle.vlm_locks.specs.Rest.{IsAtRest, IsReplaced, OthersStay};
 ghost use Rattle.vlm_locks.specs.Standing.{IsStanding};
 
 use crate::endings::end_by_grant;
-use crate::entering::is_free;
 use crate::finding::Standing;
 use crate::grants::granted_row;
-use vlm_queue::can_hold;
-use vlm_store::{Place, ResAt, Store};
+use vlm_queue::{can_hold, is_empty};
+use vlm_store::{Place, Store};
 use vlm_words::flags::EnqFlags;
 use vlm_words::locks::{Request, Row};
 use vlm_words::modes::Mode;
@@ -43,7 +42,7 @@ pub fn converts_at_once(store: &Store, standing: &Standing, asked: &Request) -> 
         → result ≡ converts_at_once asked.now standing.now.row.lkid (plain_resource r) }
 {
     fits_others(store, standing, asked.mode)
-        && (!asked.flags.has(EnqFlags::QUECVT) || is_free(store, standing.res, Queue::Conversion))
+        && (!asked.flags.has(EnqFlags::QUECVT) || is_empty(store, standing.res, Queue::Conversion))
 }
 
 // The row wants the request, and holds what it held.

@@ -3,8 +3,7 @@
 ghost use Rattle.std.specs.Prelude.{◌≡◌, Some, IfOk, IfSome, OnErr, OnOk};
 ghost use Rattle.vlm_words.specs.declared.locks.Request.{Request};
 ghost use Rattle.vlm_words.specs.Enqueue.{is_at_once, resources_after_entry};
-ghost use Rattle.vlm_words.specs.Grants.{is_empty};
-ghost use Rattle.vlm_store.specs.Records.{FindsResource, HasResource, IsNewKey, IsNewLock, IsParentOf, IsProcess, StoredResource, plain_processes, queued, resource_at, rows_of};
+ghost use Rattle.vlm_store.specs.Records.{FindsResource, HasResource, IsNewKey, IsNewLock, IsParentOf, IsProcess, StoredResource, plain_processes, resource_at};
 ghost use Rattle.vlm_locks.specs.Plain.{plain_resource, plain_resources};
 ghost use Rattle.vlm_locks.specs.Entering.{IsEntered, resource_for};
 ghost use Rattle.vlm_words.specs.Resources.{IsKeyed};
@@ -12,20 +11,11 @@ ghost use Rattle.vlm_locks.specs.Rest.{IsAtRest, OthersStay};
 
 use crate::grants::granted_row;
 use std::alloc::AllocError;
-use vlm_queue::{can_hold, head};
+use vlm_queue::{can_hold, is_empty};
 use vlm_store::{LockAt, Place, ProcAt, ResAt, Store};
 use vlm_words::flags::EnqFlags;
 use vlm_words::locks::{Request, Row};
 use vlm_words::resources::{Queue, Site};
-
-/// Whether no lock stands in the queue of the resource.
-pub(crate) fn is_free(store: &Store, res: ResAt, queue: Queue) -> bool
-    requires { HasResource res store.now }
-    ensures { (r : StoredResource) → resource_at res store.now.resources ≡ Some r
-        → result ≡ is_empty (rows_of (queued queue r)) }
-{
-    head(store, res, queue).is_none()
-}
 
 /// Whether a new request is granted at once on a resource: it is expedited, or it fits and nobody is queued.
 #[tactic(auto, unfolding(vlm_words::specs::Enqueue::is_at_once))]
@@ -36,8 +26,8 @@ pub fn enters_at_once(store: &Store, res: ResAt, asked: &Request) -> bool
 {
     asked.flags.has(EnqFlags::EXPEDITE)
         || (can_hold(store, res, asked.mode, None)
-            && is_free(store, res, Queue::Conversion)
-            && is_free(store, res, Queue::Waiting))
+            && is_empty(store, res, Queue::Conversion)
+            && is_empty(store, res, Queue::Waiting))
 }
 
 /// A new lock, and where it is to enter.
@@ -72,10 +62,7 @@ fn enter_at(store: &mut Store, entry: &Entry, res: ResAt) -> Result<(), AllocErr
     ensures err { OnErr result (store.new ≡ store.old) }
 {
     store.known();
-    let lock = match store.add_lock(entry.row, entry.owner, entry.parent) {
-        Ok(lock) => lock,
-        Err(refused) => return Err(refused),
-    };
+    let lock = store.add_lock(entry.row, entry.owner, entry.parent)?;
     store.known();
     if entry.at_once {
         let granted = Place::Queued(res, Queue::Granted);
@@ -98,10 +85,7 @@ fn enter_new(store: &mut Store, entry: &Entry) -> Result<ResAt, AllocError>
     ensures entered { IfOk result (λ res. IsEntered entry.now res store.old store.new) }
     ensures err { OnErr result (store.new ≡ store.old) }
 {
-    let res = match store.add_resource(entry.serial, &entry.site) {
-        Ok(res) => res,
-        Err(refused) => return Err(refused),
-    };
+    let res = store.add_resource(entry.serial, &entry.site)?;
     match enter_at(store, entry, res) {
         Ok(()) => Ok(res),
         Err(refused) => {
@@ -136,8 +120,6 @@ pub fn enter(store: &mut Store, entry: &Entry) -> Result<ResAt, AllocError>
     let Some(res) = entry.res else {
         return enter_new(store, entry);
     };
-    match enter_at(store, entry, res) {
-        Ok(()) => Ok(res),
-        Err(refused) => Err(refused),
-    }
+    enter_at(store, entry, res)?;
+    Ok(res)
 }

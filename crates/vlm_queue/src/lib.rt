@@ -6,4 +6,4 @@
 
 mod queues;
 
-pub use queues::{can_hold, head, is_idle, next, pop_front, push_back, unlink};
+pub use queues::{can_hold, head, is_empty, is_idle, next, pop_front, push_back, unlink};

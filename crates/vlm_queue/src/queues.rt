@@ -1,11 +1,12 @@
 //! Queues of locks.
 
-ghost use Rattle.std.specs.Prelude.{◌≡◌, [], IfSome, IfNone};
+ghost use Rattle.std.specs.Prelude.{◌≡◌, IfSome, IfNone};
 ghost use Rattle.std.specs.Bool.{OnTrue, OnFalse};
 ghost use Rattle.std.specs.Option.{ForSome};
 ghost use Rattle.vlm_words.specs.declared.locks.Row.{Row};
+ghost use Rattle.vlm_words.specs.Grants.{is_empty};
 ghost use Rattle.vlm_store.specs.declared.keys.Place.{Place};
-ghost use Rattle.vlm_store.specs.Records.{HasResource, IsAmong, IsIdle, IsStored, Stores, at_after, first_at, fits_beside, locks_at, moving, resource_at, with_lists};
+ghost use Rattle.vlm_store.specs.Records.{HasResource, IsAmong, IsIdle, IsStored, Stores, at_after, first_at, fits_beside, locks_at, moving, queued, resource_at, rows_of, with_lists};
 
 use vlm_store::{LockAt, Place, ResAt, Store};
 use vlm_words::modes::Mode;
@@ -74,16 +75,12 @@ pub fn can_hold(store: &Store, res: ResAt, mode: Mode, own: Option<LockAt>) -> b
     store.can_hold(res, mode, own)
 }
 
-// Whether no lock stands in the queue.
-fn is_empty(store: &Store, res: ResAt, queue: Queue) -> bool
+/// Whether no lock stands in the queue.
+pub fn is_empty(store: &Store, res: ResAt, queue: Queue) -> bool
     requires { HasResource res store.now }
-    ensures empty { OnTrue result (locks_at (Place.Queued res queue) store.now ≡ []) }
-    ensures filled { OnFalse result (¬ (locks_at (Place.Queued res queue) store.now ≡ [])) }
+    ensures { IfSome (resource_at res store.now.resources) (λ r. result ≡ is_empty (rows_of (queued queue r))) }
 {
-    match store.first(Place::Queued(res, queue)) {
-        None => true,
-        Some(_) => false,
-    }
+    head(store, res, queue).is_none()
 }
 
 /// Whether no lock stands in a queue of the resource.
@@ -92,11 +89,7 @@ pub fn is_idle(store: &Store, res: ResAt) -> bool
     ensures idle { OnTrue result (IsIdle res store.now) }
     ensures busy { OnFalse result (¬ IsIdle res store.now) }
 {
-    if !is_empty(store, res, Queue::Granted) {
-        return false;
-    }
-    if !is_empty(store, res, Queue::Conversion) {
-        return false;
-    }
-    is_empty(store, res, Queue::Waiting)
+    is_empty(store, res, Queue::Granted)
+        && is_empty(store, res, Queue::Conversion)
+        && is_empty(store, res, Queue::Waiting)
 }

@@ -2,6 +2,6 @@ use Rattle.std.proofs.Common.{rules}
 use Rattle.vlm_words.specs.Enqueue.{is_at_once}
 use Rattle.vlm_locks.proofs.entering.enters_at_once.Goals as goal
 
-pub returns-then-is_free : goal.returns-then-is_free
+pub returns-then-is_empty : goal.returns-then-is_empty
 unfolding is_at_once
-returns-then-is_free c = search rules
+returns-then-is_empty c = search rules
