@@ -1,6 +1,5 @@
 -- A new request that is admitted, and its lock that has entered: the plain machine's change.
 use Rattle.std.proofs.Common.{◌≡◌, ◌+◌, ℕ, Bool, true, List, [], cond, find, unwrap_or, Option, None, Some, IfSome, IsSome, is_some, sym, ap, ◌∙◌, arith}
-use Rattle.std.specs.Option.{option_map}
 use Rattle.vlm_words.specs.declared.locks.Request.{Request}
 use Rattle.vlm_words.specs.declared.locks.Row.{Row}
 use Rattle.vlm_words.specs.declared.resources.Site.{Site}
@@ -19,8 +18,7 @@ use Rattle.vlm_words.specs.Trees.{enq_site}
 use Rattle.vlm_locks.specs.Rest.{IsAtRest}
 use Rattle.vlm_locks.specs.declared.entering.Entry.{Entry}
 use Rattle.vlm_locks.proofs.Keyed.{has_none, has_one}
-use Rattle.vlm_core.specs.declared.enqueuing.AdmittedRequest.{AdmittedRequest}
-use Rattle.vlm_core.specs.Admissions.{IsAdmitted}
+use Rattle.vlm_core.specs.Admissions.{IsEntry}
 use Rattle.vlm_core.specs.Machine.{Kept, plain_state}
 
 -- a new resource is free for every request
@@ -28,71 +26,69 @@ pub is_at_once-new : (serial : ℕ) (site : Site) (request : Request) → is_at_
 unfolding is_at_once fits
 is_at_once-new serial site request = grind arith
 
--- the entry of an admitted request
-abbrev pub entry_of : Kept → AdmittedRequest → Row → Entry
-entry_of m a row = record { row = row; owner = a.caller.at; parent = option_map (λ up. up.lock) a.parent; site = a.site; serial = m.next_serial; res = a.res; at_once = a.at_once }
-
 -- what an accepted request writes to status blocks
-abbrev written : ℕ → Bool → Row → ValueBlock → ℕ → ℕ → List Process → List Process
-written block at_once row value_block pid lkid processes =
-    (blocks_after (cond at_once (grant_endings true row) []) (blocks_with value_block (processes_after_acceptance pid block lkid processes))).processes
+abbrev written : ℕ → Bool → Row → ValueBlock → List Process → List Process
+written block at_once row value_block processes =
+    (blocks_after (cond at_once (grant_endings true row) []) (blocks_with value_block (processes_after_acceptance row.pid block row.lkid processes))).processes
 
-module _ (m : Kept) (e : NewRequest) (a : AdmittedRequest) (admitted : IsAdmitted m e a) (row : Row) (row_is : row ≡ enq_row (plain_state m) e) where
+module _ (m : Kept) (e : NewRequest) (entry : Entry) (is : IsEntry m e entry) where
   abbrev s : State
   s = plain_state m
 
   -- the resource that it finds
-  found_is : resource_for (entry_of m a row) s.resources ≡ enq_resource s e
+  found_is : resource_for entry s.resources ≡ enq_resource s e
   unfolding enq_resource
-  found_is = ap (λ (x : Site). unwrap_or (find (is_at x.key) s.resources) (new_resource m.next_serial x)) admitted.site
+  found_is =
+      ap (λ serial. unwrap_or (find (is_at entry.site.key) s.resources) (new_resource serial entry.site)) is.serial
+      ∙ ap (λ (x : Site). unwrap_or (find (is_at x.key) s.resources) (new_resource m.next_serial x)) is.site
 
-  at_once_is : a.at_once ≡ is_at_once (enq_request s e) (resource_for (entry_of m a row) s.resources)
-  at_once_is = admitted.at_once ∙ ap (is_at_once (enq_request s e)) (sym found_is)
+  at_once_is : entry.at_once ≡ is_at_once (enq_request s e) (resource_for entry s.resources)
+  at_once_is = is.at_once ∙ ap (is_at_once (enq_request s e)) (sym found_is)
 
   -- the resources once it has entered
   pub resources_are : (t : Records)
-      → ((asked : Request) → a.at_once ≡ is_at_once asked (resource_for (entry_of m a row) s.resources)
-      → plain_resources t ≡ resources_after_entry m.next_serial a.site row asked s.resources)
+      → ((asked : Request) → entry.at_once ≡ is_at_once asked (resource_for entry s.resources)
+      → plain_resources t ≡ resources_after_entry entry.serial entry.site entry.row asked s.resources)
       → plain_resources t ≡ resources_after_entry m.next_serial (enq_site s e) (enq_row s e) (enq_request s e) s.resources
   resources_are t entered =
       entered (enq_request s e) at_once_is
-      ∙ ap (λ (x : Site). resources_after_entry m.next_serial x row (enq_request s e) s.resources) admitted.site
-      ∙ ap (λ x. resources_after_entry m.next_serial (enq_site s e) x (enq_request s e) s.resources) row_is
+      ∙ ap (λ serial. resources_after_entry serial entry.site entry.row (enq_request s e) s.resources) is.serial
+      ∙ ap (λ (x : Site). resources_after_entry m.next_serial x entry.row (enq_request s e) s.resources) is.site
+      ∙ ap (λ x. resources_after_entry m.next_serial (enq_site s e) x (enq_request s e) s.resources) is.row
 
   -- the processes once it is accepted
   pub processes_are : (res : ℕ) (t u : Records) → plain_processes t ≡ s.processes → HasResource res t
-      → IfSome (resource_at res t.resources) (λ r. r.value_block ≡ (resource_for (entry_of m a row) s.resources).value_block)
-      → IfSome (resource_at res t.resources) (λ r. plain_processes u ≡ written e.block a.at_once row r.value_block a.caller.pid row.lkid (plain_processes t))
+      → IfSome (resource_at res t.resources) (λ r. r.value_block ≡ (resource_for entry s.resources).value_block)
+      → IfSome (resource_at res t.resources) (λ r. plain_processes u ≡ written e.block entry.at_once entry.row r.value_block (plain_processes t))
       → plain_processes u ≡ enq_processes s e
   processes_are res t u same there told wrote = of_found (resource_at res t.resources) there told wrote
     where
-      of_found : (found : Option StoredResource) → IsSome found → IfSome found (λ r. r.value_block ≡ (resource_for (entry_of m a row) s.resources).value_block)
-          → IfSome found (λ r. plain_processes u ≡ written e.block a.at_once row r.value_block a.caller.pid row.lkid (plain_processes t)) → plain_processes u ≡ enq_processes s e
+      of_found : (found : Option StoredResource) → IsSome found → IfSome found (λ r. r.value_block ≡ (resource_for entry s.resources).value_block)
+          → IfSome found (λ r. plain_processes u ≡ written e.block entry.at_once entry.row r.value_block (plain_processes t)) → plain_processes u ≡ enq_processes s e
       of_found None there told wrote = cc
       of_found (Some r) there told wrote =
           wrote
-          ∙ ap (λ b. written e.block b row r.value_block a.caller.pid row.lkid (plain_processes t)) admitted.at_once
-          ∙ ap (λ (x : Row). written e.block (enq_at_once s e) x r.value_block a.caller.pid x.lkid (plain_processes t)) row_is
-          ∙ ap (λ v. written e.block (enq_at_once s e) (enq_row s e) v a.caller.pid s.next_lkid (plain_processes t)) (told ∙ ap (λ (x : Resource). x.value_block) found_is)
-          ∙ ap (λ pid. written e.block (enq_at_once s e) (enq_row s e) (enq_resource s e).value_block pid s.next_lkid (plain_processes t)) admitted.pid
-          ∙ ap (written e.block (enq_at_once s e) (enq_row s e) (enq_resource s e).value_block e.pid s.next_lkid) same
+          ∙ ap (λ b. written e.block b entry.row r.value_block (plain_processes t)) is.at_once
+          ∙ ap (λ (x : Row). written e.block (enq_at_once s e) x r.value_block (plain_processes t)) is.row
+          ∙ ap (λ v. written e.block (enq_at_once s e) (enq_row s e) v (plain_processes t)) (told ∙ ap (λ (x : Resource). x.value_block) found_is)
+          ∙ ap (written e.block (enq_at_once s e) (enq_row s e) (enq_resource s e).value_block) same
 
   -- a serial is given where no resource stands under the key
-  pub serial_is : IsAtRest m.records → (last last_serial : ℕ) → last_serial + 1 ≡ m.next_serial → last ≡ cond (is_some a.res) last_serial (last_serial + 1)
+  pub serial_is : IsAtRest m.records → (last last_serial : ℕ) → last_serial + 1 ≡ m.next_serial → last ≡ cond (is_some entry.res) last_serial entry.serial
       → last + 1 ≡ cond (has_resource (enq_key s e) s.resources) m.next_serial (m.next_serial + 1)
-  serial_is rest last last_serial next given = of_found a.res admitted.found given
+  serial_is rest last last_serial next given = of_found entry.res is.found given
     where
-      under : has_resource a.site.key s.resources ≡ has_resource (enq_key s e) s.resources
-      under = ap (λ (x : Site). has_resource x.key s.resources) admitted.site
+      under : has_resource entry.site.key s.resources ≡ has_resource (enq_key s e) s.resources
+      under = ap (λ (x : Site). has_resource x.key s.resources) is.site
 
-      of_found : (res : Option ℕ) → FindsResource m.records a.site.key res → last ≡ cond (is_some res) last_serial (last_serial + 1)
+      of_found : (res : Option ℕ) → FindsResource m.records entry.site.key res → last ≡ cond (is_some res) last_serial entry.serial
           → last + 1 ≡ cond (has_resource (enq_key s e) s.resources) m.next_serial (m.next_serial + 1)
       of_found None found given =
-          ap (λ n. n + 1) given ∙ ap (λ n. n + 1) next
-          ∙ sym (ap (λ b. cond b m.next_serial (m.next_serial + 1)) (sym under ∙ has_none a.site.domain a.site.key admitted.keyed m.records rest found))
+          ap (λ n. n + 1) (given ∙ is.serial)
+          ∙ sym (ap (λ b. cond b m.next_serial (m.next_serial + 1)) (sym under ∙ has_none entry.site.domain entry.site.key is.keyed m.records rest found))
       of_found (Some res) found given =
           ap (λ n. n + 1) given ∙ next
-          ∙ sym (ap (λ b. cond b m.next_serial (m.next_serial + 1)) (sym under ∙ has_one a.site.domain a.site.key admitted.keyed m.records rest res found))
+          ∙ sym (ap (λ b. cond b m.next_serial (m.next_serial + 1)) (sym under ∙ has_one entry.site.domain entry.site.key is.keyed m.records rest res found))
 
   -- the whole change
   pub entered_state : (u : Records) (next_lkid next_request next_serial : ℕ)

@@ -6,12 +6,14 @@ use Rattle.vlm_words.specs.declared.steps.Dequeue.{Dequeue}
 use Rattle.vlm_words.specs.declared.steps.NewRequest.{NewRequest}
 use Rattle.vlm_words.specs.Convert.{convert_admission, convert_lkid, convert_request}
 use Rattle.vlm_words.specs.Dequeue.{dequeue_lkid, withdrawal_of}
-use Rattle.vlm_words.specs.Enqueue.{enq_at_once, enq_request}
+use Rattle.vlm_words.specs.Checks.{acceptance}
+use Rattle.vlm_words.specs.Enqueue.{enq_at_once, enq_row}
 use Rattle.vlm_words.specs.Flags.{flag_bits}
 use Rattle.vlm_words.specs.Resources.{IsKeyed}
 use Rattle.vlm_words.specs.State.{State}
 use Rattle.vlm_words.specs.Trees.{enq_site, parent_lkid}
-use Rattle.vlm_store.specs.Records.{FindsResource, HasNoSublocks, HasProcess, IsProcess, Records}
+use Rattle.vlm_store.specs.Records.{FindsResource, HasNoSublocks, HasProcess, IsParentOf, IsProcess, Records}
+use Rattle.vlm_locks.specs.declared.entering.Entry.{Entry}
 use Rattle.vlm_locks.specs.Converting.{admission_on}
 use Rattle.vlm_locks.specs.Standing.{IsStandingOf}
 use Rattle.vlm_locks.specs.Withdrawing.{goes}
@@ -21,7 +23,6 @@ use Rattle.vlm_core.specs.declared.enqueuing.AdmittedRequest.{AdmittedRequest}
 use Rattle.vlm_core.specs.declared.enqueuing.Form.{Form}
 use Rattle.vlm_core.specs.declared.processes.Caller.{Caller}
 use Rattle.vlm_core.specs.Machine.{Kept, plain_state}
-use Rattle.vlm_core.specs.Parents.{IsParent, lkid_of}
 
 -- the caller is a living process, and this is its key
 pub record IsCaller (caller : Caller) (s : Records) : Type 0 where
@@ -34,18 +35,22 @@ pub record IsForm (s : State) (e : NewRequest) (form : Form) : Type 0 where
   pub parent : form.parent ≡ parent_lkid s e
   pub name : form.name ≡ e.name
 
--- the new request is admitted so: its caller, its parent lock, where its resource stands, what is asked for, and
--- whether that is granted at once; and there are numbers for it
+-- the entry of a new request's lock: its row and who owns it, its parent lock, where its resource stands, under which
+-- serial that is made if it is not there, and whether the request is granted at once
+pub record IsEntry (m : Kept) (e : NewRequest) (entry : Entry) : Type 0 where
+  pub row : entry.row ≡ enq_row (plain_state m) e
+  pub owner : IsProcess entry.owner entry.row.pid m.records
+  pub parent : IsParentOf entry.parent entry.row m.records
+  pub site : entry.site ≡ enq_site (plain_state m) e
+  pub keyed : IsKeyed entry.site.domain entry.site.key
+  pub serial : entry.serial ≡ m.next_serial
+  pub found : FindsResource m.records entry.site.key entry.res
+  pub at_once : entry.at_once ≡ enq_at_once (plain_state m) e
+
+-- the new request is admitted so: the entry of its lock, and what it answers; and there are numbers for it
 pub record IsAdmitted (m : Kept) (e : NewRequest) (a : AdmittedRequest) : Type 0 where
-  pub caller : IsCaller a.caller m.records
-  pub pid : a.caller.pid ≡ e.pid
-  pub parent : IsParent e.pid a.parent m.records
-  pub named : lkid_of a.parent ≡ parent_lkid (plain_state m) e
-  pub site : a.site ≡ enq_site (plain_state m) e
-  pub keyed : IsKeyed a.site.domain a.site.key
-  pub found : FindsResource m.records a.site.key a.res
-  pub asked : a.asked ≡ enq_request (plain_state m) e
-  pub at_once : a.at_once ≡ enq_at_once (plain_state m) e
+  pub entry : IsEntry m e a.entry
+  pub answer : a.answer ≡ acceptance e.flags (enq_at_once (plain_state m) e)
   pub lkid : m.next_lkid < 2 ^ 32
   pub number : m.next_request < 2 ^ 64
 

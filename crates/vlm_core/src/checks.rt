@@ -4,6 +4,7 @@ ghost use Rattle.std.specs.Prelude.{◌≡◌, ◌<◌, ◌^◌, IfOk, OnOk};
 ghost use Rattle.std.specs.Result.{result_err};
 ghost use Rattle.vlm_words.specs.Checks.{acceptance, caller_refusal, lock_refusal, named_lkid, numbers_refusal, queue_refusal, request_numbers_refusal, status_block_refusal, which_refusal};
 ghost use Rattle.vlm_words.specs.Flags.{flag_bits};
+ghost use Rattle.vlm_words.specs.StatusBlocks.{status_block_of};
 ghost use Rattle.vlm_words.specs.Quotas.{quota_refusal};
 ghost use Rattle.vlm_core.specs.Admissions.{IsCaller};
 ghost use Rattle.vlm_core.specs.Machine.{plain_state};
@@ -14,6 +15,7 @@ use crate::processes::{Caller, has_room, living};
 use crate::records::Machine;
 use vlm_locks::{Standing, find_lock};
 use vlm_procs::status_block;
+use vlm_words::blocks::Block;
 use vlm_words::conditions::Cond;
 use vlm_words::flags::EnqFlags;
 use vlm_words::steps::Which;
@@ -30,10 +32,7 @@ impl Machine {
         if has_departed(&self.nodes, pid / 65536) {
             return Err(Cond::Departed);
         }
-        match living(&self.store, pid) {
-            Some(caller) => Ok(caller),
-            None => Err(Cond::Nonexpr),
-        }
+        living(&self.store, pid).ok_or(Cond::Nonexpr)
     }
 
     /// NOLOCKID where the identifications or the request numbers are used up.
@@ -76,22 +75,31 @@ impl Machine {
         }
     }
 
-    /// ACCVIO where the caller has no status block of the number.
+    // The status block of the number. ACCVIO where the caller has none of it.
     #[tactic(auto, unfolding(vlm_words::specs::Checks::status_block_refusal, vlm_words::specs::StatusBlocks::status_block_at))]
-    pub(crate) fn check_status_block(&self, caller: &Caller, block: u8) -> Result<(), Cond>
+    fn status_block(&self, caller: &Caller, number: u8) -> Result<Block, Cond>
+        requires { IsCaller caller.now self.now.records }
+        ensures refusal { result_err result
+            ≡ status_block_refusal (plain_state self.now) caller.now.pid number }
+        ensures block { IfOk result (λ block. block
+            ≡ status_block_of (plain_state self.now).processes caller.now.pid number) }
+    {
+        status_block(&self.store, caller.at, number).ok_or(Cond::Accvio)
+    }
+
+    /// ACCVIO where the caller has no status block of the number.
+    pub(crate) fn check_status_block(&self, caller: &Caller, number: u8) -> Result<(), Cond>
         requires { IsCaller caller.now self.now.records }
         ensures { result_err result
-            ≡ status_block_refusal (plain_state self.now) caller.now.pid block }
+            ≡ status_block_refusal (plain_state self.now) caller.now.pid number }
     {
-        match status_block(&self.store, caller.at, block) {
-            Some(_) => Ok(()),
-            None => Err(Cond::Accvio),
-        }
+        self.status_block(caller, number)?;
+        Ok(())
     }
 
     /// The identification that is named: its own, or what stands in a status block of the caller.
     /// ACCVIO where the caller has no such block.
-    #[tactic(auto, unfolding(vlm_words::specs::Checks::which_refusal, vlm_words::specs::Checks::status_block_refusal, vlm_words::specs::StatusBlocks::status_block_at))]
+    #[tactic(auto, unfolding(vlm_words::specs::Checks::which_refusal))]
     pub(crate) fn named(&self, caller: &Caller, lock: Which) -> Result<u32, Cond>
         requires { IsCaller caller.now self.now.records }
         ensures refusal { result_err result ≡ which_refusal (plain_state self.now) caller.now.pid lock }
@@ -100,10 +108,7 @@ impl Machine {
     {
         match lock {
             Which::Id(lkid) => Ok(lkid),
-            Which::Block(number) => match status_block(&self.store, caller.at, number) {
-                Some(block) => Ok(block.lkid),
-                None => Err(Cond::Accvio),
-            },
+            Which::Block(number) => Ok(self.status_block(caller, number)?.lkid),
         }
     }
 
@@ -114,10 +119,7 @@ impl Machine {
         ensures standing { IfOk result
             (λ standing. IsStandingOf caller.now.pid lkid standing self.now.records) }
     {
-        match find_lock(&self.store, caller.pid, lkid) {
-            Some(standing) => Ok(standing),
-            None => Err(Cond::Ivlockid),
-        }
+        find_lock(&self.store, caller.pid, lkid).ok_or(Cond::Ivlockid)
     }
 }
 

@@ -82,12 +82,8 @@ impl Machine {
         let pid = self.next_pid(declaration.node);
         let place = usize::from(declaration.node) - 1;
         let node = self.nodes[place].counted();
-        match self.store.add_process(pid, declaration) {
-            Ok(_) => {
-                self.nodes[place] = node;
-                Ok(pid)
-            }
-            Err(AllocError) => Err(AllocError),
-        }
+        self.store.add_process(pid, declaration)?;
+        self.nodes[place] = node;
+        Ok(pid)
     }
 }

@@ -117,10 +117,7 @@ fn checked_flags(dequeue: &Dequeue) -> Result<DeqFlags, Cond>
     ensures refusal { result_err result ≡ deq_flags_refusal dequeue.now }
     ensures flags { IfOk result (λ flags. deq_flag_bits flags ≡ dequeue.now.flags) }
 {
-    match deq_flags(dequeue.flags) {
-        Some(flags) => Ok(flags),
-        None => Err(Cond::Badparam),
-    }
+    deq_flags(dequeue.flags).ok_or(Cond::Badparam)
 }
 
 fn withdrawal_of(lkid: u32, flags: DeqFlags, dequeue: &Dequeue) -> Withdrawal

@@ -10,18 +10,18 @@ ghost use Rattle.vlm_words.specs.Flags.{flag_bits};
 ghost use Rattle.vlm_words.specs.Grants.{grant_endings};
 ghost use Rattle.vlm_words.specs.StatusBlocks.{processes_after_acceptance};
 ghost use Rattle.vlm_words.specs.Stepped.{Outcome};
-ghost use Rattle.vlm_store.specs.Records.{FindsResource, HasResource, SameButBlocks, plain_processes, resource_at};
+ghost use Rattle.vlm_store.specs.Records.{FindsResource, HasResource, IsProcess, SameButBlocks, plain_processes, resource_at};
 ghost use Rattle.vlm_locks.specs.Plain.{plain_resources};
 ghost use Rattle.vlm_words.specs.Resources.{IsKeyed};
 ghost use Rattle.vlm_locks.specs.Rest.{IsAtRest, OthersStay};
-ghost use Rattle.vlm_core.specs.Admissions.{IsAdmitted, IsCaller, IsForm};
+ghost use Rattle.vlm_core.specs.Admissions.{IsAdmitted, IsCaller, IsEntry, IsForm};
 ghost use Rattle.vlm_core.specs.Between.{IsBetweenSteps};
 ghost use Rattle.vlm_core.specs.Machine.{plain_state};
 ghost use Rattle.vlm_core.specs.Parents.{IsParent, lkid_of};
 
 use crate::checks::{acceptance, check_queue};
 use crate::flags::enq_flags;
-use crate::parents::{lkid_of, lock_of};
+use crate::parents::lock_of;
 use crate::processes::Caller;
 use crate::records::Machine;
 use std::alloc::AllocError;
@@ -33,21 +33,16 @@ use vlm_words::flags::EnqFlags;
 use vlm_words::locks::{Request, Row};
 use vlm_words::modes::Mode;
 use vlm_words::names::{Name, NameArg};
-use vlm_words::resources::{Key, Site};
+use vlm_words::resources::Key;
 use vlm_words::steps::{Answer, NewRequest, Step};
 
 /// A new request that no check refuses.
 #[derive(Clone, Copy)]
 pub(crate) struct AdmittedRequest {
-    caller: Caller,
-    // the parent lock, if it has one
-    parent: Option<Standing>,
-    // where its resource stands
-    site: Site,
-    // where that is stored, if it is there
-    res: Option<ResAt>,
-    asked: Request,
-    at_once: bool,
+    // its lock, and where that is to enter
+    entry: Entry,
+    // what it answers once the lock has entered
+    answer: Cond,
 }
 
 /// What a new request says of itself.
@@ -89,37 +84,29 @@ fn entrance(store: &Store, key: &Key, asked: &Request) -> Found
 
 // A request is accepted: its status block is that of a pending request, and is written again if the request
 // is granted at once. A new request returns the value block and never writes it.
-fn accept_request(
-    store: &mut Store,
-    res: ResAt,
-    caller: &Caller,
-    row: &Row,
-    block: u8,
-    at_once: bool,
-)
-    requires caller { IsCaller caller.now store.old }
-    requires pid { caller.now.pid ≡ row.now.pid }
+fn accept_request(store: &mut Store, entry: &Entry, res: ResAt, block: u8)
+    requires owner { IsProcess entry.now.owner entry.now.row.pid store.old }
     requires there { HasResource res store.old }
-    ensures statuses { IfSome (resource_at res store.old.resources) (λ r. plain_processes store.new
-        ≡ (blocks_after (if at_once then grant_endings true row.now else [])
-        (blocks_with r.value_block (processes_after_acceptance caller.now.pid block row.now.lkid (plain_processes store.old)))).processes) }
+    ensures statuses { let row = entry.now.row
+        in IfSome (resource_at res store.old.resources) (λ r. plain_processes store.new
+        ≡ (blocks_after (if entry.now.at_once then grant_endings true row else [])
+        (blocks_with r.value_block (processes_after_acceptance row.pid block row.lkid (plain_processes store.old)))).processes) }
     ensures rest { SameButBlocks store.old store.new }
 {
-    accept(store, caller.at, block, row.lkid);
-    if at_once {
+    accept(store, entry.owner, block, entry.row.lkid);
+    if entry.at_once {
         let mut value_block = store.resource_record(res).value_block;
-        end_by_grant(&mut value_block, store, caller.at, row);
+        end_by_grant(&mut value_block, store, entry.owner, &entry.row);
     }
 }
 
-// The serial that was given last, once a resource is made where none is there.
-fn last_given(last_serial: u32, res: Option<ResAt>) -> u32
-    requires { last_serial + 1 < 2 ^ 32 }
-    ensures { result ≡ (if is_some res then last_serial else last_serial + 1) }
+// The serial that was given last, once the lock has entered.
+fn last_given(last_serial: u32, entry: &Entry) -> u32
+    ensures { result ≡ (if is_some entry.now.res then last_serial else entry.now.serial) }
 {
-    match res {
+    match entry.res {
         Some(_) => last_serial,
-        None => last_serial + 1,
+        None => entry.serial,
     }
 }
 
@@ -136,10 +123,7 @@ impl Machine {
         match self.enq_change(&request, &admitted) {
             Ok(res) => {
                 self.sweep(res);
-                Answer::Lock(
-                    acceptance(admitted.asked.flags, admitted.at_once),
-                    self.last_lkid,
-                )
+                Answer::Lock(admitted.answer, admitted.entry.row.lkid)
             }
             Err(AllocError) => Answer::Plain(Cond::Insfmem),
         }
@@ -198,19 +182,22 @@ impl Machine {
     {
         self.check_quota(caller)?;
         self.check_numbers()?;
-        let admitted = self.admitted(caller, form, parent, request);
-        check_queue(form.flags, admitted.at_once)?;
-        Ok(admitted)
+        let entry = self.entry(caller, form, parent, request);
+        check_queue(form.flags, entry.at_once)?;
+        Ok(AdmittedRequest {
+            entry,
+            answer: acceptance(form.flags, entry.at_once),
+        })
     }
 
-    // What the request asks for, and whether it is granted at once.
-    fn admitted(
+    // The lock that the request makes, under the numbers to come, and where it is to enter.
+    fn entry(
         &self,
         caller: &Caller,
         form: &Form,
         parent: &Option<Standing>,
         request: &NewRequest,
-    ) -> AdmittedRequest
+    ) -> Entry
         requires caller { IsCaller caller.now self.now.records }
         requires pid { caller.now.pid ≡ request.now.pid }
         requires form { IsForm (plain_state self.now) request.now form.now }
@@ -219,17 +206,19 @@ impl Machine {
         requires between { IsBetweenSteps (plain_state self.now) }
         requires lkid { self.now.next_lkid < 2 ^ 32 }
         requires number { self.now.next_request < 2 ^ 64 }
-        ensures { IsAdmitted self.now request.now result }
+        ensures { IsEntry self.now request.now result }
     {
+        self.store.known();
         let site = self.site_of(caller, form.flags, form.name, parent);
         let asked = request_of(self.last_request + 1, form.flags, request);
         let entrance = entrance(&self.store, &site.key, &asked);
-        AdmittedRequest {
-            caller: *caller,
-            parent: *parent,
+        Entry {
+            row: row_of(self.last_lkid + 1, caller.pid, form.parent, asked),
+            owner: caller.at,
+            parent: lock_of(parent),
             site,
+            serial: self.last_serial + 1,
             res: entrance.res,
-            asked,
             at_once: entrance.at_once,
         }
     }
@@ -249,36 +238,12 @@ impl Machine {
         ensures there { IfOk result (λ res. HasResource res self.new.records) }
         ensures err { OnErr result (self.new ≡ self.old) }
     {
-        self.store.known();
-        let lkid = self.last_lkid + 1;
-        let serial = self.last_serial + 1;
-        let last_serial = last_given(self.last_serial, admitted.res);
-        let row = row_of(lkid, request.pid, lkid_of(&admitted.parent), admitted.asked);
-        let parent = lock_of(&admitted.parent);
-        let entry = Entry {
-            row,
-            owner: admitted.caller.at,
-            parent,
-            site: admitted.site,
-            serial,
-            res: admitted.res,
-            at_once: admitted.at_once,
-        };
-        let res = match enter(&mut self.store, &entry) {
-            Ok(res) => res,
-            Err(AllocError) => return Err(AllocError),
-        };
-        accept_request(
-            &mut self.store,
-            res,
-            &admitted.caller,
-            &row,
-            request.block,
-            admitted.at_once,
-        );
-        self.last_lkid = lkid;
+        let entry = &admitted.entry;
+        let res = enter(&mut self.store, entry)?;
+        accept_request(&mut self.store, entry, res, request.block);
+        self.last_lkid += 1;
         self.last_request += 1;
-        self.last_serial = last_serial;
+        self.last_serial = last_given(self.last_serial, entry);
         Ok(res)
     }
 }

@@ -1,6 +1,6 @@
 //! The parent of a new request, and where its resource stands in the tree.
 
-ghost use Rattle.std.specs.Prelude.{◌≡◌, Some, IfOk, IfSome, OnOk};
+ghost use Rattle.std.specs.Prelude.{◌≡◌, Some, IfOk};
 ghost use Rattle.std.specs.Option.{option_map};
 ghost use Rattle.std.specs.Result.{result_err};
 ghost use Rattle.vlm_words.specs.declared.resources.Site.{Site};
@@ -27,16 +27,6 @@ use vlm_words::resources::{Domain, Key, Queue, Site};
 
 // The lowest level at which a resource can stand.
 const LAST_LEVEL: u8 = 15;
-
-/// The identification of the parent lock, 0 where there is none.
-pub(crate) fn lkid_of(parent: &Option<Standing>) -> u32
-    ensures { result ≡ lkid_of parent.now }
-{
-    match parent {
-        Some(parent) => parent.row.lkid,
-        None => 0,
-    }
-}
 
 /// The key of the parent lock, if there is one.
 pub(crate) fn lock_of(parent: &Option<Standing>) -> Option<LockAt>

@@ -1,10 +1,10 @@
 //! The process that makes a step.
 
-ghost use Rattle.std.specs.Prelude.{◌≡◌, ℕ, [], false, nat_lt, None, IfNone, IfSome, IsSome};
+ghost use Rattle.std.specs.Prelude.{◌≡◌, [], false, nat_lt, None, IfNone, IfSome, IsSome};
 ghost use Rattle.std.specs.Option.{option_map_or};
 ghost use Rattle.vlm_words.specs.Quotas.{locks_of, quota_of};
 ghost use Rattle.vlm_words.specs.State.{process_of};
-ghost use Rattle.vlm_store.specs.Records.{HasProcess, IsProcess, plain_processes};
+ghost use Rattle.vlm_store.specs.Records.{plain_processes};
 ghost use Rattle.vlm_locks.specs.Plain.{plain_resources};
 ghost use Rattle.vlm_core.specs.Admissions.{IsCaller};
 
@@ -27,10 +27,8 @@ pub(crate) fn living(store: &Store, pid: u32) -> Option<Caller>
     ensures none { IfNone result (process_of (plain_processes store.now) pid ≡ None) }
 {
     store.known();
-    match store.process(pid) {
-        Some(at) => Some(Caller { at, pid }),
-        None => None,
-    }
+    let at = store.process(pid)?;
+    Some(Caller { at, pid })
 }
 
 /// The UIC group of the caller.

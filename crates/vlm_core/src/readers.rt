@@ -57,10 +57,8 @@ impl Core {
     pub fn block(&self, pid: u32, number: u8) -> Option<Block>
         ensures { result ≡ status_block_at self.now.processes pid number }
     {
-        match living(&self.machine.store, pid) {
-            Some(caller) => status_block(&self.machine.store, caller.at, number),
-            None => None,
-        }
+        let caller = living(&self.machine.store, pid)?;
+        status_block(&self.machine.store, caller.at, number)
     }
 
     /// How many resources have locks.
@@ -77,10 +75,8 @@ impl Core {
     {
         let store = &self.machine.store;
         store.known();
-        match resource_at(store, place) {
-            Some(res) => Some(resource_view(store, res)),
-            None => None,
-        }
+        let res = resource_at(store, place)?;
+        Some(resource_view(store, res))
     }
 
     /// The lock at a place, from 0, of a queue of the resource at its place. None where one of the

@@ -1,8 +1,8 @@
 use Rattle.vlm_core.proofs.Callers.{found_lives, found_none}
 use Rattle.vlm_core.proofs.processes.living.Goals as goal
 
-pub returns-in-Some-clause-lives : goal.returns-in-Some-clause-lives
-returns-in-Some-clause-lives c = found_lives c.args.store.now c.in-Some.at c.args.pid c.known.ensures c.in-Some.ensures.found
+pub returns-clause-lives : goal.returns-clause-lives
+returns-clause-lives c = found_lives c.args.store.now c.in_ok-at.at c.args.pid c.known.ensures c.in_ok-at.ensures.found
 
-pub returns-in-None-clause-none : goal.returns-in-None-clause-none
-returns-in-None-clause-none c = found_none c.args.store.now c.args.pid c.in-None.ensures.found
+pub returns-in_err-at-clause-none : goal.returns-in_err-at-clause-none
+returns-in_err-at-clause-none c = rw c.from_residual.ensures (found_none c.args.store.now c.args.pid c.in_err-at.ensures.found)

@@ -9,6 +9,6 @@ add_process-requires c p among same =
     c.requires.new p (subst (λ (m : Kept). IsProcessAmong p m.records.processes) c.self.view_is among) (same ∙ c.next_pid-pid.ensures)
 
 -- between two steps it is as it was, with one process more
-pub invariant_of-self : goal.invariant_of-self
-invariant_of-self c =
-    record { rest = rests_declared c.self.inside.store c.add_process.new.self c.in-Ok.field-0 c.next_pid-pid.result c.args.declaration.now c.in-Ok.ensures.added c.self.invariant.rest }
+pub invariant_of-self-2 : goal.invariant_of-self-2
+invariant_of-self-2 c =
+    record { rest = rests_declared c.self.inside.store c.add_process.new.self c.in_ok-add_process.field-0 c.next_pid-pid.result c.args.declaration.now c.in_ok-add_process.ensures.added c.self.invariant.rest }

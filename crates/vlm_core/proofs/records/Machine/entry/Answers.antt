@@ -1,17 +1,19 @@
-use Rattle.std.proofs.Common.{◌≡◌, rules, refl, sym, ap, ◌∙◌, subst, find, unwrap_or}
+use Rattle.std.proofs.Common.{◌≡◌, Some, rules, refl, sym, ap, ◌∙◌, subst, find, unwrap_or}
 use Rattle.vlm_words.specs.declared.locks.Request.{Request}
+use Rattle.vlm_words.specs.declared.locks.Row.{Row}
 use Rattle.vlm_words.specs.declared.resources.Site.{Site}
-use Rattle.vlm_words.specs.Enqueue.{enq_request, enq_resource, is_at_once}
+use Rattle.vlm_words.specs.Enqueue.{enq_request, enq_resource, enq_row, is_at_once}
 use Rattle.vlm_words.specs.Flags.{flag_bits}
 use Rattle.vlm_words.specs.Resources.{is_at, new_resource}
 use Rattle.vlm_words.specs.State.{Resource}
 use Rattle.vlm_words.specs.Trees.{enq_site, parent_resource, root_domain, site_below}
+use Rattle.vlm_store.specs.Records.{IsParentOf, IsProcess}
 use Rattle.vlm_locks.specs.Plain.{plain_resources}
 use Rattle.vlm_core.specs.Admissions.{IsCaller, IsForm}
 use Rattle.vlm_core.specs.Machine.{Kept, kept, plain_state}
 use Rattle.vlm_core.specs.Parents.{IsParent, lkid_of}
-use Rattle.vlm_core.proofs.Siting.{site_is}
-use Rattle.vlm_core.proofs.records.Machine.admitted.Goals as goal
+use Rattle.vlm_core.proofs.Siting.{parent_of_row, site_is}
+use Rattle.vlm_core.proofs.records.Machine.entry.Goals as goal
 
 pub returns : goal.returns
 unfolding enq_resource
@@ -26,21 +28,27 @@ returns c =
     (parent_resource (plain_state k) c.args.caller.now.pid (lkid_of c.args.parent.now))) (sym c.self.view_is) c.site_of-site.ensures.site in
     let site_same : site ≡ enq_site (plain_state m) e = site_told ∙ site_is (plain_state m) e c.args.form.now c.args.caller.now.pid (lkid_of c.args.parent.now) form c.requires.pid c.requires.named in
     let asked : c.request_of-asked.result ≡ enq_request (plain_state m) e = search rules in
+    let caller = subst (λ (k : Kept). IsCaller c.args.caller.now k.records) (sym c.self.view_is) c.requires.caller in
+    let parent = subst (λ (k : Kept). IsParent c.args.caller.now.pid c.args.parent.now k.records) (sym c.self.view_is) c.requires.parent in
+    let row = c.row_of.result in
+    let owner : row.pid ≡ c.args.caller.now.pid = ap (λ (r : Row). r.pid) c.row_of.ensures in
+    let named : row.parent ≡ lkid_of c.args.parent.now = ap (λ (r : Row). r.parent) c.row_of.ensures ∙ sym c.requires.named in
     rw (← c.self.view_is)
     (record {
-      caller = subst (λ (k : Kept). IsCaller c.args.caller.now k.records) (sym c.self.view_is) c.requires.caller;
-      pid = c.requires.pid;
-      parent = subst (λ pid. IsParent pid c.args.parent.now c.self.inside.store) c.requires.pid
-          (subst (λ (k : Kept). IsParent c.args.caller.now.pid c.args.parent.now k.records) (sym c.self.view_is) c.requires.parent);
-      named = c.requires.named ∙ form.parent;
+      row =
+          c.row_of.ensures
+          ∙ ap (λ pid. record (enq_row (plain_state m) e) { pid = pid; parent = c.args.form.now.parent; want = Some c.request_of-asked.result }) c.requires.pid
+          ∙ ap (λ lkid. record (enq_row (plain_state m) e) { parent = lkid; want = Some c.request_of-asked.result }) form.parent
+          ∙ ap (λ q. record (enq_row (plain_state m) e) { want = Some q }) asked;
+      owner = subst (λ pid. IsProcess c.args.caller.now.at pid c.self.inside.store) (sym owner) caller.lives;
+      parent = subst (λ up. IsParentOf up row c.self.inside.store) (sym c.lock_of.ensures)
+          (parent_of_row c.self.inside.store c.known.ensures c.args.caller.now.pid c.args.parent.now parent row named);
       site = site_same;
       keyed = c.site_of-site.ensures.keyed;
+      serial = refl;
       found = c.entrance-entrance.ensures.found;
-      asked = asked;
       at_once =
           c.entrance-entrance.ensures.at_once m.next_serial site refl c.site_of-site.ensures.keyed
           ∙ ap (λ (q : Request). is_at_once q (found site)) asked
           ∙ ap (λ x. is_at_once (enq_request (plain_state m) e) (found x)) site_same;
-      lkid = search rules;
-      number = search rules;
     })
