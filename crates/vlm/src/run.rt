@@ -102,10 +102,8 @@ fn chosen<S: AsStr>(alloc: Global, words: &[S]) -> Result<(), Error>
     ensures { FailsBy (word_errors (map S.text words.now)) result }
 {
     let command = command_line(alloc)?;
-    match command.try_get_matches_from(words) {
-        Ok(_) => Ok(()),
-        Err(error) => Err(error),
-    }
+    command.try_get_matches_from(words)?;
+    Ok(())
 }
 
 fn command_line<'a>(alloc: Global) -> Result<Command<'a>, AllocError>

@@ -11,8 +11,5 @@ use vlm_words::scripts::LineFault;
 pub(crate) fn value_of(word: &[u8]) -> Result<[u8; 16], LineFault>
     ensures { result ≡ value_of word.now }
 {
-    match <[u8; 16] as FromHex>::from_hex(word) {
-        Ok(value) => Ok(value),
-        Err(_) => Err(LineFault::WrongWord),
-    }
+    <[u8; 16]>::from_hex(word).map_err(|_| LineFault::WrongWord)
 }

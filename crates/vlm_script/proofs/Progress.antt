@@ -1,5 +1,5 @@
 -- How far the run of a script has come, and what follows once it stops.
-use Rattle.std.proofs.Common.{◌≡◌, ℕ, zero, suc, ◌+◌, ◌<◌, ◌≤◌, List, [], ◌∷◌, ◌++◌, length, take, drop, Option, None, Some, Ok, Err, refl, sym, ap, ◌∙◌, add-one, append_assoc, ◌^◌, ◌⊎◌, inl, inr, IfSome, length-append, length-drop, arith}
+use Rattle.std.proofs.Common.{◌≡◌, ℕ, zero, suc, ◌+◌, ◌≤◌, List, [], ◌∷◌, ◌++◌, length, take, drop, Option, None, Some, Result, Ok, Err, IfErr, OnErr, OnOk, refl, sym, ap, ◌∙◌, add-one, append_assoc, ◌^◌, ◌⊎◌, inl, inr, IfSome, length-append, length-drop, arith}
 use Rattle.std.proofs.lemmas.List.{append-nil, take-append-drop}
 use Rattle.std.specs.Io.KnownBytes.{Appends, Consumes}
 use Rattle.vlm_words.specs.Lines.{lines_of}
@@ -9,7 +9,7 @@ use Rattle.vlm_script.specs.declared.faults.PlayFault.TheVariants.{Memory, Read,
 use Rattle.vlm_script.specs.declared.faults.PlayFault.{PlayFault}
 use Rattle.vlm_script.specs.declared.stops.Stop.{Stop}
 use Rattle.vlm_script.specs.declared.stops.Stop.TheVariants.{Fault, Memory as out_of_memory}
-use Rattle.vlm_script.specs.Plays.{EndsLines, Passes, Plays, Wrote}
+use Rattle.vlm_script.specs.Plays.{EndsLines, Passes, PassesPart, Plays, Wrote}
 use Rattle.vlm_script.specs.Sessions.{IsPrinted, StopsBytes, stopped_at}
 
 -- the first lines have run; what they print is written but for what still waits to be
@@ -89,18 +89,19 @@ module _ (input : List ℕ) (count : ℕ) (begun now : Option (List ℕ)) where
       reached-passed later waiting [] last reached (record { part = waiting; wrote = wrote; split = sym (append-nil waiting) })
 
   -- only a part of what waited is written
-  pub stops-writing : (later : Option (List ℕ)) (waiting : List ℕ) (last : Session) (n : ℕ) → Reached input count begun now waiting last
-      → n < length waiting → Appends now later (take n waiting) → Wrote begun later (Plays input (Err Write))
-  stops-writing later waiting last n reached short wrote = (
-    reached.written ++ take n waiting,
-    Appends-append begun now later reached.written (take n waiting) reached.kept wrote,
-    record {
-      count = count;
-      rest = drop n waiting;
-      missing = omega (arith, short, length-drop n waiting);
-      text = (last, rw (append_assoc, take-append-drop) reached.played);
-    },
-  )
+  pub stops-writing : (later : Option (List ℕ)) (waiting : List ℕ) (last : Session) (fault : PlayFault) → fault ≡ Write
+      → Reached input count begun now waiting last → PassesPart now later waiting → Wrote begun later (Plays input (Err fault))
+  stops-writing later waiting last fault is reached part =
+      rw is (
+        reached.written ++ take part.0 waiting,
+        Appends-append begun now later reached.written (take part.0 waiting) reached.kept part.2,
+        record {
+          count = count;
+          rest = drop part.0 waiting;
+          missing = omega (arith, part.1, length-drop part.0 waiting);
+          text = (last, rw (append_assoc, take-append-drop) reached.played);
+        },
+      )
 
   -- a line stops the run once all before it is written
   pub stops-at : (last : Session) (line : List ℕ) (rest : List (List ℕ)) (stop : Stop) → Reached input count begun now [] last
@@ -121,9 +122,14 @@ module _ (input : List ℕ) (count : ℕ) (begun now : Option (List ℕ)) where
   )
   stops-at last line rest out_of_memory reached next faulty = (reached.written, reached.kept, (count, (last, rw append-nil at reached.played)))
 
-  -- no line is left, and all is written
-  pub ends : (last : Session) → Reached input count begun now [] last → drop count (lines_of input) ≡ [] → Wrote begun now (Plays input (Ok tt))
-  ends last reached none = (reached.written, reached.kept, (last, rw (take-all (lines_of input) count none, append-nil) at reached.played))
+  -- no line is left, and what waited is written, or only a part of it
+  pub ends : (later : Option (List ℕ)) (waiting : List ℕ) (last : Session) (result : Result (Unit {0}) PlayFault) → Reached input count begun now waiting last
+      → drop count (lines_of input) ≡ [] → OnOk result (Appends now later waiting) → OnErr result (PassesPart now later waiting) → IfErr result (λ fault. fault ≡ Write)
+      → Wrote begun later (Plays input result)
+  ends later waiting last (Ok done) reached none whole part is =
+      let all = reached-written later waiting last reached whole in
+      (all.written, all.kept, (last, rw (take-all (lines_of input) count none, append-nil) at all.played))
+  ends later waiting last (Err fault) reached none whole part is = stops-writing later waiting last fault is reached part
 
 -- what was consumed is no longer than what there was
 length-consumed : (input : List ℕ) (now : Option (List ℕ)) (bytes : List ℕ) → Consumes (Some input) now bytes → length bytes ≤ length input

@@ -1,6 +1,6 @@
 //! The lines that faults print.
 
-ghost use Rattle.std.specs.Prelude.{◌≡◌, ◌++◌, codes, decimal, OnOk, OnErr};
+ghost use Rattle.std.specs.Prelude.{◌++◌, codes, decimal, OnOk, OnErr};
 ghost use Rattle.std.specs.Io.KnownBytes.{Appends};
 ghost use Rattle.vlm_words.specs.Faults.{fault_text};
 ghost use Rattle.vlm_script.specs.Faults.{fault_line, play_fault_text};

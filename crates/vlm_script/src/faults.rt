@@ -1,5 +1,6 @@
 //! What ends the run of a script.
 
+use std::alloc::AllocError;
 use thiserror::Error;
 use vlm_words::scripts::LineFault;
 
@@ -21,4 +22,15 @@ pub enum PlayFault {
     /// The script has more bytes than a script may have.
     #[error("script too long")]
     Long,
+}
+
+impl From<AllocError> for PlayFault {
+    ghost use Rattle.std.specs.Prelude.{◌≡◌};
+    ghost use Rattle.vlm_script.specs.declared.faults.PlayFault.TheVariants.{Memory};
+
+    ghost from_gives = { λ _ fault. fault ≡ Memory };
+
+    fn from(_refused: AllocError) -> PlayFault {
+        PlayFault::Memory
+    }
 }

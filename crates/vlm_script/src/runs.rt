@@ -72,21 +72,14 @@ fn run_lines<W: Write>(
     let mut count = 0;
     while let Some((line, after)) = next_line(rest) {
         if let Err(stop) = run_line(session, line, &mut out) {
-            match write_whole(writer, &out) {
-                Ok(()) => return Err(stop.at(count + 1)),
-                Err(_) => return Err(PlayFault::Write),
-            }
+            write_whole(writer, &out)?;
+            return Err(stop.at(count + 1));
         }
-        let Ok(()) = write_when_full(&mut out, writer) else {
-            return Err(PlayFault::Write);
-        };
+        write_when_full(&mut out, writer)?;
         rest = after;
         count += 1;
     }
-    match write_whole(writer, &out) {
-        Ok(()) => Ok(()),
-        Err(_) => Err(PlayFault::Write),
-    }
+    write_whole(writer, &out)
 }
 
 // Writes what waits once it is much. Then nothing waits.
@@ -95,6 +88,7 @@ fn write_when_full<W: Write>(out: &mut Vec<u8>, writer: &mut W) -> Result<(), Pl
         (Passes (W.contents writer.old) (W.contents writer.new) out.old.items out.new.items) }
     ensures part { OnErr result
         (PassesPart (W.contents writer.old) (W.contents writer.new) out.old.items) }
+    ensures fault { IfErr result (λ fault. fault ≡ PlayFault.Write) }
 {
     if out.len() >= WAITING {
         write_whole(writer, out)?;
@@ -113,8 +107,6 @@ fn run_line(session: &mut Session, line: &[u8], out: &mut Vec<u8>) -> Result<(),
 {
     let mut printed = Vec::new(*out.allocator());
     session.run(line, &mut printed)?;
-    if out.extend_from_slice(&printed).is_err() {
-        return Err(Stop::Memory);
-    }
+    out.extend_from_slice(&printed)?;
     Ok(())
 }

@@ -53,10 +53,8 @@ impl Session {
             (λ _. IsPrinted self.old bytes.now self.new out.old.items out.new.items)
             (λ stop. StopsBytes self.old.names bytes.now stop) }
     {
-        match read_line(bytes) {
-            Ok(line) => self.run_line(line, out),
-            Err(fault) => Err(Stop::Fault(fault)),
-        }
+        let line = read_line(bytes)?;
+        self.run_line(line, out)
     }
 
     // Runs a line that was read.
@@ -73,10 +71,7 @@ impl Session {
             Line::Cvt(line) => self.convert(line, out),
             Line::Deq(line) => self.deq(line, out),
             Line::Block(line) => self.show_status_block(line, out),
-            Line::Show => match show(self.core.store(), out) {
-                Ok(()) => Ok(()),
-                Err(_) => Err(Stop::Memory),
-            },
+            Line::Show => Ok(show(self.core.store(), out)?),
         }
     }
 
@@ -87,10 +82,7 @@ impl Session {
             (λ stop. (bound_to self.now.names name.now ≡ None)
             × (stop ≡ Stop.Fault LineFault.UnknownName)) }
     {
-        match bound_to(&self.names, name) {
-            Some(pid) => Ok(pid),
-            None => Err(Stop::Fault(LineFault::UnknownName)),
-        }
+        bound_to(&self.names, name).ok_or(Stop::Fault(LineFault::UnknownName))
     }
 
     // Declares a process, prints the answer, and binds the name where it is accepted.
@@ -108,9 +100,7 @@ impl Session {
         if bound_to(&self.names, &name).is_some() {
             return Err(Stop::Fault(LineFault::NameUsed));
         }
-        if self.names.reserve(1).is_err() {
-            return Err(Stop::Memory);
-        }
+        self.names.reserve(1)?;
         let answer = self.core.declare(declaration);
         if let Answer::Process(pid) = answer {
             bind_reserved(&mut self.names, name, pid);
@@ -171,10 +161,8 @@ impl Session {
     {
         let pid = self.process(&line.name)?;
         let block = self.core.block(pid, line.number);
-        match status_block_line(out, line.name.bytes(), line.number, block) {
-            Ok(()) => Ok(()),
-            Err(_) => Err(Stop::Memory),
-        }
+        status_block_line(out, line.name.bytes(), line.number, block)?;
+        Ok(())
     }
 }
 
@@ -184,10 +172,8 @@ fn print_answer(name: ProcessName, answer: Answer, out: &mut Vec<u8>) -> Result<
         (λ _. out.new.items ≡ out.old.items ++ answer_line name answer)
         (λ stop. stop ≡ Stop.Memory) }
 {
-    match answer_line(out, name.bytes(), answer) {
-        Ok(()) => Ok(()),
-        Err(_) => Err(Stop::Memory),
-    }
+    answer_line(out, name.bytes(), answer)?;
+    Ok(())
 }
 
 // The value that a set line puts into a status block of a process.

@@ -4,6 +4,7 @@ ghost use Rattle.std.specs.Prelude.{◌≡◌};
 ghost use Rattle.vlm_script.specs.Sessions.{stopped_at};
 
 use crate::faults::PlayFault;
+use std::alloc::AllocError;
 use vlm_words::scripts::LineFault;
 
 /// Why a line ended the run of its script.
@@ -13,6 +14,28 @@ pub(crate) enum Stop {
     Fault(LineFault),
     /// Memory was refused.
     Memory,
+}
+
+impl From<AllocError> for Stop {
+    ghost use Rattle.std.specs.Prelude.{◌≡◌};
+    ghost use Rattle.vlm_script.specs.declared.stops.Stop.TheVariants.{Memory};
+
+    ghost from_gives = { λ _ stop. stop ≡ Memory };
+
+    fn from(_refused: AllocError) -> Stop {
+        Stop::Memory
+    }
+}
+
+impl From<LineFault> for Stop {
+    ghost use Rattle.std.specs.Prelude.{◌≡◌};
+    ghost use Rattle.vlm_script.specs.declared.stops.Stop.TheVariants.{Fault};
+
+    ghost from_gives = { λ fault stop. stop ≡ Fault fault };
+
+    fn from(fault: LineFault) -> Stop {
+        Stop::Fault(fault)
+    }
 }
 
 impl Stop {

@@ -56,11 +56,9 @@ fn read_on<R: Read>(reader: &mut R, input: &mut Vec<u8>) -> Result<usize, PlayFa
 {
     let mut piece = [0; PIECE];
     let room = (LIMIT + 1 - input.len()).min(PIECE);
-    let Ok(count) = reader.read(&mut piece[..room]) else {
-        return Err(PlayFault::Read);
-    };
-    if input.extend_from_slice(&piece[..count]).is_err() {
-        return Err(PlayFault::Memory);
-    }
+    let count = reader
+        .read(&mut piece[..room])
+        .map_err(|_| PlayFault::Read)?;
+    input.extend_from_slice(&piece[..count])?;
     Ok(count)
 }

@@ -1,4 +1,5 @@
 use Rattle.std.proofs.Common.{◌≡◌, ◌+◌, [], ◌∷◌, drop, sym, ap, ◌∙◌, refl, arith}
+use Rattle.std.proofs.lemmas.Result.{err_from_is_err_and}
 use Rattle.vlm_words.specs.Lines.{lines_of}
 use Rattle.vlm_script.proofs.Progress.{drop-more, reached-start, reached-more, reached-passed, reached-written, stop-ends, stops-writing, stops-at, ends}
 use Rattle.vlm_script.proofs.runs.run_lines.Goals as goal
@@ -20,46 +21,44 @@ loop-line-preserved g c =
       reached =
           reached-passed input (c.loop-line.count + 1) _ _ _ _ _ _ (
           reached-more input c.loop-line.count _ _ _ _ _ _ _ _ c.loop-line.invariant.reached next c.in_default-run_line.ensures.run
-          ) c.in-Ok-write_when_full.ensures.passed;
+          ) c.in_ok-write_when_full.ensures.passed;
     }
 
 -- the line's fault ends the run, and what was printed before it is written
-pub returns-in-Ok-clause-played : goal.returns-in-Ok-clause-played
-returns-in-Ok-clause-played g c =
+pub returns-in-Err-clause-played : goal.returns-in-Err-clause-played
+returns-in-Err-clause-played g c =
     let input = c.args.input.now in
     let next : drop c.loop-line.count (lines_of input) ≡ c.in-Some.line.now ∷ lines_of c.in-Some.after.now = sym c.loop-line.invariant.left ∙ c.in-Some.ensures.some in
-    let wrote = rw (c.deref.ensures.value, c.in-Err.ensures.err) at c.in-Ok.ensures.whole in
+    let wrote = rw (c.deref.ensures.value, c.in-Err.ensures.err) at c.in_ok-write_whole.ensures.whole in
     rw c.at.ensures (
     stops-at input c.loop-line.count _ _ _ _ _ c.in-Err.stop
     (reached-written input c.loop-line.count _ _ _ _ _ c.loop-line.invariant.reached wrote) next c.in-Err.ensures.run
     )
 
-pub returns-in-Err-write_whole-clause-played : goal.returns-in-Err-write_whole-clause-played
-returns-in-Err-write_whole-clause-played g c =
-    let short = rw (c.deref.ensures.value, c.in-Err.ensures.err) at c.in-Err-write_whole.ensures.part.1 in
-    let wrote = rw (c.deref.ensures.value, c.in-Err.ensures.err) at c.in-Err-write_whole.ensures.part.2 in
-    stops-writing c.args.input.now c.loop-line.count _ _ _ _ _ c.in-Err-write_whole.ensures.part.0 c.loop-line.invariant.reached short wrote
+pub returns-in-Err-clause-faults : goal.returns-in-Err-clause-faults
+returns-in-Err-clause-faults g c = rw c.at.ensures (stop-ends (c.loop-line.count + 1) c.in-Err.stop)
 
-pub returns-in_default-write_when_full-clause-played : goal.returns-in_default-write_when_full-clause-played
-returns-in_default-write_when_full-clause-played g c =
+-- or only a part of it is
+pub returns-in_err-write_whole-clause-played : goal.returns-in_err-write_whole-clause-played
+returns-in_err-write_whole-clause-played g c =
+    let stop = err_from_is_err_and c.from_residual.result c.from_residual.ensures.1 in
+    let part = rw (c.deref.ensures.value, c.in-Err.ensures.err) at c.in_err-write_whole.ensures.part in
+    rw stop.1 (stops-writing c.args.input.now c.loop-line.count _ _ _ _ _ stop.0 (stop.2 ∙ c.in_err-write_whole.ensures.fault) c.loop-line.invariant.reached part)
+
+pub returns-in_err-write_when_full-clause-played : goal.returns-in_err-write_when_full-clause-played
+returns-in_err-write_when_full-clause-played g c =
     let input = c.args.input.now in
     let next : drop c.loop-line.count (lines_of input) ≡ c.in-Some.line.now ∷ lines_of c.in-Some.after.now = sym c.loop-line.invariant.left ∙ c.in-Some.ensures.some in
-    let part = c.in_default-write_when_full.ensures.part in
-    stops-writing input (c.loop-line.count + 1) _ _ _ _ _ part.0
-    (reached-more input c.loop-line.count _ _ _ _ _ _ _ _ c.loop-line.invariant.reached next c.in_default-run_line.ensures.run) part.1 part.2
+    let stop = err_from_is_err_and c.from_residual-in_err-write_when_full.result c.from_residual-in_err-write_when_full.ensures.1 in
+    rw stop.1 (
+    stops-writing input (c.loop-line.count + 1) _ _ _ _ _ stop.0 (stop.2 ∙ c.in_err-write_when_full.ensures.fault)
+    (reached-more input c.loop-line.count _ _ _ _ _ _ _ _ c.loop-line.invariant.reached next c.in_default-run_line.ensures.run) c.in_err-write_when_full.ensures.part
+    )
 
 -- no line is left
-pub returns-in-Ok-write_whole-clause-played : goal.returns-in-Ok-write_whole-clause-played
-returns-in-Ok-write_whole-clause-played g c =
-    let none : drop c.loop-line.count (lines_of c.args.input.now) ≡ [] = sym c.loop-line.invariant.left ∙ ap lines_of (c.in_default.ensures.none.0 refl) in
-    let wrote = rw c.deref-2.ensures.value at c.in-Ok-write_whole.ensures.whole in
-    ends c.args.input.now c.loop-line.count _ _ _ (reached-written c.args.input.now c.loop-line.count _ _ _ _ _ c.loop-line.invariant.reached wrote) none
-
 pub returns-clause-played : goal.returns-clause-played
 returns-clause-played g c =
-    let short = rw c.deref-2.ensures.value at c.in-Err-write_whole-2.ensures.part.1 in
-    let wrote = rw c.deref-2.ensures.value at c.in-Err-write_whole-2.ensures.part.2 in
-    stops-writing c.args.input.now c.loop-line.count _ _ _ _ _ c.in-Err-write_whole-2.ensures.part.0 c.loop-line.invariant.reached short wrote
-
-pub returns-in-Ok-clause-faults : goal.returns-in-Ok-clause-faults
-returns-in-Ok-clause-faults g c = rw c.at.ensures (stop-ends (c.loop-line.count + 1) c.in-Err.stop)
+    let none : drop c.loop-line.count (lines_of c.args.input.now) ≡ [] = sym c.loop-line.invariant.left ∙ ap lines_of (c.in_default.ensures.none.0 refl) in
+    let whole = rw c.deref-2.ensures.value at c.write_whole-2.ensures.whole in
+    let part = rw c.deref-2.ensures.value at c.write_whole-2.ensures.part in
+    ends c.args.input.now c.loop-line.count _ _ _ _ _ c.write_whole-2.result c.loop-line.invariant.reached none whole part c.write_whole-2.ensures.fault
