@@ -30,6 +30,7 @@ impl From<AllocError> for PlayFault {
 
     ghost from_gives = { λ _ fault. fault ≡ Memory };
 
+    /// Want of memory ends the run.
     fn from(_refused: AllocError) -> PlayFault {
         PlayFault::Memory
     }

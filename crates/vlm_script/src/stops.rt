@@ -22,6 +22,7 @@ impl From<AllocError> for Stop {
 
     ghost from_gives = { λ _ stop. stop ≡ Memory };
 
+    /// Want of memory ends the run.
     fn from(_refused: AllocError) -> Stop {
         Stop::Memory
     }
@@ -33,6 +34,7 @@ impl From<LineFault> for Stop {
 
     ghost from_gives = { λ fault stop. stop ≡ Fault fault };
 
+    /// A line's fault ends the run.
     fn from(fault: LineFault) -> Stop {
         Stop::Fault(fault)
     }
