@@ -1,7 +1,7 @@
 -- The errors that words get are known, since the command is written out.
-use Rattle.std.proofs.Common.{◌≡◌, ◌∙◌, true, List, Result, Ok, Err, IsErrAnd, ap, refl, subst, sym}
+use Rattle.std.proofs.Common.{◌≡◌, ◌∙◌, true, List, Result, ap, refl, subst}
 use Rattle.clap.proofs.OnLiterals.{clap_on_literals}
-use Rattle.clap.specs.Words.{App, FailsBy, HasKind, Text, fault_of, is_simple_and_free}
+use Rattle.clap.specs.Words.{App, FailsBy, Text, fault_of, is_simple_and_free}
 use Rattle.clap.specs.declared.error.Error.{Error}
 use Rattle.vlm.specs.Words.{command_line, word_errors}
 
@@ -14,8 +14,3 @@ pub errors_known : {T : Type 0} → (app : App) (words : List Text) (r : Result 
     → (is_simple_and_free app ≡ true → FailsBy (fault_of app words) r) → FailsBy (word_errors words) r
 errors_known app words r same known =
     subst (λ a. FailsBy (fault_of a words) r) same (known (ap is_simple_and_free same ∙ is_known))
-
--- an error that is passed up is of the same kind
-pub passed_up : {T : Type 0} → (words : List Text) (e : Error) (r : Result T Error) → IsErrAnd r (λ x. x ≡ e) → HasKind (word_errors words) e → FailsBy (word_errors words) r
-passed_up words e (Ok done) told kind = absurd told
-passed_up words e (Err error) told kind = subst (HasKind (word_errors words)) (sym told) kind

@@ -74,12 +74,12 @@ pub record FailsHelp (old new : Output) (status : ℕ) : Type 0 where
   pub faults : PrintsFault Write old.faults new.faults
   pub ended : status ≡ 3
 
--- what a call comes to whose words get an error of this kind
+-- what a call comes to whose words get an error of this kind: help that is asked for is never refused
 abbrev pub EndsByError : ErrorKind → Output → Output → ℕ → Type 0
 EndsByError kind old new status =
     WantsMemory old new status
     ⊎ (IsHelp kind × (GivesHelp old new status ⊎ FailsHelp old new status))
-    ⊎ ((kind ≢ OutOfMemory) × RefusesWords old new status)
+    ⊎ ((kind ≢ OutOfMemory) × (IsHelp kind → ⊥) × RefusesWords old new status)
 
 -- the words ask for a run, and the script was run; or they get an error, and nothing was read
 abbrev pub EndsByWords : List Text → Option (List ℕ) → Option (List ℕ)

@@ -10,7 +10,8 @@ use Rattle.vlm_words.specs.declared.resources.Queue.TheVariants.{Granted}
 use Rattle.vlm_words.specs.declared.steps.Conversion.{Conversion}
 use Rattle.vlm_words.specs.declared.steps.Dequeue.{Dequeue}
 use Rattle.vlm_words.specs.Convert.{ConversionAdmission, admission_among, admission_or, convert_admission, convert_lkid, convert_request}
-use Rattle.vlm_words.specs.Dequeue.{Withdrawal, cancel_refusal, dequeue_lkid, is_granted}
+use Rattle.vlm_words.specs.Dequeue.{cancel_refusal, dequeue_lkid, is_granted}
+use Rattle.vlm_words.specs.Withdrawals.{Withdrawal}
 use Rattle.vlm_words.specs.Flags.{cancel, has_flag}
 use Rattle.vlm_words.specs.Rows.{is_lock_of}
 use Rattle.vlm_store.specs.Records.{IsAmong, IsResourceAmong, IsSound, Records, StoredResource, queued, rows_of}
@@ -137,11 +138,11 @@ module _ (m : Kept) (sound : IsSound m.records) (d : Dequeue) (a : AdmittedDeque
       ∙ ap (λ lkid. is_granted a.standing.row.pid lkid (plain_resources m.records)) (sym admitted.standing.named)
 
   -- the flag is that of the withdrawal
-  cancel_flag : has_flag d.flags cancel ≡ a.withdrawal.cancels
-  cancel_flag = sym (ap (λ (w : Withdrawal). w.cancels) admitted.withdrawal)
+  cancel_flag : has_flag d.flags cancel ≡ a.withdrawal.stays
+  cancel_flag = sym (ap (λ (w : Withdrawal). w.stays) admitted.withdrawal)
 
   -- the cancel of a granted lock is refused
-  pub cancel_refused : a.withdrawal.cancels ≡ true → a.standing.queue ≡ Granted → cancel_refusal (plain_state m) d ≡ Some Cancelgrant
+  pub cancel_refused : a.withdrawal.stays ≡ true → a.standing.queue ≡ Granted → cancel_refusal (plain_state m) d ≡ Some Cancelgrant
   unfolding cancel_refusal
   cancel_refused cancels granted = rw (cancel_flag ∙ cancels, is_by_lock ∙ granted_here m.records sound a.standing admitted.standing.standing granted) refl
 
@@ -155,6 +156,6 @@ module _ (m : Kept) (sound : IsSound m.records) (d : Dequeue) (a : AdmittedDeque
       of_flag false = refl
 
   -- nor is a dequeue that cancels nothing
-  pub dequeue_passes : a.withdrawal.cancels ≡ false → cancel_refusal (plain_state m) d ≡ None
+  pub dequeue_passes : a.withdrawal.stays ≡ false → cancel_refusal (plain_state m) d ≡ None
   unfolding cancel_refusal
   dequeue_passes keeps = rw (cancel_flag ∙ keeps) refl

@@ -1,11 +1,13 @@
 -- A conversion and a dequeue on the records are those of the plain machine.
-use Rattle.std.proofs.Common.{◌≡◌, ◌+◌, List, map, flat_map, Some, IfSome, sym, ap, ◌∙◌}
+use Rattle.std.proofs.Common.{◌≡◌, ◌+◌, List, [], ◌∷◌, map, flat_map, Some, IfSome, sym, ap, ◌∙◌}
 use Rattle.std.proofs.lemmas.Option.{same_Some}
 use Rattle.vlm_words.specs.declared.resources.ValueBlock.{ValueBlock}
 use Rattle.vlm_words.specs.declared.steps.Conversion.{Conversion}
 use Rattle.vlm_words.specs.declared.steps.Dequeue.{Dequeue}
 use Rattle.vlm_words.specs.Convert.{ConversionAdmission, conversion_blocks, convert_admission, convert_blocks, convert_change, convert_lkid, resource_after_conversion}
-use Rattle.vlm_words.specs.Dequeue.{Withdrawal, deq_change, processes_after, resource_after_withdrawal, withdrawal_endings, withdrawal_of}
+use Rattle.vlm_words.specs.Dequeue.{deq_change, withdrawal_of}
+use Rattle.vlm_words.specs.Withdrawals.{Withdrawal, processes_after, resource_after_withdrawals, withdrawal_endings, withdrawn_endings}
+use Rattle.vlm_words.proofs.Withdrawing.{one_ends}
 use Rattle.vlm_words.specs.Effects.{Blocks}
 use Rattle.vlm_words.specs.State.{Process, Resource, State}
 use Rattle.vlm_words.specs.StatusBlocks.{processes_after_acceptance}
@@ -35,13 +37,13 @@ module _ (old : Kept) (c : Conversion) (a : AdmittedConversion) (admitted : IsAd
   -- the resources once the lock is converted
   resources_are : (accepted new : Records) → SameButBlocks old.records accepted → conversion_blocks admission (plain_processes accepted) ≡ convert_blocks (plain_state old) c admission
       → IsConverted a.standing a.asked own accepted new
-      → plain_resources new ≡ map (resource_after_conversion a.asked c.pid (convert_lkid (plain_state old) c) (convert_blocks (plain_state old) c admission).value_block) (plain_resources old.records)
+      → plain_resources new ≡ map (resource_after_conversion a.asked admission.at_once c.pid (convert_lkid (plain_state old) c) (convert_blocks (plain_state old) c admission).value_block) (plain_resources old.records)
   resources_are accepted new same blocks converted =
       converted.resources
-      ∙ ap (λ (b : Blocks). map (resource_after_conversion a.asked a.standing.row.pid a.standing.row.lkid b.value_block) (plain_resources accepted)) blocks
-      ∙ ap (λ rs. map (resource_after_conversion a.asked a.standing.row.pid a.standing.row.lkid left) (map plain_resource rs)) same.resources
-      ∙ ap (λ pid. map (resource_after_conversion a.asked pid a.standing.row.lkid left) (plain_resources old.records)) admitted.standing.owned
-      ∙ ap (λ lkid. map (resource_after_conversion a.asked c.pid lkid left) (plain_resources old.records)) admitted.standing.named
+      ∙ ap (λ (b : Blocks). map (resource_after_conversion a.asked admission.at_once a.standing.row.pid a.standing.row.lkid b.value_block) (plain_resources accepted)) blocks
+      ∙ ap (λ rs. map (resource_after_conversion a.asked admission.at_once a.standing.row.pid a.standing.row.lkid left) (map plain_resource rs)) same.resources
+      ∙ ap (λ pid. map (resource_after_conversion a.asked admission.at_once pid a.standing.row.lkid left) (plain_resources old.records)) admitted.standing.owned
+      ∙ ap (λ lkid. map (resource_after_conversion a.asked admission.at_once c.pid lkid left) (plain_resources old.records)) admitted.standing.named
     where
       left : ValueBlock
       left = (convert_blocks (plain_state old) c admission).value_block
@@ -65,15 +67,17 @@ module _ (old : Kept) (c : Conversion) (a : AdmittedConversion) (admitted : IsAd
 
 -- the state once the lock is withdrawn
 pub state_withdrawn : (old : Kept) (d : Dequeue) (w : Withdrawal) (new : Records) → w ≡ withdrawal_of (plain_state old) d
-    → plain_resources new ≡ map (resource_after_withdrawal w) (plain_resources old.records)
+    → plain_resources new ≡ map (resource_after_withdrawals (w ∷ [])) (plain_resources old.records)
     → plain_processes new ≡ processes_after (flat_map (withdrawal_endings w) (plain_resources old.records)) (plain_processes old.records)
     → plain_state (record old { records = new }) ≡ deq_change (plain_state old) d
 unfolding deq_change
 state_withdrawn old d w new is resources statuses =
     ap (λ ps. with_parts ps (plain_resources new)) statuses
     ∙ ap (λ rs. with_parts (processes_after (flat_map (withdrawal_endings w) (plain_resources old.records)) (plain_processes old.records)) rs) resources
-    ∙ ap (λ x. with_parts (processes_after (flat_map (withdrawal_endings x) (plain_resources old.records)) (plain_processes old.records))
-    (map (resource_after_withdrawal x) (plain_resources old.records))) is
+    ∙ ap (λ ends. with_parts (processes_after ends (plain_processes old.records)) (map (resource_after_withdrawals (w ∷ [])) (plain_resources old.records)))
+    (sym (one_ends w (plain_resources old.records)))
+    ∙ ap (λ x. with_parts (processes_after (withdrawn_endings (x ∷ []) (plain_resources old.records)) (plain_processes old.records))
+    (map (resource_after_withdrawals (x ∷ [])) (plain_resources old.records))) is
   where
     with_parts : List Process → List Resource → State
     with_parts ps rs = record (plain_state old) { processes = ps; resources = rs }

@@ -42,19 +42,16 @@ module _ (m : Kept) (e : NewRequest) (entry : Entry) (is : IsEntry m e entry) wh
       ap (λ serial. unwrap_or (find (is_at entry.site.key) s.resources) (new_resource serial entry.site)) is.serial
       ∙ ap (λ (x : Site). unwrap_or (find (is_at x.key) s.resources) (new_resource m.next_serial x)) is.site
 
-  at_once_is : entry.at_once ≡ is_at_once (enq_request s e) (resource_for entry s.resources)
-  at_once_is = is.at_once ∙ ap (is_at_once (enq_request s e)) (sym found_is)
-
   -- the resources once it has entered
   pub resources_are : (t : Records)
-      → ((asked : Request) → entry.at_once ≡ is_at_once asked (resource_for entry s.resources)
-      → plain_resources t ≡ resources_after_entry entry.serial entry.site entry.row asked s.resources)
-      → plain_resources t ≡ resources_after_entry m.next_serial (enq_site s e) (enq_row s e) (enq_request s e) s.resources
+      → plain_resources t ≡ resources_after_entry entry.serial entry.site entry.row entry.at_once s.resources
+      → plain_resources t ≡ resources_after_entry m.next_serial (enq_site s e) (enq_row s e) (enq_at_once s e) s.resources
   resources_are t entered =
-      entered (enq_request s e) at_once_is
-      ∙ ap (λ serial. resources_after_entry serial entry.site entry.row (enq_request s e) s.resources) is.serial
-      ∙ ap (λ (x : Site). resources_after_entry m.next_serial x entry.row (enq_request s e) s.resources) is.site
-      ∙ ap (λ x. resources_after_entry m.next_serial (enq_site s e) x (enq_request s e) s.resources) is.row
+      entered
+      ∙ ap (λ serial. resources_after_entry serial entry.site entry.row entry.at_once s.resources) is.serial
+      ∙ ap (λ (x : Site). resources_after_entry m.next_serial x entry.row entry.at_once s.resources) is.site
+      ∙ ap (λ x. resources_after_entry m.next_serial (enq_site s e) x entry.at_once s.resources) is.row
+      ∙ ap (λ b. resources_after_entry m.next_serial (enq_site s e) (enq_row s e) b s.resources) is.at_once
 
   -- the processes once it is accepted
   pub processes_are : (res : ℕ) (t u : Records) → plain_processes t ≡ s.processes → HasResource res t
@@ -92,7 +89,7 @@ module _ (m : Kept) (e : NewRequest) (entry : Entry) (is : IsEntry m e entry) wh
 
   -- the whole change
   pub entered_state : (u : Records) (next_lkid next_request next_serial : ℕ)
-      → plain_resources u ≡ resources_after_entry m.next_serial (enq_site s e) (enq_row s e) (enq_request s e) s.resources
+      → plain_resources u ≡ resources_after_entry m.next_serial (enq_site s e) (enq_row s e) (enq_at_once s e) s.resources
       → plain_processes u ≡ enq_processes s e → next_lkid ≡ m.next_lkid + 1 → next_request ≡ m.next_request + 1
       → next_serial ≡ cond (has_resource (enq_key s e) s.resources) m.next_serial (m.next_serial + 1)
       → plain_state (record { nodes = m.nodes; records = u; next_lkid = next_lkid; next_request = next_request; next_serial = next_serial }) ≡ enq_change s e

@@ -86,5 +86,5 @@ pub new_process : (m : Kept) (d : Declaration) → None ≡ declare_refusal (pla
     → IsNewProcess (next_pid (plain_state m) d.node) m.records
 new_process m d passed new p among same =
     each_stored (λ q. q.pid ≢ next_pid (plain_state m) d.node) m.records.processes
-    (new d (next_pid (plain_state m) d.node) (ap (λ refusal. (refused_or refusal (plain_state m) (step_change (plain_state m) (Declare d))).answer) (sym passed)))
+    (new d None (next_pid (plain_state m) d.node) refl (ap (λ refusal. (refused_or refusal (plain_state m) (step_change (plain_state m) (Declare d) None)).answer) (sym passed)))
     p among same

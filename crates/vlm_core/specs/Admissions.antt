@@ -16,6 +16,7 @@ use Rattle.vlm_store.specs.Records.{FindsResource, HasNoSublocks, HasProcess, Is
 use Rattle.vlm_locks.specs.declared.entering.Entry.{Entry}
 use Rattle.vlm_locks.specs.Converting.{admission_on}
 use Rattle.vlm_locks.specs.Standing.{IsStandingOf}
+use Rattle.vlm_locks.specs.Withdrawals.{plain_withdrawal}
 use Rattle.vlm_locks.specs.Withdrawing.{goes}
 use Rattle.vlm_core.specs.declared.converting.AdmittedConversion.{AdmittedConversion}
 use Rattle.vlm_core.specs.declared.dequeuing.AdmittedDequeue.{AdmittedDequeue}
@@ -69,8 +70,8 @@ pub record IsAdmittedConversion (m : Kept) (c : Conversion) (a : AdmittedConvers
 -- the dequeue is admitted so: its lock as it stands, and what is to become of it
 pub record IsAdmittedDequeue (m : Kept) (d : Dequeue) (a : AdmittedDequeue) : Type 0 where
   pub standing : IsStandingOf d.pid (dequeue_lkid (plain_state m) d) a.standing m.records
-  pub withdrawal : a.withdrawal ≡ withdrawal_of (plain_state m) d
+  pub withdrawal : plain_withdrawal a.withdrawal ≡ withdrawal_of (plain_state m) d
 
 -- a lock that the dequeue gives up has no sublocks
 abbrev pub IsChildless : Kept → AdmittedDequeue → Type 0
-IsChildless m a = goes a.withdrawal.cancels a.standing.queue ≡ true → HasNoSublocks a.standing.lock m.records
+IsChildless m a = goes a.withdrawal.stays a.standing.queue ≡ true → HasNoSublocks a.standing.lock m.records

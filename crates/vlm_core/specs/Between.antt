@@ -1,11 +1,8 @@
 -- What holds between two steps, and what a step needs of it.
-use Rattle.std.specs.Prelude.{◌≡◌, ◌≢◌, ◌≤◌, ◌<◌, ℕ, All, List, sum_by}
+use Rattle.std.specs.Prelude.{◌≡◌, ◌≢◌, ◌≤◌, ◌<◌, ℕ, All, sum_by}
 use Rattle.std.specs.List.{AllByRecursion}
-use Rattle.vlm_words.specs.declared.steps.Answer.{Answer}
-use Rattle.vlm_words.specs.declared.steps.Step.{Step}
-use Rattle.vlm_words.specs.Endings.{Ending}
 use Rattle.vlm_words.specs.Laws.{DeclarationsGiveNewIdentifications, ParentsOutliveTheirSublocks, rows_on}
-use Rattle.vlm_words.specs.Runs.{Run}
+use Rattle.vlm_words.specs.Runs.{History, Run}
 use Rattle.vlm_words.specs.Settled.{IsSettled}
 use Rattle.vlm_words.specs.State.{State}
 use Rattle.vlm_store.specs.Records.{IsResourceAmong, Records, StoredResource}
@@ -29,7 +26,5 @@ AreSettledBut res s = (r : StoredResource) → IsResourceAmong r s.resources →
 
 -- some run leads to the state
 pub record IsReachable (s : State) : Type 0 where
-  pub steps : List Step
-  pub answers : List Answer
-  pub endings : List Ending
-  pub run : Run steps answers endings s
+  pub history : History
+  pub run : Run history s

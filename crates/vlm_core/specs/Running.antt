@@ -2,14 +2,12 @@
 use Rattle.std.specs.Prelude.{◌≡◌, List, ◌++◌}
 use Rattle.vlm_words.specs.declared.steps.Answer.{Answer}
 use Rattle.vlm_words.specs.declared.steps.Step.{Step}
-use Rattle.vlm_words.specs.Endings.{Ending}
-use Rattle.vlm_words.specs.Runs.{RunFrom}
+use Rattle.vlm_words.specs.Runs.{Legal}
 use Rattle.vlm_words.specs.State.{State}
 
 -- the steps were made in order, each in the state that the one before it left, and their answers are put
 -- behind those before
 pub record Makes (old : State) (steps : List Step) (before after : List Answer) (new : State) : Type 0 where
   pub given : List Answer
-  pub endings : List Ending
-  pub run : RunFrom old steps given endings new
+  pub legal : Legal old steps given new
   pub answered : after ≡ before ++ given

@@ -1,13 +1,15 @@
 //! The step that gives a lock up, or cancels its request.
 
-ghost use Rattle.std.specs.Prelude.{◌≡◌, true, IfOk, OnOk};
+ghost use Rattle.std.specs.Prelude.{◌≡◌, ◌&&◌, None, true, not, IfOk, OnOk, if◌then◌else◌};
 ghost use Rattle.std.specs.Result.{result_err};
-ghost use Rattle.vlm_words.specs.Dequeue.{cancel_refusal, deq_change, deq_flags_refusal, deq_refusal, sublocks_refusal, withdrawal_of};
+ghost use Rattle.vlm_words.specs.Dequeue.{cancel_refusal, conversion_ending, deq_change, deq_flags_refusal, deq_refusal, sublocks_refusal, withdrawal_of};
 ghost use Rattle.vlm_words.specs.Flags.{cancel, deq_flag_bits, has_flag, invvalblk};
+ghost use Rattle.vlm_words.specs.Endings.How.{by_abort};
 ghost use Rattle.vlm_words.specs.Stepped.{Outcome};
 ghost use Rattle.vlm_store.specs.Records.{HasNoSublocks, HasResource};
 ghost use Rattle.vlm_locks.specs.Rest.{OthersStay};
 ghost use Rattle.vlm_locks.specs.Standing.{IsStanding};
+ghost use Rattle.vlm_locks.specs.Withdrawals.{plain_withdrawal};
 ghost use Rattle.vlm_locks.specs.Withdrawing.{goes};
 ghost use Rattle.vlm_core.specs.Admissions.{IsAdmittedDequeue, IsChildless};
 ghost use Rattle.vlm_core.specs.Between.{IsBetweenSteps};
@@ -15,7 +17,7 @@ ghost use Rattle.vlm_core.specs.Machine.{plain_state};
 
 use crate::flags::deq_flags;
 use crate::records::Machine;
-use vlm_locks::{Standing, Withdrawal, withdraw};
+use vlm_locks::{End, Standing, Withdrawal, withdraw};
 use vlm_words::conditions::Cond;
 use vlm_words::flags::DeqFlags;
 use vlm_words::steps::{Answer, Dequeue, Step};
@@ -85,7 +87,7 @@ impl Machine {
         ensures { result_err result ≡ cancel_refusal (plain_state self.now) dequeue.now }
     {
         self.store.known();
-        if admitted.withdrawal.cancels && admitted.standing.is_granted() {
+        if admitted.withdrawal.stays && admitted.standing.is_granted() {
             Err(Cond::Cancelgrant)
         } else {
             Ok(())
@@ -120,19 +122,30 @@ fn checked_flags(dequeue: &Dequeue) -> Result<DeqFlags, Cond>
     deq_flags(dequeue.flags).ok_or(Cond::Badparam)
 }
 
+// What the dequeue asks for: that the lock goes, or only that its request is cancelled. A cancel leaves the value
+// block as it is.
 fn withdrawal_of(lkid: u32, flags: DeqFlags, dequeue: &Dequeue) -> Withdrawal
     requires { deq_flag_bits flags ≡ dequeue.now.flags }
-    ensures { result ≡ record {
+    ensures { plain_withdrawal result ≡ record {
       lkid = lkid;
-      cancels = has_flag dequeue.now.flags cancel;
-      value = dequeue.now.value;
-      invalidates = has_flag dequeue.now.flags invvalblk;
+      waiting = by_abort;
+      converting = conversion_ending (has_flag dequeue.now.flags cancel);
+      stays = has_flag dequeue.now.flags cancel;
+      value = if has_flag dequeue.now.flags cancel then None else dequeue.now.value;
+      invalidates = has_flag dequeue.now.flags invvalblk && not (has_flag dequeue.now.flags cancel);
     } }
 {
+    let cancels = flags.has(DeqFlags::CANCEL);
     Withdrawal {
         lkid,
-        cancels: flags.has(DeqFlags::CANCEL),
-        value: dequeue.value,
-        invalidates: flags.has(DeqFlags::INVVALBLK),
+        waiting: End::Aborted,
+        converting: if cancels {
+            End::Cancelled
+        } else {
+            End::Aborted
+        },
+        stays: cancels,
+        value: if cancels { None } else { dequeue.value },
+        invalidates: flags.has(DeqFlags::INVVALBLK) && !cancels,
     }
 }

@@ -96,7 +96,7 @@ fn accept_request(store: &mut Store, entry: &Entry, res: ResAt, block: u8)
     accept(store, entry.owner, block, entry.row.lkid);
     if entry.at_once {
         let mut value_block = store.resource_record(res).value_block;
-        end_by_grant(&mut value_block, store, entry.owner, &entry.row);
+        end_by_grant(&mut value_block, store, entry.owner, &entry.row, true);
     }
 }
 

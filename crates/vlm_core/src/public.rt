@@ -1,6 +1,6 @@
 //! The core: whole steps alone.
 
-ghost use Rattle.std.specs.Prelude.{◌≡◌};
+ghost use Rattle.std.specs.Prelude.{◌≡◌, []};
 ghost use Rattle.vlm_words.specs.declared.resources.Queue.{Queue};
 ghost use Rattle.vlm_words.specs.Laws.{HeldModesAreCompatible, NothingIsLeftToGrant};
 ghost use Rattle.vlm_words.specs.State.{start};
@@ -70,13 +70,14 @@ impl Core {
     }
 
     /// The records of the core: its resources and its living processes are theirs without their keys, and
-    /// each queue of a resource is the locks that `head` and then `next` give there. No two locks of a
-    /// resource hold incompatible modes, and on none is anything left to grant.
+    /// each queue of a resource is the locks that `head` and then `next` give there; no other lock is stored. No
+    /// two locks of a resource hold incompatible modes, and on none is anything left to grant.
     pub fn store(&self) -> &Store
         ensures resources { plain_resources result.now ≡ self.now.resources }
         ensures processes { plain_processes result.now ≡ self.now.processes }
         ensures queues { (r : StoredResource) → IsResourceAmong r result.now.resources
             → (queue : Queue) → GivesInTurn r.at queue (rows_of (queued queue r)) result.now }
+        ensures none_loose { result.now.loose ≡ [] }
         ensures held { HeldModesAreCompatible self.now }
         ensures served { NothingIsLeftToGrant self.now }
     {
@@ -106,8 +107,8 @@ impl Core {
     /// Writes the value part of a status block of the caller, and nothing else (this project's own). It
     /// takes no memory and answers NORMAL. Refused by DEPARTED, NONEXPR, ACCVIO.
     pub fn set_value(&mut self, setting: ValueSetting) -> Answer
-        ensures state { self.new ≡ (stepped self.old (Step.SetValue setting)).state }
-        ensures answer { result ≡ (stepped self.old (Step.SetValue setting)).answer }
+        ensures state { self.new ≡ (stepped self.old (Step.SetValue setting) None).state }
+        ensures answer { result ≡ (stepped self.old (Step.SetValue setting) None).answer }
     {
         self.step(Step::SetValue(setting))
     }
@@ -134,8 +135,8 @@ impl Core {
     /// waits or converts, BADPARAM where QUECVT does not go with the two modes, NOLOCKID, NOTQUEUED where
     /// it must not queue and is not granted at once.
     pub fn convert(&mut self, conversion: Conversion) -> Answer
-        ensures state { self.new ≡ (stepped self.old (Step.Convert conversion)).state }
-        ensures answer { result ≡ (stepped self.old (Step.Convert conversion)).answer }
+        ensures state { self.new ≡ (stepped self.old (Step.Convert conversion) None).state }
+        ensures answer { result ≡ (stepped self.old (Step.Convert conversion) None).answer }
     {
         self.step(Step::Convert(conversion))
     }
@@ -147,8 +148,8 @@ impl Core {
     /// that is not there, IVLOCKID, CANCELGRANT where a granted lock is to be cancelled, SUBLOCKS where one
     /// that has sublocks is to be given up.
     pub fn deq(&mut self, dequeue: Dequeue) -> Answer
-        ensures state { self.new ≡ (stepped self.old (Step.Deq dequeue)).state }
-        ensures answer { result ≡ (stepped self.old (Step.Deq dequeue)).answer }
+        ensures state { self.new ≡ (stepped self.old (Step.Deq dequeue) None).state }
+        ensures answer { result ≡ (stepped self.old (Step.Deq dequeue) None).answer }
     {
         self.step(Step::Deq(dequeue))
     }

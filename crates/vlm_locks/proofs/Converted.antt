@@ -1,5 +1,5 @@
 -- What a conversion makes of the lock's resource.
-use Rattle.std.proofs.Common.{◌≡◌, ◌≢◌, true, false, [], ◌∷◌, ◌++◌, map, find, cond, Some, IfSome, refl, sym, ap, ◌∙◌, subst}
+use Rattle.std.proofs.Common.{◌≡◌, ◌≢◌, Bool, true, false, [], ◌∷◌, ◌++◌, map, find, cond, Some, IfSome, refl, sym, ap, ◌∙◌, subst}
 use Rattle.vlm_words.specs.declared.locks.Request.{Request}
 use Rattle.vlm_words.specs.declared.locks.Row.{Row}
 use Rattle.vlm_words.specs.declared.modes.Mode.{Mode}
@@ -57,12 +57,16 @@ module _ (s : Records) (sound : IsSound s) (f : Standing) (standing : IsStanding
             ap plain_processes wrote ∙ ends.statuses ∙ ap (λ b. (blocks_after (grant_endings true row) b).processes) blocks_are;
       }
 
+  -- whether it is granted at once
+  abbrev now : Request → Bool
+  now asked = converts_at_once asked f.row.lkid (plain_resource standing.resource)
+
   -- a conversion changes no other resource
   others_kept : (asked : Request) (block : ValueBlock) (x : StoredResource) → IsResourceAmong x s.resources → x.at ≢ f.res
-      → resource_after_conversion asked f.row.pid f.row.lkid block (plain_resource x) ≡ plain_resource x
+      → resource_after_conversion asked (now asked) f.row.pid f.row.lkid block (plain_resource x) ≡ plain_resource x
   unfolding resource_after_conversion
   others_kept asked block x among differs =
-      ap (resource_after_conversion_of asked f.row.lkid block (plain_resource x))
+      ap (resource_after_conversion_of asked (now asked) f.row.lkid block (plain_resource x))
       (find-absent f.row.pid f.row.lkid x.granted (absent s sound f standing x among Granted (λ e. differs (cc))))
 
   -- the lock is found in its queue
@@ -96,8 +100,8 @@ module _ (s : Records) (sound : IsSound s) (f : Standing) (standing : IsStanding
       ap (λ b. blocks_after (cond b (grant_endings true row) []) (blocks_with r.value_block (plain_processes s))) at_once in
       let block = (blocks_granted row r s).value_block in
       let left : StoredResource = record (moved_in f (granted_row row) Granted r) { value_block = block } in
-      let here : resource_after_conversion asked f.row.pid f.row.lkid block (plain_resource r) ≡ plain_resource left =
-      ap (resource_after_conversion_of asked f.row.lkid block (plain_resource r)) (found_here granted)
+      let here : resource_after_conversion asked (now asked) f.row.pid f.row.lkid block (plain_resource r) ≡ plain_resource left =
+      ap (resource_after_conversion_of asked (now asked) f.row.lkid block (plain_resource r)) (found_here granted)
       ∙ rw at_once
       (ap (λ rows. record (plain_resource r) { value_block = block; granted = rows }) (sym (joins s sound f standing (granted_row row) Granted))
       ∙ ap (λ rows. record (plain_resource left) { converting = rows; waiting = rows_of r.waiting })
@@ -107,8 +111,8 @@ module _ (s : Records) (sound : IsSound s) (f : Standing) (standing : IsStanding
       in
       record {
         resources =
-            plain_replaced f.res r left s new done.replaced (resource_after_conversion asked f.row.pid f.row.lkid block) sound here (others_kept asked block)
-            ∙ ap (λ (b : Blocks). map (resource_after_conversion asked f.row.pid f.row.lkid b.value_block) (plain_resources s)) (sym blocks_are);
+            plain_replaced f.res r left s new done.replaced (resource_after_conversion asked (now asked) f.row.pid f.row.lkid block) sound here (others_kept asked block)
+            ∙ ap (λ (b : Blocks). map (resource_after_conversion asked (now asked) f.row.pid f.row.lkid b.value_block) (plain_resources s)) (sym blocks_are);
         statuses = done.statuses ∙ ap (λ (b : Blocks). b.processes) (sym blocks_are);
       }
 
@@ -123,8 +127,8 @@ module _ (s : Records) (sound : IsSound s) (f : Standing) (standing : IsStanding
       let blocks_are : conversion_blocks (admission_on f asked r) (plain_processes s) ≡ blocks_with r.value_block (plain_processes s) =
       ap (λ b. blocks_after (cond b (grant_endings true row) []) (blocks_with r.value_block (plain_processes s))) later in
       let left : StoredResource = moved_in f row Conversion r in
-      let here : resource_after_conversion asked f.row.pid f.row.lkid r.value_block (plain_resource r) ≡ plain_resource left =
-      ap (resource_after_conversion_of asked f.row.lkid r.value_block (plain_resource r)) (found_here granted)
+      let here : resource_after_conversion asked (now asked) f.row.pid f.row.lkid r.value_block (plain_resource r) ≡ plain_resource left =
+      ap (resource_after_conversion_of asked (now asked) f.row.lkid r.value_block (plain_resource r)) (found_here granted)
       ∙ rw later
       (ap (λ rows. record (plain_resource r) { granted = rows; converting = rows_of r.converting ++ row ∷ [] }) (sym (leaves s sound f standing row Conversion Granted (λ e. cc)))
       ∙ ap (λ rows. record (plain_resource left) { converting = rows ++ row ∷ []; waiting = rows_of r.waiting }) (sym (not_in s sound f standing Conversion (elsewhere granted Conversion (λ e. cc))))
@@ -134,7 +138,7 @@ module _ (s : Records) (sound : IsSound s) (f : Standing) (standing : IsStanding
       in
       record {
         resources =
-            plain_replaced f.res r left s new replaced (resource_after_conversion asked f.row.pid f.row.lkid r.value_block) sound here (others_kept asked r.value_block)
-            ∙ ap (λ (b : Blocks). map (resource_after_conversion asked f.row.pid f.row.lkid b.value_block) (plain_resources s)) (sym blocks_are);
+            plain_replaced f.res r left s new replaced (resource_after_conversion asked (now asked) f.row.pid f.row.lkid r.value_block) sound here (others_kept asked r.value_block)
+            ∙ ap (λ (b : Blocks). map (resource_after_conversion asked (now asked) f.row.pid f.row.lkid b.value_block) (plain_resources s)) (sym blocks_are);
         statuses = statuses ∙ ap (λ (b : Blocks). b.processes) (sym blocks_are);
       }

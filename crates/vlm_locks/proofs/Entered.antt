@@ -3,11 +3,10 @@ use Rattle.std.proofs.Common.{◌≡◌, ◌≢◌, ℕ, Bool, List, [], ◌∷�
 use Rattle.std.specs.Prelude.{◌==◌}
 use Rattle.std.proofs.lemmas.Bool.{cases_eq}
 use Rattle.std.proofs.lemmas.List.{map-append}
-use Rattle.vlm_words.specs.declared.locks.Request.{Request}
 use Rattle.vlm_words.specs.declared.locks.Row.{Row}
 use Rattle.vlm_words.specs.declared.resources.Queue.{Queue}
 use Rattle.vlm_words.specs.declared.resources.Queue.TheVariants.{Granted, Conversion, Waiting}
-use Rattle.vlm_words.specs.Enqueue.{is_at_once, resource_after_entry, resources_after_entry}
+use Rattle.vlm_words.specs.Enqueue.{resource_after_entry, resources_after_entry}
 use Rattle.vlm_words.specs.Grants.{granted_row}
 use Rattle.vlm_words.specs.Resources.{new_resource}
 use Rattle.vlm_store.specs.declared.keys.Place.TheVariants.{Loose, Queued}
@@ -39,17 +38,17 @@ joined-value_block Conversion lock r = refl
 joined-value_block Waiting lock r = refl
 
 -- a request that is granted at once has its lock among the granted ones
-pub joins_granted : (at : ℕ) (row : Row) (asked : Request) (r : StoredResource) → is_at_once asked (plain_resource r) ≡ true
-    → plain_resource (joined_by Granted (record { at = at; row = granted_row row }) r) ≡ resource_after_entry row asked (plain_resource r)
+pub joins_granted : (at : ℕ) (row : Row) (at_once : Bool) (r : StoredResource) → at_once ≡ true
+    → plain_resource (joined_by Granted (record { at = at; row = granted_row row }) r) ≡ resource_after_entry row at_once (plain_resource r)
 unfolding resource_after_entry
-joins_granted at row asked r at_once =
-    rw at_once (ap (λ rows. record (plain_resource r) { granted = rows }) (map-append (λ (k : StoredLock). k.row) r.granted (record { at = at; row = granted_row row } ∷ [])))
+joins_granted at row at_once r now =
+    rw now (ap (λ rows. record (plain_resource r) { granted = rows }) (map-append (λ (k : StoredLock). k.row) r.granted (record { at = at; row = granted_row row } ∷ [])))
 
 -- a request that is not granted at once has its lock at the end of the waiting queue
-pub joins_waiting : (at : ℕ) (row : Row) (asked : Request) (r : StoredResource) → is_at_once asked (plain_resource r) ≡ false
-    → plain_resource (joined_by Waiting (record { at = at; row = row }) r) ≡ resource_after_entry row asked (plain_resource r)
+pub joins_waiting : (at : ℕ) (row : Row) (at_once : Bool) (r : StoredResource) → at_once ≡ false
+    → plain_resource (joined_by Waiting (record { at = at; row = row }) r) ≡ resource_after_entry row at_once (plain_resource r)
 unfolding resource_after_entry
-joins_waiting at row asked r queued =
+joins_waiting at row at_once r queued =
     rw queued (ap (λ rows. record (plain_resource r) { waiting = rows }) (map-append (λ (k : StoredLock). k.row) r.waiting (record { at = at; row = row } ∷ [])))
 
 -- ---- a loose lock joins one queue, with another row
@@ -108,11 +107,11 @@ on_resource-absent res left [] absent = refl
 on_resource-absent res left (x ∷ rest) absent =
     rw (ne_eqb x.at res (absent x (inl refl))) (ap (λ xs. x ∷ xs) (on_resource-absent res left rest (λ y there. absent y (inr there))))
 
-module _ (e : Entry) (asked : Request) (keyed : IsKeyed e.site.domain e.site.key) where
+module _ (e : Entry) (keyed : IsKeyed e.site.domain e.site.key) where
   -- the resource of the key is the only one that changes
   pub entered_one : (r left : StoredResource) (rs : List StoredResource) → AreKeyed rs → AreResourcesApart rs → IsResourceAmong r rs → r.key ≡ e.site.key
-      → ((x : StoredResource) → IsResourceAmong x rs → x.key ≡ e.site.key → x.at ≡ r.at) → plain_resource left ≡ resource_after_entry e.row asked (plain_resource r)
-      → map plain_resource (on_resource r.at (λ x. left) rs) ≡ resources_after_entry e.serial e.site e.row asked (map plain_resource rs)
+      → ((x : StoredResource) → IsResourceAmong x rs → x.key ≡ e.site.key → x.at ≡ r.at) → plain_resource left ≡ resource_after_entry e.row e.at_once (plain_resource r)
+      → map plain_resource (on_resource r.at (λ x. left) rs) ≡ resources_after_entry e.serial e.site e.row e.at_once (map plain_resource rs)
   entered_one r left [] all apart among same only after = absurd among
   entered_one r left (x ∷ rest) all apart among same only after =
       elim (key_cases e.site.domain e.site.key keyed x (all x (inl refl))) [
@@ -120,8 +119,8 @@ module _ (e : Entry) (asked : Request) (keyed : IsKeyed e.site.domain e.site.key
             let at : x.at ≡ r.at = only x (inl refl) here.1 in
             let is : x ≡ r = elim among [ inl is ↦ is | inr there ↦ absurd (apart.0 r there (sym at)) ] in
             rw (eq-eqb x.at r.at at, here.0)
-            (ap (λ y. y ∷ map plain_resource (on_resource r.at (λ y. left) rest)) (after ∙ ap (λ y. resource_after_entry e.row asked (plain_resource y)) (sym is))
-            ∙ ap (λ ys. resource_after_entry e.row asked (plain_resource x) ∷ map plain_resource ys)
+            (ap (λ y. y ∷ map plain_resource (on_resource r.at (λ y. left) rest)) (after ∙ ap (λ y. resource_after_entry e.row e.at_once (plain_resource y)) (sym is))
+            ∙ ap (λ ys. resource_after_entry e.row e.at_once (plain_resource x) ∷ map plain_resource ys)
             (on_resource-absent r.at left rest (λ y there there_at. apart.0 y there (there_at ∙ sym at))))
         | inr other ↦ elim among [
           | inl is ↦ absurd (other.1 (ap (λ (y : StoredResource). y.key) is ∙ same))
@@ -212,17 +211,17 @@ module _ (s : Records) (sound : IsSound s) (rest : IsAtRest s) (e : Entry) (keye
     same_at x among same = sym (sound.keys_apart found.0 x found.1.0 among (found.1.2 ∙ sym same))
 
     -- the resources are those of the plain machine
-    entered_here : (asked : Request) → plain_resource left ≡ resource_after_entry e.row asked (plain_resource found.0)
-        → plain_resources new ≡ resources_after_entry e.serial e.site e.row asked (plain_resources s)
-    entered_here asked after =
+    entered_here : plain_resource left ≡ resource_after_entry e.row e.at_once (plain_resource found.0)
+        → plain_resources new ≡ resources_after_entry e.serial e.site e.row e.at_once (plain_resources s)
+    entered_here after =
         ap (map plain_resource) new_resources ∙ ap (λ x. map plain_resource (on_resource x (λ y. left) s.resources)) (sym found.1.1)
-        ∙ entered_one e asked keyed found.0 left s.resources rest.keyed sound.resources_apart found.1.0 found.1.2 same_at after
+        ∙ entered_one e keyed found.0 left s.resources rest.keyed sound.resources_apart found.1.0 found.1.2 same_at after
 
     -- the lock has entered the resource
-    pub entered_by : IsProcess e.owner e.row.pid s → ((asked : Request) → e.at_once ≡ is_at_once asked (plain_resource found.0) → plain_resource left ≡ resource_after_entry e.row asked (plain_resource found.0))
+    pub entered_by : IsProcess e.owner e.row.pid s → plain_resource left ≡ resource_after_entry e.row e.at_once (plain_resource found.0)
         → IsEntered e res s new
     entered_by owner after = record {
-      entered = λ asked told. entered_here asked (after asked (told ∙ ap (is_at_once asked) resource_is_found));
+      entered = entered_here after;
       processes = ap (map (λ (p : StoredProcess). p.process)) new_processes ∙ processes_kept e.owner e.parent at s.processes;
       owner = (
         process_with_lock e.owner e.parent at owner.0,

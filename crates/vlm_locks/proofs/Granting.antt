@@ -7,9 +7,8 @@ use Rattle.vlm_words.specs.declared.resources.Queue.{Queue}
 use Rattle.vlm_words.specs.declared.resources.Queue.TheVariants.{Granted, Conversion, Waiting}
 use Rattle.vlm_words.specs.declared.resources.ValueBlock.{ValueBlock}
 use Rattle.vlm_words.specs.Effects.{Blocks, blocks_after, blocks_after_ending, blocks_with}
-use Rattle.vlm_words.specs.Endings.{Ending, wanted_endings}
-use Rattle.vlm_words.specs.Endings.How.{by_grant}
-use Rattle.vlm_words.specs.Grants.{Service, grant_act, grant_endings, granted_row, no_service, service_after_grant, wanted_fits}
+use Rattle.vlm_words.specs.Endings.{Ending}
+use Rattle.vlm_words.specs.Grants.{Service, grant_endings, granted_row, no_service, service_after_grant, wanted_fits}
 use Rattle.vlm_store.specs.declared.keys.Place.TheVariants.{Queued}
 use Rattle.vlm_store.specs.Records.{HasResource, IsSound, Records, SameButBlocks, StoredLock, StoredResource, Stores, first_at, locks_at, moving, plain_processes, queued, resource_at, rows_of, with_lists}
 use Rattle.vlm_locks.specs.Plain.{plain_resource}
@@ -21,17 +20,7 @@ use Rattle.vlm_locks.proofs.Moves.{IsHead, alone_here, behind, granted_first, gr
 pub blocks_after_append : (first later : List Ending) (b : Blocks) → blocks_after (first ++ later) b ≡ blocks_after later (blocks_after first b)
 blocks_after_append [] later b = refl
 blocks_after_append (ending ∷ first) later b =
-    blocks_after_append first later (blocks_after_ending ending.how ending.pid ending.request.block b)
-
--- a grant writes the same at once and from a queue
-grant_effect : (row : Row) (b : Blocks) → blocks_after (grant_endings false row) b ≡ blocks_after (grant_endings true row) b
-grant_effect row b = of_want row.want
-  where
-    of_want : (want : Option Request)
-        → blocks_after (wanted_endings (by_grant (grant_act row.held row.want)) false row.lkid row.pid want) b
-        ≡ blocks_after (wanted_endings (by_grant (grant_act row.held row.want)) true row.lkid row.pid want) b
-    of_want None = refl
-    of_want (Some request) = refl
+    blocks_after_append first later (blocks_after_ending ending b)
 
 -- what the first of a queue wants fits beside the others
 abbrev fits_first : Queue → Row → List StoredLock → StoredResource → Bool
@@ -139,7 +128,7 @@ module _ (queue : Queue) (res : ℕ) (old_block : ValueBlock) (old : Records) (b
     module _ (new_block : ValueBlock) (new : Records)
         (told : IfSome (resource_at res s.resources) (λ r. true ≡ wanted_fits_beside row.want at r))
         (moved : SameButBlocks (with_lists (moving (Queued res Granted) (record { at = at; row = granted_row row })) s) new)
-        (wrote : blocks_with new_block (plain_processes new) ≡ blocks_after (grant_endings true row) (blocks_with block (plain_processes s))) where
+        (wrote : blocks_with new_block (plain_processes new) ≡ blocks_after (grant_endings false row) (blocks_with block (plain_processes s))) where
       -- one more is granted
       pub serving_next : IsServing queue res old_block old new_block new
       serving_next =
@@ -152,7 +141,7 @@ module _ (queue : Queue) (res : ℕ) (old_block : ValueBlock) (old : Records) (b
             change = left_next old s new sound res serving.had serving.left queue at row serving.change head (granted_row row) differs moved;
             resource = sym (ap (λ (d : Service). d.resource) step) ∙ serving.resource;
             effect =
-                ap (blocks_after (service_from queue (plain_resource next)).endings) (wrote ∙ sym (grant_effect row (blocks_with block (plain_processes s))))
+                ap (blocks_after (service_from queue (plain_resource next)).endings) wrote
                 ∙ sym (blocks_after_append (grant_endings false row) (service_from queue (plain_resource next)).endings (blocks_with block (plain_processes s)))
                 ∙ sym (ap (λ (d : Service). blocks_after d.endings (blocks_with block (plain_processes s))) step)
                 ∙ serving.effect;

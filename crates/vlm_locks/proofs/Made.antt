@@ -2,10 +2,9 @@
 use Rattle.std.proofs.Common.{◌≡◌, ◌⊎◌, ℕ, List, [], ◌∷◌, ◌++◌, map, unwrap_or, Option, None, Some, IsSome, refl, sym, ap, ◌∙◌, subst, inl, inr, eq-eqb, ne_eqb, IfSome}
 use Rattle.std.specs.Option.{option_map_or}
 use Rattle.std.proofs.lemmas.Bool.{cases_eq}
-use Rattle.vlm_words.specs.declared.locks.Request.{Request}
 use Rattle.vlm_words.specs.declared.resources.Queue.{Queue}
 use Rattle.vlm_words.specs.declared.resources.Queue.TheVariants.{Granted, Conversion, Waiting}
-use Rattle.vlm_words.specs.Enqueue.{is_at_once, resources_after_entry}
+use Rattle.vlm_words.specs.Enqueue.{resources_after_entry}
 use Rattle.vlm_words.specs.Resources as plain
 use Rattle.vlm_store.specs.declared.keys.Place.{Place}
 use Rattle.vlm_store.specs.declared.keys.Place.TheVariants.{Loose, Queued}
@@ -129,13 +128,13 @@ module _ (e : Entry) (res : ℕ) (s : Records) where
         only x among same = elim (made_cases (made e res) s.resources x among) [ inl is ↦ is | inr was ↦ absurd (free x was same) ]
 
     -- its entry leaves the same resources
-    same_after : (asked : Request) → resources_after_entry e.serial e.site e.row asked (plain_resources (with_made e res s))
-        ≡ resources_after_entry e.serial e.site e.row asked (plain_resources s)
-    same_after asked = of_list s.resources rest.keyed free
+    same_after : resources_after_entry e.serial e.site e.row e.at_once (plain_resources (with_made e res s))
+        ≡ resources_after_entry e.serial e.site e.row e.at_once (plain_resources s)
+    same_after = of_list s.resources rest.keyed free
       where
         of_list : (rs : List StoredResource) → AreKeyed rs → IsKeyFree e.site.key rs
-            → resources_after_entry e.serial e.site e.row asked (map plain_resource (rs ++ made e res ∷ []))
-            ≡ resources_after_entry e.serial e.site e.row asked (map plain_resource rs)
+            → resources_after_entry e.serial e.site e.row e.at_once (map plain_resource (rs ++ made e res ∷ []))
+            ≡ resources_after_entry e.serial e.site e.row e.at_once (map plain_resource rs)
         of_list [] all free =
             elim (key_cases e.site.domain e.site.key keyed (made e res) keyed) [
               | inl here ↦ rw (here.0) refl
@@ -150,7 +149,7 @@ module _ (e : Entry) (res : ℕ) (s : Records) where
     -- the lock has entered, and its resource was made for it
     pub entered_made : (new : Records) → IsEntered e res (with_made e res s) new → IsEntered e res s new
     entered_made new entered = record {
-      entered = λ asked told. entered.entered asked (told ∙ ap (is_at_once asked) (sym same_for)) ∙ same_after asked;
+      entered = entered.entered ∙ same_after;
       processes = entered.processes;
       owner = entered.owner;
       value_block = subst (λ b. IfSome (resource_at res new.resources) (λ r. r.value_block ≡ b)) (ap (λ r. r.value_block) same_for) entered.value_block;

@@ -11,7 +11,8 @@ use Rattle.vlm_words.specs.Grants.{is_empty}
 use Rattle.vlm_words.specs.Settled.{IsSettled, IsSweptAlone, unless_vacant}
 use Rattle.vlm_words.specs.State.{Process, Resource}
 use Rattle.vlm_words.specs.Sweeps.{blocks_after_service, is_vacant, processes_after_service, resource_after_service, resources_after_sweep}
-use Rattle.vlm_store.specs.Records.{AreResourcesApart, HasResource, IsIdle, IsResourceAmong, IsSound, Records, StoredLock, StoredResource, plain_processes, queued, resource_at, rows_of, without_resource}
+use Rattle.vlm_store.specs.Records.{AreResourcesApart, HasResource, IsIdle, IsResourceAmong, IsSound, Records, StoredResource, plain_processes, queued, resource_at, rows_of, without_resource}
+use Rattle.vlm_queue.proofs.Idle.{none_shown}
 use Rattle.vlm_locks.specs.Plain.{plain_resource, plain_resources}
 use Rattle.vlm_locks.specs.Serving.{IsServed, but_service}
 use Rattle.vlm_locks.proofs.Moves.{locks_found}
@@ -132,11 +133,6 @@ module _ (res : ℕ) (processes : List Process) where
             (ap (λ z. z ∷ map plain_resource (without_resource res news)) (head ∙ ap (λ b. cond b (resource_after_service processes (plain_resource x)) (plain_resource x)) (ne_eqb x.at res differs))
             ∙ ap (λ zs. plain_resource x ∷ zs) (dropped olds news (cc) (cc)))
       ]
-
--- no lock stands in a queue that shows none
-none_shown : (locks : List StoredLock) → is_empty (rows_of locks) ≡ true → locks ≡ []
-none_shown [] none = refl
-none_shown (k ∷ rest) none = cc
 
 -- a resource whose queues are empty is vacant, and one that is vacant has empty queues
 vacant_idle : (s : Records) (res : ℕ) (r : StoredResource) → resource_at res s.resources ≡ Some r → is_vacant (plain_resource r) ≡ true → IsIdle res s

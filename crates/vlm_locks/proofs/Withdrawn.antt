@@ -7,7 +7,7 @@ use Rattle.vlm_words.specs.declared.locks.Row.{Row}
 use Rattle.vlm_words.specs.declared.resources.Queue.{Queue}
 use Rattle.vlm_words.specs.declared.resources.Queue.TheVariants.{Granted, Conversion, Waiting}
 use Rattle.vlm_words.specs.declared.resources.ValueBlock.{ValueBlock}
-use Rattle.vlm_words.specs.Dequeue.{Withdrawal, has_writer, is_held_by_writer, is_writer, resource_after_cancel, resource_after_withdrawal, resource_after_writer, resource_without, row_after_cancel, value_block_after_writer}
+use Rattle.vlm_words.specs.Withdrawals.{Withdrawal, has_writer, is_held_by_writer, is_writer, resource_after_cancel, resource_after_going, resource_after_withdrawals, resource_after_writer, resource_without, row_after_cancel, value_block_after_writer}
 use Rattle.vlm_words.specs.Rows.{rows_without}
 use Rattle.vlm_words.specs.Rows as plain
 use Rattle.vlm_words.specs.State.{Resource}
@@ -39,15 +39,27 @@ or_false : (b : Bool) → (b || false) ≡ b
 or_false true = refl
 or_false false = refl
 
--- a lock goes once it has left what it leaves in the value block
-pub left_and_gone : (w : Withdrawal) (lkid : ℕ) → w.lkid ≡ lkid → w.cancels ≡ false → (rs : List Resource)
-    → map (resource_without lkid) (map (resource_after_writer w) rs) ≡ map (resource_after_withdrawal w) rs
-left_and_gone w lkid named goes [] = refl
-left_and_gone w lkid named goes (r ∷ rs) =
-    ap (λ x. x ∷ map (resource_without lkid) (map (resource_after_writer w) rs))
-    (ap (λ k. resource_without k (resource_after_writer w r)) (sym named)
-    ∙ sym (ap (λ b. cond b (resource_after_cancel w.lkid r) (resource_without w.lkid (resource_after_writer w r))) goes))
-    ∙ ap (λ xs. resource_after_withdrawal w r ∷ xs) (left_and_gone w lkid named goes rs)
+-- a lock goes or stays once it has left what it leaves in the value block
+left_and_gone : (w : Withdrawal) (change : Resource → Resource) → ((r : Resource) → change r ≡ resource_after_going w r) → (rs : List Resource)
+    → map change (map (resource_after_writer w) rs) ≡ map (resource_after_withdrawals (w ∷ [])) rs
+left_and_gone w change going [] = refl
+left_and_gone w change going (r ∷ rs) =
+    ap (λ x. x ∷ map change (map (resource_after_writer w) rs)) (going (resource_after_writer w r))
+    ∙ ap (λ xs. resource_after_withdrawals (w ∷ []) r ∷ xs) (left_and_gone w change going rs)
+
+-- one that goes
+pub left_without : (w : Withdrawal) (lkid : ℕ) → w.lkid ≡ lkid → w.stays ≡ false → (rs : List Resource)
+    → map (resource_without lkid) (map (resource_after_writer w) rs) ≡ map (resource_after_withdrawals (w ∷ [])) rs
+left_without w lkid named goes rs =
+    left_and_gone w (resource_without lkid)
+    (λ r. ap (λ k. resource_without k r) (sym named) ∙ sym (ap (λ b. cond b (resource_after_cancel w.lkid r) (resource_without w.lkid r)) goes)) rs
+
+-- one that stays
+pub left_staying : (w : Withdrawal) (lkid : ℕ) → w.lkid ≡ lkid → w.stays ≡ true → (rs : List Resource)
+    → map (resource_after_cancel lkid) (map (resource_after_writer w) rs) ≡ map (resource_after_withdrawals (w ∷ [])) rs
+left_staying w lkid named stays rs =
+    left_and_gone w (resource_after_cancel lkid)
+    (λ r. ap (λ k. resource_after_cancel k r) (sym named) ∙ sym (ap (λ b. cond b (resource_after_cancel w.lkid r) (resource_without w.lkid r)) stays)) rs
 
 module _ (s : Records) (sound : IsSound s) (f : Standing) (standing : IsStanding f s) where
   -- the rows of the lock in its queue

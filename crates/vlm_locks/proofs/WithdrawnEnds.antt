@@ -1,20 +1,22 @@
 -- Which requests end as a lock is withdrawn.
-use Rattle.std.proofs.Common.{◌≡◌, ◌≢◌, ℕ, Bool, true, false, List, [], ◌∷◌, ◌++◌, map, flat_map, cond, Some, refl, sym, ap, ◌∙◌, inl, inr, eq-eqb, ne_eqb}
+use Rattle.std.proofs.Common.{◌≡◌, ◌≢◌, ℕ, false, List, [], ◌∷◌, ◌++◌, map, flat_map, Some, refl, sym, ap, ◌∙◌, inl, inr, eq-eqb, ne_eqb}
 use Rattle.std.proofs.lemmas.Bool.{cases_eq}
 use Rattle.std.proofs.lemmas.List.{append-nil}
 use Rattle.std.proofs.lemmas.Option.{none-some, same_Some}
-use Rattle.vlm_words.specs.declared.conditions.Cond.TheVariants.{Abort, Cancel}
+use Rattle.vlm_words.specs.declared.conditions.Cond.{Cond}
 use Rattle.vlm_words.specs.declared.locks.Request.{Request}
 use Rattle.vlm_words.specs.declared.locks.Row.{Row}
 use Rattle.vlm_words.specs.declared.resources.Queue.{Queue}
 use Rattle.vlm_words.specs.declared.resources.Queue.TheVariants.{Granted, Conversion, Waiting}
-use Rattle.vlm_words.specs.Dequeue.{Withdrawal, processes_after, queue_endings, withdrawal_endings}
-use Rattle.vlm_words.specs.Endings.{Ending, How, row_endings}
-use Rattle.vlm_words.specs.Endings.How.{by_abort, by_cancel}
+use Rattle.vlm_words.specs.Withdrawals.{Withdrawal, processes_after, queue_endings, withdrawal_endings}
+use Rattle.vlm_words.specs.Endings.{Ending, How, ending_status, row_endings}
 use Rattle.vlm_words.specs.State.{Process, Resource}
 use Rattle.vlm_words.specs.StatusBlocks.{processes_after_status}
 use Rattle.vlm_store.specs.declared.keys.Place.TheVariants.{Queued}
 use Rattle.vlm_store.specs.Records.{AreResourcesApart, IsResourceAmong, IsSound, Records, StoredResource, queued, resource_at, rows_of}
+use Rattle.vlm_locks.specs.declared.withdrawals.End.TheVariants.{Aborted, Cancelled}
+use Rattle.vlm_locks.specs.declared.withdrawals.End.{End}
+use Rattle.vlm_locks.specs.Withdrawals.{how_ended}
 use Rattle.vlm_locks.specs.Plain.{plain_resource, plain_resources}
 use Rattle.vlm_locks.specs.declared.finding.Standing.{Standing}
 use Rattle.vlm_locks.specs.Standing.{IsStanding}
@@ -44,15 +46,15 @@ ends_one ends res r (x ∷ rs) apart found none =
     ]
 
 -- how the request of a lock of this queue ends
-abbrev pub withdrawn_endings : Queue → Bool → Row → List Ending
-withdrawn_endings Granted cancels row = []
-withdrawn_endings Conversion cancels row = row_endings (cond cancels by_cancel by_abort) false row
-withdrawn_endings Waiting cancels row = row_endings by_abort false row
+abbrev pub queued_endings : Withdrawal → Queue → Row → List Ending
+queued_endings w Granted row = []
+queued_endings w Conversion row = row_endings w.converting false row
+queued_endings w Waiting row = row_endings w.waiting false row
 
-module _ (s : Records) (sound : IsSound s) (f : Standing) (standing : IsStanding f s) (cancels : Bool) where
+module _ (s : Records) (sound : IsSound s) (f : Standing) (standing : IsStanding f s) (w : Withdrawal) where
   -- the ends of the lock's requests on a resource
   abbrev ends_on : Resource → List Ending
-  ends_on r = queue_endings (cond cancels by_cancel by_abort) f.row.lkid r.converting ++ queue_endings by_abort f.row.lkid r.waiting
+  ends_on r = queue_endings w.converting f.row.lkid r.converting ++ queue_endings w.waiting f.row.lkid r.waiting
 
   -- the ends in a queue in which it does not stand
   ends_elsewhere : (how : How) (x : StoredResource) → IsResourceAmong x s.resources → (queue : Queue) → Queued x.at queue ≢ Queued f.res f.queue
@@ -67,41 +69,41 @@ module _ (s : Records) (sound : IsSound s) (f : Standing) (standing : IsStanding
       ∙ append-nil (row_endings how false f.row)
 
   -- the ends on its resource, by its queue
-  ends_own : (queue : Queue) → f.queue ≡ queue → ends_on (plain_resource standing.resource) ≡ withdrawn_endings queue cancels f.row
+  ends_own : (queue : Queue) → f.queue ≡ queue → ends_on (plain_resource standing.resource) ≡ queued_endings w queue f.row
   ends_own queue is = of_queue queue is
     where
       there : (how : How) (other : Queue) → other ≢ f.queue → queue_endings how f.row.lkid (rows_of (queued other standing.resource)) ≡ []
       there how other differs = ends_elsewhere how standing.resource (own_among s sound f standing) other (λ e. differs (cc))
 
-      of_queue : (queue : Queue) → f.queue ≡ queue → ends_on (plain_resource standing.resource) ≡ withdrawn_endings queue cancels f.row
+      of_queue : (queue : Queue) → f.queue ≡ queue → ends_on (plain_resource standing.resource) ≡ queued_endings w queue f.row
       of_queue Granted is =
-          ap (λ xs. xs ++ queue_endings by_abort f.row.lkid (rows_of standing.resource.waiting)) (there (cond cancels by_cancel by_abort) Conversion (λ e. cc))
-          ∙ there by_abort Waiting (λ e. cc)
+          ap (λ xs. xs ++ queue_endings w.waiting f.row.lkid (rows_of standing.resource.waiting)) (there w.converting Conversion (λ e. cc))
+          ∙ there w.waiting Waiting (λ e. cc)
       of_queue Conversion is =
-          ap (λ xs. queue_endings (cond cancels by_cancel by_abort) f.row.lkid (rows_of standing.resource.converting) ++ xs) (there by_abort Waiting (λ e. cc))
-          ∙ append-nil (queue_endings (cond cancels by_cancel by_abort) f.row.lkid (rows_of standing.resource.converting))
-          ∙ ends_here (cond cancels by_cancel by_abort) Conversion is
+          ap (λ xs. queue_endings w.converting f.row.lkid (rows_of standing.resource.converting) ++ xs) (there w.waiting Waiting (λ e. cc))
+          ∙ append-nil (queue_endings w.converting f.row.lkid (rows_of standing.resource.converting))
+          ∙ ends_here w.converting Conversion is
       of_queue Waiting is =
-          ap (λ xs. xs ++ queue_endings by_abort f.row.lkid (rows_of standing.resource.waiting)) (there (cond cancels by_cancel by_abort) Conversion (λ e. cc))
-          ∙ ends_here by_abort Waiting is
+          ap (λ xs. xs ++ queue_endings w.waiting f.row.lkid (rows_of standing.resource.waiting)) (there w.converting Conversion (λ e. cc))
+          ∙ ends_here w.waiting Waiting is
 
   -- of all resources only that of the lock has an end, and this is it
-  ends_are : (queue : Queue) → f.queue ≡ queue → flat_map ends_on (plain_resources s) ≡ withdrawn_endings queue cancels f.row
+  ends_are : (queue : Queue) → f.queue ≡ queue → flat_map ends_on (plain_resources s) ≡ queued_endings w queue f.row
   ends_are queue is =
       ends_one ends_on f.res standing.resource s.resources sound.resources_apart standing.found
       (λ x among differs.
-      ap (λ xs. xs ++ queue_endings by_abort f.row.lkid (rows_of x.waiting)) (ends_elsewhere (cond cancels by_cancel by_abort) x among Conversion (λ e. differs (cc)))
-      ∙ ends_elsewhere by_abort x among Waiting (λ e. differs (cc)))
+      ap (λ xs. xs ++ queue_endings w.waiting f.row.lkid (rows_of x.waiting)) (ends_elsewhere w.converting x among Conversion (λ e. differs (cc)))
+      ∙ ends_elsewhere w.waiting x among Waiting (λ e. differs (cc)))
       ∙ ends_own queue is
 
 -- so these requests end as the lock is withdrawn
 pub withdrawn_ends : (s : Records) (sound : IsSound s) (f : Standing) (standing : IsStanding f s) (w : Withdrawal) → w.lkid ≡ f.row.lkid → (queue : Queue) → f.queue ≡ queue
-    → flat_map (withdrawal_endings w) (plain_resources s) ≡ withdrawn_endings queue w.cancels f.row
+    → flat_map (withdrawal_endings w) (plain_resources s) ≡ queued_endings w queue f.row
 withdrawn_ends s sound f standing w named queue is =
-    ap (λ k. flat_map (withdrawal_endings (record w { lkid = k })) (plain_resources s)) named ∙ ends_are s sound f standing w.cancels queue is
+    ap (λ k. flat_map (withdrawal_endings (record w { lkid = k })) (plain_resources s)) named ∙ ends_are s sound f standing w queue is
 
 -- the end of what a row wants writes its status
-pub end_written : (cancels : Bool) (row : Row) (request : Request) (ps : List Process) → row.want ≡ Some request
-    → processes_after (row_endings (cond cancels by_cancel by_abort) false row) ps ≡ processes_after_status row.pid request.block (cond cancels Cancel Abort) ps
-end_written true row request ps is = rw is refl
-end_written false row request ps is = rw is refl
+pub end_written : (ended : End) (cond : Cond) (row : Row) (request : Request) (ps : List Process) → ending_status (how_ended ended) ≡ Some cond
+    → row.want ≡ Some request → processes_after (row_endings (how_ended ended) false row) ps ≡ processes_after_status row.pid request.block cond ps
+end_written Aborted cond row request ps status is = rw is (ap (λ c. processes_after_status row.pid request.block c ps) (same_Some _ _ status))
+end_written Cancelled cond row request ps status is = rw is (ap (λ c. processes_after_status row.pid request.block c ps) (same_Some _ _ status))

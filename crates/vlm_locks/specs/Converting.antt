@@ -25,8 +25,9 @@ admission_on f asked r = record {
 -- the lock is converted on its resource as the plain machine does it
 pub record IsConverted (f : Standing) (asked : Request) (r : StoredResource) (old new : Records) : Type 0 where
   pub resources : plain_resources new
-      ≡ map (resource_after_conversion asked f.row.pid f.row.lkid (conversion_blocks (admission_on f asked r) (plain_processes old)).value_block)
-      (plain_resources old)
+      ≡ map
+      (resource_after_conversion asked (admission_on f asked r).at_once f.row.pid f.row.lkid
+      (conversion_blocks (admission_on f asked r) (plain_processes old)).value_block) (plain_resources old)
   pub statuses : plain_processes new ≡ (conversion_blocks (admission_on f asked r) (plain_processes old)).processes
 
 -- the resource once this lock goes to the end of a queue, with this row

@@ -1,7 +1,6 @@
 -- The entry of a new lock into the queues of a resource.
 use Rattle.std.specs.Prelude.{◌≡◌, ℕ, List, find, unwrap_or, IfSome}
-use Rattle.vlm_words.specs.declared.locks.Request.{Request}
-use Rattle.vlm_words.specs.Enqueue.{is_at_once, resources_after_entry}
+use Rattle.vlm_words.specs.Enqueue.{resources_after_entry}
 use Rattle.vlm_words.specs.Resources.{is_at, new_resource}
 use Rattle.vlm_words.specs.State.{Resource}
 use Rattle.vlm_store.specs.Records.{HasResource, IsProcess, Records, plain_processes, resource_at}
@@ -15,8 +14,7 @@ resource_for e resources = unwrap_or (find (is_at e.site.key) resources) (new_re
 
 -- the lock has entered the resource of this key, in the queue where its request puts it, and nothing else changed
 pub record IsEntered (e : Entry) (res : ℕ) (old new : Records) : Type 0 where
-  pub entered : (asked : Request) → e.at_once ≡ is_at_once asked (resource_for e (plain_resources old))
-      → plain_resources new ≡ resources_after_entry e.serial e.site e.row asked (plain_resources old)
+  pub entered : plain_resources new ≡ resources_after_entry e.serial e.site e.row e.at_once (plain_resources old)
   pub processes : plain_processes new ≡ plain_processes old
   pub owner : IsProcess e.owner e.row.pid new
   pub value_block : IfSome (resource_at res new.resources) (λ r. r.value_block ≡ (resource_for e (plain_resources old)).value_block)

@@ -4,4 +4,5 @@ pub mod Standing
 pub mod Rest
 pub mod Entering
 pub mod Converting
+pub mod Withdrawals
 pub mod Withdrawing

@@ -68,7 +68,7 @@ fn convert_now(store: &mut Store, standing: &Standing, row: &Row)
     let mut value_block = store.resource_record(standing.res).value_block;
     let granted = Place::Queued(standing.res, Queue::Granted);
     store.move_lock(standing.lock, granted_row(*row), granted);
-    end_by_grant(&mut value_block, store, owner, row);
+    end_by_grant(&mut value_block, store, owner, row, true);
     store.set_value_block(standing.res, value_block);
 }
 

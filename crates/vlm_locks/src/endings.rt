@@ -1,29 +1,17 @@
 //! What the grant of a request writes: its status, and with VALBLK a value block.
 
-ghost use Rattle.std.specs.Prelude.{◌≡◌, true, Some};
+ghost use Rattle.std.specs.Prelude.{◌≡◌, Some};
 ghost use Rattle.vlm_words.specs.Effects.{blocks_after, blocks_with};
 ghost use Rattle.vlm_words.specs.Grants.{grant_act, grant_endings};
-ghost use Rattle.vlm_words.specs.ValueBlocks.{return_status};
 ghost use Rattle.vlm_store.specs.Records.{IsProcess, SameButBlocks, plain_processes};
 
-use vlm_procs::{end, value};
+use vlm_procs::{end, end_with_return, value};
 use vlm_store::{ProcAt, Store};
 use vlm_words::conditions::Cond;
 use vlm_words::flags::EnqFlags;
 use vlm_words::locks::{Request, Row};
 use vlm_words::modes::{Act, value_action};
 use vlm_words::resources::ValueBlock;
-
-// The status of a request that a value block of this validity is returned to.
-fn return_status(valid: bool) -> Cond
-    ensures { result ≡ return_status valid }
-{
-    if valid {
-        Cond::Normal
-    } else {
-        Cond::Valnotvalid
-    }
-}
 
 // What the grant of a request does with the value block, by what is held before.
 #[tactic(auto, unfolding(vlm_words::specs::Grants::grant_act))]
@@ -39,32 +27,36 @@ fn grant_act(held: Option<Request>, want: &Request) -> Act
     }
 }
 
-/// The request that the lock of a row wanted is granted: its status is written to the status block of
-/// the lock's process, and with VALBLK the value block is returned there, or written from there.
+/// The request that the lock of a row wanted is granted, at once or from a queue: its status is written to the
+/// status block of the lock's process, and with VALBLK the value block is returned there, or written from
+/// there.
 #[tactic(auto, unfolding(vlm_words::specs::Effects::blocks_after_return, vlm_words::specs::Effects::blocks_after_writing))]
-pub fn end_by_grant(value_block: &mut ValueBlock, store: &mut Store, at: ProcAt, row: &Row)
+pub fn end_by_grant(
+    value_block: &mut ValueBlock,
+    store: &mut Store,
+    at: ProcAt,
+    row: &Row,
+    at_once: bool,
+)
     requires { IsProcess at row.now.pid store.old }
     ensures value_block { let old = blocks_with value_block.old (plain_processes store.old)
-        in value_block.new ≡ (blocks_after (grant_endings true row.now) old).value_block }
+        in value_block.new ≡ (blocks_after (grant_endings at_once row.now) old).value_block }
     ensures statuses { let old = blocks_with value_block.old (plain_processes store.old)
-        in plain_processes store.new ≡ (blocks_after (grant_endings true row.now) old).processes }
+        in plain_processes store.new ≡ (blocks_after (grant_endings at_once row.now) old).processes }
     ensures rest { SameButBlocks store.old store.new }
 {
     let Some(request) = row.want else {
         return;
     };
     match grant_act(row.held, &request) {
-        Act::Nothing => end(store, at, request.block, Cond::Normal, None),
-        Act::Return => {
-            let status = return_status(value_block.valid);
-            end(store, at, request.block, status, Some(value_block.value));
-        }
+        Act::Nothing => end(store, at, request.block, Cond::Normal),
+        Act::Return => end_with_return(store, at, request.block, value_block),
         Act::Write => {
             *value_block = ValueBlock {
                 value: value(store, at, request.block),
                 valid: true,
             };
-            end(store, at, request.block, Cond::Normal, None);
+            end(store, at, request.block, Cond::Normal);
         }
     }
 }

@@ -1,7 +1,6 @@
 //! The entry of a new lock.
 
 ghost use Rattle.std.specs.Prelude.{◌≡◌, Some, IfOk, IfSome, OnErr, OnOk};
-ghost use Rattle.vlm_words.specs.declared.locks.Request.{Request};
 ghost use Rattle.vlm_words.specs.Enqueue.{is_at_once, resources_after_entry};
 ghost use Rattle.vlm_store.specs.Records.{FindsResource, HasResource, IsNewKey, IsNewLock, IsParentOf, IsProcess, StoredResource, plain_processes, resource_at};
 ghost use Rattle.vlm_locks.specs.Plain.{plain_resource, plain_resources};
@@ -104,10 +103,9 @@ pub fn enter(store: &mut Store, entry: &Entry) -> Result<ResAt, AllocError>
     requires parent { IsParentOf entry.now.parent entry.now.row store.old }
     requires found { FindsResource store.old entry.now.site.key entry.now.res }
     requires keyed { IsKeyed entry.now.site.domain entry.now.site.key }
-    ensures entered { OnOk result ((asked : Request)
-        → entry.now.at_once ≡ is_at_once asked (resource_for entry.now (plain_resources store.old))
-        → plain_resources store.new
-        ≡ resources_after_entry entry.now.serial entry.now.site entry.now.row asked (plain_resources store.old)) }
+    ensures entered { OnOk result (plain_resources store.new
+        ≡ resources_after_entry entry.now.serial entry.now.site entry.now.row entry.now.at_once
+        (plain_resources store.old)) }
     ensures processes { OnOk result (plain_processes store.new ≡ plain_processes store.old) }
     ensures owner { OnOk result (IsProcess entry.now.owner entry.now.row.pid store.new) }
     ensures value_block { IfOk result (λ res. IfSome (resource_at res store.new.resources) (λ r. r.value_block

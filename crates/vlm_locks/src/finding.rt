@@ -1,13 +1,15 @@
 //! Where a lock stands.
 
-ghost use Rattle.std.specs.Prelude.{◌≡◌, ◌≢◌, IfSome, is_some};
+ghost use Rattle.std.specs.Prelude.{◌≡◌, ◌≢◌, IfSome, IsSome, is_some};
 ghost use Rattle.std.specs.Bool.{OnFalse, OnTrue};
+ghost use Rattle.vlm_words.specs.declared.locks.Row.{Row};
 ghost use Rattle.vlm_words.specs.declared.resources.Queue.{Queue};
 ghost use Rattle.std.specs.List.{list_any};
 ghost use Rattle.vlm_words.specs.Checks.{holds_lock};
+ghost use Rattle.vlm_store.specs.Records.{IsStored, Stores};
 ghost use Rattle.vlm_locks.specs.Plain.{plain_resources};
 ghost use Rattle.vlm_locks.specs.Rest.{IsAtRest};
-ghost use Rattle.vlm_locks.specs.Standing.{IsStandingOf};
+ghost use Rattle.vlm_locks.specs.Standing.{IsStanding, IsStandingOf};
 
 use vlm_store::{LockAt, Place, ResAt, Store};
 use vlm_words::locks::Row;
@@ -36,21 +38,19 @@ impl Standing {
     }
 }
 
-/// Where the lock of this identification stands, if it is one of the process. None where it is not, or
-/// where no lock has the identification.
-pub fn find_lock(store: &Store, pid: u32, lkid: u32) -> Option<Standing>
-    requires { IsAtRest store.now }
-    ensures held { is_some result ≡ list_any (holds_lock pid lkid) (plain_resources store.now) }
-    ensures standing { IfSome result (λ f. IsStandingOf pid lkid f store.now) }
+/// Where a lock that is in hand stands. Between two steps each lock stands in a queue, so there is always an
+/// answer.
+pub fn standing_of(store: &Store, lock: LockAt) -> Option<Standing>
+    requires rest { IsAtRest store.now }
+    requires stored { IsStored lock store.now }
+    ensures stands { IsSome result }
+    ensures standing { IfSome result (λ f. IsStanding f store.now) }
+    ensures lock { IfSome result (λ f. f.lock ≡ lock) }
+    ensures row { IfSome result (λ f. Stores store.now lock f.row) }
+    ensures only { IfSome result (λ f. (row : Row) → Stores store.now lock row → row ≡ f.row) }
 {
     store.known();
-    let Some(lock) = store.lock(lkid) else {
-        return None;
-    };
     let record = store.lock_record(lock);
-    if record.row.pid != pid {
-        return None;
-    }
     match record.place {
         Place::Queued(res, queue) => Some(Standing {
             lock,
@@ -59,5 +59,22 @@ pub fn find_lock(store: &Store, pid: u32, lkid: u32) -> Option<Standing>
             queue,
         }),
         Place::Loose => None,
+    }
+}
+
+/// Where the lock of this identification stands, if it is one of the process. None where it is not, or
+/// where no lock has the identification.
+pub fn find_lock(store: &Store, pid: u32, lkid: u32) -> Option<Standing>
+    requires { IsAtRest store.now }
+    ensures held { is_some result ≡ list_any (holds_lock pid lkid) (plain_resources store.now) }
+    ensures standing { IfSome result (λ f. IsStandingOf pid lkid f store.now) }
+{
+    store.known();
+    let lock = store.lock(lkid)?;
+    let standing = standing_of(store, lock)?;
+    if standing.row.pid == pid {
+        Some(standing)
+    } else {
+        None
     }
 }

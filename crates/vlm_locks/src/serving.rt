@@ -1,6 +1,6 @@
 //! The service of a resource's queues.
 
-ghost use Rattle.std.specs.Prelude.{◌≡◌, ◌≢◌, IfSome, true};
+ghost use Rattle.std.specs.Prelude.{◌≡◌, ◌≢◌, IfSome, false};
 ghost use Rattle.vlm_words.specs.declared.resources.Queue.{Queue};
 ghost use Rattle.vlm_words.specs.Effects.{blocks_after, blocks_with};
 ghost use Rattle.vlm_words.specs.Grants.{grant_endings, granted_row, service};
@@ -37,12 +37,12 @@ fn grant(value_block: &mut ValueBlock, store: &mut Store, res: ResAt, lock: Lock
         in SameButBlocks
         (with_lists (moving (Place.Queued res Queue.Granted) granted) store.old) store.new }
     ensures effect { blocks_with value_block.new (plain_processes store.new)
-        ≡ blocks_after (grant_endings true row.now)
+        ≡ blocks_after (grant_endings false row.now)
         (blocks_with value_block.old (plain_processes store.old)) }
 {
     let owner = store.lock_record(lock).owner;
     store.move_lock(lock, granted_row(*row), Place::Queued(res, Queue::Granted));
-    end_by_grant(value_block, store, owner, row);
+    end_by_grant(value_block, store, owner, row, false);
 }
 
 // Grants from the front of a queue while the first lock fits. Each grant takes effect on the value block

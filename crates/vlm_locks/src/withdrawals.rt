@@ -1,36 +1,46 @@
 //! What is to become of a lock.
 
-use std::marker::Model;
+ghost use Rattle.std.specs.Prelude.{◌≡◌, Some};
+ghost use Rattle.vlm_words.specs.Endings.{ending_status};
+ghost use Rattle.vlm_locks.specs.Withdrawals.{how_ended};
 
-/// A lock goes, or only its request is cancelled.
+use vlm_words::conditions::Cond;
+
+/// How a request ends that is not granted.
+#[derive(Clone, Copy)]
+pub enum End {
+    /// With its lock.
+    Aborted,
+    /// It is cancelled.
+    Cancelled,
+}
+
+impl End {
+    /// The status of the request: ABORT or CANCEL.
+    pub(crate) fn status(self) -> Cond
+        ensures { ending_status (how_ended self) ≡ Some result }
+    {
+        match self {
+            End::Aborted => Cond::Abort,
+            End::Cancelled => Cond::Cancel,
+        }
+    }
+}
+
+/// The withdrawal of a lock: its request ends, it leaves what it may leave in the value block, and it goes, or
+/// stays at what it holds.
 #[derive(Clone, Copy)]
 pub struct Withdrawal {
     /// The identification of the lock.
     pub lkid: u32,
-    /// Only the request is cancelled: a lock that converts stays, granted as before.
-    pub cancels: bool,
-    /// Written to the value block as the lock goes, if it was held at PW or EX.
+    /// How its request ends where it waits.
+    pub waiting: End,
+    /// How its request ends where it converts.
+    pub converting: End,
+    /// A lock that converts stays, granted as before; else it goes.
+    pub stays: bool,
+    /// Written to the value block if the lock is held at PW or EX.
     pub value: Option<[u8; 16]>,
-    /// The value block is marked invalid as the lock goes, if it was held at PW or EX.
+    /// The value block is then marked invalid if the lock is held at PW or EX.
     pub invalidates: bool,
-}
-
-impl Model for Withdrawal {
-    ghost use Rattle.vlm_words.specs.Dequeue.{Withdrawal as PlainWithdrawal};
-
-    ghost Value = { PlainWithdrawal };
-
-    ghost view = { λ w. record {
-      lkid = w.lkid;
-      cancels = w.cancels;
-      value = w.value;
-      invalidates = w.invalidates;
-    } };
-
-    ghost inverse = { λ w. record {
-      lkid = w.lkid;
-      cancels = w.cancels;
-      value = w.value;
-      invalidates = w.invalidates;
-    } };
 }

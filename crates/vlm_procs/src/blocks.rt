@@ -1,12 +1,14 @@
 //! What is written to status blocks and read from them.
 
-ghost use Rattle.std.specs.Prelude.{◌≡◌, ℕ, IfNone, IfSome};
+ghost use Rattle.std.specs.Prelude.{◌≡◌, ℕ};
 ghost use Rattle.vlm_words.specs.StatusBlocks.{processes_after_acceptance, processes_after_write, status_block_at, status_block_of, status_blocks_of, processes_after_status, processes_after_return, processes_after_setting};
+ghost use Rattle.vlm_words.specs.ValueBlocks.{return_status};
 ghost use Rattle.vlm_store.specs.Records.{HasProcess, IsProcess, SameButBlocks, plain_processes};
 
 use vlm_store::{ProcAt, Store};
 use vlm_words::blocks::Block;
 use vlm_words::conditions::Cond;
+use vlm_words::resources::ValueBlock;
 
 // The status blocks of a process, of which block n stands at n - 1.
 fn status_blocks(store: &Store, at: ProcAt) -> &[Block]
@@ -96,27 +98,48 @@ pub fn set_value(store: &mut Store, at: ProcAt, number: u8, value: [u8; 16])
     write(store, at, number, Block { value, ..old });
 }
 
-/// A request of the process has ended: its status block gets the number of the condition and the value
-/// block that the request returns, if it returns one. It keeps its lock, and else its value part.
-#[tactic(auto, unfolding(vlm_words::specs::StatusBlocks::processes_after_status, vlm_words::specs::StatusBlocks::processes_after_return))]
-pub fn end(store: &mut Store, at: ProcAt, number: u8, cond: Cond, returned: Option<[u8; 16]>)
+/// A request of the process has ended: its status block gets the number of the condition, and keeps its lock
+/// and its value part.
+#[tactic(auto, unfolding(vlm_words::specs::StatusBlocks::processes_after_status))]
+pub fn end(store: &mut Store, at: ProcAt, number: u8, cond: Cond)
     requires { HasProcess at store.old }
-    ensures status { IfNone returned ((pid : ℕ) → IsProcess at pid store.old → plain_processes store.new
-        ≡ processes_after_status pid number cond (plain_processes store.old)) }
-    ensures returned { IfSome returned (λ value. (pid : ℕ) → IsProcess at pid store.old
-        → plain_processes store.new
-        ≡ processes_after_return pid number cond value (plain_processes store.old)) }
+    ensures written { (pid : ℕ) → IsProcess at pid store.old → plain_processes store.new
+        ≡ processes_after_status pid number cond (plain_processes store.old) }
     ensures rest { SameButBlocks store.old store.new }
 {
     let old = status_block_or_new(store, at, number);
-    let status = cond.number();
-    let ended = match returned {
-        Some(value) => Block {
-            status,
-            value,
-            ..old
-        },
-        None => Block { status, ..old },
+    let ended = Block {
+        status: cond.number(),
+        ..old
+    };
+    write(store, at, number, ended);
+}
+
+// The status of a request that a value block of this validity is returned to.
+fn return_status(valid: bool) -> Cond
+    ensures { result ≡ return_status valid }
+{
+    if valid {
+        Cond::Normal
+    } else {
+        Cond::Valnotvalid
+    }
+}
+
+/// A request of the process has ended, and the value block of its resource is returned: its status block gets
+/// the bytes, valid or not, and NORMAL, or VALNOTVALID where they are not. It keeps its lock.
+#[tactic(auto, unfolding(vlm_words::specs::StatusBlocks::processes_after_return))]
+pub fn end_with_return(store: &mut Store, at: ProcAt, number: u8, returned: &ValueBlock)
+    requires { HasProcess at store.old }
+    ensures written { (pid : ℕ) → IsProcess at pid store.old → plain_processes store.new
+        ≡ processes_after_return pid number returned.now (plain_processes store.old) }
+    ensures rest { SameButBlocks store.old store.new }
+{
+    let old = status_block_or_new(store, at, number);
+    let ended = Block {
+        status: return_status(returned.valid).number(),
+        value: returned.value,
+        ..old
     };
     write(store, at, number, ended);
 }

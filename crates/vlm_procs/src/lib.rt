@@ -5,4 +5,4 @@
 
 mod blocks;
 
-pub use blocks::{accept, end, set_value, status_block, value};
+pub use blocks::{accept, end, end_with_return, set_value, status_block, value};

@@ -11,7 +11,7 @@ abbrev pub IsTold : ℕ → Records → Queue → Bool → Type 0
 IsTold res s queue empty = IfSome (resource_at res s.resources) (λ r. empty ≡ is_empty (rows_of (queued queue r)))
 
 -- no lock stands in a queue that shows none
-none_shown : (locks : List StoredLock) → is_empty (rows_of locks) ≡ true → locks ≡ []
+pub none_shown : (locks : List StoredLock) → is_empty (rows_of locks) ≡ true → locks ≡ []
 none_shown [] none = refl
 none_shown (k ∷ rest) none = cc
 

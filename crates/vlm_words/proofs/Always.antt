@@ -2,6 +2,7 @@
 use Rattle.std.proofs.Common.{◌≡◌, inl, inr, List, [], ◌++◌, Option, None, Some, refl, sym, subst}
 use Rattle.std.proofs.lemmas.List.{append-nil}
 use Rattle.vlm_words.specs.declared.conditions.Cond.{Cond}
+use Rattle.vlm_words.specs.declared.locks.Row.{Row}
 use Rattle.vlm_words.specs.declared.steps.Answer.{Answer}
 use Rattle.vlm_words.specs.declared.steps.Conversion.{Conversion}
 use Rattle.vlm_words.specs.declared.steps.Declaration.{Declaration}
@@ -17,8 +18,8 @@ use Rattle.vlm_words.specs.SetValue.{set_refusal}
 use Rattle.vlm_words.specs.Enqueue.{enq_refusal}
 use Rattle.vlm_words.specs.Convert.{ConversionAdmission, convert_admission, convert_refusal}
 use Rattle.vlm_words.specs.Dequeue.{deq_refusal}
-use Rattle.vlm_words.specs.Stepped.{Outcome, Stepped, conversion_change, outcome_endings, refused_or, step_change, step_refusal, stepped, stepped_after_sweep}
-use Rattle.vlm_words.specs.Runs.{Run, begin, next}
+use Rattle.vlm_words.specs.Stepped.{IsChoice, Outcome, Stepped, conversion_change, outcome_endings, refused_or, step_change, step_refusal, stepped, stepped_after_sweep}
+use Rattle.vlm_words.specs.Runs.{History, Run, begin, next}
 use Rattle.vlm_words.proofs.Passed.{admission_passes, some_admission}
 
 -- what is said of a run: of the requests that have ended, and of the state
@@ -35,20 +36,21 @@ unchanged P endings s held = subst (λ (all : List Ending). P all s) (sym (appen
 
 -- what each made step keeps, each outcome keeps
 kept_by_outcome : (P : Said) (endings : List Ending) (old new : State) (step : Step) (answer : Answer) → P endings old
-    → HoldsAfter P endings (stepped old step) → (outcome : Outcome old step new answer) → P (endings ++ outcome_endings outcome) new
+    → ((choice : Option Row) → IsChoice old step choice → HoldsAfter P endings (stepped old step choice))
+    → (outcome : Outcome old step new answer) → P (endings ++ outcome_endings outcome) new
 kept_by_outcome P endings old new step answer held made_so (inl made) =
-    subst (P (endings ++ (stepped old step).endings)) (sym made.state) made_so
+    subst (P (endings ++ (stepped old step made.choice).endings)) (sym made.state) (made_so made.choice made.chosen)
 kept_by_outcome P endings old new step answer held made_so (inr short) = subst (P (endings ++ [])) (sym short.state) (unchanged P endings old held)
 
 -- what holds at the start and is kept by each step holds after every run
 pub always : (P : Said) → P [] start
-    → ((steps : List Step) (answers : List Answer) (endings : List Ending) (s : State) → Run steps answers endings s → P endings s
-    → (step : Step) → HoldsAfter P endings (stepped s step))
-    → (steps : List Step) (answers : List Answer) (endings : List Ending) (last : State) → Run steps answers endings last → P endings last
-always P at_start kept _ _ _ _ begin = at_start
-always P at_start kept _ _ _ last (next {steps} {answers} {endings} {old} {new} {step} {answer} run outcome) =
-    let held : P endings old = always P at_start kept steps answers endings old run in
-    kept_by_outcome P endings old new step answer held (kept steps answers endings old run held step) outcome
+    → ((history : History) (s : State) → Run history s → P history.endings s
+    → (step : Step) (choice : Option Row) → IsChoice s step choice → HoldsAfter P history.endings (stepped s step choice))
+    → (history : History) (last : State) → Run history last → P history.endings last
+always P at_start kept _ _ begin = at_start
+always P at_start kept _ last (next {history} {old} {new} {step} {answer} run outcome) =
+    let held : P history.endings old = always P at_start kept history old run in
+    kept_by_outcome P history.endings old new step answer held (kept history old run held step) outcome
 
 -- a refusal keeps what was said, and a change that is swept keeps what it keeps
 kept_by_refused_or : (P : Said) (endings : List Ending) (refusal : Option Cond) (old : State) (change : Stepped) → P endings old
@@ -62,23 +64,23 @@ admission_of s c passed = some_admission s c (convert_admission s c) (admission_
 
 -- what is kept where each kind of step is made, every step keeps
 pub kept_by_stepped : (P : Said) (endings : List Ending) (s : State) → P endings s
-    → ((d : Declaration) → declare_refusal s d ≡ None → HoldsAfter P endings (stepped_after_sweep (step_change s (Declare d))))
-    → ((v : ValueSetting) → set_refusal s v ≡ None → HoldsAfter P endings (stepped_after_sweep (step_change s (SetValue v))))
-    → ((e : NewRequest) → enq_refusal s e ≡ None → HoldsAfter P endings (stepped_after_sweep (step_change s (Enq e))))
+    → ((d : Declaration) → declare_refusal s d ≡ None → HoldsAfter P endings (stepped_after_sweep (step_change s (Declare d) None)))
+    → ((v : ValueSetting) → set_refusal s v ≡ None → HoldsAfter P endings (stepped_after_sweep (step_change s (SetValue v) None)))
+    → ((e : NewRequest) → enq_refusal s e ≡ None → HoldsAfter P endings (stepped_after_sweep (step_change s (Enq e) None)))
     → ((c : Conversion) (a : ConversionAdmission) → convert_refusal s c ≡ None → convert_admission s c ≡ Some a
     → HoldsAfter P endings (stepped_after_sweep (conversion_change s c (Some a))))
-    → ((d : Dequeue) → deq_refusal s d ≡ None → HoldsAfter P endings (stepped_after_sweep (step_change s (Deq d))))
-    → (step : Step) → HoldsAfter P endings (stepped s step)
-kept_by_stepped P endings s held declare set enq convert deq step =
-    kept_by_refused_or P endings (step_refusal s step) s (step_change s step) held (each_kind step)
+    → ((d : Dequeue) → deq_refusal s d ≡ None → HoldsAfter P endings (stepped_after_sweep (step_change s (Deq d) None)))
+    → (step : Step) (choice : Option Row) → IsChoice s step choice → HoldsAfter P endings (stepped s step choice)
+kept_by_stepped P endings s held declare set enq convert deq step choice chosen =
+    kept_by_refused_or P endings (step_refusal s step) s (step_change s step choice) held (each_kind step)
   where
-    converts : (c : Conversion) → convert_refusal s c ≡ None → HoldsAfter P endings (stepped_after_sweep (step_change s (Convert c)))
+    converts : (c : Conversion) → convert_refusal s c ≡ None → HoldsAfter P endings (stepped_after_sweep (step_change s (Convert c) choice))
     converts c passed =
         let admitted = admission_of s c passed in
         subst (λ (a : Option ConversionAdmission). HoldsAfter P endings (stepped_after_sweep (conversion_change s c a))) (sym admitted.1)
         (convert c admitted.0 passed admitted.1)
 
-    each_kind : (kind : Step) → step_refusal s kind ≡ None → HoldsAfter P endings (stepped_after_sweep (step_change s kind))
+    each_kind : (kind : Step) → step_refusal s kind ≡ None → HoldsAfter P endings (stepped_after_sweep (step_change s kind choice))
     each_kind (Declare d) passed = declare d passed
     each_kind (SetValue v) passed = set v passed
     each_kind (Enq e) passed = enq e passed

@@ -4,20 +4,18 @@ use Rattle.std.specs.Prelude.{◌==◌}
 use Rattle.std.specs.List.{sum_by}
 use Rattle.std.proofs.lemmas.Bool.Decides.{nat_tests}
 use Rattle.vlm_words.specs.declared.locks.Row.{Row}
-use Rattle.vlm_words.specs.declared.steps.Answer.{Answer}
-use Rattle.vlm_words.specs.declared.steps.Step.{Step}
 use Rattle.vlm_words.specs.State.{Resource, State}
-use Rattle.vlm_words.specs.Endings.{Ending}
 use Rattle.vlm_words.specs.Declare.{declare_change}
 use Rattle.vlm_words.specs.SetValue.{set_change}
 use Rattle.vlm_words.specs.Enqueue.{enq_change}
 use Rattle.vlm_words.specs.Convert.{convert_blocks, convert_change, convert_lkid, resource_after_conversion}
-use Rattle.vlm_words.specs.Dequeue.{deq_change, resource_after_withdrawal, withdrawal_of}
-use Rattle.vlm_words.specs.Runs.{Run}
+use Rattle.vlm_words.specs.Dequeue.{deq_change, withdrawals_of}
+use Rattle.vlm_words.specs.Withdrawals.{resource_after_withdrawals}
+use Rattle.vlm_words.specs.Runs.{History, Run}
 use Rattle.vlm_words.specs.Laws.{IdentificationsAreApart}
 use Rattle.vlm_words.proofs.Always.{always, kept_by_stepped}
 use Rattle.vlm_words.proofs.Weights.{weigh}
-use Rattle.vlm_words.proofs.Moves.{IsByName, changed_named, converted_named, dequeued_named, entered_named, swept_named}
+use Rattle.vlm_words.proofs.Moves.{IsByName, changed_named, converted_named, withdrawn_named, entered_named, swept_named}
 
 -- 1 for a row of this lock
 abbrev pub stands : ℕ → Row → ℕ
@@ -59,28 +57,28 @@ one_more_apart s t apart next more = record {
 }
 
 -- after every run no two rows have the same identification
-pub apart_always : (steps : List Step) (answers : List Answer) (endings : List Ending) (last : State)
-    → Run steps answers endings last → Apart last
+pub apart_always : (history : History) (last : State)
+    → Run history last → Apart last
 unfolding declare_change set_change enq_change convert_change deq_change
 apart_always =
     always (λ _ s. Apart s) (record { one_row = λ lkid. omega arith; none_is_0 = refl; none_to_come = λ lkid _. refl; first = omega arith })
-    (λ _ _ endings s _ apart.
-    kept_by_stepped (λ _ t. Apart t) endings s apart
+    (λ history s _ apart.
+    kept_by_stepped (λ _ t. Apart t) history.endings s apart
     (λ d _. fewer_apart s _ apart refl (λ lkid. omega (arith, swept_named (stands lkid) (stands_named lkid) (declare_change s d).processes s.resources)))
     (λ v _. fewer_apart s _ apart refl (λ lkid. omega (arith, swept_named (stands lkid) (stands_named lkid) (set_change s v).processes s.resources)))
     (λ e _. one_more_apart s _ apart refl (λ lkid. entered_named (stands lkid) (stands_named lkid) s e))
     (λ c a _ _. fewer_apart s _ apart refl
     (λ lkid. changed_named (stands lkid) (stands_named lkid)
-    (resource_after_conversion a.request c.pid (convert_lkid s c) (convert_blocks s c a).value_block)
-    (converted_named (stands lkid) (stands_named lkid) a.request c.pid (convert_lkid s c) (convert_blocks s c a).value_block)
+    (resource_after_conversion a.request a.at_once c.pid (convert_lkid s c) (convert_blocks s c a).value_block)
+    (converted_named (stands lkid) (stands_named lkid) a.request a.at_once c.pid (convert_lkid s c) (convert_blocks s c a).value_block)
     (convert_change s c a).processes s.resources))
     (λ d _. fewer_apart s _ apart refl
-    (λ lkid. changed_named (stands lkid) (stands_named lkid) (resource_after_withdrawal (withdrawal_of s d))
-    (dequeued_named (stands lkid) (stands_named lkid) (withdrawal_of s d)) (deq_change s d).processes s.resources)))
+    (λ lkid. changed_named (stands lkid) (stands_named lkid) (resource_after_withdrawals (withdrawals_of s d))
+    (withdrawn_named (stands lkid) (stands_named lkid) (withdrawals_of s d)) (deq_change s d).processes s.resources)))
 
 -- after every run identifications are apart
-pub identifications_always : (steps : List Step) (answers : List Answer) (endings : List Ending) (last : State)
-    → Run steps answers endings last → IdentificationsAreApart last
-identifications_always steps answers endings last run =
-    let apart : Apart last = apart_always steps answers endings last run in
+pub identifications_always : (history : History) (last : State)
+    → Run history last → IdentificationsAreApart last
+identifications_always history last run =
+    let apart : Apart last = apart_always history last run in
     record { one_row = apart.one_row; none_is_0 = apart.none_is_0; none_to_come = apart.none_to_come }

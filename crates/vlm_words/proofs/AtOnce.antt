@@ -14,15 +14,14 @@ use Rattle.vlm_words.specs.declared.modes.Mode.{Mode}
 use Rattle.vlm_words.specs.declared.resources.Domain.{Domain}
 use Rattle.vlm_words.specs.declared.resources.Domain.TheVariants.{Group, System}
 use Rattle.vlm_words.specs.declared.resources.Key.{Key}
-use Rattle.vlm_words.specs.declared.steps.Answer.{Answer}
 use Rattle.vlm_words.specs.declared.steps.Conversion.{Conversion}
+use Rattle.vlm_words.specs.declared.steps.Dequeue.{Dequeue}
 use Rattle.vlm_words.specs.declared.steps.NewRequest.{NewRequest}
 use Rattle.vlm_words.specs.declared.steps.Step.TheVariants.{Declare, SetValue, Enq, Convert, Deq, Rundown, Leave, Search, Take}
 use Rattle.vlm_words.specs.declared.steps.Step.{Step}
-use Rattle.vlm_words.specs.Flags.{expedite, flag_bits, has_flag, quecvt, system}
+use Rattle.vlm_words.specs.Flags.{cancel, expedite, flag_bits, has_flag, quecvt, system}
 use Rattle.vlm_words.specs.State.{Process, Resource, State, process_of}
 use Rattle.vlm_words.specs.Endings.{Ending, How, row_endings, wanted_endings}
-use Rattle.vlm_words.specs.Endings.How.{by_abort, by_cancel}
 use Rattle.vlm_words.specs.Grants.{fits, grant_endings, is_beside, is_empty}
 use Rattle.vlm_words.specs.Sweeps.{sweep_endings}
 use Rattle.vlm_words.specs.Rows.{is_lock_of, rows_of, rows_without}
@@ -31,9 +30,10 @@ use Rattle.vlm_words.specs.Checks.{holds_lock}
 use Rattle.vlm_words.specs.Trees.{caller_group, enq_site, parent_lkid, parent_resource, root_domain, site_below}
 use Rattle.vlm_words.specs.Enqueue.{enq_at_once, enq_key, enq_refusal, enq_request, enq_resource, enq_row, is_at_once, is_free_for}
 use Rattle.vlm_words.specs.Convert.{ConversionAdmission, admission_among, admission_or, conversion_endings, convert_admission, convert_lkid, convert_request, converts_at_once, wanting_row}
-use Rattle.vlm_words.specs.Dequeue.{Withdrawal, queue_endings, withdrawal_endings, withdrawal_of}
-use Rattle.vlm_words.specs.Stepped.{Stepped, conversion_change, refused_or, step_change, step_refusal, stepped, stepped_after_sweep}
-use Rattle.vlm_words.specs.Runs.{Run}
+use Rattle.vlm_words.specs.Dequeue.{conversion_ending, deq_endings, withdrawal_of}
+use Rattle.vlm_words.specs.Withdrawals.{Withdrawal, queue_endings, withdrawal_endings}
+use Rattle.vlm_words.specs.Stepped.{IsChoice, Stepped, conversion_change, refused_or, step_change, step_refusal, stepped, stepped_after_sweep}
+use Rattle.vlm_words.specs.Runs.{History, Run}
 use Rattle.vlm_words.specs.Laws.{ConvertsInTurn, EntersInTurn, GrantsFollowQueueOrder, IsAskedFor, IsBeside, IsFreeFor, IsGrant, IsGrantedInTurn, IsRootDomain, Stands, StandsAsAskedFor, SweptInOrder}
 use Rattle.vlm_words.specs.Lines.{behind}
 use Rattle.vlm_words.proofs.Each.{Any-none, Any-cases, Found, found_at, each_append, each_passes, each_weaker}
@@ -46,6 +46,7 @@ use Rattle.vlm_words.proofs.Weights.{weigh}
 use Rattle.vlm_words.proofs.Apart.{Apart, apart_always, stands, standing}
 use Rattle.vlm_words.proofs.Counts.{found_stands}
 use Rattle.vlm_words.proofs.Keys.{Placed, HaveTwoKeys, enq_keyed, one_key, placed_always}
+use Rattle.vlm_words.proofs.Withdrawing.{one_ends}
 use Rattle.vlm_words.proofs.Holders.{IsHolder, only_holder}
 use Rattle.vlm_words.proofs.InOrder.{sweep_in_order}
 
@@ -80,7 +81,7 @@ free_for request r free =
     }
 
 -- where keys are apart, a resource under the key is the one that is found
-found_under : (domain : Domain) (key : Key) → IsKeyed domain key → (resources : List Resource) → EachPair HaveTwoKeys resources
+pub found_under : (domain : Domain) (key : Key) → IsKeyed domain key → (resources : List Resource) → EachPair HaveTwoKeys resources
     → AllByRecursion (λ r. is_at key r ≡ true → find (is_at key) resources ≡ Some r) resources
 found_under domain key keyed [] apart = tt
 found_under domain key keyed (r ∷ rest) apart =
@@ -99,7 +100,7 @@ found_under domain key keyed (r ∷ rest) apart =
     )
 
 -- the process that is found has the identification that is looked for
-found_pid : (pid : ℕ) (processes : List Process) (p : Process) → process_of processes pid ≡ Some p → p.pid ≡ pid
+pub found_pid : (pid : ℕ) (processes : List Process) (p : Process) → process_of processes pid ≡ Some p → p.pid ≡ pid
 found_pid pid processes p is = eqb-true p.pid pid (found_at (λ (x : Process). x.pid == pid) processes p is).passes
 
 -- the domain of a root is the one that is asked for
@@ -109,11 +110,11 @@ in_root_domain s e caller lives domain true is = rw is refl
 in_root_domain s e caller lives domain false is = rw is (rw lives (eq-eqb caller.group caller.group refl))
 
 -- no successor is 0
-no_zero : (n : ℕ) → (suc n == 0) ≡ false
+pub no_zero : (n : ℕ) → (suc n == 0) ≡ false
 no_zero n = elim (eqb_tells (suc n) 0) [ inl same ↦ absurd (omega (arith, same.1)) | inr differs ↦ differs.0 ]
 
 -- the resource of the parent lock, by its identification
-parent_by_lkid : (s : State) (e : NewRequest) (lkid : ℕ) → parent_lkid s e ≡ lkid
+pub parent_by_lkid : (s : State) (e : NewRequest) (lkid : ℕ) → parent_lkid s e ≡ lkid
     → parent_resource s e.pid (parent_lkid s e) ≡ cond (lkid == 0) None (find (holds_lock e.pid lkid) s.resources)
 unfolding parent_resource
 parent_by_lkid s e lkid is = ap (λ (n : ℕ). cond (n == 0) None (find (holds_lock e.pid n) s.resources)) is
@@ -141,7 +142,7 @@ asked_at s e r apart asked = of_lkid (parent_lkid s e) refl asked.stands
         (rw (eq-eqb r.parent up.holder.serial up.so) ((bytes_decides r.name e.name).1 asked.name))
 
 -- a new request that is granted at once overtakes nobody, or is expedited at NL
-enters_in_turn : (s : State) (e : NewRequest) → Apart s → Placed s → enq_refusal s e ≡ None → enq_at_once s e ≡ true → EntersInTurn s e
+pub enters_in_turn : (s : State) (e : NewRequest) → Apart s → Placed s → enq_refusal s e ≡ None → enq_at_once s e ≡ true → EntersInTurn s e
 unfolding is_at_once enq_resource
 enters_in_turn s e apart placed passed at_once =
     ⊎_elim (λ flagged. inr (flagged, expedited_is_null s e passed flagged))
@@ -189,7 +190,7 @@ admitted_stands request pid lkid a (r ∷ rest) admitted =
         )
 
 -- where a lock has one row, the resource where it is granted is that of its conversion
-only_there : (request : Request) (pid lkid : ℕ) (a : ConversionAdmission) (resources : List Resource) → standing lkid resources ≤ 1
+pub only_there : (request : Request) (pid lkid : ℕ) (a : ConversionAdmission) (resources : List Resource) → standing lkid resources ≤ 1
     → admission_among request pid lkid resources ≡ Some a
     → AllByRecursion (λ r. Stands lkid r.granted → r ≡ a.resource) resources
 only_there request pid lkid a [] one admitted = tt
@@ -250,7 +251,7 @@ not_this lkid row other =
     elim (eqb_tells row.lkid lkid) [ inl same ↦ absurd (other same.1) | inr differs ↦ ap not differs.0 ]
 
 -- a conversion that is granted at once fits beside all other locks, and with QUECVT overtakes no conversion
-converts_in_turn : (c : Conversion) (request : Request) (lkid : ℕ) (r : Resource) → request.mode ≡ c.mode → flag_bits request.flags ≡ c.flags
+pub converts_in_turn : (c : Conversion) (request : Request) (lkid : ℕ) (r : Resource) → request.mode ≡ c.mode → flag_bits request.flags ≡ c.flags
     → converts_at_once request lkid r ≡ true → ConvertsInTurn c lkid r
 unfolding converts_at_once fits
 converts_in_turn c request lkid r mode flags at_once =
@@ -283,7 +284,7 @@ conversion_in_turn : (s : State) (c : Conversion) (a : ConversionAdmission) → 
 unfolding convert_admission
 conversion_in_turn s c a apart admitted =
     cond_both a.at_once (grant_endings true (wanting_row a.row a.request)) [] (AllByRecursion (InTurn s (Convert c)))
-    (λ at_once. ((λ _. (refl, (ap (λ (q : Request). q.number) asks, turns at_once))), tt)) (λ _. tt)
+    (λ at_once. ((λ _. (refl, (ap (λ (q : Request). q.number) asks, ap (λ (q : Request). q.mode) asks, named, turns at_once))), tt)) (λ _. tt)
   where
     asks : a.request ≡ convert_request s c
     asks = admitted_request (convert_request s c) c.pid (convert_lkid s c) a s.resources admitted
@@ -316,54 +317,60 @@ ended_in_turn s step how withdrawn (row ∷ rows) =
     here None = tt
     here (Some request) = ((λ grant. absurd (withdrawn grant)), tt)
 
--- a dequeue grants nothing at once
-withdrawal_in_turn : (s : State) (step : Step) (w : Withdrawal) (resources : List Resource)
+-- a withdrawal that grants nothing, as none does, ends nothing out of turn
+withdrawal_in_turn : (s : State) (step : Step) (w : Withdrawal) → (IsGrant w.waiting → ⊥) → (IsGrant w.converting → ⊥) → (resources : List Resource)
     → AllByRecursion (InTurn s step) (flat_map (withdrawal_endings w) resources)
-withdrawal_in_turn s step w [] = tt
-withdrawal_in_turn s step w (r ∷ rest) =
+withdrawal_in_turn s step w waiting converting [] = tt
+withdrawal_in_turn s step w waiting converting (r ∷ rest) =
     each_append (InTurn s step) (withdrawal_endings w r) (flat_map (withdrawal_endings w) rest)
-    (each_append (InTurn s step) (queue_endings (cond w.cancels by_cancel by_abort) w.lkid r.converting) (queue_endings by_abort w.lkid r.waiting)
-    (ended_in_turn s step (cond w.cancels by_cancel by_abort) (no_grant w.cancels) (rows_of w.lkid r.converting))
-    (ended_in_turn s step by_abort (λ grant. grant) (rows_of w.lkid r.waiting))) (withdrawal_in_turn s step w rest)
+    (each_append (InTurn s step) (queue_endings w.converting w.lkid r.converting) (queue_endings w.waiting w.lkid r.waiting)
+    (ended_in_turn s step w.converting converting (rows_of w.lkid r.converting))
+    (ended_in_turn s step w.waiting waiting (rows_of w.lkid r.waiting))) (withdrawal_in_turn s step w waiting converting rest)
+
+-- a dequeue grants nothing at once
+dequeue_in_turn : (s : State) (d : Dequeue) → AllByRecursion (InTurn s (Deq d)) (deq_endings s d)
+dequeue_in_turn s d =
+    subst (AllByRecursion (InTurn s (Deq d))) (sym (one_ends (withdrawal_of s d) s.resources))
+    (withdrawal_in_turn s (Deq d) (withdrawal_of s d) (λ grant. grant) (no_grant (has_flag d.flags cancel)) s.resources)
   where
-    no_grant : (b : Bool) → IsGrant (cond b by_cancel by_abort) → ⊥
+    no_grant : (cancels : Bool) → IsGrant (conversion_ending cancels) → ⊥
     no_grant true grant = grant
     no_grant false grant = grant
 
 -- the endings of each kind of step that is made are in their turn
-each_in_turn : (s : State) → Apart s → Placed s → (step : Step) → step_refusal s step ≡ None
-    → AllByRecursion (InTurn s step) (step_change s step).endings
-each_in_turn s apart placed (Declare d) passed = tt
-each_in_turn s apart placed (SetValue v) passed = tt
-each_in_turn s apart placed (Enq e) passed =
+each_in_turn : (s : State) → Apart s → Placed s → (step : Step) (choice : Option Row) → step_refusal s step ≡ None
+    → AllByRecursion (InTurn s step) (step_change s step choice).endings
+each_in_turn s apart placed (Declare d) choice passed = tt
+each_in_turn s apart placed (SetValue v) choice passed = tt
+each_in_turn s apart placed (Enq e) choice passed =
     cond_both (enq_at_once s e) (grant_endings true (enq_row s e)) [] (AllByRecursion (InTurn s (Enq e)))
-    (λ at_once. ((λ _. (refl, (refl, enters_in_turn s e apart placed passed at_once))), tt)) (λ _. tt)
-each_in_turn s apart placed (Convert c) passed =
+    (λ at_once. ((λ _. (refl, (refl, refl, refl, enters_in_turn s e apart placed passed at_once))), tt)) (λ _. tt)
+each_in_turn s apart placed (Convert c) choice passed =
     let admitted = admission_of s c passed in
     subst (λ (a : Option ConversionAdmission). AllByRecursion (InTurn s (Convert c)) (conversion_change s c a).endings) (sym admitted.1)
     (conversion_in_turn s c admitted.0 apart admitted.1)
-each_in_turn s apart placed (Deq d) passed = withdrawal_in_turn s (Deq d) (withdrawal_of s d) s.resources
-each_in_turn s apart placed (Rundown pid) passed = tt
-each_in_turn s apart placed (Leave node) passed = tt
-each_in_turn s apart placed (Search node) passed = tt
-each_in_turn s apart placed (Take pid) passed = tt
+each_in_turn s apart placed (Deq d) choice passed = dequeue_in_turn s d
+each_in_turn s apart placed (Rundown pid) choice passed = tt
+each_in_turn s apart placed (Leave node) choice passed = tt
+each_in_turn s apart placed (Search node) choice passed = tt
+each_in_turn s apart placed (Take pid) choice passed = tt
 
 -- a step that is made grants in the order of the queues
-follows_queue_order : (s : State) → Apart s → Placed s → (step : Step) → step_refusal s step ≡ None → GrantsFollowQueueOrder s step
-follows_queue_order s apart placed step passed =
-    let change : Stepped = step_change s step in
-    let made : stepped s step ≡ stepped_after_sweep change = ap (λ (refusal : Option Cond). refused_or refusal s change) passed in
+follows_queue_order : (s : State) → Apart s → Placed s → (step : Step) (choice : Option Row) → step_refusal s step ≡ None → GrantsFollowQueueOrder s step choice
+follows_queue_order s apart placed step choice passed =
+    let change : Stepped = step_change s step choice in
+    let made : stepped s step choice ≡ stepped_after_sweep change = ap (λ (refusal : Option Cond). refused_or refusal s change) passed in
     record {
       swept_endings = sweep_endings change.state.resources;
       swept =
           subst (λ (t : Stepped). SweptInOrder change.state.resources t.state.resources (sweep_endings change.state.resources)) (sym made)
           (sweep_in_order change.state.processes change.state.resources);
       ends = ap (λ (t : Stepped). t.endings) made;
-      at_once = All-from_recursion (InTurn s step) change.endings (each_in_turn s apart placed step passed);
+      at_once = All-from_recursion (InTurn s step) change.endings (each_in_turn s apart placed step choice passed);
     }
 
 -- after every run
-pub queue_order_always : (steps : List Step) (answers : List Answer) (endings : List Ending) (old : State) → Run steps answers endings old
-    → (step : Step) → step_refusal old step ≡ None → GrantsFollowQueueOrder old step
-queue_order_always steps answers endings old run =
-    follows_queue_order old (apart_always steps answers endings old run) (placed_always steps answers endings old run)
+pub queue_order_always : (history : History) (old : State) → Run history old
+    → (step : Step) (choice : Option Row) → IsChoice old step choice → step_refusal old step ≡ None → GrantsFollowQueueOrder old step choice
+queue_order_always history old run step choice chosen =
+    follows_queue_order old (apart_always history old run) (placed_always history old run) step choice

@@ -10,16 +10,17 @@ use Rattle.vlm_words.specs.declared.locks.Row.{Row}
 use Rattle.vlm_words.specs.declared.resources.ValueBlock.{ValueBlock}
 use Rattle.vlm_words.specs.State.{Process, Resource}
 use Rattle.vlm_words.specs.Endings.{Ending, How, row_endings, wanted_endings}
-use Rattle.vlm_words.specs.Endings.How.{by_abort, by_cancel, by_grant}
+use Rattle.vlm_words.specs.Endings.How.{by_grant}
 use Rattle.vlm_words.specs.Effects.{with_value_block}
 use Rattle.vlm_words.specs.Grants.{grant_act, grant_endings, granted_row, resource_after_grant}
 use Rattle.vlm_words.specs.Sweeps.{resources_after_sweep, sweep_endings}
 use Rattle.vlm_words.specs.Rows.{is_lock_of, rows_of, rows_without}
-use Rattle.vlm_words.specs.Convert.{converts_at_once, resource_after_conversion_of, resource_without_granted, wanting_row}
-use Rattle.vlm_words.specs.Dequeue.{Withdrawal, is_held_by_writer, queue_endings, resource_after_cancel, resource_after_withdrawal, resource_after_writer, resource_without, row_after_cancel, value_block_after_writer, withdrawal_endings}
+use Rattle.vlm_words.specs.Convert.{resource_after_conversion_of, resource_without_granted, wanting_row}
+use Rattle.vlm_words.specs.Withdrawals.{resource_after_going, withdrawn_endings, Withdrawal, is_held_by_writer, queue_endings, resource_after_cancel, resource_after_withdrawals, resource_without, row_after_cancel, value_block_after_writer, withdrawal_endings}
 use Rattle.vlm_words.specs.Laws.{IsHeld, times_ended, wanting_on, wants_number}
 use Rattle.vlm_words.proofs.Each.{Found, each_filter, each_weaker}
-use Rattle.vlm_words.proofs.RowsFit.{Fit}
+use Rattle.vlm_words.proofs.RowsFit.{Fit, same_fit}
+use Rattle.vlm_words.proofs.Withdrawing.{one_ends}
 use Rattle.vlm_words.proofs.Sums.{found-le-sum, sum_changed, sum_of_one, sum_of_zeros}
 use Rattle.vlm_words.proofs.Weights.{GrantKeeps, swept_weighs}
 use Rattle.vlm_words.proofs.Apart.{stands}
@@ -87,71 +88,65 @@ settling_wants_nothing number (row ∷ rows) =
     omega (arith, settling_wants_nothing number rows, sum_by-cons (wants number) (row_after_cancel row) (map row_after_cancel rows))
 
 -- a lock that goes ends its request
-without_counts : (number lkid : ℕ) (r : Resource) → Fit r
-    → wanting_on number (resource_without lkid r) + times_ended number (queue_endings by_abort lkid r.converting ++ queue_endings by_abort lkid r.waiting)
-    ≡ wanting_on number r
+without_counts : (number : ℕ) (w : Withdrawal) (r : Resource) → Fit r
+    → wanting_on number (resource_without w.lkid r) + times_ended number (withdrawal_endings w r) ≡ wanting_on number r
 unfolding resource_without
-without_counts number lkid r fit =
+without_counts number w r fit =
     omega (
       arith,
       settled_want_nothing number r.granted fit.granted,
-      settled_want_nothing number (rows_without lkid r.granted) (each_filter IsHeld _ r.granted fit.granted),
-      queue_ends number by_abort lkid r.converting,
-      queue_ends number by_abort lkid r.waiting,
-      sum_by-append (ends number) (queue_endings by_abort lkid r.converting) (queue_endings by_abort lkid r.waiting),
+      settled_want_nothing number (rows_without w.lkid r.granted) (each_filter IsHeld _ r.granted fit.granted),
+      queue_ends number w.converting w.lkid r.converting,
+      queue_ends number w.waiting w.lkid r.waiting,
+      sum_by-append (ends number) (queue_endings w.converting w.lkid r.converting) (queue_endings w.waiting w.lkid r.waiting),
     )
 
--- a cancel ends the request of its lock
-cancelled_counts : (number lkid : ℕ) (r : Resource)
-    → wanting_on number (resource_after_cancel lkid r) + times_ended number (queue_endings by_cancel lkid r.converting ++ queue_endings by_abort lkid r.waiting)
-    ≡ wanting_on number r
+-- and so does one that stays
+staying_counts : (number : ℕ) (w : Withdrawal) (r : Resource)
+    → wanting_on number (resource_after_cancel w.lkid r) + times_ended number (withdrawal_endings w r) ≡ wanting_on number r
 unfolding resource_after_cancel
-cancelled_counts number lkid r =
+staying_counts number w r =
     omega (
       arith,
-      sum_by-append (wants number) r.granted (map row_after_cancel (rows_of lkid r.converting)),
-      settling_wants_nothing number (rows_of lkid r.converting),
-      queue_ends number by_cancel lkid r.converting,
-      queue_ends number by_abort lkid r.waiting,
-      sum_by-append (ends number) (queue_endings by_cancel lkid r.converting) (queue_endings by_abort lkid r.waiting),
+      sum_by-append (wants number) r.granted (map row_after_cancel (rows_of w.lkid r.converting)),
+      settling_wants_nothing number (rows_of w.lkid r.converting),
+      queue_ends number w.converting w.lkid r.converting,
+      queue_ends number w.waiting w.lkid r.waiting,
+      sum_by-append (ends number) (queue_endings w.converting w.lkid r.converting) (queue_endings w.waiting w.lkid r.waiting),
     )
 
--- the same, whatever it leaves in the value block
-left_counts : (number : ℕ) (w : Withdrawal) (r : Resource) → Fit r
-    → wanting_on number (resource_without w.lkid (resource_after_writer w r))
-    + times_ended number (queue_endings by_abort w.lkid r.converting ++ queue_endings by_abort w.lkid r.waiting) ≡ wanting_on number r
-unfolding resource_without
-left_counts number w r fit =
-    cond_both (is_held_by_writer w.lkid r) (record r { value_block = value_block_after_writer w r.value_block }) r
-    (λ left. wanting_on number (resource_without w.lkid left)
-    + times_ended number (queue_endings by_abort w.lkid r.converting ++ queue_endings by_abort w.lkid r.waiting) ≡ wanting_on number r)
-    (λ _. without_counts number w.lkid r fit) (λ _. without_counts number w.lkid r fit)
+-- a lock that goes or stays ends its request
+gone_counts : (number : ℕ) (w : Withdrawal) (r : Resource) → Fit r
+    → wanting_on number (resource_after_going w r) + times_ended number (withdrawal_endings w r) ≡ wanting_on number r
+gone_counts number w r fit =
+    cond_both w.stays (resource_after_cancel w.lkid r) (resource_without w.lkid r)
+    (λ left. wanting_on number left + times_ended number (withdrawal_endings w r) ≡ wanting_on number r)
+    (λ _. staying_counts number w r) (λ _. without_counts number w r fit)
 
--- a dequeue ends the request of its lock
-dequeued_counts : (number : ℕ) (w : Withdrawal) (r : Resource) → Fit r
-    → wanting_on number (resource_after_withdrawal w r) + times_ended number (withdrawal_endings w r) ≡ wanting_on number r
-dequeued_counts number w r fit =
-    elim w.cancels as (λ b. wanting_on number (cond b (resource_after_cancel w.lkid r) (resource_without w.lkid (resource_after_writer w r)))
-    + times_ended number (queue_endings (cond b by_cancel by_abort) w.lkid r.converting ++ queue_endings by_abort w.lkid r.waiting)
-    ≡ wanting_on number r) [
-      | true ↦ cancelled_counts number w.lkid r
-      | false ↦ left_counts number w r fit
-    ]
+-- a withdrawal ends the request of its lock, whatever it leaves in the value block
+withdrawn_counts : (number : ℕ) (w : Withdrawal) (r : Resource) → Fit r
+    → wanting_on number (resource_after_withdrawals (w ∷ []) r) + times_ended number (withdrawal_endings w r) ≡ wanting_on number r
+withdrawn_counts number w r fit =
+    let written : Resource = record r { value_block = value_block_after_writer w r.value_block } in
+    cond_both (is_held_by_writer w.lkid r) written r
+    (λ left. wanting_on number (resource_after_going w left) + times_ended number (withdrawal_endings w r) ≡ wanting_on number r)
+    (λ _. gone_counts number w written (same_fit r written refl refl refl fit)) (λ _. gone_counts number w r fit)
 
--- after a dequeue and a sweep as many requests are wanted or ended
-pub all_dequeued_count : (number : ℕ) (w : Withdrawal) (processes : List Process) (resources : List Resource) → AllByRecursion Fit resources
-    → sum_by (wanting_on number) (resources_after_sweep processes (map (resource_after_withdrawal w) resources))
-    + times_ended number (flat_map (withdrawal_endings w) resources ++ sweep_endings (map (resource_after_withdrawal w) resources))
+-- after a withdrawal and a sweep as many requests are wanted or ended
+pub all_withdrawn_count : (number : ℕ) (w : Withdrawal) (processes : List Process) (resources : List Resource) → AllByRecursion Fit resources
+    → sum_by (wanting_on number) (resources_after_sweep processes (map (resource_after_withdrawals (w ∷ [])) resources))
+    + times_ended number (withdrawn_endings (w ∷ []) resources ++ sweep_endings (map (resource_after_withdrawals (w ∷ [])) resources))
     ≡ sum_by (wanting_on number) resources
-all_dequeued_count number w processes resources fit =
-    let changes : List Resource = map (resource_after_withdrawal w) resources in
+all_withdrawn_count number w processes resources fit =
+    let changes : List Resource = map (resource_after_withdrawals (w ∷ [])) resources in
     omega (
       arith,
       swept_weighs (wants number) (ends number) (wants_kept number) processes changes,
-      sum_by-append (ends number) (flat_map (withdrawal_endings w) resources) (sweep_endings changes),
-      sum_changed (wanting_on number) (resource_after_withdrawal w) (ends number) (withdrawal_endings w) resources
-          (each_weaker Fit (λ r. wanting_on number (resource_after_withdrawal w r) + times_ended number (withdrawal_endings w r) ≡ wanting_on number r)
-          (dequeued_counts number w) resources fit),
+      ap (sum_by (ends number)) (one_ends w resources),
+      sum_by-append (ends number) (withdrawn_endings (w ∷ []) resources) (sweep_endings changes),
+      sum_changed (wanting_on number) (resource_after_withdrawals (w ∷ [])) (ends number) (withdrawal_endings w) resources
+          (each_weaker Fit (λ r. wanting_on number (resource_after_withdrawals (w ∷ []) r) + times_ended number (withdrawal_endings w r) ≡ wanting_on number r)
+          (withdrawn_counts number w) resources fit),
     )
 
 -- a lock that is found has a row
@@ -161,15 +156,15 @@ found_stands pid lkid rows row at =
     omega (arith, found-le-sum (stands lkid) (is_lock_of pid lkid) rows row at)
 
 -- a conversion is wanted or ends, and nothing else does
-pub converted_row_counts : (number : ℕ) (request : Request) (lkid : ℕ) (block : ValueBlock) (r : Resource) (row : Row) → Fit r
-    → wanting_on number (resource_after_conversion_of request lkid block r (Some row))
-    + times_ended number (cond (converts_at_once request lkid r) (grant_endings true (wanting_row row request)) [])
+pub converted_row_counts : (number : ℕ) (request : Request) (at_once : Bool) (lkid : ℕ) (block : ValueBlock) (r : Resource) (row : Row) → Fit r
+    → wanting_on number (resource_after_conversion_of request at_once lkid block r (Some row))
+    + times_ended number (cond at_once (grant_endings true (wanting_row row request)) [])
     ≡ wanting_on number r + hits number (Some request)
-converted_row_counts number request lkid block r row fit =
+converted_row_counts number request at_once lkid block r row fit =
     let before : sum_by (wants number) r.granted ≡ 0 = settled_want_nothing number r.granted fit.granted in
     let after : sum_by (wants number) (rows_without lkid r.granted) ≡ 0 =
     settled_want_nothing number (rows_without lkid r.granted) (each_filter IsHeld _ r.granted fit.granted) in
-    elim (converts_at_once request lkid r) as (λ b.
+    elim at_once as (λ b.
     wanting_on number
     (cond b (with_value_block block (resource_after_grant (resource_without_granted lkid r) (wanting_row row request)))
     (record (resource_without_granted lkid r) { converting = r.converting ++ wanting_row row request ∷ [] }))

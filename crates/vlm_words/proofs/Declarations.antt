@@ -10,12 +10,9 @@ use Rattle.std.proofs.lemmas.List.Elements.{All-from_recursion}
 use Rattle.vlm_words.specs.declared.conditions.Cond.TheVariants.{Badparam, Departed}
 use Rattle.vlm_words.specs.declared.conditions.Cond.{Cond}
 use Rattle.vlm_words.specs.declared.steps.Answer.TheVariants.{Process as process_answer}
-use Rattle.vlm_words.specs.declared.steps.Answer.{Answer}
 use Rattle.vlm_words.specs.declared.steps.Declaration.{Declaration}
 use Rattle.vlm_words.specs.declared.steps.Step.TheVariants.{Declare}
-use Rattle.vlm_words.specs.declared.steps.Step.{Step}
 use Rattle.vlm_words.specs.State.{Node, Process, State, new_node, node_at}
-use Rattle.vlm_words.specs.Endings.{Ending}
 use Rattle.vlm_words.specs.Effects.{blocks_with}
 use Rattle.vlm_words.specs.ValueBlocks.{new_value_block}
 use Rattle.vlm_words.specs.Sweeps.{state_after_sweep}
@@ -26,7 +23,7 @@ use Rattle.vlm_words.specs.Enqueue.{enq_change}
 use Rattle.vlm_words.specs.Convert.{convert_change}
 use Rattle.vlm_words.specs.Dequeue.{deq_change, deq_endings}
 use Rattle.vlm_words.specs.Stepped.{refused_or, step_change}
-use Rattle.vlm_words.specs.Runs.{Run}
+use Rattle.vlm_words.specs.Runs.{History, Run}
 use Rattle.vlm_words.specs.Laws.{DeclarationsGiveNewIdentifications}
 use Rattle.vlm_words.proofs.Each.{each_append, each_weaker}
 use Rattle.vlm_words.proofs.Processes.{kept_converted, kept_ended, kept_entered, kept_set, kept_swept}
@@ -126,13 +123,13 @@ declared_given s d has given =
     }
 
 -- after every run each living process has an identification that its node has given
-given_always : (steps : List Step) (answers : List Answer) (endings : List Ending) (last : State)
-    → Run steps answers endings last → AllGiven last
+given_always : (history : History) (last : State)
+    → Run history last → AllGiven last
 unfolding set_change enq_change convert_change deq_change
 given_always =
     always (λ _ s. AllGiven s) (record { eight = refl; living = tt })
-    (λ _ _ endings s _ given.
-    kept_by_stepped (λ _ t. AllGiven t) endings s given
+    (λ history s _ given.
+    kept_by_stepped (λ _ t. AllGiven t) history.endings s given
     (λ d passed. swept_given (declare_change s d) (declared_given s d (ordinal_left s d passed) given))
     (λ v _. swept_given (set_change s v) (same_given s (set_change s v) refl (kept_set (λ p. p.pid) (λ _ _. refl) v.pid v.block v.value s.processes) given))
     (λ e _. swept_given (enq_change s e) (same_given s (enq_change s e) refl (kept_entered (λ p. p.pid) (λ _ _. refl) s e) given))
@@ -152,15 +149,15 @@ each_new nodes node pid next left (p ∷ rest) given = (
 )
 
 -- after every run a declaration gives a new identification
-pub declarations_always : (steps : List Step) (answers : List Answer) (endings : List Ending) (last : State)
-    → Run steps answers endings last → DeclarationsGiveNewIdentifications last
-declarations_always steps answers endings last run d pid answered = of_refusal (declare_refusal last d) refl answered
+pub declarations_always : (history : History) (last : State)
+    → Run history last → DeclarationsGiveNewIdentifications last
+declarations_always history last run d choice pid chosen answered = of_refusal (declare_refusal last d) refl answered
   where
     given : AllGiven last
-    given = given_always steps answers endings last run
+    given = given_always history last run
 
     of_refusal : (refusal : Option Cond) → declare_refusal last d ≡ refusal
-        → (refused_or refusal last (step_change last (Declare d))).answer ≡ process_answer pid → All (λ p. p.pid ≢ pid) last.processes
+        → (refused_or refusal last (step_change last (Declare d) choice)).answer ≡ process_answer pid → All (λ p. p.pid ≢ pid) last.processes
     of_refusal (Some refusal) is answered = cc
     of_refusal None passed answered =
         let same : next_pid last d.node ≡ pid = cc in

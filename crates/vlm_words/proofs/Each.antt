@@ -1,5 +1,5 @@
 -- What holds of each element of a list, by recursion on the list.
-use Rattle.std.proofs.Common.{◌≡◌, ◌∙◌, ◌<◌, ◌⊎◌, inl, inr, ap, subst, sym, refl, ℕ, zero, suc, Bool, true, false, not, List, Some, [], ◌∷◌, ◌++◌, map, length, get_or, arith}
+use Rattle.std.proofs.Common.{◌≡◌, ◌∙◌, ◌<◌, ◌⊎◌, inl, inr, ap, subst, sym, refl, ℕ, zero, suc, Bool, true, false, not, List, Some, [], ◌∷◌, ◌++◌, map, length, drop, get_or, arith}
 use Rattle.std.specs.Prelude.{Any}
 use Rattle.std.specs.List.{AllByRecursion, filter, find, list_all}
 use Rattle.std.proofs.lemmas.Bool.{cond_both, cond-false, and_parts}
@@ -123,3 +123,14 @@ no_Any P (x ∷ xs) none any = elim (Any-cases P x xs any) [ inl here ↦ none.0
 -- a weaker fact holds of some element too
 pub Any-weaker : {X : Type 0} (P Q : X → Type 0) → ((x : X) → P x → Q x) → (xs : List X) → Any P xs → Any Q xs
 Any-weaker P Q weaker xs any = (any.0, any.1, any.2, any.3, weaker any.1 any.4)
+
+-- what is so of some element is so of some with others before them
+pub Any-behind : {X : Type 0} (P : X → Type 0) (xs ys : List X) → Any P ys → Any P (xs ++ ys)
+Any-behind P [] ys any = any
+Any-behind P (x ∷ xs) ys any = Any-there P x (xs ++ ys) (Any-behind P xs ys any)
+
+-- what holds of each element holds of each but the first ones
+pub each_drop : {X : Type 0} (P : X → Type 0) (n : ℕ) (xs : List X) → AllByRecursion P xs → AllByRecursion P (drop n xs)
+each_drop P zero xs each = each
+each_drop P (suc n) [] each = tt
+each_drop P (suc n) (x ∷ xs) each = each_drop P n xs each.1

@@ -1,5 +1,5 @@
 -- After every run each accepted request is wanted once or has ended once.
-use Rattle.std.proofs.Common.{◌≡◌, ◌≤◌, ◌<◌, ◌+◌, ◌⊎◌, ℕ, zero, suc, true, List, [], ◌∷◌, ◌++◌, map, cond, Option, None, Some, inl, inr, refl, sym, subst, ap, arith}
+use Rattle.std.proofs.Common.{◌≡◌, ◌≤◌, ◌<◌, ◌+◌, ◌⊎◌, ℕ, Bool, zero, suc, true, List, [], ◌∷◌, ◌++◌, map, cond, Option, None, Some, inl, inr, refl, sym, subst, ap, arith}
 use Rattle.std.specs.Prelude.{◌==◌}
 use Rattle.std.specs.List.{AllByRecursion, find, sum_by}
 use Rattle.std.proofs.lemmas.Bool.Decides.{nat_tests}
@@ -7,10 +7,8 @@ use Rattle.std.proofs.lemmas.List.Sums.{sum_by-append, sum_by-cons}
 use Rattle.vlm_words.specs.declared.locks.Request.{Request}
 use Rattle.vlm_words.specs.declared.locks.Row.{Row}
 use Rattle.vlm_words.specs.declared.resources.ValueBlock.{ValueBlock}
-use Rattle.vlm_words.specs.declared.steps.Answer.{Answer}
 use Rattle.vlm_words.specs.declared.steps.Conversion.{Conversion}
 use Rattle.vlm_words.specs.declared.steps.NewRequest.{NewRequest}
-use Rattle.vlm_words.specs.declared.steps.Step.{Step}
 use Rattle.vlm_words.specs.State.{Resource, State}
 use Rattle.vlm_words.specs.Endings.{Ending}
 use Rattle.vlm_words.specs.Grants.{grant_endings}
@@ -19,37 +17,37 @@ use Rattle.vlm_words.specs.Rows.{is_lock_of}
 use Rattle.vlm_words.specs.Declare.{declare_change}
 use Rattle.vlm_words.specs.SetValue.{set_change}
 use Rattle.vlm_words.specs.Trees.{enq_site}
-use Rattle.vlm_words.specs.Enqueue.{enq_change, enq_endings, enq_request, enq_resource, enq_row}
+use Rattle.vlm_words.specs.Enqueue.{enq_at_once, enq_change, enq_endings, enq_resource, enq_row}
 use Rattle.vlm_words.specs.Convert.{ConversionAdmission, admission_among, admission_or, conversion_endings, convert_admission, convert_blocks, convert_change, convert_lkid, convert_request, converts_at_once, resource_after_conversion, resource_after_conversion_of, wanting_row}
 use Rattle.vlm_words.specs.Dequeue.{deq_change, deq_endings, withdrawal_of}
-use Rattle.vlm_words.specs.Runs.{Run}
+use Rattle.vlm_words.specs.Runs.{History, Run}
 use Rattle.vlm_words.specs.Laws.{EachRequestEndsOnce, times_ended, wanting, wanting_on}
 use Rattle.vlm_words.specs.Lines.{behind}
 use Rattle.vlm_words.proofs.Always.{always, kept_by_stepped}
-use Rattle.vlm_words.proofs.Admissions.{admitted_request, found_lkid, some_same}
+use Rattle.vlm_words.proofs.Admissions.{admitted_request, some_same}
 use Rattle.vlm_words.proofs.Each.{Found, found_at}
 use Rattle.vlm_words.proofs.RowsFit.{Fit, fit_always}
 use Rattle.vlm_words.proofs.Weights.{weigh, swept_weighs, entered_among_weighs}
 use Rattle.vlm_words.proofs.Apart.{Apart, apart_always, stands, standing}
-use Rattle.vlm_words.proofs.Counts.{hits, wants, ends, wants_kept, found_stands, converted_row_counts, all_dequeued_count}
+use Rattle.vlm_words.proofs.Counts.{hits, wants, ends, wants_kept, found_stands, converted_row_counts, all_withdrawn_count}
 
 -- a lock that has no row is not found
-absent_same : (request : Request) (pid lkid : ℕ) (block : ValueBlock) (r : Resource) (found : Option Row) → find (is_lock_of pid lkid) r.granted ≡ found
-    → weigh (stands lkid) r ≡ 0 → resource_after_conversion_of request lkid block r found ≡ r
-absent_same request pid lkid block r None is absent = refl
-absent_same request pid lkid block r (Some row) is absent =
+absent_same : (request : Request) (at_once : Bool) (pid lkid : ℕ) (block : ValueBlock) (r : Resource) (found : Option Row) → find (is_lock_of pid lkid) r.granted ≡ found
+    → weigh (stands lkid) r ≡ 0 → resource_after_conversion_of request at_once lkid block r found ≡ r
+absent_same request at_once pid lkid block r None is absent = refl
+absent_same request at_once pid lkid block r (Some row) is absent =
     absurd (omega (arith, found_stands pid lkid r.granted row (found_at (is_lock_of pid lkid) r.granted row is)))
 
 -- resources without a row of the lock stay as they are when it converts
-absent_unchanged : (request : Request) (pid lkid : ℕ) (block : ValueBlock) (resources : List Resource) → standing lkid resources ≡ 0
-    → map (resource_after_conversion request pid lkid block) resources ≡ resources
+absent_unchanged : (request : Request) (at_once : Bool) (pid lkid : ℕ) (block : ValueBlock) (resources : List Resource) → standing lkid resources ≡ 0
+    → map (resource_after_conversion request at_once pid lkid block) resources ≡ resources
 unfolding resource_after_conversion
-absent_unchanged request pid lkid block [] absent = refl
-absent_unchanged request pid lkid block (r ∷ rest) absent =
+absent_unchanged request at_once pid lkid block [] absent = refl
+absent_unchanged request at_once pid lkid block (r ∷ rest) absent =
     let both : standing lkid (r ∷ rest) ≡ weigh (stands lkid) r + standing lkid rest = sum_by-cons (weigh (stands lkid)) r rest in
-    let here : resource_after_conversion request pid lkid block r ≡ r =
-    absent_same request pid lkid block r (find (is_lock_of pid lkid) r.granted) refl (omega arith) in
-    let behind : map (resource_after_conversion request pid lkid block) rest ≡ rest = absent_unchanged request pid lkid block rest (omega arith) in
+    let here : resource_after_conversion request at_once pid lkid block r ≡ r =
+    absent_same request at_once pid lkid block r (find (is_lock_of pid lkid) r.granted) refl (omega arith) in
+    let behind : map (resource_after_conversion request at_once pid lkid block) rest ≡ rest = absent_unchanged request at_once pid lkid block rest (omega arith) in
     cc
 
 -- where a lock has one row, its conversion is counted once: on its resource, or on those behind it
@@ -57,35 +55,29 @@ here_or_behind : (number : ℕ) (request : Request) (pid lkid : ℕ) (block : Va
     (a : ConversionAdmission) (found : Option Row)
     → find (is_lock_of pid lkid) r.granted ≡ found → Fit r → standing lkid (r ∷ rest) ≤ 1
     → (admission_among request pid lkid rest ≡ Some a
-    → sum_by (wanting_on number) (map (resource_after_conversion request pid lkid block) rest) + times_ended number (conversion_endings a)
+    → sum_by (wanting_on number) (map (resource_after_conversion request a.at_once pid lkid block) rest) + times_ended number (conversion_endings a)
     ≡ sum_by (wanting_on number) rest + hits number (Some request))
     → admission_or request r found (admission_among request pid lkid rest) ≡ Some a
-    → wanting_on number (resource_after_conversion_of request lkid block r found)
-    + sum_by (wanting_on number) (map (resource_after_conversion request pid lkid block) rest)
+    → wanting_on number (resource_after_conversion_of request a.at_once lkid block r found)
+    + sum_by (wanting_on number) (map (resource_after_conversion request a.at_once pid lkid block) rest)
     + times_ended number (conversion_endings a)
     ≡ wanting_on number r + sum_by (wanting_on number) rest + hits number (Some request)
 here_or_behind number request pid lkid block r rest a None is fit one behind at = omega (arith, behind at)
 here_or_behind number request pid lkid block r rest a (Some row) is fit one behind at =
     let at_row : Found (is_lock_of pid lkid) r.granted row = found_at (is_lock_of pid lkid) r.granted row is in
-    let named : row.lkid ≡ lkid = found_lkid pid lkid row at_row.passes in
     let here : ConversionAdmission = record { resource = r; row = row; request = request; at_once = converts_at_once request row.lkid r } in
     let same : Some here ≡ Some a = at in
-    let own : times_ended number (conversion_endings here) ≡ times_ended number (conversion_endings a) =
-    ap (λ (b : ConversionAdmission). times_ended number (conversion_endings b)) (some_same here a same) in
-    let counted : wanting_on number (resource_after_conversion_of request lkid block r (Some row))
-    + times_ended number (cond (converts_at_once request row.lkid r) (grant_endings true (wanting_row row request)) [])
-    ≡ wanting_on number r + hits number (Some request) =
-    subst (λ (n : ℕ). wanting_on number (resource_after_conversion_of request lkid block r (Some row))
-    + times_ended number (cond (converts_at_once request n r) (grant_endings true (wanting_row row request)) [])
-    ≡ wanting_on number r + hits number (Some request)) (sym named) (converted_row_counts number request lkid block r row fit) in
+    let own : times_ended number (cond a.at_once (grant_endings true (wanting_row row request)) []) ≡ times_ended number (conversion_endings a) =
+    ap (λ (b : ConversionAdmission). times_ended number (cond a.at_once (grant_endings true (wanting_row b.row b.request)) [])) (some_same here a same) in
+    let counted = converted_row_counts number request a.at_once lkid block r row fit in
     let absent : standing lkid rest ≡ 0 =
     omega (arith, sum_by-cons (weigh (stands lkid)) r rest, found_stands pid lkid r.granted row at_row) in
-    omega (arith, counted, own, ap (sum_by (wanting_on number)) (absent_unchanged request pid lkid block rest absent))
+    omega (arith, counted, own, ap (sum_by (wanting_on number)) (absent_unchanged request a.at_once pid lkid block rest absent))
 
 -- where a lock has one row, its conversion is counted once
 all_converted_count : (number : ℕ) (request : Request) (pid lkid : ℕ) (block : ValueBlock) (a : ConversionAdmission) (resources : List Resource)
     → AllByRecursion Fit resources → standing lkid resources ≤ 1 → admission_among request pid lkid resources ≡ Some a
-    → sum_by (wanting_on number) (map (resource_after_conversion request pid lkid block) resources) + times_ended number (conversion_endings a)
+    → sum_by (wanting_on number) (map (resource_after_conversion request a.at_once pid lkid block) resources) + times_ended number (conversion_endings a)
     ≡ sum_by (wanting_on number) resources + hits number (Some request)
 unfolding resource_after_conversion
 all_converted_count number request pid lkid block a [] fit one at = cc
@@ -97,7 +89,8 @@ all_converted_count number request pid lkid block a (r ∷ rest) fit one at =
       arith,
       all,
       sum_by-cons (wanting_on number) r rest,
-      sum_by-cons (wanting_on number) (resource_after_conversion request pid lkid block r) (map (resource_after_conversion request pid lkid block) rest),
+      sum_by-cons (wanting_on number) (resource_after_conversion request a.at_once pid lkid block r)
+          (map (resource_after_conversion request a.at_once pid lkid block) rest),
     )
 
 -- a sweep alone counts what was counted
@@ -114,7 +107,7 @@ enqueued_counts number s e =
       arith,
       sweep_counts number (enq_change s e),
       entered_among_weighs (wants number) (ends number) (wants_kept number) s.next_serial (enq_site s e) (enq_row s e)
-          (enq_request s e) s.resources,
+          (enq_at_once s e) s.resources,
       sum_by-append (ends number) (enq_endings s e) (sweep_endings (enq_change s e).resources),
     )
 
@@ -136,9 +129,9 @@ converted_counts number s c a admitted fit apart =
     let lkid : ℕ = convert_lkid s c in
     let block : ValueBlock = (convert_blocks s c a).value_block in
     let request : a.request ≡ convert_request s c = admitted_request (convert_request s c) c.pid lkid a s.resources admitted in
-    let counted : sum_by (wanting_on number) (map (resource_after_conversion a.request c.pid lkid block) s.resources)
+    let counted : sum_by (wanting_on number) (map (resource_after_conversion a.request a.at_once c.pid lkid block) s.resources)
     + times_ended number (conversion_endings a) ≡ sum_by (wanting_on number) s.resources + hits number (Some (convert_request s c)) =
-    subst (λ (q : Request). sum_by (wanting_on number) (map (resource_after_conversion q c.pid lkid block) s.resources)
+    subst (λ (q : Request). sum_by (wanting_on number) (map (resource_after_conversion q a.at_once c.pid lkid block) s.resources)
     + times_ended number (conversion_endings a) ≡ sum_by (wanting_on number) s.resources + hits number (Some (convert_request s c)))
     (sym request) (all_converted_count number (convert_request s c) c.pid lkid block a s.resources fit (apart.one_row lkid) admitted) in
     omega (
@@ -174,27 +167,27 @@ one_more_counts endings more s t counted next one_more = record {
 }
 
 -- after every run each accepted request is counted once
-pub counted_always : (steps : List Step) (answers : List Answer) (endings : List Ending) (last : State)
-    → Run steps answers endings last → CountedOnce endings last
+pub counted_always : (history : History) (last : State)
+    → Run history last → CountedOnce history.endings last
 unfolding declare_change set_change enq_change convert_change deq_change
 counted_always =
     always CountedOnce (record { accepted = λ number some below. absurd (omega arith); to_come = λ number past. refl })
-    (λ steps answers endings s run counted.
-    let fit : AllByRecursion Fit s.resources = fit_always steps answers endings s run in
-    let apart : Apart s = apart_always steps answers endings s run in
-    kept_by_stepped CountedOnce endings s counted
-    (λ d _. same_counts endings (sweep_endings s.resources) s (state_after_sweep (declare_change s d)) counted refl
+    (λ history s run counted.
+    let fit : AllByRecursion Fit s.resources = fit_always history s run in
+    let apart : Apart s = apart_always history s run in
+    kept_by_stepped CountedOnce history.endings s counted
+    (λ d _. same_counts history.endings (sweep_endings s.resources) s (state_after_sweep (declare_change s d)) counted refl
     (λ number. sweep_counts number (declare_change s d)))
-    (λ v _. same_counts endings (sweep_endings s.resources) s (state_after_sweep (set_change s v)) counted refl
+    (λ v _. same_counts history.endings (sweep_endings s.resources) s (state_after_sweep (set_change s v)) counted refl
     (λ number. sweep_counts number (set_change s v)))
-    (λ e _. one_more_counts endings (enq_endings s e ++ sweep_endings (enq_change s e).resources) s (state_after_sweep (enq_change s e)) counted
+    (λ e _. one_more_counts history.endings (enq_endings s e ++ sweep_endings (enq_change s e).resources) s (state_after_sweep (enq_change s e)) counted
     refl (λ number. enqueued_counts number s e))
     (λ c a _ admitted.
-    one_more_counts endings (conversion_endings a ++ sweep_endings (convert_change s c a).resources) s (state_after_sweep (convert_change s c a))
+    one_more_counts history.endings (conversion_endings a ++ sweep_endings (convert_change s c a).resources) s (state_after_sweep (convert_change s c a))
     counted refl (λ number. converted_counts number s c a admitted fit apart))
     (λ d _.
-    same_counts endings (deq_endings s d ++ sweep_endings (deq_change s d).resources) s (state_after_sweep (deq_change s d)) counted refl
-    (λ number. all_dequeued_count number (withdrawal_of s d) (deq_change s d).processes s.resources fit)))
+    same_counts history.endings (deq_endings s d ++ sweep_endings (deq_change s d).resources) s (state_after_sweep (deq_change s d)) counted refl
+    (λ number. all_withdrawn_count number (withdrawal_of s d) (deq_change s d).processes s.resources fit)))
 
 -- of two numbers whose sum is 1, one is 1 and the other 0
 one_of_two : (a b : ℕ) → a + b ≡ 1 → ((a ≡ 1) × (b ≡ 0)) ⊎ ((a ≡ 0) × (b ≡ 1))
@@ -202,7 +195,11 @@ one_of_two zero b is = inr (refl, omega arith)
 one_of_two (suc a) b is = inl (omega arith, omega arith)
 
 -- after every run each accepted request is wanted once or has ended once
-pub ends_once_always : (steps : List Step) (answers : List Answer) (endings : List Ending) (last : State)
-    → Run steps answers endings last → EachRequestEndsOnce endings last
-ends_once_always steps answers endings last run number some below =
-    one_of_two (wanting number last) (times_ended number endings) ((counted_always steps answers endings last run).accepted number some below)
+pub ends_once_always : (history : History) (last : State)
+    → Run history last → EachRequestEndsOnce history.endings last
+ends_once_always history last run =
+    let counted : CountedOnce history.endings last = counted_always history last run in
+    record {
+      accepted = λ number some below. one_of_two (wanting number last) (times_ended number history.endings) (counted.accepted number some below);
+      to_come = λ number past. (omega (arith, counted.to_come number past), omega (arith, counted.to_come number past));
+    }

@@ -1,5 +1,5 @@
 -- After every step the held modes of each resource are compatible.
-use Rattle.std.proofs.Common.{◌≡◌, ℕ, true, not, List, [], ◌∷◌, ◌++◌, Option, None, Some, append_assoc, refl, sym, subst, ap, ⊎_elim, ◌∙◌}
+use Rattle.std.proofs.Common.{◌≡◌, ℕ, Bool, true, not, List, [], ◌∷◌, ◌++◌, map, Option, None, Some, append_assoc, refl, sym, subst, ap, ⊎_elim, ◌∙◌}
 use Rattle.std.proofs.Math.Bool.{or_comm}
 use Rattle.std.proofs.Math.Path.{fun_ext}
 use Rattle.std.specs.Prelude.{AllPairs, ◌==◌, ◌&&◌}
@@ -11,25 +11,33 @@ use Rattle.vlm_words.specs.declared.locks.Row.{Row}
 use Rattle.vlm_words.specs.declared.modes.Mode.TheVariants.{Nl, Cr, Cw, Pr, Pw, Ex}
 use Rattle.vlm_words.specs.declared.modes.Mode.{Mode}
 use Rattle.vlm_words.specs.declared.resources.ValueBlock.{ValueBlock}
-use Rattle.vlm_words.specs.declared.steps.Answer.{Answer}
+use Rattle.vlm_words.specs.declared.steps.Conversion.{Conversion}
 use Rattle.vlm_words.specs.declared.steps.NewRequest.{NewRequest}
-use Rattle.vlm_words.specs.declared.steps.Step.{Step}
 use Rattle.vlm_words.specs.Modes.{compatible_pairs, is_compatible, is_pair_of, rank}
 use Rattle.vlm_words.specs.Flags.{expedite, has_flag}
-use Rattle.vlm_words.specs.State.{Resource, State}
-use Rattle.vlm_words.specs.Endings.{Ending}
+use Rattle.vlm_words.specs.State.{Process, Resource, State}
 use Rattle.vlm_words.specs.Effects.{with_value_block}
 use Rattle.vlm_words.specs.Grants.{fits, granted_row, is_beside, is_empty, no_service, resource_after_grant, service, service_after_grant, service_of_conversions, service_of_new_requests, service_of_waiting, wanted_fits}
+use Rattle.vlm_words.specs.Sweeps.{resources_after_sweep}
 use Rattle.vlm_words.specs.Rows.{is_lock_of, rows_without}
-use Rattle.vlm_words.specs.Enqueue.{enq_refusal, enq_request, enq_row, is_at_once, is_free_for, resource_after_entry}
-use Rattle.vlm_words.specs.Convert.{converts_at_once, resource_after_conversion, resource_after_conversion_of, resource_without_granted, wanting_row}
-use Rattle.vlm_words.specs.Dequeue.{Withdrawal, is_held_by_writer, resource_after_cancel, resource_after_withdrawal, resource_after_writer, resource_without, row_after_cancel, value_block_after_writer}
-use Rattle.vlm_words.specs.Runs.{Run}
-use Rattle.vlm_words.specs.Laws.{AreCompatible, HeldModesAreCompatible}
-use Rattle.vlm_words.proofs.Each.{Found, found_at, each_append, each_passes, each_weaker}
+use Rattle.vlm_words.specs.Declare.{declare_change}
+use Rattle.vlm_words.specs.SetValue.{set_change}
+use Rattle.vlm_words.specs.Trees.{enq_site}
+use Rattle.vlm_words.specs.Enqueue.{enq_at_once, enq_change, enq_refusal, enq_request, enq_resource, enq_row, is_at_once, is_free_for, resource_after_entry}
+use Rattle.vlm_words.specs.Convert.{ConversionAdmission, convert_admission, convert_blocks, convert_change, convert_lkid, convert_request, converts_at_once, resource_after_conversion, resource_after_conversion_of, resource_without_granted, wanting_row}
+use Rattle.vlm_words.specs.Dequeue.{deq_change, withdrawals_of}
+use Rattle.vlm_words.specs.Withdrawals.{Withdrawal, is_held_by_writer, resource_after_cancel, resource_after_withdrawals, resource_after_writer, resource_without, row_after_cancel, value_block_after_writer, resource_after_going}
+use Rattle.vlm_words.specs.Runs.{History, Run}
+use Rattle.vlm_words.specs.Laws.{AreCompatible, HeldModesAreCompatible, Stands}
+use Rattle.vlm_words.proofs.Each.{Any-behind, Any-here, Found, found_at, each_append, each_map, each_passes, each_weaker}
 use Rattle.vlm_words.proofs.Pairs.{EachPair, AllPairs-from_recursion, each_pair_filter, each_pair_filter_left, each_pair_found, each_pair_insert, each_pair_move, each_pair_push, each_pair_remove}
 use Rattle.vlm_words.proofs.Passed.{expedited_is_null}
-use Rattle.vlm_words.proofs.EachResource.{each_always}
+use Rattle.vlm_words.proofs.Admissions.{admitted_request, found_lkid}
+use Rattle.vlm_words.proofs.Always.{always, kept_by_stepped}
+use Rattle.vlm_words.proofs.Apart.{Apart, apart_always}
+use Rattle.vlm_words.proofs.AtOnce.{admitted_at_once, admitted_stands, only_there}
+use Rattle.vlm_words.proofs.EachResource.{each_entered_on, each_swept, found_has}
+use Rattle.vlm_words.proofs.Withdrawing.{kept_withdrawn}
 
 -- a pair has two modes in either order
 is_pair_of-comm : (a b : Mode) (pair : Mode × Mode) → is_pair_of a b pair ≡ is_pair_of b a pair
@@ -164,11 +172,12 @@ compatible_at_once s e passed r at_once =
     (or_cases (has_flag e.flags expedite) (is_free_for (enq_request s e) r) at_once)
 
 -- the entry of a lock keeps the held modes compatible
-entered_agrees : (s : State) (e : NewRequest) → enq_refusal s e ≡ None → (r : Resource) → HoldersAgree r
-    → HoldersAgree (resource_after_entry (enq_row s e) (enq_request s e) r)
+entered_agrees : (s : State) (e : NewRequest) → enq_refusal s e ≡ None → HoldersAgree (enq_resource s e)
+    → HoldersAgree (resource_after_entry (enq_row s e) (enq_at_once s e) (enq_resource s e))
 unfolding resource_after_entry
-entered_agrees s e passed r agree =
-    cond_both (is_at_once (enq_request s e) r) (resource_after_grant r (enq_row s e)) (record r { waiting = r.waiting ++ enq_row s e ∷ [] }) HoldersAgree
+entered_agrees s e passed agree =
+    let r : Resource = enq_resource s e in
+    cond_both (enq_at_once s e) (resource_after_grant r (enq_row s e)) (record r { waiting = r.waiting ++ enq_row s e ∷ [] }) HoldersAgree
     (λ at_once. agree_after_grant (enq_row s e) r.granted r.converting (compatible_at_once s e passed r at_once) agree) (λ _. agree)
 
 -- a conversion that is granted at once keeps the held modes compatible
@@ -191,20 +200,53 @@ queued_agrees request pid lkid granted converting row at agree =
     (ap not (and_parts _ _ at.passes).0) at agree)
     (each_pair_filter_left HoldCompatible _ granted converting agree))
 
--- a conversion keeps the held modes compatible, whichever row is found
-converted_row_agrees : (request : Request) (pid lkid : ℕ) (block : ValueBlock) (r : Resource) (found : Option Row)
-    → find (is_lock_of pid lkid) r.granted ≡ found → HoldersAgree r → HoldersAgree (resource_after_conversion_of request lkid block r found)
-converted_row_agrees request pid lkid block r None is agree = agree
-converted_row_agrees request pid lkid block r (Some row) is agree =
-    cond_both (converts_at_once request lkid r) (with_value_block block (resource_after_grant (resource_without_granted lkid r) (wanting_row row request)))
-    (record (resource_without_granted lkid r) { converting = r.converting ++ wanting_row row request ∷ [] }) HoldersAgree
-    (λ at_once. converted_at_once_agrees request lkid r row at_once agree)
-    (λ _. queued_agrees request pid lkid r.granted r.converting row (found_at (is_lock_of pid lkid) r.granted row is) agree)
+-- a lock that is found stands there
+found_there : (pid lkid : ℕ) (rows : List Row) (row : Row) → Found (is_lock_of pid lkid) rows row → Stands lkid rows
+found_there pid lkid rows row at =
+    subst (Stands lkid) (sym at.split)
+    (Any-behind (λ (x : Row). x.lkid ≡ lkid) at.before (row ∷ at.after)
+    (Any-here (λ (x : Row). x.lkid ≡ lkid) row at.after (found_lkid pid lkid row at.passes)))
 
--- the same, for the row that is found
-converted_agrees : (request : Request) (pid lkid : ℕ) (block : ValueBlock) (r : Resource) → HoldersAgree r → HoldersAgree (resource_after_conversion request pid lkid block r)
+-- a conversion keeps the held modes compatible, whichever row is found, where one at once fits on its resource
+converted_row_agrees : (request : Request) (at_once : Bool) (pid lkid : ℕ) (block : ValueBlock) (r : Resource) (found : Option Row)
+    → find (is_lock_of pid lkid) r.granted ≡ found → (Stands lkid r.granted → at_once ≡ converts_at_once request lkid r) → HoldersAgree r
+    → HoldersAgree (resource_after_conversion_of request at_once lkid block r found)
+converted_row_agrees request at_once pid lkid block r None is fits agree = agree
+converted_row_agrees request at_once pid lkid block r (Some row) is fits agree =
+    let at : Found (is_lock_of pid lkid) r.granted row = found_at (is_lock_of pid lkid) r.granted row is in
+    cond_both at_once (with_value_block block (resource_after_grant (resource_without_granted lkid r) (wanting_row row request)))
+    (record (resource_without_granted lkid r) { converting = r.converting ++ wanting_row row request ∷ [] }) HoldersAgree
+    (λ now. converted_at_once_agrees request lkid r row (sym (fits (found_there pid lkid r.granted row at)) ∙ now) agree)
+    (λ _. queued_agrees request pid lkid r.granted r.converting row at agree)
+
+-- the same, for the row that is found on each resource
+converted_agrees : (request : Request) (at_once : Bool) (pid lkid : ℕ) (block : ValueBlock) (resources : List Resource)
+    → AllByRecursion (λ r. Stands lkid r.granted → at_once ≡ converts_at_once request lkid r) resources
+    → AllByRecursion HoldersAgree resources → AllByRecursion HoldersAgree (map (resource_after_conversion request at_once pid lkid block) resources)
 unfolding resource_after_conversion
-converted_agrees request pid lkid block r agree = converted_row_agrees request pid lkid block r (find (is_lock_of pid lkid) r.granted) refl agree
+converted_agrees request at_once pid lkid block [] fits each = tt
+converted_agrees request at_once pid lkid block (r ∷ rest) fits each = (
+  converted_row_agrees request at_once pid lkid block r (find (is_lock_of pid lkid) r.granted) refl fits.0 each.0,
+  converted_agrees request at_once pid lkid block rest fits.1 each.1,
+)
+
+-- an admitted conversion
+conversion_agrees : (s : State) (c : Conversion) (a : ConversionAdmission) → Apart s → convert_admission s c ≡ Some a
+    → AllByRecursion HoldersAgree s.resources → AllByRecursion HoldersAgree (convert_change s c a).resources
+unfolding convert_change convert_admission
+conversion_agrees s c a apart admitted each =
+    let lkid : ℕ = convert_lkid s c in
+    let request : Request = convert_request s c in
+    let asks : a.request ≡ request = admitted_request request c.pid lkid a s.resources admitted in
+    let named : a.row.lkid ≡ lkid = (admitted_stands request c.pid lkid a s.resources admitted).1 in
+    let fits : a.at_once ≡ converts_at_once a.request lkid a.resource =
+    admitted_at_once request c.pid lkid a s.resources admitted
+    ∙ ap (λ q. converts_at_once q a.row.lkid a.resource) (sym asks)
+    ∙ ap (λ n. converts_at_once a.request n a.resource) named in
+    converted_agrees a.request a.at_once c.pid lkid (convert_blocks s c a).value_block s.resources
+    (each_weaker (λ r. Stands lkid r.granted → r ≡ a.resource) (λ r. Stands lkid r.granted → a.at_once ≡ converts_at_once a.request lkid r)
+    (λ r only there. fits ∙ ap (converts_at_once a.request lkid) (sym (only there))) s.resources
+    (only_there request c.pid lkid a s.resources (apart.one_row lkid) admitted)) each
 
 -- a lock that goes leaves the held modes compatible
 without_agrees : (lkid : ℕ) (r : Resource) → HoldersAgree r → HoldersAgree (resource_without lkid r)
@@ -223,25 +265,43 @@ left_agrees w r agree =
     cond_both (is_held_by_writer w.lkid r) (record r { value_block = value_block_after_writer w r.value_block }) r HoldersAgree
     (λ _. agree) (λ _. agree)
 
--- a dequeue keeps the held modes compatible
-dequeued_agrees : (w : Withdrawal) (r : Resource) → HoldersAgree r → HoldersAgree (resource_after_withdrawal w r)
-dequeued_agrees w r agree =
-    cond_both w.cancels (resource_after_cancel w.lkid r) (resource_without w.lkid (resource_after_writer w r)) HoldersAgree
-    (λ _. cancelled_agrees w.lkid r agree) (λ _. without_agrees w.lkid (resource_after_writer w r) (left_agrees w r agree))
+-- a lock that goes or stays keeps the held modes compatible
+gone_agrees : (w : Withdrawal) (r : Resource) → HoldersAgree r → HoldersAgree (resource_after_going w r)
+gone_agrees w r agree =
+    cond_both w.stays (resource_after_cancel w.lkid r) (resource_without w.lkid r) HoldersAgree
+    (λ _. cancelled_agrees w.lkid r agree) (λ _. without_agrees w.lkid r agree)
 
 -- after every run the held modes of each resource are compatible, by recursion
-pub holders_agree_always : (steps : List Step) (answers : List Answer) (endings : List Ending) (last : State)
-    → Run steps answers endings last → AllByRecursion HoldersAgree last.resources
-holders_agree_always steps answers endings last run =
-    each_always HoldersAgree HoldersAgree (λ _ agree. agree) (λ _ r agree. served_agrees r agree)
-    (record { fresh = λ _ _. tt; entry = entered_agrees; conversion = converted_agrees; removal = dequeued_agrees })
-    steps answers endings last run
+pub holders_agree_always : (history : History) (last : State)
+    → Run history last → AllByRecursion HoldersAgree last.resources
+unfolding declare_change set_change enq_change enq_resource deq_change
+holders_agree_always =
+    always (λ _ s. AllByRecursion HoldersAgree s.resources) tt
+    (λ history s run each.
+    kept_by_stepped (λ _ t. AllByRecursion HoldersAgree t.resources) history.endings s each
+    (λ d _. swept_agree (declare_change s d).processes s.resources each)
+    (λ v _. swept_agree (set_change s v).processes s.resources each)
+    (λ e passed.
+    swept_agree (enq_change s e).processes (enq_change s e).resources
+    (each_entered_on HoldersAgree s.next_serial (enq_site s e) (enq_row s e) (enq_at_once s e) s.resources
+    (entered_agrees s e passed (found_has HoldersAgree s.next_serial (enq_site s e) tt s.resources each)) each))
+    (λ c a _ admitted.
+    swept_agree (convert_change s c a).processes (convert_change s c a).resources
+    (conversion_agrees s c a (apart_always history s run) admitted each))
+    (λ d _.
+    swept_agree (deq_change s d).processes (deq_change s d).resources
+    (each_map HoldersAgree HoldersAgree (resource_after_withdrawals (withdrawals_of s d)) (kept_withdrawn HoldersAgree left_agrees gone_agrees (withdrawals_of s d))
+    s.resources each)))
+  where
+    swept_agree : (processes : List Process) (resources : List Resource) → AllByRecursion HoldersAgree resources
+        → AllByRecursion HoldersAgree (resources_after_sweep processes resources)
+    swept_agree processes resources each = each_swept HoldersAgree HoldersAgree (λ _ r agree. served_agrees r agree) processes resources each
 
 -- after every run the held modes are compatible
-pub held_modes_always : (steps : List Step) (answers : List Answer) (endings : List Ending) (last : State)
-    → Run steps answers endings last → HeldModesAreCompatible last
-held_modes_always steps answers endings last run =
+pub held_modes_always : (history : History) (last : State)
+    → Run history last → HeldModesAreCompatible last
+held_modes_always history last run =
     All-from_recursion (λ r. AllPairs HoldCompatible (r.granted ++ r.converting)) last.resources
     (each_weaker HoldersAgree (λ r. AllPairs HoldCompatible (r.granted ++ r.converting))
     (λ r. AllPairs-from_recursion HoldCompatible (r.granted ++ r.converting)) last.resources
-    (holders_agree_always steps answers endings last run))
+    (holders_agree_always history last run))

@@ -14,9 +14,9 @@ use Rattle.vlm_words.specs.State.{Resource}
 use Rattle.vlm_words.specs.Effects.{with_value_block}
 use Rattle.vlm_words.specs.Grants.{granted_row, is_arming, resource_after_grant, service}
 use Rattle.vlm_words.specs.Rows.{is_lock_of, rows_of, rows_without}
-use Rattle.vlm_words.specs.Enqueue.{is_at_once, resource_after_entry}
-use Rattle.vlm_words.specs.Convert.{converts_at_once, resource_after_conversion, resource_after_conversion_of, resource_without_granted, wanting_row}
-use Rattle.vlm_words.specs.Dequeue.{Withdrawal, is_held_by_writer, resource_after_cancel, resource_after_withdrawal, resource_after_writer, resource_without, row_after_cancel, value_block_after_writer}
+use Rattle.vlm_words.specs.Enqueue.{resource_after_entry}
+use Rattle.vlm_words.specs.Convert.{resource_after_conversion, resource_after_conversion_of, resource_without_granted, wanting_row}
+use Rattle.vlm_words.specs.Withdrawals.{Withdrawal, is_held_by_writer, resource_after_cancel, resource_after_withdrawals, resource_after_writer, resource_without, row_after_cancel, value_block_after_writer}
 use Rattle.vlm_words.specs.Laws.{GrantsFirst}
 use Rattle.vlm_words.proofs.Each.{Found, found_at}
 use Rattle.vlm_words.proofs.Sums.{sum_of_zero, sum_same}
@@ -33,11 +33,11 @@ locks pid lkid row = cond (is_lock_of pid lkid row) 1 0
 abbrev pub held_by : ℕ → ℕ → Resource → ℕ
 held_by pid lkid r = sum_by (locks pid lkid) r.granted + sum_by (locks pid lkid) r.converting
 
-locks_named : (pid lkid : ℕ) → IsByName (locks pid lkid)
+pub locks_named : (pid lkid : ℕ) → IsByName (locks pid lkid)
 locks_named pid lkid row held want armed = refl
 
 -- a row of the lock is one of its identification
-locks-le-stands : (pid lkid : ℕ) (row : Row) → locks pid lkid row ≤ stands lkid row
+pub locks-le-stands : (pid lkid : ℕ) (row : Row) → locks pid lkid row ≤ stands lkid row
 locks-le-stands pid lkid row = of_tests (row.lkid == lkid) (row.pid == pid)
   where
     of_tests : (a b : Bool) → cond (a && b) 1 0 ≤ cond a 1 0
@@ -61,7 +61,7 @@ sum_kept f keep light (row ∷ rows) =
     ] refl
 
 -- rows of another lock go, and those of this one stay
-others_go : (pid lkid other : ℕ) → (lkid == other) ≡ false → (rows : List Row)
+pub others_go : (pid lkid other : ℕ) → (lkid == other) ≡ false → (rows : List Row)
     → sum_by (locks pid lkid) (rows_without other rows) ≡ sum_by (locks pid lkid) rows
 others_go pid lkid other differs rows =
     sum_kept (locks pid lkid) (λ row. not (row.lkid == other)) (λ row dropped. locks_elsewhere pid lkid other differs row (not_not (row.lkid == other) dropped)) rows
@@ -90,10 +90,10 @@ served_held pid lkid block r =
     fewer_left (suc n) (row ∷ rows) = omega (arith, fewer_left n rows, sum_by-cons (locks pid lkid) row rows)
 
 -- the entry of a lock takes none away
-pub entered_held : (pid lkid : ℕ) (row : Row) (request : Request) (r : Resource) → held_by pid lkid r ≤ held_by pid lkid (resource_after_entry row request r)
+pub entered_held : (pid lkid : ℕ) (row : Row) (at_once : Bool) (r : Resource) → held_by pid lkid r ≤ held_by pid lkid (resource_after_entry row at_once r)
 unfolding resource_after_entry
-entered_held pid lkid row request r =
-    cond_both (is_at_once request r) (resource_after_grant r row) (record r { waiting = r.waiting ++ row ∷ [] }) (λ after. held_by pid lkid r ≤ held_by pid lkid after)
+entered_held pid lkid row at_once r =
+    cond_both at_once (resource_after_grant r row) (record r { waiting = r.waiting ++ row ∷ [] }) (λ after. held_by pid lkid r ≤ held_by pid lkid after)
     (λ _. omega (arith, sum_by_push (locks pid lkid) r.granted (granted_row row))) (λ _. omega arith)
 
 -- where a lock has one row on the resource, all that is held of an identification is held by the row that is found
@@ -117,13 +117,13 @@ only_row pid lkid rows row test one is at =
     )
 
 -- a conversion takes none away, where its lock has one row on the resource
-converted_row_held : (pid lkid owner other : ℕ) (request : Request) (block : ValueBlock) (r : Resource) → weigh (stands other) r ≤ 1 → (found : Option Row)
-    → find (is_lock_of owner other) r.granted ≡ found → held_by pid lkid r ≤ held_by pid lkid (resource_after_conversion_of request other block r found)
-converted_row_held pid lkid owner other request block r one None is = omega arith
-converted_row_held pid lkid owner other request block r one (Some row) is =
+converted_row_held : (pid lkid owner other : ℕ) (request : Request) (at_once : Bool) (block : ValueBlock) (r : Resource) → weigh (stands other) r ≤ 1 → (found : Option Row)
+    → find (is_lock_of owner other) r.granted ≡ found → held_by pid lkid r ≤ held_by pid lkid (resource_after_conversion_of request at_once other block r found)
+converted_row_held pid lkid owner other request at_once block r one None is = omega arith
+converted_row_held pid lkid owner other request at_once block r one (Some row) is =
     let at : Found (is_lock_of owner other) r.granted row = found_at (is_lock_of owner other) r.granted row is in
     let stays : sum_by (locks pid lkid) r.granted ≤ sum_by (locks pid lkid) (rows_without other r.granted) + locks pid lkid row = same_or_other at in
-    elim (converts_at_once request other r) as (λ b. held_by pid lkid r
+    elim at_once as (λ b. held_by pid lkid r
     ≤ held_by pid lkid (cond b (with_value_block block (resource_after_grant (resource_without_granted other r) (wanting_row row request)))
     (record (resource_without_granted other r) { converting = r.converting ++ wanting_row row request ∷ [] }))) [
       | true ↦ omega (
@@ -154,11 +154,11 @@ converted_row_held pid lkid owner other request block r one (Some row) is =
         ]
 
 -- the same, for the row that is found
-pub converted_held : (pid lkid owner other : ℕ) (request : Request) (block : ValueBlock) (r : Resource) → weigh (stands other) r ≤ 1
-    → held_by pid lkid r ≤ held_by pid lkid (resource_after_conversion request owner other block r)
+pub converted_held : (pid lkid owner other : ℕ) (request : Request) (at_once : Bool) (block : ValueBlock) (r : Resource) → weigh (stands other) r ≤ 1
+    → held_by pid lkid r ≤ held_by pid lkid (resource_after_conversion request at_once owner other block r)
 unfolding resource_after_conversion
-converted_held pid lkid owner other request block r one =
-    converted_row_held pid lkid owner other request block r one (find (is_lock_of owner other) r.granted) refl
+converted_held pid lkid owner other request at_once block r one =
+    converted_row_held pid lkid owner other request at_once block r one (find (is_lock_of owner other) r.granted) refl
 
 -- a cancel takes none away: what converts is granted again
 cancelled_held : (pid lkid other : ℕ) (r : Resource) → held_by pid lkid r ≤ held_by pid lkid (resource_after_cancel other r)
@@ -183,9 +183,11 @@ left_held pid lkid w r =
     (λ left. held_by pid lkid left ≡ held_by pid lkid r) (λ _. refl) (λ _. refl)
 
 -- a dequeue takes none of another lock away, and a cancel takes none
-pub dequeued_held : (pid lkid : ℕ) (w : Withdrawal) → (w.cancels ≡ false → (lkid == w.lkid) ≡ false) → (r : Resource)
-    → held_by pid lkid r ≤ held_by pid lkid (resource_after_withdrawal w r)
-dequeued_held pid lkid w differs r =
-    cond_both w.cancels (resource_after_cancel w.lkid r) (resource_without w.lkid (resource_after_writer w r))
-    (λ left. held_by pid lkid r ≤ held_by pid lkid left) (λ _. cancelled_held pid lkid w.lkid r)
-    (λ goes. omega (arith, left_held pid lkid w r, without_held pid lkid w.lkid (differs goes) (resource_after_writer w r)))
+pub withdrawn_held : (pid lkid : ℕ) (w : Withdrawal) → (w.stays ≡ false → (lkid == w.lkid) ≡ false) → (r : Resource)
+    → held_by pid lkid r ≤ held_by pid lkid (resource_after_withdrawals (w ∷ []) r)
+withdrawn_held pid lkid w differs r =
+    let left : Resource = resource_after_writer w r in
+    cond_both w.stays (resource_after_cancel w.lkid left) (resource_without w.lkid left)
+    (λ gone. held_by pid lkid r ≤ held_by pid lkid gone)
+    (λ _. omega (arith, left_held pid lkid w r, cancelled_held pid lkid w.lkid left))
+    (λ goes. omega (arith, left_held pid lkid w r, without_held pid lkid w.lkid (differs goes) left))

@@ -13,7 +13,7 @@ use Rattle.vlm_words.specs.Endings.How.{by_grant}
 use Rattle.vlm_words.specs.Effects.{with_value_block}
 use Rattle.vlm_words.specs.Grants.{Service, grant_act, grant_endings, granted_row, is_empty, no_service, resource_after_grant, service, service_after_grant, service_of_conversions, service_of_new_requests, service_of_waiting, wanted_fits}
 use Rattle.vlm_words.specs.Sweeps.{blocks_after_service, is_vacant, resource_after_service, resources_after_sweep, sweep_endings}
-use Rattle.vlm_words.specs.Laws.{GrantsFirst, IsGrantOf, IsGranted, IsSameResource, IsVacant, SweptInOrder, goes, none, stays}
+use Rattle.vlm_words.specs.Laws.{GrantsFirst, IsGrantOf, IsGranted, IsSameButArmed, IsSameResource, IsVacant, SweptInOrder, goes, none, stays}
 use Rattle.vlm_words.proofs.NothingLeft.{is_empty-true}
 
 -- of the rows in a queue the first are granted in their order, and these are left
@@ -141,7 +141,7 @@ zip_append R (x ∷ xs) [] more others first second = absurd first
 zip_append R (x ∷ xs) (y ∷ ys) more others first second = (first.0, zip_append R xs ys more others first.1 second)
 
 -- one resource after another
-same_then : (a b c : Resource) → IsSameResource a b → IsSameResource b c → IsSameResource a c
+pub same_then : (a b c : Resource) → IsSameResource a b → IsSameResource b c → IsSameResource a c
 same_then a b c first second = record {
   serial = second.serial ∙ first.serial;
   parent = second.parent ∙ first.parent;
@@ -149,6 +149,11 @@ same_then a b c first second = record {
   name = second.name ∙ first.name;
   level = second.level ∙ first.level;
 }
+
+-- rows that stay are the same
+same_each : (rows : List Row) → AllZip IsSameButArmed rows rows
+same_each [] = tt
+same_each (row ∷ rows) = (record { lkid = refl; pid = refl; parent = refl; held = refl; want = refl }, same_each rows)
 
 -- once the conversions are served, and none is left, the new requests are
 then_new_requests : (r left : Resource) (endings : List Ending) → Serves r.converting r.granted left.granted left.converting endings
@@ -163,7 +168,9 @@ then_new_requests r left endings first same =
     (λ none. record {
       conversions = first.served_rows;
       new_requests = second.served_rows;
+      kept = r.granted;
       given = first.given ++ second.given;
+      stay = same_each r.granted;
       same = same_then r left further.resource same.same leaves.same;
       converting = leaves.converting ∙ first.rest;
       waiting = second.rest ∙ ap (drop second.served_rows) same.waiting;
@@ -181,7 +188,9 @@ then_new_requests r left endings first same =
     (λ _. record {
       conversions = first.served_rows;
       new_requests = 0;
+      kept = r.granted;
       given = first.given;
+      stay = same_each r.granted;
       same = same.same;
       converting = first.rest;
       waiting = same.waiting;
@@ -205,7 +214,9 @@ with_any_value_block : (block : ValueBlock) (before after : Resource) (endings :
 with_any_value_block block before after endings first = record {
   conversions = first.conversions;
   new_requests = first.new_requests;
+  kept = first.kept;
   given = first.given;
+  stay = first.stay;
   same = record { serial = first.same.serial; parent = first.same.parent; domain = first.same.domain; name = first.same.name; level = first.same.level };
   converting = first.converting;
   waiting = first.waiting;

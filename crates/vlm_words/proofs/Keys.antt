@@ -14,11 +14,8 @@ use Rattle.vlm_words.specs.declared.resources.Key.TheVariants.{Root, Below}
 use Rattle.vlm_words.specs.declared.resources.Key.{Key}
 use Rattle.vlm_words.specs.declared.resources.Site.{Site}
 use Rattle.vlm_words.specs.declared.resources.ValueBlock.{ValueBlock}
-use Rattle.vlm_words.specs.declared.steps.Answer.{Answer}
 use Rattle.vlm_words.specs.declared.steps.NewRequest.{NewRequest}
-use Rattle.vlm_words.specs.declared.steps.Step.{Step}
 use Rattle.vlm_words.specs.State.{Process, Resource, State}
-use Rattle.vlm_words.specs.Endings.{Ending}
 use Rattle.vlm_words.specs.Effects.{with_value_block}
 use Rattle.vlm_words.specs.Grants.{resource_after_grant, service}
 use Rattle.vlm_words.specs.Sweeps.{blocks_after_service, is_vacant, resource_after_service, resources_after_service, resources_after_sweep, state_after_sweep}
@@ -28,17 +25,19 @@ use Rattle.vlm_words.specs.Checks.{holds_lock}
 use Rattle.vlm_words.specs.Trees.{enq_site, parent_lkid, parent_resource, root_domain, site_below}
 use Rattle.vlm_words.specs.Declare.{declare_change}
 use Rattle.vlm_words.specs.SetValue.{set_change}
-use Rattle.vlm_words.specs.Enqueue.{enq_change, enq_key, enq_request, enq_row, has_resource, is_at_once, resource_after_entry, resources_after_entry}
-use Rattle.vlm_words.specs.Convert.{convert_blocks, convert_change, convert_lkid, converts_at_once, resource_after_conversion, resource_after_conversion_of, resource_without_granted, wanting_row}
-use Rattle.vlm_words.specs.Dequeue.{Withdrawal, deq_change, is_held_by_writer, resource_after_cancel, resource_after_withdrawal, resource_after_writer, resource_without, value_block_after_writer, withdrawal_of}
-use Rattle.vlm_words.specs.Runs.{Run}
+use Rattle.vlm_words.specs.Enqueue.{enq_at_once, enq_change, enq_key, enq_row, has_resource, resource_after_entry, resources_after_entry}
+use Rattle.vlm_words.specs.Convert.{convert_blocks, convert_change, convert_lkid, resource_after_conversion, resource_after_conversion_of, resource_without_granted, wanting_row}
+use Rattle.vlm_words.specs.Dequeue.{deq_change, withdrawals_of}
+use Rattle.vlm_words.specs.Withdrawals.{Withdrawal, is_held_by_writer, resource_after_cancel, resource_after_withdrawals, resource_after_writer, resource_without, value_block_after_writer, resource_after_going}
+use Rattle.vlm_words.specs.Runs.{History, Run}
 use Rattle.vlm_words.specs.Laws.{HaveOneKey, IsSameResource, KeysAreApart, SerialsRise}
 use Rattle.vlm_words.specs.Lines.{given}
 use Rattle.vlm_words.proofs.Each.{Found, each_at, each_filter, each_map, each_weaker, found_at}
 use Rattle.vlm_words.proofs.EachResource.{each_served, each_entered_among}
 use Rattle.vlm_words.proofs.Pairs.{EachPair, AllPairs-from_recursion, each_pair_filter}
-use Rattle.vlm_words.proofs.InOrder.{same_resource, service_in_order}
+use Rattle.vlm_words.proofs.InOrder.{same_resource, same_then, service_in_order}
 use Rattle.vlm_words.proofs.Always.{always, kept_by_stepped}
+use Rattle.vlm_words.proofs.Withdrawing.{kept_withdrawn}
 
 -- the fact depends on where resources stand alone
 abbrev pub StandsOnPlaces : (Resource → Resource → Type 0) → Type 0
@@ -49,38 +48,46 @@ abbrev pub KeepsPlace : (Resource → Resource) → Type 0
 KeepsPlace f = (r : Resource) → IsSameResource r (f r)
 
 -- a lock's entry
-pub entry_keeps_place : (row : Row) (request : Request) → KeepsPlace (resource_after_entry row request)
+pub entry_keeps_place : (row : Row) (at_once : Bool) → KeepsPlace (resource_after_entry row at_once)
 unfolding resource_after_entry
-entry_keeps_place row request r =
-    cond_both (is_at_once request r) (resource_after_grant r row) (record r { waiting = r.waiting ++ row ∷ [] }) (IsSameResource r)
+entry_keeps_place row at_once r =
+    cond_both at_once (resource_after_grant r row) (record r { waiting = r.waiting ++ row ∷ [] }) (IsSameResource r)
     (λ _. record { serial = refl; parent = refl; domain = refl; name = refl; level = refl })
     (λ _. record { serial = refl; parent = refl; domain = refl; name = refl; level = refl })
 
 -- a conversion
-pub conversion_keeps_place : (request : Request) (pid lkid : ℕ) (block : ValueBlock) → KeepsPlace (resource_after_conversion request pid lkid block)
+pub conversion_keeps_place : (request : Request) (at_once : Bool) (pid lkid : ℕ) (block : ValueBlock) → KeepsPlace (resource_after_conversion request at_once pid lkid block)
 unfolding resource_after_conversion
-conversion_keeps_place request pid lkid block r = of_found (find (is_lock_of pid lkid) r.granted)
+conversion_keeps_place request at_once pid lkid block r = of_found (find (is_lock_of pid lkid) r.granted)
   where
-    of_found : (found : Option Row) → IsSameResource r (resource_after_conversion_of request lkid block r found)
+    of_found : (found : Option Row) → IsSameResource r (resource_after_conversion_of request at_once lkid block r found)
     of_found None = same_resource r
     of_found (Some row) =
-        cond_both (converts_at_once request lkid r)
+        cond_both at_once
         (with_value_block block (resource_after_grant (resource_without_granted lkid r) (wanting_row row request)))
         (record (resource_without_granted lkid r) { converting = r.converting ++ wanting_row row request ∷ [] }) (IsSameResource r)
         (λ _. record { serial = refl; parent = refl; domain = refl; name = refl; level = refl })
         (λ _. record { serial = refl; parent = refl; domain = refl; name = refl; level = refl })
 
--- a dequeue
-pub withdrawal_keeps_place : (w : Withdrawal) → KeepsPlace (resource_after_withdrawal w)
+-- what a lock leaves in the value block
+left_keeps_place : (w : Withdrawal) → KeepsPlace (resource_after_writer w)
+left_keeps_place w r =
+    cond_both (is_held_by_writer w.lkid r) (record r { value_block = value_block_after_writer w r.value_block }) r (IsSameResource r)
+    (λ _. record { serial = refl; parent = refl; domain = refl; name = refl; level = refl }) (λ _. same_resource r)
+
+-- a lock that goes or stays
+gone_keeps_place : (w : Withdrawal) → KeepsPlace (resource_after_going w)
 unfolding resource_without resource_after_cancel
-withdrawal_keeps_place w r =
-    cond_both w.cancels (resource_after_cancel w.lkid r) (resource_without w.lkid (resource_after_writer w r)) (IsSameResource r)
+gone_keeps_place w r =
+    cond_both w.stays (resource_after_cancel w.lkid r) (resource_without w.lkid r) (IsSameResource r)
     (λ _. record { serial = refl; parent = refl; domain = refl; name = refl; level = refl })
-    (λ _.
-    cond_both (is_held_by_writer w.lkid r) (record r { value_block = value_block_after_writer w r.value_block }) r
-    (λ left. IsSameResource r (resource_without w.lkid left))
     (λ _. record { serial = refl; parent = refl; domain = refl; name = refl; level = refl })
-    (λ _. record { serial = refl; parent = refl; domain = refl; name = refl; level = refl }))
+
+-- withdrawals
+pub withdrawals_keep_place : (withdrawals : List Withdrawal) → KeepsPlace (resource_after_withdrawals withdrawals)
+withdrawals_keep_place withdrawals r =
+    kept_withdrawn (IsSameResource r) (λ w left same. same_then r left (resource_after_writer w left) same (left_keeps_place w left))
+    (λ w left same. same_then r left (resource_after_going w left) same (gone_keeps_place w left)) withdrawals r (same_resource r)
 
 -- service, whatever value block is left
 pub service_keeps_place : (block : ValueBlock) (r : Resource) → IsSameResource r (with_value_block block (service r).resource)
@@ -119,21 +126,21 @@ pairs_after_sweep R stands processes resources pairs =
 
 -- a lock's entry keeps the pairs, where those before a new resource have the relation to it
 pairs_after_entry : (R : Resource → Resource → Type 0) → StandsOnPlaces R → (serial : ℕ) (site : Site) (row : Row)
-    (request : Request) (resources : List Resource)
+    (at_once : Bool) (resources : List Resource)
     → AllByRecursion (λ r. is_at site.key r ≡ false → R r (new_resource serial site)) resources
-    → EachPair R resources → EachPair R (resources_after_entry serial site row request resources)
-pairs_after_entry R stands serial site row request [] fresh pairs = (tt, tt)
-pairs_after_entry R stands serial site row request (r ∷ rest) fresh pairs =
-    cond_both (is_at site.key r) (resource_after_entry row request r ∷ rest) (r ∷ resources_after_entry serial site row request rest) (EachPair R)
+    → EachPair R resources → EachPair R (resources_after_entry serial site row at_once resources)
+pairs_after_entry R stands serial site row at_once [] fresh pairs = (tt, tt)
+pairs_after_entry R stands serial site row at_once (r ∷ rest) fresh pairs =
+    cond_both (is_at site.key r) (resource_after_entry row at_once r ∷ rest) (r ∷ resources_after_entry serial site row at_once rest) (EachPair R)
     (λ _. (
-      each_weaker (R r) (R (resource_after_entry row request r))
-          (λ other to. stands r other (resource_after_entry row request r) other (entry_keeps_place row request r) (same_resource other) to) rest pairs.0,
+      each_weaker (R r) (R (resource_after_entry row at_once r))
+          (λ other to. stands r other (resource_after_entry row at_once r) other (entry_keeps_place row at_once r) (same_resource other) to) rest pairs.0,
       pairs.1,
     ))
     (λ elsewhere. (
-      each_entered_among (R r) serial site row request (fresh.0 elsewhere)
-          (λ other to. stands r other r (resource_after_entry row request other) (same_resource r) (entry_keeps_place row request other) to) rest pairs.0,
-      pairs_after_entry R stands serial site row request rest fresh.1 pairs.1,
+      each_entered_among (R r) serial site row at_once (fresh.0 elsewhere)
+          (λ other to. stands r other r (resource_after_entry row at_once other) (same_resource r) (entry_keeps_place row at_once other) to) rest pairs.0,
+      pairs_after_entry R stands serial site row at_once rest fresh.1 pairs.1,
     ))
 
 -- serials rise
@@ -221,19 +228,19 @@ still_given : (next later : ℕ) (before after : Resource) → next ≤ later �
 still_given next later before after more same given = (omega (arith, same.serial, given.0), omega (arith, same.serial, given.1))
 
 -- the serials after a lock's entry are below the one that comes then
-given_after_entry : (n : ℕ) (site : Site) (row : Row) (request : Request) (resources : List Resource) → 0 < n
+given_after_entry : (n : ℕ) (site : Site) (row : Row) (at_once : Bool) (resources : List Resource) → 0 < n
     → AllByRecursion (WasGiven n) resources
-    → AllByRecursion (WasGiven (cond (has_resource site.key resources) n (n + 1))) (resources_after_entry n site row request resources)
-given_after_entry n site row request [] first given =
-    let serial : (resource_after_entry row request (new_resource n site)).serial ≡ n =
-    (entry_keeps_place row request (new_resource n site)).serial in
+    → AllByRecursion (WasGiven (cond (has_resource site.key resources) n (n + 1))) (resources_after_entry n site row at_once resources)
+given_after_entry n site row at_once [] first given =
+    let serial : (resource_after_entry row at_once (new_resource n site)).serial ≡ n =
+    (entry_keeps_place row at_once (new_resource n site)).serial in
     ((omega (arith, serial), omega (arith, serial)), tt)
-given_after_entry n site row request (r ∷ rest) first given =
-    let behind : AllByRecursion (WasGiven (cond (has_resource site.key rest) n (n + 1))) (resources_after_entry n site row request rest) =
-    given_after_entry n site row request rest first given.1 in
+given_after_entry n site row at_once (r ∷ rest) first given =
+    let behind : AllByRecursion (WasGiven (cond (has_resource site.key rest) n (n + 1))) (resources_after_entry n site row at_once rest) =
+    given_after_entry n site row at_once rest first given.1 in
     elim (is_at site.key r) as (λ b. AllByRecursion (WasGiven (cond (b || has_resource site.key rest) n (n + 1)))
-    (cond b (resource_after_entry row request r ∷ rest) (r ∷ resources_after_entry n site row request rest))) [
-      | true ↦ (still_given n n r (resource_after_entry row request r) (omega arith) (entry_keeps_place row request r) given.0, given.1)
+    (cond b (resource_after_entry row at_once r ∷ rest) (r ∷ resources_after_entry n site row at_once rest))) [
+      | true ↦ (still_given n n r (resource_after_entry row at_once r) (omega arith) (entry_keeps_place row at_once r) given.0, given.1)
       | false ↦ (still_given n (cond (has_resource site.key rest) n (n + 1)) r r (no_less (has_resource site.key rest)) (same_resource r) given.0, behind)
     ]
   where
@@ -308,14 +315,14 @@ entry_placed : (s : State) (e : NewRequest) → Placed s → Placed (enq_change 
 unfolding enq_change
 entry_placed s e placed = record {
   rising =
-      pairs_after_entry Rises rises_on_places s.next_serial (enq_site s e) (enq_row s e) (enq_request s e) s.resources
+      pairs_after_entry Rises rises_on_places s.next_serial (enq_site s e) (enq_row s e) (enq_at_once s e) s.resources
       (each_weaker (WasGiven s.next_serial) (λ r. is_at (enq_key s e) r ≡ false → r.serial < s.next_serial) (λ r was _. was.1) s.resources
       placed.given) placed.rising;
-  given = given_after_entry s.next_serial (enq_site s e) (enq_row s e) (enq_request s e) s.resources placed.first placed.given;
+  given = given_after_entry s.next_serial (enq_site s e) (enq_row s e) (enq_at_once s e) s.resources placed.first placed.given;
   first = first_after_entry (has_resource (enq_key s e) s.resources) s.next_serial placed.first;
   few = few_after_entry (has_resource (enq_key s e) s.resources) s.next_serial s.next_lkid placed.few;
   two_keys =
-      pairs_after_entry HaveTwoKeys two_keys_on_places s.next_serial (enq_site s e) (enq_row s e) (enq_request s e) s.resources
+      pairs_after_entry HaveTwoKeys two_keys_on_places s.next_serial (enq_site s e) (enq_row s e) (enq_at_once s e) s.resources
       (each_elsewhere s.resources) placed.two_keys;
 }
   where
@@ -340,29 +347,29 @@ unchanged_placed s t resources same same_locks placed = record {
 }
 
 -- after every run the resources are placed
-pub placed_always : (steps : List Step) (answers : List Answer) (endings : List Ending) (last : State)
-    → Run steps answers endings last → Placed last
+pub placed_always : (history : History) (last : State)
+    → Run history last → Placed last
 unfolding declare_change set_change convert_change deq_change
 placed_always =
     always (λ _ s. Placed s) (record { rising = tt; given = tt; first = omega arith; few = omega arith; two_keys = tt })
-    (λ _ _ endings s _ placed.
-    kept_by_stepped (λ _ t. Placed t) endings s placed
+    (λ history s _ placed.
+    kept_by_stepped (λ _ t. Placed t) history.endings s placed
     (λ d _. swept_placed (declare_change s d) (unchanged_placed s (declare_change s d) refl refl refl placed))
     (λ v _. swept_placed (set_change s v) (unchanged_placed s (set_change s v) refl refl refl placed))
     (λ e _. swept_placed (enq_change s e) (entry_placed s e placed))
     (λ c a _ _.
     swept_placed (convert_change s c a)
-    (mapped_placed s (convert_change s c a) (resource_after_conversion a.request c.pid (convert_lkid s c) (convert_blocks s c a).value_block)
-    (conversion_keeps_place a.request c.pid (convert_lkid s c) (convert_blocks s c a).value_block) refl refl refl placed))
+    (mapped_placed s (convert_change s c a) (resource_after_conversion a.request a.at_once c.pid (convert_lkid s c) (convert_blocks s c a).value_block)
+    (conversion_keeps_place a.request a.at_once c.pid (convert_lkid s c) (convert_blocks s c a).value_block) refl refl refl placed))
     (λ d _.
     swept_placed (deq_change s d)
-    (mapped_placed s (deq_change s d) (resource_after_withdrawal (withdrawal_of s d)) (withdrawal_keeps_place (withdrawal_of s d)) refl refl refl placed)))
+    (mapped_placed s (deq_change s d) (resource_after_withdrawals (withdrawals_of s d)) (withdrawals_keep_place (withdrawals_of s d)) refl refl refl placed)))
 
 -- after every run serials rise
-pub serials_always : (steps : List Step) (answers : List Answer) (endings : List Ending) (last : State)
-    → Run steps answers endings last → SerialsRise last
-serials_always steps answers endings last run =
-    let placed : Placed last = placed_always steps answers endings last run in
+pub serials_always : (history : History) (last : State)
+    → Run history last → SerialsRise last
+serials_always history last run =
+    let placed : Placed last = placed_always history last run in
     record {
       rising = AllPairs-from_recursion Rises last.resources placed.rising;
       from_1 = All-from_recursion (λ r. 0 < r.serial) last.resources
@@ -373,7 +380,7 @@ serials_always steps answers endings last run =
     }
 
 -- after every run keys are apart
-pub keys_always : (steps : List Step) (answers : List Answer) (endings : List Ending) (last : State)
-    → Run steps answers endings last → KeysAreApart last
-keys_always steps answers endings last run =
-    AllPairs-from_recursion HaveTwoKeys last.resources (placed_always steps answers endings last run).two_keys
+pub keys_always : (history : History) (last : State)
+    → Run history last → KeysAreApart last
+keys_always history last run =
+    AllPairs-from_recursion HaveTwoKeys last.resources (placed_always history last run).two_keys

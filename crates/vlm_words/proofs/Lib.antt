@@ -3,6 +3,7 @@ pub mod Pairs
 pub mod Passed
 pub mod Always
 pub mod EachResource
+pub mod Withdrawing
 pub mod NothingLeft
 pub mod HeldModes
 pub mod RowsFit
@@ -17,6 +18,8 @@ pub mod EndsOnce
 pub mod InOrder
 pub mod Keys
 pub mod AtOnce
+pub mod Granted
+pub mod Joining
 pub mod Writes
 pub mod Settled
 pub mod Processes
@@ -24,3 +27,13 @@ pub mod Declarations
 pub mod Quotas
 pub mod Holdings
 pub mod Trees
+pub mod Owners
+pub mod Numbers
+pub mod FlagBits
+pub mod Refusals
+pub mod ReasonsOfConversions
+pub mod ReasonsOfRequests
+pub mod Acceptances
+pub mod Reasons
+pub mod Privileges
+pub mod Queued

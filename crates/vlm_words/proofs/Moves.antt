@@ -16,12 +16,13 @@ use Rattle.vlm_words.specs.Grants.{grant_endings, granted_row, is_arming, resour
 use Rattle.vlm_words.specs.Sweeps.{resources_after_sweep, sweep_endings}
 use Rattle.vlm_words.specs.Rows.{is_lock_of, rows_of, rows_without}
 use Rattle.vlm_words.specs.Trees.{enq_site}
-use Rattle.vlm_words.specs.Enqueue.{enq_change, enq_endings, enq_request, enq_resource, enq_row}
-use Rattle.vlm_words.specs.Convert.{converts_at_once, resource_after_conversion, resource_after_conversion_of, resource_without_granted, wanting_row}
-use Rattle.vlm_words.specs.Dequeue.{Withdrawal, is_held_by_writer, resource_after_cancel, resource_after_withdrawal, resource_after_writer, resource_without, row_after_cancel, value_block_after_writer}
+use Rattle.vlm_words.specs.Enqueue.{enq_at_once, enq_change, enq_endings, enq_resource, enq_row}
+use Rattle.vlm_words.specs.Convert.{resource_after_conversion, resource_after_conversion_of, resource_without_granted, wanting_row}
+use Rattle.vlm_words.specs.Withdrawals.{resource_after_going, resource_after_withdrawals, Withdrawal, is_held_by_writer, resource_after_cancel, resource_after_withdrawals, resource_after_writer, resource_without, row_after_cancel, value_block_after_writer}
 use Rattle.vlm_words.proofs.Each.{Found, found_at}
 use Rattle.vlm_words.proofs.Sums.{sum_of_zero, sum_filter-le, sum_filter_but-le, sum_changed-le, sum_same}
 use Rattle.vlm_words.proofs.Weights.{weigh, GrantKeeps, swept_weighs, entered_among_weighs}
+use Rattle.vlm_words.proofs.Withdrawing.{kept_withdrawn}
 
 -- what a row weighs does not depend on what it holds and wants
 abbrev pub IsByName : (Row → ℕ) → Type 0
@@ -45,22 +46,22 @@ entered_named f named s e =
     omega (
       arith,
       swept_named f named (enq_change s e).processes (enq_change s e).resources,
-      entered_among_weighs f (λ ending. 0) (grant_keeps f named) s.next_serial (enq_site s e) (enq_row s e) (enq_request s e) s.resources,
+      entered_among_weighs f (λ ending. 0) (grant_keeps f named) s.next_serial (enq_site s e) (enq_row s e) (enq_at_once s e) s.resources,
       sum_of_zero {X = Ending} (enq_endings s e),
     )
 
 -- a conversion adds no weight, whichever row is found
-converted_row_named : (f : Row → ℕ) → IsByName f → (request : Request) (pid lkid : ℕ) (block : ValueBlock) (r : Resource) (found : Option Row)
-    → find (is_lock_of pid lkid) r.granted ≡ found → weigh f (resource_after_conversion_of request lkid block r found) ≤ weigh f r
-converted_row_named f named request pid lkid block r None is = omega arith
-converted_row_named f named request pid lkid block r (Some row) is =
+converted_row_named : (f : Row → ℕ) → IsByName f → (request : Request) (at_once : Bool) (pid lkid : ℕ) (block : ValueBlock) (r : Resource) (found : Option Row)
+    → find (is_lock_of pid lkid) r.granted ≡ found → weigh f (resource_after_conversion_of request at_once lkid block r found) ≤ weigh f r
+converted_row_named f named request at_once pid lkid block r None is = omega arith
+converted_row_named f named request at_once pid lkid block r (Some row) is =
     let at : Found (is_lock_of pid lkid) r.granted row = found_at (is_lock_of pid lkid) r.granted row is in
     let fewer : sum_by f (rows_without lkid r.granted) + f row ≤ sum_by f r.granted =
     sum_filter_but-le f (is_lock_of pid lkid) (λ each. not (each.lkid == lkid)) r.granted row
     (ap not (and_parts (row.lkid == lkid) (row.pid == pid) at.passes).0) at in
     let wanting : f (wanting_row row request) ≡ f row = named row row.held (Some request) row.armed in
     let granted : f (granted_row (wanting_row row request)) ≡ f row = named row (Some request) None (is_arming (Some request)) in
-    elim (converts_at_once request lkid r) as (λ b.
+    elim at_once as (λ b.
     weigh f (cond b (with_value_block block (resource_after_grant (resource_without_granted lkid r) (wanting_row row request)))
     (record (resource_without_granted lkid r) { converting = r.converting ++ wanting_row row request ∷ [] })) ≤ weigh f r) [
       | true ↦ omega (arith, fewer, granted, sum_by_push f (rows_without lkid r.granted) (granted_row (wanting_row row request)))
@@ -68,10 +69,10 @@ converted_row_named f named request pid lkid block r (Some row) is =
     ]
 
 -- the same, for the row that is found
-pub converted_named : (f : Row → ℕ) → IsByName f → (request : Request) (pid lkid : ℕ) (block : ValueBlock) (r : Resource)
-    → weigh f (resource_after_conversion request pid lkid block r) ≤ weigh f r
+pub converted_named : (f : Row → ℕ) → IsByName f → (request : Request) (at_once : Bool) (pid lkid : ℕ) (block : ValueBlock) (r : Resource)
+    → weigh f (resource_after_conversion request at_once pid lkid block r) ≤ weigh f r
 unfolding resource_after_conversion
-converted_named f named request pid lkid block r = converted_row_named f named request pid lkid block r (find (is_lock_of pid lkid) r.granted) refl
+converted_named f named request at_once pid lkid block r = converted_row_named f named request at_once pid lkid block r (find (is_lock_of pid lkid) r.granted) refl
 
 -- a lock that goes adds no weight
 without_named : (f : Row → ℕ) (lkid : ℕ) (r : Resource) → weigh f (resource_without lkid r) ≤ weigh f r
@@ -102,12 +103,19 @@ left_named f w r =
     cond_both (is_held_by_writer w.lkid r) (record r { value_block = value_block_after_writer w r.value_block }) r
     (λ left. weigh f left ≡ weigh f r) (λ _. refl) (λ _. refl)
 
--- a dequeue of either kind adds no weight
-pub dequeued_named : (f : Row → ℕ) → IsByName f → (w : Withdrawal) (r : Resource) → weigh f (resource_after_withdrawal w r) ≤ weigh f r
-dequeued_named f named w r =
-    cond_both w.cancels (resource_after_cancel w.lkid r) (resource_without w.lkid (resource_after_writer w r))
-    (λ left. weigh f left ≤ weigh f r)
-    (λ _. cancelled_named f named w.lkid r) (λ _. omega (arith, without_named f w.lkid (resource_after_writer w r), left_named f w r))
+-- a lock that goes or stays adds no weight
+gone_named : (f : Row → ℕ) → IsByName f → (w : Withdrawal) (r : Resource) → weigh f (resource_after_going w r) ≤ weigh f r
+gone_named f named w r =
+    cond_both w.stays (resource_after_cancel w.lkid r) (resource_without w.lkid r) (λ left. weigh f left ≤ weigh f r)
+    (λ _. cancelled_named f named w.lkid r) (λ _. without_named f w.lkid r)
+
+-- withdrawals add no weight
+pub withdrawn_named : (f : Row → ℕ) → IsByName f → (withdrawals : List Withdrawal) (r : Resource)
+    → weigh f (resource_after_withdrawals withdrawals r) ≤ weigh f r
+withdrawn_named f named withdrawals r =
+    kept_withdrawn (λ left. weigh f left ≤ weigh f r)
+    (λ w left fewer. omega (arith, left_named f w left, fewer))
+    (λ w left fewer. omega (arith, gone_named f named w left, fewer)) withdrawals r (omega arith)
 
 -- a change that adds no weight on any resource adds none to all, once they are swept
 pub changed_named : (f : Row → ℕ) → IsByName f → (change : Resource → Resource) → ((r : Resource) → weigh f (change r) ≤ weigh f r)

@@ -9,12 +9,9 @@ use Rattle.std.proofs.lemmas.List.Elements.{All-from_recursion}
 use Rattle.vlm_words.specs.declared.locks.Request.{Request}
 use Rattle.vlm_words.specs.declared.locks.Row.{Row}
 use Rattle.vlm_words.specs.declared.modes.Mode.{Mode}
-use Rattle.vlm_words.specs.declared.steps.Answer.{Answer}
-use Rattle.vlm_words.specs.declared.steps.Step.{Step}
 use Rattle.vlm_words.specs.State.{Resource, State}
-use Rattle.vlm_words.specs.Endings.{Ending}
 use Rattle.vlm_words.specs.Grants.{fits, is_beside, is_empty, no_service, resource_after_grant, service, service_after_grant, service_of_conversions, service_of_new_requests, service_of_waiting, wanted_fits}
-use Rattle.vlm_words.specs.Runs.{Run}
+use Rattle.vlm_words.specs.Runs.{History, Run}
 use Rattle.vlm_words.specs.Laws.{Conflicts, HeadsDoNotFit, IsBeside, NothingIsLeftToGrant}
 use Rattle.vlm_words.proofs.Each.{each_weaker, Any-here, Any-there}
 use Rattle.vlm_words.proofs.EachResource.{KeptByChanges, each_always}
@@ -121,21 +118,22 @@ heads_conflict r = heads r.granted r.converting r.waiting
 kept_by_all : KeptByChanges (λ _. ⊤)
 kept_by_all = record {
   fresh = λ _ _. tt;
-  entry = λ _ _ _ _ _. tt;
-  conversion = λ _ _ _ _ _ _. tt;
-  removal = λ _ _ _. tt;
+  entry = λ _ _ _ _. tt;
+  conversion = λ _ _ _ _ _ _ _. tt;
+  leaving = λ _ _ _. tt;
+  going = λ _ _ _. tt;
 }
 
 -- after every run nothing is left to grant, by recursion
-pub nothing_fits_always : (steps : List Step) (answers : List Answer) (endings : List Ending) (last : State)
-    → Run steps answers endings last → AllByRecursion NothingFits last.resources
-nothing_fits_always steps answers endings last run =
-    each_always (λ _. ⊤) NothingFits (λ _ _. tt) (λ _ r _. served_stops r) kept_by_all steps answers endings last run
+pub nothing_fits_always : (history : History) (last : State)
+    → Run history last → AllByRecursion NothingFits last.resources
+nothing_fits_always history last run =
+    each_always (λ _. ⊤) NothingFits (λ _ _. tt) (λ _ r _. served_stops r) kept_by_all history last run
 
 -- after every run nothing is left to grant
-pub nothing_left_always : (steps : List Step) (answers : List Answer) (endings : List Ending) (last : State)
-    → Run steps answers endings last → NothingIsLeftToGrant last
-nothing_left_always steps answers endings last run =
+pub nothing_left_always : (history : History) (last : State)
+    → Run history last → NothingIsLeftToGrant last
+nothing_left_always history last run =
     All-from_recursion (λ r. HeadsDoNotFit r.granted r.converting r.waiting) last.resources
     (each_weaker NothingFits (λ r. HeadsDoNotFit r.granted r.converting r.waiting) heads_conflict last.resources
-    (nothing_fits_always steps answers endings last run))
+    (nothing_fits_always history last run))

@@ -41,7 +41,7 @@ rank_zero Pw is = cc
 rank_zero Ex is = cc
 
 -- the second of two tests fails where both do not pass and the first does
-second_fails : (a b : Bool) → (a && b) ≡ false → a ≡ true → b ≡ false
+pub second_fails : (a b : Bool) → (a && b) ≡ false → a ≡ true → b ≡ false
 second_fails true b both first = both
 second_fails false b both first = cc
 

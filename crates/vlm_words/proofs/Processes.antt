@@ -9,9 +9,10 @@ use Rattle.vlm_words.specs.declared.steps.NewRequest.{NewRequest}
 use Rattle.vlm_words.specs.declared.steps.Conversion.{Conversion}
 use Rattle.vlm_words.specs.State.{Process, Resource, State}
 use Rattle.vlm_words.specs.StatusBlocks.{process_after_write, process_with_block, processes_after_acceptance, processes_after_return, processes_after_setting, processes_after_status, processes_after_write}
+use Rattle.vlm_words.specs.declared.resources.ValueBlock.{ValueBlock}
 use Rattle.vlm_words.specs.Endings.{Ending, How}
 use Rattle.vlm_words.specs.Endings.How.{by_grant, by_abort, by_cancel}
-use Rattle.vlm_words.specs.Effects.{Blocks, blocks_after, blocks_after_ending, blocks_after_return, blocks_after_writing, blocks_with}
+use Rattle.vlm_words.specs.Effects.{Blocks, blocks_after, blocks_after_end, blocks_after_ending, blocks_after_return, blocks_after_writing, blocks_with}
 use Rattle.vlm_words.specs.Grants.{service}
 use Rattle.vlm_words.specs.Sweeps.{blocks_after_service, processes_after_service}
 use Rattle.vlm_words.specs.Enqueue.{enq_change, enq_endings, enq_resource}
@@ -46,26 +47,25 @@ module _ {X : Type 0} (shown : Process → X) (blind : (p : Process) (blocks : L
   kept_status pid n cond processes = writes_kept pid n _ processes
 
   -- a returned value block
-  kept_returned : (pid n : ℕ) (cond : Cond) (value : List ℕ) (processes : List Process)
-      → map shown (processes_after_return pid n cond value processes) ≡ map shown processes
+  kept_returned : (pid n : ℕ) (returned : ValueBlock) (processes : List Process)
+      → map shown (processes_after_return pid n returned processes) ≡ map shown processes
   unfolding processes_after_return
-  kept_returned pid n cond value processes = writes_kept pid n _ processes
+  kept_returned pid n returned processes = writes_kept pid n _ processes
 
   -- an ending
-  ending_kept : (how : How) (pid n : ℕ) (b : Blocks) → map shown (blocks_after_ending how pid n b).processes ≡ map shown b.processes
+  ending_kept : (how : How) (ending : Ending) (b : Blocks) → map shown (blocks_after_end how ending b).processes ≡ map shown b.processes
   unfolding blocks_after_return blocks_after_writing
-  ending_kept (by_grant Nothing) pid n b = kept_status pid n _ b.processes
-  ending_kept (by_grant Return) pid n b = kept_returned pid n _ _ b.processes
-  ending_kept (by_grant Write) pid n b = kept_status pid n _ b.processes
-  ending_kept by_abort pid n b = kept_status pid n _ b.processes
-  ending_kept by_cancel pid n b = kept_status pid n _ b.processes
+  ending_kept (by_grant Nothing) ending b = kept_status ending.pid ending.request.block _ b.processes
+  ending_kept (by_grant Return) ending b = kept_returned ending.pid ending.request.block _ b.processes
+  ending_kept (by_grant Write) ending b = kept_status ending.pid ending.request.block _ b.processes
+  ending_kept by_abort ending b = kept_status ending.pid ending.request.block _ b.processes
+  ending_kept by_cancel ending b = kept_status ending.pid ending.request.block _ b.processes
 
   -- endings
   pub kept_ended : (endings : List Ending) (b : Blocks) → map shown (blocks_after endings b).processes ≡ map shown b.processes
   kept_ended [] b = refl
   kept_ended (ending ∷ endings) b =
-      kept_ended endings (blocks_after_ending ending.how ending.pid ending.request.block b)
-      ∙ ending_kept ending.how ending.pid ending.request.block b
+      kept_ended endings (blocks_after_ending ending b) ∙ ending_kept ending.how ending b
 
   -- a sweep
   pub kept_swept : (processes : List Process) (resources : List Resource) → map shown (processes_after_service processes resources) ≡ map shown processes

@@ -7,11 +7,8 @@ use Rattle.std.proofs.lemmas.Bool.Decides.{nat_tests}
 use Rattle.std.proofs.lemmas.List.Sums.{sum_by-append, sum_by-cons}
 use Rattle.vlm_words.specs.declared.conditions.Cond.TheVariants.{Exenqlm}
 use Rattle.vlm_words.specs.declared.locks.Row.{Row}
-use Rattle.vlm_words.specs.declared.steps.Answer.{Answer}
 use Rattle.vlm_words.specs.declared.steps.NewRequest.{NewRequest}
-use Rattle.vlm_words.specs.declared.steps.Step.{Step}
 use Rattle.vlm_words.specs.State.{Process, Resource, State, process_of}
-use Rattle.vlm_words.specs.Endings.{Ending}
 use Rattle.vlm_words.specs.Effects.{blocks_with}
 use Rattle.vlm_words.specs.ValueBlocks.{new_value_block}
 use Rattle.vlm_words.specs.Checks.{numbers_refusal, or_else, queue_refusal}
@@ -21,21 +18,22 @@ use Rattle.vlm_words.specs.SetValue.{set_change}
 use Rattle.vlm_words.specs.Sweeps.{state_after_sweep}
 use Rattle.vlm_words.specs.Enqueue.{enq_at_once, enq_change, enq_limit_refusal, enq_refusal}
 use Rattle.vlm_words.specs.Convert.{convert_blocks, convert_change, convert_lkid, resource_after_conversion}
-use Rattle.vlm_words.specs.Dequeue.{deq_change, deq_endings, resource_after_withdrawal, withdrawal_of}
-use Rattle.vlm_words.specs.Runs.{Run}
+use Rattle.vlm_words.specs.Dequeue.{deq_change, deq_endings, withdrawals_of}
+use Rattle.vlm_words.specs.Withdrawals.{resource_after_withdrawals}
+use Rattle.vlm_words.specs.Runs.{History, Run}
 use Rattle.vlm_words.specs.Laws.{QuotasAreKept, locks_on}
 use Rattle.vlm_words.proofs.Always.{always, kept_by_stepped}
 use Rattle.vlm_words.proofs.Passed.{both_pass, enq_passes, test_passes}
 use Rattle.vlm_words.proofs.Processes.{kept_converted, kept_ended, kept_entered, kept_set, kept_swept}
 use Rattle.vlm_words.proofs.Weights.{weigh}
-use Rattle.vlm_words.proofs.Moves.{IsByName, changed_named, converted_named, dequeued_named, entered_named, swept_named}
+use Rattle.vlm_words.proofs.Moves.{IsByName, changed_named, converted_named, withdrawn_named, entered_named, swept_named}
 
 -- 1 for a row of a lock of the process
-abbrev owned : ℕ → Row → ℕ
+abbrev pub owned : ℕ → Row → ℕ
 owned pid row = cond (row.pid == pid) 1 0
 
 -- how many locks the process has
-abbrev owning : ℕ → List Resource → ℕ
+abbrev pub owning : ℕ → List Resource → ℕ
 owning pid resources = sum_by (weigh (owned pid)) resources
 
 -- a row is counted by its process
@@ -88,7 +86,7 @@ still_within s t same fewer within pid =
     )
 
 -- the caller of an accepted request has fewer locks than its quota
-room_left : (s : State) (e : NewRequest) → enq_refusal s e ≡ None → owning e.pid s.resources < quota_of s.processes e.pid
+pub room_left : (s : State) (e : NewRequest) → enq_refusal s e ≡ None → owning e.pid s.resources < quota_of s.processes e.pid
 unfolding enq_limit_refusal quota_refusal
 room_left s e passed =
     let less : nat_lt (locks_of e.pid s.resources) (quota_of s.processes e.pid) ≡ true =
@@ -122,13 +120,13 @@ entered_within s e passed within pid =
     ] refl more
 
 -- after every run all are within their quotas
-within_always : (steps : List Step) (answers : List Answer) (endings : List Ending) (last : State)
-    → Run steps answers endings last → Within last
+within_always : (history : History) (last : State)
+    → Run history last → Within last
 unfolding declare_change set_change convert_change deq_change
 within_always =
     always (λ _ s. Within s) (λ pid. omega arith)
-    (λ _ _ endings s _ within.
-    kept_by_stepped (λ _ t. Within t) endings s within
+    (λ history s _ within.
+    kept_by_stepped (λ _ t. Within t) history.endings s within
     (λ d _.
     still_within (declare_change s d) (state_after_sweep (declare_change s d))
     (kept_swept allowance (λ _ _. refl) (declare_change s d).processes s.resources)
@@ -143,15 +141,15 @@ within_always =
     still_within s (state_after_sweep (convert_change s c a))
     (kept_swept allowance (λ _ _. refl) (convert_change s c a).processes (convert_change s c a).resources ∙ kept_converted allowance (λ _ _. refl) s c a)
     (λ pid. changed_named (owned pid) (owned_named pid)
-    (resource_after_conversion a.request c.pid (convert_lkid s c) (convert_blocks s c a).value_block)
-    (converted_named (owned pid) (owned_named pid) a.request c.pid (convert_lkid s c) (convert_blocks s c a).value_block)
+    (resource_after_conversion a.request a.at_once c.pid (convert_lkid s c) (convert_blocks s c a).value_block)
+    (converted_named (owned pid) (owned_named pid) a.request a.at_once c.pid (convert_lkid s c) (convert_blocks s c a).value_block)
     (convert_change s c a).processes s.resources) within)
     (λ d _.
     still_within s (state_after_sweep (deq_change s d))
     (kept_swept allowance (λ _ _. refl) (deq_change s d).processes (deq_change s d).resources
     ∙ kept_ended allowance (λ _ _. refl) (deq_endings s d) (blocks_with new_value_block s.processes))
-    (λ pid. changed_named (owned pid) (owned_named pid) (resource_after_withdrawal (withdrawal_of s d))
-    (dequeued_named (owned pid) (owned_named pid) (withdrawal_of s d)) (deq_change s d).processes s.resources) within))
+    (λ pid. changed_named (owned pid) (owned_named pid) (resource_after_withdrawals (withdrawals_of s d))
+    (withdrawn_named (owned pid) (owned_named pid) (withdrawals_of s d)) (deq_change s d).processes s.resources) within))
 
 -- the locks of a process on a resource, counted over its three queues at once
 counted_at_once : (pid : ℕ) (r : Resource) → locks_on pid r ≡ weigh (owned pid) r
@@ -159,7 +157,7 @@ counted_at_once pid r =
     omega (arith, sum_by-append (owned pid) (r.granted ++ r.converting) r.waiting, sum_by-append (owned pid) r.granted r.converting)
 
 -- the same over all resources
-all_counted : (pid : ℕ) (resources : List Resource) → sum_by (locks_on pid) resources ≡ owning pid resources
+pub all_counted : (pid : ℕ) (resources : List Resource) → sum_by (locks_on pid) resources ≡ owning pid resources
 all_counted pid [] = refl
 all_counted pid (r ∷ rest) =
     omega (
@@ -171,7 +169,7 @@ all_counted pid (r ∷ rest) =
     )
 
 -- after every run quotas are kept
-pub quotas_always : (steps : List Step) (answers : List Answer) (endings : List Ending) (last : State)
-    → Run steps answers endings last → QuotasAreKept last
-quotas_always steps answers endings last run pid =
-    omega (arith, within_always steps answers endings last run pid, all_counted pid last.resources)
+pub quotas_always : (history : History) (last : State)
+    → Run history last → QuotasAreKept last
+quotas_always history last run pid =
+    omega (arith, within_always history last run pid, all_counted pid last.resources)

@@ -1,5 +1,5 @@
 -- After every step each lock stands in the queue that fits it.
-use Rattle.std.proofs.Common.{◌≡◌, ℕ, List, [], ◌∷◌, ◌++◌, Option, None, Some, refl, sym, subst, map}
+use Rattle.std.proofs.Common.{◌≡◌, Bool, ℕ, List, [], ◌∷◌, ◌++◌, Option, None, Some, refl, sym, subst, map}
 use Rattle.std.specs.Prelude.{IsSome}
 use Rattle.std.specs.List.{AllByRecursion, find}
 use Rattle.std.proofs.lemmas.Bool.{cond_both}
@@ -7,18 +7,15 @@ use Rattle.std.proofs.lemmas.List.Elements.{All-from_recursion}
 use Rattle.vlm_words.specs.declared.locks.Request.{Request}
 use Rattle.vlm_words.specs.declared.locks.Row.{Row}
 use Rattle.vlm_words.specs.declared.resources.ValueBlock.{ValueBlock}
-use Rattle.vlm_words.specs.declared.steps.Answer.{Answer}
 use Rattle.vlm_words.specs.declared.steps.NewRequest.{NewRequest}
-use Rattle.vlm_words.specs.declared.steps.Step.{Step}
 use Rattle.vlm_words.specs.State.{Resource, State}
-use Rattle.vlm_words.specs.Endings.{Ending}
 use Rattle.vlm_words.specs.Effects.{with_value_block}
 use Rattle.vlm_words.specs.Grants.{granted_row, is_empty, no_service, resource_after_grant, service, service_after_grant, service_of_conversions, service_of_new_requests, service_of_waiting, wanted_fits}
 use Rattle.vlm_words.specs.Rows.{is_lock_of, rows_of, rows_without}
-use Rattle.vlm_words.specs.Enqueue.{enq_refusal, enq_request, enq_row, is_at_once, resource_after_entry}
-use Rattle.vlm_words.specs.Convert.{converts_at_once, resource_after_conversion, resource_after_conversion_of, resource_without_granted, wanting_row}
-use Rattle.vlm_words.specs.Dequeue.{Withdrawal, is_held_by_writer, resource_after_cancel, resource_after_withdrawal, resource_after_writer, resource_without, row_after_cancel, value_block_after_writer}
-use Rattle.vlm_words.specs.Runs.{Run}
+use Rattle.vlm_words.specs.Enqueue.{enq_at_once, enq_refusal, enq_resource, enq_row, resource_after_entry}
+use Rattle.vlm_words.specs.Convert.{resource_after_conversion, resource_after_conversion_of, resource_without_granted, wanting_row}
+use Rattle.vlm_words.specs.Withdrawals.{Withdrawal, is_held_by_writer, resource_after_cancel, resource_after_writer, resource_without, row_after_cancel, value_block_after_writer, resource_after_going}
+use Rattle.vlm_words.specs.Runs.{History, Run}
 use Rattle.vlm_words.specs.Laws.{IsConverting, IsHeld, IsWaiting, RowsFit, RowsFitTheirQueues}
 use Rattle.vlm_words.proofs.Each.{Found, found_at, each_append, each_at, each_filter, each_map, each_weaker}
 use Rattle.vlm_words.proofs.EachResource.{each_always}
@@ -71,7 +68,7 @@ served_fit r fit = new_requests (service_of_conversions r r.converting).resource
         (λ _. serve_waiting_fit left left.waiting refl fit) (λ _. fit)
 
 -- the value block does not matter
-same_fit : (r t : Resource) → t.granted ≡ r.granted → t.converting ≡ r.converting → t.waiting ≡ r.waiting → Fit r → Fit t
+pub same_fit : (r t : Resource) → t.granted ≡ r.granted → t.converting ≡ r.converting → t.waiting ≡ r.waiting → Fit r → Fit t
 same_fit r t granted converting waiting fit = record {
   granted = subst (AllByRecursion IsHeld) (sym granted) fit.granted;
   converting = subst (AllByRecursion IsConverting) (sym converting) fit.converting;
@@ -79,10 +76,11 @@ same_fit r t granted converting waiting fit = record {
 }
 
 -- the entry of a lock keeps the rows fit
-entered_fit : (s : State) (e : NewRequest) → enq_refusal s e ≡ None → (r : Resource) → Fit r → Fit (resource_after_entry (enq_row s e) (enq_request s e) r)
+entered_fit : (s : State) (e : NewRequest) → enq_refusal s e ≡ None → Fit (enq_resource s e) → Fit (resource_after_entry (enq_row s e) (enq_at_once s e) (enq_resource s e))
 unfolding resource_after_entry
-entered_fit s e _ r fit =
-    cond_both (is_at_once (enq_request s e) r) (resource_after_grant r (enq_row s e)) (record r { waiting = r.waiting ++ enq_row s e ∷ [] }) Fit
+entered_fit s e _ fit =
+    let r : Resource = enq_resource s e in
+    cond_both (enq_at_once s e) (resource_after_grant r (enq_row s e)) (record r { waiting = r.waiting ++ enq_row s e ∷ [] }) Fit
     (λ _. record { granted = settled_after_grant r.granted (enq_row s e) fit.granted refl; converting = fit.converting; waiting = fit.waiting })
     (λ _. record {
       granted = fit.granted;
@@ -91,14 +89,14 @@ entered_fit s e _ r fit =
     })
 
 -- a conversion keeps the rows fit, whichever row is found
-converted_row_fit : (request : Request) (pid lkid : ℕ) (block : ValueBlock) (r : Resource) (found : Option Row) → find (is_lock_of pid lkid) r.granted ≡ found
-    → Fit r → Fit (resource_after_conversion_of request lkid block r found)
-converted_row_fit request pid lkid block r None is fit = fit
-converted_row_fit request pid lkid block r (Some row) is fit =
+converted_row_fit : (request : Request) (at_once : Bool) (pid lkid : ℕ) (block : ValueBlock) (r : Resource) (found : Option Row) → find (is_lock_of pid lkid) r.granted ≡ found
+    → Fit r → Fit (resource_after_conversion_of request at_once lkid block r found)
+converted_row_fit request at_once pid lkid block r None is fit = fit
+converted_row_fit request at_once pid lkid block r (Some row) is fit =
     let at : Found (is_lock_of pid lkid) r.granted row = found_at (is_lock_of pid lkid) r.granted row is in
     let held : IsHeld row = each_at IsHeld at.before row at.after (subst (AllByRecursion IsHeld) at.split fit.granted) in
     let others : AllByRecursion IsHeld (rows_without lkid r.granted) = each_filter IsHeld _ r.granted fit.granted in
-    cond_both (converts_at_once request lkid r) (with_value_block block (resource_after_grant (resource_without_granted lkid r) (wanting_row row request)))
+    cond_both at_once (with_value_block block (resource_after_grant (resource_without_granted lkid r) (wanting_row row request)))
     (record (resource_without_granted lkid r) { converting = r.converting ++ wanting_row row request ∷ [] }) Fit
     (λ _. record {
       granted = settled_after_grant (rows_without lkid r.granted) (wanting_row row request) others refl;
@@ -112,9 +110,9 @@ converted_row_fit request pid lkid block r (Some row) is fit =
     })
 
 -- the same, for the row that is found
-converted_fit : (request : Request) (pid lkid : ℕ) (block : ValueBlock) (r : Resource) → Fit r → Fit (resource_after_conversion request pid lkid block r)
+converted_fit : (request : Request) (at_once : Bool) (pid lkid : ℕ) (block : ValueBlock) (r : Resource) → Fit r → Fit (resource_after_conversion request at_once pid lkid block r)
 unfolding resource_after_conversion
-converted_fit request pid lkid block r fit = converted_row_fit request pid lkid block r (find (is_lock_of pid lkid) r.granted) refl fit
+converted_fit request at_once pid lkid block r fit = converted_row_fit request at_once pid lkid block r (find (is_lock_of pid lkid) r.granted) refl fit
 
 -- a lock that goes leaves the rows fit
 without_fit : (lkid : ℕ) (r : Resource) → Fit r → Fit (resource_without lkid r)
@@ -143,29 +141,30 @@ left_fit w r fit =
     cond_both (is_held_by_writer w.lkid r) (record r { value_block = value_block_after_writer w r.value_block }) r Fit
     (λ _. same_fit r (record r { value_block = value_block_after_writer w r.value_block }) refl refl refl fit) (λ _. fit)
 
--- a dequeue keeps the rows fit
-dequeued_fit : (w : Withdrawal) (r : Resource) → Fit r → Fit (resource_after_withdrawal w r)
-dequeued_fit w r fit =
-    cond_both w.cancels (resource_after_cancel w.lkid r) (resource_without w.lkid (resource_after_writer w r)) Fit
-    (λ _. cancelled_fit w.lkid r fit) (λ _. without_fit w.lkid (resource_after_writer w r) (left_fit w r fit))
+-- a lock that goes or stays keeps the rows fit
+gone_fit : (w : Withdrawal) (r : Resource) → Fit r → Fit (resource_after_going w r)
+gone_fit w r fit =
+    cond_both w.stays (resource_after_cancel w.lkid r) (resource_without w.lkid r) Fit
+    (λ _. cancelled_fit w.lkid r fit) (λ _. without_fit w.lkid r fit)
 
 -- after every run each row fits its queue
-pub fit_always : (steps : List Step) (answers : List Answer) (endings : List Ending) (last : State)
-    → Run steps answers endings last → AllByRecursion Fit last.resources
-fit_always steps answers endings last run =
+pub fit_always : (history : History) (last : State)
+    → Run history last → AllByRecursion Fit last.resources
+fit_always history last run =
     each_always Fit Fit (λ _ fit. fit) (λ block r fit. same_fit (service r).resource (with_value_block block (service r).resource) refl refl refl (served_fit r fit))
     (record {
       fresh = λ _ _. record { granted = tt; converting = tt; waiting = tt };
       entry = entered_fit;
       conversion = converted_fit;
-      removal = dequeued_fit;
+      leaving = left_fit;
+      going = gone_fit;
     })
-    steps answers endings last run
+    history last run
 
 -- after every run each lock stands in the queue that fits it
-pub rows_fit_always : (steps : List Step) (answers : List Answer) (endings : List Ending) (last : State)
-    → Run steps answers endings last → RowsFitTheirQueues last
-rows_fit_always steps answers endings last run =
+pub rows_fit_always : (history : History) (last : State)
+    → Run history last → RowsFitTheirQueues last
+rows_fit_always history last run =
     All-from_recursion RowsFit last.resources
     (each_weaker Fit RowsFit
     (λ r fit. record {
@@ -173,4 +172,4 @@ rows_fit_always steps answers endings last run =
       converting = All-from_recursion IsConverting r.converting fit.converting;
       waiting = All-from_recursion IsWaiting r.waiting fit.waiting;
     })
-    last.resources (fit_always steps answers endings last run))
+    last.resources (fit_always history last run))

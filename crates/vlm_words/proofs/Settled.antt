@@ -4,10 +4,7 @@ use Rattle.std.specs.List.{AllByRecursion}
 use Rattle.std.proofs.lemmas.List.{append-nil}
 use Rattle.std.proofs.lemmas.List.Elements.{All-from_recursion}
 use Rattle.vlm_words.specs.declared.locks.Row.{Row}
-use Rattle.vlm_words.specs.declared.steps.Answer.{Answer}
-use Rattle.vlm_words.specs.declared.steps.Step.{Step}
 use Rattle.vlm_words.specs.State.{Process, Resource, State}
-use Rattle.vlm_words.specs.Endings.{Ending}
 use Rattle.vlm_words.specs.Grants.{is_empty, no_service, service}
 use Rattle.vlm_words.specs.Sweeps.{blocks_after_service, is_vacant, processes_after_service, resource_after_service, resources_after_service, resources_after_sweep, sweep_endings}
 use Rattle.vlm_words.specs.Declare.{declare_change}
@@ -15,7 +12,7 @@ use Rattle.vlm_words.specs.SetValue.{set_change}
 use Rattle.vlm_words.specs.Enqueue.{enq_change}
 use Rattle.vlm_words.specs.Convert.{convert_change}
 use Rattle.vlm_words.specs.Dequeue.{deq_change}
-use Rattle.vlm_words.specs.Runs.{Run}
+use Rattle.vlm_words.specs.Runs.{History, Run}
 use Rattle.vlm_words.specs.Laws.{IsVacant, NoResourceIsVacant}
 use Rattle.vlm_words.specs.Settled.{IsSettled, IsSweptAlone, unless_vacant}
 use Rattle.vlm_words.proofs.Always.{always, kept_by_stepped}
@@ -40,11 +37,11 @@ occupied_swept : (processes : List Process) (resources : List Resource) → AllB
 unfolding resources_after_sweep
 occupied_swept processes resources = each_occupied (resources_after_service processes resources)
 
-occupied_always : (steps : List Step) (answers : List Answer) (endings : List Ending) (last : State) → Run steps answers endings last → AllByRecursion Occupied last.resources
+occupied_always : (history : History) (last : State) → Run history last → AllByRecursion Occupied last.resources
 occupied_always =
     always (λ _ s. AllByRecursion Occupied s.resources) tt
-    (λ _ _ endings s _ each.
-    kept_by_stepped (λ _ s. AllByRecursion Occupied s.resources) endings s each
+    (λ history s _ each.
+    kept_by_stepped (λ _ s. AllByRecursion Occupied s.resources) history.endings s each
     (λ d _. occupied_swept (declare_change s d).processes (declare_change s d).resources)
     (λ v _. occupied_swept (set_change s v).processes (set_change s v).resources)
     (λ e _. occupied_swept (enq_change s e).processes (enq_change s e).resources)
@@ -60,10 +57,10 @@ occupied_not_vacant r occupied vacant =
     true_false e = cc
 
 -- no resource is without locks
-pub occupied_law : (steps : List Step) (answers : List Answer) (endings : List Ending) (last : State) → Run steps answers endings last → NoResourceIsVacant last
-occupied_law steps answers endings last run =
+pub occupied_law : (history : History) (last : State) → Run history last → NoResourceIsVacant last
+occupied_law history last run =
     All-from_recursion (λ r. IsVacant r → ⊥) last.resources
-    (each_weaker Occupied (λ r. IsVacant r → ⊥) occupied_not_vacant last.resources (occupied_always steps answers endings last run))
+    (each_weaker Occupied (λ r. IsVacant r → ⊥) occupied_not_vacant last.resources (occupied_always history last run))
 
 -- ---- nothing is granted
 
@@ -83,8 +80,8 @@ both [] waits occupied = tt
 both (r ∷ rest) waits occupied = (record { served = nothing_granted r waits.0; occupied = occupied.0 }, both rest waits.1 occupied.1)
 
 -- every resource is settled
-pub settled_law : (steps : List Step) (answers : List Answer) (endings : List Ending) (last : State) → Run steps answers endings last → AllByRecursion IsSettled last.resources
-settled_law steps answers endings last run = both last.resources (nothing_fits_always steps answers endings last run) (occupied_always steps answers endings last run)
+pub settled_law : (history : History) (last : State) → Run history last → AllByRecursion IsSettled last.resources
+settled_law history last run = both last.resources (nothing_fits_always history last run) (occupied_always history last run)
 
 -- ---- the sweep
 

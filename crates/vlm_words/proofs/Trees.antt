@@ -7,19 +7,15 @@ use Rattle.std.proofs.lemmas.Bool.Decides.{nat_tests}
 use Rattle.std.proofs.lemmas.List.Elements.{All-from_recursion}
 use Rattle.std.proofs.lemmas.List.Folds.{Any-from_list_any}
 use Rattle.std.proofs.lemmas.List.Sums.{sum_by-append, sum_by-cons}
-use Rattle.vlm_words.specs.declared.locks.Request.{Request}
 use Rattle.vlm_words.specs.declared.locks.Row.{Row}
 use Rattle.vlm_words.specs.declared.conditions.Cond.TheVariants.{Exdepth, Ivlockid, Parnotgrant, Sublocks}
 use Rattle.vlm_words.specs.declared.resources.Domain.{Domain}
 use Rattle.vlm_words.specs.declared.resources.Site.{Site}
 use Rattle.vlm_words.specs.declared.resources.ValueBlock.{ValueBlock}
-use Rattle.vlm_words.specs.declared.steps.Answer.{Answer}
 use Rattle.vlm_words.specs.declared.steps.Conversion.{Conversion}
 use Rattle.vlm_words.specs.declared.steps.Dequeue.{Dequeue}
 use Rattle.vlm_words.specs.declared.steps.NewRequest.{NewRequest}
-use Rattle.vlm_words.specs.declared.steps.Step.{Step}
 use Rattle.vlm_words.specs.Flags.{cancel, has_flag}
-use Rattle.vlm_words.specs.Endings.{Ending}
 use Rattle.vlm_words.specs.State.{Process, Resource, State}
 use Rattle.vlm_words.specs.Effects.{with_value_block}
 use Rattle.vlm_words.specs.Grants.{is_empty, service}
@@ -29,12 +25,13 @@ use Rattle.vlm_words.specs.Resources.{is_at, is_domain, key_parent, new_resource
 use Rattle.vlm_words.specs.Rows.{is_lock_of}
 use Rattle.vlm_words.specs.Checks.{caller_refusal, holds_lock, lock_refusal, or_else, which_refusal}
 use Rattle.vlm_words.specs.Trees.{depth_refusal, enq_site, parent_lkid, parent_refusal, parent_resource, privilege_refusal, root_domain, site_below, site_refusal, waiting_refusal}
-use Rattle.vlm_words.specs.Enqueue.{enq_change, enq_key, enq_refusal, enq_request, enq_row, resource_after_entry, resources_after_entry}
+use Rattle.vlm_words.specs.Enqueue.{enq_at_once, enq_change, enq_key, enq_refusal, enq_row, resource_after_entry, resources_after_entry}
 use Rattle.vlm_words.specs.Declare.{declare_change}
 use Rattle.vlm_words.specs.SetValue.{set_change}
 use Rattle.vlm_words.specs.Convert.{ConversionAdmission, convert_blocks, convert_change, convert_lkid, resource_after_conversion}
-use Rattle.vlm_words.specs.Dequeue.{Withdrawal, cancel_refusal, deq_change, deq_flags_refusal, deq_refusal, dequeue_lkid, has_sublock, has_sublock_on, resource_after_withdrawal, sublocks_refusal, withdrawal_of}
-use Rattle.vlm_words.specs.Runs.{Run}
+use Rattle.vlm_words.specs.Dequeue.{cancel_refusal, deq_change, deq_flags_refusal, deq_refusal, dequeue_lkid, has_sublock, has_sublock_on, sublocks_refusal, withdrawal_of, withdrawals_of}
+use Rattle.vlm_words.specs.Withdrawals.{Withdrawal, resource_after_withdrawals}
+use Rattle.vlm_words.specs.Runs.{History, Run}
 use Rattle.vlm_words.specs.Laws.{HasItsLevel, HasItsParent, HoldsOn, IsSameResource, ParentsOutliveTheirSublocks, TreesAreBounded}
 use Rattle.vlm_words.proofs.Always.{always, kept_by_stepped}
 use Rattle.vlm_words.proofs.Each.{Any-here, Any-there, Any-weaker, each_map, each_weaker, found_at}
@@ -42,11 +39,11 @@ use Rattle.vlm_words.proofs.Pairs.{EachPair}
 use Rattle.vlm_words.proofs.Passed.{both_pass, enq_passes, three_pass, sixth_passes, test_fails, test_passes}
 use Rattle.vlm_words.proofs.EachResource.{each_entered_among, each_entered_at, each_swept}
 use Rattle.vlm_words.proofs.Settled.{settled_law}
-use Rattle.vlm_words.proofs.Keys.{KeepsPlace, Placed, Rises, WasGiven, conversion_keeps_place, enq_keyed, entry_keeps_place, is_domain-true, is_domain_refl, key_at, of_found, placed_always, service_keeps_place, withdrawal_keeps_place}
+use Rattle.vlm_words.proofs.Keys.{KeepsPlace, Placed, Rises, WasGiven, conversion_keeps_place, enq_keyed, entry_keeps_place, is_domain-true, is_domain_refl, key_at, of_found, placed_always, service_keeps_place, withdrawals_keep_place}
 use Rattle.vlm_words.proofs.Weights.{entered_weighs, served_weighs, weigh}
-use Rattle.vlm_words.proofs.Moves.{IsByName, converted_named, dequeued_named, grant_keeps}
+use Rattle.vlm_words.proofs.Moves.{IsByName, converted_named, withdrawn_named, grant_keeps}
 use Rattle.vlm_words.proofs.Apart.{Apart, apart_always, standing, stands}
-use Rattle.vlm_words.proofs.Holdings.{converted_held, dequeued_held, entered_held, held_by, locks, served_held}
+use Rattle.vlm_words.proofs.Holdings.{converted_held, withdrawn_held, entered_held, held_by, locks, served_held}
 use Rattle.vlm_words.proofs.Sums.{any_counts, sum_of_zero}
 
 -- where a sub-resource stands: its parent's serial, its domain, and its level
@@ -364,20 +361,20 @@ parent_of s e passed = of_test (parent_lkid s e == 0) refl
         )
 
 -- the parent stays as a lock enters
-up_entered : (p : Position) (pid lkid serial : ℕ) (site : Site) (row : Row) (request : Request) (resources : List Resource)
-    → list_any (is_up p pid lkid) resources ≡ true → list_any (is_up p pid lkid) (resources_after_entry serial site row request resources) ≡ true
-up_entered p pid lkid serial site row request [] up = cc
-up_entered p pid lkid serial site row request (r ∷ rest) up =
-    cond_both (is_at site.key r) (resource_after_entry row request r ∷ rest) (r ∷ resources_after_entry serial site row request rest)
+up_entered : (p : Position) (pid lkid serial : ℕ) (site : Site) (row : Row) (at_once : Bool) (resources : List Resource)
+    → list_any (is_up p pid lkid) resources ≡ true → list_any (is_up p pid lkid) (resources_after_entry serial site row at_once resources) ≡ true
+up_entered p pid lkid serial site row at_once [] up = cc
+up_entered p pid lkid serial site row at_once (r ∷ rest) up =
+    cond_both (is_at site.key r) (resource_after_entry row at_once r ∷ rest) (r ∷ resources_after_entry serial site row at_once rest)
     (λ after. list_any (is_up p pid lkid) after ≡ true)
     (λ _. elim (or_cases (is_up p pid lkid r) (list_any (is_up p pid lkid) rest) up) [
-      | inl here ↦ rw (still_up p pid lkid r (resource_after_entry row request r) (entry_keeps_place row request r) (entered_held pid lkid row request r) here) refl
-      | inr later ↦ or_right (is_up p pid lkid (resource_after_entry row request r)) (list_any (is_up p pid lkid) rest) later
+      | inl here ↦ rw (still_up p pid lkid r (resource_after_entry row at_once r) (entry_keeps_place row at_once r) (entered_held pid lkid row at_once r) here) refl
+      | inr later ↦ or_right (is_up p pid lkid (resource_after_entry row at_once r)) (list_any (is_up p pid lkid) rest) later
     ])
     (λ _. elim (or_cases (is_up p pid lkid r) (list_any (is_up p pid lkid) rest) up) [
       | inl here ↦ rw here refl
-      | inr later ↦ or_right (is_up p pid lkid r) (list_any (is_up p pid lkid) (resources_after_entry serial site row request rest))
-          (up_entered p pid lkid serial site row request rest later)
+      | inr later ↦ or_right (is_up p pid lkid r) (list_any (is_up p pid lkid) (resources_after_entry serial site row at_once rest))
+          (up_entered p pid lkid serial site row at_once rest later)
     ])
 
 -- among rows that all have their parents, where there is one, is one that has
@@ -554,32 +551,32 @@ tree_entered : (s : State) (e : NewRequest) → enq_refusal s e ≡ None → Pla
 unfolding enq_change
 tree_entered s e passed placed occupied tree = record {
   rooted =
-      each_entered_at (AllRooted new) s.next_serial (enq_site s e) (enq_row s e) (enq_request s e)
+      each_entered_at (AllRooted new) s.next_serial (enq_site s e) (enq_row s e) (enq_at_once s e)
       (entered (new_resource s.next_serial (enq_site s e)) refl own.0) s.resources (each_entry s.resources tree.rooted own.1) (each_still s.resources tree.rooted);
   low =
-      each_entered_among (λ r. r.level ≤ 15) s.next_serial (enq_site s e) (enq_row s e) (enq_request s e) (level_fits s e passed)
-      (λ r low. omega (arith, low, (entry_keeps_place (enq_row s e) (enq_request s e) r).level)) s.resources tree.low;
+      each_entered_among (λ r. r.level ≤ 15) s.next_serial (enq_site s e) (enq_row s e) (enq_at_once s e) (level_fits s e passed)
+      (λ r low. omega (arith, low, (entry_keeps_place (enq_row s e) (enq_at_once s e) r).level)) s.resources tree.low;
 }
   where
     new : List Resource
-    new = resources_after_entry s.next_serial (enq_site s e) (enq_row s e) (enq_request s e) s.resources
+    new = resources_after_entry s.next_serial (enq_site s e) (enq_row s e) (enq_at_once s e) s.resources
 
     stays : (p : Position) (pid lkid : ℕ) → list_any (is_up p pid lkid) s.resources ≡ true
-        → list_any (is_up p pid lkid) (resources_after_entry s.next_serial (enq_site s e) (enq_row s e) (enq_request s e) s.resources) ≡ true
-    stays p pid lkid = up_entered p pid lkid s.next_serial (enq_site s e) (enq_row s e) (enq_request s e) s.resources
+        → list_any (is_up p pid lkid) (resources_after_entry s.next_serial (enq_site s e) (enq_row s e) (enq_at_once s e) s.resources) ≡ true
+    stays p pid lkid = up_entered p pid lkid s.next_serial (enq_site s e) (enq_row s e) (enq_at_once s e) s.resources
 
-    own : (is_rooted (resources_after_entry s.next_serial (enq_site s e) (enq_row s e) (enq_request s e) s.resources)
+    own : (is_rooted (resources_after_entry s.next_serial (enq_site s e) (enq_row s e) (enq_at_once s e) s.resources)
         (position (new_resource s.next_serial (enq_site s e))) (enq_row s e) ≡ true)
         × AllByRecursion (λ r. is_at (enq_key s e) r ≡ true → is_rooted
-        (resources_after_entry s.next_serial (enq_site s e) (enq_row s e) (enq_request s e) s.resources) (position r) (enq_row s e) ≡ true) s.resources
+        (resources_after_entry s.next_serial (enq_site s e) (enq_row s e) (enq_at_once s e) s.resources) (position r) (enq_row s e) ≡ true) s.resources
     own = own_rooted s e passed placed occupied tree.rooted _ stays
 
-    entered : (r : Resource) → AllRooted new r → is_rooted new (position r) (enq_row s e) ≡ true → AllRooted new (resource_after_entry (enq_row s e) (enq_request s e) r)
+    entered : (r : Resource) → AllRooted new r → is_rooted new (position r) (enq_row s e) ≡ true → AllRooted new (resource_after_entry (enq_row s e) (enq_at_once s e) r)
     entered r rooted is =
-        rooted_changed new (resource_after_entry (enq_row s e) (enq_request s e)) (entry_keeps_place (enq_row s e) (enq_request s e)) r
+        rooted_changed new (resource_after_entry (enq_row s e) (enq_at_once s e)) (entry_keeps_place (enq_row s e) (enq_at_once s e)) r
         (omega (
           arith,
-          entered_weighs (loose new (position r)) (λ ending. 0) (grant_keeps (loose new (position r)) (loose_named new (position r))) (enq_row s e) (enq_request s e) r,
+          entered_weighs (loose new (position r)) (λ ending. 0) (grant_keeps (loose new (position r)) (loose_named new (position r))) (enq_row s e) (enq_at_once s e) r,
           ap {B = ℕ} (λ (b : Bool). cond b 0 1) is,
         ))
         rooted
@@ -601,7 +598,7 @@ tree_entered s e passed placed occupied tree = record {
 
     each_entry : (rs : List Resource) → AllByRecursion (AllRooted s.resources) rs
         → AllByRecursion (λ r. is_at (enq_key s e) r ≡ true → is_rooted new (position r) (enq_row s e) ≡ true) rs
-        → AllByRecursion (λ r. is_at (enq_key s e) r ≡ true → AllRooted new (resource_after_entry (enq_row s e) (enq_request s e) r)) rs
+        → AllByRecursion (λ r. is_at (enq_key s e) r ≡ true → AllRooted new (resource_after_entry (enq_row s e) (enq_at_once s e) r)) rs
     each_entry [] each own_row = tt
     each_entry (r ∷ rest) each own_row = ((λ at. entered r (each_still (r ∷ []) (each.0, tt)).0 (own_row.0 at)), each_entry rest each.1 own_row.1)
 
@@ -628,25 +625,25 @@ tree_converted : (s : State) (c : Conversion) (a : ConversionAdmission) → Apar
 unfolding convert_change
 tree_converted s c a apart tree = record {
   rooted =
-      rooted_mapped (resource_after_conversion a.request c.pid (convert_lkid s c) (convert_blocks s c a).value_block)
-      (conversion_keeps_place a.request c.pid (convert_lkid s c) (convert_blocks s c a).value_block)
-      (λ g named. converted_named g named a.request c.pid (convert_lkid s c) (convert_blocks s c a).value_block) (λ row. false) s.resources
+      rooted_mapped (resource_after_conversion a.request a.at_once c.pid (convert_lkid s c) (convert_blocks s c a).value_block)
+      (conversion_keeps_place a.request a.at_once c.pid (convert_lkid s c) (convert_blocks s c a).value_block)
+      (λ g named. converted_named g named a.request a.at_once c.pid (convert_lkid s c) (convert_blocks s c a).value_block) (λ row. false) s.resources
       (λ p row _.
-      up_mapped p row.pid row.parent (resource_after_conversion a.request c.pid (convert_lkid s c) (convert_blocks s c a).value_block)
-      (conversion_keeps_place a.request c.pid (convert_lkid s c) (convert_blocks s c a).value_block) s.resources
+      up_mapped p row.pid row.parent (resource_after_conversion a.request a.at_once c.pid (convert_lkid s c) (convert_blocks s c a).value_block)
+      (conversion_keeps_place a.request a.at_once c.pid (convert_lkid s c) (convert_blocks s c a).value_block) s.resources
       (each_weaker (λ r. weigh (stands (convert_lkid s c)) r ≤ 1)
-      (λ r. held_by row.pid row.parent r ≤ held_by row.pid row.parent (resource_after_conversion a.request c.pid (convert_lkid s c) (convert_blocks s c a).value_block r))
-      (λ r one. converted_held row.pid row.parent c.pid (convert_lkid s c) a.request (convert_blocks s c a).value_block r one) s.resources
+      (λ r. held_by row.pid row.parent r ≤ held_by row.pid row.parent (resource_after_conversion a.request a.at_once c.pid (convert_lkid s c) (convert_blocks s c a).value_block r))
+      (λ r one. converted_held row.pid row.parent c.pid (convert_lkid s c) a.request a.at_once (convert_blocks s c a).value_block r one) s.resources
       (one_on_each (convert_lkid s c) s.resources (apart.one_row (convert_lkid s c)))))
       (none_orphaned s.resources) tree.rooted;
   low =
-      low_mapped (resource_after_conversion a.request c.pid (convert_lkid s c) (convert_blocks s c a).value_block)
-      (conversion_keeps_place a.request c.pid (convert_lkid s c) (convert_blocks s c a).value_block) s.resources tree.low;
+      low_mapped (resource_after_conversion a.request a.at_once c.pid (convert_lkid s c) (convert_blocks s c a).value_block)
+      (conversion_keeps_place a.request a.at_once c.pid (convert_lkid s c) (convert_blocks s c a).value_block) s.resources tree.low;
 }
 
 -- the row's parent goes with the dequeue
 abbrev orphaned_by : Withdrawal → Row → Bool
-orphaned_by w row = not w.cancels && (row.parent == w.lkid)
+orphaned_by w row = not w.stays && (row.parent == w.lkid)
 
 -- rows of which none passes a test are counted 0
 none_counted : (b : Bool) (lkid : ℕ) (rows : List Row) → (b && has_sublock lkid rows) ≡ false → sum_by (λ row. cond (b && (row.parent == lkid)) 1 0) rows ≡ 0
@@ -707,13 +704,13 @@ tree_dequeued : (s : State) (d : Dequeue) → deq_refusal s d ≡ None → Tree 
 unfolding deq_change
 tree_dequeued s d passed tree = record {
   rooted =
-      rooted_mapped (resource_after_withdrawal (withdrawal_of s d)) (withdrawal_keeps_place (withdrawal_of s d))
-      (λ g named. dequeued_named g named (withdrawal_of s d)) (orphaned_by (withdrawal_of s d)) s.resources
+      rooted_mapped (resource_after_withdrawals (withdrawals_of s d)) (withdrawals_keep_place (withdrawals_of s d))
+      (λ g named. withdrawn_named g named (withdrawals_of s d)) (orphaned_by (withdrawal_of s d)) s.resources
       (λ p row keeps.
-      up_mapped p row.pid row.parent (resource_after_withdrawal (withdrawal_of s d)) (withdrawal_keeps_place (withdrawal_of s d)) s.resources
+      up_mapped p row.pid row.parent (resource_after_withdrawals (withdrawals_of s d)) (withdrawals_keep_place (withdrawals_of s d)) s.resources
       (each_held row keeps s.resources))
       (none_left_behind s d passed) tree.rooted;
-  low = low_mapped (resource_after_withdrawal (withdrawal_of s d)) (withdrawal_keeps_place (withdrawal_of s d)) s.resources tree.low;
+  low = low_mapped (resource_after_withdrawals (withdrawals_of s d)) (withdrawals_keep_place (withdrawals_of s d)) s.resources tree.low;
 }
   where
     differs : (cancels is : Bool) → (not cancels && is) ≡ false → cancels ≡ false → is ≡ false
@@ -721,33 +718,33 @@ tree_dequeued s d passed tree = record {
     differs false is none plain = none
 
     each_held : (row : Row) → orphaned_by (withdrawal_of s d) row ≡ false → (rs : List Resource)
-        → AllByRecursion (λ r. held_by row.pid row.parent r ≤ held_by row.pid row.parent (resource_after_withdrawal (withdrawal_of s d) r)) rs
+        → AllByRecursion (λ r. held_by row.pid row.parent r ≤ held_by row.pid row.parent (resource_after_withdrawals (withdrawals_of s d) r)) rs
     each_held row keeps [] = tt
     each_held row keeps (r ∷ rest) = (
-      dequeued_held row.pid row.parent (withdrawal_of s d)
+      withdrawn_held row.pid row.parent (withdrawal_of s d)
           (differs (has_flag d.flags cancel) (row.parent == dequeue_lkid s d) keeps) r,
       each_held row keeps rest,
     )
 
 -- no resource is vacant after a run
-occupied_always : (steps : List Step) (answers : List Answer) (endings : List Ending) (last : State) → Run steps answers endings last
+occupied_always : (history : History) (last : State) → Run history last
     → AllByRecursion (λ r. is_vacant r ≡ false) last.resources
-occupied_always steps answers endings last run =
-    each_weaker IsSettled (λ r. is_vacant r ≡ false) (λ r settled. settled.occupied) last.resources (settled_law steps answers endings last run)
+occupied_always history last run =
+    each_weaker IsSettled (λ r. is_vacant r ≡ false) (λ r settled. settled.occupied) last.resources (settled_law history last run)
 
 -- after every run
-pub tree_always : (steps : List Step) (answers : List Answer) (endings : List Ending) (last : State) → Run steps answers endings last → Tree last
+pub tree_always : (history : History) (last : State) → Run history last → Tree last
 unfolding declare_change set_change
 tree_always =
     always (λ _ s. Tree s) (record { rooted = tt; low = tt })
-    (λ steps answers endings s run tree.
-    kept_by_stepped (λ _ t. Tree t) endings s tree
+    (λ history s run tree.
+    kept_by_stepped (λ _ t. Tree t) history.endings s tree
     (λ d _. tree_swept (declare_change s d) (record { rooted = tree.rooted; low = tree.low }))
     (λ v _. tree_swept (set_change s v) (record { rooted = tree.rooted; low = tree.low }))
     (λ e passed.
     tree_swept (enq_change s e)
-    (tree_entered s e passed (placed_always steps answers endings s run) (occupied_always steps answers endings s run) tree))
-    (λ c a _ _. tree_swept (convert_change s c a) (tree_converted s c a (apart_always steps answers endings s run) tree))
+    (tree_entered s e passed (placed_always history s run) (occupied_always history s run) tree))
+    (λ c a _ _. tree_swept (convert_change s c a) (tree_converted s c a (apart_always history s run) tree))
     (λ d passed. tree_swept (deq_change s d) (tree_dequeued s d passed tree)))
 
 -- ---- the laws
@@ -804,12 +801,12 @@ each_weightless f (row ∷ rows) none =
     (omega (arith, none, sum_by-cons f row rows), each_weightless f rows (omega (arith, none, sum_by-cons f row rows)))
 
 -- after every run a parent lock outlives its sublocks
-pub parents_always : (steps : List Step) (answers : List Answer) (endings : List Ending) (last : State)
-    → Run steps answers endings last → ParentsOutliveTheirSublocks last
-parents_always steps answers endings last run =
+pub parents_always : (history : History) (last : State)
+    → Run history last → ParentsOutliveTheirSublocks last
+parents_always history last run =
     All-from_recursion (λ r. All (HasItsParent last.resources r) (r.granted ++ r.converting ++ r.waiting)) last.resources
     (each_weaker (AllRooted last.resources) (λ r. All (HasItsParent last.resources r) (r.granted ++ r.converting ++ r.waiting)) each_row last.resources
-    (tree_always steps answers endings last run).rooted)
+    (tree_always history last run).rooted)
   where
     each_row : (r : Resource) → AllRooted last.resources r → All (HasItsParent last.resources r) (r.granted ++ r.converting ++ r.waiting)
     each_row r rooted =
@@ -826,12 +823,12 @@ parents_always steps answers endings last run =
         ))))
 
 -- after every run trees are bounded
-pub trees_always : (steps : List Step) (answers : List Answer) (endings : List Ending) (last : State)
-    → Run steps answers endings last → TreesAreBounded last
-trees_always steps answers endings last run =
-    let tree : Tree last = tree_always steps answers endings last run in
+pub trees_always : (history : History) (last : State)
+    → Run history last → TreesAreBounded last
+trees_always history last run =
+    let tree : Tree last = tree_always history last run in
     All-from_recursion (λ r. HasItsLevel last.resources r × (r.level ≤ 15)) last.resources
-    (each_level last.resources (occupied_always steps answers endings last run) tree.rooted tree.low)
+    (each_level last.resources (occupied_always history last run) tree.rooted tree.low)
   where
     up_level : (r up : Resource) → is_parent (position r) up ≡ true → (up.serial ≡ r.parent) × (up.domain ≡ r.domain) × (r.level ≡ up.level + 1)
     up_level r up is =

@@ -1,10 +1,8 @@
 -- What rows weigh: a sum over all queues, and what becomes of it as requests are granted.
-use Rattle.std.proofs.Common.{◌≡◌, ◌+◌, ℕ, Bool, true, false, not, ◌&&◌, List, [], ◌∷◌, ◌++◌, cond, Some, refl, ap, arith}
-use Rattle.std.specs.Prelude.{unwrap_or}
-use Rattle.std.specs.List.{find, sum_by}
+use Rattle.std.proofs.Common.{◌≡◌, ◌+◌, ℕ, Bool, true, false, not, ◌&&◌, List, [], ◌∷◌, ◌++◌, cond, refl, ap, arith}
+use Rattle.std.specs.List.{sum_by}
 use Rattle.std.proofs.lemmas.Bool.{and_parts, cond_both}
 use Rattle.std.proofs.lemmas.List.Sums.{sum_by-cons, sum_by-append, sum_by_push}
-use Rattle.vlm_words.specs.declared.locks.Request.{Request}
 use Rattle.vlm_words.specs.declared.locks.Row.{Row}
 use Rattle.vlm_words.specs.declared.resources.Site.{Site}
 use Rattle.vlm_words.specs.State.{Process, Resource}
@@ -12,7 +10,7 @@ use Rattle.vlm_words.specs.Endings.{Ending}
 use Rattle.vlm_words.specs.Grants.{Service, grant_endings, granted_row, is_empty, no_service, resource_after_grant, service, service_after_grant, service_of_conversions, service_of_new_requests, service_of_waiting, wanted_fits}
 use Rattle.vlm_words.specs.Sweeps.{blocks_after_service, is_vacant, resource_after_service, resources_after_sweep, sweep_endings}
 use Rattle.vlm_words.specs.Resources.{is_at, new_resource}
-use Rattle.vlm_words.specs.Enqueue.{is_at_once, resource_after_entry, resources_after_entry}
+use Rattle.vlm_words.specs.Enqueue.{resource_after_entry, resources_after_entry}
 use Rattle.vlm_words.proofs.NothingLeft.{is_empty-true}
 use Rattle.vlm_words.proofs.Sums.{sum_of_one}
 
@@ -85,7 +83,7 @@ served_weighs f g keeps r =
     omega (arith, kept, then_kept, sum_by-append g first.endings later.endings)
 
 -- a vacant resource weighs nothing
-vacant_weighs_nothing : (f : Row → ℕ) (r : Resource) → is_vacant r ≡ true → weigh f r ≡ 0
+pub vacant_weighs_nothing : (f : Row → ℕ) (r : Resource) → is_vacant r ≡ true → weigh f r ≡ 0
 vacant_weighs_nothing f r vacant =
     let both = and_parts (is_empty r.granted && is_empty r.converting) (is_empty r.waiting) vacant in
     let first = and_parts (is_empty r.granted) (is_empty r.converting) both.0 in
@@ -123,11 +121,11 @@ swept_weighs f g keeps processes (r ∷ rest) =
     )
 
 -- an entry adds the weight of its row
-pub entered_weighs : (f : Row → ℕ) (g : Ending → ℕ) → GrantKeeps f g → (row : Row) (request : Request) (r : Resource)
-    → weigh f (resource_after_entry row request r) + sum_by g (cond (is_at_once request r) (grant_endings true row) []) ≡ weigh f r + f row
+pub entered_weighs : (f : Row → ℕ) (g : Ending → ℕ) → GrantKeeps f g → (row : Row) (at_once : Bool) (r : Resource)
+    → weigh f (resource_after_entry row at_once r) + sum_by g (cond at_once (grant_endings true row) []) ≡ weigh f r + f row
 unfolding resource_after_entry
-entered_weighs f g keeps row request r =
-    elim (is_at_once request r) as (λ b.
+entered_weighs f g keeps row at_once r =
+    elim at_once as (λ b.
     weigh f (cond b (resource_after_grant r row) (record r { waiting = r.waiting ++ row ∷ [] })) + sum_by g (cond b (grant_endings true row) [])
     ≡ weigh f r + f row) [
       | true ↦ omega (arith, keeps true row, sum_by_push f r.granted (granted_row row))
@@ -135,25 +133,25 @@ entered_weighs f g keeps row request r =
     ]
 
 -- an entry among the resources adds the weight of its row
-pub entered_among_weighs : (f : Row → ℕ) (g : Ending → ℕ) → GrantKeeps f g → (serial : ℕ) (site : Site) (row : Row) (request : Request)
+pub entered_among_weighs : (f : Row → ℕ) (g : Ending → ℕ) → GrantKeeps f g → (serial : ℕ) (site : Site) (row : Row) (at_once : Bool)
     → (resources : List Resource)
-    → sum_by (weigh f) (resources_after_entry serial site row request resources)
-    + sum_by g (cond (is_at_once request (unwrap_or (find (is_at site.key) resources) (new_resource serial site))) (grant_endings true row) [])
+    → sum_by (weigh f) (resources_after_entry serial site row at_once resources)
+    + sum_by g (cond at_once (grant_endings true row) [])
     ≡ sum_by (weigh f) resources + f row
-entered_among_weighs f g keeps serial site row request [] =
+entered_among_weighs f g keeps serial site row at_once [] =
     omega (
       arith,
-      entered_weighs f g keeps row request (new_resource serial site),
-      sum_of_one (weigh f) (resource_after_entry row request (new_resource serial site)),
+      entered_weighs f g keeps row at_once (new_resource serial site),
+      sum_of_one (weigh f) (resource_after_entry row at_once (new_resource serial site)),
     )
-entered_among_weighs f g keeps serial site row request (r ∷ rest) =
-    let behind : sum_by (weigh f) (resources_after_entry serial site row request rest)
-    + sum_by g (cond (is_at_once request (unwrap_or (find (is_at site.key) rest) (new_resource serial site))) (grant_endings true row) [])
-    ≡ sum_by (weigh f) rest + f row = entered_among_weighs f g keeps serial site row request rest in
+entered_among_weighs f g keeps serial site row at_once (r ∷ rest) =
+    let behind : sum_by (weigh f) (resources_after_entry serial site row at_once rest)
+    + sum_by g (cond at_once (grant_endings true row) [])
+    ≡ sum_by (weigh f) rest + f row = entered_among_weighs f g keeps serial site row at_once rest in
     elim (is_at site.key r) as (λ b.
-    sum_by (weigh f) (cond b (resource_after_entry row request r ∷ rest) (r ∷ resources_after_entry serial site row request rest))
-    + sum_by g (cond (is_at_once request (unwrap_or (cond b (Some r) (find (is_at site.key) rest)) (new_resource serial site))) (grant_endings true row) [])
+    sum_by (weigh f) (cond b (resource_after_entry row at_once r ∷ rest) (r ∷ resources_after_entry serial site row at_once rest))
+    + sum_by g (cond at_once (grant_endings true row) [])
     ≡ sum_by (weigh f) (r ∷ rest) + f row) [
-      | true ↦ omega (arith, entered_weighs f g keeps row request r, sum_by-cons (weigh f) (resource_after_entry row request r) rest, sum_by-cons (weigh f) r rest)
-      | false ↦ omega (arith, behind, sum_by-cons (weigh f) r (resources_after_entry serial site row request rest), sum_by-cons (weigh f) r rest)
+      | true ↦ omega (arith, entered_weighs f g keeps row at_once r, sum_by-cons (weigh f) (resource_after_entry row at_once r) rest, sum_by-cons (weigh f) r rest)
+      | false ↦ omega (arith, behind, sum_by-cons (weigh f) r (resources_after_entry serial site row at_once rest), sum_by-cons (weigh f) r rest)
     ]

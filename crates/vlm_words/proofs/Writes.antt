@@ -13,10 +13,8 @@ use Rattle.vlm_words.specs.declared.modes.Act.{Act}
 use Rattle.vlm_words.specs.declared.modes.Mode.TheVariants.{Nl, Cr, Cw, Pr, Pw, Ex}
 use Rattle.vlm_words.specs.declared.modes.Mode.{Mode}
 use Rattle.vlm_words.specs.declared.steps.Answer.TheVariants.{Lock}
-use Rattle.vlm_words.specs.declared.steps.Answer.{Answer}
 use Rattle.vlm_words.specs.declared.steps.Conversion.{Conversion}
 use Rattle.vlm_words.specs.declared.steps.Step.TheVariants.{Convert}
-use Rattle.vlm_words.specs.declared.steps.Step.{Step}
 use Rattle.vlm_words.specs.Modes.{is_compatible, is_queued_legally, value_action}
 use Rattle.vlm_words.specs.Flags.{has_flag, quecvt}
 use Rattle.vlm_words.specs.State.{Resource, State}
@@ -26,7 +24,7 @@ use Rattle.vlm_words.specs.Sweeps.{sweep_endings}
 use Rattle.vlm_words.specs.Rows.{is_lock_of, rows_without}
 use Rattle.vlm_words.specs.Convert.{ConversionAdmission, admission_among, admission_or, conversion_endings, convert_admission, convert_change, convert_lkid, convert_refusal, convert_request, converts_at_once, is_queued_legally_from, pair_refusal}
 use Rattle.vlm_words.specs.Stepped.{Stepped, conversion_change, refused_or, step_change, stepped, stepped_after_sweep}
-use Rattle.vlm_words.specs.Runs.{Run}
+use Rattle.vlm_words.specs.Runs.{History, Run}
 use Rattle.vlm_words.specs.Laws.{AreCompatible, IsGrantedAtOnce, WritesAreGrantedAtOnce, action_from}
 use Rattle.vlm_words.specs.Lines.{behind}
 use Rattle.vlm_words.proofs.Each.{Any-cases, Any-here, Any-none, Any-weaker, found_at, each_passes, each_weaker}
@@ -256,10 +254,10 @@ at_once_first number a more numbered at_once =
     rw at_once (Any-here _ _ more (tt, refl, numbered))
 
 -- what an accepted conversion answers and ends
-made_conversion : (s : State) (c : Conversion) (a : ConversionAdmission) → convert_refusal s c ≡ None → convert_admission s c ≡ Some a
-    → stepped s (Convert c) ≡ stepped_after_sweep (conversion_change s c (Some a))
-made_conversion s c a passed admitted =
-    ap (λ (refusal : Option Cond). refused_or refusal s (step_change s (Convert c))) passed
+made_conversion : (s : State) (c : Conversion) (choice : Option Row) (a : ConversionAdmission) → convert_refusal s c ≡ None → convert_admission s c ≡ Some a
+    → stepped s (Convert c) choice ≡ stepped_after_sweep (conversion_change s c (Some a))
+made_conversion s c choice a passed admitted =
+    ap (λ (refusal : Option Cond). refused_or refusal s (step_change s (Convert c) choice)) passed
     ∙ ap (λ (there : Option ConversionAdmission). stepped_after_sweep (conversion_change s c there)) admitted
 
 -- one answer names one lock
@@ -269,11 +267,11 @@ lock_same first second m n same = cc
 -- where held modes are compatible and identifications apart, accepted conversions that write are granted at once
 writes_at_once : (s : State) → AllByRecursion HoldersAgree s.resources → Apart s → WritesAreGrantedAtOnce s
 unfolding convert_admission
-writes_at_once s agree apart c cond lkid answer some =
-    let passed : convert_refusal s c ≡ None = refused_answers_no_lock (convert_refusal s c) s (step_change s (Convert c)) cond lkid answer in
+writes_at_once s agree apart c choice cond lkid chosen answer some =
+    let passed : convert_refusal s c ≡ None = refused_answers_no_lock (convert_refusal s c) s (step_change s (Convert c) choice) cond lkid answer in
     let admitted = admission_of s c passed in
     let a : ConversionAdmission = admitted.0 in
-    let made : stepped s (Convert c) ≡ stepped_after_sweep (conversion_change s c (Some a)) = made_conversion s c a passed admitted.1 in
+    let made : stepped s (Convert c) choice ≡ stepped_after_sweep (conversion_change s c (Some a)) = made_conversion s c choice a passed admitted.1 in
     let named : convert_lkid s c ≡ lkid =
     lock_same _ cond (convert_lkid s c) lkid (sym (ap (λ (t : Stepped). t.answer) made) ∙ answer) in
     let writes : action_from a.row.held c.mode ≡ Write =
@@ -286,7 +284,7 @@ writes_at_once s agree apart c cond lkid answer some =
     (write_at_once s c a agree passed admitted.1 writes))
 
 -- after every run
-pub writes_at_once_always : (steps : List Step) (answers : List Answer) (endings : List Ending) (old : State)
-    → Run steps answers endings old → WritesAreGrantedAtOnce old
-writes_at_once_always steps answers endings old run =
-    writes_at_once old (holders_agree_always steps answers endings old run) (apart_always steps answers endings old run)
+pub writes_at_once_always : (history : History) (old : State)
+    → Run history old → WritesAreGrantedAtOnce old
+writes_at_once_always history old run =
+    writes_at_once old (holders_agree_always history old run) (apart_always history old run)

@@ -122,11 +122,11 @@ resource_without_granted lkid r = record r { granted = rows_without lkid r.grant
 
 -- the lock of this row is granted at once, with this value block, or goes to the end of the conversion
 -- queue
-abbrev pub resource_after_conversion_of : Request → ℕ → ValueBlock → Resource → Option Row
+abbrev pub resource_after_conversion_of : Request → Bool → ℕ → ValueBlock → Resource → Option Row
     → Resource
-resource_after_conversion_of request lkid block r None = r
-resource_after_conversion_of request lkid block r (Some row) =
-    if converts_at_once request lkid r
+resource_after_conversion_of request at_once lkid block r None = r
+resource_after_conversion_of request at_once lkid block r (Some row) =
+    if at_once
     then with_value_block block
     (resource_after_grant (resource_without_granted lkid r) (wanting_row row request))
     else record (resource_without_granted lkid r) {
@@ -134,9 +134,9 @@ resource_after_conversion_of request lkid block r (Some row) =
     }
 
 -- what a conversion makes of a resource: only that of the lock is changed
-unfoldable pub resource_after_conversion : Request → ℕ → ℕ → ValueBlock → Resource → Resource
-resource_after_conversion request pid lkid block r =
-    resource_after_conversion_of request lkid block r (find (is_lock_of pid lkid) r.granted)
+unfoldable pub resource_after_conversion : Request → Bool → ℕ → ℕ → ValueBlock → Resource → Resource
+resource_after_conversion request at_once pid lkid block r =
+    resource_after_conversion_of request at_once lkid block r (find (is_lock_of pid lkid) r.granted)
 
 -- the blocks once the conversion is accepted: its status block is written, and again if it is granted at
 -- once
@@ -149,7 +149,8 @@ unfoldable pub convert_change : State → Conversion → ConversionAdmission →
 convert_change s c a = record s {
   processes = (convert_blocks s c a).processes;
   resources =
-      map (resource_after_conversion a.request c.pid (convert_lkid s c) (convert_blocks s c a).value_block)
+      map
+      (resource_after_conversion a.request a.at_once c.pid (convert_lkid s c) (convert_blocks s c a).value_block)
       s.resources;
   next_request = s.next_request + 1;
 }

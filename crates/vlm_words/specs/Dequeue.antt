@@ -1,20 +1,16 @@
 -- The step that gives a lock up.
-use Rattle.std.specs.Prelude.{ℕ, Bool, false, not, ◌&&◌, ◌||◌, ◌==◌, List, ◌++◌, map, flat_map, Option, None, Some, is_some, unwrap_or, if◌then◌else◌}
+use Rattle.std.specs.Prelude.{ℕ, Bool, not, ◌&&◌, ◌||◌, ◌==◌, List, [], ◌∷◌, map, Option, None, Some, if◌then◌else◌}
 use Rattle.std.specs.List.{list_any}
 use Rattle.vlm_words.specs.declared.conditions.Cond.TheVariants.{Badparam, Cancelgrant, Sublocks}
 use Rattle.vlm_words.specs.declared.conditions.Cond.{Cond}
-use Rattle.vlm_words.specs.declared.locks.Request.{Request}
 use Rattle.vlm_words.specs.declared.locks.Row.{Row}
-use Rattle.vlm_words.specs.declared.resources.ValueBlock.{ValueBlock}
 use Rattle.vlm_words.specs.declared.steps.Dequeue.{Dequeue}
-use Rattle.vlm_words.specs.Modes.{is_writing}
 use Rattle.vlm_words.specs.Flags.{cancel, deq_bits, has_flag, invvalblk, is_known}
-use Rattle.vlm_words.specs.ValueBlocks.{new_value_block}
-use Rattle.vlm_words.specs.State.{Process, Resource, State}
-use Rattle.vlm_words.specs.Endings.{Ending, How, row_endings}
+use Rattle.vlm_words.specs.State.{Resource, State}
+use Rattle.vlm_words.specs.Endings.{Ending, How}
 use Rattle.vlm_words.specs.Endings.How.{by_abort, by_cancel}
-use Rattle.vlm_words.specs.Effects.{blocks_after, blocks_with}
-use Rattle.vlm_words.specs.Rows.{is_lock_of, rows_of, rows_without}
+use Rattle.vlm_words.specs.Rows.{is_lock_of}
+use Rattle.vlm_words.specs.Withdrawals.{Withdrawal, processes_after, resource_after_withdrawals, withdrawn_endings}
 use Rattle.vlm_words.specs.Checks.{caller_refusal, lock_refusal, named_lkid, or_else, which_refusal}
 
 -- an unknown flag
@@ -59,99 +55,33 @@ deq_refusal s d =
     (or_else (cancel_refusal s d)
     (sublocks_refusal s (has_flag d.flags cancel) (dequeue_lkid s d))))))
 
--- what is to become of a lock: it goes, or only its request is cancelled; and as it goes, a value for the
--- value block may be given, and the value block may be marked invalid
-pub record Withdrawal : Type 0 where
-  pub lkid : ℕ
-  pub cancels : Bool
-  pub value : Option (List ℕ)
-  pub invalidates : Bool
+-- how the conversion of the lock ends: it is cancelled, or aborted as the lock goes
+abbrev pub conversion_ending : Bool → How
+conversion_ending cancels = if cancels then by_cancel else by_abort
 
--- what a dequeue asks for
+-- what a dequeue asks for: that the lock goes, or only that its request is cancelled; a cancel leaves the value
+-- block as it is
 abbrev pub withdrawal_of : State → Dequeue → Withdrawal
 withdrawal_of s d = record {
   lkid = dequeue_lkid s d;
-  cancels = has_flag d.flags cancel;
-  value = d.value;
-  invalidates = has_flag d.flags invvalblk;
+  waiting = by_abort;
+  converting = conversion_ending (has_flag d.flags cancel);
+  stays = has_flag d.flags cancel;
+  value = if has_flag d.flags cancel then None else d.value;
+  invalidates = has_flag d.flags invvalblk && not (has_flag d.flags cancel);
 }
 
--- the resource but for this lock
-unfoldable pub resource_without : ℕ → Resource → Resource
-resource_without lkid r = record r {
-  granted = rows_without lkid r.granted;
-  converting = rows_without lkid r.converting;
-  waiting = rows_without lkid r.waiting;
-}
-
--- what is held may write the value block, if anything is held
-abbrev pub is_writer : Option Request → Bool
-is_writer None = false
-is_writer (Some held) = is_writing held.mode
-
--- the lock is among the rows, and may write the value block
-abbrev pub has_writer : ℕ → List Row → Bool
-has_writer lkid rows = list_any (λ row. (row.lkid == lkid) && is_writer row.held) rows
-
--- the value block as a writer leaves it: a given value is written and valid, and then it may be marked
--- invalid
-abbrev pub value_block_after_writer : Withdrawal → ValueBlock → ValueBlock
-value_block_after_writer w block = record {
-  value = unwrap_or w.value block.value;
-  valid = not w.invalidates && (is_some w.value || block.valid);
-}
-
--- the lock holds PW or EX, granted or converting
-abbrev pub is_held_by_writer : ℕ → Resource → Bool
-is_held_by_writer lkid r = has_writer lkid r.granted || has_writer lkid r.converting
-
--- the resource as the lock leaves it; only one that is held at PW or EX touches the value block
-abbrev pub resource_after_writer : Withdrawal → Resource → Resource
-resource_after_writer w r =
-    if is_held_by_writer w.lkid r then record r { value_block = value_block_after_writer w r.value_block }
-    else r
-
--- the row wants nothing any more, and holds what it held, armed as before
-abbrev pub row_after_cancel : Row → Row
-row_after_cancel row = record row { want = None }
-
--- a queued conversion is given up: its lock goes to the end of the granted queue; a waiting request goes
--- with its lock
-unfoldable pub resource_after_cancel : ℕ → Resource → Resource
-resource_after_cancel lkid r = record r {
-  granted = r.granted ++ map row_after_cancel (rows_of lkid r.converting);
-  converting = rows_without lkid r.converting;
-  waiting = rows_without lkid r.waiting;
-}
-
--- what a dequeue makes of a resource; a cancel leaves the value block
-abbrev pub resource_after_withdrawal : Withdrawal → Resource → Resource
-resource_after_withdrawal w r =
-    if w.cancels then resource_after_cancel w.lkid r
-    else resource_without w.lkid (resource_after_writer w r)
-
--- the requests of this lock in a queue end so
-abbrev pub queue_endings : How → ℕ → List Row → List Ending
-queue_endings how lkid rows = flat_map (row_endings how false) (rows_of lkid rows)
-
--- the requests of this lock that a dequeue ends
-abbrev pub withdrawal_endings : Withdrawal → Resource → List Ending
-withdrawal_endings w r =
-    queue_endings (if w.cancels then by_cancel else by_abort) w.lkid r.converting
-    ++ queue_endings by_abort w.lkid r.waiting
+-- the locks that a dequeue withdraws, by rising identification: the one that it names
+abbrev pub withdrawals_of : State → Dequeue → List Withdrawal
+withdrawals_of s d = withdrawal_of s d ∷ []
 
 -- the requests that end in the step: that of the lock
 abbrev pub deq_endings : State → Dequeue → List Ending
-deq_endings s d = flat_map (withdrawal_endings (withdrawal_of s d)) s.resources
+deq_endings s d = withdrawn_endings (withdrawals_of s d) s.resources
 
--- the processes after the ends of requests that touch no value block
-abbrev pub processes_after : List Ending → List Process → List Process
-processes_after endings processes =
-    (blocks_after endings (blocks_with new_value_block processes)).processes
-
--- the requests of the lock end, and it is gone from every queue, or only its request is
+-- the requests of the withdrawn locks end, and they are gone from every queue, or only their requests are
 unfoldable pub deq_change : State → Dequeue → State
 deq_change s d = record s {
   processes = processes_after (deq_endings s d) s.processes;
-  resources = map (resource_after_withdrawal (withdrawal_of s d)) s.resources;
+  resources = map (resource_after_withdrawals (withdrawals_of s d)) s.resources;
 }

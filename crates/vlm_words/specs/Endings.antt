@@ -31,8 +31,9 @@ wanted_endings how at_once lkid pid (Some request) =
 abbrev pub row_endings : How → Bool → Row → List Ending
 row_endings how at_once row = wanted_endings how at_once row.lkid row.pid row.want
 
--- the status that an end leaves where it returns no value block: NORMAL, ABORT, or CANCEL
-abbrev pub ending_status : How → Cond
-ending_status (by_grant act) = Normal
-ending_status by_abort = Abort
-ending_status by_cancel = Cancel
+-- the status that an end writes where it returns no value block: NORMAL, ABORT, or CANCEL; none where it writes
+-- nothing
+abbrev pub ending_status : How → Option Cond
+ending_status (by_grant act) = Some Normal
+ending_status by_abort = Some Abort
+ending_status by_cancel = Some Cancel

@@ -74,29 +74,28 @@ unfoldable pub is_at_once : Request → Resource → Bool
 is_at_once request r = has_flag (flag_bits request.flags) expedite || is_free_for request r
 
 -- the lock is granted at once, or goes to the end of the waiting queue
-unfoldable pub resource_after_entry : Row → Request → Resource → Resource
-resource_after_entry row request r =
-    if is_at_once request r then resource_after_grant r row
-    else record r { waiting = r.waiting ++ row ∷ [] }
+unfoldable pub resource_after_entry : Row → Bool → Resource → Resource
+resource_after_entry row at_once r =
+    if at_once then resource_after_grant r row else record r { waiting = r.waiting ++ row ∷ [] }
 
 -- some resource stands under the key
 abbrev pub has_resource : Key → List Resource → Bool
 has_resource key resources = list_any (is_at key) resources
 
 -- the lock enters the resource that stands there, a new one at the end where none does
-abbrev pub resources_after_entry : ℕ → Site → Row → Request → List Resource → List Resource
-resources_after_entry serial site row request [] =
-    resource_after_entry row request (new_resource serial site) ∷ []
-resources_after_entry serial site row request (r ∷ rest) =
-    if is_at site.key r then resource_after_entry row request r ∷ rest
-    else r ∷ resources_after_entry serial site row request rest
+abbrev pub resources_after_entry : ℕ → Site → Row → Bool → List Resource → List Resource
+resources_after_entry serial site row at_once [] =
+    resource_after_entry row at_once (new_resource serial site) ∷ []
+resources_after_entry serial site row at_once (r ∷ rest) =
+    if is_at site.key r then resource_after_entry row at_once r ∷ rest
+    else r ∷ resources_after_entry serial site row at_once rest
 
 -- the resource under the key as the lock finds it: a new one where none is there
 unfoldable pub enq_resource : State → NewRequest → Resource
 enq_resource s e =
     unwrap_or (find (is_at (enq_key s e)) s.resources) (new_resource s.next_serial (enq_site s e))
 
--- the new request is granted at once
+-- the new request is granted at once, on the resource as its lock finds it
 abbrev pub enq_at_once : State → NewRequest → Bool
 enq_at_once s e = is_at_once (enq_request s e) (enq_resource s e)
 
@@ -137,7 +136,7 @@ unfoldable pub enq_change : State → NewRequest → State
 enq_change s e = record s {
   processes = enq_processes s e;
   resources =
-      resources_after_entry s.next_serial (enq_site s e) (enq_row s e) (enq_request s e) s.resources;
+      resources_after_entry s.next_serial (enq_site s e) (enq_row s e) (enq_at_once s e) s.resources;
   next_lkid = s.next_lkid + 1;
   next_request = s.next_request + 1;
   next_serial = if has_resource (enq_key s e) s.resources then s.next_serial else s.next_serial + 1;

@@ -24,7 +24,7 @@ use Rattle.vlm_words.specs.State.{Process, Resource, State, process_of}
 use Rattle.vlm_words.specs.Endings.{Ending, How}
 use Rattle.vlm_words.specs.Endings.How.{by_abort, by_cancel, by_grant}
 use Rattle.vlm_words.specs.Checks.{named_lkid}
-use Rattle.vlm_words.specs.Stepped.{step_change, stepped}
+use Rattle.vlm_words.specs.Stepped.{IsChoice, step_change, stepped}
 
 -- the mode may be held beside what is held, if anything is
 abbrev pub IsBeside : Mode → Option Request → Type 0
@@ -78,11 +78,14 @@ wanting number s = sum_by (wanting_on number) s.resources
 abbrev pub times_ended : ℕ → List Ending → ℕ
 times_ended number endings = count_by (λ ending. ending.request.number == number) endings
 
--- each accepted request is wanted by exactly one row and has no ending, or by none and has exactly one
-abbrev pub EachRequestEndsOnce : List Ending → State → Type 0
-EachRequestEndsOnce endings last = (number : ℕ) → 0 < number → number < last.next_request
-    → ((wanting number last ≡ 1) × (times_ended number endings ≡ 0))
-    ⊎ ((wanting number last ≡ 0) × (times_ended number endings ≡ 1))
+-- each accepted request is wanted by exactly one row and has no ending, or by none and has exactly one; a number
+-- that is to come is wanted by no row, and has no ending
+pub record EachRequestEndsOnce (endings : List Ending) (last : State) : Type 0 where
+  pub accepted : (number : ℕ) → 0 < number → number < last.next_request
+      → ((wanting number last ≡ 1) × (times_ended number endings ≡ 0))
+      ⊎ ((wanting number last ≡ 0) × (times_ended number endings ≡ 1))
+  pub to_come : (number : ℕ) → last.next_request ≤ number
+      → (wanting number last ≡ 0) × (times_ended number endings ≡ 0)
 
 -- the row after a grant is that of the same lock, which holds what it wanted and wants nothing
 pub record IsGranted (before after : Row) : Type 0 where
@@ -106,6 +109,14 @@ pub record IsGrantOf (row : Row) (ending : Ending) : Type 0 where
   pub how : IsGrant ending.how
   pub queued : ending.at_once ≡ false
 
+-- the row is that of the same lock, holds and wants the same; only whether it is armed may differ
+pub record IsSameButArmed (before after : Row) : Type 0 where
+  pub lkid : after.lkid ≡ before.lkid
+  pub pid : after.pid ≡ before.pid
+  pub parent : after.parent ≡ before.parent
+  pub held : after.held ≡ before.held
+  pub want : after.want ≡ before.want
+
 -- the two are one resource
 pub record IsSameResource (before after : Resource) : Type 0 where
   pub serial : after.serial ≡ before.serial
@@ -119,15 +130,18 @@ abbrev pub first_rows : ℕ → ℕ → Resource → List Row
 first_rows conversions new_requests r = take conversions r.converting ++ take new_requests r.waiting
 
 -- the first conversions and the first new requests are granted, in their order, new requests only once no
--- conversion is left; the rows behind them stay in their queues, and nothing else moves
+-- conversion is left; the rows behind them stay in their queues, and nothing else moves, but that locks may be
+-- disarmed
 pub record GrantsFirst (before after : Resource) (endings : List Ending) : Type 0 where
   pub conversions : ℕ
   pub new_requests : ℕ
+  pub kept : List Row
   pub given : List Row
   pub same : IsSameResource before after
   pub converting : after.converting ≡ drop conversions before.converting
   pub waiting : after.waiting ≡ drop new_requests before.waiting
-  pub granted : after.granted ≡ before.granted ++ given
+  pub granted : after.granted ≡ kept ++ given
+  pub stay : AllZip IsSameButArmed before.granted kept
   pub rows : AllZip IsGranted (first_rows conversions new_requests before) given
   pub ends : AllZip IsGrantOf (first_rows conversions new_requests before) endings
   pub conversions_before : 0 < new_requests → after.converting ≡ []
@@ -198,24 +212,28 @@ pub record ConvertsInTurn (c : Conversion) (lkid : ℕ) (r : Resource) : Type 0 
   pub beside : All (λ row. row.lkid ≢ lkid → IsBeside c.mode row.held) (r.granted ++ r.converting)
   pub overtakes_none : has_flag c.flags quecvt ≡ true → r.converting ≡ []
 
--- a grant at once is that of the step's own request, which overtakes nobody that it may not
+-- a grant at once is that of the step's own request, in the mode that is asked for and of the lock that is named,
+-- and overtakes nobody that it may not
 abbrev pub IsGrantedInTurn : State → Step → Ending → Type 0
-IsGrantedInTurn s (Enq e) ending = (ending.request.number ≡ s.next_request) × EntersInTurn s e
+IsGrantedInTurn s (Enq e) ending =
+    (ending.request.number ≡ s.next_request) × (ending.request.mode ≡ e.mode) × (ending.lkid ≡ s.next_lkid)
+    × EntersInTurn s e
 IsGrantedInTurn s (Convert c) ending =
-    (ending.request.number ≡ s.next_request)
+    (ending.request.number ≡ s.next_request) × (ending.request.mode ≡ c.mode)
+    × (ending.lkid ≡ named_lkid s c.pid c.lock)
     × All (λ r. Stands ending.lkid r.granted → ConvertsInTurn c ending.lkid r) s.resources
 IsGrantedInTurn s step ending = ⊥
 
 -- what a step that is made grants: at once, only its own request in its turn; and then, in its sweep, the
 -- first requests of each queue in their order
-pub record GrantsFollowQueueOrder (old : State) (step : Step) : Type 0 where
+pub record GrantsFollowQueueOrder (old : State) (step : Step) (choice : Option Row) : Type 0 where
   pub swept_endings : List Ending
   pub swept :
-      SweptInOrder (step_change old step).state.resources (stepped old step).state.resources swept_endings
-  pub ends : (stepped old step).endings ≡ (step_change old step).endings ++ swept_endings
+      SweptInOrder (step_change old step choice).state.resources (stepped old step choice).state.resources swept_endings
+  pub ends : (stepped old step choice).endings ≡ (step_change old step choice).endings ++ swept_endings
   pub at_once :
       All (λ ending. IsGrant ending.how → (ending.at_once ≡ true) × IsGrantedInTurn old step ending)
-      (step_change old step).endings
+      (step_change old step choice).endings
 
 -- a granted lock holds a mode and wants nothing
 abbrev pub IsHeld : Row → Type 0
@@ -252,11 +270,11 @@ IsGrantedAtOnce number endings =
 
 -- an accepted conversion that the table lets write the value block is granted at once
 abbrev pub WritesAreGrantedAtOnce : State → Type 0
-WritesAreGrantedAtOnce old = (c : Conversion) (cond : Cond) (lkid : ℕ)
-    → (stepped old (Convert c)).answer ≡ Lock cond lkid
+WritesAreGrantedAtOnce old = (c : Conversion) (choice : Option Row) (cond : Cond) (lkid : ℕ)
+    → IsChoice old (Convert c) choice → (stepped old (Convert c) choice).answer ≡ Lock cond lkid
     → Any (λ r. Any (λ row. (row.lkid ≡ lkid) × (action_from row.held c.mode ≡ Write)) r.granted)
     old.resources
-    → IsGrantedAtOnce old.next_request (stepped old (Convert c)).endings
+    → IsGrantedAtOnce old.next_request (stepped old (Convert c) choice).endings
 
 -- how many rows of a resource are those of this lock
 abbrev pub rows_on : ℕ → Resource → ℕ
@@ -290,8 +308,8 @@ pub record SerialsRise (s : State) : Type 0 where
 
 -- a declaration that is answered with an identification gives one that no living process has
 abbrev pub DeclarationsGiveNewIdentifications : State → Type 0
-DeclarationsGiveNewIdentifications s = (d : Declaration) (pid : ℕ)
-    → (stepped s (Declare d)).answer ≡ process_answer pid → All (λ p. p.pid ≢ pid) s.processes
+DeclarationsGiveNewIdentifications s = (d : Declaration) (choice : Option Row) (pid : ℕ)
+    → IsChoice s (Declare d) choice → (stepped s (Declare d) choice).answer ≡ process_answer pid → All (λ p. p.pid ≢ pid) s.processes
 
 -- the lock of this identification and this process holds a mode on the resource, granted or converting
 abbrev pub HoldsOn : ℕ → ℕ → Resource → Type 0

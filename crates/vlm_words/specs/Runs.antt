@@ -1,23 +1,43 @@
 -- Runs of the plain machine.
-use Rattle.std.specs.Prelude.{List, [], ◌∷◌, ◌++◌}
+use Rattle.std.specs.Prelude.{◌≡◌, List, [], ◌∷◌, ◌++◌}
 use Rattle.vlm_words.specs.declared.steps.Answer.{Answer}
 use Rattle.vlm_words.specs.declared.steps.Step.{Step}
 use Rattle.vlm_words.specs.Endings.{Ending}
 use Rattle.vlm_words.specs.State.{State, start}
 use Rattle.vlm_words.specs.Stepped.{Outcome, outcome_endings}
 
--- from this state the steps get these answers, end these requests and leave a state: each is an outcome
--- in the state before it
-pub data RunFrom (first : State) : List Step → List Answer → List Ending → State → Type 0 where
-  begin : RunFrom first [] [] [] first
-  next : {steps : List Step} {answers : List Answer} {endings : List Ending} {old new : State} {step : Step} {answer : Answer}
-      → RunFrom first steps answers endings old → (outcome : Outcome old step new answer)
-      → RunFrom first (steps ++ step ∷ []) (answers ++ answer ∷ []) (endings ++ outcome_endings outcome) new
+-- what happened in a run, in order: the steps, what each was answered, and the requests that ended
+pub record History : Type 0 where
+  pub steps : List Step
+  pub answers : List Answer
+  pub endings : List Ending
+
+-- nothing has happened
+abbrev pub no_history : History
+no_history = record { steps = []; answers = []; endings = [] }
+
+-- one step more, with its answer and the requests that end in it
+abbrev pub history_after : History → Step → Answer → List Ending → History
+history_after h step answer endings = record {
+  steps = h.steps ++ step ∷ [];
+  answers = h.answers ++ answer ∷ [];
+  endings = h.endings ++ endings;
+}
+
+-- from this state the history leads to a state: each of its steps is an outcome in the state before it
+pub data RunFrom (first : State) : History → State → Type 0 where
+  begin : RunFrom first no_history first
+  next : {history : History} {old new : State} {step : Step} {answer : Answer}
+      → RunFrom first history old → (outcome : Outcome old step new answer)
+      → RunFrom first (history_after history step answer (outcome_endings outcome)) new
 
 -- a run of the machine begins at its start
-abbrev pub Run : List Step → List Answer → List Ending → State → Type 0
-Run steps answers endings last = RunFrom start steps answers endings last
+abbrev pub Run : History → State → Type 0
+Run history last = RunFrom start history last
 
--- a legal run: some state is left after it
-abbrev pub Legal : List Step → List Answer → Type 0
-Legal steps answers = (last : State) × (endings : List Ending) × Run steps answers endings last
+-- a legal run: begun in this state, the steps may get these answers and leave that state
+pub record Legal (first : State) (steps : List Step) (answers : List Answer) (last : State) : Type 0 where
+  pub history : History
+  pub run : RunFrom first history last
+  pub taken : history.steps ≡ steps
+  pub answered : history.answers ≡ answers

@@ -3,7 +3,9 @@ use Rattle.std.specs.Prelude.{ℕ, List, [], map, ◌==◌, ◌-◌, nat_lt, rep
 use Rattle.std.specs.Option.{option_map_or}
 use Rattle.vlm_words.specs.declared.blocks.Block.{Block}
 use Rattle.vlm_words.specs.declared.conditions.Cond.{Cond}
+use Rattle.vlm_words.specs.declared.resources.ValueBlock.{ValueBlock}
 use Rattle.vlm_words.specs.Conditions.{condition_number}
+use Rattle.vlm_words.specs.ValueBlocks.{return_status}
 use Rattle.vlm_words.specs.State.{Process, process_of}
 
 -- a status block at its making
@@ -50,8 +52,13 @@ processes_after_status pid n cond processes =
     processes_after_write pid n (record (status_block_of processes pid n) { status = condition_number cond })
     processes
 
--- a request has ended with a value block: its block gets both, and keeps its lock
-unfoldable pub processes_after_return : ℕ → ℕ → Cond → List ℕ → List Process → List Process
-processes_after_return pid n cond value processes =
-    processes_after_write pid n
-    (record (status_block_of processes pid n) { status = condition_number cond; value = value }) processes
+-- the status block with a value block that is returned to it: its bytes, and the status by its mark; it keeps its
+-- lock
+abbrev pub block_after_return : ValueBlock → Block → Block
+block_after_return returned block =
+    record block { status = condition_number (return_status returned.valid); value = returned.value }
+
+-- a request has ended, and the value block is returned to its status block
+unfoldable pub processes_after_return : ℕ → ℕ → ValueBlock → List Process → List Process
+processes_after_return pid n returned processes =
+    processes_after_write pid n (block_after_return returned (status_block_of processes pid n)) processes

@@ -3,6 +3,7 @@ use Rattle.std.specs.Prelude.{◌≡◌, ◌⊎◌, ⊤, List, [], ◌++◌, Opt
 use Rattle.std.proofs.Common.{inl, inr}
 use Rattle.vlm_words.specs.declared.conditions.Cond.TheVariants.{Normal, Badparam, Insfmem}
 use Rattle.vlm_words.specs.declared.conditions.Cond.{Cond}
+use Rattle.vlm_words.specs.declared.locks.Row.{Row}
 use Rattle.vlm_words.specs.declared.steps.Answer.TheVariants.{Process as process_answer, Lock, Plain}
 use Rattle.vlm_words.specs.declared.steps.Answer.{Answer}
 use Rattle.vlm_words.specs.declared.steps.Conversion.{Conversion}
@@ -49,30 +50,34 @@ step_refusal s (Leave node) = Some Badparam
 step_refusal s (Search node) = Some Badparam
 step_refusal s (Take pid) = Some Badparam
 
+-- what a step chooses, where more than one thing may come of it: a row or none; no kind that is built chooses
+abbrev pub IsChoice : State → Step → Option Row → Type 0
+IsChoice s step choice = choice ≡ None
+
 -- the change of a step that no check refuses, before its sweep, with its answer and the requests that it
 -- ends itself
-abbrev pub step_change : State → Step → Stepped
-step_change s (Declare d) = record {
+abbrev pub step_change : State → Step → Option Row → Stepped
+step_change s (Declare d) choice = record {
   state = declare_change s d;
   answer = process_answer (next_pid s d.node);
   endings = [];
 }
-step_change s (SetValue v) = record { state = set_change s v; answer = Plain Normal; endings = [] }
-step_change s (Enq e) = record {
+step_change s (SetValue v) choice = record { state = set_change s v; answer = Plain Normal; endings = [] }
+step_change s (Enq e) choice = record {
   state = enq_change s e;
   answer = Lock (acceptance e.flags (enq_at_once s e)) s.next_lkid;
   endings = enq_endings s e;
 }
-step_change s (Convert c) = conversion_change s c (convert_admission s c)
-step_change s (Deq d) = record {
+step_change s (Convert c) choice = conversion_change s c (convert_admission s c)
+step_change s (Deq d) choice = record {
   state = deq_change s d;
   answer = Plain Normal;
   endings = deq_endings s d;
 }
-step_change s (Rundown pid) = refused s Badparam
-step_change s (Leave node) = refused s Badparam
-step_change s (Search node) = refused s Badparam
-step_change s (Take pid) = refused s Badparam
+step_change s (Rundown pid) choice = refused s Badparam
+step_change s (Leave node) choice = refused s Badparam
+step_change s (Search node) choice = refused s Badparam
+step_change s (Take pid) choice = refused s Badparam
 
 -- the sweep after a change: each resource is served, and dropped if it has no lock
 abbrev pub stepped_after_sweep : Stepped → Stepped
@@ -88,8 +93,8 @@ refused_or None s change = stepped_after_sweep change
 refused_or (Some refusal) s change = refused s refusal
 
 -- the step of the plain machine: checks in order, then the change, and the sweep
-abbrev pub stepped : State → Step → Stepped
-stepped s step = refused_or (step_refusal s step) s (step_change s step)
+abbrev pub stepped : State → Step → Option Row → Stepped
+stepped s step choice = refused_or (step_refusal s step) s (step_change s step choice)
 
 -- the kinds of step that may want memory
 abbrev pub MayWantMemory : Step → Type 0
@@ -103,10 +108,12 @@ MayWantMemory (Leave node) = ⊥
 MayWantMemory (Search node) = ⊥
 MayWantMemory (Take pid) = ⊥
 
--- the step is made
+-- the step is made, with what it chooses
 pub record IsMade (old : State) (step : Step) (new : State) (answer : Answer) : Type 0 where
-  pub state : new ≡ (stepped old step).state
-  pub answered : answer ≡ (stepped old step).answer
+  pub choice : Option Row
+  pub chosen : IsChoice old step choice
+  pub state : new ≡ (stepped old step choice).state
+  pub answered : answer ≡ (stepped old step choice).answer
 
 -- a growth was refused, of a step that no check refuses: nothing is changed
 pub record IsShortOfMemory (old : State) (step : Step) (new : State) (answer : Answer) : Type 0 where
@@ -121,5 +128,5 @@ Outcome old step new answer = IsMade old step new answer ⊎ IsShortOfMemory old
 
 -- the requests that end in an outcome: those of the step if it is made
 abbrev pub outcome_endings : {old : State} {step : Step} {new : State} {answer : Answer} → Outcome old step new answer → List Ending
-outcome_endings {old} {step} (inl made) = (stepped old step).endings
+outcome_endings {old} {step} (inl made) = (stepped old step made.choice).endings
 outcome_endings (inr short) = []

@@ -1,87 +1,90 @@
 //! What holds after every legal run of the plain machine. The functions do nothing: their contracts
 //! are the laws.
 
-ghost use Rattle.std.specs.Prelude.{◌≡◌, List, None};
+ghost use Rattle.std.specs.Prelude.{◌≡◌, List, None, Option};
 ghost use Rattle.std.specs.List.{AllByRecursion};
-ghost use Rattle.vlm_words.specs.declared.steps.Answer.{Answer};
+ghost use Rattle.vlm_words.specs.declared.locks.Row.{Row};
 ghost use Rattle.vlm_words.specs.declared.steps.Step.{Step};
-ghost use Rattle.vlm_words.specs.Endings.{Ending};
 ghost use Rattle.vlm_words.specs.State.{Process, Resource, State};
 ghost use Rattle.vlm_words.specs.Settled.{IsSettled, IsSweptAlone};
-ghost use Rattle.vlm_words.specs.Runs.{Run};
-ghost use Rattle.vlm_words.specs.Stepped.{step_refusal};
+ghost use Rattle.vlm_words.specs.Runs.{History, Run};
+ghost use Rattle.vlm_words.specs.Stepped.{IsChoice, step_refusal};
+ghost use Rattle.vlm_words.specs.Granted.{NoGrantIsHidden};
+ghost use Rattle.vlm_words.specs.Joining.{ChangesKeepOrder};
+ghost use Rattle.vlm_words.specs.Owners.{OthersAreLeftAlone};
+ghost use Rattle.vlm_words.specs.Numbers.{NumbersAreGivenOnce};
+ghost use Rattle.vlm_words.specs.Privileges.{SystemRootsArePrivileged};
+ghost use Rattle.vlm_words.specs.Queued.{NoqueueIsKept};
+ghost use Rattle.vlm_words.specs.Reasons.{RefusalHasItsReason};
 ghost use Rattle.vlm_words.specs.Laws.{DeclarationsGiveNewIdentifications, EachRequestEndsOnce, GrantsFollowQueueOrder, HeldModesAreCompatible, IdentificationsAreApart, KeysAreApart, NoResourceIsVacant, NothingIsLeftToGrant, ParentsOutliveTheirSublocks, QuotasAreKept, RowsFitTheirQueues, SerialsRise, TreesAreBounded, WritesAreGrantedAtOnce};
 
 /// In each resource the held modes of any two locks are compatible.
 pub fn law_held_modes_are_compatible()
-    ensures { (steps : List Step) (answers : List Answer) (endings : List Ending) (last : State)
-        → Run steps answers endings last → HeldModesAreCompatible last }
+    ensures { (history : History) (last : State) → Run history last → HeldModesAreCompatible last }
 {}
 
 /// After every step the first conversion of a resource does not fit, and where none is queued the
 /// first new request does not.
 pub fn law_nothing_is_left_to_grant()
-    ensures { (steps : List Step) (answers : List Answer) (endings : List Ending) (last : State)
-        → Run steps answers endings last → NothingIsLeftToGrant last }
+    ensures { (history : History) (last : State) → Run history last → NothingIsLeftToGrant last }
 {}
 
 /// Each accepted request is wanted by exactly one lock and has not ended, or is wanted by none and
 /// has ended once.
 pub fn law_each_request_ends_once()
-    ensures { (steps : List Step) (answers : List Answer) (endings : List Ending) (last : State)
-        → Run steps answers endings last → EachRequestEndsOnce endings last }
+    ensures { (history : History) (last : State) → Run history last
+        → EachRequestEndsOnce history.endings last }
+{}
+
+/// No grant is hidden: each lock that holds a request has among the endings the grant of that request, whole, to
+/// this lock of this process.
+pub fn law_no_grant_is_hidden()
+    ensures { (history : History) (last : State) → Run history last
+        → NoGrantIsHidden history.endings last }
 {}
 
 /// A granted lock holds a mode and wants nothing, a converting lock holds one and wants one, and a
 /// waiting lock holds nothing and wants one.
 pub fn law_rows_fit_their_queues()
-    ensures { (steps : List Step) (answers : List Answer) (endings : List Ending) (last : State)
-        → Run steps answers endings last → RowsFitTheirQueues last }
+    ensures { (history : History) (last : State) → Run history last → RowsFitTheirQueues last }
 {}
 
 /// No two locks have one identification, and none has 0.
 pub fn law_identifications_are_apart()
-    ensures { (steps : List Step) (answers : List Answer) (endings : List Ending) (last : State)
-        → Run steps answers endings last → IdentificationsAreApart last }
+    ensures { (history : History) (last : State) → Run history last → IdentificationsAreApart last }
 {}
 
 /// Serials rise from one resource to the next, from 1, and are below the one to come. No more serials than
 /// identifications were given: each resource that was made came with a lock of its own.
 pub fn law_serials_rise()
-    ensures { (steps : List Step) (answers : List Answer) (endings : List Ending) (last : State)
-        → Run steps answers endings last → SerialsRise last }
+    ensures { (history : History) (last : State) → Run history last → SerialsRise last }
 {}
 
 /// A declaration gives an identification that no living process has.
 pub fn law_a_declaration_gives_a_new_identification()
-    ensures { (steps : List Step) (answers : List Answer) (endings : List Ending) (last : State)
-        → Run steps answers endings last → DeclarationsGiveNewIdentifications last }
+    ensures { (history : History) (last : State) → Run history last → DeclarationsGiveNewIdentifications last }
 {}
 
 /// No two resources have one key.
 pub fn law_keys_are_apart()
-    ensures { (steps : List Step) (answers : List Answer) (endings : List Ending) (last : State)
-        → Run steps answers endings last → KeysAreApart last }
+    ensures { (history : History) (last : State) → Run history last → KeysAreApart last }
 {}
 
 /// A lock of a sub-resource has a parent lock, of the same process, that holds a mode on the parent resource;
 /// a lock of a root has none.
 pub fn law_a_parent_outlives_its_sublocks()
-    ensures { (steps : List Step) (answers : List Answer) (endings : List Ending) (last : State)
-        → Run steps answers endings last → ParentsOutliveTheirSublocks last }
+    ensures { (history : History) (last : State) → Run history last → ParentsOutliveTheirSublocks last }
 {}
 
 /// A root is at level 0, and a sub-resource one level below its parent resource, which is there and in the
 /// same domain. None is below level 15.
 pub fn law_trees_are_bounded()
-    ensures { (steps : List Step) (answers : List Answer) (endings : List Ending) (last : State)
-        → Run steps answers endings last → TreesAreBounded last }
+    ensures { (history : History) (last : State) → Run history last → TreesAreBounded last }
 {}
 
 /// A living process has no more locks than its quota, waiting ones too, and no other has any.
 pub fn law_quotas_are_kept()
-    ensures { (steps : List Step) (answers : List Answer) (endings : List Ending) (last : State)
-        → Run steps answers endings last → QuotasAreKept last }
+    ensures { (history : History) (last : State) → Run history last → QuotasAreKept last }
 {}
 
 /// Each step that no check refuses grants in the order of the queues. At once it grants only its own
@@ -89,30 +92,43 @@ pub fn law_quotas_are_kept()
 /// all other locks, with QUECVT only where no conversion is queued. Its sweep then grants the first requests
 /// of each queue, in order, and new ones only where no conversion is left.
 pub fn law_grants_follow_queue_order()
-    ensures { (steps : List Step) (answers : List Answer) (endings : List Ending) (old : State)
-        → Run steps answers endings old → (step : Step) → step_refusal old step ≡ None
-        → GrantsFollowQueueOrder old step }
+    ensures { (history : History) (old : State) → Run history old → (step : Step) (choice : Option Row)
+        → IsChoice old step choice → step_refusal old step ≡ None
+        → GrantsFollowQueueOrder old step choice }
+{}
+
+/// A step's own change keeps the order of each queue: only the step's own locks leave one, and at most one of
+/// them joins one, behind all that stand there.
+pub fn law_changes_keep_the_order_of_queues()
+    ensures { (history : History) (old : State) → Run history old
+        → (step : Step) (choice : Option Row) → IsChoice old step choice
+        → step_refusal old step ≡ None → ChangesKeepOrder old step choice }
+{}
+
+/// A step leaves the requests and locks of other processes alone: what it ends but by a grant is of its caller,
+/// and so is each lock that leaves.
+pub fn law_others_are_left_alone()
+    ensures { (history : History) (old : State) → Run history old
+        → (step : Step) (choice : Option Row) → IsChoice old step choice
+        → OthersAreLeftAlone old step choice }
 {}
 
 /// A conversion that the table of value blocks lets write, by its held and its wanted mode, and that is
 /// accepted, is granted at once: its request has a grant among the step's endings. So no queued conversion
 /// ever writes.
 pub fn law_writes_are_granted_at_once()
-    ensures { (steps : List Step) (answers : List Answer) (endings : List Ending) (old : State)
-        → Run steps answers endings old → WritesAreGrantedAtOnce old }
+    ensures { (history : History) (old : State) → Run history old → WritesAreGrantedAtOnce old }
 {}
 
 /// On each resource some lock is left: a resource goes with its last lock.
 pub fn law_no_resource_is_vacant()
-    ensures { (steps : List Step) (answers : List Answer) (endings : List Ending) (last : State)
-        → Run steps answers endings last → NoResourceIsVacant last }
+    ensures { (history : History) (last : State) → Run history last → NoResourceIsVacant last }
 {}
 
 /// Between the steps a sweep has nothing to do: on no resource can anything be granted, and none is without
 /// locks.
 pub fn law_each_resource_is_settled()
-    ensures { (steps : List Step) (answers : List Answer) (endings : List Ending) (last : State)
-        → Run steps answers endings last → AllByRecursion IsSettled last.resources }
+    ensures { (history : History) (last : State) → Run history last → AllByRecursion IsSettled last.resources }
 {}
 
 /// Where a sweep has something to do on one resource alone, serving that one, and dropping it if no lock is
@@ -121,4 +137,31 @@ pub fn law_a_sweep_touches_only_what_is_not_settled()
     ensures { (processes : List Process) (before : List Resource) (r : Resource)
         (after : List Resource) → AllByRecursion IsSettled before → AllByRecursion IsSettled after
         → IsSweptAlone processes before r after }
+{}
+
+/// A step takes a number only for what it makes: an accepted request takes the next request number, a new one
+/// the next identification too, which it answers, and a resource that is made the next serial. No step lowers
+/// a number, so none is given again.
+pub fn law_numbers_are_given_once()
+    ensures { (history : History) (old : State) → Run history old → (step : Step) (choice : Option Row)
+        → IsChoice old step choice → NumbersAreGivenOnce old step choice }
+{}
+
+/// A step breaks no rule and is accepted, or it is refused with the condition of a rule that it breaks. So no
+/// refusal comes without its reason, and none is left out.
+pub fn law_a_refusal_has_its_reason()
+    ensures { (history : History) (old : State) → Run history old → (step : Step) (choice : Option Row)
+        → IsChoice old step choice → RefusalHasItsReason old step choice }
+{}
+
+/// A root in the system's domain is made by a new request with SYSTEM alone, of a caller with the privilege
+/// SYSLCK.
+pub fn law_system_roots_are_privileged()
+    ensures { (history : History) (old : State) → Run history old → (step : Step) (choice : Option Row)
+        → IsChoice old step choice → SystemRootsArePrivileged old step choice }
+{}
+
+/// No request with NOQUEUE is queued.
+pub fn law_noqueue_is_kept()
+    ensures { (history : History) (last : State) → Run history last → NoqueueIsKept last }
 {}

@@ -6,8 +6,8 @@ use Rattle.vlm_locks.proofs.endings.end_by_grant.Goals as goal
 pub end-requires : goal.end-requires
 end-requires c = process_there c.args.store.now _ _ c.requires
 
-pub end-requires-in-Return : goal.end-requires-in-Return
-end-requires-in-Return c = process_there c.args.store.now _ _ c.requires
+pub end_with_return-requires : goal.end_with_return-requires
+end_with_return-requires c = process_there c.args.store.now _ _ c.requires
 
 pub value-requires : goal.value-requires
 value-requires c = process_there c.args.store.now _ _ c.requires

@@ -1,50 +1,38 @@
-use Rattle.std.proofs.Common.{◌≡◌, sym, ap, ◌∙◌, subst}
+use Rattle.std.proofs.Common.{◌≡◌, is_some, sym, ap, ◌∙◌, subst}
 use Rattle.vlm_words.specs.declared.locks.Row.{Row}
-use Rattle.vlm_store.specs.Records.{IsAmong, StoredLock, Stores, locks_at}
-use Rattle.vlm_locks.specs.declared.finding.Standing.{Standing}
-use Rattle.vlm_locks.proofs.Held.{none_held, some_held, stands_queued}
+use Rattle.vlm_store.specs.Records.{Stores}
+use Rattle.vlm_locks.proofs.Held.{none_held, some_held}
 use Rattle.vlm_locks.proofs.finding.find_lock.Goals as goal
 
 -- no lock has the identification
-pub returns-in_default-clause-held : goal.returns-in_default-clause-held
-returns-in_default-clause-held c =
-    sym (none_held c.args.store.now c.known.ensures c.args.pid c.args.lkid (λ at row stored same. absurd (c.in_default.ensures at row stored same)))
+pub returns-in_err-lock-clause-held : goal.returns-in_err-lock-clause-held
+returns-in_err-lock-clause-held c =
+    ap is_some c.from_residual.ensures
+    ∙ sym (none_held c.args.store.now c.known.ensures c.args.pid c.args.lkid (λ at row stored same. absurd (c.in_err-lock.ensures at row stored same)))
 
--- the lock is another process's
-pub returns-then-record-pid-clause-held : goal.returns-then-record-pid-clause-held
-returns-then-record-pid-clause-held c =
-    let s = c.args.store.now in
-    let found = c.in-Some.ensures in
-    sym (none_held s c.known.ensures c.args.pid c.args.lkid (λ at row stored same mine.
-    let here : at ≡ c.in-Some.lock = c.known.ensures.lkids_apart at c.in-Some.lock row found.0 stored found.1.0 (same ∙ sym found.1.1) in
-    c.if-record-pid.true (sym (ap (λ (x : Row). x.pid) (c.lock_record-record.ensures.only row (subst (λ k. Stores s k row) here stored))) ∙ mine)))
+-- the lock is of the process
+pub returns-then-standing-pid-clause-held : goal.returns-then-standing-pid-clause-held
+returns-then-standing-pid-clause-held c =
+    let f = c.in_ok-standing.standing in
+    let found = c.in_ok-lock.ensures in
+    let held = some_held c.args.store.now c.known.ensures f c.in_ok-standing.ensures.standing in
+    let named : f.row.lkid ≡ c.args.lkid = sym (ap (λ (x : Row). x.lkid) (c.in_ok-standing.ensures.only found.0 found.1.0)) ∙ found.1.1 in
+    sym (rw (c.if-standing-pid.true, named) at held)
 
-pub returns-in-Queued-clause-standing : goal.returns-in-Queued-clause-standing
-returns-in-Queued-clause-standing c =
-    let s = c.args.store.now in
-    let lock : StoredLock = record { at = c.in-Some.lock; row = c.lock_record-record.result.now.row } in
-    let f : Standing = record { lock = c.in-Some.lock; row = c.lock_record-record.result.now.row; res = c.in-Queued.res; queue = c.in-Queued.queue } in
-    let found = c.in-Some.ensures in
+pub returns-then-standing-pid-clause-standing : goal.returns-then-standing-pid-clause-standing
+returns-then-standing-pid-clause-standing c =
+    let found = c.in_ok-lock.ensures in
     record {
-      standing = stands_queued s f (subst (λ p. IsAmong lock (locks_at p s)) c.in-Queued.is (c.lock_record-record.ensures.stands));
-      named = sym (ap (λ (x : Row). x.lkid) (c.lock_record-record.ensures.only found.0 found.1.0)) ∙ found.1.1;
-      owned = c.if-record-pid.false;
+      standing = c.in_ok-standing.ensures.standing;
+      named = sym (ap (λ (x : Row). x.lkid) (c.in_ok-standing.ensures.only found.0 found.1.0)) ∙ found.1.1;
+      owned = c.if-standing-pid.true;
     }
 
-pub returns-in-Queued-clause-held : goal.returns-in-Queued-clause-held
-returns-in-Queued-clause-held c =
+-- the lock is another process's
+pub returns-else-standing-pid-clause-held : goal.returns-else-standing-pid-clause-held
+returns-else-standing-pid-clause-held c =
     let s = c.args.store.now in
-    let lock : StoredLock = record { at = c.in-Some.lock; row = c.lock_record-record.result.now.row } in
-    let f : Standing = record { lock = c.in-Some.lock; row = c.lock_record-record.result.now.row; res = c.in-Queued.res; queue = c.in-Queued.queue } in
-    let found = c.in-Some.ensures in
-    let held = some_held s c.known.ensures f (stands_queued s f (subst (λ p. IsAmong lock (locks_at p s)) c.in-Queued.is (c.lock_record-record.ensures.stands))) in
-    let named : c.lock_record-record.result.now.row.lkid ≡ c.args.lkid = sym (ap (λ (x : Row). x.lkid) (c.lock_record-record.ensures.only found.0 found.1.0)) ∙ found.1.1 in
-    sym (rw (c.if-record-pid.false, named) at held)
-
--- between two steps no lock is loose
-pub returns-in-Loose-clause-held : goal.returns-in-Loose-clause-held
-returns-in-Loose-clause-held c =
-    let s = c.args.store.now in
-    let lock : StoredLock = record { at = c.in-Some.lock; row = c.lock_record-record.result.now.row } in
-    let among = subst (λ p. IsAmong lock (locks_at p s)) c.in-Loose.is (c.lock_record-record.ensures.stands) in
-    absurd (subst (IsAmong lock) c.requires.none_loose among)
+    let found = c.in_ok-lock.ensures in
+    sym (none_held s c.known.ensures c.args.pid c.args.lkid (λ at row stored same mine.
+    let here : at ≡ c.in_ok-lock.lock = c.known.ensures.lkids_apart at c.in_ok-lock.lock row found.0 stored found.1.0 (same ∙ sym found.1.1) in
+    c.if-standing-pid.false (sym (ap (λ (x : Row). x.pid) (c.in_ok-standing.ensures.only row (subst (λ k. Stores s k row) here stored))) ∙ mine)))

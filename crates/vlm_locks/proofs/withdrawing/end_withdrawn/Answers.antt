@@ -1,27 +1,25 @@
-use Rattle.std.proofs.Common.{cond, false, sym, ap, ◌∙◌}
+use Rattle.std.proofs.Common.{sym, ap, ◌∙◌}
 use Rattle.vlm_words.specs.declared.resources.Queue.TheVariants.{Granted, Conversion, Waiting}
-use Rattle.vlm_words.specs.Dequeue.{Withdrawal, processes_after}
-use Rattle.vlm_words.specs.Endings.{row_endings}
-use Rattle.vlm_words.specs.Endings.How.{by_abort, by_cancel}
+use Rattle.vlm_words.specs.Withdrawals.{processes_after}
 use Rattle.vlm_store.specs.Records.{plain_processes}
+use Rattle.vlm_locks.specs.Withdrawals.{plain_withdrawal}
 use Rattle.vlm_locks.proofs.WithdrawnEnds.{withdrawn_ends}
 use Rattle.vlm_locks.proofs.withdrawing.end_withdrawn.Goals as goal
 
 pub returns-in-Granted-clause-statuses : goal.returns-in-Granted-clause-statuses
 returns-in-Granted-clause-statuses c =
     let s = c.args.store.now in
-    ap (λ ends. processes_after ends (plain_processes s)) (sym (withdrawn_ends s c.known.ensures c.args.standing.now c.requires.standing c.args.withdrawal.now c.requires.named Granted c.in-Granted.is))
+    ap (λ ends. processes_after ends (plain_processes s)) (sym (withdrawn_ends s c.known.ensures c.args.standing.now c.requires.standing (plain_withdrawal c.args.withdrawal.now) c.requires.named Granted c.in-Granted.is))
 
 pub returns-in-Conversion-clause-statuses : goal.returns-in-Conversion-clause-statuses
 returns-in-Conversion-clause-statuses c =
     let s = c.args.store.now in
     let f = c.args.standing.now in
     c.end_request.ensures.statuses
-    ∙ ap (λ (w : Withdrawal). processes_after (row_endings (cond w.cancels by_cancel by_abort) false f.row) (plain_processes s)) c.withdrawal.view_is
-    ∙ ap (λ ends. processes_after ends (plain_processes s)) (sym (withdrawn_ends s c.known.ensures f c.requires.standing c.args.withdrawal.now c.requires.named Conversion c.in-Conversion.is))
+    ∙ ap (λ ends. processes_after ends (plain_processes s)) (sym (withdrawn_ends s c.known.ensures f c.requires.standing (plain_withdrawal c.args.withdrawal.now) c.requires.named Conversion c.in-Conversion.is))
 
 pub returns-in-Waiting-clause-statuses : goal.returns-in-Waiting-clause-statuses
 returns-in-Waiting-clause-statuses c =
     let s = c.args.store.now in
     c.end_request-in-Waiting.ensures.statuses
-    ∙ ap (λ ends. processes_after ends (plain_processes s)) (sym (withdrawn_ends s c.known.ensures c.args.standing.now c.requires.standing c.args.withdrawal.now c.requires.named Waiting c.in-Waiting.is))
+    ∙ ap (λ ends. processes_after ends (plain_processes s)) (sym (withdrawn_ends s c.known.ensures c.args.standing.now c.requires.standing (plain_withdrawal c.args.withdrawal.now) c.requires.named Waiting c.in-Waiting.is))

@@ -1,6 +1,7 @@
 use Rattle.std.proofs.Common.{sym, ◌∙◌, subst}
-use Rattle.vlm_words.specs.Dequeue.{resource_after_writer}
+use Rattle.vlm_words.specs.Withdrawals.{resource_after_writer}
 use Rattle.vlm_locks.specs.Standing.{IsStanding}
+use Rattle.vlm_locks.specs.Withdrawals.{plain_withdrawal}
 use Rattle.vlm_locks.specs.Withdrawing.{IsChange}
 use Rattle.vlm_locks.proofs.Withdrawn.{left_block, left_nothing, stands_left}
 use Rattle.vlm_locks.proofs.withdrawing.leave.Goals as goal
@@ -9,7 +10,7 @@ pub returns-then-may_write-clause-left : goal.returns-then-may_write-clause-left
 returns-then-may_write-clause-left c =
     let s = c.args.store.now in
     let f = c.args.standing.now in
-    let w = c.args.withdrawal.now in
+    let w = plain_withdrawal c.args.withdrawal.now in
     subst (IsChange f.res (resource_after_writer w) s) (sym c.set_value_block.ensures)
     (left_block s c.known.ensures f c.requires.standing w c.resource_record.result.now.value_block c.block_after_writer.result c.requires.named (sym c.may_write.ensures ∙ c.if-may_write.true) c.requires.rest
     c.resource_record.ensures.value_block c.block_after_writer.ensures)
@@ -22,4 +23,4 @@ returns-then-may_write-clause-standing c =
 -- what may not write leaves nothing
 pub returns-else-may_write-clause-left : goal.returns-else-may_write-clause-left
 returns-else-may_write-clause-left c =
-    left_nothing c.args.store.now c.known.ensures c.args.standing.now c.requires.standing c.args.withdrawal.now c.requires.named (sym c.may_write.ensures ∙ c.if-may_write.false) c.requires.rest
+    left_nothing c.args.store.now c.known.ensures c.args.standing.now c.requires.standing (plain_withdrawal c.args.withdrawal.now) c.requires.named (sym c.may_write.ensures ∙ c.if-may_write.false) c.requires.rest

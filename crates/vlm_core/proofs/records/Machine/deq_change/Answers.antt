@@ -1,4 +1,5 @@
 use Rattle.std.proofs.Common.{sym, ap, ◌∙◌, subst}
+use Rattle.vlm_locks.specs.Withdrawals.{plain_withdrawal}
 use Rattle.vlm_core.specs.Admissions.{IsChildless}
 use Rattle.vlm_core.specs.Machine.{Kept, plain_state}
 use Rattle.vlm_core.proofs.Conversions.{state_withdrawn}
@@ -12,7 +13,7 @@ withdraw-requires-clause-childless c = subst (λ (m : Kept). IsChildless m c.arg
 pub returns-clause-change : goal.returns-clause-change
 returns-clause-change c =
     ap (λ (m : Kept). plain_state (record m { records = c.withdraw.new.store })) c.self.view_is
-    ∙ state_withdrawn c.args.self.now c.args.dequeue.now c.args.admitted.now.withdrawal c.withdraw.new.store c.requires.admitted.withdrawal (rw (← c.self.view_is) c.withdraw.ensures.resources)
+    ∙ state_withdrawn c.args.self.now c.args.dequeue.now (plain_withdrawal c.args.admitted.now.withdrawal) c.withdraw.new.store c.requires.admitted.withdrawal (rw (← c.self.view_is) c.withdraw.ensures.resources)
     (rw (← c.self.view_is) c.withdraw.ensures.statuses)
 
 -- the other resources stay

@@ -1,0 +1,23 @@
+-- Withdrawals as the plain machine has them.
+use Rattle.vlm_words.specs.Endings.{How}
+use Rattle.vlm_words.specs.Endings.How.{by_abort, by_cancel}
+use Rattle.vlm_words.specs.Withdrawals.{Withdrawal as PlainWithdrawal}
+use Rattle.vlm_locks.specs.declared.withdrawals.End.TheVariants.{Aborted, Cancelled}
+use Rattle.vlm_locks.specs.declared.withdrawals.End.{End}
+use Rattle.vlm_locks.specs.declared.withdrawals.Withdrawal.{Withdrawal}
+
+-- how a request ends that is not granted
+abbrev pub how_ended : End → How
+how_ended Aborted = by_abort
+how_ended Cancelled = by_cancel
+
+-- the withdrawal that is asked for
+abbrev pub plain_withdrawal : Withdrawal → PlainWithdrawal
+plain_withdrawal w = record {
+  lkid = w.lkid;
+  waiting = how_ended w.waiting;
+  converting = how_ended w.converting;
+  stays = w.stays;
+  value = w.value;
+  invalidates = w.invalidates;
+}

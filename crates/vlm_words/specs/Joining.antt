@@ -1,0 +1,54 @@
+-- How a step's own change leaves the queues: in their order, and whoever joins one stands behind it.
+use Rattle.std.specs.Prelude.{◌≡◌, ◌≤◌, ◌==◌, ◌++◌, ℕ, Bool, true, false, List, [], ◌∷◌, All, Option, length}
+use Rattle.std.specs.List.{AllZip}
+use Rattle.vlm_words.specs.declared.locks.Row.{Row}
+use Rattle.vlm_words.specs.declared.steps.Step.TheVariants.{Declare, SetValue, Enq, Convert, Deq, Rundown, Leave, Search, Take}
+use Rattle.vlm_words.specs.declared.steps.Step.{Step}
+use Rattle.vlm_words.specs.State.{Resource, State}
+use Rattle.vlm_words.specs.Checks.{named_lkid}
+use Rattle.vlm_words.specs.Laws.{IsSameResource}
+use Rattle.vlm_words.specs.Stepped.{step_change}
+
+-- the lock is one of the step's own: the one that it makes, or the one that it names
+abbrev pub is_own_lock : State → Step → ℕ → Bool
+is_own_lock s (Declare d) lkid = false
+is_own_lock s (SetValue v) lkid = false
+is_own_lock s (Enq e) lkid = lkid == s.next_lkid
+is_own_lock s (Convert c) lkid = lkid == named_lkid s c.pid c.lock
+is_own_lock s (Deq d) lkid = lkid == named_lkid s d.pid d.lock
+is_own_lock s (Rundown pid) lkid = false
+is_own_lock s (Leave node) lkid = false
+is_own_lock s (Search node) lkid = false
+is_own_lock s (Take pid) lkid = false
+
+-- row by row: each stays in its order, but own locks may leave; and at most one own lock joins, behind all
+pub data JoinsBehind (own : ℕ → Bool) : List Row → List Row → Type 0 where
+  nobody_joins : JoinsBehind own [] []
+  one_joins : {row : Row} → own row.lkid ≡ true → JoinsBehind own [] (row ∷ [])
+  row_stays : {row : Row} {before after : List Row} → JoinsBehind own before after
+      → JoinsBehind own (row ∷ before) (row ∷ after)
+  row_leaves : {row : Row} {before after : List Row} → own row.lkid ≡ true → JoinsBehind own before after
+      → JoinsBehind own (row ∷ before) after
+
+-- the resource keeps its place, and each of its queues its order
+pub record KeepsOrder (own : ℕ → Bool) (before after : Resource) : Type 0 where
+  pub same : IsSameResource before after
+  pub granted : JoinsBehind own before.granted after.granted
+  pub converting : JoinsBehind own before.converting after.converting
+  pub waiting : JoinsBehind own before.waiting after.waiting
+
+-- on a resource that is made nobody stands but an own lock
+pub record HasOwnAlone (own : ℕ → Bool) (r : Resource) : Type 0 where
+  pub granted : JoinsBehind own [] r.granted
+  pub converting : JoinsBehind own [] r.converting
+  pub waiting : JoinsBehind own [] r.waiting
+
+-- a step's own change keeps the order of each queue of each resource, and makes at most one resource, behind
+-- the others
+pub record ChangesKeepOrder (old : State) (step : Step) (choice : Option Row) : Type 0 where
+  pub kept : List Resource
+  pub made : List Resource
+  pub resources : (step_change old step choice).state.resources ≡ kept ++ made
+  pub order : AllZip (KeepsOrder (is_own_lock old step)) old.resources kept
+  pub own : All (HasOwnAlone (is_own_lock old step)) made
+  pub at_most_one : length made ≤ 1

@@ -1,0 +1,35 @@
+-- Whose requests a step ends, and whose locks leave.
+use Rattle.std.specs.Prelude.{◌≡◌, ◌≤◌, ◌+◌, ◌==◌, ◌&&◌, ℕ, All, Option, count_by, sum_by}
+use Rattle.vlm_words.specs.declared.locks.Row.{Row}
+use Rattle.vlm_words.specs.declared.steps.Step.TheVariants.{Declare, SetValue, Enq, Convert, Deq, Rundown, Leave, Search, Take}
+use Rattle.vlm_words.specs.declared.steps.Step.{Step}
+use Rattle.vlm_words.specs.State.{Resource, State}
+use Rattle.vlm_words.specs.Laws.{IsGrant}
+use Rattle.vlm_words.specs.Stepped.{stepped}
+
+-- the process is the one that makes the step
+abbrev pub IsCaller : Step → ℕ → Type 0
+IsCaller (Declare d) pid = ⊥
+IsCaller (SetValue v) pid = pid ≡ v.pid
+IsCaller (Enq e) pid = pid ≡ e.pid
+IsCaller (Convert c) pid = pid ≡ c.pid
+IsCaller (Deq d) pid = pid ≡ d.pid
+IsCaller (Rundown process) pid = pid ≡ process
+IsCaller (Leave node) pid = ⊥
+IsCaller (Search node) pid = ⊥
+IsCaller (Take process) pid = pid ≡ process
+
+-- how many rows of a resource are those of this lock of this process
+abbrev pub lock_rows : ℕ → ℕ → Resource → ℕ
+lock_rows pid lkid r =
+    count_by (λ row. (row.lkid == lkid) && (row.pid == pid)) r.granted
+    + count_by (λ row. (row.lkid == lkid) && (row.pid == pid)) r.converting
+    + count_by (λ row. (row.lkid == lkid) && (row.pid == pid)) r.waiting
+
+-- a step ends no request of another process but by a grant, and no lock of another process leaves
+pub record OthersAreLeftAlone (old : State) (step : Step) (choice : Option Row) : Type 0 where
+  pub endings :
+      All (λ ending. (IsGrant ending.how → ⊥) → IsCaller step ending.pid) (stepped old step choice).endings
+  pub locks : (pid lkid : ℕ) → (IsCaller step pid → ⊥)
+      → sum_by (lock_rows pid lkid) old.resources
+      ≤ sum_by (lock_rows pid lkid) (stepped old step choice).state.resources

@@ -1,0 +1,115 @@
+-- What becomes of locks that are withdrawn, in three phases: their requests end, then they leave what they
+-- leave in value blocks, and then they go, or stay at what they hold.
+use Rattle.std.specs.Prelude.{ℕ, Bool, false, not, ◌&&◌, ◌||◌, ◌==◌, List, [], ◌∷◌, ◌++◌, map, flat_map, Option, None, Some, is_some, unwrap_or, if◌then◌else◌}
+use Rattle.std.specs.List.{list_any}
+use Rattle.vlm_words.specs.declared.locks.Request.{Request}
+use Rattle.vlm_words.specs.declared.locks.Row.{Row}
+use Rattle.vlm_words.specs.declared.resources.ValueBlock.{ValueBlock}
+use Rattle.vlm_words.specs.Modes.{is_writing}
+use Rattle.vlm_words.specs.ValueBlocks.{new_value_block}
+use Rattle.vlm_words.specs.State.{Process, Resource}
+use Rattle.vlm_words.specs.Endings.{Ending, How, row_endings}
+use Rattle.vlm_words.specs.Effects.{blocks_after, blocks_with}
+use Rattle.vlm_words.specs.Rows.{rows_of, rows_without}
+
+-- what is to become of a lock: how its request ends where it waits and where it converts, whether a converting
+-- lock stays at what it holds, and what a lock that may write leaves in the value block: a value, if one is
+-- given, and whether it is then marked invalid
+pub record Withdrawal : Type 0 where
+  pub lkid : ℕ
+  pub waiting : How
+  pub converting : How
+  pub stays : Bool
+  pub value : Option (List ℕ)
+  pub invalidates : Bool
+
+-- ---- the requests end
+
+-- the requests of this lock in a queue end so
+abbrev pub queue_endings : How → ℕ → List Row → List Ending
+queue_endings how lkid rows = flat_map (row_endings how false) (rows_of lkid rows)
+
+-- the request of the lock ends on the resource where it is queued
+abbrev pub withdrawal_endings : Withdrawal → Resource → List Ending
+withdrawal_endings w r =
+    queue_endings w.converting w.lkid r.converting ++ queue_endings w.waiting w.lkid r.waiting
+
+-- the requests of these locks end, lock by lock
+abbrev pub withdrawn_endings : List Withdrawal → List Resource → List Ending
+withdrawn_endings withdrawals resources =
+    flat_map (λ w. flat_map (withdrawal_endings w) resources) withdrawals
+
+-- the processes after the ends of requests that touch no value block
+abbrev pub processes_after : List Ending → List Process → List Process
+processes_after endings processes =
+    (blocks_after endings (blocks_with new_value_block processes)).processes
+
+-- ---- what is left in value blocks
+
+-- what is held may write the value block, if anything is held
+abbrev pub is_writer : Option Request → Bool
+is_writer None = false
+is_writer (Some held) = is_writing held.mode
+
+-- the lock is among the rows, and may write the value block
+abbrev pub has_writer : ℕ → List Row → Bool
+has_writer lkid rows = list_any (λ row. (row.lkid == lkid) && is_writer row.held) rows
+
+-- the value block as a writer leaves it: a given value is written and valid, and then it may be marked
+-- invalid
+abbrev pub value_block_after_writer : Withdrawal → ValueBlock → ValueBlock
+value_block_after_writer w block = record block {
+  value = unwrap_or w.value block.value;
+  valid = not w.invalidates && (is_some w.value || block.valid);
+}
+
+-- the lock holds PW or EX, granted or converting
+abbrev pub is_held_by_writer : ℕ → Resource → Bool
+is_held_by_writer lkid r = has_writer lkid r.granted || has_writer lkid r.converting
+
+-- the resource as the lock leaves it; only one that is held at PW or EX touches the value block
+abbrev pub resource_after_writer : Withdrawal → Resource → Resource
+resource_after_writer w r =
+    if is_held_by_writer w.lkid r then record r { value_block = value_block_after_writer w r.value_block }
+    else r
+
+-- ---- the locks go or stay
+
+-- the resource but for this lock
+unfoldable pub resource_without : ℕ → Resource → Resource
+resource_without lkid r = record r {
+  granted = rows_without lkid r.granted;
+  converting = rows_without lkid r.converting;
+  waiting = rows_without lkid r.waiting;
+}
+
+-- the row wants nothing any more, and holds what it held, armed as before
+abbrev pub row_after_cancel : Row → Row
+row_after_cancel row = record row { want = None }
+
+-- a queued conversion is given up: its lock goes to the end of the granted queue; a waiting request goes
+-- with its lock
+unfoldable pub resource_after_cancel : ℕ → Resource → Resource
+resource_after_cancel lkid r = record r {
+  granted = r.granted ++ map row_after_cancel (rows_of lkid r.converting);
+  converting = rows_without lkid r.converting;
+  waiting = rows_without lkid r.waiting;
+}
+
+-- the lock goes, or a converting one stays
+abbrev pub resource_after_going : Withdrawal → Resource → Resource
+resource_after_going w r =
+    if w.stays then resource_after_cancel w.lkid r else resource_without w.lkid r
+
+-- ---- all of them
+
+-- each of these withdrawals, in their order, makes its change of the resource
+abbrev pub resource_after_each : (Withdrawal → Resource → Resource) → List Withdrawal → Resource → Resource
+resource_after_each change [] r = r
+resource_after_each change (w ∷ withdrawals) r = resource_after_each change withdrawals (change w r)
+
+-- the resource once all have left what they leave in its value block, and then all have gone or stay
+abbrev pub resource_after_withdrawals : List Withdrawal → Resource → Resource
+resource_after_withdrawals withdrawals r =
+    resource_after_each resource_after_going withdrawals
+    (resource_after_each resource_after_writer withdrawals r)
