@@ -1,5 +1,5 @@
 -- A sweep leaves what is settled, and all is settled between the steps.
-use Rattle.std.proofs.Common.{◌≡◌, true, false, not, cond, List, [], ◌∷◌, ◌++◌, filter, flat_map, refl, sym, ap, ◌∙◌}
+use Rattle.std.proofs.Common.{◌≡◌, Bool, true, false, not, cond, List, [], ◌∷◌, ◌++◌, filter, flat_map, refl, sym, ap, ◌∙◌}
 use Rattle.std.specs.List.{AllByRecursion}
 use Rattle.std.proofs.lemmas.List.{append-nil}
 use Rattle.std.proofs.lemmas.List.Elements.{All-from_recursion}
@@ -14,10 +14,10 @@ use Rattle.vlm_words.specs.Convert.{convert_change}
 use Rattle.vlm_words.specs.Dequeue.{deq_change}
 use Rattle.vlm_words.specs.Runs.{History, Run}
 use Rattle.vlm_words.specs.Laws.{IsVacant, NoResourceIsVacant}
-use Rattle.vlm_words.specs.Settled.{IsSettled, IsSweptAlone, unless_vacant}
+use Rattle.vlm_words.specs.Settled.{IsSettled, IsSweptNext, IsUnswept, unless_vacant}
 use Rattle.vlm_words.proofs.Always.{always, kept_by_stepped}
 use Rattle.vlm_words.proofs.Each.{each_weaker}
-use Rattle.vlm_words.proofs.NothingLeft.{HeadsWait, NothingFits, nothing_fits_always}
+use Rattle.vlm_words.proofs.NothingLeft.{HeadsWait, NothingFits, nothing_fits_always, served_stops}
 
 -- ---- some lock is left
 
@@ -98,58 +98,88 @@ module _ (processes : List Process) (r : Resource) (settled : IsSettled r) where
   no_ends : (service r).endings ≡ []
   no_ends = rw settled.served refl
 
--- so are those behind
-after_same : (processes : List Process) (after : List Resource) → AllByRecursion IsSettled after
-    → (resources_after_service processes after ≡ after) × (processes_after_service processes after ≡ processes) × (flat_map (λ r. (service r).endings) after ≡ [])
-after_same processes [] settled = (refl, refl, refl)
-after_same processes (r ∷ rest) settled =
-    let more = after_same processes rest settled.1 in
+-- settled resources at the head are passed
+passed : (processes : List Process) (before rest : List Resource) → AllByRecursion IsSettled before
+    → (resources_after_service processes (before ++ rest) ≡ before ++ resources_after_service processes rest)
+    × (processes_after_service processes (before ++ rest) ≡ processes_after_service processes rest)
+    × (flat_map (λ r. (service r).endings) (before ++ rest) ≡ flat_map (λ r. (service r).endings) rest)
+passed processes [] rest settled = (refl, refl, refl)
+passed processes (r ∷ before) rest settled =
+    let more = passed processes before rest settled.1 in
     let statuses = same_statuses processes r settled.0 in (
       rw (same_resource processes r settled.0, statuses) (ap (λ rs. r ∷ rs) more.0),
-      rw statuses more.1,
+      ap (λ ps. processes_after_service ps (before ++ rest)) statuses ∙ more.1,
       rw (no_ends processes r settled.0) more.2,
     )
 
-one_served : (processes : List Process) (before : List Resource) (r : Resource) (after : List Resource) → AllByRecursion IsSettled before → AllByRecursion IsSettled after
-    → (resources_after_service processes (before ++ r ∷ after) ≡ before ++ resource_after_service processes r ∷ after)
-    × (processes_after_service processes (before ++ r ∷ after) ≡ (blocks_after_service processes r).processes)
-    × (flat_map (λ x. (service x).endings) (before ++ r ∷ after) ≡ (service r).endings)
-one_served processes [] r after first later =
-    let more = after_same (blocks_after_service processes r).processes after later in (
-      ap (λ rs. resource_after_service processes r ∷ rs) more.0,
-      more.1,
-      ap (λ es. (service r).endings ++ es) more.2 ∙ append-nil (service r).endings,
-    )
-one_served processes (x ∷ rest) r after first later =
-    let more = one_served processes rest r after first.1 later in
-    let statuses = same_statuses processes x first.0 in (
-      rw (same_resource processes x first.0, statuses) (ap (λ rs. x ∷ rs) more.0),
-      ap (λ ps. processes_after_service ps (rest ++ r ∷ after)) statuses ∙ more.1,
-      rw (no_ends processes x first.0) more.2,
-    )
+-- and none of them is dropped
+none_dropped : (before rest : List Resource) → AllByRecursion IsSettled before
+    → filter (λ r. not (is_vacant r)) (before ++ rest) ≡ before ++ filter (λ r. not (is_vacant r)) rest
+none_dropped [] rest settled = refl
+none_dropped (r ∷ before) rest settled = rw settled.0.occupied (ap (λ rs. r ∷ rs) (none_dropped before rest settled.1))
 
--- none of these is dropped
-none_dropped : (resources : List Resource) → AllByRecursion IsSettled resources → filter (λ r. not (is_vacant r)) resources ≡ resources
-none_dropped [] settled = refl
-none_dropped (r ∷ rest) settled = rw settled.0.occupied (ap (λ rs. r ∷ rs) (none_dropped rest settled.1))
+-- so a sweep begins behind them
+swept_behind : (processes : List Process) (before rest : List Resource) → AllByRecursion IsSettled before
+    → resources_after_sweep processes (before ++ rest) ≡ before ++ resources_after_sweep processes rest
+unfolding resources_after_sweep
+swept_behind processes before rest settled =
+    ap (filter (λ r. not (is_vacant r))) (passed processes before rest settled).0
+    ∙ none_dropped before (resources_after_service processes rest) settled
 
-one_dropped : (before : List Resource) (r : Resource) (after : List Resource) → AllByRecursion IsSettled before → AllByRecursion IsSettled after
-    → filter (λ x. not (is_vacant x)) (before ++ r ∷ after) ≡ before ++ unless_vacant r ++ after
-one_dropped [] r after first later =
-    elim (is_vacant r) as (λ b. cond (not b) (r ∷ filter (λ x. not (is_vacant x)) after) (filter (λ x. not (is_vacant x)) after) ≡ cond b [] (r ∷ []) ++ after) [
-      | true ↦ none_dropped after later
-      | false ↦ ap (λ rs. r ∷ rs) (none_dropped after later)
-    ]
-one_dropped (x ∷ rest) r after first later = rw first.0.occupied (ap (λ rs. x ∷ rs) (one_dropped rest r after first.1 later))
+ends_behind : (before rest : List Resource) → AllByRecursion IsSettled before → sweep_endings (before ++ rest) ≡ sweep_endings rest
+unfolding sweep_endings
+ends_behind before rest settled = (passed [] before rest settled).2
 
--- a sweep touches what is not settled, and nothing else
-pub swept_alone : (processes : List Process) (before : List Resource) (r : Resource) (after : List Resource) → AllByRecursion IsSettled before → AllByRecursion IsSettled after
-    → IsSweptAlone processes before r after
-unfolding resources_after_sweep sweep_endings
-swept_alone processes before r after first later =
-    let served = one_served processes before r after first later in
+-- the first resource is served, and dropped if it has no lock
+swept_first : (processes : List Process) (r : Resource) (after : List Resource)
+    → resources_after_sweep processes (r ∷ after)
+    ≡ unless_vacant (resource_after_service processes r) ++ resources_after_sweep (blocks_after_service processes r).processes after
+unfolding resources_after_sweep
+swept_first processes r after =
+    let served = resource_after_service processes r in
+    let rest = filter (λ x. not (is_vacant x)) (resources_after_service (blocks_after_service processes r).processes after) in
+    elim (is_vacant served) as (λ b. cond (not b) (served ∷ rest) rest ≡ cond b [] (served ∷ []) ++ rest) [ true ↦ refl | false ↦ refl ]
+
+ends_first : (r : Resource) (after : List Resource) → sweep_endings (r ∷ after) ≡ (service r).endings ++ sweep_endings after
+unfolding sweep_endings
+ends_first r after = refl
+
+-- a resource that is served is settled, if a lock is left on it
+served_settled : (processes : List Process) (r : Resource) → AllByRecursion IsSettled (unless_vacant (resource_after_service processes r))
+served_settled processes r = of_test (is_vacant (resource_after_service processes r)) refl
+  where
+    of_test : (b : Bool) → is_vacant (resource_after_service processes r) ≡ b → AllByRecursion IsSettled (cond b [] (resource_after_service processes r ∷ []))
+    of_test true is = tt
+    of_test false is = (record { served = nothing_granted (resource_after_service processes r) (served_stops r); occupied = is }, tt)
+
+-- a sweep goes on with the first resource that is not settled
+pub swept_next : (processes : List Process) (before : List Resource) (r : Resource) (after : List Resource) → AllByRecursion IsSettled before
+    → IsSweptNext processes before r after
+swept_next processes before r after first =
+    let later = (blocks_after_service processes r).processes in
+    let left = unless_vacant (resource_after_service processes r) in
+    let settled = served_settled processes r in
     record {
-      resources = ap (filter (λ x. not (is_vacant x))) served.0 ∙ one_dropped before (resource_after_service processes r) after first later;
-      statuses = served.1;
-      ends = served.2;
+      resources =
+          swept_behind processes before (r ∷ after) first
+          ∙ ap (λ rs. before ++ rs) (swept_first processes r after ∙ sym (swept_behind later left after settled))
+          ∙ sym (swept_behind later before (left ++ after) first);
+      statuses =
+          (passed processes before (r ∷ after) first).1
+          ∙ sym ((passed later before (left ++ after) first).1 ∙ (passed later left after settled).1);
+      ends =
+          ends_behind before (r ∷ after) first ∙ ends_first r after
+          ∙ ap (λ es. (service r).endings ++ es) (sym (ends_behind before (left ++ after) first ∙ ends_behind left after settled));
+      settled = settled;
+    }
+
+-- where all are settled it does nothing
+pub unswept : (processes : List Process) (resources : List Resource) → AllByRecursion IsSettled resources → IsUnswept processes resources
+unfolding resources_after_sweep sweep_endings
+unswept processes resources settled =
+    let all = append-nil resources in
+    record {
+      resources = ap (resources_after_sweep processes) (sym all) ∙ swept_behind processes resources [] settled ∙ all;
+      statuses = ap (processes_after_service processes) (sym all) ∙ (passed processes resources [] settled).1;
+      none_ends = ap sweep_endings (sym all) ∙ ends_behind resources [] settled;
     }

@@ -1,5 +1,6 @@
--- What a sweep has nothing to do on, and what it does where it has something to do on one resource alone.
+-- What a sweep has nothing to do on, and how it goes from one resource to the next.
 use Rattle.std.specs.Prelude.{◌≡◌, false, List, [], ◌∷◌, ◌++◌, if◌then◌else◌}
+use Rattle.std.specs.List.{AllByRecursion}
 use Rattle.vlm_words.specs.State.{Process, Resource}
 use Rattle.vlm_words.specs.Grants.{no_service, service}
 use Rattle.vlm_words.specs.Sweeps.{blocks_after_service, is_vacant, processes_after_service, resource_after_service, resources_after_sweep, sweep_endings}
@@ -13,9 +14,22 @@ pub record IsSettled (r : Resource) : Type 0 where
 abbrev pub unless_vacant : Resource → List Resource
 unless_vacant r = if is_vacant r then [] else r ∷ []
 
--- the sweep serves this resource, drops it if it has no lock, and leaves those before and behind it
-pub record IsSweptAlone (processes : List Process) (before : List Resource) (r : Resource) (after : List Resource) : Type 0 where
+-- a sweep goes on with this resource, once those before it are settled: it serves it, and drops it if no lock is left
+-- on it; with that it is settled, and the sweep of what is left is what is left of the sweep
+pub record IsSweptNext (processes : List Process) (before : List Resource) (r : Resource) (after : List Resource) : Type 0 where
   pub resources :
-      resources_after_sweep processes (before ++ r ∷ after) ≡ before ++ unless_vacant (resource_after_service processes r) ++ after
-  pub statuses : processes_after_service processes (before ++ r ∷ after) ≡ (blocks_after_service processes r).processes
-  pub ends : sweep_endings (before ++ r ∷ after) ≡ (service r).endings
+      resources_after_sweep processes (before ++ r ∷ after)
+      ≡ resources_after_sweep (blocks_after_service processes r).processes (before ++ (unless_vacant (resource_after_service processes r) ++ after))
+  pub statuses :
+      processes_after_service processes (before ++ r ∷ after)
+      ≡ processes_after_service (blocks_after_service processes r).processes (before ++ (unless_vacant (resource_after_service processes r) ++ after))
+  pub ends :
+      sweep_endings (before ++ r ∷ after)
+      ≡ (service r).endings ++ sweep_endings (before ++ (unless_vacant (resource_after_service processes r) ++ after))
+  pub settled : AllByRecursion IsSettled (unless_vacant (resource_after_service processes r))
+
+-- a sweep has nothing to do on these resources
+pub record IsUnswept (processes : List Process) (all : List Resource) : Type 0 where
+  pub resources : resources_after_sweep processes all ≡ all
+  pub statuses : processes_after_service processes all ≡ processes
+  pub none_ends : sweep_endings all ≡ []

@@ -6,7 +6,7 @@ ghost use Rattle.std.specs.List.{AllByRecursion};
 ghost use Rattle.vlm_words.specs.declared.locks.Row.{Row};
 ghost use Rattle.vlm_words.specs.declared.steps.Step.{Step};
 ghost use Rattle.vlm_words.specs.State.{Process, Resource, State};
-ghost use Rattle.vlm_words.specs.Settled.{IsSettled, IsSweptAlone};
+ghost use Rattle.vlm_words.specs.Settled.{IsSettled, IsSweptNext, IsUnswept};
 ghost use Rattle.vlm_words.specs.Runs.{History, Run};
 ghost use Rattle.vlm_words.specs.Stepped.{IsChoice, step_refusal};
 ghost use Rattle.vlm_words.specs.Granted.{NoGrantIsHidden};
@@ -131,12 +131,15 @@ pub fn law_each_resource_is_settled()
     ensures { (history : History) (last : State) → Run history last → AllByRecursion IsSettled last.resources }
 {}
 
-/// Where a sweep has something to do on one resource alone, serving that one, and dropping it if no lock is
-/// left on it, is the whole sweep.
+/// A sweep touches only what is not settled, resource by resource in the order of making. Where those before it
+/// are settled, it serves a resource, drops it if no lock is left on it, and goes on with the others; where all are
+/// settled it does nothing.
 pub fn law_a_sweep_touches_only_what_is_not_settled()
-    ensures { (processes : List Process) (before : List Resource) (r : Resource)
-        (after : List Resource) → AllByRecursion IsSettled before → AllByRecursion IsSettled after
-        → IsSweptAlone processes before r after }
+    ensures next { (processes : List Process) (before : List Resource) (r : Resource)
+        (after : List Resource) → AllByRecursion IsSettled before
+        → IsSweptNext processes before r after }
+    ensures done { (processes : List Process) (resources : List Resource)
+        → AllByRecursion IsSettled resources → IsUnswept processes resources }
 {}
 
 /// A step takes a number only for what it makes: an accepted request takes the next request number, a new one
