@@ -1,12 +1,10 @@
 -- What holds between two steps, and what a step needs of it.
-use Rattle.std.specs.Prelude.{◌≡◌, ◌≢◌, ◌≤◌, ◌<◌, ℕ, All, sum_by}
+use Rattle.std.specs.Prelude.{◌≡◌, ◌≤◌, ◌<◌, ℕ, All, sum_by}
 use Rattle.std.specs.List.{AllByRecursion}
 use Rattle.vlm_words.specs.Laws.{DeclarationsGiveNewIdentifications, ParentsOutliveTheirSublocks, rows_on}
 use Rattle.vlm_words.specs.Runs.{History, Run}
 use Rattle.vlm_words.specs.Settled.{IsSettled}
 use Rattle.vlm_words.specs.State.{State}
-use Rattle.vlm_store.specs.Records.{IsResourceAmong, Records, StoredResource}
-use Rattle.vlm_locks.specs.Plain.{plain_resource}
 
 -- nothing is to be swept, no lock has an identification that is to come, or 0, serials are from 1, no more of them than
 -- identifications were given, a declaration gives an identification that no living process has, and each parent lock
@@ -19,10 +17,6 @@ pub record IsBetweenSteps (s : State) : Type 0 where
   pub few_serials : s.next_serial ≤ s.next_lkid
   pub new_processes : DeclarationsGiveNewIdentifications s
   pub parents : ParentsOutliveTheirSublocks s
-
--- nothing is to be swept but the resource of this key
-abbrev pub AreSettledBut : ℕ → Records → Type 0
-AreSettledBut res s = (r : StoredResource) → IsResourceAmong r s.resources → r.at ≢ res → IsSettled (plain_resource r)
 
 -- some run leads to the state
 pub record IsReachable (s : State) : Type 0 where

@@ -36,7 +36,7 @@ pub unchanged : (res : ℕ) (change : Resource → Resource) (had : StoredResour
 unchanged res change had s sound rest was same = record {
   resources = each s.resources same;
   statuses = refl;
-  others = λ x among differs. among;
+  others = refl;
   there = subst IsSome (sym was) refl;
   rest = rest;
 }
@@ -69,7 +69,7 @@ rests_still old new same rest = record {
 
 -- the others stay over two steps
 pub stay_over : (res : ℕ) (old between new : Records) → OthersStay res old between → OthersStay res between new → OthersStay res old new
-stay_over res old between new first second r among differs = first r (second r among differs) differs
+stay_over res old between new first second = second ∙ first
 
 -- a lock that is removed leaves the processes as they were
 pub removed_statuses : (lock : ℕ) (ps : List StoredProcess) → map (λ (p : StoredProcess). p.process) (map (process_without_lock lock) ps) ≡ map (λ (p : StoredProcess). p.process) ps

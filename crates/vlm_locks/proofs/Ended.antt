@@ -1,7 +1,5 @@
 -- Two services, one after the other, and what a service of a resource comes to in the end.
-use Rattle.std.proofs.Common.{◌≡◌, ◌≢◌, ℕ, List, [], ◌∷◌, ◌++◌, map, true, false, cond, None, Some, IfSome, IsSome, refl, sym, ap, ◌∙◌, subst, inl, inr, eq-eqb, ne_eqb}
-use Rattle.std.specs.Prelude.{◌==◌}
-use Rattle.std.proofs.lemmas.Bool.{cases_eq}
+use Rattle.std.proofs.Common.{◌≡◌, ℕ, List, [], ◌∷◌, ◌++◌, map, true, false, None, Some, IfSome, IsSome, refl, sym, ap, ◌∙◌, subst}
 use Rattle.std.proofs.lemmas.List.{append-nil}
 use Rattle.std.proofs.lemmas.Option.{same_Some}
 use Rattle.vlm_words.specs.declared.resources.Queue.TheVariants.{Conversion, Waiting}
@@ -11,10 +9,11 @@ use Rattle.vlm_words.specs.Grants.{Service, is_empty, no_service, service, servi
 use Rattle.vlm_words.specs.State.{Resource}
 use Rattle.vlm_words.specs.Sweeps.{blocks_after_service, resource_after_service}
 use Rattle.vlm_store.specs.declared.keys.Place.TheVariants.{Queued}
-use Rattle.vlm_store.specs.Records.{HasResource, IsResourceAmong, IsSound, Records, StoredLock, StoredResource, but_blocks, first_at, locks_at, on_resource, plain_processes, resource_at, rows_of}
+use Rattle.vlm_store.specs.Records.{HasResource, IsSound, Records, StoredLock, StoredResource, but_blocks, first_at, locks_at, on_resource, plain_processes, resource_at, rows_of}
 use Rattle.vlm_locks.specs.Plain.{plain_resource}
-use Rattle.vlm_locks.specs.Serving.{IsLeft, IsServed, IsServiceOf, but_service, service_from}
-use Rattle.vlm_locks.proofs.Found.{on_resource-put, resource_alone, resource_at-at, resource_at-put}
+use Rattle.vlm_locks.specs.Rest.{but_service}
+use Rattle.vlm_locks.specs.Serving.{IsLeft, IsServed, IsServiceOf, service_from}
+use Rattle.vlm_locks.proofs.Found.{on_resource-put, resource_at-at, resource_at-put}
 use Rattle.vlm_locks.proofs.Granting.{blocks_after_append}
 use Rattle.vlm_locks.proofs.Moves.{locks_found, none_queued}
 
@@ -93,14 +92,6 @@ module _ (res : ℕ) (old_block : ValueBlock) (old : Records) (block : ValueBloc
       of_list [] none = cc
       of_list (k ∷ rest) some = refl
 
--- what is put in the place of a resource is shown there
-shown_on : {B : Type 0} (res : ℕ) (last : StoredResource) (show all : StoredResource → B) (rs : List StoredResource)
-    → ((x : StoredResource) → IsResourceAmong x rs → show (cond (x.at == res) last x) ≡ all x) → map show (on_resource res (λ x. last) rs) ≡ map all rs
-shown_on res last show all [] each = refl
-shown_on res last show all (x ∷ rs) each =
-    ap (λ y. y ∷ map show (on_resource res (λ x. last) rs)) (each x (inl refl))
-    ∙ ap (λ ys. all x ∷ ys) (shown_on res last show all rs (λ y there. each y (inr there)))
-
 module _ (res : ℕ) (old s new : Records) (old_block block : ValueBlock) (sound : IsSound old) (told : IfSome (resource_at res old.resources) (λ r. old_block ≡ r.value_block))
     (done : IsServiceOf service res old_block old block s) (wrote : new ≡ record s { resources = on_resource res (λ r. record r { value_block = block }) s.resources }) where
   -- what the ends of the service wrote
@@ -127,16 +118,6 @@ module _ (res : ℕ) (old s new : Records) (old_block block : ValueBlock) (sound
       (sym (ap (resource_at res) resources_are
       ∙ resource_at-put res last old.resources done.had (resource_at-at res s.resources done.left done.change.now) done.change.was)) refl
 
-  -- of the resources only this one changes
-  each_shown : {B : Type 0} (show : StoredResource → B) (all : StoredResource → B) → show last ≡ all done.had → ((x : StoredResource) → x.at ≢ res → show x ≡ all x)
-      → map show new.resources ≡ map all old.resources
-  each_shown show all here there =
-      ap (map show) resources_are
-      ∙ shown_on res last show all old.resources (λ x among. elim (cases_eq x.at res) [
-        | inl same ↦ ap (λ b. show (cond b last x)) (eq-eqb x.at res same) ∙ here ∙ ap all (sym (resource_alone res old.resources done.had x sound.resources_apart done.change.was among same))
-        | inr differs ↦ ap (λ b. show (cond b last x)) (ne_eqb x.at res differs) ∙ there x differs
-      ])
-
   served_here : plain_resource last ≡ resource_after_service (plain_processes old) (plain_resource done.had)
   served_here =
       ap (λ x. with_value_block block x) done.resource
@@ -145,18 +126,15 @@ module _ (res : ℕ) (old s new : Records) (old_block block : ValueBlock) (sound
   -- the service is done
   pub served : IsServed res old new
   served = record {
-    resources =
-        each_shown plain_resource (λ r. cond (r.at == res) (resource_after_service (plain_processes old) (plain_resource r)) (plain_resource r))
-        (served_here
-        ∙ sym (ap (λ b. cond b (resource_after_service (plain_processes old) (plain_resource done.had)) (plain_resource done.had))
-        (eq-eqb done.had.at res (resource_at-at res old.resources done.had done.change.was))))
-        (λ x differs. sym (ap (λ b. cond b (resource_after_service (plain_processes old) (plain_resource x)) (plain_resource x)) (ne_eqb x.at res differs)));
-    keys = each_shown (λ r. r.at) (λ r. r.at) (ap (λ (r : StoredResource). r.at) done.change.rest) (λ x differs. refl);
-    names =
-        each_shown but_service but_service (ap (λ (r : StoredResource). but_service r) done.change.rest) (λ x differs. refl);
-    loose = ap (λ (x : Records). x.loose) wrote ∙ done.change.loose;
-    statuses =
-        subst (λ o. IfSome o (λ r. plain_processes new ≡ (blocks_after_service (plain_processes old) (plain_resource r)).processes)) (sym done.change.was)
-        (ap plain_processes wrote ∙ ap (λ (b : Blocks). b.processes) blocks);
-    processes = ap (λ (x : Records). map but_blocks x.processes) wrote ∙ done.change.processes;
+    had = done.had;
+    left = last;
+    replaced = record {
+      was = done.change.was;
+      same = ap (λ (r : StoredResource). but_service r) done.change.rest;
+      resources = resources_are;
+      loose = ap (λ (x : Records). x.loose) wrote ∙ done.change.loose;
+      processes = ap (λ (x : Records). map but_blocks x.processes) wrote ∙ done.change.processes;
+    };
+    resource = served_here;
+    statuses = ap plain_processes wrote ∙ ap (λ (b : Blocks). b.processes) blocks;
   }

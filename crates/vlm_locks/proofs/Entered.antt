@@ -13,7 +13,7 @@ use Rattle.vlm_store.specs.declared.keys.Place.TheVariants.{Loose, Queued}
 use Rattle.vlm_store.specs.Records.{AreResourcesApart, FindsResource, HasResource, IsAmong, IsProcess, IsProcessAmong, IsResourceAmong, IsSound, Records, StoredLock, StoredProcess, StoredResource, but_blocks, is_queue, joined_by, moving, on_resource, process_with_lock, queued, resource_at, resource_with, with_lists, with_new_lock, without_lock}
 use Rattle.vlm_store.proofs.Undoing.{map_on, resource_is, unmoved}
 use Rattle.vlm_locks.specs.Plain.{plain_resource, plain_resources}
-use Rattle.vlm_locks.specs.Serving.{but_service}
+use Rattle.vlm_locks.specs.Rest.{but_service}
 use Rattle.vlm_locks.proofs.Found.{resource_alone, resource_at-put}
 use Rattle.vlm_locks.specs.declared.entering.Entry.{Entry}
 use Rattle.vlm_locks.specs.Entering.{IsEntered, resource_for}

@@ -12,6 +12,8 @@ pub mod Moved
 pub mod Named
 pub mod Replaced
 pub mod Stood
+pub mod Parting
 pub mod Swept
+pub mod Touched
 pub mod Withdrawn
 pub mod WithdrawnEnds

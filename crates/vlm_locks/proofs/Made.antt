@@ -1,5 +1,6 @@
 -- A resource is made for the lock that enters it.
-use Rattle.std.proofs.Common.{◌≡◌, ◌⊎◌, ℕ, List, [], ◌∷◌, ◌++◌, map, unwrap_or, Option, None, Some, IsSome, refl, sym, ap, ◌∙◌, subst, inl, inr, eq-eqb, ne_eqb, IfSome}
+use Rattle.std.proofs.Common.{◌≡◌, ◌⊎◌, ℕ, true, false, not, cond, List, [], ◌∷◌, ◌++◌, map, unwrap_or, Option, None, Some, IsSome, refl, sym, ap, ◌∙◌, subst, inl, inr, eq-eqb, ne_eqb, IfSome}
+use Rattle.std.specs.Prelude.{◌==◌}
 use Rattle.std.specs.Option.{option_map_or}
 use Rattle.std.proofs.lemmas.Bool.{cases_eq}
 use Rattle.vlm_words.specs.declared.resources.Queue.{Queue}
@@ -8,7 +9,7 @@ use Rattle.vlm_words.specs.Enqueue.{resources_after_entry}
 use Rattle.vlm_words.specs.Resources as plain
 use Rattle.vlm_store.specs.declared.keys.Place.{Place}
 use Rattle.vlm_store.specs.declared.keys.Place.TheVariants.{Loose, Queued}
-use Rattle.vlm_store.specs.Records.{FindsResource, HasResource, IsAmong, IsIdle, IsNewKey, IsNewLock, IsParentOf, IsResourceAmong, Records, StoredResource, locks_at, new_resource, queued, resource_at}
+use Rattle.vlm_store.specs.Records.{FindsResource, HasResource, IsAmong, IsIdle, IsNewKey, IsNewLock, IsParentOf, IsResourceAmong, Records, StoredResource, locks_at, new_resource, queued, resource_at, without_resource}
 use Rattle.vlm_words.specs.declared.locks.Row.{Row}
 use Rattle.vlm_locks.specs.Plain.{plain_resource, plain_resources}
 use Rattle.vlm_locks.specs.declared.entering.Entry.{Entry}
@@ -153,10 +154,16 @@ module _ (e : Entry) (res : ℕ) (s : Records) where
       processes = entered.processes;
       owner = entered.owner;
       value_block = subst (λ b. IfSome (resource_at res new.resources) (λ r. r.value_block ≡ b)) (ap (λ r. r.value_block) same_for) entered.value_block;
-      others = λ x among differs. elim (made_cases (made e res) s.resources x (entered.others x among differs)) [
-        | inl is ↦ absurd (differs (ap (λ (r : StoredResource). r.at) is))
-        | inr was ↦ was
-      ];
+      others = entered.others ∙ without_made s.resources;
       there = entered.there;
       rest = entered.rest;
     }
+      where
+        without_made : (rs : List StoredResource) → without_resource res (rs ++ made e res ∷ []) ≡ without_resource res rs
+        without_made [] = rw (eq-eqb res res refl) refl
+        without_made (r ∷ rest) =
+            elim (r.at == res) as (λ b. cond (not b) (r ∷ without_resource res (rest ++ made e res ∷ [])) (without_resource res (rest ++ made e res ∷ []))
+            ≡ cond (not b) (r ∷ without_resource res rest) (without_resource res rest)) [
+              | true ↦ without_made rest
+              | false ↦ ap (λ xs. r ∷ xs) (without_made rest)
+            ]

@@ -3,7 +3,7 @@ use Rattle.std.proofs.Common.{◌≡◌, ◌≢◌, ◌⊎◌, ℕ, List, [], �
 use Rattle.std.specs.Prelude.{◌==◌}
 use Rattle.std.proofs.lemmas.Bool.{cases_eq}
 use Rattle.vlm_words.specs.State.{Resource}
-use Rattle.vlm_store.specs.Records.{HasNoSublocks, HasResource, IsOwnAmong, IsProcessAmong, IsResourceAmong, IsSound, OwnLock, Records, StoredProcess, StoredResource, but_blocks, on_resource, resource_at}
+use Rattle.vlm_store.specs.Records.{HasNoSublocks, HasResource, IsOwnAmong, IsProcessAmong, IsResourceAmong, IsSound, OwnLock, Records, StoredProcess, StoredResource, but_blocks, on_resource, resource_at, without_resource}
 use Rattle.vlm_locks.specs.Plain.{plain_resource, plain_resources}
 use Rattle.vlm_words.specs.Resources.{IsKeyed}
 use Rattle.vlm_locks.specs.Rest.{IsAtRest, IsReplaced, OthersStay}
@@ -52,16 +52,20 @@ module _ (res : ℕ) (had left : StoredResource) (old new : Records) (replaced :
   had_at : had.at ≡ res
   had_at = resource_at-at res old.resources had replaced.was
 
-  left_at : left.at ≡ res
+  pub left_at : left.at ≡ res
   left_at = ap (λ (r : StoredResource). r.at) replaced.same ∙ had_at
 
-  -- each other resource is as it was
+  -- all other resources are as they were
   pub others_stay : OthersStay res old new
-  others_stay x among differs =
-      elim (replaced_cases res left old.resources x (subst (IsResourceAmong x) replaced.resources among)) [
-        | inl is ↦ absurd (differs (ap (λ (r : StoredResource). r.at) is ∙ left_at))
-        | inr was ↦ was
-      ]
+  others_stay = ap (without_resource res) replaced.resources ∙ without_put old.resources
+    where
+      without_put : (rs : List StoredResource) → without_resource res (on_resource res (λ r. left) rs) ≡ without_resource res rs
+      without_put [] = refl
+      without_put (r ∷ rest) =
+          elim (cases_eq r.at res) [
+            | inl same ↦ rw (eq-eqb r.at res same, eq-eqb left.at res left_at) (without_put rest)
+            | inr differs ↦ rw (ne_eqb r.at res differs, ne_eqb r.at res differs) (ap (λ rs. r ∷ rs) (without_put rest))
+          ]
 
   -- the resource is there
   pub still_there : HasResource res new

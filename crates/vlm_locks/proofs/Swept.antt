@@ -1,74 +1,35 @@
--- The sweep of one resource, where nothing is to be done on the others, is the whole sweep.
-use Rattle.std.proofs.Common.{◌≡◌, ◌≢◌, ℕ, Bool, true, false, not, ◌&&◌, cond, List, [], ◌∷◌, ◌++◌, map, Some, IfSome, IsSome, refl, sym, ap, ◌∙◌, subst, inl, inr, append_assoc, eq-eqb, ne_eqb}
+-- One resource is swept.
+use Rattle.std.proofs.Common.{◌≡◌, ◌≢◌, ℕ, Bool, true, false, not, ◌&&◌, cond, List, [], ◌∷◌, ◌++◌, map, Some, refl, sym, ap, ◌∙◌, subst, inl, inr, eq-eqb, ne_eqb}
 use Rattle.std.specs.Prelude.{◌==◌}
-use Rattle.std.specs.List.{AllByRecursion}
-use Rattle.std.proofs.lemmas.Bool.{and_parts, cases_eq}
+use Rattle.std.proofs.lemmas.Bool.{and_parts}
 use Rattle.std.proofs.lemmas.List.{map-append}
-use Rattle.std.proofs.lemmas.Option.{none-some, same_Some}
 use Rattle.vlm_words.specs.declared.resources.Queue.{Queue}
 use Rattle.vlm_words.specs.declared.resources.Queue.TheVariants.{Granted, Conversion, Waiting}
 use Rattle.vlm_words.specs.Grants.{is_empty}
-use Rattle.vlm_words.specs.Settled.{IsSettled, IsSweptAlone, unless_vacant}
-use Rattle.vlm_words.specs.State.{Process, Resource}
-use Rattle.vlm_words.specs.Sweeps.{blocks_after_service, is_vacant, processes_after_service, resource_after_service, resources_after_sweep}
-use Rattle.vlm_store.specs.Records.{AreResourcesApart, HasResource, IsIdle, IsResourceAmong, IsSound, Records, StoredResource, plain_processes, queued, resource_at, rows_of, without_resource}
+use Rattle.vlm_words.specs.State.{Process}
+use Rattle.vlm_words.specs.Sweeps.{blocks_after_service, is_vacant, resource_after_service}
+use Rattle.vlm_store.specs.Records.{IsIdle, IsResourceAmong, IsSound, Records, StoredResource, but_blocks, on_resource, plain_processes, queued, resource_at, rows_of, without_resource}
 use Rattle.vlm_queue.proofs.Idle.{none_shown}
-use Rattle.vlm_locks.specs.Plain.{plain_resource, plain_resources}
-use Rattle.vlm_locks.specs.Serving.{IsServed, but_service}
+use Rattle.vlm_locks.specs.Plain.{plain_resource}
+use Rattle.vlm_locks.specs.Rest.{but_service}
+use Rattle.vlm_locks.specs.Serving.{IsServed}
+use Rattle.vlm_locks.specs.Sweeping.{IsSwept, Parted}
+use Rattle.vlm_locks.proofs.Found.{resource_alone, resource_at-put}
 use Rattle.vlm_locks.proofs.Moves.{locks_found}
-use Rattle.vlm_words.specs.Resources.{IsKeyed}
-use Rattle.vlm_locks.specs.Rest.{IsAtRest}
+use Rattle.vlm_locks.proofs.Parting.{after_differ, before_differ, own_there}
+use Rattle.vlm_locks.proofs.Replaced.{left_at}
 
--- the resource of a key, with those before and behind it, which have others
-record Parted (res : ℕ) (rs : List StoredResource) : Type 0 where
-  r : StoredResource
-  before : List StoredResource
-  after : List StoredResource
-  keyed : r.at ≡ res
-  found : resource_at res rs ≡ Some r
-  parted : rs ≡ before ++ r ∷ after
-  differ_before : (x : StoredResource) → IsResourceAmong x before → x.at ≢ res
-  differ_after : (x : StoredResource) → IsResourceAmong x after → x.at ≢ res
+-- resources of other keys stay where one is put in the place of another
+put_apart : (res : ℕ) (left : StoredResource) (rs : List StoredResource) → ((x : StoredResource) → IsResourceAmong x rs → x.at ≢ res) → on_resource res (λ r. left) rs ≡ rs
+put_apart res left [] differ = refl
+put_apart res left (r ∷ rs) differ =
+    rw (ne_eqb r.at res (differ r (inl refl))) (ap (λ xs. r ∷ xs) (put_apart res left rs (λ x there. differ x (inr there))))
 
-parted_at : (res : ℕ) (rs : List StoredResource) → AreResourcesApart rs → IsSome (resource_at res rs) → Parted res rs
-parted_at res [] apart there = cc
-parted_at res (x ∷ rs) apart there =
-    elim (cases_eq x.at res) [
-      | inl same ↦ record {
-        r = x;
-        before = [];
-        after = rs;
-        keyed = same;
-        found = rw (eq-eqb x.at res same) refl;
-        parted = refl;
-        differ_before = λ y among. absurd among;
-        differ_after = λ y among is. apart.0 y among (is ∙ sym same);
-      }
-      | inr differs ↦
-          let behind = parted_at res rs apart.1 (rw (ne_eqb x.at res differs) at there) in
-          record {
-            r = behind.r;
-            before = x ∷ behind.before;
-            after = behind.after;
-            keyed = behind.keyed;
-            found = rw (ne_eqb x.at res differs) behind.found;
-            parted = ap (λ xs. x ∷ xs) behind.parted;
-            differ_before = λ y among.
-                elim among [ inl here ↦ subst (λ (z : StoredResource). z.at ≢ res) here differs | inr there ↦ behind.differ_before y there ];
-            differ_after = behind.differ_after;
-          }
-    ]
-
--- what is settled one by one is settled all together
-all_settled : (rs : List StoredResource) → ((x : StoredResource) → IsResourceAmong x rs → IsSettled (plain_resource x)) → AllByRecursion IsSettled (map plain_resource rs)
-all_settled [] each = tt
-all_settled (r ∷ rs) each = (each r (inl refl), all_settled rs (λ x there. each x (inr there)))
-
--- resources of other keys stay where one goes
-without-others : (res : ℕ) (rs : List StoredResource) → ((x : StoredResource) → IsResourceAmong x rs → x.at ≢ res) → without_resource res rs ≡ rs
-without-others res [] differ = refl
-without-others res (r ∷ rs) differ =
-    rw (ne_eqb r.at res (differ r (inl refl))) (ap (λ xs. r ∷ xs) (without-others res rs (λ x there. differ x (inr there))))
+-- and where one goes
+without_apart : (res : ℕ) (rs : List StoredResource) → ((x : StoredResource) → IsResourceAmong x rs → x.at ≢ res) → without_resource res rs ≡ rs
+without_apart res [] differ = refl
+without_apart res (r ∷ rs) differ =
+    rw (ne_eqb r.at res (differ r (inl refl))) (ap (λ xs. r ∷ xs) (without_apart res rs (λ x there. differ x (inr there))))
 
 without-append : (res : ℕ) (xs ys : List StoredResource) → without_resource res (xs ++ ys) ≡ without_resource res xs ++ without_resource res ys
 without-append res [] ys = refl
@@ -78,61 +39,6 @@ without-append res (x ∷ xs) ys =
       | true ↦ without-append res xs ys
       | false ↦ ap (λ zs. x ∷ zs) (without-append res xs ys)
     ]
-
--- what is left where a resource goes was there
-pub without_fewer : (res : ℕ) (rs : List StoredResource) (x : StoredResource) → IsResourceAmong x (without_resource res rs) → IsResourceAmong x rs
-without_fewer res [] x among = absurd among
-without_fewer res (r ∷ rs) x among = of_test (r.at == res) among (without_fewer res rs x)
-  where
-    of_test : (b : Bool) → IsResourceAmong x (cond (not b) (r ∷ without_resource res rs) (without_resource res rs))
-        → (IsResourceAmong x (without_resource res rs) → IsResourceAmong x rs) → IsResourceAmong x (r ∷ rs)
-    of_test true among later = inr (later among)
-    of_test false among later = elim among [ inl here ↦ inl here | inr there ↦ inr (later there) ]
-
-module _ (res : ℕ) (processes : List Process) where
-  -- the resource of the key is served, and the others are as they are
-  abbrev shown_served : StoredResource → Resource
-  shown_served r = cond (r.at == res) (resource_after_service processes (plain_resource r)) (plain_resource r)
-
-  others_shown : (rs : List StoredResource) → ((x : StoredResource) → IsResourceAmong x rs → x.at ≢ res) → map shown_served rs ≡ map plain_resource rs
-  others_shown [] differ = refl
-  others_shown (r ∷ rs) differ =
-      rw (ne_eqb r.at res (differ r (inl refl))) (ap (λ xs. plain_resource r ∷ xs) (others_shown rs (λ x there. differ x (inr there))))
-
-  -- the served resource is found
-  found_served : (olds news : List StoredResource) → map (λ (r : StoredResource). r.at) news ≡ map (λ (r : StoredResource). r.at) olds → map plain_resource news ≡ map shown_served olds
-      → (r : StoredResource) → resource_at res olds ≡ Some r
-      → (now : StoredResource) × ((resource_at res news ≡ Some now) × (plain_resource now ≡ resource_after_service processes (plain_resource r)))
-  found_served [] news keys shown r found = absurd (none-some r found)
-  found_served (x ∷ olds) [] keys shown r found = cc
-  found_served (x ∷ olds) (y ∷ news) keys shown r found =
-      let key : y.at ≡ x.at = cc in
-      let head : plain_resource y ≡ shown_served x = cc in
-      elim (cases_eq x.at res) [
-        | inl same ↦
-            let is : x ≡ r = same_Some x r (rw (eq-eqb x.at res same) at found) in
-            (y, (rw (eq-eqb y.at res (key ∙ same)) refl, head ∙ rw (eq-eqb x.at res same) (ap (λ z. resource_after_service processes (plain_resource z)) is)))
-        | inr differs ↦
-            let behind = found_served olds news (cc) (cc) r (rw (ne_eqb x.at res differs) at found) in
-            (behind.0, (rw (ne_eqb y.at res (λ e. differs (sym key ∙ e))) behind.1.0, behind.1.1))
-      ]
-
-  -- the others are shown as they were
-  dropped : (olds news : List StoredResource) → map (λ (r : StoredResource). r.at) news ≡ map (λ (r : StoredResource). r.at) olds → map plain_resource news ≡ map shown_served olds
-      → map plain_resource (without_resource res news) ≡ map plain_resource (without_resource res olds)
-  dropped [] [] keys shown = refl
-  dropped [] (y ∷ news) keys shown = cc
-  dropped (x ∷ olds) [] keys shown = cc
-  dropped (x ∷ olds) (y ∷ news) keys shown =
-      let key : y.at ≡ x.at = cc in
-      let head : plain_resource y ≡ shown_served x = cc in
-      elim (cases_eq x.at res) [
-        | inl same ↦ rw (eq-eqb x.at res same, eq-eqb y.at res (key ∙ same)) (dropped olds news (cc) (cc))
-        | inr differs ↦
-            rw (ne_eqb y.at res (λ e. differs (sym key ∙ e)), ne_eqb x.at res differs)
-            (ap (λ z. z ∷ map plain_resource (without_resource res news)) (head ∙ ap (λ b. cond b (resource_after_service processes (plain_resource x)) (plain_resource x)) (ne_eqb x.at res differs))
-            ∙ ap (λ zs. plain_resource x ∷ zs) (dropped olds news (cc) (cc)))
-      ]
 
 -- a resource whose queues are empty is vacant, and one that is vacant has empty queues
 vacant_idle : (s : Records) (res : ℕ) (r : StoredResource) → resource_at res s.resources ≡ Some r → is_vacant (plain_resource r) ≡ true → IsIdle res s
@@ -155,112 +61,72 @@ not_vacant : (b : Bool) → (b ≡ true → ⊥) → b ≡ false
 not_vacant true not = absurd (not refl)
 not_vacant false not = refl
 
--- each resource keeps its key and its domain
-same_named : (olds news : List StoredResource) → map but_service news ≡ map but_service olds → (x : StoredResource) → IsResourceAmong x news
-    → (y : StoredResource) × (IsResourceAmong y olds × (but_service x ≡ but_service y))
-same_named [] [] same x among = absurd among
-same_named [] (y ∷ news) same x among = cc
-same_named (z ∷ olds) [] same x among = absurd among
-same_named (z ∷ olds) (y ∷ news) same x among =
-    elim among [
-      | inl here ↦ (z, (inl refl, ap (λ (w : StoredResource). but_service w) (sym here) ∙ cc))
-      | inr there ↦ let later = same_named olds news (cc) x there in (later.0, (inr later.1.0, later.1.1))
-    ]
-
-module _ (res : ℕ) (old s : Records) (sound : IsSound old) (there : HasResource res old)
-    (settled : (r : StoredResource) → IsResourceAmong r old.resources → r.at ≢ res → IsSettled (plain_resource r))
-    (alone : (processes : List Process) (before : List Resource) (r : Resource) (after : List Resource) → AllByRecursion IsSettled before → AllByRecursion IsSettled after → IsSweptAlone processes before r after)
-    (served : IsServed res old s) where
-  abbrev parts : Parted res old.resources
-  parts = parted_at res old.resources sound.resources_apart there
-
-  abbrev before : List Resource
-  before = map plain_resource parts.before
-
-  abbrev after : List Resource
-  after = map plain_resource parts.after
-
-  abbrev own : Resource
-  own = plain_resource parts.r
+module _ (res : ℕ) (old s : Records) (sound : IsSound old) (served : IsServed res old s) (was : Parted res old.resources) where
+  abbrev left : StoredResource
+  left = served.left
 
   abbrev processes : List Process
   processes = plain_processes old
 
-  among_all : (x : StoredResource) → IsResourceAmong x (parts.before ++ parts.r ∷ parts.after) → IsResourceAmong x old.resources
-  among_all x among = subst (IsResourceAmong x) (sym parts.parted) among
+  left_key : left.at ≡ res
+  left_key = left_at res served.had left old s served.replaced
 
-  among_before : (xs : List StoredResource) (ys : List StoredResource) (x : StoredResource) → IsResourceAmong x xs → IsResourceAmong x (xs ++ ys)
-  among_before [] ys x among = absurd among
-  among_before (y ∷ xs) ys x among = elim among [ inl here ↦ inl here | inr there ↦ inr (among_before xs ys x there) ]
+  own_is : was.own ≡ served.had
+  own_is = resource_alone res old.resources served.had was.own sound.resources_apart served.replaced.was (own_there res old.resources sound.resources_apart was) was.keyed
 
-  among_after : (xs : List StoredResource) (ys : List StoredResource) (x : StoredResource) → IsResourceAmong x ys → IsResourceAmong x (xs ++ ys)
-  among_after [] ys x among = among
-  among_after (y ∷ xs) ys x among = inr (among_after xs ys x among)
+  -- it stands where it stood
+  now : s.resources ≡ was.before ++ left ∷ was.after
+  now =
+      served.replaced.resources
+      ∙ ap (on_resource res (λ r. left)) was.parted
+      ∙ map-append (λ r. cond (r.at == res) left r) was.before (was.own ∷ was.after)
+      ∙ ap (λ xs. xs ++ on_resource res (λ r. left) (was.own ∷ was.after)) (put_apart res left was.before (before_differ res old.resources sound.resources_apart was))
+      ∙ ap (λ xs. was.before ++ xs)
+      (ap (λ b. cond b left was.own ∷ on_resource res (λ r. left) was.after) (eq-eqb was.own.at res was.keyed)
+      ∙ ap (λ xs. left ∷ xs) (put_apart res left was.after (after_differ res old.resources sound.resources_apart was)))
 
-  swept : IsSweptAlone processes before own after
-  swept =
-      alone processes before own after
-      (all_settled parts.before (λ x here. settled x (among_all x (among_before parts.before (parts.r ∷ parts.after) x here)) (parts.differ_before x here)))
-      (all_settled parts.after (λ x here. settled x (among_all x (among_after parts.before (parts.r ∷ parts.after) x (inr here))) (parts.differ_after x here)))
+  found : resource_at res s.resources ≡ Some left
+  found = ap (resource_at res) served.replaced.resources ∙ resource_at-put res left old.resources served.had left_key served.replaced.was
 
-  split : plain_resources old ≡ before ++ own ∷ after
-  split = ap (map plain_resource) parts.parted ∙ map-append plain_resource parts.before (parts.r ∷ parts.after)
+  shown : plain_resource left ≡ resource_after_service processes (plain_resource was.own)
+  shown = served.resource ∙ ap (λ (r : StoredResource). resource_after_service processes (plain_resource r)) (sym own_is)
 
-  -- what the service leaves
-  served_split : plain_resources s ≡ before ++ resource_after_service processes own ∷ after
-  served_split =
-      served.resources
-      ∙ ap (map (shown_served res processes)) parts.parted
-      ∙ map-append (shown_served res processes) parts.before (parts.r ∷ parts.after)
-      ∙ ap (λ xs. xs ++ map (shown_served res processes) (parts.r ∷ parts.after)) (others_shown res processes parts.before parts.differ_before)
-      ∙ ap (λ x. before ++ x ∷ map (shown_served res processes) parts.after)
-      (ap (λ b. cond b (resource_after_service processes own) own) (eq-eqb parts.r.at res parts.keyed))
-      ∙ ap (λ xs. before ++ resource_after_service processes own ∷ xs) (others_shown res processes parts.after parts.differ_after)
+  statuses : plain_processes s ≡ (blocks_after_service processes (plain_resource was.own)).processes
+  statuses = served.statuses ∙ ap (λ (r : StoredResource). (blocks_after_service processes (plain_resource r)).processes) (sym own_is)
 
-  abbrev now : (now : StoredResource) × ((resource_at res s.resources ≡ Some now) × (plain_resource now ≡ resource_after_service processes own))
-  now = found_served res processes old.resources s.resources served.keys served.resources parts.r parts.found
-
-  -- the whole sweep, by what it leaves of the one resource
-  whole : resources_after_sweep processes (plain_resources old) ≡ before ++ (unless_vacant (resource_after_service processes own) ++ after)
-  whole = ap (resources_after_sweep processes) split ∙ swept.resources ∙ append_assoc before (unless_vacant (resource_after_service processes own)) after
+  same : but_service left ≡ but_service was.own
+  same = served.replaced.same ∙ ap (λ (r : StoredResource). but_service r) (sym own_is)
 
   -- a lock is left
-  pub swept_busy : (IsIdle res s → ⊥) → plain_resources s ≡ resources_after_sweep processes (plain_resources old)
-  swept_busy busy =
-      let left : is_vacant (resource_after_service processes own) ≡ false =
-      ap is_vacant (sym now.1.1) ∙ not_vacant (is_vacant (plain_resource now.0)) (λ vacant. busy (vacant_idle s res now.0 now.1.0 vacant)) in
-      served_split
-      ∙ sym (whole ∙ ap (λ b. before ++ (cond b [] (resource_after_service processes own ∷ []) ++ after)) left)
+  pub swept_busy : (IsIdle res s → ⊥) → IsSwept res old s was
+  swept_busy busy = record {
+    left = left ∷ [];
+    resources = now;
+    served = ap (λ r. r ∷ []) shown
+        ∙ sym (ap (λ b. cond b [] (resource_after_service processes (plain_resource was.own) ∷ []))
+        (ap is_vacant (sym shown) ∙ not_vacant (is_vacant (plain_resource left)) (λ vacant. busy (vacant_idle s res left found vacant))));
+    same = λ r among. elim among [ inl is ↦ subst (λ (x : StoredResource). but_service x ≡ but_service was.own) is same | inr none ↦ absurd none ];
+    statuses = statuses;
+    loose = served.replaced.loose;
+    processes = served.replaced.processes;
+  }
 
   -- no lock is left
-  pub swept_idle : IsIdle res s → (new : Records) → new ≡ record s { resources = without_resource res s.resources }
-      → plain_resources new ≡ resources_after_sweep processes (plain_resources old)
-  swept_idle idle new is =
-      let left : is_vacant (resource_after_service processes own) ≡ true = ap is_vacant (sym now.1.1) ∙ idle_vacant s res now.0 now.1.0 idle in
-      let own_goes : without_resource res (parts.r ∷ parts.after) ≡ parts.after =
-      ap (λ b. cond (not b) (parts.r ∷ without_resource res parts.after) (without_resource res parts.after)) (eq-eqb parts.r.at res parts.keyed)
-      ∙ without-others res parts.after parts.differ_after in
-      ap plain_resources is
-      ∙ dropped res processes old.resources s.resources served.keys served.resources
-      ∙ ap (λ xs. map plain_resource (without_resource res xs)) parts.parted
-      ∙ ap (map plain_resource) (without-append res parts.before (parts.r ∷ parts.after))
-      ∙ ap (λ xs. map plain_resource (xs ++ without_resource res (parts.r ∷ parts.after))) (without-others res parts.before parts.differ_before)
-      ∙ ap (λ xs. map plain_resource (parts.before ++ xs)) own_goes
-      ∙ map-append plain_resource parts.before parts.after
-      ∙ sym (whole ∙ ap (λ b. before ++ (cond b [] (resource_after_service processes own ∷ []) ++ after)) left)
-
-  -- the status blocks
-  pub swept_statuses : plain_processes s ≡ processes_after_service processes (plain_resources old)
-  swept_statuses =
-      subst (λ o. IfSome o (λ r. plain_processes s ≡ (blocks_after_service processes (plain_resource r)).processes)) parts.found served.statuses
-      ∙ sym (ap (processes_after_service processes) split ∙ swept.statuses)
-
-  -- what held between two steps holds still
-  pub swept_rests : IsAtRest old → (new : Records) → ((x : StoredResource) → IsResourceAmong x new.resources → IsResourceAmong x s.resources)
-      → new.loose ≡ s.loose → new.processes ≡ s.processes → IsAtRest new
-  swept_rests rest new fewer loose own_same = record {
-    none_loose = loose ∙ served.loose ∙ rest.none_loose;
-    keyed = λ x among.
-        let was = same_named old.resources s.resources served.names x (fewer x among) in
-        subst (λ (r : StoredResource). IsKeyed r.domain r.key) (sym was.1.1) (rest.keyed was.0 was.1.0);
+  pub swept_idle : IsIdle res s → (new : Records) → new ≡ record s { resources = without_resource res s.resources } → IsSwept res old new was
+  swept_idle idle new is = record {
+    left = [];
+    resources =
+        ap (λ (x : Records). x.resources) is
+        ∙ ap (without_resource res) now
+        ∙ without-append res was.before (left ∷ was.after)
+        ∙ ap (λ xs. xs ++ without_resource res (left ∷ was.after)) (without_apart res was.before (before_differ res old.resources sound.resources_apart was))
+        ∙ ap (λ xs. was.before ++ xs)
+        (ap (λ b. cond (not b) (left ∷ without_resource res was.after) (without_resource res was.after)) (eq-eqb left.at res left_key)
+        ∙ without_apart res was.after (after_differ res old.resources sound.resources_apart was));
+    served = sym (ap (λ b. cond b [] (resource_after_service processes (plain_resource was.own) ∷ []))
+        (ap is_vacant (sym shown) ∙ idle_vacant s res left found idle));
+    same = λ r among. absurd among;
+    statuses = ap plain_processes is ∙ statuses;
+    loose = ap (λ (x : Records). x.loose) is ∙ served.replaced.loose;
+    processes = ap (λ (x : Records). map but_blocks x.processes) is ∙ served.replaced.processes;
   }

@@ -3,6 +3,7 @@ pub mod Serving
 pub mod Standing
 pub mod Rest
 pub mod Entering
+pub mod Sweeping
 pub mod Converting
 pub mod Withdrawals
 pub mod Withdrawing

@@ -1,17 +1,26 @@
 -- The records between two steps, and what a step on one resource leaves alone.
-use Rattle.std.specs.Prelude.{◌≡◌, ◌≢◌, ℕ, [], map, Some}
+use Rattle.std.specs.Prelude.{◌≡◌, ℕ, [], map, Some}
 use Rattle.vlm_words.specs.Resources.{IsKeyed}
-use Rattle.vlm_store.specs.Records.{IsResourceAmong, Records, StoredResource, but_blocks, on_resource, resource_at}
-use Rattle.vlm_locks.specs.Serving.{but_service}
+use Rattle.vlm_words.specs.ValueBlocks.{new_value_block}
+use Rattle.vlm_store.specs.Records.{IsResourceAmong, Records, StoredResource, but_blocks, on_resource, resource_at, without_resource}
 
 -- between two steps each lock stands in a queue, and each resource is in the domain of its key
 pub record IsAtRest (s : Records) : Type 0 where
   pub none_loose : s.loose ≡ []
   pub keyed : (r : StoredResource) → IsResourceAmong r s.resources → IsKeyed r.domain r.key
 
--- each resource but the one of this key is as it was
+-- all resources but the one of this key are as they were, each under its key with its locks, and in their order
 abbrev pub OthersStay : ℕ → Records → Records → Type 0
-OthersStay res old new = (r : StoredResource) → IsResourceAmong r new.resources → r.at ≢ res → IsResourceAmong r old.resources
+OthersStay res old new = without_resource res new.resources ≡ without_resource res old.resources
+
+-- a resource but for its queues and its value block
+abbrev pub but_service : StoredResource → StoredResource
+but_service r = record r {
+  value_block = new_value_block;
+  granted = [];
+  converting = [];
+  waiting = [];
+}
 
 -- the resource of this key was this one, and that one is in its place now, the same but for its value block and its
 -- queues; all else stays, but for status blocks

@@ -1,5 +1,5 @@
 -- What the service of one resource leaves of the records.
-use Rattle.std.specs.Prelude.{◌≡◌, ◌==◌, ℕ, Bool, false, [], map, Option, None, Some, IfSome, if◌then◌else◌}
+use Rattle.std.specs.Prelude.{◌≡◌, ℕ, Bool, false, [], map, Option, None, Some}
 use Rattle.vlm_words.specs.declared.locks.Request.{Request}
 use Rattle.vlm_words.specs.declared.resources.Queue.{Queue}
 use Rattle.vlm_words.specs.declared.resources.Queue.TheVariants.{Granted, Conversion, Waiting}
@@ -8,34 +8,21 @@ use Rattle.vlm_words.specs.Effects.{blocks_after, blocks_with}
 use Rattle.vlm_words.specs.Grants.{Service, no_service, service_of_conversions, service_of_waiting}
 use Rattle.vlm_words.specs.State.{Resource}
 use Rattle.vlm_words.specs.Sweeps.{blocks_after_service, resource_after_service}
-use Rattle.vlm_words.specs.ValueBlocks.{new_value_block}
 use Rattle.vlm_store.specs.Records.{Records, StoredResource, but_blocks, fits_beside, on_resource, plain_processes, resource_at}
-use Rattle.vlm_locks.specs.Plain.{plain_resource, plain_resources}
+use Rattle.vlm_locks.specs.Plain.{plain_resource}
+use Rattle.vlm_locks.specs.Rest.{IsReplaced}
 
 -- a resource but for its queues
 abbrev pub but_queues : StoredResource → StoredResource
 but_queues r = record r { granted = []; converting = []; waiting = [] }
 
--- a resource but for its queues and its value block
-abbrev pub but_service : StoredResource → StoredResource
-but_service r = record r {
-  value_block = new_value_block;
-  granted = [];
-  converting = [];
-  waiting = [];
-}
-
--- the resource of this key is served, and its grants write its value block and their status blocks; all else stays:
--- the other resources, the keys of all, the loose locks, and of each process what is not a status block
+-- the resource of this key is served, and its grants write its value block and their status blocks; all else stays
 pub record IsServed (res : ℕ) (old new : Records) : Type 0 where
-  pub resources : plain_resources new
-      ≡ map (λ r. if r.at == res then resource_after_service (plain_processes old) (plain_resource r) else plain_resource r) old.resources
-  pub keys : map (λ r. r.at) new.resources ≡ map (λ r. r.at) old.resources
-  pub names : map but_service new.resources ≡ map but_service old.resources
-  pub loose : new.loose ≡ old.loose
-  pub statuses : IfSome (resource_at res old.resources)
-      (λ r. plain_processes new ≡ (blocks_after_service (plain_processes old) (plain_resource r)).processes)
-  pub processes : map but_blocks new.processes ≡ map but_blocks old.processes
+  pub had : StoredResource
+  pub left : StoredResource
+  pub replaced : IsReplaced res had left old new
+  pub resource : plain_resource left ≡ resource_after_service (plain_processes old) (plain_resource had)
+  pub statuses : plain_processes new ≡ (blocks_after_service (plain_processes old) (plain_resource had)).processes
 
 -- ---- the parts of a service
 

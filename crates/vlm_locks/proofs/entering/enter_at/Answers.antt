@@ -1,4 +1,4 @@
-use Rattle.std.proofs.Common.{sym, ap, ◌∙◌}
+use Rattle.std.proofs.Common.{ap, ◌∙◌}
 use Rattle.vlm_words.specs.declared.resources.Queue.TheVariants.{Granted, Waiting}
 use Rattle.vlm_words.specs.Grants.{granted_row}
 use Rattle.vlm_store.specs.declared.keys.Place.TheVariants.{Queued}

@@ -1,35 +1,38 @@
-use Rattle.std.proofs.Common.{refl, ap, ◌∙◌}
-use Rattle.vlm_store.specs.Records.{Records, plain_processes}
-use Rattle.vlm_locks.proofs.Swept.{swept_busy, swept_idle, swept_rests, swept_statuses, without_fewer}
+use Rattle.std.proofs.Common.{arith, drop, ◌+◌}
+use Rattle.vlm_locks.proofs.Parting.{parted_there}
+use Rattle.vlm_locks.proofs.Touched.{is_touched_at, swept_resources, swept_statuses, sweeping_at, sweeping_begun, sweeping_next, sweeping_over}
 use Rattle.vlm_locks.proofs.sweeping.sweep.Goals as goal
 
-pub returns-then-is_idle-clause-resources : goal.returns-then-is_idle-clause-resources
-returns-then-is_idle-clause-resources c =
-    swept_idle c.args.res c.args.store.now c.serve.new.store c.known.ensures c.requires.there c.requires.settled c.law_a_sweep_touches_only_what_is_not_settled.ensures c.serve.ensures.served
-    c.if-is_idle.ensures.idle c.remove_resource.new.self c.remove_resource.ensures
+pub loop-res-init : goal.loop-res-init
+loop-res-init c = sweeping_begun c.args.touched.now c.args.store.now c.known.ensures c.requires.in_order c.requires.settled c.requires.rest
 
-pub returns-then-is_idle-clause-statuses : goal.returns-then-is_idle-clause-statuses
-returns-then-is_idle-clause-statuses c =
-    ap plain_processes c.remove_resource.ensures
-    ∙ swept_statuses c.args.res c.args.store.now c.serve.new.store c.known.ensures c.requires.there c.requires.settled c.law_a_sweep_touches_only_what_is_not_settled.ensures c.serve.ensures.served
+pub sweep_one-requires : goal.sweep_one-requires
+sweep_one-requires c =
+    let so_far = sweeping_at c.args.touched.now c.loop-res.res-index c.res-item.result c.args.store.now c.loop-res.store c.loop-res-test.true c.res-item.is c.loop-res.invariant in
+    parted_there c.res-item.result c.loop-res.store so_far.left.0
 
-pub returns-then-is_idle-clause-rest : goal.returns-then-is_idle-clause-rest
-returns-then-is_idle-clause-rest c =
-    swept_rests c.args.res c.args.store.now c.serve.new.store c.known.ensures c.requires.there c.requires.settled c.law_a_sweep_touches_only_what_is_not_settled.ensures c.serve.ensures.served
-    c.requires.rest c.remove_resource.new.self
-    (λ x among. without_fewer c.args.res c.serve.new.store.resources x (rw (ap (λ (r : Records). r.resources) c.remove_resource.ensures) at among))
-    (ap (λ (r : Records). r.loose) c.remove_resource.ensures) (ap (λ (r : Records). r.processes) c.remove_resource.ensures)
+pub loop-res-preserved : goal.loop-res-preserved
+loop-res-preserved c =
+    let touched = c.args.touched.now in
+    let so_far = sweeping_at touched c.loop-res.res-index c.res-item.result c.args.store.now c.loop-res.store c.loop-res-test.true c.res-item.is c.loop-res.invariant in
+    sweeping_next touched c.res-item.result (drop (c.loop-res.res-index + 1) touched) c.args.store.now c.loop-res.store c.sweep_one.new.store so_far
+    (c.sweep_one.ensures so_far.left.0) c.law_a_sweep_touches_only_what_is_not_settled.ensures.next (is_touched_at touched c.loop-res.res-index c.res-item.result c.loop-res-test.true c.res-item.is)
 
-pub returns-else-is_idle-clause-resources : goal.returns-else-is_idle-clause-resources
-returns-else-is_idle-clause-resources c =
-    swept_busy c.args.res c.args.store.now c.serve.new.store c.known.ensures c.requires.there c.requires.settled c.law_a_sweep_touches_only_what_is_not_settled.ensures c.serve.ensures.served
-    c.if-is_idle.ensures.busy
+pub returns-clause-resources : goal.returns-clause-resources
+returns-clause-resources c =
+    let so_far = sweeping_over c.args.touched.now c.loop-res.res-index c.args.store.now c.loop-res.store (omega arith) c.loop-res.invariant in
+    swept_resources c.args.touched.now c.args.store.now c.loop-res.store so_far c.law_a_sweep_touches_only_what_is_not_settled.ensures.done
 
-pub returns-else-is_idle-clause-statuses : goal.returns-else-is_idle-clause-statuses
-returns-else-is_idle-clause-statuses c =
-    swept_statuses c.args.res c.args.store.now c.serve.new.store c.known.ensures c.requires.there c.requires.settled c.law_a_sweep_touches_only_what_is_not_settled.ensures c.serve.ensures.served
+pub returns-clause-statuses : goal.returns-clause-statuses
+returns-clause-statuses c =
+    let so_far = sweeping_over c.args.touched.now c.loop-res.res-index c.args.store.now c.loop-res.store (omega arith) c.loop-res.invariant in
+    swept_statuses c.args.touched.now c.args.store.now c.loop-res.store so_far c.law_a_sweep_touches_only_what_is_not_settled.ensures.done
 
-pub returns-else-is_idle-clause-rest : goal.returns-else-is_idle-clause-rest
-returns-else-is_idle-clause-rest c =
-    swept_rests c.args.res c.args.store.now c.serve.new.store c.known.ensures c.requires.there c.requires.settled c.law_a_sweep_touches_only_what_is_not_settled.ensures c.serve.ensures.served
-    c.requires.rest c.serve.new.store (λ x among. among) refl refl
+pub returns-clause-others : goal.returns-clause-others
+returns-clause-others c = c.loop-res.invariant.others
+
+pub returns-clause-own_locks : goal.returns-clause-own_locks
+returns-clause-own_locks c = c.loop-res.invariant.processes
+
+pub returns-clause-rest : goal.returns-clause-rest
+returns-clause-rest c = c.loop-res.invariant.rest

@@ -1,6 +1,6 @@
 use Rattle.std.proofs.Common.{true, [], ◌∷◌, map, ap, ◌∙◌, subst}
 use Rattle.vlm_words.specs.Withdrawals.{resource_after_cancel, resource_after_withdrawals, resource_without}
-use Rattle.vlm_store.specs.Records.{HasNoSublocks, IsProcessAmong, IsResourceAmong}
+use Rattle.vlm_store.specs.Records.{HasNoSublocks, IsProcessAmong, without_resource}
 use Rattle.vlm_locks.specs.Plain.{plain_resource, plain_resources}
 use Rattle.vlm_locks.specs.Withdrawals.{plain_withdrawal}
 use Rattle.vlm_locks.specs.Withdrawing.{goes}
@@ -42,9 +42,8 @@ returns-then-withdrawal-clause-resources c =
 
 pub returns-then-withdrawal-clause-others : goal.returns-then-withdrawal-clause-others
 returns-then-withdrawal-clause-others c =
-    λ r among differs.
-    subst (IsResourceAmong r) c.end_withdrawn.ensures.rest.resources
-    (stay_over c.args.standing.now.res c.end_withdrawn.new.store c.leave.new.store c.cancel.new.store c.leave.ensures.left.others c.cancel.ensures.others r among differs)
+    stay_over c.args.standing.now.res c.end_withdrawn.new.store c.leave.new.store c.cancel.new.store c.leave.ensures.left.others c.cancel.ensures.others
+    ∙ ap (without_resource c.args.standing.now.res) c.end_withdrawn.ensures.rest.resources
 
 -- the lock goes
 pub returns-else-withdrawal-clause-resources : goal.returns-else-withdrawal-clause-resources
@@ -58,6 +57,5 @@ returns-else-withdrawal-clause-resources c =
 
 pub returns-else-withdrawal-clause-others : goal.returns-else-withdrawal-clause-others
 returns-else-withdrawal-clause-others c =
-    λ r among differs.
-    subst (IsResourceAmong r) c.end_withdrawn.ensures.rest.resources
-    (stay_over c.args.standing.now.res c.end_withdrawn.new.store c.leave.new.store c.remove.new.store c.leave.ensures.left.others c.remove.ensures.others r among differs)
+    stay_over c.args.standing.now.res c.end_withdrawn.new.store c.leave.new.store c.remove.new.store c.leave.ensures.left.others c.remove.ensures.others
+    ∙ ap (without_resource c.args.standing.now.res) c.end_withdrawn.ensures.rest.resources

@@ -1,5 +1,5 @@
 use Rattle.std.proofs.Common.{◌+◌, ap, ◌∙◌, subst}
-use Rattle.vlm_store.specs.Records.{IsProcess, IsResourceAmong}
+use Rattle.vlm_store.specs.Records.{IsProcess, without_resource}
 use Rattle.vlm_locks.proofs.Changed.{rests_still}
 use Rattle.vlm_core.specs.Machine.{Kept, plain_state}
 use Rattle.vlm_core.proofs.Conversions.{state_converted}
@@ -20,4 +20,5 @@ returns-clause-change c = λ there found.
 
 -- the other resources stay
 pub returns-clause-others : goal.returns-clause-others
-returns-clause-others c = λ r among differs. rw (← c.self.view_is) (subst (IsResourceAmong r) c.accept.ensures.rest.resources (c.convert.ensures.others r among differs))
+returns-clause-others c =
+    rw (← c.self.view_is) (c.convert.ensures.others ∙ ap (without_resource c.args.admitted.now.standing.res) c.accept.ensures.rest.resources)

@@ -1,6 +1,6 @@
 use Rattle.std.proofs.Common.{◌≡◌, ◌+◌, map, refl, ap, ◌∙◌, subst, sym, arith}
 use Rattle.vlm_words.specs.declared.locks.Row.{Row}
-use Rattle.vlm_store.specs.Records.{IsResourceAmong}
+use Rattle.vlm_store.specs.Records.{without_resource}
 use Rattle.vlm_locks.specs.Plain.{plain_resource}
 use Rattle.vlm_locks.proofs.Changed.{rests_still}
 use Rattle.vlm_core.specs.Admissions.{IsAdmitted}
@@ -38,6 +38,6 @@ returns-clause-change c =
     (serial_is m e entry is c.self.invariant.rest c.last_given-self-inside.result c.self.inside.last_serial refl c.last_given-self-inside.ensures))
 
 pub returns-clause-others : goal.returns-clause-others
-returns-clause-others c r among differs =
-    subst (λ (m : Kept). IsResourceAmong r m.records.resources) c.self.view_is
-    (c.in_ok-res.ensures.others r (subst (λ rs. IsResourceAmong r rs) c.accept_request.ensures.rest.resources among) differs)
+returns-clause-others c =
+    subst (λ (m : Kept). without_resource c.in_ok-res.res c.accept_request.new.store.resources ≡ without_resource c.in_ok-res.res m.records.resources) c.self.view_is
+    (ap (without_resource c.in_ok-res.res) c.accept_request.ensures.rest.resources ∙ c.in_ok-res.ensures.others)

@@ -1,0 +1,40 @@
+-- The sweep of the resources that a step has touched.
+use Rattle.std.specs.Prelude.{◌≡◌, ◌==◌, ⊤, ℕ, not, List, [], ◌∷◌, ◌++◌, filter, map}
+use Rattle.std.specs.List.{list_any}
+use Rattle.vlm_links.specs.Lists.{IsIn}
+use Rattle.vlm_words.specs.Settled.{IsSettled, unless_vacant}
+use Rattle.vlm_words.specs.Sweeps.{blocks_after_service, resource_after_service}
+use Rattle.vlm_store.specs.Records.{IsResourceAmong, Records, StoredResource, but_blocks, plain_processes}
+use Rattle.vlm_locks.specs.Plain.{plain_resource}
+use Rattle.vlm_locks.specs.Rest.{but_service}
+
+-- a resource of this key, with those made before and after it
+pub record Parted (res : ℕ) (resources : List StoredResource) : Type 0 where
+  pub before : List StoredResource
+  pub own : StoredResource
+  pub after : List StoredResource
+  pub keyed : own.at ≡ res
+  pub parted : resources ≡ before ++ own ∷ after
+
+-- the touched resources stand among these, in the order of their making
+abbrev pub StandInOrder : List ℕ → List StoredResource → Type 0
+StandInOrder [] resources = ⊤
+StandInOrder (res ∷ touched) resources = (here : Parted res resources) × StandInOrder touched here.after
+
+-- nothing is to be swept but the touched resources
+abbrev pub AreSettledBut : List ℕ → List StoredResource → Type 0
+AreSettledBut touched resources = (r : StoredResource) → IsResourceAmong r resources → (IsIn r.at touched → ⊥) → IsSettled (plain_resource r)
+
+-- the resources that are not touched
+abbrev pub but_touched : List ℕ → List StoredResource → List StoredResource
+but_touched touched resources = filter (λ r. not (list_any (λ res. r.at == res) touched)) resources
+
+-- one resource is swept: it is served, and goes if no lock is left on it; all else stays but for status blocks
+pub record IsSwept (res : ℕ) (old new : Records) (was : Parted res old.resources) : Type 0 where
+  pub left : List StoredResource
+  pub resources : new.resources ≡ was.before ++ (left ++ was.after)
+  pub served : map plain_resource left ≡ unless_vacant (resource_after_service (plain_processes old) (plain_resource was.own))
+  pub same : (r : StoredResource) → IsResourceAmong r left → but_service r ≡ but_service was.own
+  pub statuses : plain_processes new ≡ (blocks_after_service (plain_processes old) (plain_resource was.own)).processes
+  pub loose : new.loose ≡ old.loose
+  pub processes : map but_blocks new.processes ≡ map but_blocks old.processes
