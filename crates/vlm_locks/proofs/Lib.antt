@@ -9,6 +9,7 @@ pub mod Held
 pub mod Keyed
 pub mod Made
 pub mod Moved
+pub mod OtherLocks
 pub mod Named
 pub mod Replaced
 pub mod Stood

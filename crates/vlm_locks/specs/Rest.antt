@@ -2,7 +2,8 @@
 use Rattle.std.specs.Prelude.{◌≡◌, ℕ, [], map, Some}
 use Rattle.vlm_words.specs.Resources.{IsKeyed}
 use Rattle.vlm_words.specs.ValueBlocks.{new_value_block}
-use Rattle.vlm_store.specs.Records.{IsResourceAmong, Records, StoredResource, but_blocks, on_resource, resource_at, without_resource}
+use Rattle.vlm_store.specs.declared.keys.Place.{Place}
+use Rattle.vlm_store.specs.Records.{IsResourceAmong, Records, StoredResource, but_blocks, locks_at, on_resource, resource_at, without_lock, without_resource}
 
 -- between two steps each lock stands in a queue, and each resource is in the domain of its key
 pub record IsAtRest (s : Records) : Type 0 where
@@ -12,6 +13,14 @@ pub record IsAtRest (s : Records) : Type 0 where
 -- all resources but the one of this key are as they were, each under its key with its locks, and in their order
 abbrev pub OthersStay : ℕ → Records → Records → Type 0
 OthersStay res old new = without_resource res new.resources ≡ without_resource res old.resources
+
+-- all other locks are as they were: each place has them, under their keys, with their rows and in their order
+abbrev pub OtherLocksStay : ℕ → Records → Records → Type 0
+OtherLocksStay lock old new = (place : Place) → without_lock lock (locks_at place new) ≡ without_lock lock (locks_at place old)
+
+-- each process has the own locks that it had, and each of these the locks below it
+abbrev pub OwnLocksStay : Records → Records → Type 0
+OwnLocksStay old new = map but_blocks new.processes ≡ map but_blocks old.processes
 
 -- a resource but for its queues and its value block
 abbrev pub but_service : StoredResource → StoredResource

@@ -1,11 +1,11 @@
 -- The steps in which a lock is withdrawn.
-use Rattle.std.specs.Prelude.{◌≡◌, ℕ, Bool, true, false, map}
+use Rattle.std.specs.Prelude.{◌≡◌, ℕ, Bool, true, false, List, map}
 use Rattle.vlm_words.specs.declared.locks.Row.{Row}
 use Rattle.vlm_words.specs.declared.resources.Queue.{Queue}
 use Rattle.vlm_words.specs.declared.resources.Queue.TheVariants.{Granted, Conversion, Waiting}
 use Rattle.vlm_words.specs.Withdrawals.{is_writer}
 use Rattle.vlm_words.specs.State.{Resource}
-use Rattle.vlm_store.specs.Records.{HasResource, Records, plain_processes}
+use Rattle.vlm_store.specs.Records.{HasResource, Records, StoredProcess, plain_processes, process_without_lock}
 use Rattle.vlm_locks.specs.Plain.{plain_resources}
 use Rattle.vlm_locks.specs.Rest.{IsAtRest, OthersStay}
 
@@ -30,3 +30,9 @@ pub record IsChange (res : ℕ) (change : Resource → Resource) (old new : Reco
   pub others : OthersStay res old new
   pub there : HasResource res new
   pub rest : IsAtRest new
+
+-- the processes with their own locks, after a lock that goes or stays: one that goes is no lock of its process, and none
+-- below its parent
+abbrev pub owned_after : Bool → ℕ → List StoredProcess → List StoredProcess
+owned_after false lock processes = processes
+owned_after true lock processes = map (process_without_lock lock) processes

@@ -8,7 +8,7 @@ ghost use Rattle.vlm_words.specs.Rows.{rows_without};
 ghost use Rattle.vlm_store.specs.Records.{HasResource, IsSameLock, StoredResource, plain_processes, resource_at, rows_of};
 ghost use Rattle.vlm_locks.specs.Plain.{plain_resource};
 ghost use Rattle.vlm_locks.specs.Converting.{IsConverted, IsGrantedAtOnce, moved_in};
-ghost use Rattle.vlm_locks.specs.Rest.{IsAtRest, IsReplaced, OthersStay};
+ghost use Rattle.vlm_locks.specs.Rest.{IsAtRest, IsReplaced, OtherLocksStay, OthersStay, OwnLocksStay};
 ghost use Rattle.vlm_locks.specs.Standing.{IsStanding};
 
 use crate::endings::end_by_grant;
@@ -60,8 +60,9 @@ fn wanting_row(row: Row, request: &Request) -> Row
 fn convert_now(store: &mut Store, standing: &Standing, row: &Row)
     requires standing { IsStanding standing.now store.old }
     requires row { IsSameLock standing.now.row row.now }
-    ensures { IfSome (resource_at standing.now.res store.old.resources)
+    ensures granted { IfSome (resource_at standing.now.res store.old.resources)
         (λ r. IsGrantedAtOnce standing.now row.now r store.old store.new) }
+    ensures locks { OtherLocksStay standing.now.lock store.old store.new }
 {
     store.known();
     let owner = store.lock_record(standing.lock).owner;
@@ -79,6 +80,7 @@ fn convert_later(store: &mut Store, standing: &Standing, row: Row)
     ensures replaced { IfSome (resource_at standing.now.res store.old.resources) (λ r.
         IsReplaced standing.now.res r (moved_in standing.now row Queue.Conversion r) store.old store.new) }
     ensures statuses { plain_processes store.new ≡ plain_processes store.old }
+    ensures locks { OtherLocksStay standing.now.lock store.old store.new }
 {
     store.known();
     let queued = Place::Queued(standing.res, Queue::Conversion);
@@ -96,6 +98,8 @@ pub fn convert(store: &mut Store, standing: &Standing, asked: &Request, at_once:
     ensures converted { IfSome (resource_at standing.now.res store.old.resources)
         (λ r. IsConverted standing.now asked.now r store.old store.new) }
     ensures others { OthersStay standing.now.res store.old store.new }
+    ensures locks { OtherLocksStay standing.now.lock store.old store.new }
+    ensures own_locks { OwnLocksStay store.old store.new }
     ensures there { HasResource standing.now.res store.new }
     ensures rest { IsAtRest store.new }
 {

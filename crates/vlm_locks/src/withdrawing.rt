@@ -4,12 +4,12 @@ ghost use Rattle.std.specs.Prelude.{◌≡◌, true, false, [], ◌∷◌, flat_
 ghost use Rattle.vlm_words.specs.Withdrawals.{is_writer, processes_after, resource_after_cancel, resource_after_withdrawals, resource_after_writer, resource_without, value_block_after_writer, withdrawal_endings};
 ghost use Rattle.vlm_words.specs.Endings.{row_endings};
 ghost use Rattle.vlm_words.specs.declared.resources.Queue.{Queue};
-ghost use Rattle.vlm_store.specs.Records.{HasNoSublocks, HasResource, SameButBlocks, plain_processes};
+ghost use Rattle.vlm_store.specs.Records.{HasNoSublocks, HasResource, SameButBlocks, but_blocks, plain_processes};
 ghost use Rattle.vlm_locks.specs.Plain.{plain_resources};
-ghost use Rattle.vlm_locks.specs.Rest.{IsAtRest, OthersStay};
+ghost use Rattle.vlm_locks.specs.Rest.{IsAtRest, OtherLocksStay, OthersStay};
 ghost use Rattle.vlm_locks.specs.Standing.{IsStanding};
 ghost use Rattle.vlm_locks.specs.Withdrawals.{how_ended, plain_withdrawal};
-ghost use Rattle.vlm_locks.specs.Withdrawing.{IsChange, goes, may_write};
+ghost use Rattle.vlm_locks.specs.Withdrawing.{IsChange, goes, may_write, owned_after};
 
 use crate::finding::Standing;
 use crate::withdrawals::{End, Withdrawal};
@@ -94,6 +94,7 @@ fn leave(store: &mut Store, standing: &Standing, withdrawal: &Withdrawal)
     ensures left { IsChange standing.now.res
         (resource_after_writer (plain_withdrawal withdrawal.now)) store.old store.new }
     ensures standing { IsStanding standing.now store.new }
+    ensures locks { OtherLocksStay standing.now.lock store.old store.new }
     ensures own_locks { store.new.processes ≡ store.old.processes }
 {
     store.known();
@@ -108,7 +109,9 @@ fn remove(store: &mut Store, standing: &Standing)
     requires rest { IsAtRest store.old }
     requires standing { IsStanding standing.now store.old }
     requires childless { HasNoSublocks standing.now.lock store.old }
-    ensures { IsChange standing.now.res (resource_without standing.now.row.lkid) store.old store.new }
+    ensures removed { IsChange standing.now.res (resource_without standing.now.row.lkid) store.old store.new }
+    ensures locks { OtherLocksStay standing.now.lock store.old store.new }
+    ensures own_locks { store.new.processes ≡ owned_after true standing.now.lock store.old.processes }
 {
     store.known();
     store.remove_lock(standing.lock);
@@ -119,7 +122,9 @@ fn grant_again(store: &mut Store, standing: &Standing)
     requires rest { IsAtRest store.old }
     requires standing { IsStanding standing.now store.old }
     requires converting { standing.now.queue ≡ Queue.Conversion }
-    ensures { IsChange standing.now.res (resource_after_cancel standing.now.row.lkid) store.old store.new }
+    ensures granted { IsChange standing.now.res (resource_after_cancel standing.now.row.lkid) store.old store.new }
+    ensures locks { OtherLocksStay standing.now.lock store.old store.new }
+    ensures own_locks { store.new.processes ≡ store.old.processes }
 {
     store.known();
     let row = Row {
@@ -139,7 +144,10 @@ fn cancel(store: &mut Store, standing: &Standing)
     requires standing { IsStanding standing.now store.old }
     requires childless { standing.now.queue ≡ Queue.Waiting
         → HasNoSublocks standing.now.lock store.old }
-    ensures { IsChange standing.now.res (resource_after_cancel standing.now.row.lkid) store.old store.new }
+    ensures cancelled { IsChange standing.now.res (resource_after_cancel standing.now.row.lkid) store.old store.new }
+    ensures locks { OtherLocksStay standing.now.lock store.old store.new }
+    ensures own_locks { store.new.processes
+        ≡ owned_after (goes true standing.now.queue) standing.now.lock store.old.processes }
 {
     store.known();
     match standing.queue {
@@ -167,6 +175,9 @@ pub fn withdraw(store: &mut Store, standing: &Standing, withdrawal: &Withdrawal)
         (flat_map (withdrawal_endings (plain_withdrawal withdrawal.now)) (plain_resources store.old))
         (plain_processes store.old) }
     ensures others { OthersStay standing.now.res store.old store.new }
+    ensures locks { OtherLocksStay standing.now.lock store.old store.new }
+    ensures own_locks { map but_blocks store.new.processes ≡ map but_blocks
+        (owned_after (goes withdrawal.now.stays standing.now.queue) standing.now.lock store.old.processes) }
     ensures there { HasResource standing.now.res store.new }
     ensures rest { IsAtRest store.new }
 {

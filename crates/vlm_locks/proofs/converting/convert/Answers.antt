@@ -18,7 +18,7 @@ returns-then-at_once-clause-converted c =
     let asked = c.args.asked.now in
     let new = c.convert_now.new.store in
     let done = subst (λ (row : Row). IsGrantedAtOnce f row standing.resource s new) c.wanting_row-row.ensures
-    (subst (λ o. IfSome o (λ r. IsGrantedAtOnce f c.wanting_row-row.result r s new)) standing.found c.convert_now.ensures) in
+    (subst (λ o. IfSome o (λ r. IsGrantedAtOnce f c.wanting_row-row.result r s new)) standing.found c.convert_now.ensures.granted) in
     let at_once = subst (λ o. IfSome o (λ r. c.args.at_once ≡ converts_at_once asked f.row.lkid (plain_resource r))) standing.found c.requires.at_once in
     subst (λ o. IfSome o (λ r. IsConverted f asked r s new)) (sym standing.found)
     (converted_now s c.known.ensures f standing asked new c.requires.granted (sym at_once ∙ c.if-at_once.true) done)
@@ -42,7 +42,7 @@ returns-then-at_once-clause-others c =
     let f = c.args.standing.now in
     let standing = c.requires.standing in
     let new = c.convert_now.new.store in
-    others_stay f.res standing.resource (record (moved_in f (granted_row c.wanting_row-row.result) Granted standing.resource) { value_block = (blocks_granted c.wanting_row-row.result standing.resource s).value_block }) s new ((subst (λ o. IfSome o (λ r. IsGrantedAtOnce f c.wanting_row-row.result r s new)) standing.found c.convert_now.ensures).replaced)
+    others_stay f.res standing.resource (record (moved_in f (granted_row c.wanting_row-row.result) Granted standing.resource) { value_block = (blocks_granted c.wanting_row-row.result standing.resource s).value_block }) s new ((subst (λ o. IfSome o (λ r. IsGrantedAtOnce f c.wanting_row-row.result r s new)) standing.found c.convert_now.ensures.granted).replaced)
 
 pub returns-then-at_once-clause-there : goal.returns-then-at_once-clause-there
 returns-then-at_once-clause-there c =
@@ -50,7 +50,7 @@ returns-then-at_once-clause-there c =
     let f = c.args.standing.now in
     let standing = c.requires.standing in
     let new = c.convert_now.new.store in
-    still_there f.res standing.resource (record (moved_in f (granted_row c.wanting_row-row.result) Granted standing.resource) { value_block = (blocks_granted c.wanting_row-row.result standing.resource s).value_block }) s new ((subst (λ o. IfSome o (λ r. IsGrantedAtOnce f c.wanting_row-row.result r s new)) standing.found c.convert_now.ensures).replaced)
+    still_there f.res standing.resource (record (moved_in f (granted_row c.wanting_row-row.result) Granted standing.resource) { value_block = (blocks_granted c.wanting_row-row.result standing.resource s).value_block }) s new ((subst (λ o. IfSome o (λ r. IsGrantedAtOnce f c.wanting_row-row.result r s new)) standing.found c.convert_now.ensures.granted).replaced)
 
 pub returns-then-at_once-clause-rest : goal.returns-then-at_once-clause-rest
 returns-then-at_once-clause-rest c =
@@ -58,7 +58,7 @@ returns-then-at_once-clause-rest c =
     let f = c.args.standing.now in
     let standing = c.requires.standing in
     let new = c.convert_now.new.store in
-    rests f.res standing.resource (record (moved_in f (granted_row c.wanting_row-row.result) Granted standing.resource) { value_block = (blocks_granted c.wanting_row-row.result standing.resource s).value_block }) s new ((subst (λ o. IfSome o (λ r. IsGrantedAtOnce f c.wanting_row-row.result r s new)) standing.found c.convert_now.ensures).replaced) c.requires.rest
+    rests f.res standing.resource (record (moved_in f (granted_row c.wanting_row-row.result) Granted standing.resource) { value_block = (blocks_granted c.wanting_row-row.result standing.resource s).value_block }) s new ((subst (λ o. IfSome o (λ r. IsGrantedAtOnce f c.wanting_row-row.result r s new)) standing.found c.convert_now.ensures.granted).replaced) c.requires.rest
 
 pub returns-else-at_once-clause-others : goal.returns-else-at_once-clause-others
 returns-else-at_once-clause-others c =

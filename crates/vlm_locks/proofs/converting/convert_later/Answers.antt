@@ -1,7 +1,9 @@
+use Rattle.vlm_store.specs.declared.keys.Place.TheVariants.{Queued}
+use Rattle.vlm_locks.proofs.OtherLocks.{moved_alone}
 use Rattle.std.proofs.Common.{IfSome, sym, subst}
 use Rattle.vlm_words.specs.declared.resources.Queue.TheVariants.{Conversion}
 use Rattle.vlm_locks.specs.Converting.{moved_in}
-use Rattle.vlm_locks.specs.Rest.{IsReplaced}
+use Rattle.vlm_locks.specs.Rest.{IsReplaced, OtherLocksStay}
 use Rattle.vlm_locks.proofs.Moved.{moved_replaced}
 use Rattle.vlm_locks.proofs.Stood.{stored}
 use Rattle.vlm_locks.proofs.converting.convert_later.Goals as goal
@@ -18,3 +20,10 @@ returns-clause-replaced c =
     let standing = c.requires.standing in
     subst (λ o. IfSome o (λ r. IsReplaced f.res r (moved_in f c.args.row Conversion r) s c.move_lock.new.self)) (sym standing.found)
     (moved_replaced s c.known.ensures f standing c.args.row Conversion c.move_lock.new.self c.move_lock.ensures)
+
+-- the lock alone is moved
+pub returns-clause-locks : goal.returns-clause-locks
+returns-clause-locks c =
+    let f = c.args.standing.now in
+    subst (OtherLocksStay f.lock c.args.store.now) (sym c.move_lock.ensures)
+    (moved_alone (Queued f.res Conversion) (record { at = f.lock; row = c.args.row }) c.args.store.now)

@@ -1,3 +1,5 @@
+use Rattle.vlm_locks.specs.Rest.{OtherLocksStay}
+use Rattle.vlm_locks.proofs.OtherLocks.{block_alone, locks_stay_over, moved_alone, statuses_alone}
 use Rattle.std.proofs.Common.{IfSome, IsSome, sym, ap, ◌∙◌, subst}
 use Rattle.vlm_words.specs.declared.resources.Queue.TheVariants.{Granted}
 use Rattle.vlm_words.specs.declared.locks.Row.{Row}
@@ -41,8 +43,8 @@ set_value_block-requires c =
     let there = still_there f.res standing.resource (moved_in f c.granted_row.result Granted standing.resource) s c.move_lock.new.self moved in
     subst (λ rs. IsSome (resource_at f.res rs)) (sym c.end_by_grant.ensures.rest.resources) there
 
-pub returns : goal.returns
-returns c =
+pub returns-clause-granted : goal.returns-clause-granted
+returns-clause-granted c =
     let s = c.args.store.now in
     let f = c.args.standing.now in
     let standing = c.requires.standing in
@@ -50,3 +52,14 @@ returns c =
     subst (λ o. IfSome o (λ r. IsGrantedAtOnce f row r s c.set_value_block.new.self)) (sym standing.found)
     (granted_at_once s c.known.ensures f standing row c.move_lock.new.self c.end_by_grant.new.store c.set_value_block.new.self c.resource_record.result.now.value_block c.end_by_grant.new.value_block
     c.resource_record.ensures.value_block (c.move_lock.ensures ∙ ap (λ (x : Row). with_lists (moving (Queued f.res Granted) (record { at = f.lock; row = x })) s) c.granted_row.ensures) c.end_by_grant.ensures c.set_value_block.ensures)
+
+-- the lock alone is moved
+pub returns-clause-locks : goal.returns-clause-locks
+returns-clause-locks c =
+    let f = c.args.standing.now in
+    let moved : OtherLocksStay f.lock c.args.store.now c.move_lock.new.self =
+    subst (OtherLocksStay f.lock c.args.store.now) (sym c.move_lock.ensures)
+    (moved_alone (Queued f.res Granted) (record { at = f.lock; row = c.granted_row.result }) c.args.store.now) in
+    locks_stay_over f.lock c.args.store.now c.end_by_grant.new.store c.set_value_block.new.self
+    (locks_stay_over f.lock c.args.store.now c.move_lock.new.self c.end_by_grant.new.store moved (statuses_alone f.lock c.move_lock.new.self c.end_by_grant.new.store c.end_by_grant.ensures.rest))
+    (subst (OtherLocksStay f.lock c.end_by_grant.new.store) (sym c.set_value_block.ensures) (block_alone f.lock f.res c.end_by_grant.new.value_block c.end_by_grant.new.store))

@@ -1,3 +1,5 @@
+use Rattle.vlm_locks.specs.Rest.{OtherLocksStay}
+use Rattle.vlm_locks.proofs.OtherLocks.{block_alone}
 use Rattle.std.proofs.Common.{sym, ◌∙◌, subst}
 use Rattle.vlm_words.specs.Withdrawals.{resource_after_writer}
 use Rattle.vlm_locks.specs.Standing.{IsStanding}
@@ -24,3 +26,8 @@ returns-then-may_write-clause-standing c =
 pub returns-else-may_write-clause-left : goal.returns-else-may_write-clause-left
 returns-else-may_write-clause-left c =
     left_nothing c.args.store.now c.known.ensures c.args.standing.now c.requires.standing (plain_withdrawal c.args.withdrawal.now) c.requires.named (sym c.may_write.ensures ∙ c.if-may_write.false) c.requires.rest
+
+pub returns-then-may_write-clause-locks : goal.returns-then-may_write-clause-locks
+returns-then-may_write-clause-locks c =
+    let f = c.args.standing.now in
+    subst (OtherLocksStay f.lock c.args.store.now) (sym c.set_value_block.ensures) (block_alone f.lock f.res c.block_after_writer.result c.args.store.now)

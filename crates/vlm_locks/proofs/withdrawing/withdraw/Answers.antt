@@ -1,9 +1,10 @@
-use Rattle.std.proofs.Common.{true, [], ◌∷◌, map, ap, ◌∙◌, subst}
+use Rattle.vlm_locks.proofs.OtherLocks.{owned_alike}
+use Rattle.std.proofs.Common.{true, [], ◌∷◌, map, ap, ◌∙◌, subst, sym}
 use Rattle.vlm_words.specs.Withdrawals.{resource_after_cancel, resource_after_withdrawals, resource_without}
-use Rattle.vlm_store.specs.Records.{HasNoSublocks, IsProcessAmong, without_resource}
+use Rattle.vlm_store.specs.Records.{HasNoSublocks, but_blocks, IsProcessAmong, without_resource}
 use Rattle.vlm_locks.specs.Plain.{plain_resource, plain_resources}
 use Rattle.vlm_locks.specs.Withdrawals.{plain_withdrawal}
-use Rattle.vlm_locks.specs.Withdrawing.{goes}
+use Rattle.vlm_locks.specs.Withdrawing.{goes, owned_after}
 use Rattle.vlm_locks.proofs.Replaced.{no_sublocks_still}
 use Rattle.vlm_locks.proofs.Changed.{rests_still, stay_over}
 use Rattle.vlm_locks.proofs.Withdrawn.{left_staying, left_without}
@@ -35,14 +36,14 @@ pub returns-then-withdrawal-clause-resources : goal.returns-then-withdrawal-clau
 returns-then-withdrawal-clause-resources c =
     let w = plain_withdrawal c.args.withdrawal.now in
     let lkid = c.args.standing.now.row.lkid in
-    c.cancel.ensures.resources
+    c.cancel.ensures.cancelled.resources
     ∙ ap (map (resource_after_cancel lkid)) c.leave.ensures.left.resources
     ∙ left_staying w lkid c.requires.named c.if-withdrawal.true (plain_resources c.end_withdrawn.new.store)
     ∙ ap (λ rs. map (resource_after_withdrawals (w ∷ [])) (map plain_resource rs)) c.end_withdrawn.ensures.rest.resources
 
 pub returns-then-withdrawal-clause-others : goal.returns-then-withdrawal-clause-others
 returns-then-withdrawal-clause-others c =
-    stay_over c.args.standing.now.res c.end_withdrawn.new.store c.leave.new.store c.cancel.new.store c.leave.ensures.left.others c.cancel.ensures.others
+    stay_over c.args.standing.now.res c.end_withdrawn.new.store c.leave.new.store c.cancel.new.store c.leave.ensures.left.others c.cancel.ensures.cancelled.others
     ∙ ap (without_resource c.args.standing.now.res) c.end_withdrawn.ensures.rest.resources
 
 -- the lock goes
@@ -50,12 +51,27 @@ pub returns-else-withdrawal-clause-resources : goal.returns-else-withdrawal-clau
 returns-else-withdrawal-clause-resources c =
     let w = plain_withdrawal c.args.withdrawal.now in
     let lkid = c.args.standing.now.row.lkid in
-    c.remove.ensures.resources
+    c.remove.ensures.removed.resources
     ∙ ap (map (resource_without lkid)) c.leave.ensures.left.resources
     ∙ left_without w lkid c.requires.named c.if-withdrawal.false (plain_resources c.end_withdrawn.new.store)
     ∙ ap (λ rs. map (resource_after_withdrawals (w ∷ [])) (map plain_resource rs)) c.end_withdrawn.ensures.rest.resources
 
 pub returns-else-withdrawal-clause-others : goal.returns-else-withdrawal-clause-others
 returns-else-withdrawal-clause-others c =
-    stay_over c.args.standing.now.res c.end_withdrawn.new.store c.leave.new.store c.remove.new.store c.leave.ensures.left.others c.remove.ensures.others
+    stay_over c.args.standing.now.res c.end_withdrawn.new.store c.leave.new.store c.remove.new.store c.leave.ensures.left.others c.remove.ensures.removed.others
     ∙ ap (without_resource c.args.standing.now.res) c.end_withdrawn.ensures.rest.resources
+
+-- what becomes of the process's own locks, and of those below the parent
+pub returns-then-withdrawal-clause-own_locks : goal.returns-then-withdrawal-clause-own_locks
+returns-then-withdrawal-clause-own_locks c =
+    let f = c.args.standing.now in
+    ap (map but_blocks) (c.cancel.ensures.own_locks ∙ ap (owned_after (goes true f.queue) f.lock) c.leave.ensures.own_locks)
+    ∙ owned_alike (goes true f.queue) f.lock c.end_withdrawn.new.store.processes c.args.store.now.processes c.end_withdrawn.ensures.rest.processes
+    ∙ ap (λ stays. map but_blocks (owned_after (goes stays f.queue) f.lock c.args.store.now.processes)) (sym c.if-withdrawal.true)
+
+pub returns-else-withdrawal-clause-own_locks : goal.returns-else-withdrawal-clause-own_locks
+returns-else-withdrawal-clause-own_locks c =
+    let f = c.args.standing.now in
+    ap (map but_blocks) (c.remove.ensures.own_locks ∙ ap (owned_after true f.lock) c.leave.ensures.own_locks)
+    ∙ owned_alike true f.lock c.end_withdrawn.new.store.processes c.args.store.now.processes c.end_withdrawn.ensures.rest.processes
+    ∙ ap (λ stays. map but_blocks (owned_after (goes stays f.queue) f.lock c.args.store.now.processes)) (sym c.if-withdrawal.false)
