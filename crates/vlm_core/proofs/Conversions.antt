@@ -1,6 +1,7 @@
 -- A conversion and a dequeue on the records are those of the plain machine.
 use Rattle.std.proofs.Common.{◌≡◌, ◌+◌, List, [], ◌∷◌, map, flat_map, Some, IfSome, sym, ap, ◌∙◌}
 use Rattle.std.proofs.lemmas.Option.{same_Some}
+use Rattle.vlm_words.specs.declared.locks.Request.{Request}
 use Rattle.vlm_words.specs.declared.resources.ValueBlock.{ValueBlock}
 use Rattle.vlm_words.specs.declared.steps.Conversion.{Conversion}
 use Rattle.vlm_words.specs.declared.steps.Dequeue.{Dequeue}
@@ -11,9 +12,9 @@ use Rattle.vlm_words.proofs.Withdrawing.{one_ends}
 use Rattle.vlm_words.specs.Effects.{Blocks}
 use Rattle.vlm_words.specs.State.{Process, Resource, State}
 use Rattle.vlm_words.specs.StatusBlocks.{processes_after_acceptance}
-use Rattle.vlm_store.specs.Records.{Records, SameButBlocks, StoredResource, plain_processes, resource_at}
-use Rattle.vlm_locks.specs.Plain.{plain_resource, plain_resources}
-use Rattle.vlm_locks.specs.Converting.{IsConverted, admission_on}
+use Rattle.vlm_store.specs.Records.{Records, StoredResource, plain_processes, resource_at}
+use Rattle.vlm_locks.specs.Plain.{plain_resources}
+use Rattle.vlm_locks.specs.Converting.{IsConverted, admission_on, processes_accepted}
 use Rattle.vlm_core.specs.declared.converting.AdmittedConversion.{AdmittedConversion}
 use Rattle.vlm_core.specs.Admissions.{IsAdmittedConversion}
 use Rattle.vlm_core.specs.Machine.{Kept, plain_state}
@@ -28,38 +29,35 @@ module _ (old : Kept) (c : Conversion) (a : AdmittedConversion) (admitted : IsAd
   admission = admission_on a.standing a.asked own
 
   -- what the conversion writes, once its status block is accepted
-  blocks_is : (accepted : Records) → plain_processes accepted ≡ processes_after_acceptance c.pid c.block a.standing.row.lkid (plain_processes old.records)
-      → conversion_blocks admission (plain_processes accepted) ≡ convert_blocks (plain_state old) c admission
+  blocks_is : conversion_blocks admission (processes_accepted a.standing a.asked old.records) ≡ convert_blocks (plain_state old) c admission
   unfolding convert_blocks
-  blocks_is accepted written =
-      ap (conversion_blocks admission) (written ∙ ap (λ lkid. processes_after_acceptance c.pid c.block lkid (plain_processes old.records)) admitted.standing.named)
+  blocks_is =
+      ap (λ pid. conversion_blocks admission (processes_after_acceptance pid a.asked.block a.standing.row.lkid (plain_processes old.records))) admitted.standing.owned
+      ∙ ap (λ lkid. conversion_blocks admission (processes_after_acceptance c.pid a.asked.block lkid (plain_processes old.records))) admitted.standing.named
+      ∙ ap (λ (asked : Request). conversion_blocks admission (processes_after_acceptance c.pid asked.block (convert_lkid (plain_state old) c) (plain_processes old.records))) admitted.asked
 
   -- the resources once the lock is converted
-  resources_are : (accepted new : Records) → SameButBlocks old.records accepted → conversion_blocks admission (plain_processes accepted) ≡ convert_blocks (plain_state old) c admission
-      → IsConverted a.standing a.asked own accepted new
+  resources_are : (new : Records) → IsConverted a.standing a.asked (processes_accepted a.standing a.asked old.records) own old.records new
       → plain_resources new ≡ map (resource_after_conversion a.asked admission.at_once c.pid (convert_lkid (plain_state old) c) (convert_blocks (plain_state old) c admission).value_block) (plain_resources old.records)
-  resources_are accepted new same blocks converted =
+  resources_are new converted =
       converted.resources
-      ∙ ap (λ (b : Blocks). map (resource_after_conversion a.asked admission.at_once a.standing.row.pid a.standing.row.lkid b.value_block) (plain_resources accepted)) blocks
-      ∙ ap (λ rs. map (resource_after_conversion a.asked admission.at_once a.standing.row.pid a.standing.row.lkid left) (map plain_resource rs)) same.resources
+      ∙ ap (λ (b : Blocks). map (resource_after_conversion a.asked admission.at_once a.standing.row.pid a.standing.row.lkid b.value_block) (plain_resources old.records)) blocks_is
       ∙ ap (λ pid. map (resource_after_conversion a.asked admission.at_once pid a.standing.row.lkid left) (plain_resources old.records)) admitted.standing.owned
       ∙ ap (λ lkid. map (resource_after_conversion a.asked admission.at_once c.pid lkid left) (plain_resources old.records)) admitted.standing.named
     where
       left : ValueBlock
       left = (convert_blocks (plain_state old) c admission).value_block
 
-  -- the state once the status block is accepted, the lock is converted and the request number is used up
-  pub state_converted : (accepted new : Records) → SameButBlocks old.records accepted
-      → plain_processes accepted ≡ processes_after_acceptance c.pid c.block a.standing.row.lkid (plain_processes old.records)
-      → IfSome (resource_at a.standing.res accepted.resources) (λ r. IsConverted a.standing a.asked r accepted new)
+  -- the state once the lock is converted and the request number is used up
+  pub state_converted : (new : Records)
+      → IfSome (resource_at a.standing.res old.records.resources) (λ r. IsConverted a.standing a.asked (processes_accepted a.standing a.asked old.records) r old.records new)
       → (there : ConversionAdmission) → convert_admission (plain_state old) c ≡ Some there
       → plain_state (record old { records = new; next_request = old.next_request + 1 }) ≡ convert_change (plain_state old) c there
   unfolding convert_change
-  state_converted accepted new same written converts there found =
-      let converted : IsConverted a.standing a.asked own accepted new = rw (ap (resource_at a.standing.res) same.resources ∙ admitted.standing.standing.found) at converts in
-      let blocks = blocks_is accepted written in
-      ap (λ ps. with_parts ps (plain_resources new)) (converted.statuses ∙ ap (λ (b : Blocks). b.processes) blocks)
-      ∙ ap (λ rs. with_parts (convert_blocks (plain_state old) c admission).processes rs) (resources_are accepted new same blocks converted)
+  state_converted new converts there found =
+      let converted : IsConverted a.standing a.asked (processes_accepted a.standing a.asked old.records) own old.records new = rw admitted.standing.standing.found at converts in
+      ap (λ ps. with_parts ps (plain_resources new)) (converted.statuses ∙ ap (λ (b : Blocks). b.processes) blocks_is)
+      ∙ ap (λ rs. with_parts (convert_blocks (plain_state old) c admission).processes rs) (resources_are new converted)
       ∙ ap (convert_change (plain_state old) c) (same_Some admission there (sym admitted.found ∙ found))
     where
       with_parts : List Process → List Resource → State

@@ -55,11 +55,9 @@ pub record IsAdmitted (m : Kept) (e : NewRequest) (a : AdmittedRequest) : Type 0
   pub lkid : m.next_lkid < 2 ^ 32
   pub number : m.next_request < 2 ^ 64
 
--- the conversion is admitted so: its caller, its lock as it stands granted, what is asked for, and whether that is
+-- the conversion is admitted so: its lock as it stands granted, what is asked for, and whether that is
 -- granted at once; and there is a number for it
 pub record IsAdmittedConversion (m : Kept) (c : Conversion) (a : AdmittedConversion) : Type 0 where
-  pub caller : IsCaller a.caller m.records
-  pub pid : a.caller.pid ≡ c.pid
   pub standing : IsStandingOf c.pid (convert_lkid (plain_state m) c) a.standing m.records
   pub granted : a.standing.queue ≡ Granted
   pub asked : a.asked ≡ convert_request (plain_state m) c

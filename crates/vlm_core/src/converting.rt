@@ -8,16 +8,14 @@ ghost use Rattle.vlm_words.specs.Stepped.{Outcome};
 ghost use Rattle.vlm_store.specs.Records.{HasResource};
 ghost use Rattle.vlm_locks.specs.Rest.{OthersStay};
 ghost use Rattle.vlm_locks.specs.Standing.{IsStandingOf};
-ghost use Rattle.vlm_core.specs.Admissions.{IsAdmittedConversion, IsCaller};
+ghost use Rattle.vlm_core.specs.Admissions.{IsAdmittedConversion};
 ghost use Rattle.vlm_core.specs.Between.{IsBetweenSteps};
 ghost use Rattle.vlm_core.specs.Machine.{plain_state};
 
 use crate::checks::{acceptance, check_queue};
 use crate::flags::enq_flags;
-use crate::processes::Caller;
 use crate::records::Machine;
 use vlm_locks::{Standing, convert, converts_at_once};
-use vlm_procs::accept;
 use vlm_words::conditions::Cond;
 use vlm_words::flags::EnqFlags;
 use vlm_words::locks::{Request, Row};
@@ -27,7 +25,6 @@ use vlm_words::steps::{Answer, Conversion, Step};
 /// A conversion that no check refuses.
 #[derive(Clone, Copy)]
 pub(crate) struct AdmittedConversion {
-    caller: Caller,
     // the lock as it is granted
     standing: Standing,
     asked: Request,
@@ -66,19 +63,16 @@ impl Machine {
         self.check_status_block(&caller, conversion.block)?;
         let lkid = self.named(&caller, conversion.lock)?;
         let standing = self.own_lock(&caller, lkid)?;
-        self.admission_refusal(&caller, flags, &standing, conversion)
+        self.admission_refusal(flags, &standing, conversion)
     }
 
     // The lock is granted, or CVTUNGRANT; and then the checks of the conversion there, in their order.
     fn admission_refusal(
         &self,
-        caller: &Caller,
         flags: EnqFlags,
         standing: &Standing,
         conversion: &Conversion,
     ) -> Result<AdmittedConversion, Cond>
-        requires caller { IsCaller caller.now self.now.records }
-        requires pid { caller.now.pid ≡ conversion.now.pid }
         requires flags { flag_bits flags ≡ conversion.now.flags }
         requires standing { IsStandingOf conversion.now.pid (convert_lkid (plain_state self.now) conversion.now) standing.now self.now.records }
         ensures refusal { let admission = convert_admission (plain_state self.now) conversion.now
@@ -95,7 +89,6 @@ impl Machine {
         let at_once = converts_at_once(&self.store, standing, &asked);
         check_queue(flags, at_once)?;
         Ok(AdmittedConversion {
-            caller: *caller,
             standing: *standing,
             asked,
             at_once,
@@ -112,9 +105,6 @@ impl Machine {
         ensures others { OthersStay admitted.now.standing.res self.old.records self.new.records }
         ensures there { HasResource admitted.now.standing.res self.new.records }
     {
-        let caller = admitted.caller;
-        let lkid = admitted.standing.row.lkid;
-        accept(&mut self.store, caller.at, conversion.block, lkid);
         convert(
             &mut self.store,
             &admitted.standing,

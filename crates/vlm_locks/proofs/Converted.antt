@@ -91,7 +91,7 @@ module _ (s : Records) (sound : IsSound s) (f : Standing) (standing : IsStanding
 
   -- the conversion is granted
   pub converted_now : (asked : Request) (new : Records) → f.queue ≡ Granted → converts_at_once asked f.row.lkid (plain_resource standing.resource) ≡ true
-      → IsGrantedAtOnce f (wanting_row f.row asked) standing.resource s new → IsConverted f asked standing.resource s new
+      → IsGrantedAtOnce f (wanting_row f.row asked) standing.resource s new → IsConverted f asked (plain_processes s) standing.resource s new
   unfolding resource_after_conversion
   converted_now asked new granted at_once done =
       let r = standing.resource in
@@ -119,7 +119,7 @@ module _ (s : Records) (sound : IsSound s) (f : Standing) (standing : IsStanding
   -- the conversion waits
   pub converted_later : (asked : Request) (new : Records) → f.queue ≡ Granted → converts_at_once asked f.row.lkid (plain_resource standing.resource) ≡ false
       → IsReplaced f.res standing.resource (moved_in f (wanting_row f.row asked) Conversion standing.resource) s new → plain_processes new ≡ plain_processes s
-      → IsConverted f asked standing.resource s new
+      → IsConverted f asked (plain_processes s) standing.resource s new
   unfolding resource_after_conversion
   converted_later asked new granted later replaced statuses =
       let r = standing.resource in

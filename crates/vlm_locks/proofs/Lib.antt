@@ -3,6 +3,7 @@ pub mod Moves
 pub mod Granting
 pub mod Ended
 pub mod Changed
+pub mod Accepted
 pub mod Converted
 pub mod Entered
 pub mod Held

@@ -1,5 +1,5 @@
 -- The conversion of a lock that stands in the granted queue.
-use Rattle.std.specs.Prelude.{◌≡◌, true, map}
+use Rattle.std.specs.Prelude.{◌≡◌, true, List, map}
 use Rattle.vlm_words.specs.declared.locks.Request.{Request}
 use Rattle.vlm_words.specs.declared.locks.Row.{Row}
 use Rattle.vlm_words.specs.declared.resources.Queue.{Queue}
@@ -7,6 +7,8 @@ use Rattle.vlm_words.specs.declared.resources.Queue.TheVariants.{Granted}
 use Rattle.vlm_words.specs.Convert.{ConversionAdmission, conversion_blocks, converts_at_once, resource_after_conversion}
 use Rattle.vlm_words.specs.Effects.{Blocks, blocks_after, blocks_with}
 use Rattle.vlm_words.specs.Grants.{grant_endings, granted_row}
+use Rattle.vlm_words.specs.State.{Process}
+use Rattle.vlm_words.specs.StatusBlocks.{processes_after_acceptance}
 use Rattle.vlm_store.specs.declared.keys.Place.TheVariants.{Queued}
 use Rattle.vlm_store.specs.Records.{Records, StoredResource, moving, plain_processes, resource_with}
 use Rattle.vlm_locks.specs.Plain.{plain_resource, plain_resources}
@@ -22,13 +24,17 @@ admission_on f asked r = record {
   at_once = converts_at_once asked f.row.lkid (plain_resource r);
 }
 
--- the lock is converted on its resource as the plain machine does it
-pub record IsConverted (f : Standing) (asked : Request) (r : StoredResource) (old new : Records) : Type 0 where
+-- the processes once the request of the lock is accepted: its status block is that of a pending request
+abbrev pub processes_accepted : Standing → Request → Records → List Process
+processes_accepted f asked s = processes_after_acceptance f.row.pid asked.block f.row.lkid (plain_processes s)
+
+-- the lock is converted on its resource as the plain machine does it, from these processes
+pub record IsConverted (f : Standing) (asked : Request) (accepted : List Process) (r : StoredResource) (old new : Records) : Type 0 where
   pub resources : plain_resources new
       ≡ map
       (resource_after_conversion asked (admission_on f asked r).at_once f.row.pid f.row.lkid
-      (conversion_blocks (admission_on f asked r) (plain_processes old)).value_block) (plain_resources old)
-  pub statuses : plain_processes new ≡ (conversion_blocks (admission_on f asked r) (plain_processes old)).processes
+      (conversion_blocks (admission_on f asked r) accepted).value_block) (plain_resources old)
+  pub statuses : plain_processes new ≡ (conversion_blocks (admission_on f asked r) accepted).processes
 
 -- the resource once this lock goes to the end of a queue, with this row
 abbrev pub moved_in : Standing → Row → Queue → StoredResource → StoredResource

@@ -7,13 +7,14 @@ ghost use Rattle.vlm_words.specs.Grants.{fits};
 ghost use Rattle.vlm_words.specs.Rows.{rows_without};
 ghost use Rattle.vlm_store.specs.Records.{HasResource, IsSameLock, StoredResource, plain_processes, resource_at, rows_of};
 ghost use Rattle.vlm_locks.specs.Plain.{plain_resource};
-ghost use Rattle.vlm_locks.specs.Converting.{IsConverted, IsGrantedAtOnce, moved_in};
+ghost use Rattle.vlm_locks.specs.Converting.{IsConverted, IsGrantedAtOnce, moved_in, processes_accepted};
 ghost use Rattle.vlm_locks.specs.Rest.{IsAtRest, IsReplaced, OtherLocksStay, OthersStay, OwnLocksStay};
 ghost use Rattle.vlm_locks.specs.Standing.{IsStanding};
 
 use crate::endings::end_by_grant;
 use crate::finding::Standing;
 use crate::grants::granted_row;
+use vlm_procs::accept;
 use vlm_queue::{can_hold, is_empty};
 use vlm_store::{Place, Store};
 use vlm_words::flags::EnqFlags;
@@ -87,16 +88,16 @@ fn convert_later(store: &mut Store, standing: &Standing, row: Row)
     store.move_lock(standing.lock, row, queued);
 }
 
-/// Converts a granted lock: at once, or it goes to the end of the conversion queue and holds what it held.
-/// A grant at once takes effect on the value block of the resource and on the status block of the request.
-pub fn convert(store: &mut Store, standing: &Standing, asked: &Request, at_once: bool)
+// Converts a granted lock whose request is accepted: at once, or it goes to the end of the conversion queue and holds
+// what it held. A grant at once takes effect on the value block of the resource and on the status block.
+fn convert_accepted(store: &mut Store, standing: &Standing, asked: &Request, at_once: bool)
     requires rest { IsAtRest store.old }
     requires standing { IsStanding standing.now store.old }
     requires granted { standing.now.queue ≡ Queue.Granted }
     requires at_once { IfSome (resource_at standing.now.res store.old.resources)
         (λ r. at_once ≡ converts_at_once asked.now standing.now.row.lkid (plain_resource r)) }
     ensures converted { IfSome (resource_at standing.now.res store.old.resources)
-        (λ r. IsConverted standing.now asked.now r store.old store.new) }
+        (λ r. IsConverted standing.now asked.now (plain_processes store.old) r store.old store.new) }
     ensures others { OthersStay standing.now.res store.old store.new }
     ensures locks { OtherLocksStay standing.now.lock store.old store.new }
     ensures own_locks { OwnLocksStay store.old store.new }
@@ -110,4 +111,28 @@ pub fn convert(store: &mut Store, standing: &Standing, asked: &Request, at_once:
     } else {
         convert_later(store, standing, row);
     }
+}
+
+/// Converts a granted lock: its status block is that of a pending request, and then the lock is granted at once,
+/// or it goes to the end of the conversion queue and holds what it held. A grant at once takes effect on the value
+/// block of the resource and on the status block of the request.
+pub fn convert(store: &mut Store, standing: &Standing, asked: &Request, at_once: bool)
+    requires rest { IsAtRest store.old }
+    requires standing { IsStanding standing.now store.old }
+    requires granted { standing.now.queue ≡ Queue.Granted }
+    requires at_once { IfSome (resource_at standing.now.res store.old.resources)
+        (λ r. at_once ≡ converts_at_once asked.now standing.now.row.lkid (plain_resource r)) }
+    ensures converted { IfSome (resource_at standing.now.res store.old.resources)
+        (λ r. IsConverted standing.now asked.now
+        (processes_accepted standing.now asked.now store.old) r store.old store.new) }
+    ensures others { OthersStay standing.now.res store.old store.new }
+    ensures locks { OtherLocksStay standing.now.lock store.old store.new }
+    ensures own_locks { OwnLocksStay store.old store.new }
+    ensures there { HasResource standing.now.res store.new }
+    ensures rest { IsAtRest store.new }
+{
+    store.known();
+    let owner = store.lock_record(standing.lock).owner;
+    accept(store, owner, asked.block, standing.row.lkid);
+    convert_accepted(store, standing, asked, at_once);
 }

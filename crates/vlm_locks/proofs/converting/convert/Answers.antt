@@ -1,85 +1,53 @@
-use Rattle.std.proofs.Common.{◌≡◌, IfSome, sym, ◌∙◌, subst}
-use Rattle.vlm_words.specs.declared.resources.Queue.TheVariants.{Conversion, Granted}
-use Rattle.vlm_words.specs.declared.locks.Row.{Row}
+use Rattle.std.proofs.Common.{IfSome, sym, ap, ◌∙◌, subst, ◌≡◌}
 use Rattle.vlm_words.specs.Convert.{converts_at_once}
-use Rattle.vlm_words.specs.Grants.{granted_row}
+use Rattle.vlm_store.specs.Records.{IsProcess, resource_at, without_resource}
 use Rattle.vlm_locks.specs.Plain.{plain_resource}
-use Rattle.vlm_locks.specs.Converting.{IsConverted, IsGrantedAtOnce, blocks_granted, moved_in}
-use Rattle.vlm_locks.specs.Rest.{IsReplaced}
-use Rattle.vlm_locks.proofs.Converted.{converted_later, converted_now}
-use Rattle.vlm_locks.proofs.Replaced.{others_stay, rests, still_there}
+use Rattle.vlm_locks.proofs.Changed.{rests_still}
+use Rattle.vlm_locks.proofs.Accepted.{converted_accepted, stands_accepted}
+use Rattle.vlm_locks.proofs.Found.{process_there}
+use Rattle.vlm_locks.proofs.OtherLocks.{locks_stay_over, statuses_alone}
+use Rattle.vlm_locks.proofs.Stood.{owner_is, stored}
 use Rattle.vlm_locks.proofs.converting.convert.Goals as goal
 
-pub returns-then-at_once-clause-converted : goal.returns-then-at_once-clause-converted
-returns-then-at_once-clause-converted c =
-    let s = c.args.store.now in
+pub lock_record-requires : goal.lock_record-requires
+lock_record-requires c =
     let f = c.args.standing.now in
-    let standing = c.requires.standing in
-    let asked = c.args.asked.now in
-    let new = c.convert_now.new.store in
-    let done = subst (λ (row : Row). IsGrantedAtOnce f row standing.resource s new) c.wanting_row-row.ensures
-    (subst (λ o. IfSome o (λ r. IsGrantedAtOnce f c.wanting_row-row.result r s new)) standing.found c.convert_now.ensures.granted) in
-    let at_once = subst (λ o. IfSome o (λ r. c.args.at_once ≡ converts_at_once asked f.row.lkid (plain_resource r))) standing.found c.requires.at_once in
-    subst (λ o. IfSome o (λ r. IsConverted f asked r s new)) (sym standing.found)
-    (converted_now s c.known.ensures f standing asked new c.requires.granted (sym at_once ∙ c.if-at_once.true) done)
+    (f.row, stored c.args.store.now c.known.ensures f c.requires.standing)
 
-pub returns-else-at_once-clause-converted : goal.returns-else-at_once-clause-converted
-returns-else-at_once-clause-converted c =
+pub accept-requires : goal.accept-requires
+accept-requires c =
     let s = c.args.store.now in
     let f = c.args.standing.now in
-    let standing = c.requires.standing in
-    let asked = c.args.asked.now in
-    let new = c.convert_later.new.store in
-    let done = subst (λ (row : Row). IsReplaced f.res standing.resource (moved_in f row Conversion standing.resource) s new) c.wanting_row-row.ensures
-    (subst (λ o. IfSome o (λ r. IsReplaced f.res r (moved_in f c.wanting_row-row.result Conversion r) s new)) standing.found c.convert_later.ensures.replaced) in
-    let at_once = subst (λ o. IfSome o (λ r. c.args.at_once ≡ converts_at_once asked f.row.lkid (plain_resource r))) standing.found c.requires.at_once in
-    subst (λ o. IfSome o (λ r. IsConverted f asked r s new)) (sym standing.found)
-    (converted_later s c.known.ensures f standing asked new c.requires.granted (sym at_once ∙ c.if-at_once.false) done c.convert_later.ensures.statuses)
+    process_there s c.lock_record.result.now.owner f.row.pid
+    (owner_is s c.lock_record.result.now.owner c.lock_record.result.now.row f.row (c.lock_record.ensures.only f.row (stored s c.known.ensures f c.requires.standing)) c.lock_record.ensures.owner)
 
-pub returns-then-at_once-clause-others : goal.returns-then-at_once-clause-others
-returns-then-at_once-clause-others c =
-    let s = c.args.store.now in
-    let f = c.args.standing.now in
-    let standing = c.requires.standing in
-    let new = c.convert_now.new.store in
-    others_stay f.res standing.resource (record (moved_in f (granted_row c.wanting_row-row.result) Granted standing.resource) { value_block = (blocks_granted c.wanting_row-row.result standing.resource s).value_block }) s new ((subst (λ o. IfSome o (λ r. IsGrantedAtOnce f c.wanting_row-row.result r s new)) standing.found c.convert_now.ensures.granted).replaced)
+pub convert_accepted-requires-clause-rest : goal.convert_accepted-requires-clause-rest
+convert_accepted-requires-clause-rest c = rests_still c.args.store.now c.accept.new.store c.accept.ensures.rest c.requires.rest
 
-pub returns-then-at_once-clause-there : goal.returns-then-at_once-clause-there
-returns-then-at_once-clause-there c =
-    let s = c.args.store.now in
-    let f = c.args.standing.now in
-    let standing = c.requires.standing in
-    let new = c.convert_now.new.store in
-    still_there f.res standing.resource (record (moved_in f (granted_row c.wanting_row-row.result) Granted standing.resource) { value_block = (blocks_granted c.wanting_row-row.result standing.resource s).value_block }) s new ((subst (λ o. IfSome o (λ r. IsGrantedAtOnce f c.wanting_row-row.result r s new)) standing.found c.convert_now.ensures.granted).replaced)
+pub convert_accepted-requires-clause-standing : goal.convert_accepted-requires-clause-standing
+convert_accepted-requires-clause-standing c = stands_accepted c.args.standing.now c.args.store.now c.accept.new.store c.accept.ensures.rest c.requires.standing
 
-pub returns-then-at_once-clause-rest : goal.returns-then-at_once-clause-rest
-returns-then-at_once-clause-rest c =
-    let s = c.args.store.now in
-    let f = c.args.standing.now in
-    let standing = c.requires.standing in
-    let new = c.convert_now.new.store in
-    rests f.res standing.resource (record (moved_in f (granted_row c.wanting_row-row.result) Granted standing.resource) { value_block = (blocks_granted c.wanting_row-row.result standing.resource s).value_block }) s new ((subst (λ o. IfSome o (λ r. IsGrantedAtOnce f c.wanting_row-row.result r s new)) standing.found c.convert_now.ensures.granted).replaced) c.requires.rest
+pub convert_accepted-requires-clause-at_once : goal.convert_accepted-requires-clause-at_once
+convert_accepted-requires-clause-at_once c =
+    subst (λ rs. IfSome (resource_at c.args.standing.now.res rs) (λ r. c.args.at_once ≡ converts_at_once c.args.asked.now c.args.standing.now.row.lkid (plain_resource r)))
+    (sym c.accept.ensures.rest.resources) c.requires.at_once
 
-pub returns-else-at_once-clause-others : goal.returns-else-at_once-clause-others
-returns-else-at_once-clause-others c =
+pub returns-clause-converted : goal.returns-clause-converted
+returns-clause-converted c =
     let s = c.args.store.now in
     let f = c.args.standing.now in
-    let standing = c.requires.standing in
-    let new = c.convert_later.new.store in
-    others_stay f.res standing.resource (moved_in f c.wanting_row-row.result Conversion standing.resource) s new (subst (λ o. IfSome o (λ r. IsReplaced f.res r (moved_in f c.wanting_row-row.result Conversion r) s new)) standing.found c.convert_later.ensures.replaced)
+    let lives : IsProcess c.lock_record.result.now.owner f.row.pid s =
+    owner_is s c.lock_record.result.now.owner c.lock_record.result.now.row f.row (c.lock_record.ensures.only f.row (stored s c.known.ensures f c.requires.standing)) c.lock_record.ensures.owner in
+    converted_accepted f c.args.asked.now s c.accept.new.store c.convert_accepted.new.store c.accept.ensures.rest (c.accept.ensures.written f.row.pid lives) c.convert_accepted.ensures.converted
 
-pub returns-else-at_once-clause-there : goal.returns-else-at_once-clause-there
-returns-else-at_once-clause-there c =
-    let s = c.args.store.now in
-    let f = c.args.standing.now in
-    let standing = c.requires.standing in
-    let new = c.convert_later.new.store in
-    still_there f.res standing.resource (moved_in f c.wanting_row-row.result Conversion standing.resource) s new (subst (λ o. IfSome o (λ r. IsReplaced f.res r (moved_in f c.wanting_row-row.result Conversion r) s new)) standing.found c.convert_later.ensures.replaced)
+pub returns-clause-others : goal.returns-clause-others
+returns-clause-others c = c.convert_accepted.ensures.others ∙ ap (without_resource c.args.standing.now.res) c.accept.ensures.rest.resources
 
-pub returns-else-at_once-clause-rest : goal.returns-else-at_once-clause-rest
-returns-else-at_once-clause-rest c =
-    let s = c.args.store.now in
-    let f = c.args.standing.now in
-    let standing = c.requires.standing in
-    let new = c.convert_later.new.store in
-    rests f.res standing.resource (moved_in f c.wanting_row-row.result Conversion standing.resource) s new (subst (λ o. IfSome o (λ r. IsReplaced f.res r (moved_in f c.wanting_row-row.result Conversion r) s new)) standing.found c.convert_later.ensures.replaced) c.requires.rest
+pub returns-clause-locks : goal.returns-clause-locks
+returns-clause-locks c =
+    let lock = c.args.standing.now.lock in
+    locks_stay_over lock c.args.store.now c.accept.new.store c.convert_accepted.new.store (statuses_alone lock c.args.store.now c.accept.new.store c.accept.ensures.rest)
+    c.convert_accepted.ensures.locks
+
+pub returns-clause-own_locks : goal.returns-clause-own_locks
+returns-clause-own_locks c = c.convert_accepted.ensures.own_locks ∙ c.accept.ensures.rest.processes

@@ -38,8 +38,6 @@ returns-clause-admitted c =
     let asked : c.request_of-asked.result ≡ convert_request (plain_state c.args.self.now) c.args.conversion.now = search rules in
     let found = rw (← c.self.view_is) at c.requires.standing.standing.found in
     record {
-      caller = c.requires.caller;
-      pid = c.requires.pid;
       standing = c.requires.standing;
       granted = search rules;
       asked = asked;

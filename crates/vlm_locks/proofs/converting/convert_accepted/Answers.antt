@@ -1,0 +1,86 @@
+use Rattle.vlm_store.specs.Records.{plain_processes}
+use Rattle.std.proofs.Common.{◌≡◌, IfSome, sym, ◌∙◌, subst}
+use Rattle.vlm_words.specs.declared.resources.Queue.TheVariants.{Conversion, Granted}
+use Rattle.vlm_words.specs.declared.locks.Row.{Row}
+use Rattle.vlm_words.specs.Convert.{converts_at_once}
+use Rattle.vlm_words.specs.Grants.{granted_row}
+use Rattle.vlm_locks.specs.Plain.{plain_resource}
+use Rattle.vlm_locks.specs.Converting.{IsConverted, IsGrantedAtOnce, blocks_granted, moved_in}
+use Rattle.vlm_locks.specs.Rest.{IsReplaced}
+use Rattle.vlm_locks.proofs.Converted.{converted_later, converted_now}
+use Rattle.vlm_locks.proofs.Replaced.{others_stay, rests, still_there}
+use Rattle.vlm_locks.proofs.converting.convert_accepted.Goals as goal
+
+pub returns-then-at_once-clause-converted : goal.returns-then-at_once-clause-converted
+returns-then-at_once-clause-converted c =
+    let s = c.args.store.now in
+    let f = c.args.standing.now in
+    let standing = c.requires.standing in
+    let asked = c.args.asked.now in
+    let new = c.convert_now.new.store in
+    let done = subst (λ (row : Row). IsGrantedAtOnce f row standing.resource s new) c.wanting_row-row.ensures
+    (subst (λ o. IfSome o (λ r. IsGrantedAtOnce f c.wanting_row-row.result r s new)) standing.found c.convert_now.ensures.granted) in
+    let at_once = subst (λ o. IfSome o (λ r. c.args.at_once ≡ converts_at_once asked f.row.lkid (plain_resource r))) standing.found c.requires.at_once in
+    subst (λ o. IfSome o (λ r. IsConverted f asked (plain_processes s) r s new)) (sym standing.found)
+    (converted_now s c.known.ensures f standing asked new c.requires.granted (sym at_once ∙ c.if-at_once.true) done)
+
+pub returns-else-at_once-clause-converted : goal.returns-else-at_once-clause-converted
+returns-else-at_once-clause-converted c =
+    let s = c.args.store.now in
+    let f = c.args.standing.now in
+    let standing = c.requires.standing in
+    let asked = c.args.asked.now in
+    let new = c.convert_later.new.store in
+    let done = subst (λ (row : Row). IsReplaced f.res standing.resource (moved_in f row Conversion standing.resource) s new) c.wanting_row-row.ensures
+    (subst (λ o. IfSome o (λ r. IsReplaced f.res r (moved_in f c.wanting_row-row.result Conversion r) s new)) standing.found c.convert_later.ensures.replaced) in
+    let at_once = subst (λ o. IfSome o (λ r. c.args.at_once ≡ converts_at_once asked f.row.lkid (plain_resource r))) standing.found c.requires.at_once in
+    subst (λ o. IfSome o (λ r. IsConverted f asked (plain_processes s) r s new)) (sym standing.found)
+    (converted_later s c.known.ensures f standing asked new c.requires.granted (sym at_once ∙ c.if-at_once.false) done c.convert_later.ensures.statuses)
+
+pub returns-then-at_once-clause-others : goal.returns-then-at_once-clause-others
+returns-then-at_once-clause-others c =
+    let s = c.args.store.now in
+    let f = c.args.standing.now in
+    let standing = c.requires.standing in
+    let new = c.convert_now.new.store in
+    others_stay f.res standing.resource (record (moved_in f (granted_row c.wanting_row-row.result) Granted standing.resource) { value_block = (blocks_granted c.wanting_row-row.result standing.resource s).value_block }) s new ((subst (λ o. IfSome o (λ r. IsGrantedAtOnce f c.wanting_row-row.result r s new)) standing.found c.convert_now.ensures.granted).replaced)
+
+pub returns-then-at_once-clause-there : goal.returns-then-at_once-clause-there
+returns-then-at_once-clause-there c =
+    let s = c.args.store.now in
+    let f = c.args.standing.now in
+    let standing = c.requires.standing in
+    let new = c.convert_now.new.store in
+    still_there f.res standing.resource (record (moved_in f (granted_row c.wanting_row-row.result) Granted standing.resource) { value_block = (blocks_granted c.wanting_row-row.result standing.resource s).value_block }) s new ((subst (λ o. IfSome o (λ r. IsGrantedAtOnce f c.wanting_row-row.result r s new)) standing.found c.convert_now.ensures.granted).replaced)
+
+pub returns-then-at_once-clause-rest : goal.returns-then-at_once-clause-rest
+returns-then-at_once-clause-rest c =
+    let s = c.args.store.now in
+    let f = c.args.standing.now in
+    let standing = c.requires.standing in
+    let new = c.convert_now.new.store in
+    rests f.res standing.resource (record (moved_in f (granted_row c.wanting_row-row.result) Granted standing.resource) { value_block = (blocks_granted c.wanting_row-row.result standing.resource s).value_block }) s new ((subst (λ o. IfSome o (λ r. IsGrantedAtOnce f c.wanting_row-row.result r s new)) standing.found c.convert_now.ensures.granted).replaced) c.requires.rest
+
+pub returns-else-at_once-clause-others : goal.returns-else-at_once-clause-others
+returns-else-at_once-clause-others c =
+    let s = c.args.store.now in
+    let f = c.args.standing.now in
+    let standing = c.requires.standing in
+    let new = c.convert_later.new.store in
+    others_stay f.res standing.resource (moved_in f c.wanting_row-row.result Conversion standing.resource) s new (subst (λ o. IfSome o (λ r. IsReplaced f.res r (moved_in f c.wanting_row-row.result Conversion r) s new)) standing.found c.convert_later.ensures.replaced)
+
+pub returns-else-at_once-clause-there : goal.returns-else-at_once-clause-there
+returns-else-at_once-clause-there c =
+    let s = c.args.store.now in
+    let f = c.args.standing.now in
+    let standing = c.requires.standing in
+    let new = c.convert_later.new.store in
+    still_there f.res standing.resource (moved_in f c.wanting_row-row.result Conversion standing.resource) s new (subst (λ o. IfSome o (λ r. IsReplaced f.res r (moved_in f c.wanting_row-row.result Conversion r) s new)) standing.found c.convert_later.ensures.replaced)
+
+pub returns-else-at_once-clause-rest : goal.returns-else-at_once-clause-rest
+returns-else-at_once-clause-rest c =
+    let s = c.args.store.now in
+    let f = c.args.standing.now in
+    let standing = c.requires.standing in
+    let new = c.convert_later.new.store in
+    rests f.res standing.resource (moved_in f c.wanting_row-row.result Conversion standing.resource) s new (subst (λ o. IfSome o (λ r. IsReplaced f.res r (moved_in f c.wanting_row-row.result Conversion r) s new)) standing.found c.convert_later.ensures.replaced) c.requires.rest
