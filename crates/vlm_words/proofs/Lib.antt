@@ -36,4 +36,5 @@ pub mod ReasonsOfRequests
 pub mod Acceptances
 pub mod Reasons
 pub mod Privileges
+pub mod Waiting
 pub mod Queued
