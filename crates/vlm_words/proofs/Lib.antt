@@ -38,3 +38,5 @@ pub mod Reasons
 pub mod Privileges
 pub mod Waiting
 pub mod Queued
+pub mod Writing
+pub mod Written

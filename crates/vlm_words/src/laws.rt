@@ -15,6 +15,7 @@ ghost use Rattle.vlm_words.specs.Owners.{OthersAreLeftAlone};
 ghost use Rattle.vlm_words.specs.Numbers.{NumbersAreGivenOnce};
 ghost use Rattle.vlm_words.specs.Privileges.{SystemRootsArePrivileged};
 ghost use Rattle.vlm_words.specs.Queued.{NoqueueIsKept};
+ghost use Rattle.vlm_words.specs.Written.{WritesNamedBlocks};
 ghost use Rattle.vlm_words.specs.Reasons.{RefusalHasItsReason};
 ghost use Rattle.vlm_words.specs.Laws.{DeclarationsGiveNewIdentifications, EachRequestEndsOnce, GrantsFollowQueueOrder, HeldModesAreCompatible, IdentificationsAreApart, KeysAreApart, NoResourceIsVacant, NothingIsLeftToGrant, ParentsOutliveTheirSublocks, QuotasAreKept, RowsFitTheirQueues, SerialsRise, TreesAreBounded, WritesAreGrantedAtOnce};
 
@@ -164,4 +165,12 @@ pub fn law_system_roots_are_privileged()
 /// No request with NOQUEUE is queued.
 pub fn law_noqueue_is_kept()
     ensures { (history : History) (last : State) → Run history last → NoqueueIsKept last }
+{}
+
+/// A step writes the status blocks that it names, and those that the requests name that end in it, and no other. An
+/// accepted request makes its block that of a pending request for its lock. The status of a block tells how the
+/// last request ended that names it. A declaration adds its process; no other step adds one or takes one away.
+pub fn law_a_step_writes_the_status_blocks_that_are_named()
+    ensures { (history : History) (old : State) → Run history old → (step : Step) (choice : Option Row)
+        → IsChoice old step choice → WritesNamedBlocks old step choice }
 {}
