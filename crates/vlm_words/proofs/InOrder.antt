@@ -62,7 +62,7 @@ serves_one_more row rows before after left endings some serves = record {
   given = granted_row row ∷ serves.given;
   rest = serves.rest;
   granted = serves.granted ∙ append_assoc before (granted_row row ∷ []) serves.given;
-  each_granted = (record { lkid = refl; pid = refl; wanted = some; holds = refl; wants_nothing = refl }, serves.each_granted);
+  each_granted = (record { lkid = refl; pid = refl; parent = refl; wanted = some; holds = refl; wants_nothing = refl }, serves.each_granted);
   each_ends = ends_zip row (take serves.served_rows rows) endings row.want refl some serves.each_ends;
 }
 

@@ -40,3 +40,4 @@ pub mod Waiting
 pub mod Queued
 pub mod Writing
 pub mod Written
+pub mod Standing

@@ -34,6 +34,7 @@ pub mod Reasons
 pub mod Privileges
 pub mod Queued
 pub mod Written
+pub mod Standing
 pub mod Faults
 pub mod Lines
 pub mod Texts

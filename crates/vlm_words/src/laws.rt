@@ -16,6 +16,7 @@ ghost use Rattle.vlm_words.specs.Numbers.{NumbersAreGivenOnce};
 ghost use Rattle.vlm_words.specs.Privileges.{SystemRootsArePrivileged};
 ghost use Rattle.vlm_words.specs.Queued.{NoqueueIsKept};
 ghost use Rattle.vlm_words.specs.Written.{WritesNamedBlocks};
+ghost use Rattle.vlm_words.specs.Standing.{ConvertedLocksStandAsAskedFor, NewLocksStandAsAskedFor};
 ghost use Rattle.vlm_words.specs.Reasons.{RefusalHasItsReason};
 ghost use Rattle.vlm_words.specs.Laws.{DeclarationsGiveNewIdentifications, EachRequestEndsOnce, GrantsFollowQueueOrder, HeldModesAreCompatible, IdentificationsAreApart, KeysAreApart, NoResourceIsVacant, NothingIsLeftToGrant, ParentsOutliveTheirSublocks, QuotasAreKept, RowsFitTheirQueues, SerialsRise, TreesAreBounded, WritesAreGrantedAtOnce};
 
@@ -173,4 +174,13 @@ pub fn law_noqueue_is_kept()
 pub fn law_a_step_writes_the_status_blocks_that_are_named()
     ensures { (history : History) (old : State) → Run history old → (step : Step) (choice : Option Row)
         → IsChoice old step choice → WritesNamedBlocks old step choice }
+{}
+
+/// The lock of an accepted request stands as it is asked for. A new one stands on the resource that is asked for,
+/// as its caller's, under the parent lock that is named: it holds the whole request, or waits for it. One that
+/// converts stands where it stood: it holds the whole request, or holds what it held and waits for it.
+pub fn law_a_lock_stands_as_asked_for()
+    ensures new { (history : History) (old : State) → Run history old → NewLocksStandAsAskedFor old }
+    ensures converted { (history : History) (old : State) → Run history old
+        → ConvertedLocksStandAsAskedFor old }
 {}
