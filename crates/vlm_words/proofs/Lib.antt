@@ -41,3 +41,5 @@ pub mod Queued
 pub mod Writing
 pub mod Written
 pub mod Standing
+pub mod SweptValues
+pub mod Writers

@@ -271,7 +271,7 @@ module _ (first : Resource) (was : Row) (request : Request) where
       of_queue (inr converting) = none_among (IsRow was.lkid was.pid was.parent was.held (Some request)) r.converting vacant.converting converting
 
 -- the lock of an admitted conversion is granted on a resource that is there
-admitted_there : (request : Request) (pid lkid : ℕ) (a : ConversionAdmission) (resources : List Resource) → admission_among request pid lkid resources ≡ Some a
+pub admitted_there : (request : Request) (pid lkid : ℕ) (a : ConversionAdmission) (resources : List Resource) → admission_among request pid lkid resources ≡ Some a
     → (find (is_lock_of pid lkid) a.resource.granted ≡ Some a.row) × Any (λ r. a.resource ≡ r) resources
 admitted_there request pid lkid a [] admitted = cc
 admitted_there request pid lkid a (r ∷ rest) admitted =

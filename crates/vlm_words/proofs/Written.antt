@@ -97,7 +97,7 @@ unfolding set_refusal
 setting_names s v passed = from_1 s v.pid v.block (both_pass (caller_refusal s v.pid) (status_block_refusal s v.pid v.block) passed).1
 
 -- and an accepted conversion
-conversion_names : (s : State) (c : Conversion) → convert_refusal s c ≡ None → 0 < c.block
+pub conversion_names : (s : State) (c : Conversion) → convert_refusal s c ≡ None → 0 < c.block
 unfolding convert_refusal
 conversion_names s c passed =
     from_1 s c.pid c.block
@@ -185,7 +185,7 @@ Writes s step made =
     → BlocksAfter step made.answer made.endings pid before.blocks (status_blocks_of made.state.processes pid))
 
 -- the blocks of a process that is there
-blocks_are : (processes : List Process) (pid : ℕ) (p : Process) → process_of processes pid ≡ Some p → status_blocks_of processes pid ≡ p.blocks
+pub blocks_are : (processes : List Process) (pid : ℕ) (p : Process) → process_of processes pid ≡ Some p → status_blocks_of processes pid ≡ p.blocks
 blocks_are processes pid p is = ap (λ (found : Option Process). option_map_or (λ q. q.blocks) found []) is
 
 -- first the step writes what it names, and then its ends

@@ -35,6 +35,7 @@ pub mod Privileges
 pub mod Queued
 pub mod Written
 pub mod Standing
+pub mod Writers
 pub mod Faults
 pub mod Lines
 pub mod Texts

@@ -15,6 +15,7 @@ ghost use Rattle.vlm_words.specs.Owners.{OthersAreLeftAlone};
 ghost use Rattle.vlm_words.specs.Numbers.{NumbersAreGivenOnce};
 ghost use Rattle.vlm_words.specs.Privileges.{SystemRootsArePrivileged};
 ghost use Rattle.vlm_words.specs.Queued.{NoqueueIsKept};
+ghost use Rattle.vlm_words.specs.Writers.{OnlyWritersChangeValues};
 ghost use Rattle.vlm_words.specs.Written.{WritesNamedBlocks};
 ghost use Rattle.vlm_words.specs.Standing.{ConvertedLocksStandAsAskedFor, NewLocksStandAsAskedFor};
 ghost use Rattle.vlm_words.specs.Reasons.{RefusalHasItsReason};
@@ -183,4 +184,13 @@ pub fn law_a_lock_stands_as_asked_for()
     ensures new { (history : History) (old : State) → Run history old → NewLocksStandAsAskedFor old }
     ensures converted { (history : History) (old : State) → Run history old
         → ConvertedLocksStandAsAskedFor old }
+{}
+
+/// A step that no check refuses changes the value block of a resource only by its own lock, which is held there at PW
+/// or EX before: by a conversion with VALBLK that gives PW or EX up or keeps it, which is granted at once, or as
+/// the lock is given up. A new resource's value block is zeros and valid. So no sweep changes one.
+pub fn law_only_writers_change_value_blocks()
+    ensures { (history : History) (old : State) → Run history old → (step : Step) (choice : Option Row)
+        → IsChoice old step choice → step_refusal old step ≡ None
+        → OnlyWritersChangeValues old step choice }
 {}
