@@ -134,3 +134,9 @@ pub each_drop : {X : Type 0} (P : X → Type 0) (n : ℕ) (xs : List X) → AllB
 each_drop P zero xs each = each
 each_drop P (suc n) [] each = tt
 each_drop P (suc n) (x ∷ xs) each = each_drop P n xs each.1
+
+-- what is among some is among more
+pub any_left : {X : Type 0} (P : X → Type 0) (xs ys : List X) → Any P xs → Any P (xs ++ ys)
+any_left P [] ys any = absurd (Any-none P any)
+any_left P (x ∷ xs) ys any =
+    elim (Any-cases P x xs any) [ inl here ↦ Any-here P x (xs ++ ys) here | inr there ↦ Any-there P x (xs ++ ys) (any_left P xs ys there) ]

@@ -29,18 +29,12 @@ use Rattle.vlm_words.specs.Lines.{behind}
 use Rattle.vlm_words.proofs.Always.{always, kept_by_stepped}
 use Rattle.vlm_words.proofs.AtOnce.{admitted_stands}
 use Rattle.vlm_words.proofs.Admissions.{some_same}
-use Rattle.vlm_words.proofs.Each.{Any-behind, Any-cases, Any-here, Any-none, Any-there, Found, each_append, each_at, each_drop, each_filter, each_map, each_weaker, found_at}
+use Rattle.vlm_words.proofs.Each.{Any-behind, Any-cases, Any-here, Any-there, Found, any_left, each_append, each_at, each_drop, each_filter, each_map, each_weaker, found_at}
 use Rattle.vlm_words.proofs.EachResource.{each_entered_on, found_has}
 use Rattle.vlm_words.proofs.InOrder.{sweep_in_order}
 use Rattle.vlm_words.proofs.Withdrawing.{kept_withdrawn}
 
 -- ---- endings that are added
-
--- what is among some is among more
-any_left : {X : Type 0} (P : X → Type 0) (xs ys : List X) → Any P xs → Any P (xs ++ ys)
-any_left P [] ys any = absurd (Any-none P any)
-any_left P (x ∷ xs) ys any =
-    elim (Any-cases P x xs any) [ inl here ↦ Any-here P x (xs ++ ys) here | inr there ↦ Any-there P x (xs ++ ys) (any_left P xs ys there) ]
 
 -- also where these come between
 any_within : {X : Type 0} (P : X → Type 0) (xs ys zs : List X) → Any P (xs ++ zs) → Any P (xs ++ (ys ++ zs))

@@ -62,7 +62,7 @@ serves_one_more row rows before after left endings some serves = record {
   given = granted_row row ∷ serves.given;
   rest = serves.rest;
   granted = serves.granted ∙ append_assoc before (granted_row row ∷ []) serves.given;
-  each_granted = (record { lkid = refl; pid = refl; wanted = some; holds = refl; wants_nothing = refl }, serves.each_granted);
+  each_granted = (record { lkid = refl; pid = refl; parent = refl; wanted = some; holds = refl; wants_nothing = refl }, serves.each_granted);
   each_ends = ends_zip row (take serves.served_rows rows) endings row.want refl some serves.each_ends;
 }
 
@@ -91,9 +91,9 @@ waiting_served r (row ∷ rows) is =
     (λ _. serves_none (row ∷ rows) r.granted r.waiting is)
 
 -- the two are one resource with one waiting queue
-record SameWaiting (before after : Resource) : Type 0 where
-  same : IsSameResource before after
-  waiting : after.waiting ≡ before.waiting
+pub record SameWaiting (before after : Resource) : Type 0 where
+  pub same : IsSameResource before after
+  pub waiting : after.waiting ≡ before.waiting
 
 -- the two are one resource with one conversion queue
 record SameConverting (before after : Resource) : Type 0 where
@@ -105,7 +105,7 @@ pub same_resource : (r : Resource) → IsSameResource r r
 same_resource r = record { serial = refl; parent = refl; domain = refl; name = refl; level = refl }
 
 -- serving the conversions leaves the waiting queue
-conversions_leave_waiting : (r : Resource) (rows : List Row) → SameWaiting r (service_of_conversions r rows).resource
+pub conversions_leave_waiting : (r : Resource) (rows : List Row) → SameWaiting r (service_of_conversions r rows).resource
 conversions_leave_waiting r [] = record { same = same_resource r; waiting = refl }
 conversions_leave_waiting r (row ∷ rows) =
     let granted : Resource = record (resource_after_grant r row) { converting = rows } in

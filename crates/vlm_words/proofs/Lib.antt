@@ -36,4 +36,10 @@ pub mod ReasonsOfRequests
 pub mod Acceptances
 pub mod Reasons
 pub mod Privileges
+pub mod Waiting
 pub mod Queued
+pub mod Writing
+pub mod Written
+pub mod Standing
+pub mod SweptValues
+pub mod Writers

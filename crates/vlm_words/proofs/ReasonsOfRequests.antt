@@ -141,7 +141,7 @@ in_domain s e p lives true domain is = is
 in_domain s e p lives false domain is = let group : caller_group s e.pid ≡ p.group = rw lives refl in is ∙ ap Group group
 
 -- what stands under the key of a request is what it asks for
-asked_for : (s : State) (e : NewRequest) (r : Resource) → IsCaller s e.pid → Apart s → Placed s
+pub asked_for : (s : State) (e : NewRequest) (r : Resource) → IsCaller s e.pid → Apart s → Placed s
     → parent_refusal s e.pid (parent_lkid s e) ≡ None → is_at (enq_key s e) r ≡ true → IsAskedFor s e r
 asked_for s e r caller apart placed passed at =
     let all = of_lkid (parent_lkid s e) refl in

@@ -156,7 +156,7 @@ all_counted P lkid (r ∷ rest) some =
     ]
 
 -- the same on all resources
-only_row_among : (P : Row → Type 0) (request : Request) (pid lkid : ℕ) (a : ConversionAdmission) (resources : List Resource)
+pub only_row_among : (P : Row → Type 0) (request : Request) (pid lkid : ℕ) (a : ConversionAdmission) (resources : List Resource)
     → standing lkid resources ≤ 1 → admission_among request pid lkid resources ≡ Some a
     → Any (λ r. Any (λ x. (x.lkid ≡ lkid) × P x) r.granted) resources → P a.row
 only_row_among P request pid lkid a [] one admitted some = cc
@@ -227,7 +227,7 @@ fits_at_write c pid lkid a known writes =
     a.resource.converting a.row (ap not (and_parts _ _ found.passes).0) found known.0))
 
 -- where held modes are compatible, an accepted conversion that writes is granted at once
-write_at_once : (s : State) (c : Conversion) (a : ConversionAdmission) → AllByRecursion HoldersAgree s.resources → convert_refusal s c ≡ None
+pub write_at_once : (s : State) (c : Conversion) (a : ConversionAdmission) → AllByRecursion HoldersAgree s.resources → convert_refusal s c ≡ None
     → convert_admission s c ≡ Some a → action_from a.row.held c.mode ≡ Write → a.at_once ≡ true
 unfolding convert_admission converts_at_once pair_refusal
 write_at_once s c a agree passed admitted writes =

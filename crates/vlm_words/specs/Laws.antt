@@ -91,6 +91,7 @@ pub record EachRequestEndsOnce (endings : List Ending) (last : State) : Type 0 w
 pub record IsGranted (before after : Row) : Type 0 where
   pub lkid : after.lkid ≡ before.lkid
   pub pid : after.pid ≡ before.pid
+  pub parent : after.parent ≡ before.parent
   pub wanted : IsSome before.want
   pub holds : after.held ≡ before.want
   pub wants_nothing : after.want ≡ None

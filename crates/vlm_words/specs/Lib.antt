@@ -33,6 +33,9 @@ pub mod Numbers
 pub mod Reasons
 pub mod Privileges
 pub mod Queued
+pub mod Written
+pub mod Standing
+pub mod Writers
 pub mod Faults
 pub mod Lines
 pub mod Texts

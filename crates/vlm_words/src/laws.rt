@@ -15,6 +15,9 @@ ghost use Rattle.vlm_words.specs.Owners.{OthersAreLeftAlone};
 ghost use Rattle.vlm_words.specs.Numbers.{NumbersAreGivenOnce};
 ghost use Rattle.vlm_words.specs.Privileges.{SystemRootsArePrivileged};
 ghost use Rattle.vlm_words.specs.Queued.{NoqueueIsKept};
+ghost use Rattle.vlm_words.specs.Writers.{OnlyWritersChangeValues};
+ghost use Rattle.vlm_words.specs.Written.{WritesNamedBlocks};
+ghost use Rattle.vlm_words.specs.Standing.{ConvertedLocksStandAsAskedFor, NewLocksStandAsAskedFor};
 ghost use Rattle.vlm_words.specs.Reasons.{RefusalHasItsReason};
 ghost use Rattle.vlm_words.specs.Laws.{DeclarationsGiveNewIdentifications, EachRequestEndsOnce, GrantsFollowQueueOrder, HeldModesAreCompatible, IdentificationsAreApart, KeysAreApart, NoResourceIsVacant, NothingIsLeftToGrant, ParentsOutliveTheirSublocks, QuotasAreKept, RowsFitTheirQueues, SerialsRise, TreesAreBounded, WritesAreGrantedAtOnce};
 
@@ -167,4 +170,30 @@ pub fn law_system_roots_are_privileged()
 /// No request with NOQUEUE is queued.
 pub fn law_noqueue_is_kept()
     ensures { (history : History) (last : State) → Run history last → NoqueueIsKept last }
+{}
+
+/// A step writes the status blocks that it names, and those that the requests name that end in it, and no other. An
+/// accepted request makes its block that of a pending request for its lock. The status of a block tells how the
+/// last request ended that names it. A declaration adds its process; no other step adds one or takes one away.
+pub fn law_a_step_writes_the_status_blocks_that_are_named()
+    ensures { (history : History) (old : State) → Run history old → (step : Step) (choice : Option Row)
+        → IsChoice old step choice → WritesNamedBlocks old step choice }
+{}
+
+/// The lock of an accepted request stands as it is asked for. A new one stands on the resource that is asked for,
+/// as its caller's, under the parent lock that is named: it holds the whole request, or waits for it. One that
+/// converts stands where it stood: it holds the whole request, or holds what it held and waits for it.
+pub fn law_a_lock_stands_as_asked_for()
+    ensures new { (history : History) (old : State) → Run history old → NewLocksStandAsAskedFor old }
+    ensures converted { (history : History) (old : State) → Run history old
+        → ConvertedLocksStandAsAskedFor old }
+{}
+
+/// A step that no check refuses changes the value block of a resource only by its own lock, which is held there at PW
+/// or EX before: by a conversion with VALBLK that gives PW or EX up or keeps it, which is granted at once, or as
+/// the lock is given up. A new resource's value block is zeros and valid. So no sweep changes one.
+pub fn law_only_writers_change_value_blocks()
+    ensures { (history : History) (old : State) → Run history old → (step : Step) (choice : Option Row)
+        → IsChoice old step choice → step_refusal old step ≡ None
+        → OnlyWritersChangeValues old step choice }
 {}

@@ -1,0 +1,406 @@
+-- A step writes the status blocks that it names, and those that the requests name that end in it.
+use Rattle.std.proofs.Common.{◌≡◌, ◌<◌, ◌+◌, ◌&&◌, ℕ, zero, suc, Bool, true, false, List, [], ◌∷◌, ◌++◌, flat_map, length, take, get_or, cond, Option, None, Some, refl, sym, subst, ap, ◌∙◌}
+use Rattle.std.specs.Prelude.{⊤, ◌==◌, is_some, nat_lt, nat_le}
+use Rattle.std.specs.List.{AllByRecursion, AllZip}
+use Rattle.std.specs.Option.{option_map_or, option_or}
+use Rattle.std.proofs.lemmas.Bool.{and_parts, cond_both, ltb-true}
+use Rattle.std.proofs.lemmas.List.Folds.{find-append}
+use Rattle.vlm_words.specs.declared.blocks.Block.{Block}
+use Rattle.vlm_words.specs.declared.conditions.Cond.TheVariants.{Normal, Departed, Nonexpr, Accvio}
+use Rattle.vlm_words.specs.declared.conditions.Cond.{Cond}
+use Rattle.vlm_words.specs.declared.locks.Request.{Request}
+use Rattle.vlm_words.specs.declared.locks.Row.{Row}
+use Rattle.vlm_words.specs.declared.steps.Answer.TheVariants.{Plain}
+use Rattle.vlm_words.specs.declared.steps.Answer.{Answer}
+use Rattle.vlm_words.specs.declared.steps.Conversion.{Conversion}
+use Rattle.vlm_words.specs.declared.steps.Declaration.{Declaration}
+use Rattle.vlm_words.specs.declared.steps.Dequeue.{Dequeue}
+use Rattle.vlm_words.specs.declared.steps.NewRequest.{NewRequest}
+use Rattle.vlm_words.specs.declared.steps.Step.TheVariants.{Declare, SetValue, Enq, Convert, Deq, Rundown, Leave, Search, Take}
+use Rattle.vlm_words.specs.declared.steps.Step.{Step}
+use Rattle.vlm_words.specs.declared.steps.ValueSetting.{ValueSetting}
+use Rattle.vlm_words.specs.State.{Process, Resource, State, process_of}
+use Rattle.vlm_words.specs.ValueBlocks.{new_value_block}
+use Rattle.vlm_words.specs.StatusBlocks.{new_status_block, processes_after_acceptance, processes_after_setting, processes_after_write, status_block_of, status_blocks_of}
+use Rattle.vlm_words.specs.Endings.{Ending, How, row_endings, wanted_endings}
+use Rattle.vlm_words.specs.Effects.{blocks_with}
+use Rattle.vlm_words.specs.Grants.{grant_endings, service}
+use Rattle.vlm_words.specs.Rows.{rows_of}
+use Rattle.vlm_words.specs.Sweeps.{blocks_after_service, processes_after_service, sweep_endings}
+use Rattle.vlm_words.specs.Checks.{caller_refusal, has_departed, or_else, status_block_refusal, which_refusal}
+use Rattle.vlm_words.specs.Declare.{declare_change, declared_process}
+use Rattle.vlm_words.specs.SetValue.{set_change, set_refusal}
+use Rattle.vlm_words.specs.Enqueue.{enq_argument_refusal, enq_at_once, enq_change, enq_endings, enq_form_refusal, enq_refusal, enq_resource, enq_row, expedite_refusal, name_refusal}
+use Rattle.vlm_words.specs.Convert.{ConversionAdmission, admission_refusal, conversion_endings, convert_admission, convert_argument_refusal, convert_blocks, convert_change, convert_lkid, convert_refusal, convert_request, wanting_row}
+use Rattle.vlm_words.specs.Checks.{lock_refusal}
+use Rattle.vlm_words.specs.Steps.{node_of_pid}
+use Rattle.vlm_words.specs.Withdrawals.{Withdrawal, queue_endings, withdrawal_endings}
+use Rattle.vlm_words.specs.Dequeue.{deq_change, deq_endings, withdrawal_of}
+use Rattle.vlm_words.specs.Runs.{History, Run}
+use Rattle.vlm_words.specs.Stepped.{IsChoice, Stepped, conversion_change, refused, refused_or, step_change, step_refusal, stepped, stepped_after_sweep}
+use Rattle.vlm_words.specs.Laws.{IsGrantOf}
+use Rattle.vlm_words.specs.Settled.{IsSettled}
+use Rattle.vlm_words.specs.Written.{BlocksAfter, IsLeftByEnds, ProcessesAfter, WritesNamedBlocks, block_named, names_block, without_blocks}
+use Rattle.vlm_words.proofs.Admissions.{admitted_request}
+use Rattle.vlm_words.proofs.Always.{admission_of}
+use Rattle.vlm_words.proofs.Each.{each_append, each_filter}
+use Rattle.vlm_words.proofs.InOrder.{service_in_order}
+use Rattle.vlm_words.proofs.Passed.{both_pass, enq_passes, test_passes}
+use Rattle.vlm_words.proofs.Processes.{kept_converted, kept_ended, kept_entered, kept_set, kept_swept}
+use Rattle.vlm_words.proofs.Settled.{settled_law}
+use Rattle.vlm_words.proofs.Waiting.{EachConverting, Queued, conversion_queued, dequeue_queued, queued_always, request_queued}
+use Rattle.vlm_words.proofs.Withdrawing.{one_ends}
+use Rattle.vlm_words.proofs.Writing.{AreLeftByEnds, IsNumbered, all_left, all_left_by_none, all_left_swept, block_at, block_written, many_written}
+
+-- ---- status blocks are numbered from 1
+
+-- what is wanted names a status block
+abbrev Names : Option Request → Type 0
+Names None = ⊤
+Names (Some request) = 0 < request.block
+
+-- what the row wants does
+abbrev NamesOne : Row → Type 0
+NamesOne row = Names row.want
+
+-- a status block that a process has is numbered from 1
+from_1 : (s : State) (pid block : ℕ) → status_block_refusal s pid block ≡ None → 0 < block
+unfolding status_block_refusal
+from_1 s pid block passed =
+    ltb-true 0 block
+    (and_parts (nat_lt 0 block) (nat_le block (length (status_blocks_of s.processes pid)))
+    (test_passes (nat_lt 0 block && nat_le block (length (status_blocks_of s.processes pid))) Accvio passed)).0
+
+-- where none of some checks refuses, the second and the third pass
+second_of : (a b c : Option Cond) → or_else a (or_else b c) ≡ None → b ≡ None
+second_of None None c passed = refl
+second_of None (Some refusal) c passed = cc
+second_of (Some refusal) b c passed = cc
+
+third_of : (a b c d : Option Cond) → or_else a (or_else b (or_else c d)) ≡ None → c ≡ None
+third_of None None None d passed = refl
+third_of None None (Some refusal) d passed = cc
+third_of None (Some refusal) c d passed = cc
+third_of (Some refusal) b c d passed = cc
+
+-- an accepted request names one
+request_names : (s : State) (e : NewRequest) → enq_refusal s e ≡ None → 0 < e.block
+unfolding enq_form_refusal
+request_names s e passed =
+    from_1 s e.pid e.block
+    (second_of (enq_argument_refusal e) (status_block_refusal s e.pid e.block)
+    (or_else (which_refusal s e.pid e.parent) (or_else (name_refusal e.name) (expedite_refusal e.flags e.mode))) (enq_passes s e passed).1)
+
+-- the setting of a value
+setting_names : (s : State) (v : ValueSetting) → set_refusal s v ≡ None → 0 < v.block
+unfolding set_refusal
+setting_names s v passed = from_1 s v.pid v.block (both_pass (caller_refusal s v.pid) (status_block_refusal s v.pid v.block) passed).1
+
+-- and an accepted conversion
+pub conversion_names : (s : State) (c : Conversion) → convert_refusal s c ≡ None → 0 < c.block
+unfolding convert_refusal
+conversion_names s c passed =
+    from_1 s c.pid c.block
+    (third_of (caller_refusal s c.pid) (convert_argument_refusal c) (status_block_refusal s c.pid c.block)
+    (or_else (which_refusal s c.pid c.lock) (or_else (lock_refusal s c.pid (convert_lkid s c)) (admission_refusal s c (convert_admission s c)))) passed)
+
+-- so does it as it is admitted
+admitted_names : (s : State) (c : Conversion) (a : ConversionAdmission) → convert_refusal s c ≡ None → convert_admission s c ≡ Some a → 0 < a.request.block
+unfolding convert_admission
+admitted_names s c a passed is =
+    subst (λ (request : Request). 0 < request.block) (sym (admitted_request (convert_request s c) c.pid (convert_lkid s c) a s.resources is))
+    (conversion_names s c passed)
+
+converting_names : (s : State) (c : Conversion) (a : ConversionAdmission) → 0 < a.request.block → (resources : List Resource)
+    → AllByRecursion (EachConverting NamesOne c (convert_lkid s c) a) resources
+converting_names s c a names [] = tt
+converting_names s c a names (r ∷ rest) = (λ row _. names, converting_names s c a names rest)
+
+-- after every run each queued request does
+names_always : (history : History) (last : State) → Run history last → AllByRecursion (Queued NamesOne) last.resources
+names_always =
+    queued_always NamesOne (λ _ s _ e passed _. request_names s e passed)
+    (λ _ s _ c a passed is _. converting_names s c a (admitted_names s c a passed is) s.resources)
+
+-- ---- and so does each request that ends
+
+-- the requests of rows
+zip_numbered : (rows : List Row) (endings : List Ending) → AllZip IsGrantOf rows endings → AllByRecursion NamesOne rows → AllByRecursion IsNumbered endings
+zip_numbered [] [] ends names = tt
+zip_numbered [] (ending ∷ endings) ends names = absurd ends
+zip_numbered (row ∷ rows) [] ends names = absurd ends
+zip_numbered (row ∷ rows) (ending ∷ endings) ends names =
+    (subst Names (sym ends.0.request) names.0, zip_numbered rows endings ends.1 names.1)
+
+each_take : {X : Type 0} (P : X → Type 0) (n : ℕ) (xs : List X) → AllByRecursion P xs → AllByRecursion P (take n xs)
+each_take P zero xs each = tt
+each_take P (suc n) [] each = tt
+each_take P (suc n) (x ∷ xs) each = (each.0, each_take P n xs each.1)
+
+-- the grants of a service
+served_numbered : (resources : List Resource) → AllByRecursion (Queued NamesOne) resources → AllByRecursion (λ r. AllByRecursion IsNumbered (service r).endings) resources
+served_numbered [] names = tt
+served_numbered (r ∷ rest) names =
+    let order = service_in_order r in (
+      zip_numbered (take order.conversions r.converting ++ take order.new_requests r.waiting) (service r).endings order.ends
+          (each_append NamesOne (take order.conversions r.converting) (take order.new_requests r.waiting)
+          (each_take NamesOne order.conversions r.converting names.0.converting) (each_take NamesOne order.new_requests r.waiting names.0.waiting)),
+      served_numbered rest names.1,
+    )
+
+-- the end of what a row wants
+wanted_numbered : (how : How) (at_once : Bool) (lkid pid : ℕ) (want : Option Request) → Names want → AllByRecursion IsNumbered (wanted_endings how at_once lkid pid want)
+wanted_numbered how at_once lkid pid None names = tt
+wanted_numbered how at_once lkid pid (Some request) names = (names, tt)
+
+rows_numbered : (how : How) (rows : List Row) → AllByRecursion NamesOne rows → AllByRecursion IsNumbered (flat_map (row_endings how false) rows)
+rows_numbered how [] names = tt
+rows_numbered how (row ∷ rows) names =
+    each_append IsNumbered (row_endings how false row) (flat_map (row_endings how false) rows)
+    (wanted_numbered how false row.lkid row.pid row.want names.0) (rows_numbered how rows names.1)
+
+-- those that a dequeue ends
+withdrawn_numbered : (w : Withdrawal) (resources : List Resource) → AllByRecursion (Queued NamesOne) resources
+    → AllByRecursion IsNumbered (flat_map (withdrawal_endings w) resources)
+withdrawn_numbered w [] names = tt
+withdrawn_numbered w (r ∷ rest) names =
+    each_append IsNumbered (withdrawal_endings w r) (flat_map (withdrawal_endings w) rest)
+    (each_append IsNumbered (queue_endings w.converting w.lkid r.converting) (queue_endings w.waiting w.lkid r.waiting)
+    (rows_numbered w.converting (rows_of w.lkid r.converting) (each_filter NamesOne _ r.converting names.0.converting))
+    (rows_numbered w.waiting (rows_of w.lkid r.waiting) (each_filter NamesOne _ r.waiting names.0.waiting)))
+    (withdrawn_numbered w rest names.1)
+
+-- one that is granted at once
+at_once_numbered : (b : Bool) (row : Row) → NamesOne row → AllByRecursion IsNumbered (cond b (grant_endings true row) [])
+at_once_numbered true row names = wanted_numbered _ true row.lkid row.pid row.want names
+at_once_numbered false row names = tt
+
+-- ---- what a step makes of the blocks
+
+-- what is so of a step that is made is so of the step
+abbrev Writes : State → Step → Stepped → Type 0
+Writes s step made =
+    ProcessesAfter step made.answer s.processes made.state.processes
+    × ((pid : ℕ) (before : Process) → process_of s.processes pid ≡ Some before
+    → BlocksAfter step made.answer made.endings pid before.blocks (status_blocks_of made.state.processes pid))
+
+-- the blocks of a process that is there
+pub blocks_are : (processes : List Process) (pid : ℕ) (p : Process) → process_of processes pid ≡ Some p → status_blocks_of processes pid ≡ p.blocks
+blocks_are processes pid p is = ap (λ (found : Option Process). option_map_or (λ q. q.blocks) found []) is
+
+-- first the step writes what it names, and then its ends
+record NamedFirst (step : Step) (answer : Answer) (pid : ℕ) (before : List Block) (named : List Process) : Type 0 where
+  many : length (status_blocks_of named pid) ≡ length before
+  each : (k : ℕ) → k < length before
+      → block_at named pid k ≡ cond (names_block step pid (k + 1)) (block_named step answer (get_or before k new_status_block)) (get_or before k new_status_block)
+
+named_then_ended : (step : Step) (answer : Answer) (endings : List Ending) (pid : ℕ) (before : List Block) (named after : List Process)
+    → NamedFirst step answer pid before named → AreLeftByEnds endings named after → BlocksAfter step answer endings pid before (status_blocks_of after pid)
+named_then_ended step answer endings pid before named after first ends = record {
+  many = ends.many pid ∙ first.many;
+  each = λ k within.
+      subst (λ (block : Block). IsLeftByEnds pid (k + 1) endings block (block_at after pid k)) (first.each k within)
+      (ends.each pid k (subst (λ (n : ℕ). k < n) (sym first.many) within));
+}
+
+-- a step that names one, and makes this of it
+one_named : (step : Step) (answer : Answer) (s : State) (owner number : ℕ) (made : Block → Block) → 0 < number
+    → ((pid k : ℕ) → names_block step pid (k + 1) ≡ ((owner == pid) && (number == k + 1))) → ((block : Block) → block_named step answer block ≡ made block)
+    → (pid : ℕ) (before : Process) → process_of s.processes pid ≡ Some before
+    → NamedFirst step answer pid before.blocks (processes_after_write owner number (made (status_block_of s.processes owner number)) s.processes)
+one_named step answer s owner number made first names makes pid before is =
+    subst (λ (blocks : List Block). NamedFirst step answer pid blocks (processes_after_write owner number (made (status_block_of s.processes owner number)) s.processes))
+    (blocks_are s.processes pid before is)
+    (record {
+      many = many_written owner number pid _ s.processes;
+      each = λ k within.
+          block_written owner number made s.processes pid k first within
+          ∙ rw (names pid k, makes (block_at s.processes pid k)) refl;
+    })
+
+-- ---- the steps
+
+-- a step that makes nothing of a block
+unmade : (step : Step) (answer : Answer) (s : State) → ((block : Block) → block_named step answer block ≡ block)
+    → (pid : ℕ) (before : Process) → process_of s.processes pid ≡ Some before → NamedFirst step answer pid before.blocks s.processes
+unmade step answer s nothing pid before is = record {
+  many = ap (λ (blocks : List Block). length blocks) (blocks_are s.processes pid before is);
+  each = λ k _. ap (λ (blocks : List Block). get_or blocks k new_status_block) (blocks_are s.processes pid before is)
+      ∙ cond_both (names_block step pid (k + 1)) (block_named step answer (get_or before.blocks k new_status_block)) (get_or before.blocks k new_status_block)
+      (λ block. get_or before.blocks k new_status_block ≡ block) (λ _. sym (nothing (get_or before.blocks k new_status_block))) (λ _. refl);
+}
+
+-- ---- refusals
+
+-- the setting of a value is never refused by NORMAL
+set_not_normal : (s : State) (v : ValueSetting) (refusal : Cond) → set_refusal s v ≡ Some refusal → (refusal ≡ Normal → ⊥)
+unfolding set_refusal caller_refusal status_block_refusal
+set_not_normal s v refusal is =
+    of_tests (has_departed s.nodes (node_of_pid v.pid)) (is_some (process_of s.processes v.pid))
+    (nat_lt 0 v.block && nat_le v.block (length (status_blocks_of s.processes v.pid))) is
+  where
+    of_tests : (a b c : Bool) → or_else (cond a (Some Departed) (cond b None (Some Nonexpr))) (cond c None (Some Accvio)) ≡ Some refusal → refusal ≡ Normal → ⊥
+    of_tests true b c told normal = cc
+    of_tests false true true told normal = cc
+    of_tests false true false told normal = cc
+    of_tests false false c told normal = cc
+
+-- a refused step makes nothing of a block
+refused_makes_nothing : (s : State) (step : Step) (refusal : Cond) → step_refusal s step ≡ Some refusal → (block : Block) → block_named step (Plain refusal) block ≡ block
+refused_makes_nothing s (Declare d) refusal is block = refl
+refused_makes_nothing s (SetValue v) refusal is block = of_told refusal (set_not_normal s v refusal is)
+  where
+    of_told : (told : Cond) → (told ≡ Normal → ⊥) → block_named (SetValue v) (Plain told) block ≡ block
+    of_told Normal other = absurd (other refl)
+    of_told told other = refl
+refused_makes_nothing s (Enq e) refusal is block = refl
+refused_makes_nothing s (Convert c) refusal is block = refl
+refused_makes_nothing s (Deq d) refusal is block = refl
+refused_makes_nothing s (Rundown pid) refusal is block = refl
+refused_makes_nothing s (Leave node) refusal is block = refl
+refused_makes_nothing s (Search node) refusal is block = refl
+refused_makes_nothing s (Take pid) refusal is block = refl
+
+refused_leaves : (kind : Step) (refusal : Cond) (processes : List Process) → ProcessesAfter kind (Plain refusal) processes processes
+refused_leaves (Declare d) refusal processes = refl
+refused_leaves (SetValue v) refusal processes = refl
+refused_leaves (Enq e) refusal processes = refl
+refused_leaves (Convert c) refusal processes = refl
+refused_leaves (Deq d) refusal processes = refl
+refused_leaves (Rundown pid) refusal processes = refl
+refused_leaves (Leave node) refusal processes = refl
+refused_leaves (Search node) refusal processes = refl
+refused_leaves (Take pid) refusal processes = refl
+
+-- a refused step
+refused_writes : (s : State) (step : Step) (refusal : Cond) → step_refusal s step ≡ Some refusal → Writes s step (refused s refusal)
+refused_writes s step refusal is = (
+  refused_leaves step refusal s.processes,
+  λ pid before there.
+      named_then_ended step (Plain refusal) [] pid before.blocks s.processes s.processes
+      (unmade step (Plain refusal) s (refused_makes_nothing s step refusal is) pid before there) (all_left_by_none s.processes),
+)
+
+-- ---- the steps
+
+-- a step whose change is swept
+swept_writes : (s : State) (step : Step) (change : Stepped) → AllByRecursion (Queued NamesOne) change.state.resources
+    → ProcessesAfter step change.answer s.processes (processes_after_service change.state.processes change.state.resources)
+    → (named : List Process) → ((pid : ℕ) (before : Process) → process_of s.processes pid ≡ Some before → NamedFirst step change.answer pid before.blocks named)
+    → AreLeftByEnds change.endings named change.state.processes → Writes s step (stepped_after_sweep change)
+swept_writes s step change names kept named first ends = (
+  kept,
+  λ pid before there.
+      named_then_ended step change.answer (change.endings ++ sweep_endings change.state.resources) pid before.blocks named
+      (processes_after_service change.state.processes change.state.resources) (first pid before there)
+      (all_left_swept change.endings named change.state.processes change.state.resources ends (served_numbered change.state.resources names)),
+)
+
+-- where all is settled a sweep writes nothing
+nothing_swept : (processes : List Process) (resources : List Resource) → AllByRecursion IsSettled resources → processes_after_service processes resources ≡ processes
+unfolding blocks_after_service
+nothing_swept processes [] settled = refl
+nothing_swept processes (r ∷ rest) settled = rw settled.0.served (nothing_swept processes rest settled.1)
+
+-- who is there is found before one who is added
+found_first : (processes : List Process) (p : Process) (pid : ℕ) (before : Process) → process_of processes pid ≡ Some before
+    → process_of (processes ++ p ∷ []) pid ≡ Some before
+found_first processes p pid before is =
+    find-append (λ (q : Process). q.pid == pid) processes (p ∷ [])
+    ∙ ap (λ (found : Option Process). option_or found (process_of (p ∷ []) pid)) is
+
+-- a declaration
+declaration_writes : (s : State) (d : Declaration) (choice : Option Row) → AllByRecursion (Queued NamesOne) s.resources → AllByRecursion IsSettled s.resources
+    → Writes s (Declare d) (stepped_after_sweep (step_change s (Declare d) choice))
+unfolding declare_change
+declaration_writes s d choice names settled =
+    swept_writes s (Declare d) (step_change s (Declare d) choice) names (nothing_swept (declare_change s d).processes s.resources settled)
+    (declare_change s d).processes
+    (λ pid before is. record {
+      many = ap (λ (blocks : List Block). length blocks) (blocks_are (declare_change s d).processes pid before (found_first s.processes (declared_process s d) pid before is));
+      each = λ k _.
+          ap (λ (blocks : List Block). get_or blocks k new_status_block)
+          (blocks_are (declare_change s d).processes pid before (found_first s.processes (declared_process s d) pid before is));
+    })
+    (all_left_by_none (declare_change s d).processes)
+
+-- the setting of a value
+setting_writes : (s : State) (v : ValueSetting) (choice : Option Row) → set_refusal s v ≡ None → AllByRecursion (Queued NamesOne) s.resources
+    → Writes s (SetValue v) (stepped_after_sweep (step_change s (SetValue v) choice))
+unfolding set_change processes_after_setting
+setting_writes s v choice passed names =
+    swept_writes s (SetValue v) (step_change s (SetValue v) choice) names
+    (kept_swept without_blocks (λ _ _. refl) (set_change s v).processes s.resources ∙ kept_set without_blocks (λ _ _. refl) v.pid v.block v.value s.processes)
+    (set_change s v).processes
+    (one_named (SetValue v) (Plain Normal) s v.pid v.block (λ block. record block { value = v.value }) (setting_names s v passed) (λ _ _. refl) (λ _. refl))
+    (all_left_by_none (set_change s v).processes)
+
+-- a new request
+request_writes : (s : State) (e : NewRequest) (choice : Option Row) → enq_refusal s e ≡ None → AllByRecursion (Queued NamesOne) s.resources
+    → Writes s (Enq e) (stepped_after_sweep (step_change s (Enq e) choice))
+unfolding enq_change processes_after_acceptance
+request_writes s e choice passed names =
+    swept_writes s (Enq e) (step_change s (Enq e) choice) (request_queued NamesOne s e (λ _. request_names s e passed) names)
+    (kept_swept without_blocks (λ _ _. refl) (enq_change s e).processes (enq_change s e).resources ∙ kept_entered without_blocks (λ _ _. refl) s e)
+    (processes_after_acceptance e.pid e.block s.next_lkid s.processes)
+    (one_named (Enq e) (step_change s (Enq e) choice).answer s e.pid e.block (λ block. record block { status = 0; lkid = s.next_lkid }) (request_names s e passed)
+    (λ _ _. refl) (λ _. refl))
+    (all_left (enq_endings s e) (blocks_with (enq_resource s e).value_block (processes_after_acceptance e.pid e.block s.next_lkid s.processes))
+    (at_once_numbered (enq_at_once s e) (enq_row s e) (request_names s e passed)))
+
+-- a conversion
+conversion_writes : (s : State) (c : Conversion) (a : ConversionAdmission) → convert_refusal s c ≡ None → convert_admission s c ≡ Some a
+    → AllByRecursion (Queued NamesOne) s.resources → Writes s (Convert c) (stepped_after_sweep (conversion_change s c (Some a)))
+unfolding convert_change convert_blocks processes_after_acceptance
+conversion_writes s c a passed is names =
+    let lkid : ℕ = convert_lkid s c in
+    let named : 0 < a.request.block = admitted_names s c a passed is in
+    swept_writes s (Convert c) (conversion_change s c (Some a)) (conversion_queued NamesOne s c a (λ _. converting_names s c a named s.resources) names)
+    (kept_swept without_blocks (λ _ _. refl) (convert_change s c a).processes (convert_change s c a).resources ∙ kept_converted without_blocks (λ _ _. refl) s c a)
+    (processes_after_acceptance c.pid c.block lkid s.processes)
+    (one_named (Convert c) (conversion_change s c (Some a)).answer s c.pid c.block (λ block. record block { status = 0; lkid = lkid }) (conversion_names s c passed)
+    (λ _ _. refl) (λ _. refl))
+    (all_left (conversion_endings a) (blocks_with a.resource.value_block (processes_after_acceptance c.pid c.block lkid s.processes))
+    (at_once_numbered a.at_once (wanting_row a.row a.request) named))
+
+-- a dequeue
+dequeue_writes : (s : State) (d : Dequeue) (choice : Option Row) → AllByRecursion (Queued NamesOne) s.resources
+    → Writes s (Deq d) (stepped_after_sweep (step_change s (Deq d) choice))
+unfolding deq_change
+dequeue_writes s d choice names =
+    swept_writes s (Deq d) (step_change s (Deq d) choice) (dequeue_queued NamesOne s d names)
+    (kept_swept without_blocks (λ _ _. refl) (deq_change s d).processes (deq_change s d).resources
+    ∙ kept_ended without_blocks (λ _ _. refl) (deq_endings s d) (blocks_with new_value_block s.processes))
+    s.processes (unmade (Deq d) (Plain Normal) s (λ _. refl))
+    (all_left (deq_endings s d) (blocks_with new_value_block s.processes)
+    (subst (AllByRecursion IsNumbered) (sym (one_ends (withdrawal_of s d) s.resources)) (withdrawn_numbered (withdrawal_of s d) s.resources names)))
+
+writes : (s : State) → AllByRecursion (Queued NamesOne) s.resources → AllByRecursion IsSettled s.resources → (step : Step) (choice : Option Row)
+    → step_refusal s step ≡ None → Writes s step (stepped_after_sweep (step_change s step choice))
+writes s names settled (Declare d) choice passed = declaration_writes s d choice names settled
+writes s names settled (SetValue v) choice passed = setting_writes s v choice passed names
+writes s names settled (Enq e) choice passed = request_writes s e choice passed names
+writes s names settled (Convert c) choice passed =
+    let admitted = admission_of s c passed in
+    subst (λ (there : Option ConversionAdmission). Writes s (Convert c) (stepped_after_sweep (conversion_change s c there))) (sym admitted.1)
+    (conversion_writes s c admitted.0 passed admitted.1 names)
+writes s names settled (Deq d) choice passed = dequeue_writes s d choice names
+writes s names settled (Rundown pid) choice passed = cc
+writes s names settled (Leave node) choice passed = cc
+writes s names settled (Search node) choice passed = cc
+writes s names settled (Take pid) choice passed = cc
+
+-- after every run
+pub written_always : (history : History) (old : State) → Run history old → (step : Step) (choice : Option Row) → IsChoice old step choice → WritesNamedBlocks old step choice
+written_always history old run step choice chosen =
+    let so = of_refusal (step_refusal old step) refl in
+    record {
+      processes = so.0;
+      blocks = λ pid before after was is.
+          subst (λ (blocks : List Block). BlocksAfter step (stepped old step choice).answer (stepped old step choice).endings pid before.blocks blocks)
+          (blocks_are (stepped old step choice).state.processes pid after is) (so.1 pid before was);
+    }
+  where
+    of_refusal : (refusal : Option Cond) → step_refusal old step ≡ refusal → Writes old step (refused_or refusal old (step_change old step choice))
+    of_refusal None passed = writes old (names_always history old run) (settled_law history old run) step choice passed
+    of_refusal (Some refusal) is = refused_writes old step refusal is

@@ -1,0 +1,78 @@
+-- Where the lock of an accepted request stands, and with what.
+use Rattle.std.specs.Prelude.{◌≡◌, ◌⊎◌, ℕ, Any, Option, None, Some}
+use Rattle.vlm_words.specs.declared.conditions.Cond.{Cond}
+use Rattle.vlm_words.specs.declared.locks.Request.{Request}
+use Rattle.vlm_words.specs.declared.locks.Row.{Row}
+use Rattle.vlm_words.specs.declared.steps.Answer.TheVariants.{Lock}
+use Rattle.vlm_words.specs.declared.steps.Conversion.{Conversion}
+use Rattle.vlm_words.specs.declared.steps.NewRequest.{NewRequest}
+use Rattle.vlm_words.specs.declared.steps.Step.TheVariants.{Convert, Enq}
+use Rattle.vlm_words.specs.State.{Resource, State}
+use Rattle.vlm_words.specs.Checks.{named_lkid}
+use Rattle.vlm_words.specs.Stepped.{IsChoice, stepped}
+use Rattle.vlm_words.specs.Laws.{IsAskedFor, IsSameResource}
+
+-- what a new request asks for, under this number
+abbrev pub new_request : ℕ → NewRequest → Request
+new_request number e = record {
+  number = number;
+  mode = e.mode;
+  flags = record { 0 = e.flags };
+  block = e.block;
+  completion = e.ast;
+  blocking = e.bast;
+  param = e.param;
+}
+
+-- what a conversion asks for, under this number
+abbrev pub new_conversion : ℕ → Conversion → Request
+new_conversion number c = record {
+  number = number;
+  mode = c.mode;
+  flags = record { 0 = c.flags };
+  block = c.block;
+  completion = c.ast;
+  blocking = c.bast;
+  param = c.param;
+}
+
+-- the row is that of this lock of this process, made under this parent lock, holds this and wants that
+pub record IsRow (lkid pid parent : ℕ) (held want : Option Request) (row : Row) : Type 0 where
+  pub lock : row.lkid ≡ lkid
+  pub process : row.pid ≡ pid
+  pub above : row.parent ≡ parent
+  pub holds : row.held ≡ held
+  pub wants : row.want ≡ want
+
+-- the lock stands on the resource: it is granted and holds the request, or it waits for it and holds nothing
+abbrev pub StandsNew : ℕ → ℕ → ℕ → Request → Resource → Type 0
+StandsNew lkid pid parent request r =
+    Any (IsRow lkid pid parent (Some request) None) r.granted
+    ⊎ Any (IsRow lkid pid parent None (Some request)) r.waiting
+
+-- the lock of an accepted new request stands on the resource that is asked for, as its caller's, under the parent
+-- lock that is named, with the whole request that is asked for
+abbrev pub NewLocksStandAsAskedFor : State → Type 0
+NewLocksStandAsAskedFor old = (e : NewRequest) (choice : Option Row) (cond : Cond) (lkid : ℕ)
+    → IsChoice old (Enq e) choice → (stepped old (Enq e) choice).answer ≡ Lock cond lkid
+    → Any (λ r. IsAskedFor old e r
+    × StandsNew lkid e.pid (named_lkid old e.pid e.parent) (new_request old.next_request e) r)
+    (stepped old (Enq e) choice).state.resources
+
+-- the lock of this row stands on the resource: it is granted and holds the request, or it waits for it and holds
+-- what it held
+abbrev pub StandsConverted : Row → Request → Resource → Type 0
+StandsConverted was request r =
+    Any (IsRow was.lkid was.pid was.parent (Some request) None) r.granted
+    ⊎ Any (IsRow was.lkid was.pid was.parent was.held (Some request)) r.converting
+
+-- the lock of an accepted conversion was granted, to its caller, and stands on the same resource now, with the whole
+-- request that is asked for
+abbrev pub ConvertedLocksStandAsAskedFor : State → Type 0
+ConvertedLocksStandAsAskedFor old = (c : Conversion) (choice : Option Row) (cond : Cond) (lkid : ℕ)
+    → IsChoice old (Convert c) choice → (stepped old (Convert c) choice).answer ≡ Lock cond lkid
+    → Any (λ before.
+    Any (λ was. (was.lkid ≡ lkid) × (was.pid ≡ c.pid)
+    × Any (λ r. IsSameResource before r × StandsConverted was (new_conversion old.next_request c) r)
+    (stepped old (Convert c) choice).state.resources) before.granted)
+    old.resources

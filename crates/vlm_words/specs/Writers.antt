@@ -1,0 +1,70 @@
+-- Which locks change value blocks, and to what.
+use Rattle.std.specs.Prelude.{◌≡◌, ◌≢◌, ◌⊎◌, ◌-◌, ◌++◌, ℕ, Bool, true, false, List, replicate, slice_index_or, All, Any, Option, None, Some}
+use Rattle.vlm_words.specs.declared.locks.Request.{Request}
+use Rattle.vlm_words.specs.declared.locks.Row.{Row}
+use Rattle.vlm_words.specs.declared.modes.Mode.TheVariants.{Pw, Ex}
+use Rattle.vlm_words.specs.declared.modes.Mode.{Mode}
+use Rattle.vlm_words.specs.declared.resources.ValueBlock.{ValueBlock}
+use Rattle.vlm_words.specs.declared.steps.Step.TheVariants.{Convert, Deq}
+use Rattle.vlm_words.specs.declared.steps.Step.{Step}
+use Rattle.vlm_words.specs.Flags.{cancel, has_flag, invvalblk, valblk}
+use Rattle.vlm_words.specs.State.{Process, Resource, State, process_of}
+use Rattle.vlm_words.specs.Checks.{named_lkid}
+use Rattle.vlm_words.specs.Written.{blank_block}
+use Rattle.vlm_words.specs.Stepped.{stepped}
+
+-- what is held is PW or EX
+abbrev pub IsWriter : Option Request → Type 0
+IsWriter None = ⊥
+IsWriter (Some held) = (held.mode ≡ Pw) ⊎ (held.mode ≡ Ex)
+
+-- a conversion of what is held to the mode writes: from PW to another mode than EX, or from EX
+abbrev pub WritesFrom : Option Request → Mode → Type 0
+WritesFrom None mode = ⊥
+WritesFrom (Some held) mode = ((held.mode ≡ Pw) × (mode ≢ Ex)) ⊎ (held.mode ≡ Ex)
+
+-- the step writes the value block of the resource: by a conversion with VALBLK of a lock that is granted there and that
+-- writes, or as a lock that is held there at PW or EX, granted or converting, is given up
+abbrev pub WritesValue : State → Step → Resource → Type 0
+WritesValue s (Convert c) r =
+    (has_flag c.flags valblk ≡ true)
+    × Any (λ row. (row.lkid ≡ named_lkid s c.pid c.lock) × WritesFrom row.held c.mode) r.granted
+WritesValue s (Deq d) r =
+    (has_flag d.flags cancel ≡ false)
+    × Any (λ row. (row.lkid ≡ named_lkid s d.pid d.lock) × IsWriter row.held) (r.granted ++ r.converting)
+WritesValue s step r = ⊥
+
+-- what a lock leaves as it is given up: the value that is given, valid, or what was there; with INVVALBLK it is
+-- invalid, whichever
+abbrev pub LeavesValue : Option (List ℕ) → Bool → ValueBlock → ValueBlock → Type 0
+LeavesValue (Some value) false before after = (after.value ≡ value) × (after.valid ≡ true)
+LeavesValue (Some value) true before after = (after.value ≡ value) × (after.valid ≡ false)
+LeavesValue None false before after = after ≡ before
+LeavesValue None true before after = (after.value ≡ before.value) × (after.valid ≡ false)
+
+-- what a step that writes makes of the value block: a conversion writes the value part of the status block that it
+-- names, and it is valid
+abbrev pub IsWrittenValue : State → Step → ValueBlock → ValueBlock → Type 0
+IsWrittenValue s (Convert c) before after = (p : Process) → process_of s.processes c.pid ≡ Some p
+    → (after.value ≡ (slice_index_or p.blocks (c.block - 1) blank_block).value) × (after.valid ≡ true)
+IsWrittenValue s (Deq d) before after = LeavesValue d.value (has_flag d.flags invvalblk) before after
+IsWrittenValue s step before after = ⊥
+
+-- the resource was there, and its value block is as the step writes it, or as it was
+pub record HasItsValue (s : State) (step : Step) (before after : Resource) : Type 0 where
+  pub serial : after.serial ≡ before.serial
+  pub written :
+      WritesValue s step before → IsWrittenValue s step before.value_block after.value_block
+  pub kept : (WritesValue s step before → ⊥) → after.value_block ≡ before.value_block
+
+-- the resource was not there, and its value block is zeros and valid
+pub record HasNewValue (s : State) (after : Resource) : Type 0 where
+  pub made : All (λ before. before.serial ≢ after.serial) s.resources
+  pub zeros : after.value_block.value ≡ replicate 16 0
+  pub valid : after.value_block.valid ≡ true
+
+-- only a step whose own lock is held at PW or EX changes the value block of its resource
+abbrev pub OnlyWritersChangeValues : State → Step → Option Row → Type 0
+OnlyWritersChangeValues old step choice =
+    All (λ after. Any (λ before. HasItsValue old step before after) old.resources ⊎ HasNewValue old after)
+    (stepped old step choice).state.resources
