@@ -14,7 +14,9 @@ use Rattle.vlm_locks.specs.Plain.{plain_resource}
 use Rattle.vlm_locks.specs.Rest.{but_service}
 use Rattle.vlm_locks.specs.Serving.{IsLeft, IsServed, IsServiceOf, service_from}
 use Rattle.vlm_locks.proofs.Found.{on_resource-put, resource_at-at, resource_at-put}
+use Rattle.vlm_locks.specs.Staying.{LocksStay}
 use Rattle.vlm_locks.proofs.Granting.{blocks_after_append}
+use Rattle.vlm_locks.proofs.Staying.{none_joins_under_block, stay_twice, stays_under_block}
 use Rattle.vlm_locks.proofs.Moves.{locks_found, none_queued}
 
 -- a change of one resource, and then another
@@ -64,6 +66,8 @@ module _ (res : ℕ) (old_block : ValueBlock) (old : Records) (block : ValueBloc
         had = first.had;
         left = second.left;
         change = left_then res first.had first.left second.left old s new first.change (subst (λ x. IsLeft res x second.left s new) same second.change);
+        stay = stay_twice first.had first.left second.left first.stay (subst (λ x. LocksStay x second.left) same second.stay);
+        none_join = stay_twice second.left first.left first.had (subst (LocksStay second.left) same second.none_join) first.none_join;
         resource = second.resource ∙ ap (λ x. (service_from Waiting (plain_resource x)).resource) same ∙ sym (ap (λ (d : Service). d.resource) is);
         effect =
             second.effect
@@ -84,6 +88,8 @@ module _ (res : ℕ) (old_block : ValueBlock) (old : Records) (block : ValueBloc
         had = first.had;
         left = first.left;
         change = first.change;
+        stay = first.stay;
+        none_join = first.none_join;
         resource = first.resource ∙ sym (ap (λ (d : Service). d.resource) is);
         effect = first.effect ∙ sym (ap (λ (d : Service). blocks_after d.endings (blocks_with old_block (plain_processes old))) is);
       }
@@ -135,6 +141,8 @@ module _ (res : ℕ) (old s new : Records) (old_block block : ValueBlock) (sound
       loose = ap (λ (x : Records). x.loose) wrote ∙ done.change.loose;
       processes = ap (λ (x : Records). map but_blocks x.processes) wrote ∙ done.change.processes;
     };
+    stay = stays_under_block done.had done.left block done.stay;
+    none_join = none_joins_under_block done.had done.left block done.none_join;
     resource = served_here;
     statuses = ap plain_processes wrote ∙ ap (λ (b : Blocks). b.processes) blocks;
   }

@@ -13,7 +13,9 @@ use Rattle.vlm_store.specs.declared.keys.Place.TheVariants.{Queued}
 use Rattle.vlm_store.specs.Records.{HasResource, IsSound, Records, SameButBlocks, StoredLock, StoredResource, Stores, first_at, locks_at, moving, plain_processes, queued, resource_at, rows_of, with_lists}
 use Rattle.vlm_locks.specs.Plain.{plain_resource}
 use Rattle.vlm_locks.specs.Serving.{IsLeft, IsServiceOf, service_from, wanted_fits_beside}
+use Rattle.vlm_locks.specs.Staying.{LocksStay}
 use Rattle.vlm_locks.proofs.Found.{on_resource-own}
+use Rattle.vlm_locks.proofs.Staying.{all_stay, none_join_granted, stay_granted, stay_twice}
 use Rattle.vlm_locks.proofs.Moves.{IsHead, alone_here, behind, granted_first, granted_first-queue, head_is, left_next, locks_found, none_queued}
 
 -- what ends first takes effect first
@@ -69,6 +71,8 @@ pub record IsServing (queue : Queue) (res : ℕ) (old_block : ValueBlock) (old :
   pub had : StoredResource
   pub left : StoredResource
   pub change : IsLeft res had left old s
+  pub stay : LocksStay had left
+  pub none_join : LocksStay left had
   pub resource : (service_from queue (plain_resource left)).resource ≡ (service_from queue (plain_resource had)).resource
   pub effect : blocks_after (service_from queue (plain_resource left)).endings (blocks_with block (plain_processes s))
       ≡ blocks_after (service_from queue (plain_resource had)).endings (blocks_with old_block (plain_processes old))
@@ -90,6 +94,8 @@ serving_begun queue res block s sound there = of_found (resource_at res s.resour
         loose = refl;
         processes = refl;
       };
+      stay = all_stay r;
+      none_join = all_stay r;
       resource = refl;
       effect = refl;
     }
@@ -101,6 +107,8 @@ module _ (queue : Queue) (res : ℕ) (old_block : ValueBlock) (old : Records) (b
     had = serving.had;
     left = serving.left;
     change = serving.change;
+    stay = serving.stay;
+    none_join = serving.none_join;
     resource = sym (ap (λ (d : Service). d.resource) none) ∙ serving.resource;
     effect = sym (ap (λ (d : Service). blocks_after d.endings (blocks_with block (plain_processes s))) none) ∙ serving.effect;
   }
@@ -139,6 +147,8 @@ module _ (queue : Queue) (res : ℕ) (old_block : ValueBlock) (old : Records) (b
             had = serving.had;
             left = next;
             change = left_next old s new sound res serving.had serving.left queue at row serving.change head (granted_row row) differs moved;
+            stay = stay_twice serving.had serving.left next serving.stay (stay_granted serving.left at row queue head);
+            none_join = stay_twice next serving.left serving.had (none_join_granted serving.left at row queue head) serving.none_join;
             resource = sym (ap (λ (d : Service). d.resource) step) ∙ serving.resource;
             effect =
                 ap (blocks_after (service_from queue (plain_resource next)).endings) wrote

@@ -1,5 +1,6 @@
 pub mod Found
 pub mod Moves
+pub mod Staying
 pub mod Granting
 pub mod Ended
 pub mod Changed

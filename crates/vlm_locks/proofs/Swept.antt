@@ -8,16 +8,18 @@ use Rattle.vlm_words.specs.declared.resources.Queue.TheVariants.{Granted, Conver
 use Rattle.vlm_words.specs.Grants.{is_empty}
 use Rattle.vlm_words.specs.State.{Process}
 use Rattle.vlm_words.specs.Sweeps.{blocks_after_service, is_vacant, resource_after_service}
-use Rattle.vlm_store.specs.Records.{IsIdle, IsResourceAmong, IsSound, Records, StoredResource, but_blocks, on_resource, plain_processes, queued, resource_at, rows_of, without_resource}
+use Rattle.vlm_store.specs.Records.{IsAmong, IsIdle, IsResourceAmong, IsSound, Records, StoredResource, but_blocks, on_resource, plain_processes, queued, resource_at, rows_of, without_resource}
 use Rattle.vlm_queue.proofs.Idle.{none_shown}
 use Rattle.vlm_locks.specs.Plain.{plain_resource}
 use Rattle.vlm_locks.specs.Rest.{but_service}
 use Rattle.vlm_locks.specs.Serving.{IsServed}
+use Rattle.vlm_locks.specs.Staying.{LocksStay}
 use Rattle.vlm_locks.specs.Sweeping.{IsSwept, Parted}
 use Rattle.vlm_locks.proofs.Found.{resource_alone, resource_at-put}
 use Rattle.vlm_locks.proofs.Moves.{locks_found}
 use Rattle.vlm_locks.proofs.Parting.{after_differ, before_differ, own_there}
 use Rattle.vlm_locks.proofs.Replaced.{left_at}
+use Rattle.vlm_locks.proofs.Staying.{stay_alone, stay_none}
 
 -- resources of other keys stay where one is put in the place of another
 put_apart : (res : ℕ) (left : StoredResource) (rs : List StoredResource) → ((x : StoredResource) → IsResourceAmong x rs → x.at ≢ res) → on_resource res (λ r. left) rs ≡ rs
@@ -105,6 +107,8 @@ module _ (res : ℕ) (old s : Records) (sound : IsSound old) (served : IsServed 
     served = ap (λ r. r ∷ []) shown
         ∙ sym (ap (λ b. cond b [] (resource_after_service processes (plain_resource was.own) ∷ []))
         (ap is_vacant (sym shown) ∙ not_vacant (is_vacant (plain_resource left)) (λ vacant. busy (vacant_idle s res left found vacant))));
+    stay = stay_alone was.own left (left_key ∙ sym was.keyed) (subst (λ (r : StoredResource). LocksStay r left) (sym own_is) served.stay);
+    none_join = stay_alone left was.own (was.keyed ∙ sym left_key) (subst (LocksStay left) (sym own_is) served.none_join);
     same = λ r among. elim among [ inl is ↦ subst (λ (x : StoredResource). but_service x ≡ but_service was.own) is same | inr none ↦ absurd none ];
     statuses = statuses;
     loose = served.replaced.loose;
@@ -125,6 +129,10 @@ module _ (res : ℕ) (old s : Records) (sound : IsSound old) (served : IsServed 
         ∙ without_apart res was.after (after_differ res old.resources sound.resources_apart was));
     served = sym (ap (λ b. cond b [] (resource_after_service processes (plain_resource was.own) ∷ []))
         (ap is_vacant (sym shown) ∙ idle_vacant s res left found idle));
+    stay = stay_none was.own [] (λ queue lock among.
+        let still = subst (λ (r : StoredResource). LocksStay r left) (sym own_is) served.stay queue lock among in
+        subst (IsAmong (record { at = lock.at; row = still.row })) (sym (locks_found s res left still.queue found) ∙ idle still.queue) still.among);
+    none_join = λ r queue lock among here. absurd among;
     same = λ r among. absurd among;
     statuses = ap plain_processes is ∙ statuses;
     loose = ap (λ (x : Records). x.loose) is ∙ served.replaced.loose;

@@ -12,6 +12,8 @@ use Rattle.vlm_store.specs.Records.{IsResourceAmong, IsSound, Records, StoredRes
 use Rattle.vlm_locks.specs.Plain.{plain_resource, plain_resources}
 use Rattle.vlm_locks.specs.Rest.{IsAtRest}
 use Rattle.vlm_locks.specs.Sweeping.{AreSettledBut, IsSwept, Parted, StandInOrder, but_touched}
+use Rattle.vlm_locks.specs.Staying.{LocksStayAmong}
+use Rattle.vlm_locks.proofs.Staying.{stay_all_among, stay_parts, stay_twice_among}
 use Rattle.vlm_locks.proofs.Parting.{AreToSweep, among_after, among_before, to_sweep, to_sweep_behind}
 
 -- a sweep goes on with a resource, as the law has it
@@ -30,6 +32,8 @@ pub record IsSweeping (touched later : List ℕ) (old now : Records) : Type 0 wh
   pub resources : resources_after_sweep (plain_processes now) (plain_resources now) ≡ resources_after_sweep (plain_processes old) (plain_resources old)
   pub statuses : processes_after_service (plain_processes now) (plain_resources now) ≡ processes_after_service (plain_processes old) (plain_resources old)
   pub others : but_touched touched now.resources ≡ but_touched touched old.resources
+  pub stay : LocksStayAmong old.resources now.resources
+  pub none_join : LocksStayAmong now.resources old.resources
   pub processes : map but_blocks now.processes ≡ map but_blocks old.processes
   pub rest : IsAtRest now
 
@@ -40,6 +44,8 @@ sweeping_begun touched s sound stand settled rest = record {
   resources = refl;
   statuses = refl;
   others = refl;
+  stay = stay_all_among s.resources;
+  none_join = stay_all_among s.resources;
   processes = refl;
   rest = rest;
 }
@@ -131,6 +137,13 @@ module _ (touched : List ℕ) (res : ℕ) (later : List ℕ) (old s new : Record
         ∙ ap (λ ps. processes_after_service ps (before ++ (unless_vacant (resource_after_service (plain_processes s) (plain_resource was.own)) ++ after))) swept.statuses
         ∙ sym next.statuses ∙ sym (ap (processes_after_service (plain_processes s)) shown_before) ∙ so_far.statuses;
     others = others_stay ∙ so_far.others;
+    stay = stay_twice_among old.resources s.resources new.resources so_far.stay
+        (subst (LocksStayAmong s.resources) (sym swept.resources)
+        (subst (λ rs. LocksStayAmong rs (was.before ++ (swept.left ++ was.after))) (sym was.parted) (stay_parts (was.own ∷ []) swept.left swept.stay was.before was.after)));
+    none_join = stay_twice_among new.resources s.resources old.resources
+        (subst (λ rs. LocksStayAmong rs s.resources) (sym swept.resources)
+        (subst (LocksStayAmong (was.before ++ (swept.left ++ was.after))) (sym was.parted) (stay_parts swept.left (was.own ∷ []) swept.none_join was.before was.after)))
+        so_far.none_join;
     processes = swept.processes ∙ so_far.processes;
     rest = record { none_loose = swept.loose ∙ so_far.rest.none_loose; keyed = keyed };
   }

@@ -1,4 +1,5 @@
 pub mod Plain
+pub mod Staying
 pub mod Serving
 pub mod Standing
 pub mod Rest

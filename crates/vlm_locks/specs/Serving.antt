@@ -11,6 +11,7 @@ use Rattle.vlm_words.specs.Sweeps.{blocks_after_service, resource_after_service}
 use Rattle.vlm_store.specs.Records.{Records, StoredResource, but_blocks, fits_beside, on_resource, plain_processes, resource_at}
 use Rattle.vlm_locks.specs.Plain.{plain_resource}
 use Rattle.vlm_locks.specs.Rest.{IsReplaced}
+use Rattle.vlm_locks.specs.Staying.{LocksStay}
 
 -- a resource but for its queues
 abbrev pub but_queues : StoredResource → StoredResource
@@ -21,6 +22,8 @@ pub record IsServed (res : ℕ) (old new : Records) : Type 0 where
   pub had : StoredResource
   pub left : StoredResource
   pub replaced : IsReplaced res had left old new
+  pub stay : LocksStay had left
+  pub none_join : LocksStay left had
   pub resource : plain_resource left ≡ resource_after_service (plain_processes old) (plain_resource had)
   pub statuses : plain_processes new ≡ (blocks_after_service (plain_processes old) (plain_resource had)).processes
 
@@ -54,6 +57,8 @@ pub record IsServiceOf (done : Resource → Service) (res : ℕ) (old_block : Va
   pub had : StoredResource
   pub left : StoredResource
   pub change : IsLeft res had left old new
+  pub stay : LocksStay had left
+  pub none_join : LocksStay left had
   pub resource : plain_resource left ≡ (done (plain_resource had)).resource
   pub effect : blocks_with new_block (plain_processes new)
       ≡ blocks_after (done (plain_resource had)).endings (blocks_with old_block (plain_processes old))

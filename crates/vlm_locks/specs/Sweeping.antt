@@ -7,6 +7,7 @@ use Rattle.vlm_words.specs.Sweeps.{blocks_after_service, resource_after_service}
 use Rattle.vlm_store.specs.Records.{IsResourceAmong, Records, StoredResource, but_blocks, plain_processes}
 use Rattle.vlm_locks.specs.Plain.{plain_resource}
 use Rattle.vlm_locks.specs.Rest.{but_service}
+use Rattle.vlm_locks.specs.Staying.{LocksStayAmong}
 
 -- a resource of this key, with those made before and after it
 pub record Parted (res : ℕ) (resources : List StoredResource) : Type 0 where
@@ -35,6 +36,8 @@ pub record IsSwept (res : ℕ) (old new : Records) (was : Parted res old.resourc
   pub resources : new.resources ≡ was.before ++ (left ++ was.after)
   pub served : map plain_resource left ≡ unless_vacant (resource_after_service (plain_processes old) (plain_resource was.own))
   pub same : (r : StoredResource) → IsResourceAmong r left → but_service r ≡ but_service was.own
+  pub stay : LocksStayAmong (was.own ∷ []) left
+  pub none_join : LocksStayAmong left (was.own ∷ [])
   pub statuses : plain_processes new ≡ (blocks_after_service (plain_processes old) (plain_resource was.own)).processes
   pub loose : new.loose ≡ old.loose
   pub processes : map but_blocks new.processes ≡ map but_blocks old.processes

@@ -1,10 +1,11 @@
 //! The sweep of the resources that a step has touched.
 
-ghost use Rattle.std.specs.Prelude.{◌≡◌, map};
+ghost use Rattle.std.specs.Prelude.{◌≡◌};
 ghost use Rattle.vlm_words.specs.Sweeps.{processes_after_service, resources_after_sweep};
-ghost use Rattle.vlm_store.specs.Records.{HasResource, but_blocks, plain_processes};
+ghost use Rattle.vlm_store.specs.Records.{HasResource, plain_processes};
 ghost use Rattle.vlm_locks.specs.Plain.{plain_resources};
-ghost use Rattle.vlm_locks.specs.Rest.{IsAtRest};
+ghost use Rattle.vlm_locks.specs.Rest.{IsAtRest, OwnLocksStay};
+ghost use Rattle.vlm_locks.specs.Staying.{LocksStayAmong};
 ghost use Rattle.vlm_locks.specs.Sweeping.{AreSettledBut, IsSwept, Parted, StandInOrder, but_touched};
 
 use crate::serving::serve;
@@ -37,7 +38,9 @@ pub fn sweep(store: &mut Store, touched: &[ResAt])
         ≡ processes_after_service (plain_processes store.old) (plain_resources store.old) }
     ensures others { but_touched touched.now store.new.resources
         ≡ but_touched touched.now store.old.resources }
-    ensures own_locks { map but_blocks store.new.processes ≡ map but_blocks store.old.processes }
+    ensures locks { LocksStayAmong store.old.resources store.new.resources }
+    ensures none_join { LocksStayAmong store.new.resources store.old.resources }
+    ensures own_locks { OwnLocksStay store.old store.new }
     ensures rest { IsAtRest store.new }
 {
     law_a_sweep_touches_only_what_is_not_settled();

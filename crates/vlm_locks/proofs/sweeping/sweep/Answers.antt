@@ -36,3 +36,9 @@ returns-clause-own_locks c = c.loop-res.invariant.processes
 
 pub returns-clause-rest : goal.returns-clause-rest
 returns-clause-rest c = c.loop-res.invariant.rest
+
+pub returns-clause-locks : goal.returns-clause-locks
+returns-clause-locks c = c.loop-res.invariant.stay
+
+pub returns-clause-none_join : goal.returns-clause-none_join
+returns-clause-none_join c = c.loop-res.invariant.none_join
