@@ -1,19 +1,17 @@
 -- A new request that is admitted, and its lock that has entered: the plain machine's change.
-use Rattle.std.proofs.Common.{◌≡◌, ◌+◌, ℕ, Bool, true, List, [], cond, find, unwrap_or, Option, None, Some, IfSome, IsSome, is_some, sym, ap, ◌∙◌, arith}
+use Rattle.std.proofs.Common.{◌≡◌, ◌+◌, ℕ, Bool, true, List, [], cond, find, unwrap_or, Option, None, Some, is_some, sym, ap, ◌∙◌, arith}
 use Rattle.vlm_words.specs.declared.locks.Request.{Request}
 use Rattle.vlm_words.specs.declared.locks.Row.{Row}
 use Rattle.vlm_words.specs.declared.resources.Site.{Site}
-use Rattle.vlm_words.specs.declared.resources.ValueBlock.{ValueBlock}
 use Rattle.vlm_words.specs.declared.steps.NewRequest.{NewRequest}
 use Rattle.vlm_words.specs.Effects.{blocks_after, blocks_with}
 use Rattle.vlm_words.specs.Enqueue.{enq_at_once, enq_change, enq_key, enq_processes, enq_resource, enq_row, has_resource, is_at_once, resources_after_entry}
 use Rattle.vlm_words.specs.Grants.{fits, grant_endings}
 use Rattle.vlm_words.specs.Resources.{is_at, new_resource}
 use Rattle.vlm_words.specs.State.{Process, Resource, State}
-use Rattle.vlm_words.specs.StatusBlocks.{processes_after_acceptance}
-use Rattle.vlm_store.specs.Records.{FindsResource, HasResource, Records, StoredResource, plain_processes, resource_at}
+use Rattle.vlm_store.specs.Records.{FindsResource, Records, plain_processes}
 use Rattle.vlm_locks.specs.Plain.{plain_resources}
-use Rattle.vlm_locks.specs.Entering.{resource_for}
+use Rattle.vlm_locks.specs.Entering.{processes_accepted, processes_entered, resource_for}
 use Rattle.vlm_words.specs.Trees.{enq_site}
 use Rattle.vlm_locks.specs.Rest.{IsAtRest}
 use Rattle.vlm_locks.specs.declared.entering.Entry.{Entry}
@@ -25,11 +23,6 @@ use Rattle.vlm_core.specs.Machine.{Kept, plain_state}
 pub is_at_once-new : (serial : ℕ) (site : Site) (request : Request) → is_at_once request (new_resource serial site) ≡ true
 unfolding is_at_once fits
 is_at_once-new serial site request = grind arith
-
--- what an accepted request writes to status blocks
-abbrev written : ℕ → Bool → Row → ValueBlock → List Process → List Process
-written block at_once row value_block processes =
-    (blocks_after (cond at_once (grant_endings true row) []) (blocks_with value_block (processes_after_acceptance row.pid block row.lkid processes))).processes
 
 module _ (m : Kept) (e : NewRequest) (entry : Entry) (is : IsEntry m e entry) where
   abbrev s : State
@@ -54,21 +47,16 @@ module _ (m : Kept) (e : NewRequest) (entry : Entry) (is : IsEntry m e entry) wh
       ∙ ap (λ b. resources_after_entry m.next_serial (enq_site s e) (enq_row s e) b s.resources) is.at_once
 
   -- the processes once it is accepted
-  pub processes_are : (res : ℕ) (t u : Records) → plain_processes t ≡ s.processes → HasResource res t
-      → IfSome (resource_at res t.resources) (λ r. r.value_block ≡ (resource_for entry s.resources).value_block)
-      → IfSome (resource_at res t.resources) (λ r. plain_processes u ≡ written e.block entry.at_once entry.row r.value_block (plain_processes t))
-      → plain_processes u ≡ enq_processes s e
-  processes_are res t u same there told wrote = of_found (resource_at res t.resources) there told wrote
+  pub processes_are : (u : Records) → plain_processes u ≡ processes_entered entry (resource_for entry s.resources).value_block s.processes → plain_processes u ≡ enq_processes s e
+  processes_are u statuses =
+      statuses
+      ∙ ap (λ (r : Resource). processes_entered entry r.value_block s.processes) found_is
+      ∙ ap (λ b. written b entry.row) is.at_once
+      ∙ ap (λ (x : Row). written (enq_at_once s e) x) is.row
     where
-      of_found : (found : Option StoredResource) → IsSome found → IfSome found (λ r. r.value_block ≡ (resource_for entry s.resources).value_block)
-          → IfSome found (λ r. plain_processes u ≡ written e.block entry.at_once entry.row r.value_block (plain_processes t)) → plain_processes u ≡ enq_processes s e
-      of_found None there told wrote = cc
-      of_found (Some r) there told wrote =
-          wrote
-          ∙ ap (λ b. written e.block b entry.row r.value_block (plain_processes t)) is.at_once
-          ∙ ap (λ (x : Row). written e.block (enq_at_once s e) x r.value_block (plain_processes t)) is.row
-          ∙ ap (λ v. written e.block (enq_at_once s e) (enq_row s e) v (plain_processes t)) (told ∙ ap (λ (x : Resource). x.value_block) found_is)
-          ∙ ap (written e.block (enq_at_once s e) (enq_row s e) (enq_resource s e).value_block) same
+      written : Bool → Row → List Process
+      written at_once row =
+          (blocks_after (cond at_once (grant_endings true row) []) (blocks_with (enq_resource s e).value_block (processes_accepted row.want row s.processes))).processes
 
   -- a serial is given where no resource stands under the key
   pub serial_is : IsAtRest m.records → (last last_serial : ℕ) → last_serial + 1 ≡ m.next_serial → last ≡ cond (is_some entry.res) last_serial entry.serial

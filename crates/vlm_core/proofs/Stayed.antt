@@ -1,28 +1,11 @@
 -- What stays where only processes change.
-use Rattle.std.proofs.Common.{◌≡◌, ◌⊎◌, ℕ, List, [], ◌∷◌, ◌++◌, map, refl, sym, ap, ◌∙◌, subst, inl, inr}
+use Rattle.std.proofs.Common.{◌≡◌, ◌⊎◌, ℕ, List, [], ◌∷◌, ◌++◌, sym, subst, inl, inr}
 use Rattle.vlm_words.specs.declared.steps.Declaration.{Declaration}
-use Rattle.vlm_store.specs.Records.{IsProcess, IsProcessAmong, Records, SameButBlocks, StoredProcess, but_blocks, new_stored_process}
+use Rattle.vlm_store.specs.Records.{IsProcess, IsProcessAmong, Records, StoredProcess, new_stored_process}
 use Rattle.vlm_locks.specs.Rest.{IsAtRest}
 use Rattle.vlm_locks.proofs.Found.{process_there}
 use Rattle.vlm_core.specs.declared.processes.Caller.{Caller}
 use Rattle.vlm_core.specs.Admissions.{IsCaller}
-
--- a process of the old list is in the new one, but for its status blocks
-process_kept : (old new : List StoredProcess) → map but_blocks new ≡ map but_blocks old → (p : StoredProcess) → IsProcessAmong p old
-    → (q : StoredProcess) × (IsProcessAmong q new × (but_blocks q ≡ but_blocks p))
-process_kept [] new same p among = absurd among
-process_kept (x ∷ old) [] same p among = cc
-process_kept (x ∷ old) (y ∷ new) same p among =
-    elim among [
-      | inl here ↦ (let first : but_blocks y ≡ but_blocks x = cc in (y, (inl refl, first ∙ ap (λ (z : StoredProcess). but_blocks z) here)))
-      | inr there ↦ let later = process_kept old new (cc) p there in (later.0, (inr later.1.0, later.1.1))
-    ]
-
--- a living process lives on where status blocks are written
-pub process_still : (s t : Records) (at pid : ℕ) → SameButBlocks s t → IsProcess at pid s → IsProcess at pid t
-process_still s t at pid same is =
-    let kept = process_kept s.processes t.processes same.processes is.0 is.1.0 in
-    (kept.0, (kept.1.0, ap (λ (p : StoredProcess). p.at) kept.1.1 ∙ is.1.1, ap (λ (p : StoredProcess). p.process.pid) kept.1.1 ∙ is.1.2))
 
 -- a process under its key and its identification makes steps
 pub caller_of : (caller : Caller) (s : Records) → IsProcess caller.at caller.pid s → IsCaller caller s

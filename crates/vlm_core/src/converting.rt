@@ -95,8 +95,7 @@ impl Machine {
         })
     }
 
-    // The lock converts, its status block is written, again if the conversion is granted at once, and the
-    // request number that it took is used up.
+    // The lock converts, with all that becomes of its status block, and the request number that it took is used up.
     fn convert_change(&mut self, conversion: &Conversion, admitted: &AdmittedConversion)
         requires { IsAdmittedConversion self.old conversion.now admitted.now }
         ensures change { (a : ConversionAdmission)

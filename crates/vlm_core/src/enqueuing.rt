@@ -3,14 +3,11 @@
 ghost use Rattle.std.specs.Prelude.{◌≡◌, ◌<◌, ◌^◌, ◌+◌, ℕ, true, false, is_some, find, unwrap_or, [], if◌then◌else◌, IfOk, IfSome, OnErr, OnOk};
 ghost use Rattle.std.specs.Result.{result_err};
 ghost use Rattle.vlm_words.specs.declared.resources.Site.{Site};
-ghost use Rattle.vlm_words.specs.Effects.{blocks_after, blocks_with};
 ghost use Rattle.vlm_words.specs.Enqueue.{enq_argument_refusal, enq_change, enq_form_refusal, enq_limit_refusal, enq_refusal, expedite_refusal, is_at_once, name_refusal};
 ghost use Rattle.vlm_words.specs.Resources.{is_at, new_resource};
 ghost use Rattle.vlm_words.specs.Flags.{flag_bits};
-ghost use Rattle.vlm_words.specs.Grants.{grant_endings};
-ghost use Rattle.vlm_words.specs.StatusBlocks.{processes_after_acceptance};
 ghost use Rattle.vlm_words.specs.Stepped.{Outcome};
-ghost use Rattle.vlm_store.specs.Records.{FindsResource, HasResource, IsProcess, SameButBlocks, plain_processes, resource_at};
+ghost use Rattle.vlm_store.specs.Records.{FindsResource, HasResource};
 ghost use Rattle.vlm_locks.specs.Plain.{plain_resources};
 ghost use Rattle.vlm_words.specs.Resources.{IsKeyed};
 ghost use Rattle.vlm_locks.specs.Rest.{IsAtRest, OthersStay};
@@ -25,8 +22,7 @@ use crate::parents::lock_of;
 use crate::processes::Caller;
 use crate::records::Machine;
 use std::alloc::AllocError;
-use vlm_locks::{Entry, Standing, end_by_grant, enter, enters_at_once};
-use vlm_procs::accept;
+use vlm_locks::{Entry, Standing, enter, enters_at_once};
 use vlm_store::{ResAt, Store};
 use vlm_words::conditions::Cond;
 use vlm_words::flags::EnqFlags;
@@ -79,24 +75,6 @@ fn entrance(store: &Store, key: &Key, asked: &Request) -> Found
             res: None,
             at_once: true,
         },
-    }
-}
-
-// A request is accepted: its status block is that of a pending request, and is written again if the request
-// is granted at once. A new request returns the value block and never writes it.
-fn accept_request(store: &mut Store, entry: &Entry, res: ResAt, block: u8)
-    requires owner { IsProcess entry.now.owner entry.now.row.pid store.old }
-    requires there { HasResource res store.old }
-    ensures statuses { let row = entry.now.row
-        in IfSome (resource_at res store.old.resources) (λ r. plain_processes store.new
-        ≡ (blocks_after (if entry.now.at_once then grant_endings true row else [])
-        (blocks_with r.value_block (processes_after_acceptance row.pid block row.lkid (plain_processes store.old)))).processes) }
-    ensures rest { SameButBlocks store.old store.new }
-{
-    accept(store, entry.owner, block, entry.row.lkid);
-    if entry.at_once {
-        let mut value_block = store.resource_record(res).value_block;
-        end_by_grant(&mut value_block, store, entry.owner, &entry.row, true);
     }
 }
 
@@ -223,8 +201,8 @@ impl Machine {
         }
     }
 
-    // The lock enters its resource, its status block is written, again if the request is granted at once,
-    // and the numbers that it took are used up. Where memory is refused nothing is changed.
+    // The lock enters its resource, with all that becomes of its status block, and the numbers that it took are used
+    // up. Where memory is refused nothing is changed.
     fn enq_change(
         &mut self,
         request: &NewRequest,
@@ -240,7 +218,6 @@ impl Machine {
     {
         let entry = &admitted.entry;
         let res = enter(&mut self.store, entry)?;
-        accept_request(&mut self.store, entry, res, request.block);
         self.last_lkid += 1;
         self.last_request += 1;
         self.last_serial = last_given(self.last_serial, entry);

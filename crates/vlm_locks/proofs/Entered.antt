@@ -10,17 +10,20 @@ use Rattle.vlm_words.specs.Enqueue.{resource_after_entry, resources_after_entry}
 use Rattle.vlm_words.specs.Grants.{granted_row}
 use Rattle.vlm_words.specs.Resources.{new_resource}
 use Rattle.vlm_store.specs.declared.keys.Place.TheVariants.{Loose, Queued}
-use Rattle.vlm_store.specs.Records.{AreResourcesApart, FindsResource, HasResource, IsAmong, IsProcess, IsProcessAmong, IsResourceAmong, IsSound, Records, StoredLock, StoredProcess, StoredResource, but_blocks, is_queue, joined_by, moving, on_resource, process_with_lock, queued, resource_at, resource_with, with_lists, with_new_lock, without_lock}
+use Rattle.vlm_store.specs.Records.{AreResourcesApart, FindsResource, HasResource, IsAmong, IsProcess, IsProcessAmong, IsResourceAmong, IsSameLock, IsSound, IsStored, Records, Stores, StoredLock, StoredProcess, StoredResource, but_blocks, is_queue, joined_by, moving, on_resource, process_with_lock, queued, resource_at, resource_with, with_lists, with_new_lock, without_lock}
 use Rattle.vlm_store.proofs.Undoing.{map_on, resource_is, unmoved}
 use Rattle.vlm_locks.specs.Plain.{plain_resource, plain_resources}
 use Rattle.vlm_locks.specs.Rest.{but_service}
 use Rattle.vlm_locks.proofs.Found.{resource_alone, resource_at-put}
 use Rattle.vlm_locks.specs.declared.entering.Entry.{Entry}
-use Rattle.vlm_locks.specs.Entering.{IsEntered, resource_for}
+use Rattle.vlm_locks.specs.Entering.{IsAdded, IsEntered, resource_for}
 use Rattle.vlm_words.specs.Resources.{IsKeyed}
-use Rattle.vlm_locks.specs.Rest.{IsAtRest, IsReplaced}
+use Rattle.vlm_locks.specs.Rest.{IsAtRest, IsReplaced, OtherLocksStay}
 use Rattle.vlm_locks.proofs.Keyed.{AreKeyed, finds_one, key_cases}
 use Rattle.vlm_locks.proofs.Replaced.{others_stay, rests, still_there}
+use Rattle.vlm_locks.proofs.Moves.{locks_found}
+use Rattle.vlm_locks.proofs.OtherLocks.{added_alone, locks_stay_over, moved_alone}
+use Rattle.vlm_locks.proofs.Staying.{among_last}
 use Rattle.vlm_locks.proofs.Stood.{queue_is}
 
 -- ---- a lock more at the end of a queue
@@ -217,11 +220,41 @@ module _ (s : Records) (sound : IsSound s) (rest : IsAtRest s) (e : Entry) (keye
         ap (map plain_resource) new_resources ∙ ap (λ x. map plain_resource (on_resource x (λ y. left) s.resources)) (sym found.1.1)
         ∙ entered_one e keyed found.0 left s.resources rest.keyed sound.resources_apart found.1.0 found.1.2 same_at after
 
+    -- the resource with the lock in its queue is found
+    left_found : resource_at res new.resources ≡ Some left
+    left_found =
+        ap (resource_at res) new_resources
+        ∙ resource_at-put res left s.resources found.0 (ap (λ (r : StoredResource). r.at) (joined-rest to (record { at = at; row = row }) found.0) ∙ found.1.1) found_there
+
+    -- the lock stands there
+    stands : Stores new at row
+    stands = (Queued res to, subst (IsAmong (record { at = at; row = row })) (sym (locks_found new res left to left_found)) (of_queue to))
+      where
+        of_queue : (queue : Queue) → IsAmong (record { at = at; row = row }) (queued queue (joined_by queue (record { at = at; row = row }) found.0))
+        of_queue Granted = among_last (record { at = at; row = row }) found.0.granted
+        of_queue Conversion = among_last (record { at = at; row = row }) found.0.converting
+        of_queue Waiting = among_last (record { at = at; row = row }) found.0.waiting
+
+    -- it alone is added
+    is_added : ¬ IsStored at s → IsSameLock e.row row → IsAdded e s new
+    is_added fresh same = record {
+      lock = at;
+      fresh = fresh;
+      row = row;
+      stands = stands;
+      same = same;
+      own_locks = ap (map but_blocks) new_processes;
+      others =
+          locks_stay_over at s mid new (subst (OtherLocksStay at s) (sym added) (added_alone at e.row e.owner e.parent s))
+          (subst (OtherLocksStay at mid) (sym moved) (moved_alone (Queued res to) (record { at = at; row = row }) mid));
+    }
+
     -- the lock has entered the resource
-    pub entered_by : IsProcess e.owner e.row.pid s → plain_resource left ≡ resource_after_entry e.row e.at_once (plain_resource found.0)
+    pub entered_by : ¬ IsStored at s → IsSameLock e.row row → IsProcess e.owner e.row.pid s → plain_resource left ≡ resource_after_entry e.row e.at_once (plain_resource found.0)
         → IsEntered e res s new
-    entered_by owner after = record {
+    entered_by fresh same owner after = record {
       entered = entered_here after;
+      added = is_added fresh same;
       processes = ap (map (λ (p : StoredProcess). p.process)) new_processes ∙ processes_kept e.owner e.parent at s.processes;
       owner = (
         process_with_lock e.owner e.parent at owner.0,
@@ -229,7 +262,7 @@ module _ (s : Records) (sound : IsSound s) (rest : IsAtRest s) (e : Entry) (keye
       );
       value_block =
           subst (λ o. IfSome o (λ r. r.value_block ≡ (resource_for e (plain_resources s)).value_block))
-          (sym (ap (resource_at res) new_resources ∙ resource_at-put res left s.resources found.0 (ap (λ (r : StoredResource). r.at) (joined-rest to (record { at = at; row = row }) found.0) ∙ found.1.1) found_there))
+          (sym left_found)
           (joined-value_block to (record { at = at; row = row }) found.0 ∙ sym (ap (λ r. r.value_block) resource_is_found));
       others = others_stay res found.0 left (owned_by e at s) new replaced;
       there = still_there res found.0 left (owned_by e at s) new replaced;

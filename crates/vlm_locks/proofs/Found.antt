@@ -3,7 +3,7 @@ use Rattle.std.proofs.Common.{◌≡◌, ℕ, List, [], ◌∷◌, map, cond, So
 use Rattle.std.specs.Prelude.{◌==◌}
 use Rattle.std.proofs.lemmas.Bool.{cases_eq}
 use Rattle.std.proofs.lemmas.Option.{none-some, same_Some}
-use Rattle.vlm_store.specs.Records.{AreResourcesApart, HasProcess, IsProcess, IsProcessAmong, IsResourceAmong, Records, StoredProcess, StoredResource, on_resource, process_at, resource_at}
+use Rattle.vlm_store.specs.Records.{AreResourcesApart, HasProcess, IsProcess, IsProcessAmong, IsResourceAmong, Records, StoredProcess, StoredResource, on_resource, process_at, resource_at, SameButBlocks, but_blocks}
 use Rattle.vlm_store.proofs.Undoing.{map_on, resource_is}
 
 process_found : (at : ℕ) (p : StoredProcess) (ps : List StoredProcess) → IsProcessAmong p ps → p.at ≡ at → IsSome (process_at at ps)
@@ -70,3 +70,20 @@ on_resource-put res left change (x ∷ rs) keyed =
       | inl same ↦ rw (eq-eqb x.at res same, eq-eqb left.at res keyed) (ap (λ rest. change left ∷ rest) (on_resource-put res left change rs keyed))
       | inr differs ↦ rw (ne_eqb x.at res differs, ne_eqb x.at res differs) (ap (λ rest. x ∷ rest) (on_resource-put res left change rs keyed))
     ]
+
+-- a process of the old list is in the new one, but for its status blocks
+process_kept : (old new : List StoredProcess) → map but_blocks new ≡ map but_blocks old → (p : StoredProcess) → IsProcessAmong p old
+    → (q : StoredProcess) × (IsProcessAmong q new × (but_blocks q ≡ but_blocks p))
+process_kept [] new same p among = absurd among
+process_kept (x ∷ old) [] same p among = cc
+process_kept (x ∷ old) (y ∷ new) same p among =
+    elim among [
+      | inl here ↦ (let first : but_blocks y ≡ but_blocks x = cc in (y, (inl refl, first ∙ ap (λ (z : StoredProcess). but_blocks z) here)))
+      | inr there ↦ let later = process_kept old new (cc) p there in (later.0, (inr later.1.0, later.1.1))
+    ]
+
+-- a living process lives on where status blocks are written
+pub process_still : (s t : Records) (at pid : ℕ) → SameButBlocks s t → IsProcess at pid s → IsProcess at pid t
+process_still s t at pid same is =
+    let kept = process_kept s.processes t.processes same.processes is.0 is.1.0 in
+    (kept.0, (kept.1.0, ap (λ (p : StoredProcess). p.at) kept.1.1 ∙ is.1.1, ap (λ (p : StoredProcess). p.process.pid) kept.1.1 ∙ is.1.2))

@@ -9,7 +9,7 @@ use Rattle.vlm_words.specs.Enqueue.{resources_after_entry}
 use Rattle.vlm_words.specs.Resources as plain
 use Rattle.vlm_store.specs.declared.keys.Place.{Place}
 use Rattle.vlm_store.specs.declared.keys.Place.TheVariants.{Loose, Queued}
-use Rattle.vlm_store.specs.Records.{FindsResource, HasResource, IsAmong, IsIdle, IsNewKey, IsNewLock, IsParentOf, IsResourceAmong, Records, StoredResource, locks_at, new_resource, queued, resource_at, without_resource}
+use Rattle.vlm_store.specs.Records.{FindsResource, HasResource, IsAmong, IsIdle, IsNewKey, IsNewLock, IsParentOf, IsResourceAmong, Records, StoredResource, locks_at, new_resource, queued, resource_at, without_lock, without_resource}
 use Rattle.vlm_words.specs.declared.locks.Row.{Row}
 use Rattle.vlm_locks.specs.Plain.{plain_resource, plain_resources}
 use Rattle.vlm_locks.specs.declared.entering.Entry.{Entry}
@@ -151,6 +151,15 @@ module _ (e : Entry) (res : ℕ) (s : Records) where
     pub entered_made : (new : Records) → IsEntered e res (with_made e res s) new → IsEntered e res s new
     entered_made new entered = record {
       entered = entered.entered ∙ same_after;
+      added = record {
+        lock = entered.added.lock;
+        fresh = λ stored. entered.added.fresh (stored.0, (stored.1.0, subst (IsAmong (record { at = entered.added.lock; row = stored.0 })) (sym (same_locks stored.1.0)) stored.1.1));
+        row = entered.added.row;
+        stands = entered.added.stands;
+        same = entered.added.same;
+        own_locks = entered.added.own_locks;
+        others = λ place. entered.added.others place ∙ ap (without_lock entered.added.lock) (same_locks place);
+      };
       processes = entered.processes;
       owner = entered.owner;
       value_block = subst (λ b. IfSome (resource_at res new.resources) (λ r. r.value_block ≡ b)) (ap (λ r. r.value_block) same_for) entered.value_block;

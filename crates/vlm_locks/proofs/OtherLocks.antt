@@ -1,14 +1,15 @@
 -- What a change of one lock leaves of all others.
-use Rattle.std.proofs.Common.{◌≡◌, ℕ, Bool, true, false, not, cond, List, [], ◌∷◌, ◌++◌, map, refl, sym, ap, ◌∙◌, inl, inr, eq-eqb, ne_eqb}
+use Rattle.std.proofs.Common.{◌≡◌, ℕ, Bool, true, false, not, cond, List, [], ◌∷◌, ◌++◌, map, Option, refl, sym, ap, ◌∙◌, inl, inr, eq-eqb, ne_eqb}
 use Rattle.std.specs.Prelude.{◌==◌}
 use Rattle.std.specs.Option.{option_map_or}
 use Rattle.std.proofs.lemmas.Bool.{cases_eq}
+use Rattle.vlm_words.specs.declared.locks.Row.{Row}
 use Rattle.vlm_words.specs.declared.resources.Queue.{Queue}
 use Rattle.vlm_words.specs.declared.resources.Queue.TheVariants.{Granted, Conversion, Waiting}
 use Rattle.vlm_words.specs.declared.resources.ValueBlock.{ValueBlock}
 use Rattle.vlm_store.specs.declared.keys.Place.{Place}
 use Rattle.vlm_store.specs.declared.keys.Place.TheVariants.{Loose, Queued}
-use Rattle.vlm_store.specs.Records.{Records, SameButBlocks, StoredLock, StoredProcess, StoredResource, but_blocks, is_place, leaving, locks_at, moving, on_resource, process_without_lock, queued, resource_at, resource_with, with_lists, without_lock, without_stored_lock}
+use Rattle.vlm_store.specs.Records.{Records, SameButBlocks, StoredLock, StoredProcess, StoredResource, but_blocks, is_place, leaving, locks_at, moving, on_resource, process_without_lock, queued, resource_at, resource_with, with_lists, with_new_lock, without_lock, without_stored_lock}
 use Rattle.vlm_locks.specs.Rest.{OtherLocksStay}
 use Rattle.vlm_locks.specs.Withdrawing.{owned_after}
 
@@ -61,6 +62,11 @@ lists_stay lock change stays s (Queued x queue) = of_list s.resources
 -- a lock moves
 pub moved_alone : (to : Place) (k : StoredLock) (s : Records) → OtherLocksStay k.at s (with_lists (moving to k) s)
 moved_alone to k s = lists_stay k.at (moving to k) (without_moved to k) s
+
+-- a lock is made that stands in no queue
+pub added_alone : (lock : ℕ) (row : Row) (owner : ℕ) (parent : Option ℕ) (s : Records) → OtherLocksStay lock s (with_new_lock lock row owner parent s)
+added_alone lock row owner parent s Loose = without_joined (record { at = lock; row = row }) s.loose
+added_alone lock row owner parent s (Queued x queue) = refl
 
 -- a lock is removed
 pub removed_alone : (lock : ℕ) (s : Records) → OtherLocksStay lock s (without_stored_lock lock s)

@@ -52,7 +52,7 @@ among_front : (lock : StoredLock) (xs ys : List StoredLock) → IsAmong lock xs 
 among_front lock [] ys among = absurd among
 among_front lock (x ∷ xs) ys among = elim among [ inl here ↦ inl here | inr there ↦ inr (among_front lock xs ys there) ]
 
-among_last : (lock : StoredLock) (xs : List StoredLock) → IsAmong lock (xs ++ lock ∷ [])
+pub among_last : (lock : StoredLock) (xs : List StoredLock) → IsAmong lock (xs ++ lock ∷ [])
 among_last lock [] = inl refl
 among_last lock (x ∷ xs) = inr (among_last lock xs)
 

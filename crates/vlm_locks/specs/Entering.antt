@@ -1,20 +1,49 @@
 -- The entry of a new lock into the queues of a resource.
-use Rattle.std.specs.Prelude.{◌≡◌, ℕ, List, find, unwrap_or, IfSome}
+use Rattle.std.specs.Prelude.{◌≡◌, ℕ, true, List, [], find, map, unwrap_or, IfSome, Option, None, Some, if◌then◌else◌}
+use Rattle.vlm_words.specs.declared.locks.Request.{Request}
+use Rattle.vlm_words.specs.declared.locks.Row.{Row}
+use Rattle.vlm_words.specs.Effects.{blocks_after, blocks_with}
 use Rattle.vlm_words.specs.Enqueue.{resources_after_entry}
+use Rattle.vlm_words.specs.Grants.{grant_endings}
 use Rattle.vlm_words.specs.Resources.{is_at, new_resource}
-use Rattle.vlm_words.specs.State.{Resource}
-use Rattle.vlm_store.specs.Records.{HasResource, IsProcess, Records, plain_processes, resource_at}
+use Rattle.vlm_words.specs.State.{Process, Resource}
+use Rattle.vlm_words.specs.StatusBlocks.{processes_after_acceptance}
+use Rattle.vlm_words.specs.declared.resources.ValueBlock.{ValueBlock}
+use Rattle.vlm_store.specs.Records.{HasResource, IsProcess, IsSameLock, IsStored, Records, Stores, but_blocks, plain_processes, process_with_lock, resource_at}
 use Rattle.vlm_locks.specs.Plain.{plain_resources}
 use Rattle.vlm_locks.specs.declared.entering.Entry.{Entry}
-use Rattle.vlm_locks.specs.Rest.{IsAtRest, OthersStay}
+use Rattle.vlm_locks.specs.Rest.{IsAtRest, OtherLocksStay, OthersStay}
 
 -- the resource that the lock finds under its key: a new one where none is there
 abbrev pub resource_for : Entry → List Resource → Resource
 resource_for e resources = unwrap_or (find (is_at e.site.key) resources) (new_resource e.serial e.site)
 
+-- the processes once what a lock wants is accepted: its status block is that of a pending request
+abbrev pub processes_accepted : Option Request → Row → List Process → List Process
+processes_accepted None row processes = processes
+processes_accepted (Some want) row processes = processes_after_acceptance row.pid want.block row.lkid processes
+
+-- the processes once a new lock has entered: its request is accepted, and has ended if it is granted at once
+abbrev pub processes_entered : Entry → ValueBlock → List Process → List Process
+processes_entered e block processes =
+    (blocks_after (if e.at_once then grant_endings true e.row else [])
+    (blocks_with block (processes_accepted e.row.want e.row processes))).processes
+
+-- one lock is added, that of the entry, under a key that no lock had: it is the last of its process, and of those below
+-- its parent; each other lock stands where it stood
+pub record IsAdded (e : Entry) (old new : Records) : Type 0 where
+  pub lock : ℕ
+  pub fresh : ¬ IsStored lock old
+  pub row : Row
+  pub stands : Stores new lock row
+  pub same : IsSameLock e.row row
+  pub own_locks : map but_blocks new.processes ≡ map but_blocks (map (process_with_lock e.owner e.parent lock) old.processes)
+  pub others : OtherLocksStay lock old new
+
 -- the lock has entered the resource of this key, in the queue where its request puts it, and nothing else changed
 pub record IsEntered (e : Entry) (res : ℕ) (old new : Records) : Type 0 where
   pub entered : plain_resources new ≡ resources_after_entry e.serial e.site e.row e.at_once (plain_resources old)
+  pub added : IsAdded e old new
   pub processes : plain_processes new ≡ plain_processes old
   pub owner : IsProcess e.owner e.row.pid new
   pub value_block : IfSome (resource_at res new.resources) (λ r. r.value_block ≡ (resource_for e (plain_resources old)).value_block)

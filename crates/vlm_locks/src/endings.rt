@@ -31,7 +31,7 @@ fn grant_act(held: Option<Request>, want: &Request) -> Act
 /// status block of the lock's process, and with VALBLK the value block is returned there, or written from
 /// there.
 #[tactic(auto, unfolding(vlm_words::specs::Effects::blocks_after_return, vlm_words::specs::Effects::blocks_after_writing))]
-pub fn end_by_grant(
+pub(crate) fn end_by_grant(
     value_block: &mut ValueBlock,
     store: &mut Store,
     at: ProcAt,

@@ -2,14 +2,16 @@
 
 ghost use Rattle.std.specs.Prelude.{◌≡◌, Some, IfOk, IfSome, OnErr, OnOk};
 ghost use Rattle.vlm_words.specs.Enqueue.{is_at_once, resources_after_entry};
-ghost use Rattle.vlm_store.specs.Records.{FindsResource, HasResource, IsNewKey, IsNewLock, IsParentOf, IsProcess, StoredResource, plain_processes, resource_at};
+ghost use Rattle.vlm_store.specs.Records.{FindsResource, HasResource, IsNewKey, IsNewLock, IsParentOf, IsProcess, SameButBlocks, StoredResource, plain_processes, resource_at};
 ghost use Rattle.vlm_locks.specs.Plain.{plain_resource, plain_resources};
-ghost use Rattle.vlm_locks.specs.Entering.{IsEntered, resource_for};
+ghost use Rattle.vlm_locks.specs.Entering.{IsAdded, IsEntered, processes_accepted, processes_entered, resource_for};
 ghost use Rattle.vlm_words.specs.Resources.{IsKeyed};
 ghost use Rattle.vlm_locks.specs.Rest.{IsAtRest, OthersStay};
 
+use crate::endings::end_by_grant;
 use crate::grants::granted_row;
 use std::alloc::AllocError;
+use vlm_procs::accept;
 use vlm_queue::{can_hold, is_empty};
 use vlm_store::{LockAt, Place, ProcAt, ResAt, Store};
 use vlm_words::flags::EnqFlags;
@@ -94,8 +96,56 @@ fn enter_new(store: &mut Store, entry: &Entry) -> Result<ResAt, AllocError>
     }
 }
 
+// Takes a new lock in on the resource of its key, which is made if it is not there. Where memory is refused, nothing
+// is changed.
+fn take_in(store: &mut Store, entry: &Entry) -> Result<ResAt, AllocError>
+    requires rest { IsAtRest store.old }
+    requires new { IsNewLock entry.now.row.lkid store.old }
+    requires owner { IsProcess entry.now.owner entry.now.row.pid store.old }
+    requires parent { IsParentOf entry.now.parent entry.now.row store.old }
+    requires found { FindsResource store.old entry.now.site.key entry.now.res }
+    requires keyed { IsKeyed entry.now.site.domain entry.now.site.key }
+    ensures entered { IfOk result (λ res. IsEntered entry.now res store.old store.new) }
+    ensures err { OnErr result (store.new ≡ store.old) }
+{
+    let Some(res) = entry.res else {
+        return enter_new(store, entry);
+    };
+    enter_at(store, entry, res)?;
+    Ok(res)
+}
+
+// What a lock wants is accepted: its status block is that of a pending request.
+fn accept_want(store: &mut Store, owner: ProcAt, row: &Row)
+    requires { IsProcess owner row.now.pid store.old }
+    ensures statuses { plain_processes store.new
+        ≡ processes_accepted row.now.want row.now (plain_processes store.old) }
+    ensures rest { SameButBlocks store.old store.new }
+{
+    if let Some(want) = row.want {
+        accept(store, owner, want.block, row.lkid);
+    }
+}
+
+// The request of a lock that has entered is accepted, and ends if it is granted at once. A new request returns the
+// value block and never writes it.
+fn accept_entered(store: &mut Store, entry: &Entry, res: ResAt)
+    requires owner { IsProcess entry.now.owner entry.now.row.pid store.old }
+    requires there { HasResource res store.old }
+    ensures statuses { IfSome (resource_at res store.old.resources) (λ r. plain_processes store.new
+        ≡ processes_entered entry.now r.value_block (plain_processes store.old)) }
+    ensures rest { SameButBlocks store.old store.new }
+{
+    accept_want(store, entry.owner, &entry.row);
+    if entry.at_once {
+        let mut value_block = store.resource_record(res).value_block;
+        end_by_grant(&mut value_block, store, entry.owner, &entry.row, true);
+    }
+}
+
 /// Takes a new lock in on the resource of its key, which is made if it is not there: granted at once, or at the
-/// end of the waiting queue. Where memory is refused, nothing is changed.
+/// end of the waiting queue. The status block of its request is that of a pending one, or tells of its grant. Where
+/// memory is refused, nothing is changed.
 pub fn enter(store: &mut Store, entry: &Entry) -> Result<ResAt, AllocError>
     requires rest { IsAtRest store.old }
     requires new { IsNewLock entry.now.row.lkid store.old }
@@ -106,18 +156,16 @@ pub fn enter(store: &mut Store, entry: &Entry) -> Result<ResAt, AllocError>
     ensures entered { OnOk result (plain_resources store.new
         ≡ resources_after_entry entry.now.serial entry.now.site entry.now.row entry.now.at_once
         (plain_resources store.old)) }
-    ensures processes { OnOk result (plain_processes store.new ≡ plain_processes store.old) }
-    ensures owner { OnOk result (IsProcess entry.now.owner entry.now.row.pid store.new) }
-    ensures value_block { IfOk result (λ res. IfSome (resource_at res store.new.resources) (λ r. r.value_block
-        ≡ (resource_for entry.now (plain_resources store.old)).value_block)) }
+    ensures statuses { let block = (resource_for entry.now (plain_resources store.old)).value_block
+        in OnOk result (plain_processes store.new
+        ≡ processes_entered entry.now block (plain_processes store.old)) }
+    ensures added { OnOk result (IsAdded entry.now store.old store.new) }
     ensures others { IfOk result (λ res. OthersStay res store.old store.new) }
     ensures there { IfOk result (λ res. HasResource res store.new) }
     ensures rest { OnOk result (IsAtRest store.new) }
     ensures err { OnErr result (store.new ≡ store.old) }
 {
-    let Some(res) = entry.res else {
-        return enter_new(store, entry);
-    };
-    enter_at(store, entry, res)?;
+    let res = take_in(store, entry)?;
+    accept_entered(store, entry, res);
     Ok(res)
 }

@@ -15,7 +15,6 @@ mod withdrawals;
 mod withdrawing;
 
 pub use converting::{convert, converts_at_once};
-pub use endings::end_by_grant;
 pub use entering::{Entry, enter, enters_at_once};
 pub use finding::{Standing, find_lock, standing_of};
 pub use sweeping::sweep;

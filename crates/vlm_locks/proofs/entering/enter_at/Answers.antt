@@ -1,4 +1,4 @@
-use Rattle.std.proofs.Common.{ap, ◌∙◌}
+use Rattle.std.proofs.Common.{refl, ap, ◌∙◌}
 use Rattle.vlm_words.specs.declared.resources.Queue.TheVariants.{Granted, Waiting}
 use Rattle.vlm_words.specs.Grants.{granted_row}
 use Rattle.vlm_store.specs.declared.keys.Place.TheVariants.{Queued}
@@ -21,7 +21,7 @@ returns-then-entry-clause-entered c =
     let e = c.args.entry.now in
     entered_by c.args.store.now c.known.ensures c.requires.rest e c.requires.keyed c.args.res c.requires.found c.in_ok-lock.lock c.add_lock.new.self c.known-2.ensures c.in_ok-lock.ensures.added (granted_row e.row) Granted
     c.move_lock.new.self (c.move_lock.ensures ∙ ap (λ r. with_lists (moving (Queued c.args.res Granted) (record { at = c.in_ok-lock.lock; row = r })) c.add_lock.new.self) c.granted_row.ensures)
-    c.requires.owner
+    c.in_ok-lock.ensures.fresh (record { lkid = refl; pid = refl; parent = refl }) c.requires.owner
     (joins_granted c.in_ok-lock.lock e.row e.at_once c.requires.found.0 c.if-entry.true)
 
 -- it waits
@@ -29,5 +29,5 @@ pub returns-else-entry-clause-entered : goal.returns-else-entry-clause-entered
 returns-else-entry-clause-entered c =
     let e = c.args.entry.now in
     entered_by c.args.store.now c.known.ensures c.requires.rest e c.requires.keyed c.args.res c.requires.found c.in_ok-lock.lock c.add_lock.new.self c.known-2.ensures c.in_ok-lock.ensures.added e.row Waiting
-    c.move_lock-else-entry.new.self c.move_lock-else-entry.ensures c.requires.owner
+    c.move_lock-else-entry.new.self c.move_lock-else-entry.ensures c.in_ok-lock.ensures.fresh (record { lkid = refl; pid = refl; parent = refl }) c.requires.owner
     (joins_waiting c.in_ok-lock.lock e.row e.at_once c.requires.found.0 c.if-entry.false)

@@ -1,8 +1,6 @@
-use Rattle.std.proofs.Common.{◌≡◌, ◌+◌, map, refl, ap, ◌∙◌, subst, sym, arith}
+use Rattle.std.proofs.Common.{◌≡◌, ◌+◌, refl, ap, subst, sym, arith}
 use Rattle.vlm_words.specs.declared.locks.Row.{Row}
 use Rattle.vlm_store.specs.Records.{without_resource}
-use Rattle.vlm_locks.specs.Plain.{plain_resource}
-use Rattle.vlm_locks.proofs.Changed.{rests_still}
 use Rattle.vlm_core.specs.Admissions.{IsAdmitted}
 use Rattle.vlm_core.specs.Between.{IsBetweenSteps}
 use Rattle.vlm_core.specs.Machine.{Kept, kept, plain_state}
@@ -19,10 +17,6 @@ enter-requires-clause-new c =
     let lkid : row.lkid ≡ c.self.inside.last_lkid + 1 = ap (λ (r : Row). r.lkid) admitted.entry.row in
     new_lock c.self.inside.store row.lkid c.self.invariant.rest.none_loose (between.lkids_to_come row.lkid (omega (arith, lkid)))
 
-pub invariant_of-self-2 : goal.invariant_of-self-2
-invariant_of-self-2 c =
-    record { rest = rests_still c.enter.new.store c.accept_request.new.store c.accept_request.ensures.rest c.in_ok-res.ensures.rest }
-
 -- the plain machine's change
 pub returns-clause-change : goal.returns-clause-change
 returns-clause-change c =
@@ -31,13 +25,12 @@ returns-clause-change c =
     let entry = c.args.admitted.now.entry in
     let is = (subst (λ (m : Kept). IsAdmitted m e c.args.admitted.now) (sym c.self.view_is) c.requires.admitted).entry in
     rw (← c.self.view_is)
-    (entered_state m e entry is c.accept_request.new.store (c.self.inside.last_lkid + 1 + 1) (c.self.inside.last_request + 1 + 1) (c.last_given-self-inside.result + 1)
-    (ap (map plain_resource) c.accept_request.ensures.rest.resources ∙ resources_are m e entry is c.enter.new.store c.in_ok-res.ensures.entered)
-    (processes_are m e entry is c.in_ok-res.res c.enter.new.store c.accept_request.new.store c.in_ok-res.ensures.processes c.in_ok-res.ensures.there c.in_ok-res.ensures.value_block c.accept_request.ensures.statuses)
+    (entered_state m e entry is c.enter.new.store (c.self.inside.last_lkid + 1 + 1) (c.self.inside.last_request + 1 + 1) (c.last_given-self-inside.result + 1)
+    (resources_are m e entry is c.enter.new.store c.in_ok-res.ensures.entered)
+    (processes_are m e entry is c.enter.new.store c.in_ok-res.ensures.statuses)
     refl refl
     (serial_is m e entry is c.self.invariant.rest c.last_given-self-inside.result c.self.inside.last_serial refl c.last_given-self-inside.ensures))
 
 pub returns-clause-others : goal.returns-clause-others
 returns-clause-others c =
-    subst (λ (m : Kept). without_resource c.in_ok-res.res c.accept_request.new.store.resources ≡ without_resource c.in_ok-res.res m.records.resources) c.self.view_is
-    (ap (without_resource c.in_ok-res.res) c.accept_request.ensures.rest.resources ∙ c.in_ok-res.ensures.others)
+    subst (λ (m : Kept). without_resource c.in_ok-res.res c.enter.new.store.resources ≡ without_resource c.in_ok-res.res m.records.resources) c.self.view_is c.in_ok-res.ensures.others
