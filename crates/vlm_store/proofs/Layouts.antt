@@ -3,7 +3,6 @@ use Rattle.std.proofs.Common.{◌≡◌, ◌≢◌, ◌⊎◌, ℕ, List, [], �
 use Rattle.std.specs.Prelude.{◌==◌}
 use Rattle.std.specs.Option.{option_map_or}
 use Rattle.std.proofs.lemmas.Bool.{cases_eq}
-use Rattle.std.proofs.lemmas.Option.{none-some, same_Some}
 use Rattle.vlm_links.specs.Lists.{IsIn, IsApart, first_key, key_after, without}
 use Rattle.vlm_links.proofs.KeyLists.{IsIn-without, without_head, without_past}
 use Rattle.vlm_words.specs.declared.locks.Row.{Row}
@@ -90,18 +89,6 @@ keyed-after rows at (k ∷ ks) =
     elim (k == at) as (λ b. cond b (first_at (map (keyed rows) ks)) (at_after at (map (keyed rows) ks)) ≡ cond b (first_key ks) (key_after at ks)) [
       | true ↦ keyed-first rows ks
       | false ↦ keyed-after rows at ks
-    ]
-
-pub first_key-in : (ks : List ℕ) (at : ℕ) → Some at ≡ first_key ks → IsIn at ks
-first_key-in [] at is = absurd (none-some at (sym is))
-first_key-in (k ∷ ks) at is = inl (sym (same_Some at k is))
-
-pub key_after-in : (after : ℕ) (ks : List ℕ) (at : ℕ) → Some at ≡ key_after after ks → IsIn at ks
-key_after-in after [] at is = absurd (none-some at (sym is))
-key_after-in after (k ∷ ks) at is =
-    elim (cases_eq k after) [
-      | inl same ↦ inr (first_key-in ks at (is ∙ rw (eq-eqb k after same) refl))
-      | inr differs ↦ inr (key_after-in after ks at (is ∙ rw (ne_eqb k after differs) refl))
     ]
 
 keyed-apart : (rows : ℕ → Row) (ks : List ℕ) → IsApart ks → AreApart (map (keyed rows) ks)

@@ -15,5 +15,6 @@ pub mod Members
 pub mod OwnLocks
 pub mod Places
 pub mod Plain
+pub mod Siblings
 pub mod Undoing
 pub mod Walks

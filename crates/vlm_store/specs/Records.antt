@@ -1,6 +1,6 @@
 -- What the store shows: resources with their queues, locks, and processes with their own locks, each under
 -- its key.
-use Rattle.std.specs.Prelude.{◌≡◌, ◌⊎◌, ℕ, Bool, true, false, not, ◌==◌, ◌&&◌, ◌+◌, count_by, sum_by, List, [], ◌∷◌, ◌++◌, map, filter, find, Option, None, Some, IsSome, if◌then◌else◌}
+use Rattle.std.specs.Prelude.{◌≡◌, ◌⊎◌, ℕ, Bool, true, false, not, ◌==◌, ◌&&◌, ◌+◌, count_by, sum_by, List, [], ◌∷◌, ◌++◌, map, filter, find, flat_map, Option, None, Some, IsSome, if◌then◌else◌}
 use Rattle.std.specs.Option.{option_map_or}
 use Rattle.vlm_words.specs.declared.locks.Row.{Row}
 use Rattle.vlm_words.specs.declared.modes.Mode.{Mode}
@@ -353,6 +353,22 @@ IsParentOf (Some parent) row s = (up : Row) × (Stores s parent up × (up.lkid �
 -- the locks of a process
 abbrev pub own_at : ℕ → Records → List OwnLock
 own_at at s = option_map_or (λ p. p.own) (process_at at s.processes) []
+
+-- the keys of the locks of a process, in order of making
+abbrev pub own_keys_at : ℕ → Records → List ℕ
+own_keys_at at s = map (λ own. own.at) (own_at at s)
+
+-- the lock of this key among those of its process, if there is one
+abbrev pub own_of_key : ℕ → List OwnLock → Option OwnLock
+own_of_key at locks = find (λ own. own.at == at) locks
+
+-- the keys of the locks that stand below the one of this key, in order of making
+abbrev pub sublocks_at : ℕ → Records → List ℕ
+sublocks_at at s = option_map_or (λ own. own.sublocks) (own_of_key at (flat_map (λ p. p.own) s.processes)) []
+
+-- the lock of this key stands below no other
+abbrev pub HasNoParent : ℕ → Records → Type 0
+HasNoParent at s = (parent : ℕ) → ¬ IsIn at (sublocks_at parent s)
 
 -- how many of the locks are of the process
 abbrev pub owned_among : ℕ → List StoredLock → ℕ

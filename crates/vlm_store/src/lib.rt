@@ -5,6 +5,7 @@ mod keys;
 mod kin;
 pub mod laws;
 mod locks;
+mod neighbours;
 mod owners;
 mod processes;
 mod queues;

@@ -1,7 +1,8 @@
 use Rattle.std.proofs.Common.{◌∙◌, sym}
 use Rattle.vlm_store.specs.Shown.{keys_at, rows}
 use Rattle.vlm_store.specs.Store.{tables}
-use Rattle.vlm_store.proofs.Layouts.{HasPlace-seen, first_key-in, keyed-first, locks_at-seen}
+use Rattle.vlm_links.proofs.Walks.{first_key-in}
+use Rattle.vlm_store.proofs.Layouts.{HasPlace-seen, keyed-first, locks_at-seen}
 use Rattle.vlm_store.specs.Kept.{processes_shown}
 use Rattle.vlm_store.proofs.store.Store.first.Goals as goal
 

@@ -2,7 +2,8 @@ use Rattle.std.proofs.Common.{◌∙◌, sym}
 use Rattle.vlm_links.specs.Lists.{keys_of}
 use Rattle.vlm_store.specs.Shown.{order_links}
 use Rattle.vlm_store.specs.Store.{tables}
-use Rattle.vlm_store.proofs.Layouts.{first_key-in, first_resource-is}
+use Rattle.vlm_links.proofs.Walks.{first_key-in}
+use Rattle.vlm_store.proofs.Layouts.{first_resource-is}
 use Rattle.vlm_store.specs.Kept.{processes_shown}
 use Rattle.vlm_store.proofs.store.Store.first_resource.Goals as goal
 

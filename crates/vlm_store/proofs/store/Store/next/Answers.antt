@@ -4,7 +4,8 @@ use Rattle.vlm_store.specs.Records.{IsAmong, Records, StoredLock, locks_at}
 use Rattle.vlm_store.specs.Shown.{keys_at, noted_in, rows}
 use Rattle.vlm_store.specs.Store.{tables}
 use Rattle.vlm_store.proofs.Kept.{stored_there}
-use Rattle.vlm_store.proofs.Layouts.{key_after-in, keyed-after, among-seen, locks_at-among, locks_at-seen}
+use Rattle.vlm_links.proofs.Walks.{key_after-in}
+use Rattle.vlm_store.proofs.Layouts.{keyed-after, among-seen, locks_at-among, locks_at-seen}
 use Rattle.vlm_store.specs.Kept.{processes_shown}
 use Rattle.vlm_store.proofs.store.Store.next.Goals as goal
 

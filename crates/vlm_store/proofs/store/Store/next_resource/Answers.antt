@@ -2,7 +2,8 @@ use Rattle.std.proofs.Common.{◌∙◌, sym}
 use Rattle.vlm_links.specs.Lists.{keys_of}
 use Rattle.vlm_store.specs.Shown.{order_links}
 use Rattle.vlm_store.specs.Store.{tables}
-use Rattle.vlm_store.proofs.Layouts.{HasResource-order, key_after-in, resource_after-is}
+use Rattle.vlm_links.proofs.Walks.{key_after-in}
+use Rattle.vlm_store.proofs.Layouts.{HasResource-order, resource_after-is}
 use Rattle.vlm_store.specs.Kept.{processes_shown}
 use Rattle.vlm_store.proofs.store.Store.next_resource.Goals as goal
 
