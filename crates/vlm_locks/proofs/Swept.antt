@@ -233,14 +233,14 @@ module _ (res : ℕ) (old s : Records) (sound : IsSound old) (there : HasResourc
       ∙ sym (whole ∙ ap (λ b. before ++ (cond b [] (resource_after_service processes own ∷ []) ++ after)) left)
 
   -- no lock is left
-  pub swept_idle : IsIdle res s → (new : Records) → new ≡ record s { resources = without_resource res s.resources }
+  pub swept_idle : IsIdle res s → (new : Records) → new.resources ≡ without_resource res s.resources
       → plain_resources new ≡ resources_after_sweep processes (plain_resources old)
   swept_idle idle new is =
       let left : is_vacant (resource_after_service processes own) ≡ true = ap is_vacant (sym now.1.1) ∙ idle_vacant s res now.0 now.1.0 idle in
       let own_goes : without_resource res (parts.r ∷ parts.after) ≡ parts.after =
       ap (λ b. cond (not b) (parts.r ∷ without_resource res parts.after) (without_resource res parts.after)) (eq-eqb parts.r.at res parts.keyed)
       ∙ without-others res parts.after parts.differ_after in
-      ap plain_resources is
+      ap (map plain_resource) is
       ∙ dropped res processes old.resources s.resources served.keys served.resources
       ∙ ap (λ xs. map plain_resource (without_resource res xs)) parts.parted
       ∙ ap (map plain_resource) (without-append res parts.before (parts.r ∷ parts.after))

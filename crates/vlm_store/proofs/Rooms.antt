@@ -1,5 +1,5 @@
 -- What becomes of the room of a slab.
-use Rattle.std.proofs.Common.{◌≡◌, ℕ, suc, ◌+◌, ◌-◌, List, [], ◌∷◌, true, false, Option, None, Some, IsSome, filter, length, slice_index_or, refl, sym, ap, ◌∙◌, inl, inr, arith}
+use Rattle.std.proofs.Common.{◌≡◌, ℕ, suc, ◌+◌, ◌-◌, ◌<◌, ◌≤◌, List, [], ◌∷◌, true, false, Option, None, Some, IsSome, filter, length, slice_index_or, refl, sym, ap, ◌∙◌, inl, inr, arith}
 use Rattle.std.specs.Prelude.{is_some}
 use Rattle.std.proofs.lemmas.Bool.{cases_eq}
 use Rattle.std.proofs.lemmas.List.Sums.{length-filter}
@@ -73,3 +73,25 @@ module _ {T : Type 0} where
       let is : (room_in old).0 ≡ old.capacity - slab_len old = ap (λ (p : ℕ × ℕ). p.0) (room_is old) in
       let places : new.capacity - slab_len new ≡ (room_in old).0 + 1 = omega arith in
       room_is new ∙ ap (λ n. (n, new.vacant_key)) places ∙ ap (λ k. ((room_in old).0 + 1, k)) next
+
+  -- room is made
+  pub room_reserved : (old new : Slab T) → new ≡ record old { capacity = new.capacity } → old.capacity ≤ new.capacity → ((room_in old).0 ≤ (room_in new).0) × ((room_in new).1 ≡ (room_in old).1)
+  room_reserved old new is more =
+      let was : (room_in old).0 ≡ old.capacity - slab_len old = ap (λ (p : ℕ × ℕ). p.0) (room_is old) in
+      let len : slab_len new ≡ slab_len old = ap slab_len is in
+      let now : (room_in new).0 ≡ new.capacity - slab_len new = ap (λ (p : ℕ × ℕ). p.0) (room_is new) in
+      (omega arith, ap (λ (p : ℕ × ℕ). p.1) (room_is new) ∙ ap (λ (x : Slab T). x.vacant_key) is ∙ sym (ap (λ (p : ℕ × ℕ). p.1) (room_is old)))
+
+  -- room for one more
+  pub room_has : (nodes : Slab T) → 0 < (room_in nodes).0 → HasRoomFor nodes 1
+  room_has nodes some =
+      let is : (room_in nodes).0 ≡ nodes.capacity - slab_len nodes = ap (λ (p : ℕ × ℕ). p.0) (room_is nodes) in
+      omega arith
+
+  pub room_key : (nodes : Slab T) → (room_in nodes).1 ≡ nodes.vacant_key
+  room_key nodes = ap (λ (p : ℕ × ℕ). p.1) (room_is nodes)
+
+  pub room_place : (nodes : Slab T) → HasRoomFor nodes 1 → 0 < (room_in nodes).0
+  room_place nodes room =
+      let is : (room_in nodes).0 ≡ nodes.capacity - slab_len nodes = ap (λ (p : ℕ × ℕ). p.0) (room_is nodes) in
+      omega arith

@@ -1,6 +1,7 @@
 //! The records of the lock machine, each found by its key.
 #![tactic(auto)]
 
+mod growth;
 mod keys;
 mod kin;
 pub mod laws;

@@ -1,6 +1,8 @@
 use Rattle.std.proofs.Common.{sym, subst}
 use Rattle.vlm_words.specs.Withdrawals.{resource_without}
 use Rattle.vlm_locks.specs.Withdrawing.{IsChange}
+use Rattle.vlm_store.specs.Records.{without_stored_lock}
+use Rattle.vlm_locks.proofs.Changed.{changed_room}
 use Rattle.vlm_locks.proofs.Stood.{stored}
 use Rattle.vlm_locks.proofs.Withdrawn.{removed}
 use Rattle.vlm_locks.proofs.withdrawing.remove.Goals as goal
@@ -14,4 +16,5 @@ pub returns : goal.returns
 returns c =
     let s = c.args.store.now in
     let f = c.args.standing.now in
-    subst (IsChange f.res (resource_without f.row.lkid) s) (sym c.remove_lock.ensures) (removed s c.known.ensures f c.requires.standing c.requires.rest)
+    subst (IsChange f.res (resource_without f.row.lkid) s) (sym c.remove_lock.ensures.removed)
+    (changed_room f.res (resource_without f.row.lkid) s (without_stored_lock f.lock s) _ (removed s c.known.ensures f c.requires.standing c.requires.rest))
