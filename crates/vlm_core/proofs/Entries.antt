@@ -6,7 +6,7 @@ use Rattle.vlm_words.specs.declared.resources.Site.{Site}
 use Rattle.vlm_words.specs.declared.resources.ValueBlock.{ValueBlock}
 use Rattle.vlm_words.specs.declared.steps.NewRequest.{NewRequest}
 use Rattle.vlm_words.specs.Effects.{blocks_after, blocks_with}
-use Rattle.vlm_words.specs.Enqueue.{enq_at_once, enq_change, enq_key, enq_processes, enq_request, enq_resource, enq_row, has_resource, is_at_once, resources_after_entry}
+use Rattle.vlm_words.specs.Enqueue.{enq_at_once, enq_change, enq_key, enq_processes, enq_resource, enq_row, has_resource, is_at_once, resources_after_entry}
 use Rattle.vlm_words.specs.Grants.{fits, grant_endings}
 use Rattle.vlm_words.specs.Resources.{is_at, new_resource}
 use Rattle.vlm_words.specs.State.{Process, Resource, State}
