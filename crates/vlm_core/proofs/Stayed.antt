@@ -1,7 +1,7 @@
 -- What stays where only processes change.
 use Rattle.std.proofs.Common.{◌≡◌, ◌⊎◌, ℕ, List, [], ◌∷◌, ◌++◌, sym, subst, inl, inr}
 use Rattle.vlm_words.specs.declared.steps.Declaration.{Declaration}
-use Rattle.vlm_store.specs.Records.{IsProcess, IsProcessAmong, Records, StoredProcess, new_stored_process}
+use Rattle.vlm_store.specs.Records.{IsProcess, IsProcessAmong, IsUnchanged, Records, Room, StoredProcess, new_stored_process, with_process_room}
 use Rattle.vlm_locks.specs.Rest.{IsAtRest}
 use Rattle.vlm_locks.proofs.Found.{process_there}
 use Rattle.vlm_core.specs.declared.processes.Caller.{Caller}
@@ -17,9 +17,17 @@ among_more [] made p among = elim among [ inl here ↦ inr here | inr there ↦ 
 among_more (x ∷ ps) made p among =
     elim among [ inl here ↦ inl (inl here) | inr there ↦ elim (among_more ps made p there) [ inl was ↦ inl (inr was) | inr new ↦ inr new ] ]
 
-pub rests_declared : (s t : Records) (at pid : ℕ) (d : Declaration) → t ≡ record s { processes = s.processes ++ new_stored_process at pid d ∷ [] } → IsAtRest s → IsAtRest t
-rests_declared s t at pid d is rest =
+pub rests_declared : (s t : Records) (room : Room) (at pid : ℕ) (d : Declaration) → t ≡ with_process_room room (record s { processes = s.processes ++ new_stored_process at pid d ∷ [] }) → IsAtRest s → IsAtRest t
+rests_declared s t room at pid d is rest =
     subst IsAtRest (sym is) (record {
+      none_loose = rest.none_loose;
+      keyed = rest.keyed;
+    })
+
+-- where a call is refused for memory, nothing that holds between two steps is lost
+pub rests_refused : (s t : Records) → IsUnchanged s t → IsAtRest s → IsAtRest t
+rests_refused s t unchanged rest =
+    subst IsAtRest (sym unchanged.same) (record {
       none_loose = rest.none_loose;
       keyed = rest.keyed;
     })

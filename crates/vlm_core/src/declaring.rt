@@ -5,7 +5,7 @@ ghost use Rattle.std.specs.Result.{result_err};
 ghost use Rattle.vlm_words.specs.Declare.{declare_change, declare_refusal, next_pid};
 ghost use Rattle.vlm_words.specs.State.{node_at};
 ghost use Rattle.vlm_words.specs.Stepped.{Outcome};
-ghost use Rattle.vlm_store.specs.Records.{IsNewProcess};
+ghost use Rattle.vlm_store.specs.Records.{IsNewProcess, IsUnchanged};
 ghost use Rattle.vlm_core.specs.Between.{IsBetweenSteps};
 ghost use Rattle.vlm_core.specs.Machine.{plain_state};
 
@@ -77,7 +77,8 @@ impl Machine {
             (λ pid. pid ≡ next_pid (plain_state self.old) declaration.now.node) }
         ensures change { OnOk result
             (plain_state self.new ≡ declare_change (plain_state self.old) declaration.now) }
-        ensures err { OnErr result (self.new ≡ self.old) }
+        ensures state { OnErr result (plain_state self.new ≡ plain_state self.old) }
+        ensures unchanged { OnErr result (IsUnchanged self.old.records self.new.records) }
     {
         let pid = self.next_pid(declaration.node);
         let place = usize::from(declaration.node) - 1;

@@ -1,13 +1,14 @@
 //! The step that asks for a new lock.
 
-ghost use Rattle.std.specs.Prelude.{◌≡◌, ◌<◌, ◌^◌, ◌+◌, ℕ, true, false, is_some, find, unwrap_or, [], if◌then◌else◌, IfOk, IfSome, OnErr, OnOk};
+ghost use Rattle.std.specs.Prelude.{◌≡◌, ◌<◌, ◌^◌, ◌+◌, ℕ, true, false, is_some, find, unwrap_or, [], if◌then◌else◌, IfOk, IfSome, IsOk, OnErr, OnOk};
 ghost use Rattle.std.specs.Result.{result_err};
 ghost use Rattle.vlm_words.specs.declared.resources.Site.{Site};
 ghost use Rattle.vlm_words.specs.Enqueue.{enq_argument_refusal, enq_change, enq_form_refusal, enq_limit_refusal, enq_refusal, expedite_refusal, is_at_once, name_refusal};
 ghost use Rattle.vlm_words.specs.Resources.{is_at, new_resource};
 ghost use Rattle.vlm_words.specs.Flags.{flag_bits};
 ghost use Rattle.vlm_words.specs.Stepped.{Outcome};
-ghost use Rattle.vlm_store.specs.Records.{FindsResource, HasResource};
+ghost use Rattle.vlm_store.specs.Records.{FindsResource, HasResource, IsUnchanged};
+ghost use Rattle.vlm_locks.specs.Entering.{HasRoomToEnter};
 ghost use Rattle.vlm_locks.specs.Plain.{plain_resources};
 ghost use Rattle.vlm_words.specs.Resources.{IsKeyed};
 ghost use Rattle.vlm_locks.specs.Rest.{IsAtRest, OthersStay};
@@ -202,7 +203,7 @@ impl Machine {
     }
 
     // The lock enters its resource, with all that becomes of its status block, and the numbers that it took are used
-    // up. Where memory is refused nothing is changed.
+    // up. Where there is no room and memory is refused, nothing is changed but that there may be more room.
     fn enq_change(
         &mut self,
         request: &NewRequest,
@@ -214,7 +215,9 @@ impl Machine {
             (plain_state self.new ≡ enq_change (plain_state self.old) request.now) }
         ensures others { IfOk result (λ res. OthersStay res self.old.records self.new.records) }
         ensures there { IfOk result (λ res. HasResource res self.new.records) }
-        ensures err { OnErr result (self.new ≡ self.old) }
+        ensures succeeds { HasRoomToEnter admitted.now.entry self.old.records → IsOk result }
+        ensures state { OnErr result (plain_state self.new ≡ plain_state self.old) }
+        ensures unchanged { OnErr result (IsUnchanged self.old.records self.new.records) }
     {
         let entry = &admitted.entry;
         let res = enter(&mut self.store, entry)?;

@@ -2,7 +2,7 @@
 use Rattle.std.proofs.Common.{◌≡◌, ◌≢◌, ◌⊎◌, ℕ, List, [], ◌∷◌, ◌++◌, length, Some, None, refl, sym, ap, ◌∙◌, subst, inl, inr, eq-eqb, ne_eqb}
 use Rattle.std.proofs.lemmas.Bool.{cases_eq}
 use Rattle.std.proofs.lemmas.Option.{none-some, same_Some}
-use Rattle.vlm_links.specs.Lists.{without, IsIn, IsApart, Joins, Place, first_key, key_after, keys_from, IsChain}
+use Rattle.vlm_links.specs.Lists.{without, IsIn, IsApart, Joins, Place, before_from, first_key, key_after, keys_from, last_from, IsChain}
 use Rattle.vlm_links.proofs.KeyLists.{without_head, without_past, without_absent}
 
 -- the place is this end, or one of the keys
@@ -79,6 +79,22 @@ module _ (next prev : Place → Place) where
         | inr differs ↦
             rw (ne_eqb first key differs)
             (next_is_after (Some first) rest key chain.2 apart.1 (elim found [ inl here ↦ absurd (differs here) | inr there ↦ there ]))
+      ]
+
+  -- they lead back to the last key
+  pub prev_is_last : (from : Place) (keys : List ℕ) → IsChain next prev from keys → prev None ≡ last_from from keys
+  prev_is_last from [] chain = chain.1
+  prev_is_last from (first ∷ rest) chain = prev_is_last (Some first) rest chain.2
+
+  -- and from each key to the one that it follows
+  pub prev_is_before : (from : Place) (keys : List ℕ) (key : ℕ) → IsChain next prev from keys → IsIn key keys → prev (Some key) ≡ before_from from key keys
+  prev_is_before from [] key chain found = absurd found
+  prev_is_before from (first ∷ rest) key chain found =
+      elim (cases_eq first key) [
+        | inl same ↦ rw (eq-eqb first key same) (ap (λ k. prev (Some k)) (sym same) ∙ chain.1)
+        | inr differs ↦
+            rw (ne_eqb first key differs)
+            (prev_is_before (Some first) rest key chain.2 (elim found [ inl here ↦ absurd (differs here) | inr there ↦ there ]))
       ]
 
 module _ (next prev next' prev' : Place → Place) where

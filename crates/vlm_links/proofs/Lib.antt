@@ -2,3 +2,4 @@ pub mod Chains
 pub mod Keeping
 pub mod KeyLists
 pub mod Rings
+pub mod Walks

@@ -7,9 +7,9 @@ use Rattle.slab.proofs.SlabLemmas.{Updates-with_value}
 use Rattle.vlm_links.specs.declared.link.TheConstants.{LAST_KEY}
 use Rattle.vlm_links.specs.declared.link.Links.{Links}
 use Rattle.vlm_links.specs.declared.lists.LinkedList.{LinkedList}
-use Rattle.vlm_links.specs.Lists.{without, IsIn, IsApart, IsNoList, Joins, Place, first_key, key_after, keys_from, IsChain, IsLinked, IsRelinked, Relinks, next_in, next_of, prev_in, prev_of, keys_of, written_links}
+use Rattle.vlm_links.specs.Lists.{without, IsIn, IsApart, IsNoList, Joins, Place, first_key, key_after, key_before, keys_from, last_key, IsChain, IsLinked, IsRelinked, Relinks, next_in, next_of, prev_in, prev_of, keys_of, written_links}
 use Rattle.vlm_links.proofs.KeyLists.{IsIn-without, IsApart-without, length-without, IsIn-push, IsApart-push, length-below}
-use Rattle.vlm_links.proofs.Chains.{IsOn, Inserts, IsChain-skip, IsChain-push, IsChain-kept, keys_from-chain, next_is_first, next_is_after, prev_on, next_on, prev_end_on}
+use Rattle.vlm_links.proofs.Chains.{IsOn, Inserts, IsChain-skip, IsChain-push, IsChain-kept, keys_from-chain, next_is_first, next_is_after, prev_is_last, prev_is_before, prev_on, next_on, prev_end_on}
 
 module _ {T : Type 0} (links : T → Links) {Kind : Type 0} (nodes : Slab T) (list : LinkedList Kind) where
   -- a chain of as many keys as are counted is the list
@@ -48,6 +48,12 @@ module _ {T : Type 0} (links : T → Links) {Kind : Type 0} (nodes : Slab T) (li
 
   pub after_is : IsLinked links nodes list → (key : ℕ) → IsIn key (keys_of links nodes list) → next_in links (get nodes key) ≡ key_after key (keys_of links nodes list)
   after_is linked key listed = next_is_after (next_of links nodes list) (prev_of links nodes list) None (keys_of links nodes list) key linked.chained linked.apart listed
+
+  pub last_is : IsLinked links nodes list → list.last ≡ last_key (keys_of links nodes list)
+  last_is linked = prev_is_last (next_of links nodes list) (prev_of links nodes list) None (keys_of links nodes list) linked.chained
+
+  pub before_is : IsLinked links nodes list → (key : ℕ) → IsIn key (keys_of links nodes list) → prev_in links (get nodes key) ≡ key_before key (keys_of links nodes list)
+  before_is linked key listed = prev_is_before (next_of links nodes list) (prev_of links nodes list) None (keys_of links nodes list) key linked.chained listed
 
   -- a list and one more key count less than a number of four bytes holds
   pub room_for : IsLinked links nodes list → (key : ℕ) → key ≤ LAST_KEY → ¬ IsIn key (keys_of links nodes list) → list.len + 1 ≤ LAST_KEY + 1

@@ -33,6 +33,24 @@ key_after key (first ∷ rest) = if first == key then first_key rest else key_af
 abbrev pub Place : Type 0
 Place = Option ℕ
 
+-- the last of the keys that follow a place, or the place itself where none do
+abbrev pub last_from : Place → List ℕ → Place
+last_from from [] = from
+last_from from (first ∷ rest) = last_from (Some first) rest
+
+-- the last key, if there is one
+abbrev pub last_key : List ℕ → Option ℕ
+last_key keys = last_from None keys
+
+-- the place that stands before this key, among the keys that follow a place
+abbrev pub before_from : Place → ℕ → List ℕ → Place
+before_from from key [] = None
+before_from from key (first ∷ rest) = if first == key then from else before_from (Some first) key rest
+
+-- the key that this one follows, if there is one
+abbrev pub key_before : ℕ → List ℕ → Option ℕ
+key_before key keys = before_from None key keys
+
 -- the key at a place, and those that follow it
 abbrev pub and_on : (Place → List ℕ) → Place → List ℕ
 and_on more None = []

@@ -4,7 +4,7 @@ ghost use Rattle.std.specs.Prelude.{◌≡◌, ◌≢◌, ◌≤◌, ℕ, Some, 
 ghost use Rattle.std.specs.Option.{ForSome};
 ghost use Rattle.slab.specs.Slab.{get, ContainsKey};
 ghost use Rattle.vlm_links.specs.declared.link.Links.{Links};
-ghost use Rattle.vlm_links.specs.Lists.{IsIn, IsLinked, IsNoList, Joins, Relinks, first_key, key_after, keys_of, next_of, prev_of, without, written_links};
+ghost use Rattle.vlm_links.specs.Lists.{IsIn, IsLinked, IsNoList, Joins, Relinks, first_key, key_after, key_before, keys_of, last_key, next_of, prev_of, without, written_links};
 
 use crate::link::{LAST_KEY, Link, Links};
 use slab::Slab;
@@ -78,6 +78,23 @@ impl<Kind> LinkedList<Kind> {
         ensures { result ≡ key_after key (keys_of T.links nodes.now self.now) }
     {
         nodes[key].links().next.key()
+    }
+
+    /// The key of the last record, if there is one.
+    pub fn last<T: Linked<Kind>>(&self, nodes: &Slab<T>) -> Option<usize>
+        requires { IsLinked T.links nodes.now self.now }
+        ensures { result ≡ last_key (keys_of T.links nodes.now self.now) }
+    {
+        self.last.key()
+    }
+
+    /// The key of the record that one of the list follows, if there is one.
+    pub fn previous<T: Linked<Kind>>(&self, nodes: &Slab<T>, key: usize) -> Option<usize>
+        requires linked { IsLinked T.links nodes.now self.now }
+        requires listed { IsIn key (keys_of T.links nodes.now self.now) }
+        ensures { result ≡ key_before key (keys_of T.links nodes.now self.now) }
+    {
+        nodes[key].links().prev.key()
     }
 
     /// Puts a record that is in no list of this kind at the end.

@@ -6,7 +6,7 @@ use Rattle.vlm_words.specs.State.{Resource}
 use Rattle.vlm_words.specs.declared.resources.Queue.{Queue}
 use Rattle.vlm_words.specs.declared.resources.Queue.TheVariants.{Granted, Conversion, Waiting}
 use Rattle.vlm_store.specs.declared.keys.Place.TheVariants.{Loose, Queued}
-use Rattle.vlm_store.specs.Records.{IsOwnAmong, IsProcessAmong, IsResourceAmong, IsSound, OwnLock, Records, SameButBlocks, StoredProcess, StoredResource, leaving, plain_processes, process_without_lock, queued, resource_at, resource_with, without_lock, without_stored_lock, without_sublock}
+use Rattle.vlm_store.specs.Records.{IsOwnAmong, IsProcessAmong, IsResourceAmong, IsSound, OwnLock, Records, Rooms, SameButBlocks, StoredProcess, StoredResource, leaving, plain_processes, process_without_lock, queued, resource_at, resource_with, without_lock, without_stored_lock, without_sublock}
 use Rattle.vlm_store.proofs.Undoing.{map_on, unmoved}
 use Rattle.vlm_locks.specs.Plain.{plain_resource}
 use Rattle.vlm_locks.proofs.Found.{resource_alone}
@@ -98,6 +98,19 @@ was_own lock (x ∷ owns) own among =
         | inr there ↦ let later = was_own lock owns own there in (later.0, (inr later.1.0, later.1.1))
       ]
     ]
+
+-- a change stays one with other room
+pub changed_room : (res : ℕ) (change : Resource → Resource) (s new : Records) (room : Rooms) → IsChange res change s new → IsChange res change s (record new { room = room })
+changed_room res change s new room changes = record {
+  resources = changes.resources;
+  statuses = changes.statuses;
+  others = changes.others;
+  there = changes.there;
+  rest = record {
+    none_loose = changes.rest.none_loose;
+    keyed = changes.rest.keyed;
+  };
+}
 
 module _ (s : Records) (sound : IsSound s) (f : Standing) (standing : IsStanding f s) where
   -- another resource stays as the lock goes

@@ -10,7 +10,7 @@ use Rattle.vlm_words.specs.Enqueue.{resource_after_entry, resources_after_entry}
 use Rattle.vlm_words.specs.Grants.{granted_row}
 use Rattle.vlm_words.specs.Resources.{new_resource}
 use Rattle.vlm_store.specs.declared.keys.Place.TheVariants.{Loose, Queued}
-use Rattle.vlm_store.specs.Records.{AreResourcesApart, FindsResource, HasResource, IsAmong, IsProcess, IsProcessAmong, IsResourceAmong, IsSameLock, IsSound, IsStored, Records, Stores, StoredLock, StoredProcess, StoredResource, but_blocks, is_queue, joined_by, moving, on_resource, process_with_lock, queued, resource_at, resource_with, with_lists, with_new_lock, without_lock}
+use Rattle.vlm_store.specs.Records.{AreResourcesApart, FindsResource, HasResource, IsAmong, IsProcess, IsProcessAmong, IsResourceAmong, IsSameLock, IsSound, IsStored, Records, Room, Stores, StoredLock, StoredProcess, StoredResource, but_blocks, is_queue, joined_by, moving, on_resource, process_with_lock, queued, resource_at, resource_with, with_lists, with_lock_room, with_new_lock, without_lock}
 use Rattle.vlm_store.proofs.Undoing.{map_on, resource_is, unmoved}
 use Rattle.vlm_locks.specs.Plain.{plain_resource, plain_resources}
 use Rattle.vlm_locks.specs.Rest.{but_service}
@@ -137,7 +137,7 @@ module _ (e : Entry) (keyed : IsKeyed e.site.domain e.site.key) where
 
 -- the records once the lock stands in the list of its process and in no queue, and is not loose any more
 abbrev pub owned_by : Entry → ℕ → Records → Records
-owned_by e at s = record { resources = s.resources; loose = []; processes = map (process_with_lock e.owner e.parent at) s.processes }
+owned_by e at s = record s { loose = []; processes = map (process_with_lock e.owner e.parent at) s.processes }
 
 module _ (s : Records) (sound : IsSound s) (rest : IsAtRest s) (e : Entry) (keyed : IsKeyed e.site.domain e.site.key) (res : ℕ) (found : FindsResource s e.site.key (Some res)) where
   -- the resource of the key is there
@@ -145,10 +145,10 @@ module _ (s : Records) (sound : IsSound s) (rest : IsAtRest s) (e : Entry) (keye
   found_there = ap (λ x. resource_at x s.resources) (sym found.1.1) ∙ resource_is found.0 s.resources sound.resources_apart found.1.0
 
   -- it is there still once the lock is made
-  pub there_still : (at : ℕ) (mid : Records) → mid ≡ with_new_lock at e.row e.owner e.parent s → HasResource res mid
-  there_still at mid added = subst IsSome (sym (ap (λ (x : Records). resource_at res x.resources) added ∙ found_there)) refl
+  pub there_still : (at : ℕ) (mid : Records) (room : Room) → mid ≡ with_lock_room room (with_new_lock at e.row e.owner e.parent s) → HasResource res mid
+  there_still at mid room added = subst IsSome (sym (ap (λ (x : Records). resource_at res x.resources) added ∙ found_there)) refl
 
-  module _ (at : ℕ) (mid : Records) (mid_sound : IsSound mid) (added : mid ≡ with_new_lock at e.row e.owner e.parent s) (row : Row) (to : Queue) (new : Records)
+  module _ (at : ℕ) (mid : Records) (room : Room) (mid_sound : IsSound mid) (added : mid ≡ with_lock_room room (with_new_lock at e.row e.owner e.parent s)) (row : Row) (to : Queue) (new : Records)
       (moved : new ≡ with_lists (moving (Queued res to) (record { at = at; row = row })) mid) where
     -- the resource with the lock in its queue
     abbrev left : StoredResource
@@ -245,7 +245,7 @@ module _ (s : Records) (sound : IsSound s) (rest : IsAtRest s) (e : Entry) (keye
       same = same;
       own_locks = ap (map but_blocks) new_processes;
       others =
-          locks_stay_over at s mid new (subst (OtherLocksStay at s) (sym added) (added_alone at e.row e.owner e.parent s))
+          locks_stay_over at s mid new (subst (OtherLocksStay at s) (sym added) (added_alone at e.row e.owner e.parent room s))
           (subst (OtherLocksStay at mid) (sym moved) (moved_alone (Queued res to) (record { at = at; row = row }) mid));
     }
 

@@ -9,7 +9,7 @@ use Rattle.vlm_words.specs.Enqueue.{resources_after_entry}
 use Rattle.vlm_words.specs.Resources as plain
 use Rattle.vlm_store.specs.declared.keys.Place.{Place}
 use Rattle.vlm_store.specs.declared.keys.Place.TheVariants.{Loose, Queued}
-use Rattle.vlm_store.specs.Records.{FindsResource, HasResource, IsAmong, IsIdle, IsNewKey, IsNewLock, IsParentOf, IsResourceAmong, Records, StoredResource, locks_at, new_resource, queued, resource_at, without_lock, without_resource}
+use Rattle.vlm_store.specs.Records.{FindsResource, IsAmong, IsNewKey, IsNewLock, IsParentOf, IsResourceAmong, Records, Rooms, StoredResource, locks_at, new_resource, queued, resource_at, with_resource_room, without_lock, without_resource}
 use Rattle.vlm_words.specs.declared.locks.Row.{Row}
 use Rattle.vlm_locks.specs.Plain.{plain_resource, plain_resources}
 use Rattle.vlm_locks.specs.declared.entering.Entry.{Entry}
@@ -23,8 +23,16 @@ abbrev pub made : Entry → ℕ → StoredResource
 made e res = new_resource res e.serial e.site
 
 -- the records with the resource, the last
-abbrev pub with_made : Entry → ℕ → Records → Records
-with_made e res s = record s { resources = s.resources ++ made e res ∷ [] }
+abbrev pub with_made : Entry → ℕ → Rooms → Records → Records
+with_made e res room s = record s { resources = s.resources ++ made e res ∷ []; room = room }
+
+-- room was made, and then the resource
+pub made_is : (e : Entry) (res : ℕ) (old mid new : Records) → mid ≡ record old { room = mid.room }
+    → new ≡ with_resource_room new.room.resources (record mid { resources = mid.resources ++ made e res ∷ [] }) → new ≡ with_made e res new.room old
+made_is e res old mid new roomy added =
+    added
+    ∙ ap (λ (x : Records). record x { resources = x.resources ++ made e res ∷ []; room = record mid.room { resources = new.room.resources } }) roomy
+    ∙ ap (λ r. with_made e res r old) (sym (ap (λ (x : Records). x.room) added))
 
 -- a resource of the longer list is the last, or was there
 made_cases : (r : StoredResource) (rs : List StoredResource) (x : StoredResource) → IsResourceAmong x (rs ++ r ∷ []) → (x ≡ r) ⊎ IsResourceAmong x rs
@@ -49,7 +57,7 @@ made_at r (x ∷ rest) =
       | inr differs ↦ rw (ne_eqb x.at r.at differs) (made_at r rest)
     ]
 
-module _ (e : Entry) (res : ℕ) (s : Records) where
+module _ (e : Entry) (res : ℕ) (room : Rooms) (s : Records) where
   -- no lock stands in a queue of the new resource
   queued_none : (queue : Queue) → queued queue (made e res) ≡ []
   queued_none Granted = refl
@@ -70,22 +78,22 @@ module _ (e : Entry) (res : ℕ) (s : Records) where
       ]
 
   -- each place has the locks that it had
-  same_locks : (place : Place) → locks_at place (with_made e res s) ≡ locks_at place s
+  same_locks : (place : Place) → locks_at place (with_made e res room s) ≡ locks_at place s
   same_locks Loose = refl
   same_locks (Queued x queue) = same_queue x queue s.resources
 
   -- no lock is made with it
-  pub new_still : (lkid : ℕ) → IsNewLock lkid s → IsNewLock lkid (with_made e res s)
+  pub new_still : (lkid : ℕ) → IsNewLock lkid s → IsNewLock lkid (with_made e res room s)
   new_still lkid new at row stored = new at row (stored.0, subst (IsAmong (record { at = at; row = row })) (same_locks stored.0) stored.1)
 
   -- a parent is stored still
-  pub parent_still : (parent : Option ℕ) (row : Row) → IsParentOf parent row s → IsParentOf parent row (with_made e res s)
+  pub parent_still : (parent : Option ℕ) (row : Row) → IsParentOf parent row s → IsParentOf parent row (with_made e res room s)
   parent_still None row is = is
   parent_still (Some at) row is =
       (is.0, ((is.1.0.0, subst (IsAmong (record { at = at; row = is.0 })) (sym (same_locks is.1.0.0)) is.1.0.1), is.1.1))
 
   -- each resource is in the domain of its key
-  keyed_with : IsKeyed e.site.domain e.site.key → AreKeyed s.resources → AreKeyed (with_made e res s).resources
+  keyed_with : IsKeyed e.site.domain e.site.key → AreKeyed s.resources → AreKeyed (with_made e res room s).resources
   keyed_with keyed all x among =
       elim (made_cases (made e res) s.resources x among) [
         | inl is ↦ subst (λ (r : StoredResource). IsKeyed r.domain r.key) (sym is) keyed
@@ -93,43 +101,31 @@ module _ (e : Entry) (res : ℕ) (s : Records) where
       ]
 
   -- what held between two steps holds still
-  pub rest_still : IsKeyed e.site.domain e.site.key → IsAtRest s → IsAtRest (with_made e res s)
+  pub rest_still : IsKeyed e.site.domain e.site.key → IsAtRest s → IsAtRest (with_made e res room s)
   rest_still keyed rest = record {
     none_loose = rest.none_loose;
     keyed = keyed_with keyed rest.keyed;
   }
 
   -- the new resource stands under its key
-  pub made_found : FindsResource (with_made e res s) e.site.key (Some res)
+  pub made_found : FindsResource (with_made e res room s) e.site.key (Some res)
   made_found = (made e res, (made_last (made e res) s.resources, refl, refl))
-
-  -- it is there
-  pub made_there : HasResource res (with_made e res s)
-  made_there = made_at (made e res) s.resources
-
-  -- no lock stands in its queues
-  pub made_idle : ¬ HasResource res s → IsIdle res (with_made e res s)
-  made_idle absent queue = same_queue res queue s.resources ∙ of_found (resource_at res s.resources) absent
-    where
-      of_found : (found : Option StoredResource) → ¬ IsSome found → option_map_or (queued queue) found [] ≡ []
-      of_found None none = refl
-      of_found (Some r) none = absurd (none refl)
 
   -- ---- the entry, with it and without it
 
   module _ (keyed : IsKeyed e.site.domain e.site.key) (rest : IsAtRest s) (free : IsNewKey e.site.key s) where
     -- the lock finds the same resource
-    same_for : resource_for e (plain_resources (with_made e res s)) ≡ resource_for e (plain_resources s)
+    same_for : resource_for e (plain_resources (with_made e res room s)) ≡ resource_for e (plain_resources s)
     same_for =
         ap (λ o. unwrap_or o (plain.new_resource e.serial e.site))
-        (find-key e.site.domain e.site.key keyed (with_made e res s).resources (made e res) (keyed_with keyed rest.keyed) (made_last (made e res) s.resources) refl only)
+        (find-key e.site.domain e.site.key keyed (with_made e res room s).resources (made e res) (keyed_with keyed rest.keyed) (made_last (made e res) s.resources) refl only)
         ∙ sym (ap (λ o. unwrap_or o (plain.new_resource e.serial e.site)) (find-free e.site.domain e.site.key keyed s.resources rest.keyed free))
       where
-        only : (x : StoredResource) → IsResourceAmong x (with_made e res s).resources → x.key ≡ e.site.key → x ≡ made e res
+        only : (x : StoredResource) → IsResourceAmong x (with_made e res room s).resources → x.key ≡ e.site.key → x ≡ made e res
         only x among same = elim (made_cases (made e res) s.resources x among) [ inl is ↦ is | inr was ↦ absurd (free x was same) ]
 
     -- its entry leaves the same resources
-    same_after : resources_after_entry e.serial e.site e.row e.at_once (plain_resources (with_made e res s))
+    same_after : resources_after_entry e.serial e.site e.row e.at_once (plain_resources (with_made e res room s))
         ≡ resources_after_entry e.serial e.site e.row e.at_once (plain_resources s)
     same_after = of_list s.resources rest.keyed free
       where
@@ -148,7 +144,7 @@ module _ (e : Entry) (res : ℕ) (s : Records) where
             ]
 
     -- the lock has entered, and its resource was made for it
-    pub entered_made : (new : Records) → IsEntered e res (with_made e res s) new → IsEntered e res s new
+    pub entered_made : (new : Records) → IsEntered e res (with_made e res room s) new → IsEntered e res s new
     entered_made new entered = record {
       entered = entered.entered ∙ same_after;
       added = record {

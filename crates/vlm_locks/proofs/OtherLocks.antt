@@ -9,7 +9,7 @@ use Rattle.vlm_words.specs.declared.resources.Queue.TheVariants.{Granted, Conver
 use Rattle.vlm_words.specs.declared.resources.ValueBlock.{ValueBlock}
 use Rattle.vlm_store.specs.declared.keys.Place.{Place}
 use Rattle.vlm_store.specs.declared.keys.Place.TheVariants.{Loose, Queued}
-use Rattle.vlm_store.specs.Records.{Records, SameButBlocks, StoredLock, StoredProcess, StoredResource, but_blocks, is_place, leaving, locks_at, moving, on_resource, process_without_lock, queued, resource_at, resource_with, with_lists, with_new_lock, without_lock, without_stored_lock}
+use Rattle.vlm_store.specs.Records.{Records, Room, SameButBlocks, StoredLock, StoredProcess, StoredResource, but_blocks, is_place, leaving, locks_at, moving, on_resource, process_without_lock, queued, resource_at, resource_with, with_lists, with_lock_room, with_new_lock, without_lock, without_stored_lock}
 use Rattle.vlm_locks.specs.Rest.{OtherLocksStay}
 use Rattle.vlm_locks.specs.Withdrawing.{owned_after}
 
@@ -64,15 +64,15 @@ pub moved_alone : (to : Place) (k : StoredLock) (s : Records) → OtherLocksStay
 moved_alone to k s = lists_stay k.at (moving to k) (without_moved to k) s
 
 -- a lock is made that stands in no queue
-pub added_alone : (lock : ℕ) (row : Row) (owner : ℕ) (parent : Option ℕ) (s : Records) → OtherLocksStay lock s (with_new_lock lock row owner parent s)
-added_alone lock row owner parent s Loose = without_joined (record { at = lock; row = row }) s.loose
-added_alone lock row owner parent s (Queued x queue) = refl
+pub added_alone : (lock : ℕ) (row : Row) (owner : ℕ) (parent : Option ℕ) (room : Room) (s : Records) → OtherLocksStay lock s (with_lock_room room (with_new_lock lock row owner parent s))
+added_alone lock row owner parent room s Loose = without_joined (record { at = lock; row = row }) s.loose
+added_alone lock row owner parent room s (Queued x queue) = refl
 
 -- a lock is removed
-pub removed_alone : (lock : ℕ) (s : Records) → OtherLocksStay lock s (without_stored_lock lock s)
-removed_alone lock s place = shown place ∙ lists_stay lock (leaving lock) (λ place locks. without_twice lock locks) s place
+pub removed_alone : (lock : ℕ) (room : Room) (s : Records) → OtherLocksStay lock s (with_lock_room room (without_stored_lock lock s))
+removed_alone lock room s place = shown place ∙ lists_stay lock (leaving lock) (λ place locks. without_twice lock locks) s place
   where
-    shown : (place : Place) → without_lock lock (locks_at place (without_stored_lock lock s)) ≡ without_lock lock (locks_at place (with_lists (leaving lock) s))
+    shown : (place : Place) → without_lock lock (locks_at place (with_lock_room room (without_stored_lock lock s))) ≡ without_lock lock (locks_at place (with_lists (leaving lock) s))
     shown Loose = refl
     shown (Queued x queue) = refl
 

@@ -8,7 +8,7 @@ use Rattle.vlm_words.specs.declared.resources.Queue.TheVariants.{Granted, Conver
 use Rattle.vlm_words.specs.Grants.{is_empty}
 use Rattle.vlm_words.specs.State.{Process}
 use Rattle.vlm_words.specs.Sweeps.{blocks_after_service, is_vacant, resource_after_service}
-use Rattle.vlm_store.specs.Records.{IsAmong, IsIdle, IsResourceAmong, IsSound, Records, StoredResource, but_blocks, on_resource, plain_processes, queued, resource_at, rows_of, without_resource}
+use Rattle.vlm_store.specs.Records.{IsAmong, IsIdle, IsResourceAmong, IsSound, Records, Room, StoredResource, but_blocks, on_resource, plain_processes, queued, resource_at, rows_of, with_resource_room, without_resource}
 use Rattle.vlm_queue.proofs.Idle.{none_shown}
 use Rattle.vlm_locks.specs.Plain.{plain_resource}
 use Rattle.vlm_locks.specs.Rest.{but_service}
@@ -116,8 +116,8 @@ module _ (res : ℕ) (old s : Records) (sound : IsSound old) (served : IsServed 
   }
 
   -- no lock is left
-  pub swept_idle : IsIdle res s → (new : Records) → new ≡ record s { resources = without_resource res s.resources } → IsSwept res old new was
-  swept_idle idle new is = record {
+  pub swept_idle : IsIdle res s → (new : Records) (room : Room) → new ≡ with_resource_room room (record s { resources = without_resource res s.resources }) → IsSwept res old new was
+  swept_idle idle new room is = record {
     left = [];
     resources =
         ap (λ (x : Records). x.resources) is

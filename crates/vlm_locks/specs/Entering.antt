@@ -9,7 +9,7 @@ use Rattle.vlm_words.specs.Resources.{is_at, new_resource}
 use Rattle.vlm_words.specs.State.{Process, Resource}
 use Rattle.vlm_words.specs.StatusBlocks.{processes_after_acceptance}
 use Rattle.vlm_words.specs.declared.resources.ValueBlock.{ValueBlock}
-use Rattle.vlm_store.specs.Records.{HasResource, IsProcess, IsSameLock, IsStored, Records, Stores, but_blocks, plain_processes, process_with_lock, resource_at}
+use Rattle.vlm_store.specs.Records.{HasResource, HasRoomForLock, HasRoomForResource, IsProcess, IsSameLock, IsStored, Records, Stores, but_blocks, plain_processes, process_with_lock, resource_at}
 use Rattle.vlm_locks.specs.Plain.{plain_resources}
 use Rattle.vlm_locks.specs.declared.entering.Entry.{Entry}
 use Rattle.vlm_locks.specs.Rest.{IsAtRest, OtherLocksStay, OthersStay}
@@ -17,6 +17,11 @@ use Rattle.vlm_locks.specs.Rest.{IsAtRest, OtherLocksStay, OthersStay}
 -- the resource that the lock finds under its key: a new one where none is there
 abbrev pub resource_for : Entry → List Resource → Resource
 resource_for e resources = unwrap_or (find (is_at e.site.key) resources) (new_resource e.serial e.site)
+
+-- there is room for the lock, and for its resource where none is there
+pub record HasRoomToEnter (e : Entry) (s : Records) : Type 0 where
+  pub lock : HasRoomForLock s
+  pub resource : e.res ≡ None → HasRoomForResource s
 
 -- the processes once what a lock wants is accepted: its status block is that of a pending request
 abbrev pub processes_accepted : Option Request → Row → List Process → List Process

@@ -1,10 +1,10 @@
 //! The entry of a new lock.
 
-ghost use Rattle.std.specs.Prelude.{◌≡◌, Some, IfOk, IfSome, OnErr, OnOk};
+ghost use Rattle.std.specs.Prelude.{◌≡◌, Some, IfOk, IfSome, IsOk, OnErr, OnOk};
 ghost use Rattle.vlm_words.specs.Enqueue.{is_at_once, resources_after_entry};
-ghost use Rattle.vlm_store.specs.Records.{FindsResource, HasResource, IsNewKey, IsNewLock, IsParentOf, IsProcess, SameButBlocks, StoredResource, plain_processes, resource_at};
+ghost use Rattle.vlm_store.specs.Records.{FindsResource, HasResource, HasRoomForLock, HasRoomForResource, IsNewKey, IsNewLock, IsParentOf, IsProcess, IsUnchanged, SameButBlocks, StoredResource, plain_processes, resource_at};
 ghost use Rattle.vlm_locks.specs.Plain.{plain_resource, plain_resources};
-ghost use Rattle.vlm_locks.specs.Entering.{IsAdded, IsEntered, processes_accepted, processes_entered, resource_for};
+ghost use Rattle.vlm_locks.specs.Entering.{HasRoomToEnter, IsAdded, IsEntered, processes_accepted, processes_entered, resource_for};
 ghost use Rattle.vlm_words.specs.Resources.{IsKeyed};
 ghost use Rattle.vlm_locks.specs.Rest.{IsAtRest, OthersStay};
 
@@ -51,7 +51,7 @@ pub struct Entry {
 }
 
 // Takes a new lock in on a resource that is there: it holds what it wants where it is granted at once, else it
-// goes to the end of the waiting queue. Where memory is refused, nothing is changed.
+// goes to the end of the waiting queue. Where memory is refused, nothing is changed but that there may be more room.
 fn enter_at(store: &mut Store, entry: &Entry, res: ResAt) -> Result<(), AllocError>
     requires rest { IsAtRest store.old }
     requires new { IsNewLock entry.now.row.lkid store.old }
@@ -60,7 +60,8 @@ fn enter_at(store: &mut Store, entry: &Entry, res: ResAt) -> Result<(), AllocErr
     requires found { FindsResource store.old entry.now.site.key (Some res) }
     requires keyed { IsKeyed entry.now.site.domain entry.now.site.key }
     ensures entered { OnOk result (IsEntered entry.now res store.old store.new) }
-    ensures err { OnErr result (store.new ≡ store.old) }
+    ensures succeeds { HasRoomForLock store.old → IsOk result }
+    ensures err { OnErr result (IsUnchanged store.old store.new) }
 {
     store.known();
     let lock = store.add_lock(entry.row, entry.owner, entry.parent)?;
@@ -75,7 +76,8 @@ fn enter_at(store: &mut Store, entry: &Entry, res: ResAt) -> Result<(), AllocErr
     Ok(())
 }
 
-// Takes a new lock in on a resource that is made for it. Where memory is refused, nothing is changed.
+// Takes a new lock in on a resource that is made for it, once there is room for the lock. Where memory is refused,
+// nothing is changed but that there may be more room.
 fn enter_new(store: &mut Store, entry: &Entry) -> Result<ResAt, AllocError>
     requires rest { IsAtRest store.old }
     requires new { IsNewLock entry.now.row.lkid store.old }
@@ -84,20 +86,17 @@ fn enter_new(store: &mut Store, entry: &Entry) -> Result<ResAt, AllocError>
     requires absent { IsNewKey entry.now.site.key store.old }
     requires keyed { IsKeyed entry.now.site.domain entry.now.site.key }
     ensures entered { IfOk result (λ res. IsEntered entry.now res store.old store.new) }
-    ensures err { OnErr result (store.new ≡ store.old) }
+    ensures succeeds { HasRoomForLock store.old → HasRoomForResource store.old → IsOk result }
+    ensures err { OnErr result (IsUnchanged store.old store.new) }
 {
+    store.reserve_lock()?;
     let res = store.add_resource(entry.serial, &entry.site)?;
-    match enter_at(store, entry, res) {
-        Ok(()) => Ok(res),
-        Err(refused) => {
-            store.remove_resource(res);
-            Err(refused)
-        }
-    }
+    enter_at(store, entry, res)?;
+    Ok(res)
 }
 
-// Takes a new lock in on the resource of its key, which is made if it is not there. Where memory is refused, nothing
-// is changed.
+// Takes a new lock in on the resource of its key, which is made if it is not there. Where there is no room and memory
+// is refused, nothing is changed but that there may be more room.
 fn take_in(store: &mut Store, entry: &Entry) -> Result<ResAt, AllocError>
     requires rest { IsAtRest store.old }
     requires new { IsNewLock entry.now.row.lkid store.old }
@@ -106,7 +105,8 @@ fn take_in(store: &mut Store, entry: &Entry) -> Result<ResAt, AllocError>
     requires found { FindsResource store.old entry.now.site.key entry.now.res }
     requires keyed { IsKeyed entry.now.site.domain entry.now.site.key }
     ensures entered { IfOk result (λ res. IsEntered entry.now res store.old store.new) }
-    ensures err { OnErr result (store.new ≡ store.old) }
+    ensures succeeds { HasRoomToEnter entry.now store.old → IsOk result }
+    ensures err { OnErr result (IsUnchanged store.old store.new) }
 {
     let Some(res) = entry.res else {
         return enter_new(store, entry);
@@ -145,7 +145,7 @@ fn accept_entered(store: &mut Store, entry: &Entry, res: ResAt)
 
 /// Takes a new lock in on the resource of its key, which is made if it is not there: granted at once, or at the
 /// end of the waiting queue. The status block of its request is that of a pending one, or tells of its grant. Where
-/// memory is refused, nothing is changed.
+/// there is no room and memory is refused, nothing is changed but that there may be more room.
 pub fn enter(store: &mut Store, entry: &Entry) -> Result<ResAt, AllocError>
     requires rest { IsAtRest store.old }
     requires new { IsNewLock entry.now.row.lkid store.old }
@@ -163,7 +163,8 @@ pub fn enter(store: &mut Store, entry: &Entry) -> Result<ResAt, AllocError>
     ensures others { IfOk result (λ res. OthersStay res store.old store.new) }
     ensures there { IfOk result (λ res. HasResource res store.new) }
     ensures rest { OnOk result (IsAtRest store.new) }
-    ensures err { OnErr result (store.new ≡ store.old) }
+    ensures succeeds { HasRoomToEnter entry.now store.old → IsOk result }
+    ensures err { OnErr result (IsUnchanged store.old store.new) }
 {
     let res = take_in(store, entry)?;
     accept_entered(store, entry, res);

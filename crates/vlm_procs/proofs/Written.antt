@@ -29,5 +29,6 @@ pub blocks_alone : (s : Records) (at n : ℕ) (block : Block) → SameButBlocks 
 blocks_alone s at n block = record {
   resources = refl;
   loose = refl;
+  room = refl;
   processes = but_blocks-on_process at (process_with_block n block) (λ p. refl) s.processes;
 }

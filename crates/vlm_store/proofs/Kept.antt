@@ -1,5 +1,5 @@
 -- What the store keeps, and what a caller learns of it.
-use Rattle.std.proofs.Common.{◌≡◌, ◌≤◌, ℕ, List, [], map, replicate, arith, Option, None, Some, IfSome, IsSome, Result, Ok, Err, IsOk, OnErr, OnOk, refl, sym, ap, ◌∙◌, subst}
+use Rattle.std.proofs.Common.{◌≡◌, ◌≤◌, ℕ, [], map, replicate, arith, Option, None, Some, IfSome, IsSome, Result, Ok, Err, IsOk, OnErr, OnOk, refl, sym, ap, ◌∙◌, subst}
 use Rattle.std.proofs.lemmas.Option.{none-some, same_Some}
 use Rattle.std.specs.Option.{option_map}
 use Rattle.slab.specs.Slab.{Slab, get, ContainsKey}
@@ -16,46 +16,43 @@ use Rattle.vlm_words.specs.declared.resources.Key.{Key}
 use Rattle.vlm_store.specs.declared.keys.Place.{Place}
 use Rattle.vlm_store.specs.declared.keys.Place.TheVariants.{Loose, Queued}
 use Rattle.vlm_store.specs.declared.locks.Lock.{Lock}
-use Rattle.vlm_store.specs.declared.processes.Process.{Process}
 use Rattle.vlm_store.specs.declared.queues.Queues.{Queues}
-use Rattle.vlm_store.specs.declared.store.Store.TheInside.{Inside}
-use Rattle.vlm_store.specs.Kept.{records_shown}
 use Rattle.vlm_store.specs.declared.resources.InOrder.{InOrder}
 use Rattle.vlm_store.specs.declared.resources.Resource.{Resource}
 use Rattle.vlm_store.specs.Index.{Indexes}
-use Rattle.vlm_store.specs.Records.{FindsLock, FindsResource, HasPlace, HasResource, IsResourceAmong, StoredProcess, StoredResource, Stores, nothing}
+use Rattle.vlm_store.specs.Records.{FindsLock, FindsResource, HasPlace, HasResource, IsResourceAmong, StoredResource, Stores, nothing}
 use Rattle.vlm_store.specs.Shown.{IsPlaced, IsTallied, IsThere, SameBut, but_queues, face_in, keys_at, list_at, lkid_of, noted_in, order_links, queue_links, row_in, rows, shares, tally_in}
-use Rattle.vlm_store.specs.Store.{key_at, keyed, lkid_at, records_of, resource_of, tables}
+use Rattle.vlm_store.specs.Store.{Beside, key_at, keyed, lkid_at, records_of, resource_of, tables}
 use Rattle.vlm_store.proofs.Layouts.{HasPlace-seen, IsSeen, Stores-listed, among_resource, listed-Stores, resource_at-found, resource_among}
 use Rattle.vlm_store.specs.Tallies.{count_of, held_of, held_weight, total, wanted_of, wanted_weight}
 use Rattle.vlm_store.proofs.Counting.{shares_same}
 use Rattle.vlm_store.proofs.Families.{family-empty}
 use Rattle.vlm_store.proofs.Places.{kept_keys, kept_placed, lists_same, noted_there, stands_there, there_through, through}
 
-module _ (q : Queues) (order : LinkedList InOrder) (processes : List StoredProcess) (placed : IsPlaced q None) where
+module _ (q : Queues) (order : LinkedList InOrder) (beside : Beside) (placed : IsPlaced q None) where
   -- a lock that a caller sees is there
-  pub stored_there : (at : ℕ) (row : Row) → Stores (records_of (tables q order processes)) at row → ContainsKey q.locks at × (at ≤ LAST_KEY) × (rows q at ≡ row)
+  pub stored_there : (at : ℕ) (row : Row) → Stores (records_of (tables q order beside)) at row → ContainsKey q.locks at × (at ≤ LAST_KEY) × (rows q at ≡ row)
   stored_there at row stored =
-      let listed = Stores-listed (tables q order processes) at row stored in
+      let listed = Stores-listed (tables q order beside) at row stored in
       let linked = placed.linked listed.0 in
       (linked.present at listed.1.0, linked.within at listed.1.0, listed.1.1)
 
   module _ (linked : IsLinked order_links q.resources order) (ordered : (r : ℕ) → ContainsKey q.resources r → IsIn r (keys_of order_links q.resources order)) where
     -- a lock that is there is seen by a caller
-    pub there_stored : (at : ℕ) → ContainsKey q.locks at → Stores (records_of (tables q order processes)) at (rows q at)
+    pub there_stored : (at : ℕ) → ContainsKey q.locks at → Stores (records_of (tables q order beside)) at (rows q at)
     there_stored at there =
         let place = noted_there (get q.locks at) there in
         let stands = placed.stands place.0 at (λ e. none-some at (sym e)) place.1 in
-        listed-Stores (tables q order processes) place.0 at (seen place.0 (stands_there q place.0 at stands)) stands
+        listed-Stores (tables q order beside) place.0 at (seen place.0 (stands_there q place.0 at stands)) stands
       where
-        seen : (p : Place) → IsThere q.resources p → IsSeen (tables q order processes) p
+        seen : (p : Place) → IsThere q.resources p → IsSeen (tables q order beside) p
         seen Loose there = tt
         seen (Queued r queue) there = ordered r there
 
     -- the place that a caller sees is there
-    pub place_there : (p : Place) → HasPlace p (records_of (tables q order processes)) → IsThere q.resources p
+    pub place_there : (p : Place) → HasPlace p (records_of (tables q order beside)) → IsThere q.resources p
     place_there Loose has = tt
-    place_there (Queued r queue) has = linked.present r (HasPlace-seen (tables q order processes) (Queued r queue) has)
+    place_there (Queued r queue) has = linked.present r (HasPlace-seen (tables q order beside) (Queued r queue) has)
 
     lkid_there : (slot : Option Lock) (lkid : ℕ) → option_map lkid_of slot ≡ Some lkid → IsSome slot × ((row_in slot).lkid ≡ lkid)
     lkid_there None lkid is = absurd (none-some lkid is)
@@ -66,26 +63,26 @@ module _ (q : Queues) (order : LinkedList InOrder) (processes : List StoredProce
     lkid_of_row (Some l) there = refl
 
     -- the record of a lock that a caller sees has its identification
-    lkid_seen : (at : ℕ) (row : Row) → Stores (records_of (tables q order processes)) at row → lkid_at q at ≡ Some row.lkid
+    lkid_seen : (at : ℕ) (row : Row) → Stores (records_of (tables q order beside)) at row → lkid_at q at ≡ Some row.lkid
     lkid_seen at row stored =
         let there = stored_there at row stored in
         lkid_of_row (get q.locks at) there.0 ∙ ap (λ (r : Row). Some r.lkid) there.2
 
     -- no two locks have one identification
-    pub lkids_apart : (found : ℕ → Option ℕ) → Indexes found (lkid_at q) → (a b : ℕ) (x y : Row) → Stores (records_of (tables q order processes)) a x → Stores (records_of (tables q order processes)) b y
+    pub lkids_apart : (found : ℕ → Option ℕ) → Indexes found (lkid_at q) → (a b : ℕ) (x y : Row) → Stores (records_of (tables q order beside)) a x → Stores (records_of (tables q order beside)) b y
         → x.lkid ≡ y.lkid → a ≡ b
     lkids_apart found indexes a b x y stored_a stored_b same =
         same_Some a b (sym (indexes.complete x.lkid a (lkid_seen a x stored_a)) ∙ indexes.complete x.lkid b (lkid_seen b y stored_b ∙ ap Some (sym same)))
 
     -- the index of locks finds what a caller sees
-    pub finds_lock : (found : ℕ → Option ℕ) → Indexes found (lkid_at q) → (lkid : ℕ) (result : Option ℕ) → result ≡ found lkid → FindsLock (records_of (tables q order processes)) lkid result
+    pub finds_lock : (found : ℕ → Option ℕ) → Indexes found (lkid_at q) → (lkid : ℕ) (result : Option ℕ) → result ≡ found lkid → FindsLock (records_of (tables q order beside)) lkid result
     finds_lock found indexes lkid None is = λ at row stored same.
         none-some at (is ∙ indexes.complete lkid at (lkid_seen at row stored ∙ ap Some same))
     finds_lock found indexes lkid (Some at) is =
         let there = lkid_there (get q.locks at) lkid (indexes.sound lkid at (sym is)) in
         (rows q at, (there_stored at there.0, there.1))
 
-    pub no_lock : (found : ℕ → Option ℕ) → Indexes found (lkid_at q) → (lkid : ℕ) → FindsLock (records_of (tables q order processes)) lkid None → found lkid ≡ None
+    pub no_lock : (found : ℕ → Option ℕ) → Indexes found (lkid_at q) → (lkid : ℕ) → FindsLock (records_of (tables q order beside)) lkid None → found lkid ≡ None
     no_lock found indexes lkid absent = by_answer (found lkid) refl
       where
         by_answer : (answer : Option ℕ) → answer ≡ found lkid → answer ≡ None
@@ -104,32 +101,32 @@ module _ (q : Queues) (order : LinkedList InOrder) (processes : List StoredProce
     key_of_face (Some r) there = refl
 
     -- the record of a resource that a caller sees has its key
-    key_seen : (r : StoredResource) → IsResourceAmong r (records_of (tables q order processes)).resources → key_at q r.at ≡ Some r.key
+    key_seen : (r : StoredResource) → IsResourceAmong r (records_of (tables q order beside)).resources → key_at q r.at ≡ Some r.key
     unfolding records_of
     key_seen r among =
-        let there = resource_among (tables q order processes) (keys_of order_links q.resources order) r among in
+        let there = resource_among (tables q order beside) (keys_of order_links q.resources order) r among in
         key_of_face (get q.resources r.at) (linked.present r.at there.0) ∙ ap (λ (x : StoredResource). Some x.key) there.1
 
     -- no two resources have one key
-    pub keys_apart : (found : Key → Option ℕ) → Indexes found (key_at q) → (a b : StoredResource) → IsResourceAmong a (records_of (tables q order processes)).resources
-        → IsResourceAmong b (records_of (tables q order processes)).resources → a.key ≡ b.key → a.at ≡ b.at
+    pub keys_apart : (found : Key → Option ℕ) → Indexes found (key_at q) → (a b : StoredResource) → IsResourceAmong a (records_of (tables q order beside)).resources
+        → IsResourceAmong b (records_of (tables q order beside)).resources → a.key ≡ b.key → a.at ≡ b.at
     keys_apart found indexes a b among_a among_b same =
         same_Some a.at b.at (sym (indexes.complete a.key a.at (key_seen a among_a)) ∙ indexes.complete a.key b.at (key_seen b among_b ∙ ap Some (sym same)))
 
-    pub finds_resource : (found : Key → Option ℕ) → Indexes found (key_at q) → (key : Key) (result : Option ℕ) → result ≡ found key → FindsResource (records_of (tables q order processes)) key result
+    pub finds_resource : (found : Key → Option ℕ) → Indexes found (key_at q) → (key : Key) (result : Option ℕ) → result ≡ found key → FindsResource (records_of (tables q order beside)) key result
     unfolding records_of
     finds_resource found indexes key None is = λ r among same. none-some r.at (is ∙ indexes.complete key r.at (key_seen r among ∙ ap Some same))
     finds_resource found indexes key (Some at) is =
         let there = key_there (get q.resources at) key (indexes.sound key at (sym is)) in
-        (resource_of (tables q order processes) at, (among_resource (tables q order processes) (keys_of order_links q.resources order) at (ordered at there.0), refl, there.1))
+        (resource_of (tables q order beside) at, (among_resource (tables q order beside) (keys_of order_links q.resources order) at (ordered at there.0), refl, there.1))
 
-    pub found_there : (found : Key → Option ℕ) → Indexes found (key_at q) → (key : Key) (result : Option ℕ) → result ≡ found key → IfSome result (λ res. HasResource res (records_of (tables q order processes)))
+    pub found_there : (found : Key → Option ℕ) → Indexes found (key_at q) → (key : Key) (result : Option ℕ) → result ≡ found key → IfSome result (λ res. HasResource res (records_of (tables q order beside)))
     found_there found indexes key None is = tt
     found_there found indexes key (Some at) is =
         let there = key_there (get q.resources at) key (indexes.sound key at (sym is)) in
-        rw (resource_at-found (tables q order processes) at (ordered at there.0)) refl
+        rw (resource_at-found (tables q order beside) at (ordered at there.0)) refl
 
-    pub no_resource : (found : Key → Option ℕ) → Indexes found (key_at q) → (key : Key) → FindsResource (records_of (tables q order processes)) key None → found key ≡ None
+    pub no_resource : (found : Key → Option ℕ) → Indexes found (key_at q) → (key : Key) → FindsResource (records_of (tables q order beside)) key None → found key ≡ None
     no_resource found indexes key absent = by_answer (found key) refl
       where
         by_answer : (answer : Option ℕ) → answer ≡ found key → answer ≡ None
@@ -180,13 +177,13 @@ module _ (q : Queues) (no_locks : (k : ℕ) → get q.locks k ≡ None) (no_reso
     pub empty_ordered : (r : ℕ) → ContainsKey q.resources r → IsIn r (keys_of order_links q.resources order)
     empty_ordered r there = let nothing : IsSome {T = Resource} None = rw (no_resources r) at there in absurd (cc)
 
-    pub empty_records : (processes : List StoredProcess) → processes ≡ [] → records_of (tables q order processes) ≡ nothing
+    pub empty_records : (beside : Beside) → beside.processes ≡ [] → records_of (tables q order beside) ≡ record nothing { room = (records_of (tables q order beside)).room }
     unfolding records_of
-    empty_records processes no_processes =
-        ap (λ rs. record { resources = map (resource_of (tables q order processes)) rs; loose = map (keyed (rows q)) (keys_at q Loose); processes = processes })
+    empty_records beside no_processes =
+        ap (λ rs. record { resources = map (resource_of (tables q order beside)) rs; loose = map (keyed (rows q)) (keys_at q Loose); processes = beside.processes; room = beside.room })
         (no_list-linked order_links q.resources order none).1
-        ∙ ap (λ ks. record { resources = []; loose = map (keyed (rows q)) ks; processes = processes }) (empty_keys Loose)
-        ∙ ap (λ ps. record { resources = []; loose = []; processes = ps }) no_processes
+        ∙ ap (λ ks. record { resources = []; loose = map (keyed (rows q)) ks; processes = beside.processes; room = beside.room }) (empty_keys Loose)
+        ∙ ap (λ ps. record { resources = []; loose = []; processes = ps; room = beside.room }) no_processes
 
 pub Indexes-empty : {K : Type 0} (found : K → Option ℕ) (label : ℕ → Option K) → ((k : K) → found k ≡ None) → ((at : ℕ) → label at ≡ None) → Indexes found label
 Indexes-empty found label finds labels = record {
@@ -259,16 +256,3 @@ on_ok (Err e) P is p = cc
 pub on_err : {T E : Type 0} (r : Result T E) (P : Type 0) → P → OnErr r P
 on_err (Ok x) P p = tt
 on_err (Err e) P p = p
-
--- a caller sees no room
-pub shown_with_room : (s : Inside) (resources : Slab Resource) → resources ≡ record s.queues.resources { capacity = resources.capacity }
-    → records_shown (record s { queues = record s.queues { resources = resources } }) ≡ records_shown s
-shown_with_room s resources is = ap (λ r. records_shown (record s { queues = record s.queues { resources = r } })) is
-
-pub shown_with_process_room : (s : Inside) (processes : Slab Process) → processes ≡ record s.processes { capacity = processes.capacity }
-    → records_shown (record s { processes = processes }) ≡ records_shown s
-shown_with_process_room s processes is = ap (λ p. records_shown (record s { processes = p })) is
-
-pub shown_with_lock_room : (s : Inside) (locks : Slab Lock) → locks ≡ record s.queues.locks { capacity = locks.capacity }
-    → records_shown (record s { queues = record s.queues { locks = locks } }) ≡ records_shown s
-shown_with_lock_room s locks is = ap (λ l. records_shown (record s { queues = record s.queues { locks = l } })) is

@@ -18,7 +18,7 @@ use Rattle.vlm_store.specs.declared.resources.InOrder.{InOrder}
 use Rattle.vlm_store.specs.Records.{IsSameLock, StoredProcess}
 use Rattle.vlm_store.specs.Shown.{IsPlaced, IsTallied, SameBut, but_kin, but_queued, keys_at, lkid_of, named_row, noted_in, queue_links, row_in}
 use Rattle.vlm_store.specs.Holdings.{IsBelow, IsNamed, IsOwned, NamesParent, OwnerFits, ParentFits, below_in, below_keys, below_links, below_list, but_below, but_own, holding, named_lock, own_keys, own_links, own_list, owner_in, parent_in, pid_of, plain_in, process_links, processes_of, with_own_links}
-use Rattle.vlm_store.specs.Store.{Layout, records_of, tables}
+use Rattle.vlm_store.specs.Store.{Beside, Layout, records_of, tables}
 use Rattle.vlm_store.specs.Tallies.{held_weight, wanted_weight}
 use Rattle.vlm_store.proofs.Counting.{shares_same}
 use Rattle.vlm_store.proofs.Families.{family-kept, family-keys}
@@ -32,10 +32,10 @@ unfolding records_of
 records_processes l = refl
 
 -- the processes change, and nothing else
-pub processes_changed : (q : Queues) (order : LinkedList InOrder) (old new : List StoredProcess) (changed : List StoredProcess → List StoredProcess) → new ≡ changed old
-    → records_of (tables q order new) ≡ record (records_of (tables q order old)) { processes = changed (records_of (tables q order old)).processes }
+pub processes_changed : (q : Queues) (order : LinkedList InOrder) (old new : Beside) (changed : List StoredProcess → List StoredProcess) → new.processes ≡ changed old.processes
+    → records_of (tables q order new) ≡ record (records_of (tables q order old)) { processes = changed (records_of (tables q order old)).processes; room = (records_of (tables q order new)).room }
 unfolding records_of
-processes_changed q order old new changed is = ap (λ ps. records_of (tables q order ps)) is
+processes_changed q order old new changed is = ap (λ ps. records_of (tables q order (record { processes = ps; room = new.room }))) is
 
 -- what a record shows that is not of the part that differs
 pub by_part : {T X : Type 0} (part : T → T) (shown : Option T → X) → ((slot : Option T) → shown (option_map part slot) ≡ shown slot) → (a b : Option T) → option_map part a ≡ option_map part b → shown a ≡ shown b

@@ -3,7 +3,6 @@ use Rattle.std.proofs.Common.{◌≡◌, ◌≢◌, ◌⊎◌, ℕ, List, [], �
 use Rattle.std.specs.Prelude.{◌==◌}
 use Rattle.std.specs.Option.{option_map_or}
 use Rattle.std.proofs.lemmas.Bool.{cases_eq}
-use Rattle.std.proofs.lemmas.Option.{none-some, same_Some}
 use Rattle.vlm_links.specs.Lists.{IsIn, IsApart, first_key, key_after, without}
 use Rattle.vlm_links.proofs.KeyLists.{IsIn-without, without_head, without_past}
 use Rattle.vlm_words.specs.declared.locks.Row.{Row}
@@ -92,18 +91,6 @@ keyed-after rows at (k ∷ ks) =
       | false ↦ keyed-after rows at ks
     ]
 
-pub first_key-in : (ks : List ℕ) (at : ℕ) → Some at ≡ first_key ks → IsIn at ks
-first_key-in [] at is = absurd (none-some at (sym is))
-first_key-in (k ∷ ks) at is = inl (sym (same_Some at k is))
-
-pub key_after-in : (after : ℕ) (ks : List ℕ) (at : ℕ) → Some at ≡ key_after after ks → IsIn at ks
-key_after-in after [] at is = absurd (none-some at (sym is))
-key_after-in after (k ∷ ks) at is =
-    elim (cases_eq k after) [
-      | inl same ↦ inr (first_key-in ks at (is ∙ rw (eq-eqb k after same) refl))
-      | inr differs ↦ inr (key_after-in after ks at (is ∙ rw (ne_eqb k after differs) refl))
-    ]
-
 keyed-apart : (rows : ℕ → Row) (ks : List ℕ) → IsApart ks → AreApart (map (keyed rows) ks)
 keyed-apart rows [] apart = tt
 keyed-apart rows (k ∷ ks) apart = (λ row found. apart.0 (keyed-among rows ks (record { at = k; row = row }) found).0, keyed-apart rows ks apart.1)
@@ -158,24 +145,27 @@ module _ (old new : Layout) (change : Place → List StoredLock → List StoredL
   changed_resources (r ∷ rs) =
       ap (λ x. x ∷ map (resource_of new) rs) (changed_resource r) ∙ ap (λ rest. resource_with change (resource_of old r) ∷ rest) (changed_resources rs)
 
-  pub lists_changed_beside : new.order ≡ old.order → records_of new ≡ record (with_lists change (records_of old)) { processes = new.processes }
+  pub lists_changed_beside : new.order ≡ old.order → records_of new ≡ record (with_lists change (records_of old)) { processes = new.processes; room = (records_of new).room }
   unfolding records_of
   lists_changed_beside order =
-      ap (λ x. record { resources = x; loose = map (keyed new.rows) (new.keys Loose); processes = new.processes }) (ap (map (resource_of new)) order ∙ changed_resources old.order)
-      ∙ ap (λ x. record { resources = map (resource_with change) (map (resource_of old) old.order); loose = x; processes = new.processes }) (lists Loose)
+      ap (λ x. record { resources = x; loose = map (keyed new.rows) (new.keys Loose); processes = new.processes; room = new.room }) (ap (map (resource_of new)) order ∙ changed_resources old.order)
+      ∙ ap (λ x. record { resources = map (resource_with change) (map (resource_of old) old.order); loose = x; processes = new.processes; room = new.room }) (lists Loose)
 
-  pub lists_changed : new.order ≡ old.order → new.processes ≡ old.processes → records_of new ≡ with_lists change (records_of old)
+  pub lists_changed : new.order ≡ old.order → new.processes ≡ old.processes → new.room ≡ old.room → records_of new ≡ with_lists change (records_of old)
   unfolding records_of
-  lists_changed order processes = lists_changed_beside order ∙ ap (λ ps. record (with_lists change (records_of old)) { processes = ps }) processes
+  lists_changed order processes room =
+      lists_changed_beside order
+      ∙ ap (λ ps. record (with_lists change (records_of old)) { processes = ps; room = new.room }) processes
+      ∙ ap (λ r. record (with_lists change (records_of old)) { room = r }) room
 
 -- a lock joins the loose ones
 pub loose_joined : (old new : Layout) (at : ℕ) (row : Row) → ((r : ℕ) → new.faces r ≡ old.faces r) → new.order ≡ old.order → new.rows at ≡ row → ((k : ℕ) → k ≢ at → new.rows k ≡ old.rows k)
     → ((p : Place) → ¬ IsIn at (old.keys p)) → new.keys Loose ≡ old.keys Loose ++ at ∷ [] → ((p : Place) → p ≢ Loose → new.keys p ≡ old.keys p)
-    → records_of new ≡ record (records_of old) { loose = (records_of old).loose ++ record { at = at; row = row } ∷ []; processes = new.processes }
+    → records_of new ≡ record (records_of old) { loose = (records_of old).loose ++ record { at = at; row = row } ∷ []; processes = new.processes; room = (records_of new).room }
 unfolding records_of
 loose_joined old new at row faces order here others unlisted joined stay =
-    ap (λ x. record { resources = x; loose = map (keyed new.rows) (new.keys Loose); processes = new.processes }) (ap (map (resource_of new)) order ∙ resources old.order)
-    ∙ ap (λ x. record { resources = map (resource_of old) old.order; loose = x; processes = new.processes }) loose
+    ap (λ x. record { resources = x; loose = map (keyed new.rows) (new.keys Loose); processes = new.processes; room = new.room }) (ap (map (resource_of new)) order ∙ resources old.order)
+    ∙ ap (λ x. record { resources = map (resource_of old) old.order; loose = x; processes = new.processes; room = new.room }) loose
   where
     other : (p : Place) (k : ℕ) → IsIn k (old.keys p) → new.rows k ≡ old.rows k
     other p k found = others k (λ same. unlisted p (subst (λ x. IsIn x (old.keys p)) same found))
@@ -344,12 +334,12 @@ IsSound-records_of l order_apart places_apart one_place lkids_apart keys_apart p
 -- a resource is made, with empty queues
 pub resource_made : (old new : Layout) (res : ℕ) (made : StoredResource) → ((k : ℕ) → new.rows k ≡ old.rows k) → ((p : Place) → new.keys p ≡ old.keys p) → ((r : ℕ) → r ≢ res → new.faces r ≡ old.faces r)
     → ¬ IsIn res old.order → new.order ≡ old.order ++ res ∷ [] → resource_of new res ≡ made → new.processes ≡ old.processes
-    → records_of new ≡ record (records_of old) { resources = (records_of old).resources ++ made ∷ [] }
+    → records_of new ≡ record (records_of old) { resources = (records_of old).resources ++ made ∷ []; room = (records_of new).room }
 unfolding records_of
 resource_made old new res made rows keys faces absent order is processes =
-    ap (λ x. record { resources = x; loose = map (keyed new.rows) (new.keys Loose); processes = new.processes }) (ap (map (resource_of new)) order ∙ resources old.order absent)
-    ∙ ap (λ x. record { resources = map (resource_of old) old.order ++ made ∷ []; loose = x; processes = new.processes }) (list_same Loose)
-    ∙ ap (λ x. record { resources = map (resource_of old) old.order ++ made ∷ []; loose = map (keyed old.rows) (old.keys Loose); processes = x }) processes
+    ap (λ x. record { resources = x; loose = map (keyed new.rows) (new.keys Loose); processes = new.processes; room = new.room }) (ap (map (resource_of new)) order ∙ resources old.order absent)
+    ∙ ap (λ x. record { resources = map (resource_of old) old.order ++ made ∷ []; loose = x; processes = new.processes; room = new.room }) (list_same Loose)
+    ∙ ap (λ x. record { resources = map (resource_of old) old.order ++ made ∷ []; loose = map (keyed old.rows) (old.keys Loose); processes = x; room = new.room }) processes
   where
     list_same : (p : Place) → map (keyed new.rows) (new.keys p) ≡ map (keyed old.rows) (old.keys p)
     list_same p = ap (map (keyed new.rows)) (keys p) ∙ keyed-kept old.rows new.rows (old.keys p) (λ k _. rows k)
@@ -365,12 +355,12 @@ resource_made old new res made rows keys faces absent order is processes =
 -- a resource is removed
 pub resource_removed : (old new : Layout) (res : ℕ) → ((k : ℕ) → new.rows k ≡ old.rows k) → ((p : Place) → new.keys p ≡ old.keys p) → ((r : ℕ) → r ≢ res → new.faces r ≡ old.faces r)
     → new.order ≡ without res old.order → new.processes ≡ old.processes
-    → records_of new ≡ record (records_of old) { resources = without_resource res (records_of old).resources }
+    → records_of new ≡ record (records_of old) { resources = without_resource res (records_of old).resources; room = (records_of new).room }
 unfolding records_of
 resource_removed old new res rows keys faces order processes =
-    ap (λ x. record { resources = x; loose = map (keyed new.rows) (new.keys Loose); processes = new.processes }) (ap (map (resource_of new)) order ∙ resources old.order)
-    ∙ ap (λ x. record { resources = without_resource res (map (resource_of old) old.order); loose = x; processes = new.processes }) (list_same Loose)
-    ∙ ap (λ x. record { resources = without_resource res (map (resource_of old) old.order); loose = map (keyed old.rows) (old.keys Loose); processes = x }) processes
+    ap (λ x. record { resources = x; loose = map (keyed new.rows) (new.keys Loose); processes = new.processes; room = new.room }) (ap (map (resource_of new)) order ∙ resources old.order)
+    ∙ ap (λ x. record { resources = without_resource res (map (resource_of old) old.order); loose = x; processes = new.processes; room = new.room }) (list_same Loose)
+    ∙ ap (λ x. record { resources = without_resource res (map (resource_of old) old.order); loose = map (keyed old.rows) (old.keys Loose); processes = x; room = new.room }) processes
   where
     list_same : (p : Place) → map (keyed new.rows) (new.keys p) ≡ map (keyed old.rows) (old.keys p)
     list_same p = ap (map (keyed new.rows)) (keys p) ∙ keyed-kept old.rows new.rows (old.keys p) (λ k _. rows k)
@@ -391,13 +381,14 @@ resource_removed old new res rows keys faces order processes =
 -- the face of one resource is written
 pub resource_written : (old new : Layout) (res : ℕ) (change : StoredResource → StoredResource) → ((k : ℕ) → new.rows k ≡ old.rows k) → ((p : Place) → new.keys p ≡ old.keys p)
     → ((r : ℕ) → r ≢ res → new.faces r ≡ old.faces r) → new.order ≡ old.order
-    → (((p : Place) → map (keyed new.rows) (new.keys p) ≡ map (keyed old.rows) (old.keys p)) → resource_of new res ≡ change (resource_of old res)) → new.processes ≡ old.processes
+    → (((p : Place) → map (keyed new.rows) (new.keys p) ≡ map (keyed old.rows) (old.keys p)) → resource_of new res ≡ change (resource_of old res)) → new.processes ≡ old.processes → new.room ≡ old.room
     → records_of new ≡ record (records_of old) { resources = on_resource res change (records_of old).resources }
 unfolding records_of
-resource_written old new res change rows keys faces order is processes =
-    ap (λ x. record { resources = x; loose = map (keyed new.rows) (new.keys Loose); processes = new.processes }) (ap (map (resource_of new)) order ∙ resources old.order)
-    ∙ ap (λ x. record { resources = on_resource res change (map (resource_of old) old.order); loose = x; processes = new.processes }) (list_same Loose)
-    ∙ ap (λ x. record { resources = on_resource res change (map (resource_of old) old.order); loose = map (keyed old.rows) (old.keys Loose); processes = x }) processes
+resource_written old new res change rows keys faces order is processes room =
+    ap (λ x. record { resources = x; loose = map (keyed new.rows) (new.keys Loose); processes = new.processes; room = new.room }) (ap (map (resource_of new)) order ∙ resources old.order)
+    ∙ ap (λ x. record { resources = on_resource res change (map (resource_of old) old.order); loose = x; processes = new.processes; room = new.room }) (list_same Loose)
+    ∙ ap (λ x. record { resources = on_resource res change (map (resource_of old) old.order); loose = map (keyed old.rows) (old.keys Loose); processes = x; room = new.room }) processes
+    ∙ ap (λ x. record { resources = on_resource res change (map (resource_of old) old.order); loose = map (keyed old.rows) (old.keys Loose); processes = old.processes; room = x }) room
   where
     list_same : (p : Place) → map (keyed new.rows) (new.keys p) ≡ map (keyed old.rows) (old.keys p)
     list_same p = ap (map (keyed new.rows)) (keys p) ∙ keyed-kept old.rows new.rows (old.keys p) (λ k _. rows k)
@@ -436,3 +427,8 @@ first_resource-is l = first_resource-order l l.order
 pub resource_after-is : (l : Layout) (res : ℕ) → resource_at_after res (records_of l).resources ≡ key_after res l.order
 unfolding records_of
 resource_after-is l res = resource_after-order l res l.order
+
+-- the room that a caller sees
+pub records_room : (l : Layout) → (records_of l).room ≡ l.room
+unfolding records_of
+records_room l = refl

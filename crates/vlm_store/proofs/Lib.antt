@@ -15,5 +15,8 @@ pub mod Members
 pub mod OwnLocks
 pub mod Places
 pub mod Plain
+pub mod RoomShown
+pub mod Rooms
+pub mod Siblings
 pub mod Undoing
 pub mod Walks

@@ -13,7 +13,7 @@ use Rattle.vlm_store.specs.declared.locks.Lock.{Lock}
 use Rattle.vlm_store.specs.declared.processes.Process.{Process}
 use Rattle.vlm_store.specs.declared.store.Store.TheInside.{Inside}
 use Rattle.vlm_store.specs.Records.{AreOwnApart, AreOwned, AreProcessesApart, FindsProcess, HasNoSublocks, HasProcess, IsOwnAmong, IsProcess, IsProcessAmong, IsSound, OwnLock, StoredProcess, Stores, own_at, process_at}
-use Rattle.vlm_store.specs.Kept.{IsKept, processes_shown, records_shown}
+use Rattle.vlm_store.specs.Kept.{IsKept, beside_shown, processes_shown, records_shown}
 use Rattle.vlm_store.specs.Shown.{lkid_of, row_in, rows}
 use Rattle.vlm_store.specs.Holdings.{Holding, NamesParent, OwnerFits, ParentFits, below_keys, holding, own_keys, own_of, owner_in, parent_in, pid_at, pid_of, plain_in, process_links, process_of, processes_of}
 use Rattle.vlm_store.specs.Store.{tables}
@@ -68,7 +68,7 @@ module _ (s : Inside) (kept : IsKept s) where
   held = holding s.processes s.queues.locks s.process_order
 
   shown : (records_shown s).processes ≡ processes_of held
-  shown = records_processes (tables s.queues s.order (processes_shown s))
+  shown = records_processes (tables s.queues s.order (beside_shown s))
 
   pub process_listed : (at : ℕ) → HasProcess at (records_shown s) → IsIn at (keys_of process_links s.processes s.process_order)
   process_listed at has = HasProcess-order held at (subst (λ ps. IsSome (process_at at ps)) shown has)
@@ -89,10 +89,10 @@ module _ (s : Inside) (kept : IsKept s) where
   shown_among p among = seen_process held p (subst (IsProcessAmong p) shown among)
 
   pub lock_there : (at : ℕ) (row : Row) → Stores (records_shown s) at row → ContainsKey s.queues.locks at × (at ≤ LAST_KEY) × (rows s.queues at ≡ row)
-  lock_there = stored_there s.queues s.order (processes_shown s) kept.placed
+  lock_there = stored_there s.queues s.order (beside_shown s) kept.placed
 
   pub lock_stored : (at : ℕ) → ContainsKey s.queues.locks at → Stores (records_shown s) at (rows s.queues at)
-  lock_stored = there_stored s.queues s.order (processes_shown s) kept.placed kept.linked kept.ordered
+  lock_stored = there_stored s.queues s.order (beside_shown s) kept.placed kept.linked kept.ordered
 
   -- the process that a lock notes is the one that its row names
   pub owner_is : (at : ℕ) (l : Lock) → get s.queues.locks at ≡ Some l → IsProcess l.owner l.row.pid (records_shown s)
@@ -240,9 +240,9 @@ module _ (s : Inside) (kept : IsKept s) where
   -- what a caller sees is sound
   pub is_sound : IsSound (records_shown s)
   is_sound =
-      IsSound-records_of (tables s.queues s.order (processes_shown s)) kept.linked.apart (λ p. (kept.placed.linked p).apart) (one_place s.queues None kept.placed)
-      (lkids_apart s.queues s.order (processes_shown s) kept.placed kept.linked kept.ordered (found nat_eq s.lock_index) kept.locks)
-      (keys_apart s.queues s.order (processes_shown s) kept.placed kept.linked kept.ordered (found is_same_key s.resource_index) kept.resources) are_apart are_owned own_apart
+      IsSound-records_of (tables s.queues s.order (beside_shown s)) kept.linked.apart (λ p. (kept.placed.linked p).apart) (one_place s.queues None kept.placed)
+      (lkids_apart s.queues s.order (beside_shown s) kept.placed kept.linked kept.ordered (found nat_eq s.lock_index) kept.locks)
+      (keys_apart s.queues s.order (beside_shown s) kept.placed kept.linked kept.ordered (found is_same_key s.resource_index) kept.resources) are_apart are_owned own_apart
 
   -- the index of processes finds what a caller sees
   pub finds_process : (pid : ℕ) (result : Option ℕ) → result ≡ found nat_eq s.process_index pid → FindsProcess (records_shown s) pid result

@@ -1,23 +1,35 @@
 -- What the fields of the store keep, and what they show.
 use Rattle.std.specs.Prelude.{ℕ, nat_eq, List, None}
 use Rattle.slab.specs.Slab.{ContainsKey}
-use Rattle.indexmap.specs.IndexMap.{get}
+use Rattle.indexmap.specs.IndexMap.{get, spare}
 use Rattle.vlm_links.specs.Lists.{IsIn, IsLinked, keys_of}
 use Rattle.vlm_store.specs.declared.store.Store.TheInside.{Inside}
 use Rattle.vlm_store.specs.Index.{Indexes}
 use Rattle.vlm_words.specs.Keys.{is_same_key}
-use Rattle.vlm_store.specs.Records.{Records, StoredProcess}
+use Rattle.vlm_store.specs.Records.{Records, Rooms, StoredProcess}
 use Rattle.vlm_store.specs.Holdings.{IsBelow, IsNamed, IsOwned, holding, pid_at, process_links, processes_of}
 use Rattle.vlm_store.specs.Shown.{IsPlaced, IsTallied, order_links}
-use Rattle.vlm_store.specs.Store.{key_at, lkid_at, records_of, tables}
+use Rattle.vlm_store.specs.Store.{Beside, key_at, lkid_at, records_of, room_of, tables}
 
 -- the processes that the fields show
 abbrev pub processes_shown : Inside → List StoredProcess
 processes_shown s = processes_of (holding s.processes s.queues.locks s.process_order)
 
+-- the room that the fields show
+abbrev pub rooms_shown : Inside → Rooms
+rooms_shown s = record {
+  locks = room_of s.queues.locks (spare s.lock_index);
+  resources = room_of s.queues.resources (spare s.resource_index);
+  processes = room_of s.processes (spare s.process_index);
+}
+
+-- the processes and the room
+abbrev pub beside_shown : Inside → Beside
+beside_shown s = record { processes = processes_shown s; room = rooms_shown s }
+
 -- what the fields show to a caller
 abbrev pub records_shown : Inside → Records
-records_shown s = records_of (tables s.queues s.order (processes_shown s))
+records_shown s = records_of (tables s.queues s.order (beside_shown s))
 
 -- each lock stands in the three lists that it notes, each resource counts its locks, resources and processes
 -- stand in their orders, and each index finds just what is there

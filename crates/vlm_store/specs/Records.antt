@@ -1,6 +1,6 @@
 -- What the store shows: resources with their queues, locks, and processes with their own locks, each under
 -- its key.
-use Rattle.std.specs.Prelude.{◌≡◌, ◌⊎◌, ℕ, Bool, true, false, not, ◌==◌, ◌&&◌, ◌+◌, count_by, sum_by, List, [], ◌∷◌, ◌++◌, map, filter, find, Option, None, Some, IsSome, if◌then◌else◌}
+use Rattle.std.specs.Prelude.{◌≡◌, ◌⊎◌, ◌<◌, ◌≤◌, ℕ, Bool, true, false, not, ◌==◌, ◌&&◌, ◌+◌, count_by, sum_by, List, [], ◌∷◌, ◌++◌, map, filter, find, flat_map, Option, None, Some, IsSome, if◌then◌else◌}
 use Rattle.std.specs.Option.{option_map_or}
 use Rattle.vlm_words.specs.declared.locks.Row.{Row}
 use Rattle.vlm_words.specs.declared.modes.Mode.{Mode}
@@ -8,6 +8,7 @@ use Rattle.vlm_words.specs.declared.resources.Domain.{Domain}
 use Rattle.vlm_words.specs.declared.resources.Queue.{Queue}
 use Rattle.vlm_words.specs.declared.resources.Queue.TheVariants.{Granted, Conversion, Waiting}
 use Rattle.vlm_words.specs.declared.steps.Declaration.{Declaration}
+use Rattle.vlm_links.specs.declared.link.TheConstants.{LAST_KEY}
 use Rattle.vlm_links.specs.Lists.{IsIn, without}
 use Rattle.vlm_words.specs.Declare.{new_process}
 use Rattle.vlm_words.specs.Grants.{fits}
@@ -48,16 +49,34 @@ pub record StoredProcess : Type 0 where
   pub process : Process
   pub own : List OwnLock
 
--- the resources in order of making, the locks that stand in no queue for the moment, and the processes in
--- order of making
+-- the room for records of one kind: how many more their table takes with no allocation, the key that the next
+-- one gets, and how many more the index takes with no allocation
+pub record Room : Type 0 where
+  pub places : ℕ
+  pub next_key : ℕ
+  pub finds : ℕ
+
+-- the room for locks, for resources and for processes
+pub record Rooms : Type 0 where
+  pub locks : Room
+  pub resources : Room
+  pub processes : Room
+
+-- the resources in order of making, the locks that stand in no queue for the moment, the processes in order of
+-- making, and what room there is for more
 pub record Records : Type 0 where
   pub resources : List StoredResource
   pub loose : List StoredLock
   pub processes : List StoredProcess
+  pub room : Rooms
+
+-- no room at all
+abbrev pub no_room : Room
+no_room = record { places = 0; next_key = 0; finds = 0 }
 
 -- nothing is stored
 abbrev pub nothing : Records
-nothing = record { resources = []; loose = []; processes = [] }
+nothing = record { resources = []; loose = []; processes = []; room = record { locks = no_room; resources = no_room; processes = no_room } }
 
 -- a resource at its making
 abbrev pub new_resource : ℕ → ℕ → Site → StoredResource
@@ -354,6 +373,22 @@ IsParentOf (Some parent) row s = (up : Row) × (Stores s parent up × (up.lkid �
 abbrev pub own_at : ℕ → Records → List OwnLock
 own_at at s = option_map_or (λ p. p.own) (process_at at s.processes) []
 
+-- the keys of the locks of a process, in order of making
+abbrev pub own_keys_at : ℕ → Records → List ℕ
+own_keys_at at s = map (λ own. own.at) (own_at at s)
+
+-- the lock of this key among those of its process, if there is one
+abbrev pub own_of_key : ℕ → List OwnLock → Option OwnLock
+own_of_key at locks = find (λ own. own.at == at) locks
+
+-- the keys of the locks that stand below the one of this key, in order of making
+abbrev pub sublocks_at : ℕ → Records → List ℕ
+sublocks_at at s = option_map_or (λ own. own.sublocks) (own_of_key at (flat_map (λ p. p.own) s.processes)) []
+
+-- the lock of this key stands below no other
+abbrev pub HasNoParent : ℕ → Records → Type 0
+HasNoParent at s = (parent : ℕ) → ¬ IsIn at (sublocks_at parent s)
+
 -- how many of the locks are of the process
 abbrev pub owned_among : ℕ → List StoredLock → ℕ
 owned_among pid locks = count_by (λ k. k.row.pid == pid) locks
@@ -379,6 +414,63 @@ pub record SameButBlocks (old new : Records) : Type 0 where
   pub resources : new.resources ≡ old.resources
   pub loose : new.loose ≡ old.loose
   pub processes : map but_blocks new.processes ≡ map but_blocks old.processes
+  pub room : new.room ≡ old.room
+
+-- ---- room
+
+-- one more record needs no allocation, and a key is left for it
+pub record HasRoom (room : Room) : Type 0 where
+  pub place : 0 < room.places
+  pub key : room.next_key ≤ LAST_KEY
+  pub find : 0 < room.finds
+
+-- there is room for one more lock
+abbrev pub HasRoomForLock : Records → Type 0
+HasRoomForLock s = HasRoom s.room.locks
+
+-- there is room for one more resource
+abbrev pub HasRoomForResource : Records → Type 0
+HasRoomForResource s = HasRoom s.room.resources
+
+-- there is room for one more process, but for its status blocks
+abbrev pub HasRoomForProcess : Records → Type 0
+HasRoomForProcess s = HasRoom s.room.processes
+
+-- there is as much room as there was, or more
+pub record IsNoLess (old new : Room) : Type 0 where
+  pub places : old.places ≤ new.places
+  pub next_key : new.next_key ≡ old.next_key
+  pub finds : old.finds ≤ new.finds
+
+-- one more record uses up one place at most
+pub record IsTaken (old new : Room) : Type 0 where
+  pub places : old.places ≤ new.places + 1
+  pub finds : old.finds ≤ new.finds + 1
+
+-- a removed record leaves its place and its key. Of the index no more is known than that it keeps its room
+pub record IsGivenBack (old new : Room) : Type 0 where
+  pub places : new.places ≡ old.places + 1
+  pub next_key : new.next_key ≤ LAST_KEY
+  pub finds : old.finds ≤ new.finds
+
+-- nothing is changed, but that there may be more room
+pub record IsUnchanged (old new : Records) : Type 0 where
+  pub same : new ≡ record old { room = new.room }
+  pub locks : IsNoLess old.room.locks new.room.locks
+  pub resources : IsNoLess old.room.resources new.room.resources
+  pub processes : IsNoLess old.room.processes new.room.processes
+
+-- the records with other room for locks
+abbrev pub with_lock_room : Room → Records → Records
+with_lock_room room s = record s { room = record s.room { locks = room } }
+
+-- the records with other room for resources
+abbrev pub with_resource_room : Room → Records → Records
+with_resource_room room s = record s { room = record s.room { resources = room } }
+
+-- the records with other room for processes
+abbrev pub with_process_room : Room → Records → Records
+with_process_room room s = record s { room = record s.room { processes = room } }
 
 -- ---- what holds between the calls
 

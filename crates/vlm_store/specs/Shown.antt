@@ -1,7 +1,7 @@
 -- What the slabs of locks and resources show.
-use Rattle.std.specs.Prelude.{◌≡◌, ◌+◌, ◌==◌, if◌then◌else◌, ℕ, false, replicate, List, Option, None, Some}
+use Rattle.std.specs.Prelude.{◌≡◌, ◌+◌, ◌-◌, ◌==◌, if◌then◌else◌, ℕ, false, replicate, List, Option, None, Some}
 use Rattle.std.specs.Option.{option_map}
-use Rattle.slab.specs.Slab.{Slab, get, ContainsKey}
+use Rattle.slab.specs.Slab.{Slab, get, slab_len, ContainsKey}
 use Rattle.vlm_links.specs.declared.link.Links.{Links}
 use Rattle.vlm_links.specs.declared.lists.LinkedList.{LinkedList}
 use Rattle.vlm_links.specs.Lists.{keys_of, without}
@@ -138,6 +138,10 @@ new_lock row owner parent = record {
   of_parent = no_links;
   sublocks = no_list;
 }
+
+-- how many more records a slab takes with no allocation, and the key that the next one gets
+unfoldable pub room_in : {T : Type 0} → Slab T → ℕ × ℕ
+room_in nodes = (nodes.capacity - slab_len nodes, nodes.vacant_key)
 
 -- every record shows what it showed
 abbrev pub SameBut : {T X : Type 0} → (T → X) → Slab T → Slab T → Type 0

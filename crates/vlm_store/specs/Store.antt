@@ -1,7 +1,7 @@
 -- The fields of the store as tables, and what a caller sees of the tables.
 use Rattle.std.specs.Prelude.{ℕ, List, map, Option}
 use Rattle.std.specs.Option.{option_map}
-use Rattle.slab.specs.Slab.{get}
+use Rattle.slab.specs.Slab.{Slab, get}
 use Rattle.vlm_links.specs.declared.lists.LinkedList.{LinkedList}
 use Rattle.vlm_links.specs.Lists.{keys_of}
 use Rattle.vlm_words.specs.declared.locks.Row.{Row}
@@ -11,16 +11,27 @@ use Rattle.vlm_store.specs.declared.keys.Place.{Place}
 use Rattle.vlm_store.specs.declared.keys.Place.TheVariants.{Loose, Queued}
 use Rattle.vlm_store.specs.declared.queues.Queues.{Queues}
 use Rattle.vlm_store.specs.declared.resources.InOrder.{InOrder}
-use Rattle.vlm_store.specs.Records.{Records, StoredLock, StoredProcess, StoredResource}
-use Rattle.vlm_store.specs.Shown.{Face, face_in, keys_at, lkid_of, order_links, rows}
+use Rattle.vlm_store.specs.Records.{Records, Room, Rooms, StoredLock, StoredProcess, StoredResource}
+use Rattle.vlm_store.specs.Shown.{Face, face_in, keys_at, lkid_of, order_links, room_in, rows}
 
--- what stands under each key, the keys at each place, the resources in order of making, and the processes
+-- what stands under each key, the keys at each place, the resources in order of making, the processes, and what
+-- room there is
 pub record Layout : Type 0 where
   pub rows : ℕ → Row
   pub faces : ℕ → Face
   pub keys : Place → List ℕ
   pub order : List ℕ
   pub processes : List StoredProcess
+  pub room : Rooms
+
+-- what stands beside the locks and the resources: the processes, and what room there is
+pub record Beside : Type 0 where
+  pub processes : List StoredProcess
+  pub room : Rooms
+
+-- the room in a slab, and in an index that takes so many more
+abbrev pub room_of : {T : Type 0} → Slab T → ℕ → Room
+room_of nodes finds = record { places = (room_in nodes).0; next_key = (room_in nodes).1; finds = finds }
 
 -- a lock under its key
 abbrev pub keyed : (ℕ → Row) → ℕ → StoredLock
@@ -46,16 +57,18 @@ records_of l = record {
   resources = map (resource_of l) l.order;
   loose = map (keyed l.rows) (l.keys Loose);
   processes = l.processes;
+  room = l.room;
 }
 
 -- the fields as tables
-abbrev pub tables : Queues → LinkedList InOrder → List StoredProcess → Layout
-tables q order processes = record {
+abbrev pub tables : Queues → LinkedList InOrder → Beside → Layout
+tables q order beside = record {
   rows = rows q;
   faces = λ r. face_in (get q.resources r);
   keys = keys_at q;
   order = keys_of order_links q.resources order;
-  processes = processes;
+  processes = beside.processes;
+  room = beside.room;
 }
 
 -- the identification of the lock under a key, and the key of the resource

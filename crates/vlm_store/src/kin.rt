@@ -3,7 +3,7 @@
 ghost use Rattle.std.specs.Prelude.{◌≡◌, ◌≢◌, ◌≤◌, ℕ, Some, None, [], ◌∷◌, ◌++◌};
 ghost use Rattle.slab.specs.Slab.{get, ContainsKey};
 ghost use Rattle.vlm_links.specs.Lists.{Relinks, without};
-ghost use Rattle.vlm_store.specs.Shown.{SameBut};
+ghost use Rattle.vlm_store.specs.Shown.{SameBut, room_in};
 ghost use Rattle.vlm_store.specs.Holdings.{IsBelow, IsOwned, below_keys, but_below, but_own, own_keys, owner_in, parent_in, with_own_links};
 
 use crate::keys::LockAt;
@@ -21,6 +21,8 @@ pub(crate) fn leave_process(processes: &mut Slab<Process>, locks: &mut Slab<Lock
         ≡ without at (own_keys processes.old locks.old owner) }
     ensures relinks { Relinks with_own_links locks.old locks.new }
     ensures rest { SameBut but_own processes.old processes.new }
+    ensures locks_room { room_in locks.new ≡ room_in locks.old }
+    ensures processes_room { room_in processes.new ≡ room_in processes.old }
 {
     let owner = locks[at].owner.slot();
     let mut own = processes[owner].own;
@@ -43,6 +45,8 @@ pub(crate) fn join_process(processes: &mut Slab<Process>, locks: &mut Slab<Lock>
         → own_keys processes.new locks.new other ≡ own_keys processes.old locks.old other }
     ensures relinks { Relinks with_own_links locks.old locks.new }
     ensures rest { SameBut but_own processes.old processes.new }
+    ensures locks_room { room_in locks.new ≡ room_in locks.old }
+    ensures processes_room { room_in processes.new ≡ room_in processes.old }
 {
     let owner = locks[at].owner.slot();
     let mut own = processes[owner].own;
@@ -58,6 +62,7 @@ pub(crate) fn leave_parent(locks: &mut Slab<Lock>, at: usize)
     ensures keys { (parent : ℕ) → below_keys locks.new parent
         ≡ without at (below_keys locks.old parent) }
     ensures rest { SameBut but_below locks.old locks.new }
+    ensures locks_room { room_in locks.new ≡ room_in locks.old }
 {
     let Lock { parent, .. } = locks[at];
     let Some(parent) = parent else {
@@ -81,6 +86,7 @@ pub(crate) fn join_parent(locks: &mut Slab<Lock>, at: usize)
     ensures elsewhere { (other : ℕ) → parent_in (get locks.old at) ≢ Some other
         → below_keys locks.new other ≡ below_keys locks.old other }
     ensures rest { SameBut but_below locks.old locks.new }
+    ensures locks_room { room_in locks.new ≡ room_in locks.old }
 {
     let Lock { parent, .. } = locks[at];
     let Some(parent) = parent else {

@@ -1,10 +1,12 @@
 //! The records of the lock machine, each found by its key.
 #![tactic(auto)]
 
+mod growth;
 mod keys;
 mod kin;
 pub mod laws;
 mod locks;
+mod neighbours;
 mod owners;
 mod processes;
 mod queues;

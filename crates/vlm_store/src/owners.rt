@@ -1,15 +1,15 @@
 //! The processes of the store, and the locks of each.
 
-ghost use Rattle.std.specs.Prelude.{◌≡◌, ℕ, [], ◌∷◌, ◌++◌, length, IfOk, IfSome, OnErr};
+ghost use Rattle.std.specs.Prelude.{◌≡◌, ℕ, [], ◌∷◌, ◌++◌, length, IfOk, IfSome, OnErr, OnOk};
 ghost use Rattle.std.specs.Bool.{OnFalse, OnTrue};
 ghost use Rattle.vlm_words.specs.StatusBlocks.{process_with_block};
-ghost use Rattle.vlm_store.specs.Records.{FindsProcess, HasNoLocks, HasNoSublocks, HasProcess, IsNewProcess, IsProcess, IsStored, authorization_of, new_stored_process, on_process, own_at, owned_by, process_at, without_process};
+ghost use Rattle.vlm_store.specs.Records.{FindsProcess, HasNoLocks, HasNoSublocks, HasProcess, IsGivenBack, IsNewProcess, IsProcess, IsStored, IsTaken, IsUnchanged, authorization_of, new_stored_process, on_process, own_at, owned_by, process_at, with_process_room, without_process};
 
+use crate::growth::reserve_one;
 use crate::keys::{LockAt, ProcAt};
 use crate::processes::{Process, enter, leave};
 use crate::store::Store;
 use std::alloc::AllocError;
-use vlm_links::LAST_KEY;
 use vlm_words::blocks::Block;
 use vlm_words::steps::Declaration;
 
@@ -23,31 +23,32 @@ impl Store {
     }
 
     /// Adds a process with new status blocks and without locks, the last in order of making. Where memory
-    /// is refused, or no key is left, nothing is changed.
+    /// is refused, or no key is left, nothing is changed but that there may be more room.
     pub fn add_process(&mut self, pid: u32, declaration: &Declaration) -> Result<ProcAt, AllocError>
         requires { IsNewProcess pid self.old }
-        ensures added { IfOk result (λ at. self.new ≡ record self.old {
-          processes = self.old.processes ++ new_stored_process at pid declaration.now ∷ [];
-        }) }
+        ensures added { IfOk result (λ at. self.new
+            ≡ with_process_room self.new.room.processes (record self.old {
+              processes = self.old.processes ++ new_stored_process at pid declaration.now ∷ [];
+            })) }
         ensures fresh { IfOk result (λ at. ¬ HasProcess at self.old) }
-        ensures err { OnErr result (self.new ≡ self.old) }
+        ensures taken { OnOk result (IsTaken self.old.room.processes self.new.room.processes) }
+        ensures err { OnErr result (IsUnchanged self.old self.new) }
     {
-        if self.processes.vacant_key() > LAST_KEY {
-            return Err(AllocError);
-        }
         let process = Process::new(self.alloc, pid, declaration)?;
-        self.processes.reserve(1)?;
-        self.process_index.reserve(1)?;
+        reserve_one(&mut self.processes, &mut self.process_index)?;
         let at = ProcAt::of(enter(&mut self.processes, &mut self.process_order, process));
         let _ = self.process_index.insert(pid, at);
         Ok(at)
     }
 
-    /// Removes a process that has no locks, with its status blocks. The others keep their order.
+    /// Removes a process that has no locks, with its status blocks. The others keep their order. Its place and
+    /// its key are free again; the index may have to grow for the next one.
     pub fn remove_process(&mut self, at: ProcAt)
         requires there { HasProcess at self.old }
         requires idle { HasNoLocks at self.old }
-        ensures { self.new ≡ record self.old { processes = without_process at self.old.processes } }
+        ensures removed { self.new ≡ with_process_room self.new.room.processes
+            (record self.old { processes = without_process at self.old.processes }) }
+        ensures given_back { IsGivenBack self.old.room.processes self.new.room.processes }
     {
         let pid = self.processes[at.slot()].pid;
         leave(&mut self.processes, &mut self.process_order, at.slot());

@@ -1,12 +1,13 @@
 //! The record of a process.
 
-ghost use Rattle.std.specs.Prelude.{◌≡◌, ◌≢◌, ◌≤◌, ℕ, None, Some, [], ◌∷◌, ◌++◌, IfOk, refl};
+ghost use Rattle.std.specs.Prelude.{◌≡◌, ◌≢◌, ◌≤◌, ◌+◌, ℕ, None, Some, [], ◌∷◌, ◌++◌, IfOk, refl};
 ghost use Rattle.std.specs.Option.{option_map};
 ghost use Rattle.slab.specs.Slab.{get, HasRoomFor};
 ghost use Rattle.vlm_links.specs.Lists.{IsIn, IsLinked, IsNoList, keys_of, without};
 ghost use Rattle.vlm_words.specs.Declare.{new_process};
 ghost use Rattle.vlm_words.specs.StatusBlocks.{process_with_block};
 ghost use Rattle.vlm_store.specs.Holdings.{but_order, plain_process, process_links};
+ghost use Rattle.vlm_store.specs.Shown.{room_in};
 
 use crate::locks::OfProcess;
 use crate::resources::InOrder;
@@ -95,6 +96,7 @@ pub(crate) fn enter(
     ensures others { (other : ℕ) → other ≢ result
         → option_map but_order (get processes.new other)
         ≡ option_map but_order (get processes.old other) }
+    ensures taken { (room_in processes.new).0 + 1 ≡ (room_in processes.old).0 }
 {
     let at = processes.insert_reserved(process);
     order.push_back(processes, at);
@@ -111,6 +113,7 @@ pub(crate) fn leave(processes: &mut Slab<Process>, order: &mut LinkedList<InOrde
     ensures gone { get processes.new at ≡ None }
     ensures others { (other : ℕ) → other ≢ at → option_map but_order (get processes.new other)
         ≡ option_map but_order (get processes.old other) }
+    ensures given_back { room_in processes.new ≡ ((room_in processes.old).0 + 1, at) }
 {
     order.unlink(processes, at);
     processes.remove(at);

@@ -7,7 +7,7 @@ ghost use Rattle.vlm_links.specs.Lists.{IsIn, IsLinked, Relinks, keys_of, withou
 ghost use Rattle.vlm_words.specs.declared.resources.Queue.{Queue};
 ghost use Rattle.vlm_store.specs.declared.keys.Place.{Place};
 ghost use Rattle.vlm_store.specs.Tallies.{held_of, held_weight, keys_fit, wanted_of, wanted_weight};
-ghost use Rattle.vlm_store.specs.Shown.{IsPlaced, IsTallied, IsThere, SameBut, but_value_block, but_lists, but_place, but_queued, but_queues, but_row, but_tally, face_in, face_of, keys_at, keys_but, list_at, named_row, new_face, new_lock, noted, order_links, rows, share_of, shares, tally_in, with_queue_links};
+ghost use Rattle.vlm_store.specs.Shown.{IsPlaced, IsTallied, IsThere, SameBut, but_value_block, but_lists, but_place, but_queued, but_queues, but_row, but_tally, face_in, face_of, keys_at, keys_but, list_at, named_row, new_face, new_lock, noted, order_links, room_in, rows, share_of, shares, tally_in, with_queue_links};
 
 use crate::keys::{LockAt, Place, ProcAt, ResAt};
 use crate::locks::{InQueue, Lock};
@@ -68,6 +68,7 @@ impl Queues {
             → list_at self.new other ≡ list_at self.old other }
         ensures locks { self.new.locks ≡ self.old.locks }
         ensures rest { SameBut but_lists self.old.resources self.new.resources }
+        ensures resources_room { room_in self.new.resources ≡ room_in self.old.resources }
     {
         match *place {
             Place::Loose => self.loose = list,
@@ -85,6 +86,8 @@ impl Queues {
         ensures relinks { Relinks with_queue_links self.old.locks self.new.locks }
         ensures kin { SameBut but_queued self.old.locks self.new.locks }
         ensures rest { SameBut but_lists self.old.resources self.new.resources }
+        ensures locks_room { room_in self.new.locks ≡ room_in self.old.locks }
+        ensures resources_room { room_in self.new.resources ≡ room_in self.old.resources }
     {
         let place = self.locks[at].place;
         let mut list = self.list(place);
@@ -105,6 +108,8 @@ impl Queues {
         ensures rows { (other : ℕ) → rows self.new other ≡ rows self.old other }
         ensures kin { SameBut but_queued self.old.locks self.new.locks }
         ensures rest { SameBut but_lists self.old.resources self.new.resources }
+        ensures locks_room { room_in self.new.locks ≡ room_in self.old.locks }
+        ensures resources_room { room_in self.new.resources ≡ room_in self.old.resources }
     {
         let mut list = self.list(place);
         list.push_back(&mut self.locks, at);
@@ -122,6 +127,7 @@ impl Queues {
         ensures kin { SameBut but_queued self.old.locks self.new.locks }
         ensures resources { self.new.resources ≡ self.old.resources }
         ensures loose { self.new.loose ≡ self.old.loose }
+        ensures locks_room { room_in self.new.locks ≡ room_in self.old.locks }
     {
         self.locks[at].place = place;
     }
@@ -137,6 +143,7 @@ impl Queues {
         ensures kin { SameBut but_queued self.old.locks self.new.locks }
         ensures resources { self.new.resources ≡ self.old.resources }
         ensures loose { self.new.loose ≡ self.old.loose }
+        ensures locks_room { room_in self.new.locks ≡ room_in self.old.locks }
     {
         self.locks[at].row = *row;
     }
@@ -158,6 +165,7 @@ impl Queues {
         ensures locks { self.new.locks ≡ self.old.locks }
         ensures loose { self.new.loose ≡ self.old.loose }
         ensures rest { SameBut but_tally self.old.resources self.new.resources }
+        ensures resources_room { room_in self.new.resources ≡ room_in self.old.resources }
     {
         self.resources[res.slot()].tally.remove(queue, row);
     }
@@ -179,6 +187,7 @@ impl Queues {
         ensures locks { self.new.locks ≡ self.old.locks }
         ensures loose { self.new.loose ≡ self.old.loose }
         ensures rest { SameBut but_tally self.old.resources self.new.resources }
+        ensures resources_room { room_in self.new.resources ≡ room_in self.old.resources }
     {
         self.resources[res.slot()].tally.add(queue, row);
     }
@@ -192,6 +201,7 @@ impl Queues {
         ensures locks { self.new.locks ≡ self.old.locks }
         ensures loose { self.new.loose ≡ self.old.loose }
         ensures rest { SameBut but_tally self.old.resources self.new.resources }
+        ensures resources_room { room_in self.new.resources ≡ room_in self.old.resources }
     {
         let Lock { row, place, .. } = self.locks[at];
         if let Place::Queued(res, queue) = place {
@@ -208,6 +218,7 @@ impl Queues {
         ensures locks { self.new.locks ≡ self.old.locks }
         ensures loose { self.new.loose ≡ self.old.loose }
         ensures rest { SameBut but_tally self.old.resources self.new.resources }
+        ensures resources_room { room_in self.new.resources ≡ room_in self.old.resources }
     {
         let Lock { row, place, .. } = self.locks[at];
         if let Place::Queued(res, queue) = place {
@@ -232,6 +243,8 @@ impl Queues {
         ensures rows { (other : ℕ) → other ≢ at → rows self.new other ≡ rows self.old other }
         ensures kin { SameBut but_queued self.old.locks self.new.locks }
         ensures rest { SameBut but_queues self.old.resources self.new.resources }
+        ensures locks_room { room_in self.new.locks ≡ room_in self.old.locks }
+        ensures resources_room { room_in self.new.resources ≡ room_in self.old.resources }
     {
         self.count_out(at);
         self.take_off(at);
@@ -253,6 +266,8 @@ impl Queues {
         ensures rows { (other : ℕ) → other ≢ at → rows self.new other ≡ rows self.old other }
         ensures kin { SameBut but_queued self.old.locks self.new.locks }
         ensures rest { SameBut but_queues self.old.resources self.new.resources }
+        ensures locks_room { room_in self.new.locks ≡ room_in self.old.locks }
+        ensures resources_room { room_in self.new.resources ≡ room_in self.old.resources }
     {
         self.count_out(at);
         self.write_row(at, row);
@@ -281,6 +296,8 @@ impl Queues {
             → option_map but_queued (get self.new.locks other)
             ≡ option_map but_queued (get self.old.locks other) }
         ensures rest { SameBut but_queues self.old.resources self.new.resources }
+        ensures taken { (room_in self.new.locks).0 + 1 ≡ (room_in self.old.locks).0 }
+        ensures resources_room { room_in self.new.resources ≡ room_in self.old.resources }
     {
         let at = self.locks.insert_reserved(Lock {
             row: *row,
@@ -310,6 +327,8 @@ impl Queues {
         ensures kin { (other : ℕ) → other ≢ at → option_map but_queued (get self.new.locks other)
             ≡ option_map but_queued (get self.old.locks other) }
         ensures rest { SameBut but_queues self.old.resources self.new.resources }
+        ensures given_back { room_in self.new.locks ≡ ((room_in self.old.locks).0 + 1, at) }
+        ensures resources_room { room_in self.new.resources ≡ room_in self.old.resources }
     {
         self.count_out(at);
         self.take_off(at);
@@ -373,6 +392,7 @@ impl Queues {
             ≡ Some (new_face serial site.now) }
         ensures faces { (res : ℕ) → res ≢ result → option_map face_of (get self.new.resources res)
             ≡ option_map face_of (get self.old.resources res) }
+        ensures taken { (room_in self.new.resources).0 + 1 ≡ (room_in self.old.resources).0 }
     {
         let at = self.resources.insert_reserved(Resource {
             serial,
@@ -411,6 +431,7 @@ impl Queues {
         ensures faces { (other : ℕ) → other ≢ res
             → option_map face_of (get self.new.resources other)
             ≡ option_map face_of (get self.old.resources other) }
+        ensures given_back { room_in self.new.resources ≡ ((room_in self.old.resources).0 + 1, res) }
     {
         order.unlink(&mut self.resources, res);
         self.resources.remove(res);
@@ -430,6 +451,7 @@ impl Queues {
             ≡ record (face_in (get self.old.resources res)) { value_block = value_block } }
         ensures faces { (other : ℕ) → other ≢ res
             → get self.new.resources other ≡ get self.old.resources other }
+        ensures resources_room { room_in self.new.resources ≡ room_in self.old.resources }
     {
         self.resources[res].value_block = value_block;
     }

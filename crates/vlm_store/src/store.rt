@@ -1,11 +1,12 @@
 //! The store.
 
-ghost use Rattle.std.specs.Prelude.{◌≡◌, [], ◌∷◌, ◌++◌, length, IfOk, IfSome, OnErr};
+ghost use Rattle.std.specs.Prelude.{◌≡◌, [], ◌∷◌, ◌++◌, length, IfOk, IfSome, IsOk, OnErr, OnOk};
 ghost use Rattle.std.specs.Option.{ForSome};
 ghost use Rattle.vlm_words.specs.declared.locks.Row.{Row};
 ghost use Rattle.vlm_store.specs.declared.keys.Place.{Place};
-ghost use Rattle.vlm_store.specs.Records.{FindsLock, FindsResource, HasNoSublocks, HasPlace, HasResource, IsAmong, IsParentOf, IsProcess, at_after, first_at, first_resource_at, fits_beside, resource_at_after, resource_at, IsIdle, IsNewKey, IsNewLock, IsRowOf, IsSound, IsStored, Stores, locks_at, moving, new_resource, nothing, on_resource, rewriting, with_lists, with_new_lock, without_resource, without_stored_lock};
+ghost use Rattle.vlm_store.specs.Records.{FindsLock, FindsResource, HasNoSublocks, HasPlace, HasResource, HasRoomForLock, HasRoomForResource, IsAmong, IsGivenBack, IsTaken, IsUnchanged, IsParentOf, IsProcess, at_after, first_at, first_resource_at, fits_beside, resource_at_after, resource_at, IsIdle, IsNewKey, IsNewLock, IsRowOf, IsSound, IsStored, Stores, locks_at, moving, new_resource, nothing, on_resource, rewriting, with_lists, with_lock_room, with_new_lock, with_resource_room, without_resource, without_stored_lock};
 
+use crate::growth::reserve_one;
 use crate::keys::{LockAt, Place, ProcAt, ResAt};
 use crate::kin::{join_parent, join_process, leave_parent, leave_process};
 use crate::locks::Lock;
@@ -16,7 +17,7 @@ use indexmap::IndexMap;
 use slab::Slab;
 use std::alloc::{AllocError, Global};
 use std::marker::Model;
-use vlm_links::{LAST_KEY, LinkedList};
+use vlm_links::LinkedList;
 use vlm_words::locks::Row;
 use vlm_words::modes::Mode;
 use vlm_words::resources::{Key, Site, ValueBlock};
@@ -69,7 +70,7 @@ impl Model for Store {
 impl Store {
     /// An empty store. It keeps the allocator and takes no memory.
     pub fn new(alloc: Global) -> Store
-        ensures { result ≡ nothing }
+        ensures { result ≡ record nothing { room = result.room } }
     {
         Store {
             alloc,
@@ -115,8 +116,18 @@ impl Store {
         &self.queues.locks[lock.slot()]
     }
 
+    /// Makes room for one more lock, where there is none.
+    pub fn reserve_lock(&mut self) -> Result<(), AllocError>
+        ensures unchanged { IsUnchanged self.old self.new }
+        ensures room { OnOk result (HasRoomForLock self.new) }
+        ensures succeeds { HasRoomForLock self.old → IsOk result }
+    {
+        reserve_one(&mut self.queues.locks, &mut self.lock_index)
+    }
+
     /// Adds a lock that stands in no queue, the last of these, of its process's locks, and of those below
-    /// its parent. Where memory is refused, or no key is left, nothing is changed.
+    /// its parent. Where there is no room and memory is refused, or no key is left, nothing is changed but that
+    /// there may be more room.
     pub fn add_lock(
         &mut self,
         row: Row,
@@ -127,15 +138,13 @@ impl Store {
         requires owner { IsProcess owner row.pid self.old }
         requires parent { IsParentOf parent row self.old }
         ensures added { IfOk result (λ at. self.new
-            ≡ with_new_lock at row owner parent self.old) }
+            ≡ with_lock_room self.new.room.locks (with_new_lock at row owner parent self.old)) }
         ensures fresh { IfOk result (λ at. ¬ IsStored at self.old) }
-        ensures err { OnErr result (self.new ≡ self.old) }
+        ensures taken { OnOk result (IsTaken self.old.room.locks self.new.room.locks) }
+        ensures succeeds { HasRoomForLock self.old → IsOk result }
+        ensures err { OnErr result (IsUnchanged self.old self.new) }
     {
-        if self.queues.locks.vacant_key() > LAST_KEY {
-            return Err(AllocError);
-        }
-        self.queues.locks.reserve(1)?;
-        self.lock_index.reserve(1)?;
+        reserve_one(&mut self.queues.locks, &mut self.lock_index)?;
         let slot = self.queues.add(&row, owner, parent);
         join_process(&mut self.processes, &mut self.queues.locks, slot);
         join_parent(&mut self.queues.locks, slot);
@@ -163,11 +172,14 @@ impl Store {
     }
 
     /// Removes a lock below which no other stands: from its queue, from the locks of its process, and from
-    /// those below its parent.
+    /// those below its parent. Its place and its key are free again; the index may have to grow for the next
+    /// one.
     pub fn remove_lock(&mut self, lock: LockAt)
         requires stored { IsStored lock self.old }
         requires childless { HasNoSublocks lock self.old }
-        ensures { self.new ≡ without_stored_lock lock self.old }
+        ensures removed { self.new
+            ≡ with_lock_room self.new.room.locks (without_stored_lock lock self.old) }
+        ensures given_back { IsGivenBack self.old.room.locks self.new.room.locks }
     {
         let lkid = self.queues.locks[lock.slot()].row.lkid;
         leave_parent(&mut self.queues.locks, lock.slot());
@@ -177,20 +189,20 @@ impl Store {
     }
 
     /// Adds a resource without locks, the last in order of making, with a valid value block of zeros. Where
-    /// memory is refused, or no key is left, nothing is changed.
+    /// there is no room and memory is refused, or no key is left, nothing is changed but that there may be
+    /// more room.
     pub fn add_resource(&mut self, serial: u32, site: &Site) -> Result<ResAt, AllocError>
         requires { IsNewKey site.now.key self.old }
-        ensures added { IfOk result (λ res. self.new ≡ record self.old {
-          resources = self.old.resources ++ new_resource res serial site.now ∷ [];
-        }) }
+        ensures added { IfOk result (λ res. self.new
+            ≡ with_resource_room self.new.room.resources (record self.old {
+              resources = self.old.resources ++ new_resource res serial site.now ∷ [];
+            })) }
         ensures fresh { IfOk result (λ res. ¬ HasResource res self.old) }
-        ensures err { OnErr result (self.new ≡ self.old) }
+        ensures taken { OnOk result (IsTaken self.old.room.resources self.new.room.resources) }
+        ensures succeeds { HasRoomForResource self.old → IsOk result }
+        ensures err { OnErr result (IsUnchanged self.old self.new) }
     {
-        if self.queues.resources.vacant_key() > LAST_KEY {
-            return Err(AllocError);
-        }
-        self.queues.resources.reserve(1)?;
-        self.resource_index.reserve(1)?;
+        reserve_one(&mut self.queues.resources, &mut self.resource_index)?;
         let res = ResAt::of(self.queues.add_resource(&mut self.order, serial, site));
         let _ = self.resource_index.insert(site.key, res);
         Ok(res)
@@ -267,12 +279,14 @@ impl Store {
         self.queues.set_value_block(res.slot(), value_block);
     }
 
-    /// Removes a resource in whose queues no lock stands. The others keep their order.
+    /// Removes a resource in whose queues no lock stands. The others keep their order. Its place and its key
+    /// are free again; the index may have to grow for the next one.
     pub fn remove_resource(&mut self, res: ResAt)
         requires there { HasResource res self.old }
         requires idle { IsIdle res self.old }
-        ensures { self.new
-            ≡ record self.old { resources = without_resource res self.old.resources } }
+        ensures removed { self.new ≡ with_resource_room self.new.room.resources
+            (record self.old { resources = without_resource res self.old.resources }) }
+        ensures given_back { IsGivenBack self.old.room.resources self.new.room.resources }
     {
         let key = self.queues.resources[res.slot()].key;
         self.queues.remove_resource(&mut self.order, res.slot());

@@ -1,9 +1,10 @@
-use Rattle.vlm_store.specs.Records.{Records}
 use Rattle.vlm_locks.specs.Rest.{OtherLocksStay}
 use Rattle.vlm_locks.proofs.OtherLocks.{removed_alone}
 use Rattle.std.proofs.Common.{sym, subst, ap}
 use Rattle.vlm_words.specs.Withdrawals.{resource_without}
 use Rattle.vlm_locks.specs.Withdrawing.{IsChange}
+use Rattle.vlm_store.specs.Records.{Records, without_stored_lock}
+use Rattle.vlm_locks.proofs.Changed.{changed_room}
 use Rattle.vlm_locks.proofs.Stood.{stored}
 use Rattle.vlm_locks.proofs.Withdrawn.{removed}
 use Rattle.vlm_locks.proofs.withdrawing.remove.Goals as goal
@@ -17,12 +18,13 @@ pub returns-clause-removed : goal.returns-clause-removed
 returns-clause-removed c =
     let s = c.args.store.now in
     let f = c.args.standing.now in
-    subst (IsChange f.res (resource_without f.row.lkid) s) (sym c.remove_lock.ensures) (removed s c.known.ensures f c.requires.standing c.requires.rest)
+    subst (IsChange f.res (resource_without f.row.lkid) s) (sym c.remove_lock.ensures.removed)
+    (changed_room f.res (resource_without f.row.lkid) s (without_stored_lock f.lock s) _ (removed s c.known.ensures f c.requires.standing c.requires.rest))
 
 pub returns-clause-locks : goal.returns-clause-locks
 returns-clause-locks c =
     let f = c.args.standing.now in
-    subst (OtherLocksStay f.lock c.args.store.now) (sym c.remove_lock.ensures) (removed_alone f.lock c.args.store.now)
+    subst (OtherLocksStay f.lock c.args.store.now) (sym c.remove_lock.ensures.removed) (removed_alone f.lock _ c.args.store.now)
 
 pub returns-clause-own_locks : goal.returns-clause-own_locks
-returns-clause-own_locks c = ap (λ (s : Records). s.processes) c.remove_lock.ensures
+returns-clause-own_locks c = ap (λ (s : Records). s.processes) c.remove_lock.ensures.removed

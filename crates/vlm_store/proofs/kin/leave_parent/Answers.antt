@@ -1,8 +1,9 @@
+use Rattle.vlm_store.proofs.Rooms.{room_relinked, room_written}
 use Rattle.std.proofs.Common.{◌∙◌, refl, sym, ap, subst}
 use Rattle.std.proofs.lemmas.Option.{none-some}
 use Rattle.vlm_links.specs.Lists.{IsIn, keys_of}
 use Rattle.vlm_links.proofs.KeyLists.{without_absent}
-use Rattle.vlm_store.specs.Holdings.{below_in, below_keys, below_links, parent_in}
+use Rattle.vlm_store.specs.Holdings.{below_in, below_keys, below_links, parent_in, with_below_links}
 use Rattle.vlm_store.proofs.OwnLocks.{below_none, parent_left, parent_left_keys, parent_there}
 use Rattle.vlm_store.proofs.kin.leave_parent.Goals as goal
 
@@ -33,3 +34,7 @@ pub returns-in_default-clause-keys : goal.returns-in_default-clause-keys
 returns-in_default-clause-keys c parent =
     let out = below_none c.args.locks.now c.args.at c.requires.below (ap parent_in c.index.ensures ∙ c.in_default.is) in
     sym (without_absent c.args.at (below_keys c.args.locks.now parent) (out.gone parent c.args.at refl))
+
+pub returns-clause-locks_room : goal.returns-clause-locks_room
+returns-clause-locks_room c =
+    room_written c.unlink.new.nodes c.slot-2.result _ (rw c.index_mut.ensures.value refl) ∙ room_relinked with_below_links c.args.locks.now c.unlink.new.nodes c.unlink.ensures.relinks

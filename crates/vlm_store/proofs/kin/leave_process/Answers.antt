@@ -1,7 +1,8 @@
-use Rattle.std.proofs.Common.{sym, ap, subst}
+use Rattle.vlm_store.proofs.Rooms.{room_relinked, room_written}
+use Rattle.std.proofs.Common.{sym, ap, subst, refl}
 use Rattle.std.proofs.lemmas.Option.{none-some}
 use Rattle.vlm_links.specs.Lists.{IsIn, keys_of}
-use Rattle.vlm_store.specs.Holdings.{own_in, own_links, owner_in}
+use Rattle.vlm_store.specs.Holdings.{own_in, own_links, owner_in, with_own_links}
 use Rattle.vlm_store.proofs.OwnLocks.{owner_there, process_left, process_left_keys}
 use Rattle.vlm_store.proofs.kin.leave_process.Goals as goal
 
@@ -24,3 +25,9 @@ returns-clause-keys c =
     rw c.slot-owner.ensures
     (process_left_keys c.args.processes.now c.args.locks.now c.unlink.new.nodes c.args.at c.index.result.now.owner c.index-2.result.now c.index_mut.result.now c.unlink.new.self (rw c.slot-owner.ensures at c.index-2.ensures) (rw c.slot-owner.ensures at c.index_mut.ensures.value)
     c.unlink.ensures.relinks c.unlink.ensures.linked c.requires.owned (ap owner_in c.index.ensures) c.unlink.ensures.keys c.unlink.ensures.others)
+
+pub returns-clause-locks_room : goal.returns-clause-locks_room
+returns-clause-locks_room c = room_relinked with_own_links c.args.locks.now c.unlink.new.nodes c.unlink.ensures.relinks
+
+pub returns-clause-processes_room : goal.returns-clause-processes_room
+returns-clause-processes_room c = room_written c.args.processes.now c.slot-owner.result _ (rw c.index-2.ensures refl)

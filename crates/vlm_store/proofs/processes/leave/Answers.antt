@@ -1,8 +1,9 @@
-use Rattle.std.proofs.Common.{◌∙◌, refl, subst}
+use Rattle.vlm_store.proofs.Rooms.{room_relinked, room_given_back}
+use Rattle.std.proofs.Common.{◌∙◌, refl, subst, ap, ◌+◌, ℕ}
 use Rattle.vlm_links.specs.Lists.{IsIn}
 use Rattle.vlm_links.proofs.Keeping.{updated-keys, updated-linked}
 use Rattle.vlm_links.proofs.KeyLists.{IsIn-without}
-use Rattle.vlm_store.specs.Holdings.{process_links}
+use Rattle.vlm_store.specs.Holdings.{process_links, with_process_links}
 use Rattle.vlm_store.proofs.processes.leave.Goals as goal
 
 pub returns-clause-linked : goal.returns-clause-linked
@@ -15,3 +16,8 @@ returns-clause-order c =
     updated-keys process_links c.unlink.new.nodes c.remove.new.self c.args.at _ c.remove.ensures.updates c.unlink.new.self c.unlink.ensures.linked
     (λ found. (IsIn-without c.args.at c.args.at _ (subst (IsIn c.args.at) c.unlink.ensures.keys found)).1 refl)
     ∙ c.unlink.ensures.keys
+
+pub returns-clause-given_back : goal.returns-clause-given_back
+returns-clause-given_back c =
+    room_given_back c.unlink.new.nodes c.remove.new.self c.args.at c.remove.ensures.room c.remove.ensures.len c.remove.ensures.capacity c.remove.ensures.key_is_next
+    ∙ ap (λ (p : ℕ × ℕ). (p.0 + 1, c.args.at)) (room_relinked with_process_links c.args.processes.now c.unlink.new.nodes c.unlink.ensures.relinks)

@@ -1,14 +1,18 @@
 use Rattle.std.proofs.Common.{◌∙◌, subst}
 use Rattle.vlm_store.specs.Records.{IsProcessAmong}
 use Rattle.vlm_core.specs.Machine.{Kept}
-use Rattle.vlm_core.proofs.Stayed.{rests_declared}
+use Rattle.vlm_core.proofs.Stayed.{rests_declared, rests_refused}
 use Rattle.vlm_core.proofs.records.Machine.declare_change.Goals as goal
 
 pub add_process-requires : goal.add_process-requires
 add_process-requires c p among same =
     c.requires.new p (subst (λ (m : Kept). IsProcessAmong p m.records.processes) c.self.view_is among) (same ∙ c.next_pid-pid.ensures)
 
+-- where memory is refused it is as it was
+pub invariant_of-self : goal.invariant_of-self
+invariant_of-self c = record { rest = rests_refused c.self.inside.store c.add_process.new.self c.in_err-add_process.ensures.err c.self.invariant.rest }
+
 -- between two steps it is as it was, with one process more
 pub invariant_of-self-2 : goal.invariant_of-self-2
 invariant_of-self-2 c =
-    record { rest = rests_declared c.self.inside.store c.add_process.new.self c.in_ok-add_process.field-0 c.next_pid-pid.result c.args.declaration.now c.in_ok-add_process.ensures.added c.self.invariant.rest }
+    record { rest = rests_declared c.self.inside.store c.add_process.new.self _ c.in_ok-add_process.field-0 c.next_pid-pid.result c.args.declaration.now c.in_ok-add_process.ensures.added c.self.invariant.rest }

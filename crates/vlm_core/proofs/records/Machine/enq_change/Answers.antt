@@ -5,6 +5,7 @@ use Rattle.vlm_core.specs.Admissions.{IsAdmitted}
 use Rattle.vlm_core.specs.Between.{IsBetweenSteps}
 use Rattle.vlm_core.specs.Machine.{Kept, kept, plain_state}
 use Rattle.vlm_core.proofs.Entries.{entered_state, processes_are, resources_are, serial_is}
+use Rattle.vlm_core.proofs.Stayed.{rests_refused}
 use Rattle.vlm_core.proofs.ToCome.{new_lock}
 use Rattle.vlm_core.proofs.records.Machine.enq_change.Goals as goal
 
@@ -16,6 +17,10 @@ enter-requires-clause-new c =
     let row = c.args.admitted.now.entry.row in
     let lkid : row.lkid ≡ c.self.inside.last_lkid + 1 = ap (λ (r : Row). r.lkid) admitted.entry.row in
     new_lock c.self.inside.store row.lkid c.self.invariant.rest.none_loose (between.lkids_to_come row.lkid (omega (arith, lkid)))
+
+-- where memory is refused it is as it was
+pub invariant_of-self : goal.invariant_of-self
+invariant_of-self c = record { rest = rests_refused c.self.inside.store c.enter.new.store c.in_err-res.ensures.err c.self.invariant.rest }
 
 -- the plain machine's change
 pub returns-clause-change : goal.returns-clause-change

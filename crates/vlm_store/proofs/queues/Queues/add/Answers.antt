@@ -1,4 +1,5 @@
-use Rattle.std.proofs.Common.{refl, sym, subst}
+use Rattle.vlm_store.proofs.Rooms.{room_taken}
+use Rattle.std.proofs.Common.{refl, sym, subst, ap, ◌∙◌, ◌+◌, ℕ}
 use Rattle.vlm_links.specs.Lists.{IsIn}
 use Rattle.vlm_links.proofs.Keeping.{vacant_unlisted}
 use Rattle.vlm_links.proofs.KeyLists.{IsIn-push_last}
@@ -28,3 +29,8 @@ returns-clause-tallied c =
     tallied_loose c.put_at.new.self c.insert_reserved-at.result c.put_at.ensures.placed
     (c.put_at.ensures.placed.listed Loose c.insert_reserved-at.result
     (subst (IsIn c.insert_reserved-at.result) (sym c.put_at.ensures.here) (IsIn-push_last c.insert_reserved-at.result (keys_at q1 Loose)))) tallied2
+
+pub returns-clause-taken : goal.returns-clause-taken
+returns-clause-taken c =
+    ap (λ (p : ℕ × ℕ). p.0 + 1) c.put_at.ensures.locks_room
+    ∙ room_taken c.args.self.now.locks c.insert_reserved-at.new.self c.requires.room c.insert_reserved-at.ensures.len c.insert_reserved-at.ensures.capacity

@@ -1,5 +1,7 @@
+use Rattle.vlm_store.proofs.Rooms.{room_relinked, room_taken}
+use Rattle.std.proofs.Common.{ap, ◌∙◌, ◌+◌, ℕ}
 use Rattle.vlm_links.proofs.Keeping.{updated-linked, vacant_unlisted}
-use Rattle.vlm_store.specs.Shown.{order_links}
+use Rattle.vlm_store.specs.Shown.{order_links, with_order_links}
 use Rattle.vlm_store.proofs.Making.{added_lists, added_tallies, resources_keys, resources_placed, resources_tallied}
 use Rattle.vlm_store.proofs.queues.Queues.add_resource.Goals as goal
 
@@ -27,3 +29,8 @@ returns-clause-keys c =
     resources_keys c.args.self.now c.push_back.new.nodes c.requires.placed
     (added_lists c.args.self.now c.insert_reserved-at.new.self c.push_back.new.nodes c.insert_reserved-at.result _ c.insert_reserved-at.ensures.updates c.insert_reserved-at.ensures.was_vacant
     c.push_back.ensures.relinks c.new.ensures c.new-2.ensures c.new-3.ensures)
+
+pub returns-clause-taken : goal.returns-clause-taken
+returns-clause-taken c =
+    ap (λ (p : ℕ × ℕ). p.0 + 1) (room_relinked with_order_links c.insert_reserved-at.new.self c.push_back.new.nodes c.push_back.ensures.relinks)
+    ∙ room_taken c.args.self.now.resources c.insert_reserved-at.new.self c.requires.room c.insert_reserved-at.ensures.len c.insert_reserved-at.ensures.capacity

@@ -1,4 +1,6 @@
-use Rattle.std.proofs.Common.{◌∙◌, None, ap, refl}
+use Rattle.vlm_store.specs.Shown.{room_in}
+use Rattle.vlm_store.proofs.Rooms.{room_given_back}
+use Rattle.std.proofs.Common.{◌∙◌, None, ap, refl, ◌+◌, ℕ}
 use Rattle.vlm_links.specs.Lists.{without}
 use Rattle.vlm_store.proofs.Counting.{removed_placed, removed_tallied, tallied_taken, updated_keys}
 use Rattle.vlm_store.proofs.Places.{counted_keys, counted_placed, lists_same, rows_relinked}
@@ -32,3 +34,8 @@ returns-clause-keys c p =
     ∙ c.take_off.ensures.keys p
     ∙ ap (without c.args.at)
     (counted_keys c.args.self.now c.count_out.new.self None c.requires.placed c.count_out.ensures.rest c.count_out.ensures.loose c.count_out.ensures.locks p)
+
+pub returns-clause-given_back : goal.returns-clause-given_back
+returns-clause-given_back c =
+    room_given_back c.take_off.new.self.locks c.remove.new.self c.args.at c.remove.ensures.room c.remove.ensures.len c.remove.ensures.capacity c.remove.ensures.key_is_next
+    ∙ ap (λ (p : ℕ × ℕ). (p.0 + 1, c.args.at)) (c.take_off.ensures.locks_room ∙ ap room_in c.count_out.ensures.locks)

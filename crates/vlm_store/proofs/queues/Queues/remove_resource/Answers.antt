@@ -1,8 +1,9 @@
-use Rattle.std.proofs.Common.{◌∙◌, refl, subst}
+use Rattle.vlm_store.proofs.Rooms.{room_relinked, room_given_back}
+use Rattle.std.proofs.Common.{◌∙◌, refl, subst, ap, ◌+◌, ℕ}
 use Rattle.vlm_links.specs.Lists.{IsIn}
 use Rattle.vlm_links.proofs.Keeping.{updated-keys, updated-linked}
 use Rattle.vlm_links.proofs.KeyLists.{IsIn-without}
-use Rattle.vlm_store.specs.Shown.{order_links}
+use Rattle.vlm_store.specs.Shown.{order_links, with_order_links}
 use Rattle.vlm_store.proofs.Making.{removed_lists, removed_tally, resources_keys, resources_placed}
 use Rattle.vlm_store.proofs.queues.Queues.remove_resource.Goals as goal
 
@@ -30,3 +31,8 @@ returns-clause-order c =
     updated-keys order_links c.unlink.new.nodes c.remove.new.self c.args.res _ c.remove.ensures.updates c.unlink.new.self c.unlink.ensures.linked
     (λ found. (IsIn-without c.args.res c.args.res _ (subst (IsIn c.args.res) c.unlink.ensures.keys found)).1 refl)
     ∙ c.unlink.ensures.keys
+
+pub returns-clause-given_back : goal.returns-clause-given_back
+returns-clause-given_back c =
+    room_given_back c.unlink.new.nodes c.remove.new.self c.args.res c.remove.ensures.room c.remove.ensures.len c.remove.ensures.capacity c.remove.ensures.key_is_next
+    ∙ ap (λ (p : ℕ × ℕ). (p.0 + 1, c.args.res)) (room_relinked with_order_links c.args.self.now.resources c.unlink.new.nodes c.unlink.ensures.relinks)

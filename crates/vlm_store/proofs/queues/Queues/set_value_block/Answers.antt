@@ -1,3 +1,4 @@
+use Rattle.vlm_store.proofs.Rooms.{room_written}
 use Rattle.std.proofs.Common.{refl}
 use Rattle.slab.specs.Slab.{with_value}
 use Rattle.vlm_store.proofs.Making.{block_list, resources_placed, resources_tallied, written_lists, written_tallies}
@@ -15,3 +16,6 @@ returns-clause-tallied c =
     resources_tallied q (with_value q.resources c.args.res (record c.index_mut.result.now { value_block = c.args.value_block })) c.requires.placed
     (written_lists q c.args.res c.index_mut.result.now (record c.index_mut.result.now { value_block = c.args.value_block }) c.requires.there c.index_mut.ensures.value (block_list c.index_mut.result.now c.args.value_block))
     (written_tallies q c.args.res c.index_mut.result.now (record c.index_mut.result.now { value_block = c.args.value_block }) c.requires.there c.index_mut.ensures.value refl) c.requires.tallied
+
+pub returns-clause-resources_room : goal.returns-clause-resources_room
+returns-clause-resources_room c = room_written c.args.self.now.resources c.args.res _ c.requires.there

@@ -1,6 +1,7 @@
-use Rattle.std.proofs.Common.{ap, sym}
+use Rattle.vlm_store.proofs.Rooms.{room_relinked}
+use Rattle.std.proofs.Common.{ap, sym, ◌∙◌}
 use Rattle.std.proofs.lemmas.Option.{none-some}
-use Rattle.vlm_store.specs.Shown.{noted_in}
+use Rattle.vlm_store.specs.Shown.{noted_in, room_in, with_queue_links}
 use Rattle.vlm_store.proofs.Places.{stands_there, taken-keys, taken-placed}
 use Rattle.vlm_store.proofs.queues.Queues.take_off.Goals as goal
 
@@ -27,3 +28,6 @@ returns-clause-keys c =
     taken-keys c.args.self.now c.set_list.new.self c.unlink.new.nodes c.unlink.new.self c.args.at c.index.result.now.place c.requires.placed (ap noted_in c.index.ensures)
     c.unlink.ensures.linked (rw c.list-list.ensures at c.unlink.ensures.keys) (rw c.list-list.ensures at c.unlink.ensures.others) c.unlink.ensures.relinks
     c.set_list.ensures.here c.set_list.ensures.elsewhere c.set_list.ensures.locks
+
+pub returns-clause-locks_room : goal.returns-clause-locks_room
+returns-clause-locks_room c = ap room_in c.set_list.ensures.locks ∙ room_relinked with_queue_links c.args.self.now.locks c.unlink.new.nodes c.unlink.ensures.relinks

@@ -1,79 +1,35 @@
-use Rattle.std.proofs.Common.{◌≡◌, ◌∙◌, ◌++◌, ◌∷◌, [], ℕ, map, None, Some, IsSome, ap, sym, refl, arith, nat_eq}
+use Rattle.vlm_store.proofs.RoomShown.{room_shown, shown_room, is_taken, rooms_are, room_of_same, lock_room_made, has_room, lock_room_kept}
+use Rattle.std.proofs.Common.{◌≡◌, ◌∙◌, ◌++◌, ◌∷◌, [], ℕ, map, None, Some, IsSome, ap, sym, refl, arith, nat_eq, ◌+◌}
 use Rattle.std.specs.Cmp.{unsigned_Decides}
 use Rattle.std.specs.Map.{lookup}
 use Rattle.std.specs.Option.{option_map}
 use Rattle.slab.specs.Slab.{get as slot_of}
-use Rattle.indexmap.specs.IndexMap.{get}
+use Rattle.indexmap.specs.IndexMap.{get, spare}
 use Rattle.vlm_links.proofs.Keeping.{vacant_unlisted}
 use Rattle.vlm_links.specs.Lists.{IsIn}
 use Rattle.vlm_words.specs.Keys.{is_same_key}
 use Rattle.vlm_store.specs.declared.keys.Place.{Place}
 use Rattle.vlm_store.specs.declared.keys.Place.TheVariants.{Loose}
 use Rattle.vlm_store.specs.declared.locks.Lock.{Lock}
-use Rattle.vlm_store.specs.Holdings.{holding, pid_at, processes_of}
-use Rattle.vlm_store.specs.Kept.{processes_shown}
-use Rattle.vlm_store.specs.Records.{process_with_lock}
-use Rattle.vlm_store.specs.Shown.{but_queued, keys_at, list_at, lkid_of, queue_links, row_in}
+use Rattle.vlm_store.specs.Holdings.{pid_at}
+use Rattle.vlm_store.specs.Kept.{beside_shown}
+use Rattle.vlm_store.specs.Records.{process_with_lock, HasRoom, IsTaken, with_new_lock}
+use Rattle.vlm_store.specs.Shown.{keys_at, list_at, lkid_of, queue_links, row_in}
 use Rattle.vlm_store.specs.Store.{key_at, lkid_at, records_of, tables}
 use Rattle.vlm_store.proofs.Indexing.{Indexes-added, Indexes-same}
 use Rattle.vlm_store.proofs.Joining.{new_lkid, other_lkids, joined_kin, joined_lkids, joined_named, joined_owned, joined_processes, linked_parent_there, new_below, new_owned, owner_was_there}
-use Rattle.vlm_store.proofs.Kept.{faces_same, keys_same, no_lock, on_err, on_ok, order_keys, order_linked, order_whole, reserved_keys, reserved_placed, reserved_tallied, shown_with_lock_room, stored_there}
-use Rattle.vlm_store.proofs.Kinship.{kin_keys, kin_placed, kin_rows, kin_tallied, own_below, own_pids, own_process_linked, own_process_whole, queued_below, queued_named, queued_owned, records_processes}
+use Rattle.vlm_store.proofs.Kept.{faces_same, keys_same, no_lock, on_err, on_ok, order_keys, order_linked, order_whole, reserved_keys, reserved_placed, stored_there}
+use Rattle.vlm_store.proofs.Kinship.{kin_keys, kin_placed, kin_rows, kin_tallied, own_below, own_pids, own_process_linked, own_process_whole, records_processes}
 use Rattle.vlm_store.proofs.Layouts.{loose_joined}
 use Rattle.vlm_store.proofs.store.Store.add_lock.Goals as goal
 
 pub invariant_of-self : goal.invariant_of-self
-invariant_of-self c =
-    let s = c.self.inside in
-    let kept = c.self.invariant in
-    let same : (k : ℕ) → slot_of c.reserve.new.self k ≡ slot_of s.queues.locks k = λ k. ap (λ x. slot_of x k) c.reserve.ensures.rest_kept in
-    record {
-      placed = reserved_placed s.queues c.reserve.new.self same kept.placed;
-      tallied = reserved_tallied s.queues c.reserve.new.self same kept.placed kept.tallied;
-      linked = kept.linked;
-      ordered = kept.ordered;
-      locks = Indexes-same (get nat_eq s.lock_index) (get nat_eq s.lock_index) (lkid_at s.queues) (lkid_at (record s.queues { locks = c.reserve.new.self })) (λ k. refl) (λ at. ap (option_map lkid_of) (same at)) kept.locks;
-      resources = kept.resources;
-      owned = queued_owned s.processes s.queues.locks c.reserve.new.self (λ k. ap (option_map but_queued) (same k)) None kept.owned;
-      below = queued_below s.processes s.queues.locks c.reserve.new.self (λ k. ap (option_map but_queued) (same k)) None kept.below;
-      named = queued_named s.processes s.queues.locks c.reserve.new.self (λ k. ap (option_map but_queued) (same k)) kept.named;
-      processes_linked = kept.processes_linked;
-      processes_ordered = kept.processes_ordered;
-      processes = kept.processes;
-    }
-
-pub invariant_of-self-in_err-reserve-2 : goal.invariant_of-self-in_err-reserve-2
-invariant_of-self-in_err-reserve-2 c =
-    let s = c.self.inside in
-    let kept = c.self.invariant in
-    let same : (k : ℕ) → slot_of c.reserve.new.self k ≡ slot_of s.queues.locks k = λ k. ap (λ x. slot_of x k) c.reserve.ensures.rest_kept in
-    record {
-      placed = reserved_placed s.queues c.reserve.new.self same kept.placed;
-      tallied = reserved_tallied s.queues c.reserve.new.self same kept.placed kept.tallied;
-      linked = kept.linked;
-      ordered = kept.ordered;
-      locks = Indexes-same (get nat_eq s.lock_index) (get nat_eq c.reserve-2.new.self) (lkid_at s.queues) (lkid_at (record s.queues { locks = c.reserve.new.self }))
-          (λ k. ap (λ es. lookup (nat_eq k) es) c.reserve-2.ensures.entries) (λ at. ap (option_map lkid_of) (same at)) kept.locks;
-      resources = kept.resources;
-      owned = queued_owned s.processes s.queues.locks c.reserve.new.self (λ k. ap (option_map but_queued) (same k)) None kept.owned;
-      below = queued_below s.processes s.queues.locks c.reserve.new.self (λ k. ap (option_map but_queued) (same k)) None kept.below;
-      named = queued_named s.processes s.queues.locks c.reserve.new.self (λ k. ap (option_map but_queued) (same k)) kept.named;
-      processes_linked = kept.processes_linked;
-      processes_ordered = kept.processes_ordered;
-      processes = kept.processes;
-    }
-
-pub returns-in_err-reserve-clause-err : goal.returns-in_err-reserve-clause-err
-returns-in_err-reserve-clause-err c = on_err c.from_residual.result _ (shown_with_lock_room c.self.inside c.reserve.new.self c.reserve.ensures.rest_kept ∙ c.self.view_is)
-
-pub returns-in_err-reserve-2-clause-err : goal.returns-in_err-reserve-2-clause-err
-returns-in_err-reserve-2-clause-err c =
-    on_err c.from_residual-in_err-reserve-2.result _ (shown_with_lock_room c.self.inside c.reserve.new.self c.reserve.ensures.rest_kept ∙ c.self.view_is)
+invariant_of-self c = lock_room_kept c.self.inside c.self.invariant c.reserve_one.new.records c.reserve_one.new.index c.reserve_one.ensures.records c.reserve_one.ensures.index
 
 pub add-slot-requires-clause-placed : goal.add-slot-requires-clause-placed
 add-slot-requires-clause-placed c =
     let s = c.self.inside in
-    reserved_placed s.queues c.reserve.new.self (λ k. ap (λ x. slot_of x k) c.reserve.ensures.rest_kept) c.self.invariant.placed
+    reserved_placed s.queues c.reserve_one.new.records (λ k. ap (λ x. slot_of x k) c.reserve_one.ensures.records) c.self.invariant.placed
 
 pub join_process-requires-clause-owned : goal.join_process-requires-clause-owned
 join_process-requires-clause-owned c =
@@ -82,10 +38,10 @@ join_process-requires-clause-owned c =
     let q' = c.add-slot.new.self in
     let at = c.add-slot.result in
     let added = c.add-slot.ensures in
-    let same : (k : ℕ) → slot_of c.reserve.new.self k ≡ slot_of s.queues.locks k = λ k. ap (λ x. slot_of x k) c.reserve.ensures.rest_kept in
+    let same : (k : ℕ) → slot_of c.reserve_one.new.records k ≡ slot_of s.queues.locks k = λ k. ap (λ x. slot_of x k) c.reserve_one.ensures.records in
     let owner = rw (← c.self.view_is) at c.requires.owner in
     let parent = rw (← c.self.view_is) at c.requires.parent in
-    new_owned s kept c.reserve.new.self q'.locks at c.args.row c.args.owner c.args.parent same added.fresh added.lock added.kin owner parent
+    new_owned s kept c.reserve_one.new.records q'.locks at c.args.row c.args.owner c.args.parent same added.fresh added.lock added.kin owner parent
 
 pub join_process-requires-clause-there : goal.join_process-requires-clause-there
 join_process-requires-clause-there c =
@@ -94,10 +50,10 @@ join_process-requires-clause-there c =
     let q' = c.add-slot.new.self in
     let at = c.add-slot.result in
     let added = c.add-slot.ensures in
-    let same : (k : ℕ) → slot_of c.reserve.new.self k ≡ slot_of s.queues.locks k = λ k. ap (λ x. slot_of x k) c.reserve.ensures.rest_kept in
+    let same : (k : ℕ) → slot_of c.reserve_one.new.records k ≡ slot_of s.queues.locks k = λ k. ap (λ x. slot_of x k) c.reserve_one.ensures.records in
     let owner = rw (← c.self.view_is) at c.requires.owner in
     let parent = rw (← c.self.view_is) at c.requires.parent in
-    owner_was_there s kept c.reserve.new.self q'.locks at c.args.row c.args.owner c.args.parent same added.fresh added.lock added.kin owner parent
+    owner_was_there s kept c.reserve_one.new.records q'.locks at c.args.row c.args.owner c.args.parent same added.fresh added.lock added.kin owner parent
 
 pub join_parent-requires-clause-below : goal.join_parent-requires-clause-below
 join_parent-requires-clause-below c =
@@ -106,10 +62,10 @@ join_parent-requires-clause-below c =
     let q' = c.add-slot.new.self in
     let at = c.add-slot.result in
     let added = c.add-slot.ensures in
-    let same : (k : ℕ) → slot_of c.reserve.new.self k ≡ slot_of s.queues.locks k = λ k. ap (λ x. slot_of x k) c.reserve.ensures.rest_kept in
+    let same : (k : ℕ) → slot_of c.reserve_one.new.records k ≡ slot_of s.queues.locks k = λ k. ap (λ x. slot_of x k) c.reserve_one.ensures.records in
     let owner = rw (← c.self.view_is) at c.requires.owner in
     let parent = rw (← c.self.view_is) at c.requires.parent in
-    own_below q'.locks c.join_process.new.locks c.join_process.ensures.relinks (Some at) (new_below s kept c.reserve.new.self q'.locks at c.args.row c.args.owner c.args.parent same added.fresh added.lock added.kin owner parent)
+    own_below q'.locks c.join_process.new.locks c.join_process.ensures.relinks (Some at) (new_below s kept c.reserve_one.new.records q'.locks at c.args.row c.args.owner c.args.parent same added.fresh added.lock added.kin owner parent)
 
 pub join_parent-requires-clause-there : goal.join_parent-requires-clause-there
 join_parent-requires-clause-there c =
@@ -118,10 +74,10 @@ join_parent-requires-clause-there c =
     let q' = c.add-slot.new.self in
     let at = c.add-slot.result in
     let added = c.add-slot.ensures in
-    let same : (k : ℕ) → slot_of c.reserve.new.self k ≡ slot_of s.queues.locks k = λ k. ap (λ x. slot_of x k) c.reserve.ensures.rest_kept in
+    let same : (k : ℕ) → slot_of c.reserve_one.new.records k ≡ slot_of s.queues.locks k = λ k. ap (λ x. slot_of x k) c.reserve_one.ensures.records in
     let owner = rw (← c.self.view_is) at c.requires.owner in
     let parent = rw (← c.self.view_is) at c.requires.parent in
-    linked_parent_there s kept c.reserve.new.self q'.locks at c.args.row c.args.owner c.args.parent same added.fresh added.lock added.kin owner parent c.join_process.new.locks c.join_process.ensures.relinks
+    linked_parent_there s kept c.reserve_one.new.records q'.locks at c.args.row c.args.owner c.args.parent same added.fresh added.lock added.kin owner parent c.join_process.new.locks c.join_process.ensures.relinks
 
 pub invariant_of-self-2 : goal.invariant_of-self-2
 invariant_of-self-2 c =
@@ -130,32 +86,32 @@ invariant_of-self-2 c =
     let q' = c.add-slot.new.self in
     let at = c.add-slot.result in
     let added = c.add-slot.ensures in
-    let same : (k : ℕ) → slot_of c.reserve.new.self k ≡ slot_of s.queues.locks k = λ k. ap (λ x. slot_of x k) c.reserve.ensures.rest_kept in
+    let same : (k : ℕ) → slot_of c.reserve_one.new.records k ≡ slot_of s.queues.locks k = λ k. ap (λ x. slot_of x k) c.reserve_one.ensures.records in
     let owner = rw (← c.self.view_is) at c.requires.owner in
     let parent = rw (← c.self.view_is) at c.requires.parent in
     let process = c.join_process.ensures in
     let below = c.join_parent.ensures in
     let rest = added.rest in
     let q'' = record q' { locks = c.join_parent.new.locks } in
-    let kin = joined_kin s kept c.reserve.new.self q'.locks at c.args.row c.args.owner c.args.parent same added.fresh added.lock added.kin owner parent c.join_process.new.processes c.join_process.new.locks c.join_parent.new.locks process.owned process.here process.elsewhere process.relinks process.rest below.here below.elsewhere below.rest in
-    let lkids = joined_lkids s kept c.reserve.new.self q'.locks at c.args.row c.args.owner c.args.parent same added.fresh added.lock added.kin owner parent c.join_process.new.processes c.join_process.new.locks c.join_parent.new.locks process.owned process.here process.elsewhere process.relinks process.rest below.here below.elsewhere below.rest in
-    let indexes1 = Indexes-same (get nat_eq s.lock_index) (get nat_eq c.reserve-2.new.self) (lkid_at s.queues) (lkid_at (record s.queues { locks = c.reserve.new.self }))
-    (λ k. ap (λ es. lookup (nat_eq k) es) c.reserve-2.ensures.entries) (λ at. ap (option_map lkid_of) (same at)) kept.locks in
-    let fresh : get nat_eq c.reserve-2.new.self c.args.row.lkid ≡ None =
-    ap (λ es. lookup (nat_eq c.args.row.lkid) es) c.reserve-2.ensures.entries
-    ∙ no_lock s.queues s.order (processes_shown s) kept.placed kept.linked kept.ordered (get nat_eq s.lock_index) kept.locks c.args.row.lkid (rw (← c.self.view_is) at c.requires.new) in
+    let kin = joined_kin s kept c.reserve_one.new.records q'.locks at c.args.row c.args.owner c.args.parent same added.fresh added.lock added.kin owner parent c.join_process.new.processes c.join_process.new.locks c.join_parent.new.locks process.owned process.here process.elsewhere process.relinks process.rest below.here below.elsewhere below.rest in
+    let lkids = joined_lkids s kept c.reserve_one.new.records q'.locks at c.args.row c.args.owner c.args.parent same added.fresh added.lock added.kin owner parent c.join_process.new.processes c.join_process.new.locks c.join_parent.new.locks process.owned process.here process.elsewhere process.relinks process.rest below.here below.elsewhere below.rest in
+    let indexes1 = Indexes-same (get nat_eq s.lock_index) (get nat_eq c.reserve_one.new.index) (lkid_at s.queues) (lkid_at (record s.queues { locks = c.reserve_one.new.records }))
+    (λ k. ap (λ es. lookup (nat_eq k) es) c.reserve_one.ensures.index) (λ at. ap (option_map lkid_of) (same at)) kept.locks in
+    let fresh : get nat_eq c.reserve_one.new.index c.args.row.lkid ≡ None =
+    ap (λ es. lookup (nat_eq c.args.row.lkid) es) c.reserve_one.ensures.index
+    ∙ no_lock s.queues s.order (beside_shown s) kept.placed kept.linked kept.ordered (get nat_eq s.lock_index) kept.locks c.args.row.lkid (rw (← c.self.view_is) at c.requires.new) in
     record {
       placed = kin_placed q' c.join_parent.new.locks kin added.placed;
       tallied = kin_tallied q' c.join_parent.new.locks kin added.placed added.tallied;
       linked = order_linked s.queues.resources q'.resources rest s.order kept.linked;
       ordered = order_whole s.queues.resources q'.resources rest s.order kept.linked kept.ordered;
-      locks = Indexes-added nat_eq unsigned_Decides c.reserve-2.new.self c.insert.new.self c.args.row.lkid (lkid_at (record s.queues { locks = c.reserve.new.self })) (lkid_at q'') at
-          (rw c.of-at.ensures at (on_ok c.insert.result _ (c.insert.ensures.succeeds (omega (arith, c.in_ok-reserve-2.ensures.ok))) c.insert.ensures.updates))
-          (ap (option_map lkid_of) added.fresh) (lkids at ∙ new_lkid s kept c.reserve.new.self q'.locks at c.args.row c.args.owner c.args.parent same added.fresh added.lock added.kin owner parent) (λ k differs. lkids k ∙ other_lkids s kept c.reserve.new.self q'.locks at c.args.row c.args.owner c.args.parent same added.fresh added.lock added.kin owner parent k differs) fresh indexes1;
+      locks = Indexes-added nat_eq unsigned_Decides c.reserve_one.new.index c.insert.new.self c.args.row.lkid (lkid_at (record s.queues { locks = c.reserve_one.new.records })) (lkid_at q'') at
+          (rw c.of-at.ensures at (on_ok c.insert.result _ (c.insert.ensures.succeeds (omega (arith, c.in_ok-reserve_one.ensures.find))) c.insert.ensures.updates))
+          (ap (option_map lkid_of) added.fresh) (lkids at ∙ new_lkid s kept c.reserve_one.new.records q'.locks at c.args.row c.args.owner c.args.parent same added.fresh added.lock added.kin owner parent) (λ k differs. lkids k ∙ other_lkids s kept c.reserve_one.new.records q'.locks at c.args.row c.args.owner c.args.parent same added.fresh added.lock added.kin owner parent k differs) fresh indexes1;
       resources = Indexes-same (get is_same_key s.resource_index) (get is_same_key s.resource_index) (key_at s.queues) (key_at q'') (λ k. refl) (keys_same s.queues.resources q'.resources rest) kept.resources;
-      owned = joined_owned s kept c.reserve.new.self q'.locks at c.args.row c.args.owner c.args.parent same added.fresh added.lock added.kin owner parent c.join_process.new.processes c.join_process.new.locks c.join_parent.new.locks process.owned process.here process.elsewhere process.relinks process.rest below.here below.elsewhere below.rest;
+      owned = joined_owned s kept c.reserve_one.new.records q'.locks at c.args.row c.args.owner c.args.parent same added.fresh added.lock added.kin owner parent c.join_process.new.processes c.join_process.new.locks c.join_parent.new.locks process.owned process.here process.elsewhere process.relinks process.rest below.here below.elsewhere below.rest;
       below = below.below;
-      named = joined_named s kept c.reserve.new.self q'.locks at c.args.row c.args.owner c.args.parent same added.fresh added.lock added.kin owner parent c.join_process.new.processes c.join_process.new.locks c.join_parent.new.locks process.owned process.here process.elsewhere process.relinks process.rest below.here below.elsewhere below.rest;
+      named = joined_named s kept c.reserve_one.new.records q'.locks at c.args.row c.args.owner c.args.parent same added.fresh added.lock added.kin owner parent c.join_process.new.processes c.join_process.new.locks c.join_parent.new.locks process.owned process.here process.elsewhere process.relinks process.rest below.here below.elsewhere below.rest;
       processes_linked = own_process_linked s.processes c.join_process.new.processes process.rest s.process_order kept.processes_linked;
       processes_ordered = own_process_whole s.processes c.join_process.new.processes process.rest s.process_order kept.processes_linked kept.processes_ordered;
       processes = Indexes-same (get nat_eq s.process_index) (get nat_eq s.process_index) (pid_at s.processes) (pid_at c.join_process.new.processes) (λ k. refl) (own_pids s.processes c.join_process.new.processes process.rest) kept.processes;
@@ -168,32 +124,60 @@ returns-clause-added c =
     let q' = c.add-slot.new.self in
     let at = c.add-slot.result in
     let added = c.add-slot.ensures in
-    let same : (k : ℕ) → slot_of c.reserve.new.self k ≡ slot_of s.queues.locks k = λ k. ap (λ x. slot_of x k) c.reserve.ensures.rest_kept in
+    let same : (k : ℕ) → slot_of c.reserve_one.new.records k ≡ slot_of s.queues.locks k = λ k. ap (λ x. slot_of x k) c.reserve_one.ensures.records in
     let owner = rw (← c.self.view_is) at c.requires.owner in
     let parent = rw (← c.self.view_is) at c.requires.parent in
     let process = c.join_process.ensures in
     let below = c.join_parent.ensures in
     let rest = added.rest in
     let q'' = record q' { locks = c.join_parent.new.locks } in
-    let kin = joined_kin s kept c.reserve.new.self q'.locks at c.args.row c.args.owner c.args.parent same added.fresh added.lock added.kin owner parent c.join_process.new.processes c.join_process.new.locks c.join_parent.new.locks process.owned process.here process.elsewhere process.relinks process.rest below.here below.elsewhere below.rest in
-    let keys1 = reserved_keys s.queues c.reserve.new.self same kept.placed in
+    let kin = joined_kin s kept c.reserve_one.new.records q'.locks at c.args.row c.args.owner c.args.parent same added.fresh added.lock added.kin owner parent c.join_process.new.processes c.join_process.new.locks c.join_parent.new.locks process.owned process.here process.elsewhere process.relinks process.rest below.here below.elsewhere below.rest in
+    let keys1 = reserved_keys s.queues c.reserve_one.new.records same kept.placed in
     let keys2 = kin_keys q' c.join_parent.new.locks kin added.placed in
     let unlisted : (p : Place) → ¬ IsIn at (keys_at s.queues p) =
     λ p. vacant_unlisted queue_links s.queues.locks (list_at s.queues p) (kept.placed.linked p) at (sym (same at) ∙ added.fresh) in
-    let old = tables s.queues s.order (processes_shown s) in
+    let old = tables s.queues s.order (beside_shown s) in
+    let s' = record s { queues = q''; processes = c.join_process.new.processes; lock_index = c.insert.new.self } in
+    let new = tables q'' s.order (beside_shown s') in
     let rows : (k : ℕ) → row_in (slot_of c.join_parent.new.locks k) ≡ row_in (slot_of q'.locks k) = kin_rows q' c.join_parent.new.locks kin in
     rw (← c.self.view_is, c.of-at.ensures)
-    (loose_joined old (tables q'' s.order (processes_of (holding c.join_process.new.processes c.join_parent.new.locks s.process_order))) at c.args.row (faces_same s.queues.resources q'.resources rest)
+    (loose_joined old new at c.args.row (faces_same s.queues.resources q'.resources rest)
     (order_keys s.queues.resources q'.resources rest s.order kept.linked) (rows at ∙ added.row) (λ k differs. rows k ∙ added.rows k differs ∙ ap row_in (same k)) unlisted
     (keys2 Loose ∙ added.here ∙ ap (λ ks. ks ++ at ∷ []) (keys1 Loose)) (λ p differs. keys2 p ∙ added.elsewhere p differs ∙ keys1 p)
-    ∙ ap (λ ps. record (records_of old) { loose = (records_of old).loose ++ record { at = at; row = c.args.row } ∷ []; processes = ps })
-    (joined_processes s kept c.reserve.new.self q'.locks at c.args.row c.args.owner c.args.parent same added.fresh added.lock added.kin owner parent c.join_process.new.processes c.join_process.new.locks c.join_parent.new.locks process.owned process.here process.elsewhere process.relinks process.rest below.here below.elsewhere below.rest ∙ ap (map (process_with_lock c.args.owner c.args.parent at)) (sym (records_processes old))))
+    ∙ ap (λ ps. record (records_of old) { loose = (records_of old).loose ++ record { at = at; row = c.args.row } ∷ []; processes = ps; room = (records_of new).room })
+    (joined_processes s kept c.reserve_one.new.records q'.locks at c.args.row c.args.owner c.args.parent same added.fresh added.lock added.kin owner parent c.join_process.new.processes c.join_process.new.locks c.join_parent.new.locks process.owned process.here process.elsewhere process.relinks process.rest below.here below.elsewhere below.rest ∙ ap (map (process_with_lock c.args.owner c.args.parent at)) (sym (records_processes old)))
+    ∙ ap (λ r. record (with_new_lock at c.args.row c.args.owner c.args.parent (records_of old)) { room = r })
+    (room_shown (λ a b. b ≡ record a { locks = b.locks }) old new
+    (rooms_are _ _ _ _ _ _ refl (room_of_same s.queues.resources q'.resources (spare s.resource_index) added.resources_room) (room_of_same s.processes c.join_process.new.processes (spare s.process_index) process.processes_room))))
 
 pub returns-clause-fresh : goal.returns-clause-fresh
 returns-clause-fresh c stored =
     let s = c.self.inside in
     let is = rw (c.of-at.ensures, ← c.self.view_is) at stored in
-    let there = (stored_there s.queues s.order (processes_shown s) c.self.invariant.placed c.add-slot.result is.0 is.1).0 in
-    let vacant : slot_of s.queues.locks c.add-slot.result ≡ None = sym (ap (λ x. slot_of x c.add-slot.result) c.reserve.ensures.rest_kept) ∙ c.add-slot.ensures.fresh in
+    let there = (stored_there s.queues s.order (beside_shown s) c.self.invariant.placed c.add-slot.result is.0 is.1).0 in
+    let vacant : slot_of s.queues.locks c.add-slot.result ≡ None = sym (ap (λ x. slot_of x c.add-slot.result) c.reserve_one.ensures.records) ∙ c.add-slot.ensures.fresh in
     let nothing : IsSome {T = Lock} None = rw vacant at there in
     absurd (cc)
+
+pub returns-clause-taken : goal.returns-clause-taken
+returns-clause-taken c =
+    let s = c.self.inside in
+    let q'' = record c.add-slot.new.self { locks = c.join_parent.new.locks } in
+    let s' = record s { queues = q''; processes = c.join_process.new.processes; lock_index = c.insert.new.self } in
+    rw (← c.self.view_is)
+    (room_shown (λ a b. IsTaken a.locks b.locks) (tables s.queues s.order (beside_shown s)) (tables q'' s.order (beside_shown s'))
+    (is_taken s.queues.locks c.reserve_one.new.records q''.locks (spare s.lock_index) (spare c.reserve_one.new.index) (spare c.insert.new.self) c.reserve_one.ensures.records c.reserve_one.ensures.capacity
+    (ap (λ (p : ℕ × ℕ). p.0 + 1) (c.join_parent.ensures.locks_room ∙ c.join_process.ensures.locks_room) ∙ c.add-slot.ensures.taken) c.reserve_one.ensures.finds c.insert.ensures.spare))
+
+-- where there is room none is refused
+pub returns-in_err-reserve_one-clause-succeeds : goal.returns-in_err-reserve_one-clause-succeeds
+returns-in_err-reserve_one-clause-succeeds c has =
+    let s = c.self.inside in
+    let room = has_room s.queues.locks (spare s.lock_index) (shown_room (λ r. HasRoom r.locks) (tables s.queues s.order (beside_shown s)) (rw (← c.self.view_is) at has)) in
+    let never = c.in_err-reserve_one.ensures.succeeds room.0 room.1 room.2 in
+    cc
+
+pub returns-in_err-reserve_one-clause-err : goal.returns-in_err-reserve_one-clause-err
+returns-in_err-reserve_one-clause-err c =
+    rw (← c.self.view_is)
+    (on_err c.from_residual.result _ (lock_room_made c.self.inside c.reserve_one.new.records (spare c.reserve_one.new.index) c.reserve_one.ensures.records c.reserve_one.ensures.capacity c.reserve_one.ensures.finds))

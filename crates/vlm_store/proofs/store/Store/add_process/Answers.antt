@@ -1,9 +1,11 @@
+use Rattle.vlm_store.specs.Store.{tables, records_of}
+use Rattle.vlm_store.proofs.RoomShown.{room_shown, is_taken, process_room_made}
 use Rattle.std.proofs.Common.{◌≡◌, ◌≢◌, ◌∙◌, ◌++◌, ◌∷◌, ℕ, List, [], map, None, Some, IsSome, ap, sym, refl, arith, nat_eq}
 use Rattle.std.specs.Cmp.{unsigned_Decides}
 use Rattle.std.specs.Map.{lookup}
 use Rattle.std.specs.Option.{option_map}
 use Rattle.slab.specs.Slab.{get}
-use Rattle.indexmap.specs.IndexMap.{get as found}
+use Rattle.indexmap.specs.IndexMap.{get as found, spare}
 use Rattle.vlm_links.specs.Lists.{keys_of}
 use Rattle.vlm_links.proofs.Keeping.{vacant_unlisted}
 use Rattle.vlm_links.proofs.Rings.{same-keys, same-linked}
@@ -11,12 +13,12 @@ use Rattle.vlm_words.specs.Declare.{new_process}
 use Rattle.vlm_words.specs.State.{Process as PlainProcess}
 use Rattle.vlm_store.specs.declared.locks.Lock.{Lock}
 use Rattle.vlm_store.specs.declared.processes.Process.{Process}
-use Rattle.vlm_store.specs.Holdings.{but_order, holding, own_in, own_links, own_of, pid_at, pid_of, process_links, process_of, processes_of}
-use Rattle.vlm_store.specs.Kept.{processes_shown}
-use Rattle.vlm_store.specs.Records.{StoredProcess, new_stored_process}
+use Rattle.vlm_store.specs.Holdings.{but_order, holding, own_in, own_links, own_of, pid_at, pid_of, process_links, process_of}
+use Rattle.vlm_store.specs.Kept.{beside_shown}
+use Rattle.vlm_store.specs.Records.{StoredProcess, new_stored_process, IsTaken}
 use Rattle.vlm_store.proofs.Declaring.{names_stay, owner_is_there, owns_stay, own_by_order, pid_by_order, plain_by_order, process_own_keys, process_owned, roomier}
 use Rattle.vlm_store.proofs.Indexing.{Indexes-added, Indexes-same}
-use Rattle.vlm_store.proofs.Kept.{on_ok}
+use Rattle.vlm_store.proofs.Kept.{on_ok, on_err}
 use Rattle.vlm_store.proofs.Kinship.{processes_changed, there_by_part}
 use Rattle.vlm_store.proofs.Living.{no_process_found, process_there}
 use Rattle.vlm_store.proofs.Making.{whole_grown}
@@ -25,27 +27,24 @@ use Rattle.vlm_store.proofs.Places.{no_list_is}
 use Rattle.vlm_store.proofs.store.Store.add_process.Goals as goal
 
 pub invariant_of-self : goal.invariant_of-self
-invariant_of-self c = roomier c.self.inside c.self.invariant c.reserve.new.self c.self.inside.process_index (λ p. ap (λ x. get x p) c.reserve.ensures.rest_kept) (λ k. refl)
-
-pub invariant_of-self-in_err-reserve-2 : goal.invariant_of-self-in_err-reserve-2
-invariant_of-self-in_err-reserve-2 c =
-    roomier c.self.inside c.self.invariant c.reserve.new.self c.reserve-2.new.self (λ p. ap (λ x. get x p) c.reserve.ensures.rest_kept) (λ k. ap (λ es. lookup (nat_eq k) es) c.reserve-2.ensures.entries)
+invariant_of-self c =
+    roomier c.self.inside c.self.invariant c.reserve_one.new.records c.reserve_one.new.index (λ p. ap (λ x. get x p) c.reserve_one.ensures.records) (λ k. ap (λ es. lookup (nat_eq k) es) c.reserve_one.ensures.index)
 
 pub enter-requires-clause-linked : goal.enter-requires-clause-linked
 enter-requires-clause-linked c =
     let s = c.self.inside in
-    same-linked process_links s.processes c.reserve.new.self s.process_order c.self.invariant.processes_linked (λ p _. ap (λ x. get x p) c.reserve.ensures.rest_kept)
+    same-linked process_links s.processes c.reserve_one.new.records s.process_order c.self.invariant.processes_linked (λ p _. ap (λ x. get x p) c.reserve_one.ensures.records)
 
 pub invariant_of-self-2 : goal.invariant_of-self-2
 invariant_of-self-2 c =
     let s = c.self.inside in
     let kept = c.self.invariant in
-    let roomy = c.reserve.new.self in
+    let roomy = c.reserve_one.new.records in
     let new = c.enter.new.processes in
     let at = c.enter.result in
     let entered = c.enter.ensures in
     let process = c.in_ok-process.process in
-    let same : (p : ℕ) → get roomy p ≡ get s.processes p = λ p. ap (λ x. get x p) c.reserve.ensures.rest_kept in
+    let same : (p : ℕ) → get roomy p ≡ get s.processes p = λ p. ap (λ x. get x p) c.reserve_one.ensures.records in
     let others : (p : ℕ) → p ≢ at → option_map but_order (get new p) ≡ option_map but_order (get s.processes p) = λ p differs. entered.others p differs ∙ ap (option_map but_order) (same p) in
     let vacant : get s.processes at ≡ None = sym (same at) ∙ entered.fresh in
     let before = ap own_in vacant in
@@ -53,10 +52,10 @@ invariant_of-self-2 c =
     let apart : (k : ℕ) (l : Lock) → get s.queues.locks k ≡ Some l → l.owner ≢ at =
     λ k l here is. let nothing : IsSome {T = Process} None = rw (ap (get s.processes) is ∙ vacant) at (owner_is_there s.processes s.queues.locks kept.named k l here) in absurd (cc) in
     let keys1 = same-keys process_links s.processes roomy s.process_order kept.processes_linked (λ p _. same p) in
-    let indexes1 = Indexes-same (found nat_eq s.process_index) (found nat_eq c.reserve-2.new.self) (pid_at s.processes) (pid_at roomy) (λ k. ap (λ es. lookup (nat_eq k) es) c.reserve-2.ensures.entries)
+    let indexes1 = Indexes-same (found nat_eq s.process_index) (found nat_eq c.reserve_one.new.index) (pid_at s.processes) (pid_at roomy) (λ k. ap (λ es. lookup (nat_eq k) es) c.reserve_one.ensures.index)
     (λ p. ap (option_map pid_of) (same p)) kept.processes in
-    let fresh : found nat_eq c.reserve-2.new.self c.args.pid ≡ None =
-    ap (λ es. lookup (nat_eq c.args.pid) es) c.reserve-2.ensures.entries ∙ no_process_found s kept c.args.pid (rw (← c.self.view_is) at c.requires) in
+    let fresh : found nat_eq c.reserve_one.new.index c.args.pid ≡ None =
+    ap (λ es. lookup (nat_eq c.args.pid) es) c.reserve_one.ensures.index ∙ no_process_found s kept c.args.pid (rw (← c.self.view_is) at c.requires) in
     record {
       placed = kept.placed;
       tallied = kept.tallied;
@@ -70,13 +69,14 @@ invariant_of-self-2 c =
       processes_linked = entered.linked;
       processes_ordered = whole_grown process_links roomy new s.process_order c.enter.new.order at (λ p there. rw keys1 (kept.processes_ordered p (rw (same p) at there))) entered.order
           (λ p differs. there_by_part but_order (get roomy p) (get new p) (sym (entered.others p differs)));
-      processes = Indexes-added nat_eq unsigned_Decides c.reserve-2.new.self c.insert.new.self c.args.pid (pid_at roomy) (pid_at new) at
-          (rw c.of-at.ensures at (on_ok c.insert.result _ (c.insert.ensures.succeeds (omega (arith, c.in_ok-reserve-2.ensures.ok))) c.insert.ensures.updates))
+      processes = Indexes-added nat_eq unsigned_Decides c.reserve_one.new.index c.insert.new.self c.args.pid (pid_at roomy) (pid_at new) at
+          (rw c.of-at.ensures at (on_ok c.insert.result _ (c.insert.ensures.succeeds (omega (arith, c.in_ok-reserve_one.ensures.find))) c.insert.ensures.updates))
           (ap (option_map pid_of) entered.fresh) (pid_by_order (get new at) (Some process) entered.here ∙ ap (λ (p : PlainProcess). Some p.pid) c.in_ok-process.ensures.plain)
           (λ p differs. pid_by_order (get new p) (get roomy p) (entered.others p differs)) fresh indexes1;
     }
 
 pub returns-clause-added : goal.returns-clause-added
+unfolding records_of
 returns-clause-added c =
     let s = c.self.inside in
     let kept = c.self.invariant in
@@ -84,19 +84,19 @@ returns-clause-added c =
     let at = c.enter.result in
     let entered = c.enter.ensures in
     let process = c.in_ok-process.process in
-    let same : (p : ℕ) → get c.reserve.new.self p ≡ get s.processes p = λ p. ap (λ x. get x p) c.reserve.ensures.rest_kept in
+    let same : (p : ℕ) → get c.reserve_one.new.records p ≡ get s.processes p = λ p. ap (λ x. get x p) c.reserve_one.ensures.records in
     let others : (p : ℕ) → p ≢ at → option_map but_order (get new p) ≡ option_map but_order (get s.processes p) = λ p differs. entered.others p differs ∙ ap (option_map but_order) (same p) in
     let vacant : get s.processes at ≡ None = sym (same at) ∙ entered.fresh in
     let after = own_by_order (get new at) (Some process) entered.here ∙ no_list_is process.own c.in_ok-process.ensures.own in
     let owns = owns_stay s.processes new at others (ap own_in vacant) after in
-    let keys1 = same-keys process_links s.processes c.reserve.new.self s.process_order kept.processes_linked (λ p _. same p) in
+    let keys1 = same-keys process_links s.processes c.reserve_one.new.records s.process_order kept.processes_linked (λ p _. same p) in
     let h = holding s.processes s.queues.locks s.process_order in
     let h' = holding new s.queues.locks c.enter.new.order in
     let made : process_of h' at ≡ new_stored_process at c.args.pid c.args.declaration.now =
     ap (λ x. record { at = at; process = x; own = map (own_of h') (h'.own at) }) (plain_by_order (get new at) (Some process) entered.here ∙ c.in_ok-process.ensures.plain)
     ∙ ap (λ l. record { at = at; process = new_process c.args.pid c.args.declaration.now; own = map (own_of h') (keys_of own_links s.queues.locks l) }) after in
     rw (← c.self.view_is, c.of-at.ensures)
-    (processes_changed s.queues s.order (processes_shown s) (processes_of h') (λ (ps : List StoredProcess). ps ++ new_stored_process at c.args.pid c.args.declaration.now ∷ [])
+    (processes_changed s.queues s.order (beside_shown s) (beside_shown (record s { processes = new; process_order = c.enter.new.order; process_index = c.insert.new.self })) (λ (ps : List StoredProcess). ps ++ new_stored_process at c.args.pid c.args.declaration.now ∷ [])
     (process_made h h' (λ k. refl) at (new_stored_process at c.args.pid c.args.declaration.now) (λ p differs. plain_by_order (get new p) (get s.processes p) (others p differs))
     (λ p _. process_own_keys s.processes new s.queues.locks owns p) (vacant_unlisted process_links s.processes s.process_order kept.processes_linked at vacant)
     (entered.order ∙ ap (λ ks. ks ++ at ∷ []) keys1) made))
@@ -105,6 +105,20 @@ pub returns-clause-fresh : goal.returns-clause-fresh
 returns-clause-fresh c has =
     let s = c.self.inside in
     let there = process_there s c.self.invariant c.enter.result (rw (c.of-at.ensures, ← c.self.view_is) at has) in
-    let vacant : get s.processes c.enter.result ≡ None = sym (ap (λ x. get x c.enter.result) c.reserve.ensures.rest_kept) ∙ c.enter.ensures.fresh in
+    let vacant : get s.processes c.enter.result ≡ None = sym (ap (λ x. get x c.enter.result) c.reserve_one.ensures.records) ∙ c.enter.ensures.fresh in
     let nothing : IsSome {T = Process} None = rw vacant at there in
     absurd (cc)
+
+pub returns-clause-taken : goal.returns-clause-taken
+returns-clause-taken c =
+    let s = c.self.inside in
+    let s' = record s { processes = c.enter.new.processes; process_order = c.enter.new.order; process_index = c.insert.new.self } in
+    rw (← c.self.view_is)
+    (room_shown (λ a b. IsTaken a.processes b.processes) (tables s.queues s.order (beside_shown s)) (tables s.queues s.order (beside_shown s'))
+    (is_taken s.processes c.reserve_one.new.records c.enter.new.processes (spare s.process_index) (spare c.reserve_one.new.index) (spare c.insert.new.self) c.reserve_one.ensures.records c.reserve_one.ensures.capacity
+    c.enter.ensures.taken c.reserve_one.ensures.finds c.insert.ensures.spare))
+
+pub returns-in_err-reserve_one-clause-err : goal.returns-in_err-reserve_one-clause-err
+returns-in_err-reserve_one-clause-err c =
+    rw (← c.self.view_is)
+    (on_err c.from_residual-in_err-reserve_one.result _ (process_room_made c.self.inside c.reserve_one.new.records (spare c.reserve_one.new.index) c.reserve_one.ensures.records c.reserve_one.ensures.capacity c.reserve_one.ensures.finds))

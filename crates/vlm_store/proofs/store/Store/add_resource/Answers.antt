@@ -1,65 +1,43 @@
+use Rattle.vlm_store.proofs.RoomShown.{room_shown, shown_room, is_taken, rooms_are, room_of_same, resource_room_made, has_room}
 use Rattle.std.proofs.Common.{◌≡◌, ◌∙◌, ◌++◌, ◌∷◌, [], ℕ, None, IsSome, ap, sym, refl, arith, nat_eq}
 use Rattle.std.specs.Map.{lookup}
 use Rattle.std.specs.Option.{option_map}
 use Rattle.slab.specs.Slab.{get as slot_of}
-use Rattle.indexmap.specs.IndexMap.{get}
+use Rattle.indexmap.specs.IndexMap.{get, spare}
 use Rattle.vlm_links.proofs.Keeping.{vacant_unlisted}
 use Rattle.vlm_links.proofs.Rings.{same-keys, same-linked}
 use Rattle.vlm_words.specs.declared.resources.Queue.TheVariants.{Granted, Conversion, Waiting}
 use Rattle.vlm_store.specs.declared.keys.Place.TheVariants.{Queued}
 use Rattle.vlm_store.specs.declared.resources.Resource.{Resource}
 use Rattle.vlm_words.specs.Keys.{is_same_key, is_same_key-Decides}
-use Rattle.vlm_store.specs.Records.{new_resource}
-use Rattle.vlm_store.specs.Shown.{Face, face_in, lkid_of, new_face, order_links, row_in, tally_in}
-use Rattle.vlm_store.specs.Store.{key_at, lkid_at, resource_of, tables}
+use Rattle.vlm_store.specs.Records.{new_resource, HasRoom, IsTaken}
+use Rattle.vlm_store.specs.Shown.{Face, face_in, lkid_of, new_face, order_links, row_in, tally_in, room_in}
+use Rattle.vlm_store.specs.Store.{key_at, lkid_at, resource_of, tables, records_of}
 use Rattle.vlm_store.proofs.Indexing.{Indexes-added, Indexes-same}
 use Rattle.vlm_store.proofs.Kept.{no_resource, on_ok}
 use Rattle.vlm_store.proofs.Layouts.{HasResource-order, resource_made}
 use Rattle.vlm_store.proofs.Making.{face_by_face, face_is, key_by_face, none_keys, there_by_face, whole_grown, reserved_lists, resources_keys, resources_placed, resources_tallied}
-use Rattle.vlm_store.specs.Kept.{processes_shown}
-use Rattle.vlm_store.specs.Holdings.{holding, processes_of}
+use Rattle.vlm_store.specs.Kept.{beside_shown}
 use Rattle.vlm_store.specs.Shown.{but_queued}
 use Rattle.vlm_store.proofs.Kinship.{queued_below, queued_named, queued_owned, queued_processes}
 use Rattle.vlm_store.proofs.Places.{same_eq}
-use Rattle.vlm_store.proofs.Kept.{on_err, shown_with_room}
+use Rattle.vlm_store.proofs.Kept.{on_err}
 use Rattle.vlm_store.proofs.store.Store.add_resource.Goals as goal
 
 pub invariant_of-self : goal.invariant_of-self
 invariant_of-self c =
     let s = c.self.inside in
     let kept = c.self.invariant in
-    let same : (r : ℕ) → slot_of c.reserve.new.self r ≡ slot_of s.queues.resources r = λ r. ap (λ x. slot_of x r) c.reserve.ensures.rest_kept in
-    let lists = reserved_lists s.queues c.reserve.new.self same in
+    let same : (r : ℕ) → slot_of c.reserve_one.new.records r ≡ slot_of s.queues.resources r = λ r. ap (λ x. slot_of x r) c.reserve_one.ensures.records in
+    let lists = reserved_lists s.queues c.reserve_one.new.records same in
     record {
-      placed = resources_placed s.queues c.reserve.new.self kept.placed lists;
-      tallied = resources_tallied s.queues c.reserve.new.self kept.placed lists (λ r. ap tally_in (same r)) kept.tallied;
-      linked = same-linked order_links s.queues.resources c.reserve.new.self s.order kept.linked (λ r _. same r);
-      ordered = λ r there. rw (same-keys order_links s.queues.resources c.reserve.new.self s.order kept.linked (λ x _. same x)) (kept.ordered r (rw (same r) at there));
+      placed = resources_placed s.queues c.reserve_one.new.records kept.placed lists;
+      tallied = resources_tallied s.queues c.reserve_one.new.records kept.placed lists (λ r. ap tally_in (same r)) kept.tallied;
+      linked = same-linked order_links s.queues.resources c.reserve_one.new.records s.order kept.linked (λ r _. same r);
+      ordered = λ r there. rw (same-keys order_links s.queues.resources c.reserve_one.new.records s.order kept.linked (λ x _. same x)) (kept.ordered r (rw (same r) at there));
       locks = kept.locks;
-      resources = Indexes-same (get is_same_key s.resource_index) (get is_same_key s.resource_index) (key_at s.queues) (key_at (record s.queues { resources = c.reserve.new.self })) (λ k. refl)
-          (λ r. ap (option_map (λ (x : Resource). x.key)) (same r)) kept.resources;
-      owned = kept.owned;
-      below = kept.below;
-      named = kept.named;
-      processes_linked = kept.processes_linked;
-      processes_ordered = kept.processes_ordered;
-      processes = kept.processes;
-    }
-
-pub invariant_of-self-in_err-reserve-2 : goal.invariant_of-self-in_err-reserve-2
-invariant_of-self-in_err-reserve-2 c =
-    let s = c.self.inside in
-    let kept = c.self.invariant in
-    let same : (r : ℕ) → slot_of c.reserve.new.self r ≡ slot_of s.queues.resources r = λ r. ap (λ x. slot_of x r) c.reserve.ensures.rest_kept in
-    let lists = reserved_lists s.queues c.reserve.new.self same in
-    record {
-      placed = resources_placed s.queues c.reserve.new.self kept.placed lists;
-      tallied = resources_tallied s.queues c.reserve.new.self kept.placed lists (λ r. ap tally_in (same r)) kept.tallied;
-      linked = same-linked order_links s.queues.resources c.reserve.new.self s.order kept.linked (λ r _. same r);
-      ordered = λ r there. rw (same-keys order_links s.queues.resources c.reserve.new.self s.order kept.linked (λ x _. same x)) (kept.ordered r (rw (same r) at there));
-      locks = kept.locks;
-      resources = Indexes-same (get is_same_key s.resource_index) (get is_same_key c.reserve-2.new.self) (key_at s.queues) (key_at (record s.queues { resources = c.reserve.new.self }))
-          (λ k. ap (λ es. lookup (is_same_key k) es) c.reserve-2.ensures.entries) (λ r. ap (option_map (λ (x : Resource). x.key)) (same r)) kept.resources;
+      resources = Indexes-same (get is_same_key s.resource_index) (get is_same_key c.reserve_one.new.index) (key_at s.queues) (key_at (record s.queues { resources = c.reserve_one.new.records }))
+          (λ k. ap (λ es. lookup (is_same_key k) es) c.reserve_one.ensures.index) (λ r. ap (option_map (λ (x : Resource). x.key)) (same r)) kept.resources;
       owned = kept.owned;
       below = kept.below;
       named = kept.named;
@@ -71,39 +49,39 @@ invariant_of-self-in_err-reserve-2 c =
 pub add_resource-requires-clause-placed : goal.add_resource-requires-clause-placed
 add_resource-requires-clause-placed c =
     let s = c.self.inside in
-    resources_placed s.queues c.reserve.new.self c.self.invariant.placed (reserved_lists s.queues c.reserve.new.self (λ r. ap (λ x. slot_of x r) c.reserve.ensures.rest_kept))
+    resources_placed s.queues c.reserve_one.new.records c.self.invariant.placed (reserved_lists s.queues c.reserve_one.new.records (λ r. ap (λ x. slot_of x r) c.reserve_one.ensures.records))
 
 pub add_resource-requires-clause-linked : goal.add_resource-requires-clause-linked
 add_resource-requires-clause-linked c =
     let s = c.self.inside in
-    same-linked order_links s.queues.resources c.reserve.new.self s.order c.self.invariant.linked (λ r _. ap (λ x. slot_of x r) c.reserve.ensures.rest_kept)
+    same-linked order_links s.queues.resources c.reserve_one.new.records s.order c.self.invariant.linked (λ r _. ap (λ x. slot_of x r) c.reserve_one.ensures.records)
 
 pub invariant_of-self-2 : goal.invariant_of-self-2
 invariant_of-self-2 c =
     let s = c.self.inside in
     let kept = c.self.invariant in
-    let same : (r : ℕ) → slot_of c.reserve.new.self r ≡ slot_of s.queues.resources r = λ r. ap (λ x. slot_of x r) c.reserve.ensures.rest_kept in
-    let q1 = record s.queues { resources = c.reserve.new.self } in
+    let same : (r : ℕ) → slot_of c.reserve_one.new.records r ≡ slot_of s.queues.resources r = λ r. ap (λ x. slot_of x r) c.reserve_one.ensures.records in
+    let q1 = record s.queues { resources = c.reserve_one.new.records } in
     let q' = c.add_resource.new.self in
     let at = c.add_resource.result in
     let added = c.add_resource.ensures in
-    let keys1 = same-keys order_links s.queues.resources c.reserve.new.self s.order kept.linked (λ x _. same x) in
-    let indexes1 = Indexes-same (get is_same_key s.resource_index) (get is_same_key c.reserve-2.new.self) (key_at s.queues) (key_at q1)
-    (λ k. ap (λ es. lookup (is_same_key k) es) c.reserve-2.ensures.entries) (λ r. ap (option_map (λ (x : Resource). x.key)) (same r)) kept.resources in
-    let fresh : get is_same_key c.reserve-2.new.self c.args.site.now.key ≡ None =
-    ap (λ es. lookup (is_same_key c.args.site.now.key) es) c.reserve-2.ensures.entries
-    ∙ no_resource s.queues s.order (processes_shown s) kept.placed kept.linked kept.ordered (get is_same_key s.resource_index) kept.resources c.args.site.now.key (rw (← c.self.view_is) at c.requires) in
+    let keys1 = same-keys order_links s.queues.resources c.reserve_one.new.records s.order kept.linked (λ x _. same x) in
+    let indexes1 = Indexes-same (get is_same_key s.resource_index) (get is_same_key c.reserve_one.new.index) (key_at s.queues) (key_at q1)
+    (λ k. ap (λ es. lookup (is_same_key k) es) c.reserve_one.ensures.index) (λ r. ap (option_map (λ (x : Resource). x.key)) (same r)) kept.resources in
+    let fresh : get is_same_key c.reserve_one.new.index c.args.site.now.key ≡ None =
+    ap (λ es. lookup (is_same_key c.args.site.now.key) es) c.reserve_one.ensures.index
+    ∙ no_resource s.queues s.order (beside_shown s) kept.placed kept.linked kept.ordered (get is_same_key s.resource_index) kept.resources c.args.site.now.key (rw (← c.self.view_is) at c.requires) in
     record {
       placed = added.placed;
       tallied = added.tallied;
       linked = added.linked;
-      ordered = whole_grown order_links c.reserve.new.self q'.resources s.order c.add_resource.new.order at (λ r there. rw keys1 (kept.ordered r (rw (same r) at there))) added.order
-          (λ r differs. there_by_face (slot_of q'.resources r) (slot_of c.reserve.new.self r) (added.faces r differs));
+      ordered = whole_grown order_links c.reserve_one.new.records q'.resources s.order c.add_resource.new.order at (λ r there. rw keys1 (kept.ordered r (rw (same r) at there))) added.order
+          (λ r differs. there_by_face (slot_of q'.resources r) (slot_of c.reserve_one.new.records r) (added.faces r differs));
       locks = Indexes-same (get nat_eq s.lock_index) (get nat_eq s.lock_index) (lkid_at s.queues) (lkid_at q') (λ k. refl) (λ x. ap (λ l. option_map lkid_of (slot_of l x)) added.locks) kept.locks;
-      resources = Indexes-added is_same_key is_same_key-Decides c.reserve-2.new.self c.insert.new.self c.args.site.now.key (key_at q1) (key_at q') at
-          (rw c.of-res.ensures at (on_ok c.insert.result _ (c.insert.ensures.succeeds (omega (arith, c.in_ok-reserve-2.ensures.ok))) c.insert.ensures.updates))
+      resources = Indexes-added is_same_key is_same_key-Decides c.reserve_one.new.index c.insert.new.self c.args.site.now.key (key_at q1) (key_at q') at
+          (rw c.of-res.ensures at (on_ok c.insert.result _ (c.insert.ensures.succeeds (omega (arith, c.in_ok-reserve_one.ensures.find))) c.insert.ensures.updates))
           (ap (option_map (λ (x : Resource). x.key)) added.fresh) (key_by_face (slot_of q'.resources at) ∙ ap (option_map (λ (f : Face). f.key)) added.face)
-          (λ r differs. key_by_face (slot_of q'.resources r) ∙ ap (option_map (λ (f : Face). f.key)) (added.faces r differs) ∙ sym (key_by_face (slot_of c.reserve.new.self r)))
+          (λ r differs. key_by_face (slot_of q'.resources r) ∙ ap (option_map (λ (f : Face). f.key)) (added.faces r differs) ∙ sym (key_by_face (slot_of c.reserve_one.new.records r)))
           fresh indexes1;
       owned = queued_owned s.processes s.queues.locks q'.locks (same_eq but_queued s.queues.locks q'.locks added.locks) None kept.owned;
       below = queued_below s.processes s.queues.locks q'.locks (same_eq but_queued s.queues.locks q'.locks added.locks) None kept.below;
@@ -117,14 +95,16 @@ pub returns-clause-added : goal.returns-clause-added
 returns-clause-added c =
     let s = c.self.inside in
     let kept = c.self.invariant in
-    let same : (r : ℕ) → slot_of c.reserve.new.self r ≡ slot_of s.queues.resources r = λ r. ap (λ x. slot_of x r) c.reserve.ensures.rest_kept in
+    let same : (r : ℕ) → slot_of c.reserve_one.new.records r ≡ slot_of s.queues.resources r = λ r. ap (λ x. slot_of x r) c.reserve_one.ensures.records in
     let q' = c.add_resource.new.self in
     let at = c.add_resource.result in
     let added = c.add_resource.ensures in
     let vacant : slot_of s.queues.resources at ≡ None = sym (same at) ∙ added.fresh in
-    let keys1 = same-keys order_links s.queues.resources c.reserve.new.self s.order kept.linked (λ x _. same x) in
-    let lists1 = resources_keys s.queues c.reserve.new.self kept.placed (reserved_lists s.queues c.reserve.new.self same) in
-    let l' = tables q' c.add_resource.new.order (processes_of (holding s.processes q'.locks s.process_order)) in
+    let keys1 = same-keys order_links s.queues.resources c.reserve_one.new.records s.order kept.linked (λ x _. same x) in
+    let lists1 = resources_keys s.queues c.reserve_one.new.records kept.placed (reserved_lists s.queues c.reserve_one.new.records same) in
+    let s' = record s { queues = q'; order = c.add_resource.new.order; resource_index = c.insert.new.self } in
+    let old = tables s.queues s.order (beside_shown s) in
+    let l' = tables q' s'.order (beside_shown s') in
     let made : resource_of l' at ≡ new_resource at c.args.serial c.args.site.now =
     rw (
       face_is (slot_of q'.resources at) (new_face c.args.serial c.args.site.now) added.face,
@@ -133,23 +113,42 @@ returns-clause-added c =
       added.keys (Queued at Waiting) ∙ lists1 (Queued at Waiting) ∙ none_keys s.queues at Waiting vacant,
     ) refl in
     rw (← c.self.view_is, c.of-res.ensures)
-    (resource_made (tables s.queues s.order (processes_shown s)) l' at (new_resource at c.args.serial c.args.site.now) (λ k. ap (λ l. row_in (slot_of l k)) added.locks) (λ p. added.keys p ∙ lists1 p)
-    (λ r differs. face_by_face (slot_of q'.resources r) (slot_of c.reserve.new.self r) (added.faces r differs) ∙ ap face_in (same r))
+    (resource_made (tables s.queues s.order (beside_shown s)) l' at (new_resource at c.args.serial c.args.site.now) (λ k. ap (λ l. row_in (slot_of l k)) added.locks) (λ p. added.keys p ∙ lists1 p)
+    (λ r differs. face_by_face (slot_of q'.resources r) (slot_of c.reserve_one.new.records r) (added.faces r differs) ∙ ap face_in (same r))
     (vacant_unlisted order_links s.queues.resources s.order kept.linked at vacant) (added.order ∙ ap (λ ks. ks ++ at ∷ []) keys1) made
-    (queued_processes s.processes s.queues.locks q'.locks (same_eq but_queued s.queues.locks q'.locks added.locks) s.process_order kept.owned kept.below))
+    (queued_processes s.processes s.queues.locks q'.locks (same_eq but_queued s.queues.locks q'.locks added.locks) s.process_order kept.owned kept.below)
+    ∙ ap (λ r. record (records_of old) { resources = (records_of old).resources ++ new_resource at c.args.serial c.args.site.now ∷ []; room = r })
+    (room_shown (λ a b. b ≡ record a { resources = b.resources }) old l'
+    (rooms_are _ _ _ _ _ _ (room_of_same s.queues.locks q'.locks (spare s.lock_index) (ap room_in added.locks)) refl refl)))
 
 pub returns-clause-fresh : goal.returns-clause-fresh
 returns-clause-fresh c has =
     let s = c.self.inside in
     let is = rw (c.of-res.ensures, ← c.self.view_is) at has in
-    let there = c.self.invariant.linked.present c.add_resource.result (HasResource-order (tables s.queues s.order (processes_shown s)) c.add_resource.result is) in
-    let vacant : slot_of s.queues.resources c.add_resource.result ≡ None = sym (ap (λ x. slot_of x c.add_resource.result) c.reserve.ensures.rest_kept) ∙ c.add_resource.ensures.fresh in
+    let there = c.self.invariant.linked.present c.add_resource.result (HasResource-order (tables s.queues s.order (beside_shown s)) c.add_resource.result is) in
+    let vacant : slot_of s.queues.resources c.add_resource.result ≡ None = sym (ap (λ x. slot_of x c.add_resource.result) c.reserve_one.ensures.records) ∙ c.add_resource.ensures.fresh in
     let nothing : IsSome {T = Resource} None = rw vacant at there in
     absurd (cc)
 
-pub returns-in_err-reserve-clause-err : goal.returns-in_err-reserve-clause-err
-returns-in_err-reserve-clause-err c = on_err c.from_residual.result _ (shown_with_room c.self.inside c.reserve.new.self c.reserve.ensures.rest_kept ∙ c.self.view_is)
+pub returns-clause-taken : goal.returns-clause-taken
+returns-clause-taken c =
+    let s = c.self.inside in
+    let q' = c.add_resource.new.self in
+    let s' = record s { queues = q'; order = c.add_resource.new.order; resource_index = c.insert.new.self } in
+    rw (← c.self.view_is)
+    (room_shown (λ a b. IsTaken a.resources b.resources) (tables s.queues s.order (beside_shown s)) (tables q' s'.order (beside_shown s'))
+    (is_taken s.queues.resources c.reserve_one.new.records q'.resources (spare s.resource_index) (spare c.reserve_one.new.index) (spare c.insert.new.self) c.reserve_one.ensures.records c.reserve_one.ensures.capacity
+    c.add_resource.ensures.taken c.reserve_one.ensures.finds c.insert.ensures.spare))
 
-pub returns-in_err-reserve-2-clause-err : goal.returns-in_err-reserve-2-clause-err
-returns-in_err-reserve-2-clause-err c =
-    on_err c.from_residual-in_err-reserve-2.result _ (shown_with_room c.self.inside c.reserve.new.self c.reserve.ensures.rest_kept ∙ c.self.view_is)
+-- where there is room none is refused
+pub returns-in_err-reserve_one-clause-succeeds : goal.returns-in_err-reserve_one-clause-succeeds
+returns-in_err-reserve_one-clause-succeeds c has =
+    let s = c.self.inside in
+    let room = has_room s.queues.resources (spare s.resource_index) (shown_room (λ r. HasRoom r.resources) (tables s.queues s.order (beside_shown s)) (rw (← c.self.view_is) at has)) in
+    let never = c.in_err-reserve_one.ensures.succeeds room.0 room.1 room.2 in
+    cc
+
+pub returns-in_err-reserve_one-clause-err : goal.returns-in_err-reserve_one-clause-err
+returns-in_err-reserve_one-clause-err c =
+    rw (← c.self.view_is)
+    (on_err c.from_residual.result _ (resource_room_made c.self.inside c.reserve_one.new.records (spare c.reserve_one.new.index) c.reserve_one.ensures.records c.reserve_one.ensures.capacity c.reserve_one.ensures.finds))

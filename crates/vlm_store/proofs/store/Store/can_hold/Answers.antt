@@ -3,22 +3,22 @@ use Rattle.vlm_store.specs.Store.{tables}
 use Rattle.vlm_store.proofs.Fitting.{fits_beside-keys}
 use Rattle.vlm_store.proofs.Kept.{stored_there}
 use Rattle.vlm_store.proofs.Layouts.{HasResource-order, resource_at-found}
-use Rattle.vlm_store.specs.Kept.{processes_shown}
+use Rattle.vlm_store.specs.Kept.{beside_shown}
 use Rattle.vlm_store.proofs.store.Store.can_hold.Goals as goal
 
 pub fits-requires-clause-there : goal.fits-requires-clause-there
 fits-requires-clause-there c =
     let s = c.self.inside in
-    c.self.invariant.linked.present c.args.res (HasResource-order (tables s.queues s.order (processes_shown s)) c.args.res (rw (← c.self.view_is) at c.requires.there))
+    c.self.invariant.linked.present c.args.res (HasResource-order (tables s.queues s.order (beside_shown s)) c.args.res (rw (← c.self.view_is) at c.requires.there))
 
 pub fits-requires-clause-own : goal.fits-requires-clause-own
 fits-requires-clause-own c lock is =
     let s = c.self.inside in
     let stored = rw (← c.self.view_is) at (c.requires.own lock is) in
-    (stored_there s.queues s.order (processes_shown s) c.self.invariant.placed lock stored.0 stored.1).0
+    (stored_there s.queues s.order (beside_shown s) c.self.invariant.placed lock stored.0 stored.1).0
 
 pub returns : goal.returns
 returns c =
     let s = c.self.inside in
-    let found = resource_at-found (tables s.queues s.order (processes_shown s)) c.args.res (HasResource-order (tables s.queues s.order (processes_shown s)) c.args.res (rw (← c.self.view_is) at c.requires.there)) in
-    rw (← c.self.view_is, found) (c.fits.ensures ∙ fits_beside-keys s.queues (tables s.queues s.order (processes_shown s)) c.args.res c.args.mode c.args.own refl refl)
+    let found = resource_at-found (tables s.queues s.order (beside_shown s)) c.args.res (HasResource-order (tables s.queues s.order (beside_shown s)) c.args.res (rw (← c.self.view_is) at c.requires.there)) in
+    rw (← c.self.view_is, found) (c.fits.ensures ∙ fits_beside-keys s.queues (tables s.queues s.order (beside_shown s)) c.args.res c.args.mode c.args.own refl refl)

@@ -1,8 +1,9 @@
 use Rattle.std.proofs.Common.{◌∙◌, sym}
 use Rattle.vlm_store.specs.Shown.{keys_at, rows}
 use Rattle.vlm_store.specs.Store.{tables}
-use Rattle.vlm_store.proofs.Layouts.{HasPlace-seen, first_key-in, keyed-first, locks_at-seen}
-use Rattle.vlm_store.specs.Kept.{processes_shown}
+use Rattle.vlm_links.proofs.Walks.{first_key-in}
+use Rattle.vlm_store.proofs.Layouts.{HasPlace-seen, keyed-first, locks_at-seen}
+use Rattle.vlm_store.specs.Kept.{beside_shown}
 use Rattle.vlm_store.proofs.store.Store.first.Goals as goal
 
 pub of-requires : goal.of-requires
@@ -14,11 +15,11 @@ of-requires c =
 pub returns : goal.returns
 returns c =
     let s = c.self.inside in
-    let seen = locks_at-seen (tables s.queues s.order (processes_shown s)) c.args.place (HasPlace-seen (tables s.queues s.order (processes_shown s)) c.args.place (rw (← c.self.view_is) at c.requires)) in
+    let seen = locks_at-seen (tables s.queues s.order (beside_shown s)) c.args.place (HasPlace-seen (tables s.queues s.order (beside_shown s)) c.args.place (rw (← c.self.view_is) at c.requires)) in
     rw (← c.self.view_is, seen, c.of.ensures) (rw c.list.ensures at c.in_ok-at.ensures ∙ sym (keyed-first (rows s.queues) (keys_at s.queues c.args.place)))
 
 pub returns-in_err-at : goal.returns-in_err-at
 returns-in_err-at c =
     let s = c.self.inside in
-    let seen = locks_at-seen (tables s.queues s.order (processes_shown s)) c.args.place (HasPlace-seen (tables s.queues s.order (processes_shown s)) c.args.place (rw (← c.self.view_is) at c.requires)) in
+    let seen = locks_at-seen (tables s.queues s.order (beside_shown s)) c.args.place (HasPlace-seen (tables s.queues s.order (beside_shown s)) c.args.place (rw (← c.self.view_is) at c.requires)) in
     rw (← c.self.view_is, seen) (c.from_residual.ensures ∙ rw c.list.ensures at c.in_err-at.ensures ∙ sym (keyed-first (rows s.queues) (keys_at s.queues c.args.place)))

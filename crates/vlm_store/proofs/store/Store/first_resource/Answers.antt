@@ -2,8 +2,9 @@ use Rattle.std.proofs.Common.{◌∙◌, sym}
 use Rattle.vlm_links.specs.Lists.{keys_of}
 use Rattle.vlm_store.specs.Shown.{order_links}
 use Rattle.vlm_store.specs.Store.{tables}
-use Rattle.vlm_store.proofs.Layouts.{first_key-in, first_resource-is}
-use Rattle.vlm_store.specs.Kept.{processes_shown}
+use Rattle.vlm_links.proofs.Walks.{first_key-in}
+use Rattle.vlm_store.proofs.Layouts.{first_resource-is}
+use Rattle.vlm_store.specs.Kept.{beside_shown}
 use Rattle.vlm_store.proofs.store.Store.first_resource.Goals as goal
 
 pub of-requires : goal.of-requires
@@ -14,9 +15,9 @@ of-requires c =
 pub returns : goal.returns
 returns c =
     let s = c.self.inside in
-    rw (← c.self.view_is, c.of.ensures) (c.in_ok-at.ensures ∙ sym (first_resource-is (tables s.queues s.order (processes_shown s))))
+    rw (← c.self.view_is, c.of.ensures) (c.in_ok-at.ensures ∙ sym (first_resource-is (tables s.queues s.order (beside_shown s))))
 
 pub returns-in_err-at : goal.returns-in_err-at
 returns-in_err-at c =
     let s = c.self.inside in
-    rw (← c.self.view_is) (c.from_residual.ensures ∙ c.in_err-at.ensures ∙ sym (first_resource-is (tables s.queues s.order (processes_shown s))))
+    rw (← c.self.view_is) (c.from_residual.ensures ∙ c.in_err-at.ensures ∙ sym (first_resource-is (tables s.queues s.order (beside_shown s))))

@@ -1,7 +1,7 @@
 use Rattle.std.proofs.Common.{◌≡◌, ◌∙◌, sym, ap, subst}
 use Rattle.std.proofs.lemmas.Option.{same_Some}
 use Rattle.vlm_words.specs.declared.locks.Row.{Row}
-use Rattle.vlm_store.specs.Kept.{processes_shown, records_shown}
+use Rattle.vlm_store.specs.Kept.{beside_shown, records_shown}
 use Rattle.vlm_store.specs.Records.{IsAmong, IsProcess, Records, StoredLock, Stores, locks_at}
 use Rattle.vlm_store.specs.Shown.{noted_in, row_in}
 use Rattle.vlm_store.specs.Store.{records_of, tables}
@@ -14,22 +14,22 @@ pub index-requires : goal.index-requires
 index-requires c =
     let s = c.self.inside in
     let stored = rw (← c.self.view_is) at c.requires in
-    rw c.slot.ensures (stored_there s.queues s.order (processes_shown s) c.self.invariant.placed c.args.lock stored.0 stored.1).0
+    rw c.slot.ensures (stored_there s.queues s.order (beside_shown s) c.self.invariant.placed c.args.lock stored.0 stored.1).0
 
 pub returns-clause-row : goal.returns-clause-row
 returns-clause-row c =
     let s = c.self.inside in
     let kept = c.self.invariant in
     let stored = rw (← c.self.view_is) at c.requires in
-    let there = (stored_there s.queues s.order (processes_shown s) kept.placed c.args.lock stored.0 stored.1).0 in
+    let there = (stored_there s.queues s.order (beside_shown s) kept.placed c.args.lock stored.0 stored.1).0 in
     let is = ap row_in (rw c.slot.ensures at c.index.ensures) in
     subst (λ (x : Records). Stores x c.args.lock c.index.result.now.row) c.self.view_is
-    (subst (λ (row : Row). Stores (records_of (tables s.queues s.order (processes_shown s))) c.args.lock row) is (there_stored s.queues s.order (processes_shown s) kept.placed kept.linked kept.ordered c.args.lock there))
+    (subst (λ (row : Row). Stores (records_of (tables s.queues s.order (beside_shown s))) c.args.lock row) is (there_stored s.queues s.order (beside_shown s) kept.placed kept.linked kept.ordered c.args.lock there))
 
 pub returns-clause-only : goal.returns-clause-only
 returns-clause-only c row stored =
     let s = c.self.inside in
-    let there = stored_there s.queues s.order (processes_shown s) c.self.invariant.placed c.args.lock row (subst (λ (x : Records). Stores x c.args.lock row) (sym c.self.view_is) stored) in
+    let there = stored_there s.queues s.order (beside_shown s) c.self.invariant.placed c.args.lock row (subst (λ (x : Records). Stores x c.args.lock row) (sym c.self.view_is) stored) in
     sym there.2 ∙ ap row_in (rw c.slot.ensures at c.index.ensures)
 
 -- the place that the record notes is that at which a caller sees the lock
@@ -39,7 +39,7 @@ returns-clause-stands c =
     let stored = returns-clause-row c in
     let lock : StoredLock = record { at = c.args.lock; row = c.index.result.now.row } in
     let there = subst (λ (x : Records). IsAmong lock (locks_at stored.0 x)) (sym c.self.view_is) stored.1 in
-    let found = (locks_at-among (tables s.queues s.order (processes_shown s)) stored.0 lock there).0 in
+    let found = (locks_at-among (tables s.queues s.order (beside_shown s)) stored.0 lock there).0 in
     let is : c.index.result.now.place ≡ stored.0 =
     same_Some c.index.result.now.place stored.0 (sym (ap noted_in (rw c.slot.ensures at c.index.ensures)) ∙ c.self.invariant.placed.listed stored.0 c.args.lock found) in
     rw (← c.self.view_is) (subst (λ p. IsAmong lock (locks_at p (records_shown s))) (sym is) there)

@@ -1,3 +1,4 @@
+use Rattle.vlm_store.proofs.RoomShown.{queues_room}
 use Rattle.std.proofs.Common.{None, ◌∙◌, ap, refl, nat_eq}
 use Rattle.indexmap.specs.IndexMap.{get}
 use Rattle.vlm_words.specs.Keys.{is_same_key}
@@ -7,8 +8,7 @@ use Rattle.vlm_store.specs.Records.{moving}
 use Rattle.vlm_store.proofs.Indexing.{Indexes-same}
 use Rattle.vlm_store.proofs.Kept.{faces_same, keys_same, order_keys, order_linked, order_whole, place_there, stored_there}
 use Rattle.vlm_store.proofs.Layouts.{lists_changed, moving-keyed}
-use Rattle.vlm_store.specs.Kept.{processes_shown}
-use Rattle.vlm_store.specs.Holdings.{holding, processes_of}
+use Rattle.vlm_store.specs.Kept.{beside_shown}
 use Rattle.vlm_store.proofs.Kinship.{named_same, queued_below, queued_lkids, queued_named, queued_owned, queued_processes}
 use Rattle.vlm_store.proofs.store.Store.move_lock.Goals as goal
 
@@ -16,24 +16,24 @@ pub move_to-requires-clause-present : goal.move_to-requires-clause-present
 move_to-requires-clause-present c =
     let s = c.self.inside in
     let is = rw (← c.self.view_is) at c.requires.lock in
-    rw c.slot.ensures (stored_there s.queues s.order (processes_shown s) c.self.invariant.placed c.args.lock is.0 is.1.0).0
+    rw c.slot.ensures (stored_there s.queues s.order (beside_shown s) c.self.invariant.placed c.args.lock is.0 is.1.0).0
 
 pub move_to-requires-clause-within : goal.move_to-requires-clause-within
 move_to-requires-clause-within c =
     let s = c.self.inside in
     let is = rw (← c.self.view_is) at c.requires.lock in
-    rw c.slot.ensures (stored_there s.queues s.order (processes_shown s) c.self.invariant.placed c.args.lock is.0 is.1.0).1
+    rw c.slot.ensures (stored_there s.queues s.order (beside_shown s) c.self.invariant.placed c.args.lock is.0 is.1.0).1
 
 pub move_to-requires-clause-there : goal.move_to-requires-clause-there
 move_to-requires-clause-there c =
     let s = c.self.inside in
-    place_there s.queues s.order (processes_shown s) c.self.invariant.placed c.self.invariant.linked c.self.invariant.ordered c.args.to (rw (← c.self.view_is) at c.requires.there)
+    place_there s.queues s.order (beside_shown s) c.self.invariant.placed c.self.invariant.linked c.self.invariant.ordered c.args.to (rw (← c.self.view_is) at c.requires.there)
 
 pub move_to-requires-clause-named : goal.move_to-requires-clause-named
 move_to-requires-clause-named c =
     let s = c.self.inside in
     let is = rw (← c.self.view_is) at c.requires.lock in
-    rw c.slot.ensures (ap named_row (stored_there s.queues s.order (processes_shown s) c.self.invariant.placed c.args.lock is.0 is.1.0).2 ∙ named_same is.0 c.args.row is.1.1)
+    rw c.slot.ensures (ap named_row (stored_there s.queues s.order (beside_shown s) c.self.invariant.placed c.args.lock is.0 is.1.0).2 ∙ named_same is.0 c.args.row is.1.1)
 
 pub invariant_of-self : goal.invariant_of-self
 invariant_of-self c =
@@ -63,7 +63,8 @@ returns c =
     let rest = c.move_to.ensures.rest in
     let moved = rw c.slot.ensures at c.move_to.ensures in
     rw (← c.self.view_is)
-    (lists_changed (tables s.queues s.order (processes_shown s)) (tables q' s.order (processes_of (holding s.processes q'.locks s.process_order))) (moving c.args.to (record { at = c.args.lock; row = c.args.row })) (faces_same s.queues.resources q'.resources rest)
+    (lists_changed (tables s.queues s.order (beside_shown s)) (tables q' s.order (beside_shown (record s { queues = q' }))) (moving c.args.to (record { at = c.args.lock; row = c.args.row })) (faces_same s.queues.resources q'.resources rest)
     (moving-keyed (rows s.queues) (rows q') (keys_at s.queues) (keys_at q') c.args.lock c.args.row c.args.to moved.row moved.rows moved.here moved.elsewhere)
     (order_keys s.queues.resources q'.resources rest s.order c.self.invariant.linked)
-    (queued_processes s.processes s.queues.locks q'.locks c.move_to.ensures.kin s.process_order c.self.invariant.owned c.self.invariant.below))
+    (queued_processes s.processes s.queues.locks q'.locks c.move_to.ensures.kin s.process_order c.self.invariant.owned c.self.invariant.below)
+    (queues_room s q' c.move_to.ensures.locks_room c.move_to.ensures.resources_room))

@@ -7,7 +7,7 @@ use Rattle.indexmap.specs.IndexMap.{get as found}
 use Rattle.vlm_store.specs.declared.queues.Queues.{Queues}
 use Rattle.vlm_store.specs.declared.resources.Resource.{Resource}
 use Rattle.vlm_words.specs.Keys.{is_same_key}
-use Rattle.vlm_store.specs.Holdings.{holding, pid_at, pid_of, processes_of}
+use Rattle.vlm_store.specs.Holdings.{pid_at, pid_of}
 use Rattle.vlm_store.proofs.Declaring.{empty_below, empty_named, empty_owned, empty_processes, empty_processes_linked, empty_processes_ordered}
 use Rattle.vlm_store.specs.Store.{key_at, lkid_at}
 use Rattle.vlm_store.proofs.Kept.{Indexes-empty, empty_linked, empty_ordered, empty_placed, empty_records, empty_tallied}
@@ -39,5 +39,5 @@ returns c =
     let q : Queues = record { locks = c.new.result; resources = c.new-2.result; loose = c.new-3.result } in
     let no_locks : (k : ℕ) → get q.locks k ≡ None = λ k. rw c.new.ensures.empty refl in
     let no_processes : (p : ℕ) → get c.new-5.result p ≡ None = λ p. rw c.new-5.ensures.empty refl in
-    empty_records q no_locks (λ r. rw c.new-2.ensures.empty refl) c.new-3.ensures c.new-4.result c.new-4.ensures (processes_of (holding c.new-5.result q.locks c.new-6.result))
+    empty_records q no_locks (λ r. rw c.new-2.ensures.empty refl) c.new-3.ensures c.new-4.result c.new-4.ensures _
     (empty_processes c.new-5.result q.locks no_processes no_locks c.new-6.result c.new-6.ensures)

@@ -4,15 +4,16 @@ use Rattle.vlm_store.specs.Records.{IsAmong, Records, StoredLock, locks_at}
 use Rattle.vlm_store.specs.Shown.{keys_at, noted_in, rows}
 use Rattle.vlm_store.specs.Store.{tables}
 use Rattle.vlm_store.proofs.Kept.{stored_there}
-use Rattle.vlm_store.proofs.Layouts.{key_after-in, keyed-after, among-seen, locks_at-among, locks_at-seen}
-use Rattle.vlm_store.specs.Kept.{processes_shown}
+use Rattle.vlm_links.proofs.Walks.{key_after-in}
+use Rattle.vlm_store.proofs.Layouts.{keyed-after, among-seen, locks_at-among, locks_at-seen}
+use Rattle.vlm_store.specs.Kept.{beside_shown}
 use Rattle.vlm_store.proofs.store.Store.next.Goals as goal
 
 pub index-requires : goal.index-requires
 index-requires c =
     let s = c.self.inside in
     let stored = rw (← c.self.view_is) at c.requires in
-    rw c.slot.ensures (stored_there s.queues s.order (processes_shown s) c.self.invariant.placed c.args.lock stored.0 stored.1).0
+    rw c.slot.ensures (stored_there s.queues s.order (beside_shown s) c.self.invariant.placed c.args.lock stored.0 stored.1).0
 
 pub next-requires-clause-listed : goal.next-requires-clause-listed
 next-requires-clause-listed c =
@@ -30,7 +31,7 @@ of-requires c =
 pub returns : goal.returns
 returns c place row among =
     let s = c.self.inside in
-    let l = tables s.queues s.order (processes_shown s) in
+    let l = tables s.queues s.order (beside_shown s) in
     let lock : StoredLock = record { at = c.args.lock; row = row } in
     let there = subst (λ (x : Records). IsAmong lock (locks_at place x)) (sym c.self.view_is) among in
     let found = (locks_at-among l place lock there).0 in
@@ -42,7 +43,7 @@ returns c place row among =
 pub returns-in_err-at : goal.returns-in_err-at
 returns-in_err-at c place row among =
     let s = c.self.inside in
-    let l = tables s.queues s.order (processes_shown s) in
+    let l = tables s.queues s.order (beside_shown s) in
     let lock : StoredLock = record { at = c.args.lock; row = row } in
     let there = subst (λ (x : Records). IsAmong lock (locks_at place x)) (sym c.self.view_is) among in
     let found = (locks_at-among l place lock there).0 in

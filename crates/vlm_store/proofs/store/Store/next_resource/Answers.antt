@@ -2,14 +2,15 @@ use Rattle.std.proofs.Common.{◌∙◌, sym}
 use Rattle.vlm_links.specs.Lists.{keys_of}
 use Rattle.vlm_store.specs.Shown.{order_links}
 use Rattle.vlm_store.specs.Store.{tables}
-use Rattle.vlm_store.proofs.Layouts.{HasResource-order, key_after-in, resource_after-is}
-use Rattle.vlm_store.specs.Kept.{processes_shown}
+use Rattle.vlm_links.proofs.Walks.{key_after-in}
+use Rattle.vlm_store.proofs.Layouts.{HasResource-order, resource_after-is}
+use Rattle.vlm_store.specs.Kept.{beside_shown}
 use Rattle.vlm_store.proofs.store.Store.next_resource.Goals as goal
 
 pub next-requires-clause-listed : goal.next-requires-clause-listed
 next-requires-clause-listed c =
     let s = c.self.inside in
-    rw c.slot.ensures (HasResource-order (tables s.queues s.order (processes_shown s)) c.args.res (rw (← c.self.view_is) at c.requires))
+    rw c.slot.ensures (HasResource-order (tables s.queues s.order (beside_shown s)) c.args.res (rw (← c.self.view_is) at c.requires))
 
 pub of-requires : goal.of-requires
 of-requires c =
@@ -20,9 +21,9 @@ of-requires c =
 pub returns : goal.returns
 returns c =
     let s = c.self.inside in
-    rw (← c.self.view_is, c.of.ensures) ((rw c.slot.ensures at c.in_ok-at.ensures) ∙ sym (resource_after-is (tables s.queues s.order (processes_shown s)) c.args.res))
+    rw (← c.self.view_is, c.of.ensures) ((rw c.slot.ensures at c.in_ok-at.ensures) ∙ sym (resource_after-is (tables s.queues s.order (beside_shown s)) c.args.res))
 
 pub returns-in_err-at : goal.returns-in_err-at
 returns-in_err-at c =
     let s = c.self.inside in
-    rw (← c.self.view_is) (c.from_residual.ensures ∙ (rw c.slot.ensures at c.in_err-at.ensures) ∙ sym (resource_after-is (tables s.queues s.order (processes_shown s)) c.args.res))
+    rw (← c.self.view_is) (c.from_residual.ensures ∙ (rw c.slot.ensures at c.in_err-at.ensures) ∙ sym (resource_after-is (tables s.queues s.order (beside_shown s)) c.args.res))

@@ -1,12 +1,13 @@
-use Rattle.std.proofs.Common.{◌≡◌, ◌∙◌, [], map, None, ap, sym, refl, nat_eq}
+use Rattle.vlm_store.proofs.RoomShown.{room_shown, is_given_back, rooms_are, room_of_same}
+use Rattle.std.proofs.Common.{◌≡◌, ◌∙◌, [], map, None, ap, sym, refl, nat_eq, ◌+◌, ℕ}
 use Rattle.std.specs.Cmp.{unsigned_Decides}
 use Rattle.std.specs.Option.{option_map}
-use Rattle.indexmap.specs.IndexMap.{get}
+use Rattle.indexmap.specs.IndexMap.{get, spare}
 use Rattle.vlm_links.specs.Lists.{without}
 use Rattle.vlm_words.specs.Keys.{is_same_key}
-use Rattle.vlm_store.specs.Holdings.{below_keys, holding, pid_at, processes_of}
-use Rattle.vlm_store.specs.Kept.{processes_shown}
-use Rattle.vlm_store.specs.Records.{leaving, process_without_lock, with_lists}
+use Rattle.vlm_store.specs.Holdings.{below_keys, pid_at}
+use Rattle.vlm_store.specs.Kept.{beside_shown}
+use Rattle.vlm_store.specs.Records.{leaving, process_without_lock, with_lists, IsGivenBack, without_stored_lock}
 use Rattle.vlm_store.specs.Shown.{but_kin, keys_at, lkid_of, rows}
 use Rattle.vlm_store.specs.Store.{key_at, lkid_at, records_of, tables}
 use Rattle.vlm_store.proofs.Indexing.{Indexes-removed, Indexes-same}
@@ -76,8 +77,8 @@ invariant_of-self c =
       processes = Indexes-same (get nat_eq s.process_index) (get nat_eq s.process_index) (pid_at s.processes) (pid_at c.leave_process.new.processes) (λ k. refl) (own_pids s.processes c.leave_process.new.processes process.rest) kept.processes;
     }
 
-pub returns : goal.returns
-returns c =
+pub returns-clause-removed : goal.returns-clause-removed
+returns-clause-removed c =
     let s = c.self.inside in
     let kept = c.self.invariant in
     let parent = rw c.slot-2.ensures at c.leave_parent.ensures in
@@ -88,11 +89,31 @@ returns c =
     let none : below_keys s.queues.locks c.args.lock ≡ [] = childless s kept c.args.lock stored.0 stored.1 (rw (← c.self.view_is) at c.requires.childless) in
     let q2 = record s.queues { locks = c.leave_process.new.locks } in
     let kin = left_kin s kept c.args.lock none c.leave_parent.new.locks c.leave_process.new.locks q'.locks c.leave_process.new.processes parent.below parent.keys parent.rest process.owned process.keys process.relinks process.rest removed.gone removed.kin in
-    let old = tables s.queues s.order (processes_shown s) in
+    let old = tables s.queues s.order (beside_shown s) in
+    let s' = record s { queues = q'; processes = c.leave_process.new.processes; lock_index = c.swap_remove.new.self } in
+    let new = tables q' s.order (beside_shown s') in
     rw (← c.self.view_is)
-    (lists_changed_beside old (tables q' s.order (processes_of (holding c.leave_process.new.processes q'.locks s.process_order))) (leaving c.args.lock) (faces_same s.queues.resources q'.resources removed.rest)
+    (lists_changed_beside old new (leaving c.args.lock) (faces_same s.queues.resources q'.resources removed.rest)
     (leaving-keyed (rows s.queues) (rows q') (keys_at s.queues) (keys_at q') c.args.lock (λ k differs. removed.rows k differs ∙ kin_rows s.queues q2.locks kin k)
     (λ p. removed.keys p ∙ ap (without c.args.lock) (kin_keys s.queues q2.locks kin kept.placed p)))
     (order_keys s.queues.resources q'.resources removed.rest s.order kept.linked)
-    ∙ ap (λ ps. record (with_lists (leaving c.args.lock) (records_of old)) { processes = ps })
-    (left_processes s kept c.args.lock none c.leave_parent.new.locks c.leave_process.new.locks q'.locks c.leave_process.new.processes parent.below parent.keys parent.rest process.owned process.keys process.relinks process.rest removed.gone removed.kin ∙ ap (map (process_without_lock c.args.lock)) (sym (records_processes old))))
+    ∙ ap (λ ps. record (with_lists (leaving c.args.lock) (records_of old)) { processes = ps; room = (records_of new).room })
+    (left_processes s kept c.args.lock none c.leave_parent.new.locks c.leave_process.new.locks q'.locks c.leave_process.new.processes parent.below parent.keys parent.rest process.owned process.keys process.relinks process.rest removed.gone removed.kin ∙ ap (map (process_without_lock c.args.lock)) (sym (records_processes old)))
+    ∙ ap (λ r. record (without_stored_lock c.args.lock (records_of old)) { room = r })
+    (room_shown (λ a b. b ≡ record a { locks = b.locks }) old new
+    (rooms_are _ _ _ _ _ _ refl (room_of_same s.queues.resources q'.resources (spare s.resource_index) removed.resources_room) (room_of_same s.processes c.leave_process.new.processes (spare s.process_index) process.processes_room))))
+
+pub returns-clause-given_back : goal.returns-clause-given_back
+returns-clause-given_back c =
+    let s = c.self.inside in
+    let parent = rw c.slot-2.ensures at c.leave_parent.ensures in
+    let process = rw c.slot-3.ensures at c.leave_process.ensures in
+    let removed = rw c.slot-4.ensures at c.remove.ensures in
+    let q' = c.remove.new.self in
+    let s' = record s { queues = q'; processes = c.leave_process.new.processes; lock_index = c.swap_remove.new.self } in
+    let stored = rw (← c.self.view_is) at c.requires.stored in
+    rw (← c.self.view_is)
+    (room_shown (λ a b. IsGivenBack a.locks b.locks) (tables s.queues s.order (beside_shown s)) (tables q' s.order (beside_shown s'))
+    (is_given_back s.queues.locks q'.locks c.args.lock (spare s.lock_index) (spare c.swap_remove.new.self)
+    (removed.given_back ∙ ap (λ (p : ℕ × ℕ). (p.0 + 1, c.args.lock)) (process.locks_room ∙ parent.locks_room))
+    (lock_there s c.self.invariant c.args.lock stored.0 stored.1).1 c.swap_remove.ensures.room.0))

@@ -1,3 +1,6 @@
+use Rattle.vlm_store.specs.Store.{tables, records_of}
+use Rattle.indexmap.specs.IndexMap.{spare}
+use Rattle.vlm_store.proofs.RoomShown.{room_shown, is_given_back}
 use Rattle.std.proofs.Common.{◌≡◌, ◌≢◌, ◌∙◌, ℕ, [], Some, ap, sym, refl, subst, nat_eq}
 use Rattle.std.proofs.lemmas.Option.{none-some}
 use Rattle.std.specs.Cmp.{unsigned_Decides}
@@ -5,9 +8,9 @@ use Rattle.std.specs.Option.{option_map}
 use Rattle.slab.specs.Slab.{get}
 use Rattle.vlm_links.specs.Lists.{IsIn}
 use Rattle.vlm_store.specs.declared.locks.Lock.{Lock}
-use Rattle.vlm_store.specs.Holdings.{but_order, holding, own_in, own_keys, own_of, owner_in, pid_at, pid_of, process_links, processes_of}
-use Rattle.vlm_store.specs.Kept.{processes_shown}
-use Rattle.vlm_store.specs.Records.{without_process}
+use Rattle.vlm_store.specs.Holdings.{but_order, holding, own_in, own_keys, own_of, owner_in, pid_at, pid_of, process_links}
+use Rattle.vlm_store.specs.Kept.{beside_shown}
+use Rattle.vlm_store.specs.Records.{without_process, IsGivenBack}
 use Rattle.vlm_store.proofs.Declaring.{names_stay, no_own, owns_stay, pid_by_order, plain_by_order, process_own_keys, process_owned}
 use Rattle.vlm_store.proofs.Indexing.{Indexes-removed}
 use Rattle.vlm_store.proofs.Kinship.{processes_changed, there_by_part}
@@ -52,8 +55,9 @@ invariant_of-self c =
           (ap (option_map pid_of) (rw c.slot.ensures at c.index.ensures)) (ap (option_map pid_of) left.gone) (λ p differs. pid_by_order (get new p) (get s.processes p) (left.others p differs)) kept.processes;
     }
 
-pub returns : goal.returns
-returns c =
+pub returns-clause-removed : goal.returns-clause-removed
+unfolding records_of
+returns-clause-removed c =
     let s = c.self.inside in
     let kept = c.self.invariant in
     let left = rw c.slot-2.ensures at c.leave.ensures in
@@ -65,6 +69,16 @@ returns c =
     let after = ap own_in left.gone in
     let owns = owns_stay s.processes new c.args.at left.others before after in
     rw (← c.self.view_is)
-    (processes_changed s.queues s.order (processes_shown s) (processes_of (holding new s.queues.locks c.leave.new.order)) (without_process c.args.at)
+    (processes_changed s.queues s.order (beside_shown s) (beside_shown (record s { processes = new; process_order = c.leave.new.order; process_index = c.swap_remove.new.self })) (without_process c.args.at)
     (process_removed (holding s.processes s.queues.locks s.process_order) (holding new s.queues.locks c.leave.new.order) (λ k. refl) c.args.at
     (λ p differs. plain_by_order (get new p) (get s.processes p) (left.others p differs)) (λ p _. process_own_keys s.processes new s.queues.locks owns p) left.order))
+
+pub returns-clause-given_back : goal.returns-clause-given_back
+returns-clause-given_back c =
+    let s = c.self.inside in
+    let left = rw c.slot-2.ensures at c.leave.ensures in
+    let s' = record s { processes = c.leave.new.processes; process_order = c.leave.new.order; process_index = c.swap_remove.new.self } in
+    rw (← c.self.view_is)
+    (room_shown (λ a b. IsGivenBack a.processes b.processes) (tables s.queues s.order (beside_shown s)) (tables s.queues s.order (beside_shown s'))
+    (is_given_back s.processes c.leave.new.processes c.args.at (spare s.process_index) (spare c.swap_remove.new.self) left.given_back
+    (c.self.invariant.processes_linked.within c.args.at (process_listed s c.self.invariant c.args.at (rw (← c.self.view_is) at c.requires.there))) c.swap_remove.ensures.room.0))

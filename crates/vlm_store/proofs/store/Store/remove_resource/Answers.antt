@@ -1,17 +1,18 @@
-use Rattle.std.proofs.Common.{None, ◌∙◌, ap, sym, refl, nat_eq}
+use Rattle.vlm_store.specs.Records.{IsGivenBack, without_resource}
+use Rattle.vlm_store.proofs.RoomShown.{room_shown, is_given_back, rooms_are, room_of_same}
+use Rattle.std.proofs.Common.{None, ◌∙◌, ap, sym, refl, nat_eq, ◌≡◌}
 use Rattle.std.specs.Option.{option_map}
 use Rattle.slab.specs.Slab.{get as slot_of}
-use Rattle.indexmap.specs.IndexMap.{get}
+use Rattle.indexmap.specs.IndexMap.{get, spare}
 use Rattle.vlm_store.specs.declared.keys.Place.TheVariants.{Queued}
 use Rattle.vlm_store.specs.declared.resources.Resource.{Resource}
 use Rattle.vlm_words.specs.Keys.{is_same_key, is_same_key-Decides}
-use Rattle.vlm_store.specs.Shown.{Face, keys_at, lkid_of, order_links, row_in, rows}
+use Rattle.vlm_store.specs.Shown.{Face, keys_at, lkid_of, order_links, row_in, rows, room_in}
 use Rattle.vlm_store.specs.Store.{key_at, keyed, lkid_at, tables}
 use Rattle.vlm_store.proofs.Indexing.{Indexes-removed, Indexes-same}
 use Rattle.vlm_store.proofs.Layouts.{HasResource-order, locks_at-seen, resource_removed}
 use Rattle.vlm_store.proofs.Making.{face_by_face, key_by_face, map-nil, there_by_face, whole_left}
-use Rattle.vlm_store.specs.Kept.{processes_shown}
-use Rattle.vlm_store.specs.Holdings.{holding, processes_of}
+use Rattle.vlm_store.specs.Kept.{beside_shown, records_shown}
 use Rattle.vlm_store.specs.Shown.{but_queued}
 use Rattle.vlm_store.proofs.Kinship.{queued_below, queued_named, queued_owned, queued_processes}
 use Rattle.vlm_store.proofs.Places.{same_eq}
@@ -20,12 +21,12 @@ use Rattle.vlm_store.proofs.store.Store.remove_resource.Goals as goal
 pub index-requires : goal.index-requires
 index-requires c =
     let s = c.self.inside in
-    rw c.slot.ensures (c.self.invariant.linked.present c.args.res (HasResource-order (tables s.queues s.order (processes_shown s)) c.args.res (rw (← c.self.view_is) at c.requires.there)))
+    rw c.slot.ensures (c.self.invariant.linked.present c.args.res (HasResource-order (tables s.queues s.order (beside_shown s)) c.args.res (rw (← c.self.view_is) at c.requires.there)))
 
 pub remove_resource-requires-clause-idle : goal.remove_resource-requires-clause-idle
 remove_resource-requires-clause-idle c queue =
     let s = c.self.inside in
-    let l = tables s.queues s.order (processes_shown s) in
+    let l = tables s.queues s.order (beside_shown s) in
     let seen = HasResource-order l c.args.res (rw (← c.self.view_is) at c.requires.there) in
     rw c.slot-2.ensures
     (map-nil (keyed (rows s.queues)) (keys_at s.queues (Queued c.args.res queue)) (sym (locks_at-seen l (Queued c.args.res queue) seen) ∙ (rw (← c.self.view_is) at (c.requires.idle queue))))
@@ -54,12 +55,27 @@ invariant_of-self c =
       processes = kept.processes;
     }
 
-pub returns : goal.returns
-returns c =
+pub returns-clause-removed : goal.returns-clause-removed
+returns-clause-removed c =
     let s = c.self.inside in
     let q' = c.remove_resource.new.self in
     let gone = rw c.slot-2.ensures at c.remove_resource.ensures in
+    let s' = record s { queues = q'; order = c.remove_resource.new.order; resource_index = c.swap_remove.new.self } in
     rw (← c.self.view_is)
-    (resource_removed (tables s.queues s.order (processes_shown s)) (tables q' c.remove_resource.new.order (processes_of (holding s.processes q'.locks s.process_order))) c.args.res (λ k. ap (λ l. row_in (slot_of l k)) gone.locks) gone.keys
+    (resource_removed (tables s.queues s.order (beside_shown s)) (tables q' s'.order (beside_shown s')) c.args.res (λ k. ap (λ l. row_in (slot_of l k)) gone.locks) gone.keys
     (λ r differs. face_by_face (slot_of q'.resources r) (slot_of s.queues.resources r) (gone.faces r differs)) gone.order
-    (queued_processes s.processes s.queues.locks q'.locks (same_eq but_queued s.queues.locks q'.locks gone.locks) s.process_order c.self.invariant.owned c.self.invariant.below))
+    (queued_processes s.processes s.queues.locks q'.locks (same_eq but_queued s.queues.locks q'.locks gone.locks) s.process_order c.self.invariant.owned c.self.invariant.below)
+    ∙ ap (λ r. record (records_shown s) { resources = without_resource c.args.res (records_shown s).resources; room = r })
+    (room_shown (λ a b. b ≡ record a { resources = b.resources }) (tables s.queues s.order (beside_shown s)) (tables q' s'.order (beside_shown s'))
+    (rooms_are _ _ _ _ _ _ (room_of_same s.queues.locks q'.locks (spare s.lock_index) (ap room_in gone.locks)) refl refl)))
+
+pub returns-clause-given_back : goal.returns-clause-given_back
+returns-clause-given_back c =
+    let s = c.self.inside in
+    let q' = c.remove_resource.new.self in
+    let gone = rw c.slot-2.ensures at c.remove_resource.ensures in
+    let s' = record s { queues = q'; order = c.remove_resource.new.order; resource_index = c.swap_remove.new.self } in
+    rw (← c.self.view_is)
+    (room_shown (λ a b. IsGivenBack a.resources b.resources) (tables s.queues s.order (beside_shown s)) (tables q' s'.order (beside_shown s'))
+    (is_given_back s.queues.resources q'.resources c.args.res (spare s.resource_index) (spare c.swap_remove.new.self) gone.given_back
+    (c.self.invariant.linked.within c.args.res (HasResource-order (tables s.queues s.order (beside_shown s)) c.args.res (rw (← c.self.view_is) at c.requires.there))) c.swap_remove.ensures.room.0))

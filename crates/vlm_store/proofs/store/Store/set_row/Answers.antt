@@ -1,3 +1,4 @@
+use Rattle.vlm_store.proofs.RoomShown.{queues_room}
 use Rattle.std.proofs.Common.{None, ◌∙◌, ap, refl, nat_eq}
 use Rattle.indexmap.specs.IndexMap.{get}
 use Rattle.vlm_words.specs.Keys.{is_same_key}
@@ -7,8 +8,7 @@ use Rattle.vlm_store.specs.Records.{rewriting}
 use Rattle.vlm_store.proofs.Indexing.{Indexes-same}
 use Rattle.vlm_store.proofs.Kept.{faces_same, keys_same, order_keys, order_linked, order_whole, stored_there}
 use Rattle.vlm_store.proofs.Layouts.{lists_changed, rewriting-keyed}
-use Rattle.vlm_store.specs.Kept.{processes_shown}
-use Rattle.vlm_store.specs.Holdings.{holding, processes_of}
+use Rattle.vlm_store.specs.Kept.{beside_shown}
 use Rattle.vlm_store.proofs.Kinship.{named_same, queued_below, queued_lkids, queued_named, queued_owned, queued_processes}
 use Rattle.vlm_store.proofs.store.Store.set_row.Goals as goal
 
@@ -16,13 +16,13 @@ pub set_row-requires-clause-present : goal.set_row-requires-clause-present
 set_row-requires-clause-present c =
     let s = c.self.inside in
     let is = rw (← c.self.view_is) at c.requires in
-    rw c.slot.ensures (stored_there s.queues s.order (processes_shown s) c.self.invariant.placed c.args.lock is.0 is.1.0).0
+    rw c.slot.ensures (stored_there s.queues s.order (beside_shown s) c.self.invariant.placed c.args.lock is.0 is.1.0).0
 
 pub set_row-requires-clause-named : goal.set_row-requires-clause-named
 set_row-requires-clause-named c =
     let s = c.self.inside in
     let is = rw (← c.self.view_is) at c.requires in
-    rw c.slot.ensures (ap named_row (stored_there s.queues s.order (processes_shown s) c.self.invariant.placed c.args.lock is.0 is.1.0).2 ∙ named_same is.0 c.args.row is.1.1)
+    rw c.slot.ensures (ap named_row (stored_there s.queues s.order (beside_shown s) c.self.invariant.placed c.args.lock is.0 is.1.0).2 ∙ named_same is.0 c.args.row is.1.1)
 
 pub invariant_of-self : goal.invariant_of-self
 invariant_of-self c =
@@ -52,7 +52,8 @@ returns c =
     let rest = c.set_row.ensures.rest in
     let set = rw c.slot.ensures at c.set_row.ensures in
     rw (← c.self.view_is)
-    (lists_changed (tables s.queues s.order (processes_shown s)) (tables q' s.order (processes_of (holding s.processes q'.locks s.process_order))) (rewriting c.args.lock c.args.row) (faces_same s.queues.resources q'.resources rest)
+    (lists_changed (tables s.queues s.order (beside_shown s)) (tables q' s.order (beside_shown (record s { queues = q' }))) (rewriting c.args.lock c.args.row) (faces_same s.queues.resources q'.resources rest)
     (rewriting-keyed (rows s.queues) (rows q') (keys_at s.queues) (keys_at q') c.args.lock c.args.row set.row set.rows set.keys)
     (order_keys s.queues.resources q'.resources rest s.order c.self.invariant.linked)
-    (queued_processes s.processes s.queues.locks q'.locks c.set_row.ensures.kin s.process_order c.self.invariant.owned c.self.invariant.below))
+    (queued_processes s.processes s.queues.locks q'.locks c.set_row.ensures.kin s.process_order c.self.invariant.owned c.self.invariant.below)
+    (queues_room s q' c.set_row.ensures.locks_room c.set_row.ensures.resources_room))

@@ -1,10 +1,13 @@
+use Rattle.vlm_store.specs.Store.{tables}
+use Rattle.vlm_store.proofs.Rooms.{room_written}
+use Rattle.vlm_store.proofs.RoomShown.{room_shown, room_of_same}
 use Rattle.std.proofs.Common.{◌≡◌, ◌∙◌, ap, sym, refl, nat_eq}
 use Rattle.slab.specs.Slab.{get}
-use Rattle.indexmap.specs.IndexMap.{get as found}
+use Rattle.indexmap.specs.IndexMap.{get as found, spare}
 use Rattle.vlm_words.specs.State.{Process as PlainProcess}
 use Rattle.vlm_words.specs.StatusBlocks.{process_with_block}
-use Rattle.vlm_store.specs.Holdings.{holding, pid_at, plain_in, processes_of}
-use Rattle.vlm_store.specs.Kept.{processes_shown}
+use Rattle.vlm_store.specs.Holdings.{holding, pid_at, plain_in}
+use Rattle.vlm_store.specs.Kept.{beside_shown, records_shown, rooms_shown}
 use Rattle.vlm_store.specs.Records.{on_process}
 use Rattle.vlm_store.proofs.Declaring.{process_named, process_own_keys, process_owned, rewritten, written_keys, written_linked, written_others, written_owns, written_pids, written_plain, written_whole}
 use Rattle.vlm_store.proofs.Indexing.{Indexes-same}
@@ -58,7 +61,11 @@ returns c =
     let plain : plain_in (get processes c.args.at) ≡ change (plain_in (get s.processes c.args.at)) =
     written_plain s.processes c.args.at was now here put.own put.order pid ∙ put.plain ∙ ap (λ slot. change (plain_in slot)) (sym here) in
     rw (← c.self.view_is, c.slot.ensures)
-    (processes_changed s.queues s.order (processes_shown s) (processes_of (holding processes s.queues.locks s.process_order)) (on_process c.args.at change)
+    (processes_changed s.queues s.order (beside_shown s) (beside_shown (record s { processes = processes })) (on_process c.args.at change)
     (process_written (holding s.processes s.queues.locks s.process_order) (holding processes s.queues.locks s.process_order) (λ k. refl) c.args.at change plain
     (written_others s.processes c.args.at was now here put.own put.order pid) (process_own_keys s.processes processes s.queues.locks owns)
-    (written_keys s.processes c.args.at was now here put.own put.order pid s.process_order kept.processes_linked)))
+    (written_keys s.processes c.args.at was now here put.own put.order pid s.process_order kept.processes_linked))
+    ∙ ap (λ r. record (records_shown s) { processes = on_process c.args.at change (records_shown s).processes; room = r })
+    (room_shown (λ a b. b ≡ a) (tables s.queues s.order (beside_shown s)) (tables s.queues s.order (beside_shown (record s { processes = processes })))
+    (ap (λ p. record (rooms_shown s) { processes = p })
+    (room_of_same s.processes processes (spare s.process_index) (room_written s.processes c.args.at now (rw here refl))))))

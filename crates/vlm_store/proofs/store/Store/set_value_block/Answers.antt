@@ -1,3 +1,4 @@
+use Rattle.vlm_store.proofs.RoomShown.{queues_room}
 use Rattle.std.proofs.Common.{None, ap, refl, nat_eq}
 use Rattle.std.specs.Option.{option_map}
 use Rattle.slab.specs.Slab.{get as slot_of}
@@ -6,13 +7,12 @@ use Rattle.vlm_words.specs.declared.resources.Queue.TheVariants.{Granted, Conver
 use Rattle.vlm_store.specs.declared.keys.Place.TheVariants.{Queued}
 use Rattle.vlm_words.specs.Keys.{is_same_key}
 use Rattle.vlm_store.specs.Records.{StoredResource}
-use Rattle.vlm_store.specs.Shown.{face_in, lkid_of, row_in}
+use Rattle.vlm_store.specs.Shown.{face_in, lkid_of, row_in, room_in}
 use Rattle.vlm_store.specs.Store.{key_at, lkid_at, tables}
 use Rattle.vlm_store.proofs.Indexing.{Indexes-same}
 use Rattle.vlm_store.proofs.Layouts.{HasResource-order, resource_written}
 use Rattle.vlm_store.proofs.Making.{block_key, block_linked, block_order, block_whole}
-use Rattle.vlm_store.specs.Kept.{processes_shown}
-use Rattle.vlm_store.specs.Holdings.{holding, processes_of}
+use Rattle.vlm_store.specs.Kept.{beside_shown}
 use Rattle.vlm_store.specs.Shown.{but_queued}
 use Rattle.vlm_store.proofs.Kinship.{queued_below, queued_named, queued_owned, queued_processes}
 use Rattle.vlm_store.proofs.Places.{same_eq}
@@ -21,7 +21,7 @@ use Rattle.vlm_store.proofs.store.Store.set_value_block.Goals as goal
 pub set_value_block-requires-clause-there : goal.set_value_block-requires-clause-there
 set_value_block-requires-clause-there c =
     let s = c.self.inside in
-    rw c.slot.ensures (c.self.invariant.linked.present c.args.res (HasResource-order (tables s.queues s.order (processes_shown s)) c.args.res (rw (← c.self.view_is) at c.requires)))
+    rw c.slot.ensures (c.self.invariant.linked.present c.args.res (HasResource-order (tables s.queues s.order (beside_shown s)) c.args.res (rw (← c.self.view_is) at c.requires)))
 
 pub invariant_of-self : goal.invariant_of-self
 invariant_of-self c =
@@ -50,7 +50,8 @@ returns c =
     let q' = c.set_value_block.new.self in
     let set = rw c.slot.ensures at c.set_value_block.ensures in
     rw (← c.self.view_is)
-    (resource_written (tables s.queues s.order (processes_shown s)) (tables q' s.order (processes_of (holding s.processes q'.locks s.process_order))) c.args.res (λ (r : StoredResource). record r { value_block = c.args.value_block }) (λ k. ap (λ l. row_in (slot_of l k)) set.locks) set.keys
+    (resource_written (tables s.queues s.order (beside_shown s)) (tables q' s.order (beside_shown (record s { queues = q' }))) c.args.res (λ (r : StoredResource). record r { value_block = c.args.value_block }) (λ k. ap (λ l. row_in (slot_of l k)) set.locks) set.keys
     (λ r differs. ap face_in (set.faces r differs)) (block_order s.queues.resources q'.resources set.rest s.order c.self.invariant.linked)
     (λ lists. rw (set.face, lists (Queued c.args.res Granted), lists (Queued c.args.res Conversion), lists (Queued c.args.res Waiting)) refl)
-    (queued_processes s.processes s.queues.locks q'.locks (same_eq but_queued s.queues.locks q'.locks set.locks) s.process_order c.self.invariant.owned c.self.invariant.below))
+    (queued_processes s.processes s.queues.locks q'.locks (same_eq but_queued s.queues.locks q'.locks set.locks) s.process_order c.self.invariant.owned c.self.invariant.below)
+    (queues_room s q' (ap room_in set.locks) set.resources_room))

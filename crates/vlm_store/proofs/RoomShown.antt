@@ -1,0 +1,168 @@
+-- What a caller sees of the room for more records.
+use Rattle.std.proofs.Common.{◌≡◌, ℕ, ◌+◌, ◌<◌, ◌≤◌, None, nat_eq, Result, Ok, Err, OnOk, refl, sym, ap, ◌∙◌, subst, arith}
+use Rattle.std.specs.Map.{lookup}
+use Rattle.std.specs.Option.{option_map}
+use Rattle.slab.specs.Slab.{Slab, get, HasRoomFor}
+use Rattle.indexmap.specs.IndexMap.{IndexMap, get as found, spare}
+use Rattle.vlm_links.specs.declared.link.TheConstants.{LAST_KEY}
+use Rattle.vlm_store.specs.declared.locks.Lock.{Lock}
+use Rattle.vlm_store.specs.declared.processes.Process.{Process}
+use Rattle.vlm_store.specs.declared.queues.Queues.{Queues}
+use Rattle.vlm_store.specs.declared.resources.Resource.{Resource}
+use Rattle.vlm_store.specs.declared.store.Store.TheInside.{Inside}
+use Rattle.vlm_store.specs.Records.{HasRoom, IsGivenBack, IsNoLess, IsTaken, IsUnchanged, Records, Room, Rooms}
+use Rattle.vlm_store.specs.Shown.{but_queued, lkid_of, room_in}
+use Rattle.vlm_store.proofs.Rooms.{room_has, room_key, room_place, room_reserved}
+use Rattle.vlm_store.specs.Store.{Layout, lkid_at, records_of, room_of, tables}
+use Rattle.vlm_store.specs.Holdings.{holding, processes_of}
+use Rattle.vlm_store.specs.Kept.{IsKept, processes_shown, records_shown, rooms_shown}
+use Rattle.vlm_store.proofs.Indexing.{Indexes-same}
+use Rattle.vlm_store.proofs.Kept.{reserved_placed, reserved_tallied}
+use Rattle.vlm_store.proofs.Kinship.{queued_below, queued_named, queued_owned}
+
+-- the rooms of the three kinds
+abbrev rooms : Room → Room → Room → Rooms
+rooms locks resources processes = record { locks = locks; resources = resources; processes = processes }
+
+module _ {T : Type 0} where
+  -- what a caller sees of the room of a slab
+  pub room_of_same : (old new : Slab T) (finds : ℕ) → room_in new ≡ room_in old → room_of new finds ≡ room_of old finds
+  room_of_same old new finds same = ap (λ (p : ℕ × ℕ). record { places = p.0; next_key = p.1; finds = finds }) same
+
+  pub room_of_less : (old new : Slab T) (had finds : ℕ) → new ≡ record old { capacity = new.capacity } → old.capacity ≤ new.capacity → had ≤ finds → IsNoLess (room_of old had) (room_of new finds)
+  room_of_less old new had finds is more finds_more =
+      let made = room_reserved old new is more in
+      record { places = made.0; next_key = made.1; finds = finds_more }
+
+-- no less than itself
+pub no_less : (room : Room) → IsNoLess room room
+no_less room = record { places = omega arith; next_key = refl; finds = omega arith }
+
+-- each kind has its room
+pub rooms_are : (a b c a' b' c' : Room) → a' ≡ a → b' ≡ b → c' ≡ c → rooms a' b' c' ≡ rooms a b c
+rooms_are a b c a' b' c' first second third =
+    ap (λ x. rooms x b' c') first ∙ ap (λ x. rooms a x c') second ∙ ap (λ x. rooms a b x) third
+
+-- a fact of the room is one of the room that a caller sees
+pub room_shown : (P : Rooms → Rooms → Type 0) (old new : Layout) → P old.room new.room → P (records_of old).room (records_of new).room
+unfolding records_of
+room_shown P old new fact = fact
+
+pub shown_room : (P : Rooms → Type 0) (l : Layout) → P (records_of l).room → P l.room
+unfolding records_of
+shown_room P l fact = fact
+
+module _ (s : Inside) where
+  -- what is shown with other slabs of the same records, and with other room
+  abbrev with_locks : Rooms → Slab Lock → Records
+  with_locks room locks = records_of (tables (record s.queues { locks = locks }) s.order (record { processes = processes_of (holding s.processes locks s.process_order); room = room }))
+
+  abbrev with_resources : Rooms → Slab Resource → Records
+  with_resources room resources = records_of (tables (record s.queues { resources = resources }) s.order (record { processes = processes_shown s; room = room }))
+
+  abbrev with_processes : Rooms → Slab Process → Records
+  with_processes room processes = records_of (tables s.queues s.order (record { processes = processes_of (holding processes s.queues.locks s.process_order); room = room }))
+
+  -- where room is made, a caller sees nothing else
+  pub lock_room_made : (locks : Slab Lock) (finds : ℕ) → locks ≡ record s.queues.locks { capacity = locks.capacity } → s.queues.locks.capacity ≤ locks.capacity → spare s.lock_index ≤ finds
+      → IsUnchanged (records_shown s) (with_locks (record (rooms_shown s) { locks = room_of locks finds }) locks)
+  unfolding records_of
+  lock_room_made locks finds is more finds_more = record {
+    same = ap (with_locks (record (rooms_shown s) { locks = room_of locks finds })) is;
+    locks = room_of_less s.queues.locks locks (spare s.lock_index) finds is more finds_more;
+    resources = no_less _;
+    processes = no_less _;
+  }
+
+  pub resource_room_made : (resources : Slab Resource) (finds : ℕ) → resources ≡ record s.queues.resources { capacity = resources.capacity } → s.queues.resources.capacity ≤ resources.capacity
+      → spare s.resource_index ≤ finds → IsUnchanged (records_shown s) (with_resources (record (rooms_shown s) { resources = room_of resources finds }) resources)
+  unfolding records_of
+  resource_room_made resources finds is more finds_more = record {
+    same = ap (with_resources (record (rooms_shown s) { resources = room_of resources finds })) is;
+    locks = no_less _;
+    resources = room_of_less s.queues.resources resources (spare s.resource_index) finds is more finds_more;
+    processes = no_less _;
+  }
+
+  pub process_room_made : (processes : Slab Process) (finds : ℕ) → processes ≡ record s.processes { capacity = processes.capacity } → s.processes.capacity ≤ processes.capacity
+      → spare s.process_index ≤ finds → IsUnchanged (records_shown s) (with_processes (record (rooms_shown s) { processes = room_of processes finds }) processes)
+  unfolding records_of
+  process_room_made processes finds is more finds_more = record {
+    same = ap (with_processes (record (rooms_shown s) { processes = room_of processes finds })) is;
+    locks = no_less _;
+    resources = no_less _;
+    processes = room_of_less s.processes processes (spare s.process_index) finds is more finds_more;
+  }
+
+  -- nothing is changed at all
+  pub not_changed : IsUnchanged (records_shown s) (records_shown s)
+  not_changed = record { same = refl; locks = no_less _; resources = no_less _; processes = no_less _ }
+
+-- the room stays where the queues keep it
+pub queues_room : (s : Inside) (q' : Queues) → room_in q'.locks ≡ room_in s.queues.locks → room_in q'.resources ≡ room_in s.queues.resources → rooms_shown (record s { queues = q' }) ≡ rooms_shown s
+queues_room s q' locks resources =
+    rooms_are _ _ _ _ _ _ (room_of_same s.queues.locks q'.locks (spare s.lock_index) locks) (room_of_same s.queues.resources q'.resources (spare s.resource_index) resources) refl
+
+-- a record is taken in where room was made for it
+pub is_taken : {T : Type 0} (old roomy new : Slab T) (had has left : ℕ) → roomy ≡ record old { capacity = roomy.capacity } → old.capacity ≤ roomy.capacity → (room_in new).0 + 1 ≡ (room_in roomy).0
+    → had ≤ has → has ≤ left + 1 → IsTaken (room_of old had) (room_of new left)
+is_taken old roomy new had has left is more taken finds used =
+    let made = room_reserved old roomy is more in
+    let places = made.0 in
+    record { places = omega arith; finds = omega arith }
+
+-- a record is removed
+pub is_given_back : {T : Type 0} (old new : Slab T) (key had has : ℕ) → room_in new ≡ ((room_in old).0 + 1, key) → key ≤ LAST_KEY → had ≤ has → IsGivenBack (room_of old had) (room_of new has)
+is_given_back old new key had has back low finds =
+    record { places = ap (λ (p : ℕ × ℕ). p.0) back; next_key = subst (λ k. k ≤ LAST_KEY) (sym (ap (λ (p : ℕ × ℕ). p.1) back)) low; finds = finds }
+
+-- there is room in a slab for which a caller sees it
+pub has_room : {T : Type 0} (nodes : Slab T) (finds : ℕ) → HasRoom (room_of nodes finds) → HasRoomFor nodes 1 × (nodes.vacant_key ≤ LAST_KEY) × (0 < finds)
+has_room nodes finds room = (room_has nodes room.place, subst (λ k. k ≤ LAST_KEY) (room_key nodes) room.key, room.find)
+
+-- more room for locks leaves all that the fields keep
+pub lock_room_kept : (s : Inside) → IsKept s → (locks : Slab Lock) (index : IndexMap ℕ ℕ _) → locks ≡ record s.queues.locks { capacity = locks.capacity } → index.entries ≡ s.lock_index.entries
+    → IsKept (record s { queues = record s.queues { locks = locks }; lock_index = index })
+lock_room_kept s kept locks index is entries =
+    let same : (k : ℕ) → get locks k ≡ get s.queues.locks k = λ k. ap (λ x. get x k) is in
+    record {
+      placed = reserved_placed s.queues locks same kept.placed;
+      tallied = reserved_tallied s.queues locks same kept.placed kept.tallied;
+      linked = kept.linked;
+      ordered = kept.ordered;
+      locks = Indexes-same (found nat_eq s.lock_index) (found nat_eq index) (lkid_at s.queues) (lkid_at (record s.queues { locks = locks })) (λ k. ap (λ es. lookup (nat_eq k) es) entries)
+          (λ at. ap (option_map lkid_of) (same at)) kept.locks;
+      resources = kept.resources;
+      owned = queued_owned s.processes s.queues.locks locks (λ k. ap (option_map but_queued) (same k)) None kept.owned;
+      below = queued_below s.processes s.queues.locks locks (λ k. ap (option_map but_queued) (same k)) None kept.below;
+      named = queued_named s.processes s.queues.locks locks (λ k. ap (option_map but_queued) (same k)) kept.named;
+      processes_linked = kept.processes_linked;
+      processes_ordered = kept.processes_ordered;
+      processes = kept.processes;
+    }
+
+-- a caller sees the room that was made
+pub lock_reserved : {T E : Type 0} (r : Result T E) (l : Layout) (nodes : Slab Lock) (finds : ℕ) → l.room.locks ≡ room_of nodes finds → OnOk r (HasRoomFor nodes 1) → OnOk r (nodes.vacant_key ≤ LAST_KEY)
+    → OnOk r (0 < finds) → OnOk r (HasRoom (records_of l).room.locks)
+unfolding records_of
+lock_reserved (Ok x) l nodes finds is place key find =
+    subst HasRoom (sym is) (record { place = room_place nodes place; key = subst (λ k. k ≤ LAST_KEY) (sym (room_key nodes)) key; find = find })
+lock_reserved (Err e) l nodes finds is place key find = tt
+
+-- ---- for callers
+
+-- room is left where there is no less
+pub has_no_less : (old new : Room) → IsNoLess old new → HasRoom old → HasRoom new
+has_no_less old new more room = record { place = omega arith; key = subst (λ k. k ≤ LAST_KEY) (sym more.next_key) room.key; find = omega arith }
+
+no_less_twice : (a b c : Room) → IsNoLess a b → IsNoLess b c → IsNoLess a c
+no_less_twice a b c first second = record { places = omega arith; next_key = second.next_key ∙ first.next_key; finds = omega arith }
+
+-- nothing is changed by two calls that change nothing
+pub unchanged_twice : (a b c : Records) → IsUnchanged a b → IsUnchanged b c → IsUnchanged a c
+unchanged_twice a b c first second = record {
+  same = second.same ∙ ap (λ (x : Records). record x { room = c.room }) first.same;
+  locks = no_less_twice a.room.locks b.room.locks c.room.locks first.locks second.locks;
+  resources = no_less_twice a.room.resources b.room.resources c.room.resources first.resources second.resources;
+  processes = no_less_twice a.room.processes b.room.processes c.room.processes first.processes second.processes;
+}

@@ -1,0 +1,33 @@
+use Rattle.std.proofs.Common.{◌∙◌, ap, sym}
+use Rattle.vlm_links.specs.Lists.{first_key}
+use Rattle.vlm_links.proofs.Walks.{first_key-in}
+use Rattle.vlm_store.specs.Holdings.{below_keys}
+use Rattle.vlm_store.proofs.Living.{lock_there}
+use Rattle.vlm_store.proofs.Siblings.{below_listed, sublocks_is}
+use Rattle.vlm_store.proofs.store.Store.first_sublock.Goals as goal
+
+pub index-requires : goal.index-requires
+index-requires c =
+    let stored = rw (← c.self.view_is) at c.requires in
+    rw c.slot.ensures (lock_there c.self.inside c.self.invariant c.args.lock stored.0 stored.1).0
+
+pub of-requires : goal.of-requires
+of-requires c =
+    let s = c.self.inside in
+    let listed = below_listed s c.self.invariant c.args.lock c.index.result.now (rw c.slot.ensures at c.index.ensures) in
+    (c.self.invariant.below.linked c.args.lock).within c.in_ok-at.at
+    (first_key-in (below_keys s.queues.locks c.args.lock) c.in_ok-at.at (c.in_ok-at.ensures ∙ ap first_key listed))
+
+pub returns : goal.returns
+returns c =
+    let s = c.self.inside in
+    let listed = below_listed s c.self.invariant c.args.lock c.index.result.now (rw c.slot.ensures at c.index.ensures) in
+    let seen = sublocks_is s c.self.invariant c.args.lock (rw (← c.self.view_is) at c.requires) in
+    rw (← c.self.view_is, c.of.ensures) (c.in_ok-at.ensures ∙ ap first_key (listed ∙ sym seen))
+
+pub returns-in_err-at : goal.returns-in_err-at
+returns-in_err-at c =
+    let s = c.self.inside in
+    let listed = below_listed s c.self.invariant c.args.lock c.index.result.now (rw c.slot.ensures at c.index.ensures) in
+    let seen = sublocks_is s c.self.invariant c.args.lock (rw (← c.self.view_is) at c.requires) in
+    rw (← c.self.view_is) (c.from_residual.ensures ∙ c.in_err-at.ensures ∙ ap first_key (listed ∙ sym seen))

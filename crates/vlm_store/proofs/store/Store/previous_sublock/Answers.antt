@@ -1,0 +1,51 @@
+use Rattle.std.proofs.Common.{◌∙◌, ap, sym, subst}
+use Rattle.std.proofs.lemmas.Option.{none-some}
+use Rattle.vlm_links.specs.Lists.{IsIn, key_before}
+use Rattle.vlm_links.proofs.Walks.{key_before-in}
+use Rattle.vlm_store.specs.Holdings.{below_keys, parent_in}
+use Rattle.vlm_store.proofs.Living.{lock_there}
+use Rattle.vlm_store.proofs.Siblings.{below_listed, below_of_lock, seen_below, unseen_below}
+use Rattle.vlm_store.proofs.store.Store.previous_sublock.Goals as goal
+
+pub index-requires : goal.index-requires
+index-requires c =
+    let stored = rw (← c.self.view_is) at c.requires in
+    rw c.slot.ensures (lock_there c.self.inside c.self.invariant c.args.lock stored.0 stored.1).0
+
+pub returns-in_default-clause-before : goal.returns-in_default-clause-before
+returns-in_default-clause-before c parent found =
+    absurd (unseen_below c.self.inside c.self.invariant c.args.lock parent (ap parent_in (rw c.slot.ensures at c.index.ensures) ∙ c.in_default.is) (rw (← c.self.view_is) at found))
+
+pub previous-requires-clause-listed : goal.previous-requires-clause-listed
+previous-requires-clause-listed c =
+    let notes = ap parent_in (rw c.slot.ensures at c.index.ensures) ∙ c.in-Some.is in
+    let listed = below_listed c.self.inside c.self.invariant c.in-Some.parent c.index-2.result.now (rw c.slot-2.ensures at c.index-2.ensures) in
+    rw c.slot-3.ensures (subst (IsIn c.args.lock) (sym listed) (c.self.invariant.below.stands c.in-Some.parent c.args.lock (λ e. none-some c.args.lock (sym e)) notes))
+
+pub of-requires : goal.of-requires
+of-requires c =
+    let s = c.self.inside in
+    let listed = below_listed s c.self.invariant c.in-Some.parent c.index-2.result.now (rw c.slot-2.ensures at c.index-2.ensures) in
+    (c.self.invariant.below.linked c.in-Some.parent).within c.in_ok-at.at
+    (key_before-in c.args.lock (below_keys s.queues.locks c.in-Some.parent) c.in_ok-at.at ((rw c.slot-3.ensures at c.in_ok-at.ensures) ∙ ap (key_before c.args.lock) listed))
+
+pub returns-clause-before : goal.returns-clause-before
+returns-clause-before c parent found =
+    let s = c.self.inside in
+    let notes = ap parent_in (rw c.slot.ensures at c.index.ensures) ∙ c.in-Some.is in
+    let listed = below_listed s c.self.invariant c.in-Some.parent c.index-2.result.now (rw c.slot-2.ensures at c.index-2.ensures) in
+    let seen = below_of_lock s c.self.invariant c.args.lock c.in-Some.parent parent notes (rw (← c.self.view_is) at found) in
+    rw (← c.self.view_is, c.of.ensures) ((rw c.slot-3.ensures at c.in_ok-at.ensures) ∙ ap (key_before c.args.lock) (listed ∙ seen))
+
+pub returns-in_err-at-clause-before : goal.returns-in_err-at-clause-before
+returns-in_err-at-clause-before c parent found =
+    let s = c.self.inside in
+    let notes = ap parent_in (rw c.slot.ensures at c.index.ensures) ∙ c.in-Some.is in
+    let listed = below_listed s c.self.invariant c.in-Some.parent c.index-2.result.now (rw c.slot-2.ensures at c.index-2.ensures) in
+    let seen = below_of_lock s c.self.invariant c.args.lock c.in-Some.parent parent notes (rw (← c.self.view_is) at found) in
+    rw (← c.self.view_is) (c.from_residual.ensures ∙ (rw c.slot-3.ensures at c.in_err-at.ensures) ∙ ap (key_before c.args.lock) (listed ∙ seen))
+
+pub returns-clause-root : goal.returns-clause-root
+returns-clause-root c none =
+    let notes = ap parent_in (rw c.slot.ensures at c.index.ensures) ∙ c.in-Some.is in
+    absurd (seen_below c.self.inside c.self.invariant c.args.lock c.in-Some.parent notes (rw (← c.self.view_is) at none))

@@ -1,0 +1,27 @@
+use Rattle.std.proofs.Common.{refl}
+use Rattle.indexmap.specs.IndexMap.{spare}
+use Rattle.vlm_store.specs.Records.{HasRoom}
+use Rattle.vlm_store.specs.Store.{tables}
+use Rattle.vlm_store.specs.Kept.{beside_shown}
+use Rattle.vlm_store.proofs.RoomShown.{has_room, lock_room_kept, lock_room_made, shown_room, lock_reserved}
+use Rattle.vlm_store.proofs.store.Store.reserve_lock.Goals as goal
+
+pub invariant_of-self : goal.invariant_of-self
+invariant_of-self c = lock_room_kept c.self.inside c.self.invariant c.reserve_one.new.records c.reserve_one.new.index c.reserve_one.ensures.records c.reserve_one.ensures.index
+
+pub returns-clause-unchanged : goal.returns-clause-unchanged
+returns-clause-unchanged c =
+    rw (← c.self.view_is)
+    (lock_room_made c.self.inside c.reserve_one.new.records (spare c.reserve_one.new.index) c.reserve_one.ensures.records c.reserve_one.ensures.capacity c.reserve_one.ensures.finds)
+
+pub returns-clause-succeeds : goal.returns-clause-succeeds
+returns-clause-succeeds c has =
+    let s = c.self.inside in
+    let room = has_room s.queues.locks (spare s.lock_index) (shown_room (λ r. HasRoom r.locks) (tables s.queues s.order (beside_shown s)) (rw (← c.self.view_is) at has)) in
+    c.reserve_one.ensures.succeeds room.0 room.1 room.2
+
+pub returns-clause-room : goal.returns-clause-room
+returns-clause-room c =
+    let s = c.self.inside in
+    let s' = record s { queues = record s.queues { locks = c.reserve_one.new.records }; lock_index = c.reserve_one.new.index } in
+    lock_reserved c.reserve_one.result (tables s'.queues s'.order (beside_shown s')) c.reserve_one.new.records (spare c.reserve_one.new.index) refl c.reserve_one.ensures.place c.reserve_one.ensures.key c.reserve_one.ensures.find

@@ -1,0 +1,34 @@
+//! Room for one more record.
+
+ghost use Rattle.std.specs.Prelude.{◌≡◌, ◌<◌, ◌≤◌, IsOk, OnOk};
+ghost use Rattle.slab.specs.Slab.{HasRoomFor};
+ghost use Rattle.indexmap.specs.IndexMap.{IsUnchanged, spare};
+
+use indexmap::IndexMap;
+use slab::Slab;
+use std::alloc::AllocError;
+use std::hash::Hash;
+use vlm_links::LAST_KEY;
+
+/// Makes room for one more record, and for its key in the index, where there is none. It is refused where memory
+/// is, and where the slab has given out the last key that a link can lead to.
+pub(crate) fn reserve_one<T, K: Eq + Hash, V>(
+    records: &mut Slab<T>,
+    index: &mut IndexMap<K, V>,
+) -> Result<(), AllocError>
+    ensures records { records.new ≡ record records.old { capacity = records.new.capacity } }
+    ensures capacity { records.old.capacity ≤ records.new.capacity }
+    ensures index { IsUnchanged index.old index.new }
+    ensures finds { spare index.old ≤ spare index.new }
+    ensures place { OnOk result (HasRoomFor records.new 1) }
+    ensures key { OnOk result (records.new.vacant_key ≤ LAST_KEY) }
+    ensures find { OnOk result (0 < spare index.new) }
+    ensures succeeds { HasRoomFor records.old 1 → records.old.vacant_key ≤ LAST_KEY
+        → 0 < spare index.old → IsOk result }
+{
+    if records.vacant_key() > LAST_KEY {
+        return Err(AllocError);
+    }
+    records.reserve(1)?;
+    index.reserve(1)
+}

@@ -1,0 +1,104 @@
+//! The neighbours of a lock among those of its process, and among those below its parent.
+
+ghost use Rattle.std.specs.Prelude.{◌≡◌, ℕ, None};
+ghost use Rattle.vlm_links.specs.Lists.{IsIn, first_key, key_after, key_before, last_key};
+ghost use Rattle.vlm_store.specs.Records.{HasNoParent, HasProcess, IsStored, own_keys_at, sublocks_at};
+
+use crate::keys::{LockAt, ProcAt};
+use crate::store::Store;
+
+impl Store {
+    /// The key of the first lock that a process made, of those that it has, if it has any.
+    pub fn first_own(&self, process: ProcAt) -> Option<LockAt>
+        requires { HasProcess process self.now }
+        ensures { result ≡ first_key (own_keys_at process self.now) }
+    {
+        let own = self.processes[process.slot()].own;
+        let at = own.first(&self.queues.locks)?;
+        Some(LockAt::of(at))
+    }
+
+    /// The key of the last lock that a process made, of those that it has, if it has any.
+    pub fn last_own(&self, process: ProcAt) -> Option<LockAt>
+        requires { HasProcess process self.now }
+        ensures { result ≡ last_key (own_keys_at process self.now) }
+    {
+        let own = self.processes[process.slot()].own;
+        let at = own.last(&self.queues.locks)?;
+        Some(LockAt::of(at))
+    }
+
+    /// The key of the lock that its process made next after this one, if there is one.
+    pub fn next_own(&self, lock: LockAt) -> Option<LockAt>
+        requires { IsStored lock self.now }
+        ensures { (process : ℕ) → IsIn lock (own_keys_at process self.now)
+            → result ≡ key_after lock (own_keys_at process self.now) }
+    {
+        let owner = self.queues.locks[lock.slot()].owner;
+        let own = self.processes[owner.slot()].own;
+        let at = own.next(&self.queues.locks, lock.slot())?;
+        Some(LockAt::of(at))
+    }
+
+    /// The key of the lock that its process made last before this one, if there is one.
+    pub fn previous_own(&self, lock: LockAt) -> Option<LockAt>
+        requires { IsStored lock self.now }
+        ensures { (process : ℕ) → IsIn lock (own_keys_at process self.now)
+            → result ≡ key_before lock (own_keys_at process self.now) }
+    {
+        let owner = self.queues.locks[lock.slot()].owner;
+        let own = self.processes[owner.slot()].own;
+        let at = own.previous(&self.queues.locks, lock.slot())?;
+        Some(LockAt::of(at))
+    }
+
+    /// The key of the first lock that was made under this one, of those that are there, if there are any.
+    pub fn first_sublock(&self, lock: LockAt) -> Option<LockAt>
+        requires { IsStored lock self.now }
+        ensures { result ≡ first_key (sublocks_at lock self.now) }
+    {
+        let sublocks = self.queues.locks[lock.slot()].sublocks;
+        let at = sublocks.first(&self.queues.locks)?;
+        Some(LockAt::of(at))
+    }
+
+    /// The key of the last lock that was made under this one, of those that are there, if there are any.
+    pub fn last_sublock(&self, lock: LockAt) -> Option<LockAt>
+        requires { IsStored lock self.now }
+        ensures { result ≡ last_key (sublocks_at lock self.now) }
+    {
+        let sublocks = self.queues.locks[lock.slot()].sublocks;
+        let at = sublocks.last(&self.queues.locks)?;
+        Some(LockAt::of(at))
+    }
+
+    /// The key of the lock that was made next after this one under the same parent, if there is one.
+    pub fn next_sublock(&self, lock: LockAt) -> Option<LockAt>
+        requires { IsStored lock self.now }
+        ensures after { (parent : ℕ) → IsIn lock (sublocks_at parent self.now)
+            → result ≡ key_after lock (sublocks_at parent self.now) }
+        ensures root { HasNoParent lock self.now → result ≡ None }
+    {
+        let Some(parent) = self.queues.locks[lock.slot()].parent else {
+            return None;
+        };
+        let sublocks = self.queues.locks[parent.slot()].sublocks;
+        let at = sublocks.next(&self.queues.locks, lock.slot())?;
+        Some(LockAt::of(at))
+    }
+
+    /// The key of the lock that was made last before this one under the same parent, if there is one.
+    pub fn previous_sublock(&self, lock: LockAt) -> Option<LockAt>
+        requires { IsStored lock self.now }
+        ensures before { (parent : ℕ) → IsIn lock (sublocks_at parent self.now)
+            → result ≡ key_before lock (sublocks_at parent self.now) }
+        ensures root { HasNoParent lock self.now → result ≡ None }
+    {
+        let Some(parent) = self.queues.locks[lock.slot()].parent else {
+            return None;
+        };
+        let sublocks = self.queues.locks[parent.slot()].sublocks;
+        let at = sublocks.previous(&self.queues.locks, lock.slot())?;
+        Some(LockAt::of(at))
+    }
+}
