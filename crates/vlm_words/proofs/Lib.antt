@@ -43,3 +43,5 @@ pub mod Written
 pub mod Standing
 pub mod SweptValues
 pub mod Writers
+pub mod Returning
+pub mod Returned

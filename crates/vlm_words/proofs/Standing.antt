@@ -78,7 +78,7 @@ swept_any Q pass occupied _ _ _ (goes {before} {after} {rest} {left} {endings} {
     ]
 
 -- a granted lock stays so
-granted_stays : (P : Row → Type 0) → ((x y : Row) → IsSameButArmed x y → P x → P y) → (before after : Resource) (endings : List Ending)
+pub granted_stays : (P : Row → Type 0) → ((x y : Row) → IsSameButArmed x y → P x → P y) → (before after : Resource) (endings : List Ending)
     → GrantsFirst before after endings → Any P before.granted → Any P after.granted
 granted_stays P pass before after endings first some =
     subst (Any P) (sym first.granted) (any_left P first.kept first.given (any_zip IsSameButArmed P P pass before.granted first.kept first.stay some))
@@ -175,7 +175,7 @@ module _ (s : State) (e : NewRequest) (lkid pid parent : ℕ) (request : Request
       of_queue (inr waiting) = none_among (IsRow lkid pid parent None (Some request)) r.waiting vacant.waiting waiting
 
 -- the resource that a lock enters is among the resources
-any_entered : (P : Resource → Type 0) (serial : ℕ) (site : Site) (row : Row) (at_once : Bool) (resources : List Resource)
+pub any_entered : (P : Resource → Type 0) (serial : ℕ) (site : Site) (row : Row) (at_once : Bool) (resources : List Resource)
     → P (resource_after_entry row at_once (unwrap_or (find (is_at site.key) resources) (new_resource serial site)))
     → Any P (resources_after_entry serial site row at_once resources)
 any_entered P serial site row at_once [] here = Any-here P (resource_after_entry row at_once (new_resource serial site)) [] here
@@ -287,7 +287,7 @@ admitted_there request pid lkid a (r ∷ rest) admitted =
         (is, Any-here (λ x. r ≡ x) r rest refl)
 
 -- what a function makes of some element is so of some that it makes
-any_map : {X Y : Type 0} (P : X → Type 0) (Q : Y → Type 0) (f : X → Y) → ((x : X) → P x → Q (f x)) → (xs : List X) → Any P xs → Any Q (map f xs)
+pub any_map : {X Y : Type 0} (P : X → Type 0) (Q : Y → Type 0) (f : X → Y) → ((x : X) → P x → Q (f x)) → (xs : List X) → Any P xs → Any Q (map f xs)
 any_map P Q f pass [] some = absurd (Any-none P some)
 any_map P Q f pass (x ∷ xs) some =
     elim (Any-cases P x xs some) [

@@ -120,41 +120,43 @@ grant_harmless at_once row harmless = of_want row.want
     of_want None = tt
     of_want (Some request) = ((λ is. harmless (cc)), tt)
 
--- the service of the conversion queue
-conversions_harmless : (r : Resource) (rows : List Row) → AllByRecursion IsHarmless rows → AllByRecursion WritesNothing (service_of_conversions r rows).endings
-conversions_harmless r [] harmless = tt
-conversions_harmless r (row ∷ rows) harmless =
-    let granted : Resource = record (resource_after_grant r row) { converting = rows } in
-    cond_both (wanted_fits row.want r.granted rows) (service_after_grant row (service_of_conversions granted rows)) (no_service r)
-    (λ s. AllByRecursion WritesNothing s.endings)
-    (λ _. each_append WritesNothing (grant_endings false row) (service_of_conversions granted rows).endings (grant_harmless false row harmless.0)
-    (conversions_harmless granted rows harmless.1))
-    (λ _. tt)
+-- what the grant of each row has, each ending of a service has
+module _ (P : Row → Type 0) (Q : Ending → Type 0) (grants : (row : Row) → P row → AllByRecursion Q (grant_endings false row)) where
+  conversions_each : (r : Resource) (rows : List Row) → AllByRecursion P rows → AllByRecursion Q (service_of_conversions r rows).endings
+  conversions_each r [] each = tt
+  conversions_each r (row ∷ rows) each =
+      let granted : Resource = record (resource_after_grant r row) { converting = rows } in
+      cond_both (wanted_fits row.want r.granted rows) (service_after_grant row (service_of_conversions granted rows)) (no_service r)
+      (λ s. AllByRecursion Q s.endings)
+      (λ _. each_append Q (grant_endings false row) (service_of_conversions granted rows).endings (grants row each.0) (conversions_each granted rows each.1))
+      (λ _. tt)
 
--- and that of the waiting queue
-waiting_harmless : (r : Resource) (rows : List Row) → AllByRecursion IsHarmless rows → AllByRecursion WritesNothing (service_of_waiting r rows).endings
-waiting_harmless r [] harmless = tt
-waiting_harmless r (row ∷ rows) harmless =
-    let granted : Resource = record (resource_after_grant r row) { waiting = rows } in
-    cond_both (wanted_fits row.want r.granted r.converting) (service_after_grant row (service_of_waiting granted rows)) (no_service r)
-    (λ s. AllByRecursion WritesNothing s.endings)
-    (λ _. each_append WritesNothing (grant_endings false row) (service_of_waiting granted rows).endings (grant_harmless false row harmless.0)
-    (waiting_harmless granted rows harmless.1))
-    (λ _. tt)
+  waiting_each : (r : Resource) (rows : List Row) → AllByRecursion P rows → AllByRecursion Q (service_of_waiting r rows).endings
+  waiting_each r [] each = tt
+  waiting_each r (row ∷ rows) each =
+      let granted : Resource = record (resource_after_grant r row) { waiting = rows } in
+      cond_both (wanted_fits row.want r.granted r.converting) (service_after_grant row (service_of_waiting granted rows)) (no_service r)
+      (λ s. AllByRecursion Q s.endings)
+      (λ _. each_append Q (grant_endings false row) (service_of_waiting granted rows).endings (grants row each.0) (waiting_each granted rows each.1))
+      (λ _. tt)
 
+  pub service_each : (r : Resource) → Queued P r → AllByRecursion Q (service r).endings
+  unfolding service
+  service_each r each =
+      let first = service_of_conversions r r.converting in
+      let same : SameWaiting r first.resource = conversions_leave_waiting r r.converting in
+      each_append Q first.endings (service_of_new_requests first.resource).endings (conversions_each r r.converting each.converting)
+      (cond_both (is_empty first.resource.converting) (service_of_waiting first.resource first.resource.waiting) (no_service first.resource)
+      (λ s. AllByRecursion Q s.endings)
+      (λ _. waiting_each first.resource first.resource.waiting (subst (AllByRecursion P) (sym same.waiting) each.waiting))
+      (λ _. tt))
+
+-- so no grant of a service writes
 pub service_harmless : (r : Resource) → Queued IsHarmless r → AllByRecursion WritesNothing (service r).endings
-unfolding service
-service_harmless r harmless =
-    let first = service_of_conversions r r.converting in
-    let same : SameWaiting r first.resource = conversions_leave_waiting r r.converting in
-    each_append WritesNothing first.endings (service_of_new_requests first.resource).endings (conversions_harmless r r.converting harmless.converting)
-    (cond_both (is_empty first.resource.converting) (service_of_waiting first.resource first.resource.waiting) (no_service first.resource)
-    (λ s. AllByRecursion WritesNothing s.endings)
-    (λ _. waiting_harmless first.resource first.resource.waiting (subst (AllByRecursion IsHarmless) (sym same.waiting) harmless.waiting))
-    (λ _. tt))
+service_harmless = service_each IsHarmless WritesNothing (grant_harmless false)
 
 -- what does not write the value block leaves it
-end_leaves : (how : How) (ending : Ending) (b : Blocks) → (how ≡ by_grant Write → ⊥) → (blocks_after_end how ending b).value_block ≡ b.value_block
+pub end_leaves : (how : How) (ending : Ending) (b : Blocks) → (how ≡ by_grant Write → ⊥) → (blocks_after_end how ending b).value_block ≡ b.value_block
 unfolding blocks_after_return
 end_leaves (by_grant Nothing) ending b nothing = refl
 end_leaves (by_grant Return) ending b nothing = refl

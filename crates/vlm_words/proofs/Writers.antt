@@ -310,7 +310,7 @@ written_value s c a now writes =
     (blocks_with a.resource.value_block (processes_after_acceptance c.pid c.block (convert_lkid s c) s.processes))).value_block) writes
 
 -- and where it does not write
-kept_value : (s : State) (c : Conversion) (a : ConversionAdmission) → (grant_act a.row.held (Some a.request) ≡ Write → ⊥)
+pub kept_value : (s : State) (c : Conversion) (a : ConversionAdmission) → (grant_act a.row.held (Some a.request) ≡ Write → ⊥)
     → (convert_blocks s c a).value_block ≡ a.resource.value_block
 unfolding convert_blocks
 kept_value s c a harmless =

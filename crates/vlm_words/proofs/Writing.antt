@@ -97,7 +97,7 @@ block_after_how by_abort value block = record block { status = condition_number 
 block_after_how by_cancel value block = record block { status = condition_number Cancel }
 
 -- an end writes its status block so
-end_writes : (how : How) (ending : Ending) (b : Blocks) → (blocks_after_end how ending b).processes
+pub end_writes : (how : How) (ending : Ending) (b : Blocks) → (blocks_after_end how ending b).processes
     ≡ processes_after_write ending.pid ending.request.block
     (block_after_how how b.value_block (status_block_of b.processes ending.pid ending.request.block)) b.processes
 unfolding blocks_after_return blocks_after_writing processes_after_status processes_after_return
@@ -156,7 +156,7 @@ left_by_one pid number ending value before = of_tests (ending.pid == pid) refl (
 -- ---- one end after another
 
 -- the last end of both is that of the second, or else of the first
-last_of_both : (pid number : ℕ) (first second : List Ending)
+pub last_of_both : (pid number : ℕ) (first second : List Ending)
     → last_end pid number (first ++ second) ≡ later_end (last_end pid number second) (last_end pid number first)
 last_of_both pid number [] second = of_last (last_end pid number second)
   where

@@ -55,12 +55,12 @@ use Rattle.vlm_words.proofs.Writing.{AreLeftByEnds, IsNumbered, all_left, all_le
 -- ---- status blocks are numbered from 1
 
 -- what is wanted names a status block
-abbrev Names : Option Request → Type 0
+abbrev pub Names : Option Request → Type 0
 Names None = ⊤
 Names (Some request) = 0 < request.block
 
 -- what the row wants does
-abbrev NamesOne : Row → Type 0
+abbrev pub NamesOne : Row → Type 0
 NamesOne row = Names row.want
 
 -- a status block that a process has is numbered from 1
@@ -84,7 +84,7 @@ third_of None (Some refusal) c d passed = cc
 third_of (Some refusal) b c d passed = cc
 
 -- an accepted request names one
-request_names : (s : State) (e : NewRequest) → enq_refusal s e ≡ None → 0 < e.block
+pub request_names : (s : State) (e : NewRequest) → enq_refusal s e ≡ None → 0 < e.block
 unfolding enq_form_refusal
 request_names s e passed =
     from_1 s e.pid e.block
@@ -105,19 +105,19 @@ conversion_names s c passed =
     (or_else (which_refusal s c.pid c.lock) (or_else (lock_refusal s c.pid (convert_lkid s c)) (admission_refusal s c (convert_admission s c)))) passed)
 
 -- so does it as it is admitted
-admitted_names : (s : State) (c : Conversion) (a : ConversionAdmission) → convert_refusal s c ≡ None → convert_admission s c ≡ Some a → 0 < a.request.block
+pub admitted_names : (s : State) (c : Conversion) (a : ConversionAdmission) → convert_refusal s c ≡ None → convert_admission s c ≡ Some a → 0 < a.request.block
 unfolding convert_admission
 admitted_names s c a passed is =
     subst (λ (request : Request). 0 < request.block) (sym (admitted_request (convert_request s c) c.pid (convert_lkid s c) a s.resources is))
     (conversion_names s c passed)
 
-converting_names : (s : State) (c : Conversion) (a : ConversionAdmission) → 0 < a.request.block → (resources : List Resource)
+pub converting_names : (s : State) (c : Conversion) (a : ConversionAdmission) → 0 < a.request.block → (resources : List Resource)
     → AllByRecursion (EachConverting NamesOne c (convert_lkid s c) a) resources
 converting_names s c a names [] = tt
 converting_names s c a names (r ∷ rest) = (λ row _. names, converting_names s c a names rest)
 
 -- after every run each queued request does
-names_always : (history : History) (last : State) → Run history last → AllByRecursion (Queued NamesOne) last.resources
+pub names_always : (history : History) (last : State) → Run history last → AllByRecursion (Queued NamesOne) last.resources
 names_always =
     queued_always NamesOne (λ _ s _ e passed _. request_names s e passed)
     (λ _ s _ c a passed is _. converting_names s c a (admitted_names s c a passed is) s.resources)
@@ -138,7 +138,7 @@ each_take P (suc n) [] each = tt
 each_take P (suc n) (x ∷ xs) each = (each.0, each_take P n xs each.1)
 
 -- the grants of a service
-served_numbered : (resources : List Resource) → AllByRecursion (Queued NamesOne) resources → AllByRecursion (λ r. AllByRecursion IsNumbered (service r).endings) resources
+pub served_numbered : (resources : List Resource) → AllByRecursion (Queued NamesOne) resources → AllByRecursion (λ r. AllByRecursion IsNumbered (service r).endings) resources
 served_numbered [] names = tt
 served_numbered (r ∷ rest) names =
     let order = service_in_order r in (
@@ -160,7 +160,7 @@ rows_numbered how (row ∷ rows) names =
     (wanted_numbered how false row.lkid row.pid row.want names.0) (rows_numbered how rows names.1)
 
 -- those that a dequeue ends
-withdrawn_numbered : (w : Withdrawal) (resources : List Resource) → AllByRecursion (Queued NamesOne) resources
+pub withdrawn_numbered : (w : Withdrawal) (resources : List Resource) → AllByRecursion (Queued NamesOne) resources
     → AllByRecursion IsNumbered (flat_map (withdrawal_endings w) resources)
 withdrawn_numbered w [] names = tt
 withdrawn_numbered w (r ∷ rest) names =

@@ -36,6 +36,7 @@ pub mod Queued
 pub mod Written
 pub mod Standing
 pub mod Writers
+pub mod Returned
 pub mod Faults
 pub mod Lines
 pub mod Texts

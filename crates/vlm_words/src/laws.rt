@@ -16,6 +16,7 @@ ghost use Rattle.vlm_words.specs.Numbers.{NumbersAreGivenOnce};
 ghost use Rattle.vlm_words.specs.Privileges.{SystemRootsArePrivileged};
 ghost use Rattle.vlm_words.specs.Queued.{NoqueueIsKept};
 ghost use Rattle.vlm_words.specs.Writers.{OnlyWritersChangeValues};
+ghost use Rattle.vlm_words.specs.Returned.{GrantsReturnValues};
 ghost use Rattle.vlm_words.specs.Written.{WritesNamedBlocks};
 ghost use Rattle.vlm_words.specs.Standing.{ConvertedLocksStandAsAskedFor, NewLocksStandAsAskedFor};
 ghost use Rattle.vlm_words.specs.Reasons.{RefusalHasItsReason};
@@ -196,4 +197,13 @@ pub fn law_only_writers_change_value_blocks()
     ensures { (history : History) (old : State) → Run history old → (step : Step) (choice : Option Row)
         → IsChoice old step choice → step_refusal old step ≡ None
         → OnlyWritersChangeValues old step choice }
+{}
+
+/// A grant does with the value block what its request asks for, by what its lock held before the step: nothing
+/// without VALBLK; a new request returns it; a conversion returns it, writes it or does neither. What is returned
+/// to a status block is the value block as it stands on the lock's resource, told by NORMAL where it is valid and
+/// by VALNOTVALID where it is not.
+pub fn law_a_grant_returns_the_value_block()
+    ensures { (history : History) (old : State) → Run history old → (step : Step) (choice : Option Row)
+        → IsChoice old step choice → GrantsReturnValues old step choice }
 {}

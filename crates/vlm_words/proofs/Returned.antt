@@ -1,0 +1,460 @@
+-- Grants do with value blocks what is asked for, and return them as they stand.
+use Rattle.std.proofs.Common.{◌≡◌, ◌<◌, ◌+◌, ℕ, Bool, true, false, not, List, [], ◌∷◌, ◌++◌, map, filter, flat_map, length, get_or, cond, Option, None, Some, refl, sym, subst, ap, inl, inr, ◌∙◌}
+use Rattle.std.specs.Prelude.{Any}
+use Rattle.std.specs.List.{AllByRecursion, AllZip, find}
+use Rattle.std.proofs.lemmas.Bool.{cond_both}
+use Rattle.std.proofs.lemmas.List.Elements.{All-from_recursion}
+use Rattle.vlm_words.specs.declared.blocks.Block.{Block}
+use Rattle.vlm_words.specs.declared.conditions.Cond.{Cond}
+use Rattle.vlm_words.specs.declared.locks.Request.{Request}
+use Rattle.vlm_words.specs.declared.locks.Row.{Row}
+use Rattle.vlm_words.specs.declared.modes.Act.TheVariants.{Nothing, Return, Write}
+use Rattle.vlm_words.specs.declared.modes.Act.{Act}
+use Rattle.vlm_words.specs.declared.modes.Mode.TheVariants.{Nl, Cr, Cw, Pr, Pw, Ex}
+use Rattle.vlm_words.specs.declared.modes.Mode.{Mode}
+use Rattle.vlm_words.specs.declared.resources.ValueBlock.{ValueBlock}
+use Rattle.vlm_words.specs.declared.steps.Conversion.{Conversion}
+use Rattle.vlm_words.specs.declared.steps.Dequeue.{Dequeue}
+use Rattle.vlm_words.specs.declared.steps.NewRequest.{NewRequest}
+use Rattle.vlm_words.specs.declared.steps.Step.TheVariants.{Declare, SetValue, Enq, Convert, Deq, Rundown, Leave, Search, Take}
+use Rattle.vlm_words.specs.declared.steps.Step.{Step}
+use Rattle.vlm_words.specs.Flags.{cancel, flag_bits, has_flag, valblk}
+use Rattle.vlm_words.specs.Modes.{value_action}
+use Rattle.vlm_words.specs.State.{Process, Resource, State, process_of}
+use Rattle.vlm_words.specs.ValueBlocks.{new_value_block}
+use Rattle.vlm_words.specs.StatusBlocks.{new_status_block, processes_after_acceptance, status_blocks_of}
+use Rattle.vlm_words.specs.Endings.{Ending, How, row_endings, wanted_endings}
+use Rattle.vlm_words.specs.Endings.How.{by_abort, by_cancel, by_grant}
+use Rattle.vlm_words.specs.Effects.{blocks_after, blocks_with, with_value_block}
+use Rattle.vlm_words.specs.Grants.{grant_act, grant_endings, granted_row, is_empty, resource_after_grant, service}
+use Rattle.vlm_words.specs.Rows.{is_lock_of, rows_of}
+use Rattle.vlm_words.specs.Sweeps.{is_vacant, resources_after_sweep, sweep_endings}
+use Rattle.vlm_words.specs.Declare.{declare_change}
+use Rattle.vlm_words.specs.SetValue.{set_change}
+use Rattle.vlm_words.specs.Trees.{enq_site}
+use Rattle.vlm_words.specs.Enqueue.{enq_at_once, enq_change, enq_refusal, enq_request, enq_resource, enq_row, resource_after_entry}
+use Rattle.vlm_words.specs.Convert.{ConversionAdmission, convert_admission, convert_blocks, convert_change, convert_lkid, convert_refusal, convert_request, resource_after_conversion, resource_after_conversion_of, resource_without_granted, wanting_row}
+use Rattle.vlm_words.specs.Withdrawals.{Withdrawal, queue_endings, withdrawal_endings}
+use Rattle.vlm_words.specs.Dequeue.{deq_change, deq_endings, withdrawal_of}
+use Rattle.vlm_words.specs.Runs.{History, Run}
+use Rattle.vlm_words.specs.Stepped.{IsChoice, Stepped, conversion_change, refused_or, step_change, step_refusal, stepped, stepped_after_sweep}
+use Rattle.vlm_words.specs.Laws.{IsGrant, IsGrantOf, IsGranted}
+use Rattle.vlm_words.specs.Returned.{ActsAsAskedFor, GrantsReturnValues, HeldBefore, HoldsGranted, IsItsValue, TellsMark, TellsValue, act_asked_for, conversion_act, last_return}
+use Rattle.vlm_words.specs.Written.{last_end}
+use Rattle.vlm_words.proofs.Always.{admission_of}
+use Rattle.vlm_words.proofs.Apart.{Apart, apart_always}
+use Rattle.vlm_words.proofs.Each.{Any-behind, Any-cases, Any-here, Any-none, Any-there, Any-weaker, any_left, each_append, each_weaker}
+use Rattle.vlm_words.proofs.HeldModes.{HoldersAgree, holders_agree_always}
+use Rattle.vlm_words.proofs.InOrder.{service_in_order}
+use Rattle.vlm_words.proofs.Refusals.{Any_found}
+use Rattle.vlm_words.proofs.Returning.{AreReturned, Its, Serves, StatusBy, ValueBy, none_returned, one_returned, all_returned, returned_swept}
+use Rattle.vlm_words.proofs.Standing.{admitted_there, any_entered, any_map, granted_stays}
+use Rattle.vlm_words.proofs.SweptValues.{IsHarmless, WritesNothing, conversion_is_harmless, each_member, harmless_always, new_is_harmless, service_each, service_harmless, service_leaves, swept_alone}
+use Rattle.vlm_words.proofs.Waiting.{EachConverting, Queued, conversion_queued, dequeue_queued, request_queued}
+use Rattle.vlm_words.proofs.Withdrawing.{one_ends}
+use Rattle.vlm_words.proofs.Writers.{kept_value}
+use Rattle.vlm_words.proofs.Writing.{IsNumbered}
+use Rattle.vlm_words.proofs.Written.{NamesOne, admitted_names, blocks_are, converting_names, names_always, request_names, served_numbered, withdrawn_numbered}
+
+-- ---- what a grant does
+
+-- the table of value blocks, in the words of the law
+table_act : (held want : Mode) → value_action held want ≡ conversion_act held want
+unfolding value_action
+table_act Nl Nl = refl
+table_act Cr Nl = refl
+table_act Cw Nl = refl
+table_act Pr Nl = refl
+table_act Pw Nl = refl
+table_act Ex Nl = refl
+table_act held want = refl
+
+-- a grant does what is asked for
+grant_act_is : (held : Option Request) (request : Request) → grant_act held (Some request) ≡ act_asked_for held request
+unfolding grant_act
+grant_act_is None request = refl
+grant_act_is (Some held) request =
+    ap (λ (act : Act). cond (has_flag (flag_bits request.flags) valblk) act Nothing) (table_act held.mode request.mode)
+
+-- what is so of an ending
+abbrev Acts : State → Ending → Type 0
+Acts s ending = IsGrant ending.how → ActsAsAskedFor s ending
+
+-- what a lock of this row holds, it held before the step
+abbrev HeldSo : State → Row → Type 0
+HeldSo s row = HeldBefore s row.lkid row.held
+
+-- the grant of such a row
+row_acts : (s : State) (at_once : Bool) (row : Row) → HeldSo s row → AllByRecursion (Acts s) (grant_endings at_once row)
+row_acts s at_once row before = of_want row.want refl
+  where
+    of_want : (want : Option Request) → row.want ≡ want
+        → AllByRecursion (Acts s) (wanted_endings (by_grant (grant_act row.held row.want)) at_once row.lkid row.pid want)
+    of_want None is = tt
+    of_want (Some request) is = (
+      λ _. record {
+        held = row.held;
+        before = before;
+        acts = ap by_grant (ap (λ (want : Option Request). grant_act row.held want) is ∙ grant_act_is row.held request);
+      },
+      tt,
+    )
+
+-- what a row of a resource that is there holds, its lock held before the step
+held_there : (s : State) (r : Resource) (row : Row) → Any (λ x. r ≡ x) s.resources
+    → Any (λ y. row ≡ y) (r.granted ++ r.converting ++ r.waiting) → HeldSo s row
+held_there s r row there among =
+    inr (Any-weaker (λ x. r ≡ x) (λ x. Any (λ y. (y.lkid ≡ row.lkid) × (y.held ≡ row.held)) (x.granted ++ x.converting ++ x.waiting))
+    (λ x same.
+    subst (λ (t : Resource). Any (λ y. (y.lkid ≡ row.lkid) × (y.held ≡ row.held)) (t.granted ++ t.converting ++ t.waiting)) same
+    (Any-weaker (λ y. row ≡ y) (λ y. (y.lkid ≡ row.lkid) × (y.held ≡ row.held))
+    (λ y is. (ap (λ (z : Row). z.lkid) (sym is), ap (λ (z : Row). z.held) (sym is))) (r.granted ++ r.converting ++ r.waiting) among)) s.resources there)
+
+-- so it is with each queued row before the step
+queued_held : (s : State) → AllByRecursion (Queued (HeldSo s)) s.resources
+queued_held s =
+    each_weaker (λ r. Any (λ x. r ≡ x) s.resources) (Queued (HeldSo s))
+    (λ r there. record {
+      converting =
+          each_weaker (λ row. Any (λ y. row ≡ y) r.converting) (HeldSo s)
+          (λ row among. held_there s r row there (any_left (λ y. row ≡ y) (r.granted ++ r.converting) r.waiting (Any-behind (λ y. row ≡ y) r.granted r.converting among)))
+          r.converting (each_member r.converting);
+      waiting =
+          each_weaker (λ row. Any (λ y. row ≡ y) r.waiting) (HeldSo s)
+          (λ row among. held_there s r row there (Any-behind (λ y. row ≡ y) (r.granted ++ r.converting) r.waiting among)) r.waiting (each_member r.waiting);
+    }) s.resources (each_member s.resources)
+
+-- and with a granted one
+granted_held : (s : State) (pid lkid : ℕ) (r : Resource) (row : Row) → Any (λ x. r ≡ x) s.resources → find (is_lock_of pid lkid) r.granted ≡ Some row → HeldSo s row
+granted_held s pid lkid r row there is =
+    held_there s r row there
+    (any_left (λ y. row ≡ y) (r.granted ++ r.converting) r.waiting
+    (any_left (λ y. row ≡ y) r.granted r.converting (Any_found (λ y. row ≡ y) (is_lock_of pid lkid) r.granted row is refl)))
+
+-- ---- where a granted lock stands after the sweep
+
+-- the row is that of the granted lock
+abbrev IsOf : Ending → Row → Type 0
+IsOf ending row = (row.lkid ≡ ending.lkid) × (row.pid ≡ ending.pid) × (row.held ≡ Some ending.request)
+
+-- the lock is granted on the resource, whose value block is this one
+abbrev IsHeldOn : Ending → ValueBlock → Resource → Type 0
+IsHeldOn ending block r = HoldsGranted ending r × (block ≡ r.value_block)
+
+-- the locks of rows that are granted
+given_hold : (rows given : List Row) (endings : List Ending) → AllZip IsGranted rows given → AllZip IsGrantOf rows endings
+    → AllByRecursion (λ ending. Any (IsOf ending) given) endings
+given_hold [] [] [] granted ends = tt
+given_hold [] [] (ending ∷ endings) granted ends = absurd ends
+given_hold [] (row ∷ given) endings granted ends = absurd granted
+given_hold (row ∷ rows) [] endings granted ends = absurd granted
+given_hold (row ∷ rows) (left ∷ given) [] granted ends = tt
+given_hold (row ∷ rows) (left ∷ given) (ending ∷ endings) granted ends = (
+  Any-here (IsOf ending) left given (granted.0.lkid ∙ sym ends.0.lkid, granted.0.pid ∙ sym ends.0.pid, granted.0.holds ∙ sym ends.0.request),
+  each_weaker (λ other. Any (IsOf other) given) (λ other. Any (IsOf other) (left ∷ given)) (λ other any. Any-there (IsOf other) left given any) endings
+      (given_hold rows given endings granted.1 ends.1),
+)
+
+service_holds : (r : Resource) → AllByRecursion (λ ending. HoldsGranted ending (service r).resource) (service r).endings
+service_holds r =
+    let first = service_in_order r in
+    each_weaker (λ ending. Any (IsOf ending) first.given) (λ ending. HoldsGranted ending (service r).resource)
+    (λ ending any. subst (Any (IsOf ending)) (sym first.granted) (Any-behind (IsOf ending) first.kept first.given any)) (service r).endings
+    (given_hold _ first.given (service r).endings first.rows first.ends)
+
+-- what a filter keeps
+any_filter : {X : Type 0} (P : X → Type 0) (test : X → Bool) → ((x : X) → P x → test x ≡ true) → (xs : List X) → Any P xs → Any P (filter test xs)
+any_filter P test keeps [] some = some
+any_filter P test keeps (x ∷ xs) some =
+    elim (Any-cases P x xs some) [
+      | inl here ↦ rw (keeps x here) (Any-here P x (filter test xs) here)
+      | inr there ↦ cond_both (test x) (x ∷ filter test xs) (filter test xs) (Any P)
+          (λ _. Any-there P x (filter test xs) (any_filter P test keeps xs there)) (λ _. any_filter P test keeps xs there)
+    ]
+
+-- a resource with a granted lock is not vacant
+occupied : (ending : Ending) (block : ValueBlock) (r : Resource) → IsHeldOn ending block r → not (is_vacant r) ≡ true
+occupied ending block r held = rw (some r.granted held.0) refl
+  where
+    some : (rows : List Row) → Any (IsOf ending) rows → is_empty rows ≡ false
+    some [] any = absurd (Any-none (IsOf ending) any)
+    some (row ∷ rows) any = refl
+
+-- so it is there after the sweep
+held_swept : (ending : Ending) (block : ValueBlock) (processes : List Process) (resources : List Resource) → AllByRecursion (Queued IsHarmless) resources
+    → Any (IsHeldOn ending block) (map (λ r. (service r).resource) resources) → Any (IsHeldOn ending block) (resources_after_sweep processes resources)
+held_swept ending block processes resources harmless any =
+    subst (Any (IsHeldOn ending block)) (sym (swept_alone processes resources harmless))
+    (any_filter (IsHeldOn ending block) (λ r. not (is_vacant r)) (occupied ending block) (map (λ r. (service r).resource) resources) any)
+
+-- one that is granted before the sweep is so after it
+held_stays : (ending : Ending) (block : ValueBlock) (processes : List Process) (resources : List Resource) → AllByRecursion (Queued IsHarmless) resources
+    → Any (IsHeldOn ending block) resources → Any (IsHeldOn ending block) (resources_after_sweep processes resources)
+held_stays ending block processes resources harmless any =
+    held_swept ending block processes resources harmless
+    (any_map (IsHeldOn ending block) (IsHeldOn ending block) (λ r. (service r).resource)
+    (λ r held. (
+      granted_stays (IsOf ending) (λ x y same is. (same.lkid ∙ is.0, same.pid ∙ is.1, same.held ∙ is.2)) r (service r).resource (service r).endings (service_in_order r) held.0,
+      held.1 ∙ sym (service_leaves r),
+    )) resources any)
+
+-- ---- a step that is made
+
+record IsReturning (s : State) (made : Stepped) : Type 0 where
+  acts : AllByRecursion (Acts s) made.endings
+  base : List Process
+  blocks : AreReturned (IsItsValue made.state) made.endings base made.state.processes
+
+-- the sweep returns what stands there
+sweep_serves : (change : Stepped) → AllByRecursion (Queued NamesOne) change.state.resources → AllByRecursion (Queued IsHarmless) change.state.resources
+    → AllByRecursion (Serves (IsItsValue (stepped_after_sweep change).state)) change.state.resources
+sweep_serves change names harmless =
+    at_each change.state.resources (served_numbered change.state.resources names) harmless (each_member change.state.resources)
+  where
+    at_each : (resources : List Resource) → AllByRecursion (λ r. AllByRecursion IsNumbered (service r).endings) resources → AllByRecursion (Queued IsHarmless) resources
+        → AllByRecursion (λ r. Any (λ x. r ≡ x) change.state.resources) resources → AllByRecursion (Serves (IsItsValue (stepped_after_sweep change).state)) resources
+    at_each [] numbered nothing there = tt
+    at_each (r ∷ rest) numbered nothing there = (
+      record {
+        numbered = numbered.0;
+        nothing = service_harmless r nothing.0;
+        its =
+            each_weaker (λ ending. HoldsGranted ending (service r).resource) (Its (IsItsValue (stepped_after_sweep change).state) r.value_block)
+            (λ ending held _.
+            held_swept ending r.value_block change.state.processes change.state.resources harmless
+            (any_map (λ x. r ≡ x) (IsHeldOn ending r.value_block) (λ x. (service x).resource)
+            (λ x same. subst (λ (t : Resource). IsHeldOn ending r.value_block (service t).resource) same (held, sym (service_leaves r)))
+            change.state.resources there.0)) (service r).endings (service_holds r);
+      },
+      at_each rest numbered.1 nothing.1 there.1,
+    )
+
+swept_returning : (s : State) (change : Stepped) (base : List Process) → AllByRecursion (Queued NamesOne) change.state.resources
+    → AllByRecursion (Queued IsHarmless) change.state.resources → AllByRecursion (Queued (HeldSo s)) change.state.resources
+    → AllByRecursion (Acts s) change.endings → AreReturned (IsItsValue (stepped_after_sweep change).state) change.endings base change.state.processes
+    → IsReturning s (stepped_after_sweep change)
+unfolding sweep_endings
+swept_returning s change base names harmless held acts blocks = record {
+  acts = each_append (Acts s) change.endings (sweep_endings change.state.resources) acts (all_act change.state.resources held);
+  base = base;
+  blocks =
+      returned_swept (IsItsValue (stepped_after_sweep change).state) change.endings base change.state.processes change.state.resources blocks
+      (sweep_serves change names harmless);
+}
+  where
+    all_act : (resources : List Resource) → AllByRecursion (Queued (HeldSo s)) resources → AllByRecursion (Acts s) (flat_map (λ r. (service r).endings) resources)
+    all_act [] each = tt
+    all_act (r ∷ rest) each =
+        each_append (Acts s) (service r).endings (flat_map (λ x. (service x).endings) rest)
+        (service_each (HeldSo s) (Acts s) (row_acts s false) r each.0) (all_act rest each.1)
+
+-- ---- the steps
+
+-- a step that ends nothing itself and moves no lock
+idle_returning : (s : State) (change : Stepped) → change.endings ≡ [] → AllByRecursion (Queued NamesOne) change.state.resources
+    → AllByRecursion (Queued IsHarmless) change.state.resources → AllByRecursion (Queued (HeldSo s)) change.state.resources → IsReturning s (stepped_after_sweep change)
+idle_returning s change none names harmless held =
+    swept_returning s change change.state.processes names harmless held (subst (AllByRecursion (Acts s)) (sym none) tt)
+    (subst (λ (endings : List Ending). AreReturned (IsItsValue (stepped_after_sweep change).state) endings change.state.processes change.state.processes) (sym none)
+    (none_returned (IsItsValue (stepped_after_sweep change).state) change.state.processes))
+
+-- the end of a request that is granted at once, if it is
+at_once_returned : (P : Ending → ValueBlock → Type 0) (b : Bool) (ending : Ending) (block : ValueBlock) (processes : List Process) → IsNumbered ending
+    → (b ≡ true → ending.how ≡ by_grant Return → P ending block)
+    → AreReturned P (cond b (ending ∷ []) []) processes (blocks_after (cond b (ending ∷ []) []) (blocks_with block processes)).processes
+at_once_returned P true ending block processes numbered its = one_returned P ending (blocks_with block processes) numbered (its refl)
+at_once_returned P false ending block processes numbered its = none_returned P processes
+
+at_once_acts : (s : State) (b : Bool) (row : Row) → HeldSo s row → AllByRecursion (Acts s) (cond b (grant_endings true row) [])
+at_once_acts s true row before = row_acts s true row before
+at_once_acts s false row before = tt
+
+-- the grant of a new request
+abbrev request_grant : State → NewRequest → Ending
+request_grant s e = record { lkid = s.next_lkid; pid = e.pid; request = enq_request s e; how = by_grant (grant_act None (Some (enq_request s e))); at_once = true }
+
+-- its lock is granted where it enters
+request_held : (s : State) (e : NewRequest) → enq_at_once s e ≡ true → Any (IsHeldOn (request_grant s e) (enq_resource s e).value_block) (enq_change s e).resources
+unfolding enq_change enq_resource resource_after_entry
+request_held s e now =
+    any_entered (IsHeldOn (request_grant s e) (enq_resource s e).value_block) s.next_serial (enq_site s e) (enq_row s e) (enq_at_once s e) s.resources
+    (subst (λ (b : Bool). IsHeldOn (request_grant s e) (enq_resource s e).value_block
+    (cond b (resource_after_grant (enq_resource s e) (enq_row s e)) (record (enq_resource s e) { waiting = (enq_resource s e).waiting ++ enq_row s e ∷ [] })))
+    (sym now) (
+      Any-behind (IsOf (request_grant s e)) (enq_resource s e).granted (granted_row (enq_row s e) ∷ [])
+          (Any-here (IsOf (request_grant s e)) (granted_row (enq_row s e)) [] (refl, refl, refl)),
+      refl,
+    ))
+
+request_returning : (s : State) (e : NewRequest) (choice : Option Row) → enq_refusal s e ≡ None → AllByRecursion (Queued NamesOne) s.resources
+    → AllByRecursion (Queued IsHarmless) s.resources → IsReturning s (stepped_after_sweep (step_change s (Enq e) choice))
+unfolding enq_change
+request_returning s e choice passed names harmless =
+    let change : Stepped = step_change s (Enq e) choice in
+    let accepted : List Process = processes_after_acceptance e.pid e.block s.next_lkid s.processes in
+    let safe : AllByRecursion (Queued IsHarmless) (enq_change s e).resources = request_queued IsHarmless s e (λ _. new_is_harmless s e) harmless in
+    swept_returning s change accepted (request_queued NamesOne s e (λ _. request_names s e passed) names) safe
+    (request_queued (HeldSo s) s e (λ _. inl (refl, refl)) (queued_held s))
+    (at_once_acts s (enq_at_once s e) (enq_row s e) (inl (refl, refl)))
+    (at_once_returned (IsItsValue (stepped_after_sweep change).state) (enq_at_once s e) (request_grant s e) (enq_resource s e).value_block accepted (request_names s e passed)
+    (λ now _. held_stays (request_grant s e) (enq_resource s e).value_block (enq_change s e).processes (enq_change s e).resources safe (request_held s e now)))
+
+-- the grant of a conversion
+abbrev conversion_grant : ConversionAdmission → Ending
+conversion_grant a = record { lkid = a.row.lkid; pid = a.row.pid; request = a.request; how = by_grant (grant_act a.row.held (Some a.request)); at_once = true }
+
+-- its lock is granted where it stood
+conversion_held : (s : State) (c : Conversion) (a : ConversionAdmission) → convert_admission s c ≡ Some a → a.at_once ≡ true
+    → (grant_act a.row.held (Some a.request) ≡ Write → ⊥) → Any (IsHeldOn (conversion_grant a) a.resource.value_block) (convert_change s c a).resources
+unfolding convert_change convert_admission resource_after_conversion
+conversion_held s c a admitted now harmless =
+    let lkid : ℕ = convert_lkid s c in
+    let block : ValueBlock = (convert_blocks s c a).value_block in
+    let there = admitted_there (convert_request s c) c.pid lkid a s.resources admitted in
+    any_map (λ r. a.resource ≡ r) (IsHeldOn (conversion_grant a) a.resource.value_block) (resource_after_conversion a.request a.at_once c.pid lkid block)
+    (λ r same.
+    subst (λ (x : Resource). IsHeldOn (conversion_grant a) a.resource.value_block (resource_after_conversion a.request a.at_once c.pid lkid block x)) same
+    (subst (λ (found : Option Row). IsHeldOn (conversion_grant a) a.resource.value_block (resource_after_conversion_of a.request a.at_once lkid block a.resource found)) (sym there.0)
+    (subst (λ (b : Bool). IsHeldOn (conversion_grant a) a.resource.value_block
+    (cond b (with_value_block block (resource_after_grant (resource_without_granted lkid a.resource) (wanting_row a.row a.request)))
+    (record (resource_without_granted lkid a.resource) { converting = a.resource.converting ++ wanting_row a.row a.request ∷ [] }))) (sym now) (
+      Any-behind (IsOf (conversion_grant a)) (resource_without_granted lkid a.resource).granted (granted_row (wanting_row a.row a.request) ∷ [])
+          (Any-here (IsOf (conversion_grant a)) (granted_row (wanting_row a.row a.request)) [] (refl, refl, refl)),
+      sym (kept_value s c a harmless),
+    ))))
+    s.resources there.1
+
+-- a grant that returns does not write
+return_is_harmless : (act : Act) → by_grant act ≡ by_grant Return → act ≡ Write → ⊥
+return_is_harmless act is writes = cc
+
+conversion_returning : (s : State) (c : Conversion) (a : ConversionAdmission) → AllByRecursion HoldersAgree s.resources → Apart s → convert_refusal s c ≡ None
+    → convert_admission s c ≡ Some a → AllByRecursion (Queued NamesOne) s.resources → AllByRecursion (Queued IsHarmless) s.resources
+    → IsReturning s (stepped_after_sweep (conversion_change s c (Some a)))
+unfolding convert_change convert_blocks convert_admission
+conversion_returning s c a agree apart passed admitted names harmless =
+    let lkid : ℕ = convert_lkid s c in
+    let change : Stepped = conversion_change s c (Some a) in
+    let accepted : List Process = processes_after_acceptance c.pid c.block lkid s.processes in
+    let there = admitted_there (convert_request s c) c.pid lkid a s.resources admitted in
+    let named : 0 < a.request.block = admitted_names s c a passed admitted in
+    let safe : AllByRecursion (Queued IsHarmless) (convert_change s c a).resources =
+    conversion_queued IsHarmless s c a (conversion_is_harmless s c a agree apart passed admitted) harmless in
+    let before : HeldSo s a.row =
+    granted_held s c.pid lkid a.resource a.row there.1 there.0 in
+    swept_returning s change accepted (conversion_queued NamesOne s c a (λ _. converting_names s c a named s.resources) names) safe
+    (conversion_queued (HeldSo s) s c a
+    (λ _. each_weaker (λ r. Any (λ x. r ≡ x) s.resources) (EachConverting (HeldSo s) c lkid a)
+    (λ r member row is. granted_held s c.pid lkid r row member is) s.resources (each_member s.resources)) (queued_held s))
+    (at_once_acts s a.at_once (wanting_row a.row a.request) before)
+    (at_once_returned (IsItsValue (stepped_after_sweep change).state) a.at_once (conversion_grant a) a.resource.value_block accepted named
+    (λ now returns.
+    held_stays (conversion_grant a) a.resource.value_block (convert_change s c a).processes (convert_change s c a).resources safe
+    (conversion_held s c a admitted now (return_is_harmless (grant_act a.row.held (Some a.request)) returns))))
+
+-- a dequeue grants nothing itself
+abbrev IsNoGrant : Ending → Type 0
+IsNoGrant ending = IsGrant ending.how → ⊥
+
+rows_grant_nothing : (how : How) → (IsGrant how → ⊥) → (rows : List Row) → AllByRecursion IsNoGrant (flat_map (row_endings how false) rows)
+rows_grant_nothing how none [] = tt
+rows_grant_nothing how none (row ∷ rows) =
+    each_append IsNoGrant (row_endings how false row) (flat_map (row_endings how false) rows) (of_want row.want) (rows_grant_nothing how none rows)
+  where
+    of_want : (want : Option Request) → AllByRecursion IsNoGrant (wanted_endings how false row.lkid row.pid want)
+    of_want None = tt
+    of_want (Some request) = (none, tt)
+
+withdrawn_grant_nothing : (w : Withdrawal) → (IsGrant w.converting → ⊥) → (IsGrant w.waiting → ⊥) → (resources : List Resource)
+    → AllByRecursion IsNoGrant (flat_map (withdrawal_endings w) resources)
+withdrawn_grant_nothing w converting waiting [] = tt
+withdrawn_grant_nothing w converting waiting (r ∷ rest) =
+    each_append IsNoGrant (withdrawal_endings w r) (flat_map (withdrawal_endings w) rest)
+    (each_append IsNoGrant (queue_endings w.converting w.lkid r.converting) (queue_endings w.waiting w.lkid r.waiting)
+    (rows_grant_nothing w.converting converting (rows_of w.lkid r.converting)) (rows_grant_nothing w.waiting waiting (rows_of w.lkid r.waiting)))
+    (withdrawn_grant_nothing w converting waiting rest)
+
+dequeue_grants_nothing : (s : State) (d : Dequeue) → AllByRecursion IsNoGrant (deq_endings s d)
+dequeue_grants_nothing s d =
+    subst (AllByRecursion IsNoGrant) (sym (one_ends (withdrawal_of s d) s.resources))
+    (withdrawn_grant_nothing (withdrawal_of s d) (of_cancel (has_flag d.flags cancel)) (λ grant. grant) s.resources)
+  where
+    of_cancel : (cancels : Bool) → IsGrant (cond cancels by_cancel by_abort) → ⊥
+    of_cancel true grant = grant
+    of_cancel false grant = grant
+
+-- an end that grants with some act is a grant
+by_act : (ending : Ending) (act : Act) → IsNoGrant ending → ending.how ≡ by_grant act → ⊥
+by_act ending act none is = none (subst IsGrant (sym is) tt)
+
+dequeue_returning : (s : State) (d : Dequeue) (choice : Option Row) → AllByRecursion (Queued NamesOne) s.resources → AllByRecursion (Queued IsHarmless) s.resources
+    → IsReturning s (stepped_after_sweep (step_change s (Deq d) choice))
+unfolding deq_change
+dequeue_returning s d choice names harmless =
+    let change : Stepped = step_change s (Deq d) choice in
+    let P : Ending → ValueBlock → Type 0 = IsItsValue (stepped_after_sweep change).state in
+    let none : AllByRecursion IsNoGrant (deq_endings s d) = dequeue_grants_nothing s d in
+    swept_returning s change s.processes (dequeue_queued NamesOne s d names) (dequeue_queued IsHarmless s d harmless) (dequeue_queued (HeldSo s) s d (queued_held s))
+    (each_weaker IsNoGrant (Acts s) (λ ending no grant. absurd (no grant)) (deq_endings s d) none)
+    (all_returned P (deq_endings s d) (blocks_with new_value_block s.processes)
+    (subst (AllByRecursion IsNumbered) (sym (one_ends (withdrawal_of s d) s.resources)) (withdrawn_numbered (withdrawal_of s d) s.resources names))
+    (each_weaker IsNoGrant WritesNothing (λ ending no. by_act ending Write no) (deq_endings s d) none)
+    (each_weaker IsNoGrant (Its P new_value_block) (λ ending no returns. absurd (by_act ending Return no returns)) (deq_endings s d) none))
+
+returning : (history : History) (s : State) → Run history s → (step : Step) (choice : Option Row) → step_refusal s step ≡ None
+    → IsReturning s (stepped_after_sweep (step_change s step choice))
+unfolding declare_change set_change
+returning history s run (Declare d) choice passed =
+    idle_returning s (step_change s (Declare d) choice) refl (names_always history s run) (harmless_always history s run) (queued_held s)
+returning history s run (SetValue v) choice passed =
+    idle_returning s (step_change s (SetValue v) choice) refl (names_always history s run) (harmless_always history s run) (queued_held s)
+returning history s run (Enq e) choice passed = request_returning s e choice passed (names_always history s run) (harmless_always history s run)
+returning history s run (Convert c) choice passed =
+    let admitted = admission_of s c passed in
+    subst (λ (there : Option ConversionAdmission). IsReturning s (stepped_after_sweep (conversion_change s c there))) (sym admitted.1)
+    (conversion_returning s c admitted.0 (holders_agree_always history s run) (apart_always history s run) passed admitted.1 (names_always history s run)
+    (harmless_always history s run))
+returning history s run (Deq d) choice passed = dequeue_returning s d choice (names_always history s run) (harmless_always history s run)
+returning history s run (Rundown pid) choice passed = cc
+returning history s run (Leave node) choice passed = cc
+returning history s run (Search node) choice passed = cc
+returning history s run (Take pid) choice passed = cc
+
+-- what is said of a status block
+tells_value : (s : State) (last : Option Ending) (before after : List ℕ) → ValueBy (IsItsValue s) last before after → TellsValue s last after
+tells_value s None before after by = tt
+tells_value s (Some ending) before after by = by
+
+tells_mark : (s : State) (last : Option Ending) (before after : ℕ) → StatusBy (IsItsValue s) last before after → TellsMark s last after
+tells_mark s None before after by = tt
+tells_mark s (Some ending) before after by = by
+
+-- a step that is made returns what stands there
+told : (s : State) (made : Stepped) → IsReturning s made → (pid k : ℕ) (p : Process) → process_of made.state.processes pid ≡ Some p → k < length p.blocks
+    → TellsValue made.state (last_return pid (k + 1) made.endings) (get_or p.blocks k new_status_block).value
+    × TellsMark made.state (last_end pid (k + 1) made.endings) (get_or p.blocks k new_status_block).status
+told s made returning pid k p is within =
+    let blocks : status_blocks_of made.state.processes pid ≡ p.blocks = blocks_are made.state.processes pid p is in
+    let there : k < length (status_blocks_of returning.base pid) =
+    subst (λ (n : ℕ). k < n) (returning.blocks.many pid) (subst (λ (all : List Block). k < length all) (sym blocks) within) in
+    let by = returning.blocks.each pid k there in
+    subst (λ (all : List Block). TellsValue made.state (last_return pid (k + 1) made.endings) (get_or all k new_status_block).value
+    × TellsMark made.state (last_end pid (k + 1) made.endings) (get_or all k new_status_block).status) blocks (
+      tells_value made.state (last_return pid (k + 1) made.endings) _ _ by.value,
+      tells_mark made.state (last_end pid (k + 1) made.endings) _ _ by.status,
+    )
+
+-- after every run
+pub returned_always : (history : History) (old : State) → Run history old → (step : Step) (choice : Option Row) → IsChoice old step choice → GrantsReturnValues old step choice
+returned_always history old run step choice chosen =
+    let all = of_refusal (step_refusal old step) refl in
+    record {
+      acts = All-from_recursion (Acts old) (stepped old step choice).endings all.acts;
+      values = λ pid k p is within. (told old (stepped old step choice) all pid k p is within).0;
+      marks = λ pid k p is within. (told old (stepped old step choice) all pid k p is within).1;
+    }
+  where
+    of_refusal : (refusal : Option Cond) → step_refusal old step ≡ refusal → IsReturning old (refused_or refusal old (step_change old step choice))
+    of_refusal None passed = returning history old run step choice passed
+    of_refusal (Some refusal) is =
+        record { acts = tt; base = old.processes; blocks = none_returned (IsItsValue old) old.processes }

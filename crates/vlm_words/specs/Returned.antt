@@ -1,0 +1,94 @@
+-- What grants do with value blocks, and what they return.
+use Rattle.std.specs.Prelude.{◌≡◌, ◌<◌, ◌+◌, ◌&&◌, ◌⊎◌, ◌++◌, ℕ, Bool, true, false, List, [], ◌∷◌, length, slice_index_or, nat_le, All, Any, Option, None, Some, ⊤, if◌then◌else◌}
+use Rattle.vlm_words.specs.declared.conditions.Cond.TheVariants.{Normal, Valnotvalid}
+use Rattle.vlm_words.specs.declared.locks.Request.{Request}
+use Rattle.vlm_words.specs.declared.locks.Row.{Row}
+use Rattle.vlm_words.specs.declared.modes.Act.TheVariants.{Nothing, Return, Write}
+use Rattle.vlm_words.specs.declared.modes.Act.{Act}
+use Rattle.vlm_words.specs.declared.modes.Mode.TheVariants.{Pw, Ex}
+use Rattle.vlm_words.specs.declared.modes.Mode.{Mode}
+use Rattle.vlm_words.specs.declared.resources.ValueBlock.{ValueBlock}
+use Rattle.vlm_words.specs.declared.steps.Step.{Step}
+use Rattle.vlm_words.specs.Conditions.{condition_number}
+use Rattle.vlm_words.specs.Modes.{rank}
+use Rattle.vlm_words.specs.Flags.{flag_bits, has_flag, valblk}
+use Rattle.vlm_words.specs.State.{Process, Resource, State, process_of}
+use Rattle.vlm_words.specs.Endings.{Ending, How}
+use Rattle.vlm_words.specs.Endings.How.{by_grant}
+use Rattle.vlm_words.specs.Laws.{IsGrant}
+use Rattle.vlm_words.specs.Written.{blank_block, is_end_for, last_end, later_end}
+use Rattle.vlm_words.specs.Stepped.{stepped}
+
+-- what a conversion with VALBLK does with the value block: from PW to another mode than EX, and from EX, it writes it;
+-- else it returns it where the mode that is wanted is no weaker than the one held
+abbrev pub conversion_act : Mode → Mode → Act
+conversion_act Pw Ex = Return
+conversion_act Pw want = Write
+conversion_act Ex want = Write
+conversion_act held want = if nat_le (rank held) (rank want) then Return else Nothing
+
+-- what the grant of a request does with the value block, by what its lock held: without VALBLK nothing; a new
+-- request returns it
+abbrev pub act_asked_for : Option Request → Request → Act
+act_asked_for None request = if has_flag (flag_bits request.flags) valblk then Return else Nothing
+act_asked_for (Some held) request =
+    if has_flag (flag_bits request.flags) valblk then conversion_act held.mode request.mode else Nothing
+
+-- the lock held this before the step; one that the step makes held nothing
+abbrev pub HeldBefore : State → ℕ → Option Request → Type 0
+HeldBefore s lkid held =
+    ((lkid ≡ s.next_lkid) × (held ≡ None))
+    ⊎ Any (λ r. Any (λ row. (row.lkid ≡ lkid) × (row.held ≡ held)) (r.granted ++ r.converting ++ r.waiting)) s.resources
+
+-- the grant does with the value block what is asked for, by what its lock held before the step
+pub record ActsAsAskedFor (s : State) (ending : Ending) : Type 0 where
+  pub held : Option Request
+  pub before : HeldBefore s ending.lkid held
+  pub acts : ending.how ≡ by_grant (act_asked_for held ending.request)
+
+-- the grant returns the value block
+abbrev pub is_return : How → Bool
+is_return (by_grant Return) = true
+is_return how = false
+
+-- the last of the grants that return a value block to the status block
+abbrev pub last_return : ℕ → ℕ → List Ending → Option Ending
+last_return pid number [] = None
+last_return pid number (ending ∷ endings) =
+    later_end (last_return pid number endings)
+    (if is_end_for pid number ending && is_return ending.how then Some ending else None)
+
+-- the lock of the request that was granted is granted on the resource, and holds it
+abbrev pub HoldsGranted : Ending → Resource → Type 0
+HoldsGranted ending r =
+    Any (λ row. (row.lkid ≡ ending.lkid) × (row.pid ≡ ending.pid) × (row.held ≡ Some ending.request)) r.granted
+
+-- the value block of the resource on which the granted lock stands
+abbrev pub IsItsValue : State → Ending → ValueBlock → Type 0
+IsItsValue s ending block = Any (λ r. HoldsGranted ending r × (block ≡ r.value_block)) s.resources
+
+-- the value part is that of the value block that is returned last, if one is
+abbrev pub TellsValue : State → Option Ending → List ℕ → Type 0
+TellsValue s None value = ⊤
+TellsValue s (Some ending) value = (block : ValueBlock) × IsItsValue s ending block × (value ≡ block.value)
+
+-- where the last end returns the value block, the status is NORMAL if it is valid, and VALNOTVALID if it is not
+abbrev pub TellsMark : State → Option Ending → ℕ → Type 0
+TellsMark s None status = ⊤
+TellsMark s (Some ending) status = ending.how ≡ by_grant Return
+    → (block : ValueBlock) × IsItsValue s ending block
+    × (status ≡ condition_number (if block.valid then Normal else Valnotvalid))
+
+-- each grant does with the value block what is asked for; and what is returned to a status block is the value block as
+-- it stands after the step
+pub record GrantsReturnValues (old : State) (step : Step) (choice : Option Row) : Type 0 where
+  pub acts :
+      All (λ ending. IsGrant ending.how → ActsAsAskedFor old ending) (stepped old step choice).endings
+  pub values : (pid k : ℕ) (p : Process) → process_of (stepped old step choice).state.processes pid ≡ Some p
+      → k < length p.blocks
+      → TellsValue (stepped old step choice).state (last_return pid (k + 1) (stepped old step choice).endings)
+      (slice_index_or p.blocks k blank_block).value
+  pub marks : (pid k : ℕ) (p : Process) → process_of (stepped old step choice).state.processes pid ≡ Some p
+      → k < length p.blocks
+      → TellsMark (stepped old step choice).state (last_end pid (k + 1) (stepped old step choice).endings)
+      (slice_index_or p.blocks k blank_block).status
