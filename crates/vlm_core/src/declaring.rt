@@ -83,7 +83,8 @@ impl Machine {
         let pid = self.next_pid(declaration.node);
         let place = usize::from(declaration.node) - 1;
         let node = self.nodes[place].counted();
-        self.store.add_process(pid, declaration)?;
+        let blocks = self.store.new_status_blocks(declaration.blocks)?;
+        self.store.add_process(pid, declaration, blocks)?;
         self.nodes[place] = node;
         Ok(pid)
     }

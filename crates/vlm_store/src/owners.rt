@@ -1,9 +1,10 @@
 //! The processes of the store, and the locks of each.
 
-ghost use Rattle.std.specs.Prelude.{◌≡◌, ℕ, [], ◌∷◌, ◌++◌, length, IfOk, IfSome, OnErr, OnOk};
+ghost use Rattle.std.specs.Prelude.{◌≡◌, ℕ, [], ◌∷◌, ◌++◌, length, replicate, IfOk, IfSome, IsOk, OnErr, OnOk};
 ghost use Rattle.std.specs.Bool.{OnFalse, OnTrue};
-ghost use Rattle.vlm_words.specs.StatusBlocks.{process_with_block};
-ghost use Rattle.vlm_store.specs.Records.{FindsProcess, HasNoLocks, HasNoSublocks, HasProcess, IsGivenBack, IsNewProcess, IsProcess, IsStored, IsTaken, IsUnchanged, authorization_of, new_stored_process, on_process, own_at, owned_by, process_at, with_process_room, without_process};
+ghost use Rattle.vlm_words.specs.Declare.{new_process};
+ghost use Rattle.vlm_words.specs.StatusBlocks.{new_status_block, process_with_block};
+ghost use Rattle.vlm_store.specs.Records.{FindsProcess, HasNoLocks, HasNoSublocks, HasProcess, HasRoomForProcess, IsGivenBack, IsNewProcess, IsProcess, IsStored, IsTaken, IsUnchanged, authorization_of, new_stored_process, on_process, own_at, owned_by, process_at, with_process_room, without_process};
 
 use crate::growth::reserve_one;
 use crate::keys::{LockAt, ProcAt};
@@ -22,20 +23,34 @@ impl Store {
         self.process_index.get(&pid).copied()
     }
 
-    /// Adds a process with new status blocks and without locks, the last in order of making. Where memory
+    /// So many new status blocks, for a process that is to be added.
+    pub fn new_status_blocks(&self, count: u8) -> Result<Vec<Block>, AllocError>
+        ensures { IfOk result (λ blocks. blocks.items ≡ replicate count new_status_block) }
+    {
+        vec![in self.alloc; Block::new(); usize::from(count)]
+    }
+
+    /// Adds a process with these new status blocks and without locks, the last in order of making. Where memory
     /// is refused, or no key is left, nothing is changed but that there may be more room.
-    pub fn add_process(&mut self, pid: u32, declaration: &Declaration) -> Result<ProcAt, AllocError>
-        requires { IsNewProcess pid self.old }
+    pub fn add_process(
+        &mut self,
+        pid: u32,
+        declaration: &Declaration,
+        blocks: Vec<Block>,
+    ) -> Result<ProcAt, AllocError>
+        requires new { IsNewProcess pid self.old }
+        requires blocks { blocks.items ≡ (new_process pid declaration.now).blocks }
         ensures added { IfOk result (λ at. self.new
             ≡ with_process_room self.new.room.processes (record self.old {
               processes = self.old.processes ++ new_stored_process at pid declaration.now ∷ [];
             })) }
         ensures fresh { IfOk result (λ at. ¬ HasProcess at self.old) }
         ensures taken { OnOk result (IsTaken self.old.room.processes self.new.room.processes) }
+        ensures succeeds { HasRoomForProcess self.old → IsOk result }
         ensures err { OnErr result (IsUnchanged self.old self.new) }
     {
-        let process = Process::new(self.alloc, pid, declaration)?;
         reserve_one(&mut self.processes, &mut self.process_index)?;
+        let process = Process::new(pid, declaration, blocks);
         let at = ProcAt::of(enter(&mut self.processes, &mut self.process_order, process));
         let _ = self.process_index.insert(pid, at);
         Ok(at)

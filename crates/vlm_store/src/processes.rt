@@ -1,6 +1,6 @@
 //! The record of a process.
 
-ghost use Rattle.std.specs.Prelude.{◌≡◌, ◌≢◌, ◌≤◌, ◌+◌, ℕ, None, Some, [], ◌∷◌, ◌++◌, IfOk, refl};
+ghost use Rattle.std.specs.Prelude.{◌≡◌, ◌≢◌, ◌≤◌, ◌+◌, ℕ, None, Some, [], ◌∷◌, ◌++◌, refl};
 ghost use Rattle.std.specs.Option.{option_map};
 ghost use Rattle.slab.specs.Slab.{get, HasRoomFor};
 ghost use Rattle.vlm_links.specs.Lists.{IsIn, IsLinked, IsNoList, keys_of, without};
@@ -12,7 +12,6 @@ ghost use Rattle.vlm_store.specs.Shown.{room_in};
 use crate::locks::OfProcess;
 use crate::resources::InOrder;
 use slab::Slab;
-use std::alloc::{AllocError, Global};
 use vlm_links::{LAST_KEY, Linked, LinkedList, Links};
 use vlm_words::blocks::Block;
 use vlm_words::steps::Declaration;
@@ -42,26 +41,23 @@ pub struct Process {
 }
 
 impl Process {
-    /// The process that a declaration makes, with new status blocks and without locks.
-    pub(crate) fn new(
-        alloc: Global,
-        pid: u32,
-        declaration: &Declaration,
-    ) -> Result<Self, AllocError>
-        ensures plain { IfOk result (λ p. plain_process p ≡ new_process pid declaration.now) }
-        ensures own { IfOk result (λ p. IsNoList p.own) }
+    /// The process that a declaration makes, with these new status blocks and without locks.
+    pub(crate) fn new(pid: u32, declaration: &Declaration, blocks: Vec<Block>) -> Self
+        requires { blocks.items ≡ (new_process pid declaration.now).blocks }
+        ensures plain { plain_process result ≡ new_process pid declaration.now }
+        ensures own { IsNoList result.own }
     {
-        Ok(Process {
+        Process {
             pid,
             authorization: Authorization {
                 group: declaration.group,
                 quota: declaration.quota,
                 syslck: declaration.syslck,
             },
-            blocks: vec![in alloc; Block::new(); usize::from(declaration.blocks)]?,
+            blocks,
             own: LinkedList::new(),
             in_order: Links::none(),
-        })
+        }
     }
 
     /// Puts a status block in the place of the one with this number, if it is there. Number 0 is taken

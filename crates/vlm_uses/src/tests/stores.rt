@@ -44,7 +44,8 @@ pub fn declare(store: &mut Store, pid: u32, declaration: &Declaration) -> Result
     match store.process(pid) {
         Some(_) => Ok(()),
         None => {
-            store.add_process(pid, declaration)?;
+            let blocks = store.new_status_blocks(declaration.blocks)?;
+            store.add_process(pid, declaration, blocks)?;
             Ok(())
         }
     }

@@ -1,5 +1,5 @@
 use Rattle.vlm_store.specs.Store.{tables, records_of}
-use Rattle.vlm_store.proofs.RoomShown.{room_shown, is_taken, process_room_made}
+use Rattle.vlm_store.proofs.RoomShown.{has_room, shown_room, room_shown, is_taken, process_room_made}
 use Rattle.std.proofs.Common.{◌≡◌, ◌≢◌, ◌∙◌, ◌++◌, ◌∷◌, ℕ, List, [], map, None, Some, IsSome, ap, sym, refl, arith, nat_eq}
 use Rattle.std.specs.Cmp.{unsigned_Decides}
 use Rattle.std.specs.Map.{lookup}
@@ -15,7 +15,7 @@ use Rattle.vlm_store.specs.declared.locks.Lock.{Lock}
 use Rattle.vlm_store.specs.declared.processes.Process.{Process}
 use Rattle.vlm_store.specs.Holdings.{but_order, holding, own_in, own_links, own_of, pid_at, pid_of, process_links, process_of}
 use Rattle.vlm_store.specs.Kept.{beside_shown}
-use Rattle.vlm_store.specs.Records.{StoredProcess, new_stored_process, IsTaken}
+use Rattle.vlm_store.specs.Records.{HasRoom, StoredProcess, new_stored_process, IsTaken}
 use Rattle.vlm_store.proofs.Declaring.{names_stay, owner_is_there, owns_stay, own_by_order, pid_by_order, plain_by_order, process_own_keys, process_owned, roomier}
 use Rattle.vlm_store.proofs.Indexing.{Indexes-added, Indexes-same}
 use Rattle.vlm_store.proofs.Kept.{on_ok, on_err}
@@ -43,19 +43,19 @@ invariant_of-self-2 c =
     let new = c.enter.new.processes in
     let at = c.enter.result in
     let entered = c.enter.ensures in
-    let process = c.in_ok-process.process in
+    let process = c.new-process.result in
     let same : (p : ℕ) → get roomy p ≡ get s.processes p = λ p. ap (λ x. get x p) c.reserve_one.ensures.records in
     let others : (p : ℕ) → p ≢ at → option_map but_order (get new p) ≡ option_map but_order (get s.processes p) = λ p differs. entered.others p differs ∙ ap (option_map but_order) (same p) in
     let vacant : get s.processes at ≡ None = sym (same at) ∙ entered.fresh in
     let before = ap own_in vacant in
-    let after = own_by_order (get new at) (Some process) entered.here ∙ no_list_is process.own c.in_ok-process.ensures.own in
+    let after = own_by_order (get new at) (Some process) entered.here ∙ no_list_is process.own c.new-process.ensures.own in
     let apart : (k : ℕ) (l : Lock) → get s.queues.locks k ≡ Some l → l.owner ≢ at =
     λ k l here is. let nothing : IsSome {T = Process} None = rw (ap (get s.processes) is ∙ vacant) at (owner_is_there s.processes s.queues.locks kept.named k l here) in absurd (cc) in
     let keys1 = same-keys process_links s.processes roomy s.process_order kept.processes_linked (λ p _. same p) in
     let indexes1 = Indexes-same (found nat_eq s.process_index) (found nat_eq c.reserve_one.new.index) (pid_at s.processes) (pid_at roomy) (λ k. ap (λ es. lookup (nat_eq k) es) c.reserve_one.ensures.index)
     (λ p. ap (option_map pid_of) (same p)) kept.processes in
     let fresh : found nat_eq c.reserve_one.new.index c.args.pid ≡ None =
-    ap (λ es. lookup (nat_eq c.args.pid) es) c.reserve_one.ensures.index ∙ no_process_found s kept c.args.pid (rw (← c.self.view_is) at c.requires) in
+    ap (λ es. lookup (nat_eq c.args.pid) es) c.reserve_one.ensures.index ∙ no_process_found s kept c.args.pid (rw (← c.self.view_is) at c.requires.new) in
     record {
       placed = kept.placed;
       tallied = kept.tallied;
@@ -71,7 +71,7 @@ invariant_of-self-2 c =
           (λ p differs. there_by_part but_order (get roomy p) (get new p) (sym (entered.others p differs)));
       processes = Indexes-added nat_eq unsigned_Decides c.reserve_one.new.index c.insert.new.self c.args.pid (pid_at roomy) (pid_at new) at
           (rw c.of-at.ensures at (on_ok c.insert.result _ (c.insert.ensures.succeeds (omega (arith, c.in_ok-reserve_one.ensures.find))) c.insert.ensures.updates))
-          (ap (option_map pid_of) entered.fresh) (pid_by_order (get new at) (Some process) entered.here ∙ ap (λ (p : PlainProcess). Some p.pid) c.in_ok-process.ensures.plain)
+          (ap (option_map pid_of) entered.fresh) (pid_by_order (get new at) (Some process) entered.here ∙ ap (λ (p : PlainProcess). Some p.pid) c.new-process.ensures.plain)
           (λ p differs. pid_by_order (get new p) (get roomy p) (entered.others p differs)) fresh indexes1;
     }
 
@@ -83,17 +83,17 @@ returns-clause-added c =
     let new = c.enter.new.processes in
     let at = c.enter.result in
     let entered = c.enter.ensures in
-    let process = c.in_ok-process.process in
+    let process = c.new-process.result in
     let same : (p : ℕ) → get c.reserve_one.new.records p ≡ get s.processes p = λ p. ap (λ x. get x p) c.reserve_one.ensures.records in
     let others : (p : ℕ) → p ≢ at → option_map but_order (get new p) ≡ option_map but_order (get s.processes p) = λ p differs. entered.others p differs ∙ ap (option_map but_order) (same p) in
     let vacant : get s.processes at ≡ None = sym (same at) ∙ entered.fresh in
-    let after = own_by_order (get new at) (Some process) entered.here ∙ no_list_is process.own c.in_ok-process.ensures.own in
+    let after = own_by_order (get new at) (Some process) entered.here ∙ no_list_is process.own c.new-process.ensures.own in
     let owns = owns_stay s.processes new at others (ap own_in vacant) after in
     let keys1 = same-keys process_links s.processes c.reserve_one.new.records s.process_order kept.processes_linked (λ p _. same p) in
     let h = holding s.processes s.queues.locks s.process_order in
     let h' = holding new s.queues.locks c.enter.new.order in
     let made : process_of h' at ≡ new_stored_process at c.args.pid c.args.declaration.now =
-    ap (λ x. record { at = at; process = x; own = map (own_of h') (h'.own at) }) (plain_by_order (get new at) (Some process) entered.here ∙ c.in_ok-process.ensures.plain)
+    ap (λ x. record { at = at; process = x; own = map (own_of h') (h'.own at) }) (plain_by_order (get new at) (Some process) entered.here ∙ c.new-process.ensures.plain)
     ∙ ap (λ l. record { at = at; process = new_process c.args.pid c.args.declaration.now; own = map (own_of h') (keys_of own_links s.queues.locks l) }) after in
     rw (← c.self.view_is, c.of-at.ensures)
     (processes_changed s.queues s.order (beside_shown s) (beside_shown (record s { processes = new; process_order = c.enter.new.order; process_index = c.insert.new.self })) (λ (ps : List StoredProcess). ps ++ new_stored_process at c.args.pid c.args.declaration.now ∷ [])
@@ -121,4 +121,12 @@ returns-clause-taken c =
 pub returns-in_err-reserve_one-clause-err : goal.returns-in_err-reserve_one-clause-err
 returns-in_err-reserve_one-clause-err c =
     rw (← c.self.view_is)
-    (on_err c.from_residual-in_err-reserve_one.result _ (process_room_made c.self.inside c.reserve_one.new.records (spare c.reserve_one.new.index) c.reserve_one.ensures.records c.reserve_one.ensures.capacity c.reserve_one.ensures.finds))
+    (on_err c.from_residual.result _ (process_room_made c.self.inside c.reserve_one.new.records (spare c.reserve_one.new.index) c.reserve_one.ensures.records c.reserve_one.ensures.capacity c.reserve_one.ensures.finds))
+
+-- where there is room none is refused
+pub returns-in_err-reserve_one-clause-succeeds : goal.returns-in_err-reserve_one-clause-succeeds
+returns-in_err-reserve_one-clause-succeeds c has =
+    let s = c.self.inside in
+    let room = has_room s.processes (spare s.process_index) (shown_room (λ r. HasRoom r.processes) (tables s.queues s.order (beside_shown s)) (rw (← c.self.view_is) at has)) in
+    let never = c.in_err-reserve_one.ensures.succeeds room.0 room.1 room.2 in
+    cc
