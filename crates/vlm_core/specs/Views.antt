@@ -7,7 +7,7 @@ use Rattle.vlm_words.specs.declared.resources.Queue.TheVariants.{Granted, Conver
 use Rattle.vlm_words.specs.State.{Resource}
 use Rattle.vlm_store.specs.declared.keys.Place.TheVariants.{Queued}
 use Rattle.vlm_store.specs.Records.{IsAmong, Records, StoredLock, StoredResource, at_after, first_at, locks_at}
-use Rattle.vlm_words.specs.Texts.{mode_asked}
+use Rattle.vlm_words.specs.Rows.{mode_asked}
 use Rattle.vlm_core.specs.declared.views.ResourceView.{ResourceView}
 use Rattle.vlm_core.specs.declared.views.RowView.{RowView}
 

@@ -8,9 +8,9 @@ use Rattle.hex.specs.Hex.{decode_pairs, decode_sized, value_at, ◌>>=◌}
 use Rattle.hex.specs.declared.error.FromHexError.{FromHexError}
 use Rattle.hex.specs.declared.error.FromHexError.TheVariants.{InvalidHexCharacter}
 use Rattle.hex.proofs.HexLemmas.{decode_of-even, decode_sized-ok, decode_sized-twice}
-use Rattle.vlm_words.specs.declared.scripts.LineFault.{LineFault}
-use Rattle.vlm_words.specs.declared.scripts.LineFault.TheVariants.{WrongWord}
-use Rattle.vlm_words.specs.Lines.{digit_value, hex_value, value_of}
+use Rattle.vlm_lines.specs.declared.faults.LineFault.{LineFault}
+use Rattle.vlm_lines.specs.declared.faults.LineFault.TheVariants.{WrongWord}
+use Rattle.vlm_lines.specs.Lines.{digit_value, hex_value, value_of}
 
 -- what the crate refuses is a wrong word
 abbrev pub as_read : Result (List ℕ) FromHexError → Result (List ℕ) LineFault

@@ -1,7 +1,7 @@
 -- Words by their lengths.
 use Rattle.std.proofs.Common.{◌≡◌, ℕ, ◌==◌, false, List, [], ◌∷◌, length, suc, refl, arith}
 use Rattle.std.proofs.lemmas.Bool.Decides.{nat_tests}
-use Rattle.vlm_words.specs.Lines.{is_nothing}
+use Rattle.vlm_lines.specs.Lines.{is_nothing}
 
 suc_apart : (n : ℕ) → false ≡ (suc n == 0)
 suc_apart n = grind (arith, nat_tests)

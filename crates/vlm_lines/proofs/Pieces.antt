@@ -5,7 +5,7 @@ use Rattle.std.proofs.lemmas.List.Sums.{prefix_len-le-length, passes_at_first}
 use Rattle.std.proofs.lemmas.List.{nil_from_length, get_or-drop}
 use Rattle.std.proofs.lemmas.Bool.{false≢true}
 use Rattle.std.specs.List.{position_or_len, filter}
-use Rattle.vlm_words.specs.Lines.{pieces, onto, words_of, is_blank, is_nothing}
+use Rattle.vlm_lines.specs.Lines.{pieces, onto, words_of, is_blank, is_nothing}
 
 -- what a byte in front does to the first piece
 put_front : (ends : ℕ → Bool) (byte n : ℕ) (bytes : List ℕ) (b : Bool) → pieces ends bytes ≡ take n bytes ∷ pieces ends (drop (suc n) bytes)

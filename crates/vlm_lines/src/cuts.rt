@@ -2,7 +2,7 @@
 
 ghost use Rattle.std.specs.Prelude.{◌≡◌, ◌<◌, ◌≤◌, ◌+◌, [], ◌∷◌, not, length, take, drop, IfSome, MatchOption};
 ghost use Rattle.std.specs.List.{position_or_len};
-ghost use Rattle.vlm_words.specs.Lines.{words_of, is_blank};
+ghost use Rattle.vlm_lines.specs.Lines.{words_of, is_blank};
 
 /// The first word, and the bytes behind it.
 pub(crate) fn next_word(bytes: &[u8]) -> Option<(&[u8], &[u8])>

@@ -1,15 +1,15 @@
 //! Words that stand for flags.
 
 ghost use Rattle.std.specs.Prelude.{◌≡◌};
-ghost use Rattle.vlm_words.specs.Lines.{deq_flag, enq_flag, flag_once};
+ghost use Rattle.vlm_lines.specs.Lines.{deq_flag, enq_flag, flag_once};
 
+use crate::faults::LineFault;
 use crate::words::is_text;
 use bitflags::Flags;
 use vlm_words::flags::{DeqFlags, EnqFlags};
-use vlm_words::scripts::LineFault;
 
 /// The flag that a word of an enq or cvt line stands for.
-#[tactic(auto, unfolding(vlm_words::specs::Lines::enq_flag))]
+#[tactic(auto, unfolding(crate::specs::Lines::enq_flag))]
 pub(crate) fn enq_flag(word: &[u8]) -> Option<u16>
     ensures { result ≡ enq_flag word.now }
 {
@@ -31,7 +31,7 @@ pub(crate) fn enq_flag(word: &[u8]) -> Option<u16>
 }
 
 /// The flag that a word of a deq line stands for.
-#[tactic(auto, unfolding(vlm_words::specs::Lines::deq_flag))]
+#[tactic(auto, unfolding(crate::specs::Lines::deq_flag))]
 pub(crate) fn deq_flag(word: &[u8]) -> Option<u16>
     ensures { result ≡ deq_flag word.now }
 {
@@ -45,7 +45,7 @@ pub(crate) fn deq_flag(word: &[u8]) -> Option<u16>
 }
 
 /// The flag joins those before it. It is given once, and another word is wrong.
-#[tactic(auto, unfolding(vlm_words::specs::Lines::flag_once, vlm_words::specs::Flags::has_flag))]
+#[tactic(auto, unfolding(crate::specs::Lines::flag_once, vlm_words::specs::Flags::has_flag))]
 pub(crate) fn flag_once(flags: u16, flag: Option<u16>) -> Result<u16, LineFault>
     ensures { result ≡ flag_once flags flag }
 {

@@ -1,248 +1,237 @@
 //! The keyed words and flags behind the places of a line.
 
 ghost use Rattle.std.specs.Prelude.{◌≡◌};
-ghost use Rattle.vlm_words.specs.Lines.{number_once, resource_once, value_once, lock_once, declare_word, declare_words, no_declare_words, enq_word, enq_words, no_enq_words, cvt_word, cvt_words, no_cvt_words, deq_word, deq_words, no_deq_words, set_word, set_words, no_set_words, words_of};
+ghost use Rattle.vlm_lines.specs.Lines.{all_words, cvt_word, declare_word, deq_word, enq_word, no_cvt_words, no_declare_words, no_enq_words, no_set_words, once, set_word, words_of};
 
 use crate::cuts::next_word;
+use crate::faults::LineFault;
 use crate::flags::{deq_flag, enq_flag, flag_once};
+use crate::locks::lock;
+use crate::numbers::{byte, short};
 use crate::values::value_of;
-use crate::words::{behind_key, is_text};
-use crate::{locks, numbers};
+use crate::words::{behind_key, is_text, resource_name};
 use vlm_words::names::NameArg;
-use vlm_words::scripts::{CvtWords, DeclareWords, DeqWords, EnqWords, LineFault, SetWords};
-use vlm_words::steps::Which;
+use vlm_words::steps::{Dequeue, Which};
 
-/// The keyed words of a declare line, in any order.
-pub(crate) fn declare_words(line: &[u8]) -> Result<DeclareWords, LineFault>
-    ensures { result ≡ declare_words no_declare_words (words_of line.now) }
-{
-    let mut words = DeclareWords {
-        node: None,
-        group: None,
-        quota: None,
-        blocks: None,
-        syslck: false,
-    };
-    let mut rest = line;
-    while let Some((word, after)) = next_word(rest) {
-        words = declare_word(words, word)?;
-        rest = after;
-    }
-    Ok(words)
-}
+/// What keyed words and flags have given so far. They may stand in any order, each once.
+pub(crate) trait Keyed: Copy {
+    ghost use Rattle.std.specs.Prelude.{ℕ, List, Result};
+    ghost use Rattle.vlm_lines.specs.declared.faults.LineFault.{LineFault};
 
-/// One more keyed word of a declare line.
-#[tactic(auto, unfolding(vlm_words::specs::Lines::declare_word))]
-fn declare_word(words: DeclareWords, word: &[u8]) -> Result<DeclareWords, LineFault>
-    ensures { result ≡ declare_word words word.now }
-{
-    if let Some(digits) = behind_key(b"node=", word) {
-        let node = byte_once(words.node, digits)?;
-        Ok(DeclareWords { node, ..words })
-    } else if let Some(digits) = behind_key(b"group=", word) {
-        let group = short_once(words.group, digits)?;
-        Ok(DeclareWords { group, ..words })
-    } else if let Some(digits) = behind_key(b"quota=", word) {
-        let quota = short_once(words.quota, digits)?;
-        Ok(DeclareWords { quota, ..words })
-    } else if let Some(digits) = behind_key(b"blocks=", word) {
-        let blocks = byte_once(words.blocks, digits)?;
-        Ok(DeclareWords { blocks, ..words })
-    } else if is_text(word, b"syslck") && !words.syslck {
-        Ok(DeclareWords {
-            syslck: true,
-            ..words
-        })
-    } else {
-        Err(LineFault::WrongWord)
+    ghost with_word: { Self → List ℕ → Result Self LineFault };
+
+    /// With what one more word gives.
+    fn with_word(self, word: &[u8]) -> Result<Self, LineFault>
+        ensures { result ≡ with_word self word.now };
+
+    /// With what each word gives.
+    final fn with_words(self, words: &[u8]) -> Result<Self, LineFault>
+        ensures { result ≡ all_words with_word self (words_of words.now) }
+    {
+        let mut given = self;
+        let mut rest = words;
+        while let Some((word, after)) = next_word(rest) {
+            given = given.with_word(word)?;
+            rest = after;
+        }
+        Ok(given)
     }
 }
 
-/// The keyed words and flags of an enq line, in any order.
-pub(crate) fn enq_words(line: &[u8]) -> Result<EnqWords, LineFault>
-    ensures { result ≡ enq_words no_enq_words (words_of line.now) }
-{
-    let mut words = EnqWords {
-        resource: None,
-        block: None,
-        parent: None,
-        flags: 0,
-    };
-    let mut rest = line;
-    while let Some((word, after)) = next_word(rest) {
-        words = enq_word(words, word)?;
-        rest = after;
-    }
-    Ok(words)
+/// The keyed words of a declare line.
+#[derive(Clone, Copy)]
+pub(crate) struct DeclareWords {
+    // 0 to 255
+    pub(crate) node: Option<u8>,
+    pub(crate) group: Option<u16>,
+    pub(crate) quota: Option<u16>,
+    pub(crate) blocks: Option<u8>,
+    pub(crate) syslck: bool,
 }
 
-/// One more keyed word or flag of an enq line.
-#[tactic(auto, unfolding(vlm_words::specs::Lines::enq_word))]
-fn enq_word(words: EnqWords, word: &[u8]) -> Result<EnqWords, LineFault>
-    ensures { result ≡ enq_word words word.now }
-{
-    if let Some(name) = behind_key(b"name=", word) {
-        let resource = resource_once(words.resource, name)?;
-        Ok(EnqWords { resource, ..words })
-    } else if let Some(digits) = behind_key(b"block=", word) {
-        let block = byte_once(words.block, digits)?;
-        Ok(EnqWords { block, ..words })
-    } else if let Some(lock) = behind_key(b"parent=", word) {
-        let parent = lock_once(words.parent, lock)?;
-        Ok(EnqWords { parent, ..words })
-    } else {
-        let flags = flag_once(words.flags, enq_flag(word))?;
-        Ok(EnqWords { flags, ..words })
+impl DeclareWords {
+    pub(crate) fn new() -> Self
+        ensures { result ≡ no_declare_words }
+    {
+        DeclareWords {
+            node: None,
+            group: None,
+            quota: None,
+            blocks: None,
+            syslck: false,
+        }
     }
 }
 
-/// The keyed words and flags of a cvt line, in any order.
-pub(crate) fn cvt_words(line: &[u8]) -> Result<CvtWords, LineFault>
-    ensures { result ≡ cvt_words no_cvt_words (words_of line.now) }
-{
-    let mut words = CvtWords {
-        block: None,
-        flags: 0,
-    };
-    let mut rest = line;
-    while let Some((word, after)) = next_word(rest) {
-        words = cvt_word(words, word)?;
-        rest = after;
-    }
-    Ok(words)
-}
+impl Keyed for DeclareWords {
+    ghost with_word = { declare_word };
 
-/// One more keyed word or flag of a cvt line.
-#[tactic(auto, unfolding(vlm_words::specs::Lines::cvt_word))]
-fn cvt_word(words: CvtWords, word: &[u8]) -> Result<CvtWords, LineFault>
-    ensures { result ≡ cvt_word words word.now }
-{
-    if let Some(digits) = behind_key(b"block=", word) {
-        let block = byte_once(words.block, digits)?;
-        Ok(CvtWords { block, ..words })
-    } else {
-        let flags = flag_once(words.flags, enq_flag(word))?;
-        Ok(CvtWords { flags, ..words })
+    #[tactic(auto, unfolding(crate::specs::Lines::declare_word))]
+    fn with_word(self, word: &[u8]) -> Result<Self, LineFault> {
+        if let Some(digits) = behind_key(b"node=", word) {
+            let node = once(self.node, byte(digits))?;
+            Ok(DeclareWords { node, ..self })
+        } else if let Some(digits) = behind_key(b"group=", word) {
+            let group = once(self.group, short(digits))?;
+            Ok(DeclareWords { group, ..self })
+        } else if let Some(digits) = behind_key(b"quota=", word) {
+            let quota = once(self.quota, short(digits))?;
+            Ok(DeclareWords { quota, ..self })
+        } else if let Some(digits) = behind_key(b"blocks=", word) {
+            let blocks = once(self.blocks, byte(digits))?;
+            Ok(DeclareWords { blocks, ..self })
+        } else if is_text(word, b"syslck") && !self.syslck {
+            Ok(DeclareWords {
+                syslck: true,
+                ..self
+            })
+        } else {
+            Err(LineFault::WrongWord)
+        }
     }
 }
 
-/// The keyed words and flags of a deq line, in any order.
-pub(crate) fn deq_words(line: &[u8]) -> Result<DeqWords, LineFault>
-    ensures { result ≡ deq_words no_deq_words (words_of line.now) }
-{
-    let mut words = DeqWords {
-        value: None,
-        flags: 0,
-    };
-    let mut rest = line;
-    while let Some((word, after)) = next_word(rest) {
-        words = deq_word(words, word)?;
-        rest = after;
-    }
-    Ok(words)
+/// The keyed words and flags of an enq line.
+#[derive(Clone, Copy)]
+pub(crate) struct EnqWords {
+    // the name of the resource, not checked yet
+    pub(crate) resource: Option<NameArg>,
+    // the number of the status block
+    pub(crate) block: Option<u8>,
+    // the lock of the parent resource
+    pub(crate) parent: Option<Which>,
+    // the bits of the flags
+    pub(crate) flags: u16,
 }
 
-/// One more keyed word or flag of a deq line.
-#[tactic(auto, unfolding(vlm_words::specs::Lines::deq_word))]
-fn deq_word(words: DeqWords, word: &[u8]) -> Result<DeqWords, LineFault>
-    ensures { result ≡ deq_word words word.now }
-{
-    if let Some(digits) = behind_key(b"value=", word) {
-        let value = value_once(words.value, digits)?;
-        Ok(DeqWords { value, ..words })
-    } else {
-        let flags = flag_once(words.flags, deq_flag(word))?;
-        Ok(DeqWords { flags, ..words })
+impl EnqWords {
+    pub(crate) fn new() -> Self
+        ensures { result ≡ no_enq_words }
+    {
+        EnqWords {
+            resource: None,
+            block: None,
+            parent: None,
+            flags: 0,
+        }
     }
 }
 
-/// The keyed words of a set line, in any order.
-pub(crate) fn set_words(line: &[u8]) -> Result<SetWords, LineFault>
-    ensures { result ≡ set_words no_set_words (words_of line.now) }
-{
-    let mut words = SetWords {
-        block: None,
-        value: None,
-    };
-    let mut rest = line;
-    while let Some((word, after)) = next_word(rest) {
-        words = set_word(words, word)?;
-        rest = after;
-    }
-    Ok(words)
-}
+impl Keyed for EnqWords {
+    ghost with_word = { enq_word };
 
-/// One more keyed word of a set line.
-#[tactic(auto, unfolding(vlm_words::specs::Lines::set_word))]
-fn set_word(words: SetWords, word: &[u8]) -> Result<SetWords, LineFault>
-    ensures { result ≡ set_word words word.now }
-{
-    if let Some(digits) = behind_key(b"block=", word) {
-        let block = byte_once(words.block, digits)?;
-        Ok(SetWords { block, ..words })
-    } else if let Some(digits) = behind_key(b"value=", word) {
-        let value = value_once(words.value, digits)?;
-        Ok(SetWords { value, ..words })
-    } else {
-        Err(LineFault::WrongWord)
+    #[tactic(auto, unfolding(crate::specs::Lines::enq_word))]
+    fn with_word(self, word: &[u8]) -> Result<Self, LineFault> {
+        if let Some(name) = behind_key(b"name=", word) {
+            let resource = once(self.resource, resource_name(name))?;
+            Ok(EnqWords { resource, ..self })
+        } else if let Some(digits) = behind_key(b"block=", word) {
+            let block = once(self.block, byte(digits))?;
+            Ok(EnqWords { block, ..self })
+        } else if let Some(named) = behind_key(b"parent=", word) {
+            let parent = once(self.parent, lock(named))?;
+            Ok(EnqWords { parent, ..self })
+        } else {
+            let flags = flag_once(self.flags, enq_flag(word))?;
+            Ok(EnqWords { flags, ..self })
+        }
     }
 }
 
-/// A number of at most 255, which is given once.
-#[tactic(auto, unfolding(vlm_words::specs::Lines::number_once))]
-fn byte_once(earlier: Option<u8>, digits: &[u8]) -> Result<Option<u8>, LineFault>
-    ensures { result ≡ number_once earlier 255 digits.now }
+/// The keyed words and flags of a cvt line.
+#[derive(Clone, Copy)]
+pub(crate) struct CvtWords {
+    // the number of the status block
+    pub(crate) block: Option<u8>,
+    // the bits of the flags
+    pub(crate) flags: u16,
+}
+
+impl CvtWords {
+    pub(crate) fn new() -> Self
+        ensures { result ≡ no_cvt_words }
+    {
+        CvtWords {
+            block: None,
+            flags: 0,
+        }
+    }
+}
+
+impl Keyed for CvtWords {
+    ghost with_word = { cvt_word };
+
+    #[tactic(auto, unfolding(crate::specs::Lines::cvt_word))]
+    fn with_word(self, word: &[u8]) -> Result<Self, LineFault> {
+        if let Some(digits) = behind_key(b"block=", word) {
+            let block = once(self.block, byte(digits))?;
+            Ok(CvtWords { block, ..self })
+        } else {
+            let flags = flag_once(self.flags, enq_flag(word))?;
+            Ok(CvtWords { flags, ..self })
+        }
+    }
+}
+
+// Of a deq line no keyed word is needed: the step is their record.
+impl Keyed for Dequeue {
+    ghost with_word = { deq_word };
+
+    #[tactic(auto, unfolding(crate::specs::Lines::deq_word))]
+    fn with_word(self, word: &[u8]) -> Result<Self, LineFault> {
+        if let Some(digits) = behind_key(b"value=", word) {
+            let value = once(self.value, value_of(digits))?;
+            Ok(Dequeue { value, ..self })
+        } else {
+            let flags = flag_once(self.flags, deq_flag(word))?;
+            Ok(Dequeue { flags, ..self })
+        }
+    }
+}
+
+/// The keyed words of a set line.
+#[derive(Clone, Copy)]
+pub(crate) struct SetWords {
+    // the number of the status block
+    pub(crate) block: Option<u8>,
+    // what its value part is to hold
+    pub(crate) value: Option<[u8; 16]>,
+}
+
+impl SetWords {
+    pub(crate) fn new() -> Self
+        ensures { result ≡ no_set_words }
+    {
+        SetWords {
+            block: None,
+            value: None,
+        }
+    }
+}
+
+impl Keyed for SetWords {
+    ghost with_word = { set_word };
+
+    #[tactic(auto, unfolding(crate::specs::Lines::set_word))]
+    fn with_word(self, word: &[u8]) -> Result<Self, LineFault> {
+        if let Some(digits) = behind_key(b"block=", word) {
+            let block = once(self.block, byte(digits))?;
+            Ok(SetWords { block, ..self })
+        } else if let Some(digits) = behind_key(b"value=", word) {
+            let value = once(self.value, value_of(digits))?;
+            Ok(SetWords { value, ..self })
+        } else {
+            Err(LineFault::WrongWord)
+        }
+    }
+}
+
+// What a word gives where none before it gave it.
+fn once<T: Copy>(earlier: Option<T>, read: Result<T, LineFault>) -> Result<Option<T>, LineFault>
+    ensures { result ≡ once earlier read }
 {
     if earlier.is_some() {
         return Err(LineFault::WrongWord);
     }
-    let value = numbers::byte(digits)?;
-    Ok(Some(value))
-}
-
-/// A number of at most 65535, which is given once.
-#[tactic(auto, unfolding(vlm_words::specs::Lines::number_once))]
-fn short_once(earlier: Option<u16>, digits: &[u8]) -> Result<Option<u16>, LineFault>
-    ensures { result ≡ number_once earlier 65535 digits.now }
-{
-    if earlier.is_some() {
-        return Err(LineFault::WrongWord);
-    }
-    let value = numbers::short(digits)?;
-    Ok(Some(value))
-}
-
-/// A resource's name, which is given once and is not hexadecimal.
-#[tactic(auto, unfolding(vlm_words::specs::Lines::resource_once))]
-fn resource_once(earlier: Option<NameArg>, name: &[u8]) -> Result<Option<NameArg>, LineFault>
-    ensures { result ≡ resource_once earlier name.now }
-{
-    if earlier.is_some() || behind_key(b"x:", name).is_some() {
-        return Err(LineFault::WrongWord);
-    }
-    Ok(Some(NameArg::of(name)))
-}
-
-/// A value block, which is given once.
-#[tactic(auto, unfolding(vlm_words::specs::Lines::value_once))]
-fn value_once(earlier: Option<[u8; 16]>, digits: &[u8]) -> Result<Option<[u8; 16]>, LineFault>
-    ensures { result ≡ value_once earlier digits.now }
-{
-    if earlier.is_some() {
-        return Err(LineFault::WrongWord);
-    }
-    let value = value_of(digits)?;
-    Ok(Some(value))
-}
-
-/// A lock, which is given once.
-#[tactic(auto, unfolding(vlm_words::specs::Lines::lock_once))]
-fn lock_once(earlier: Option<Which>, word: &[u8]) -> Result<Option<Which>, LineFault>
-    ensures { result ≡ lock_once earlier word.now }
-{
-    if earlier.is_some() {
-        return Err(LineFault::WrongWord);
-    }
-    let lock = locks::lock(word)?;
-    Ok(Some(lock))
+    Ok(Some(read?))
 }

@@ -4,12 +4,16 @@
 #![tactic(auto)]
 
 mod cuts;
+mod faults;
 mod flags;
 mod keyed;
 mod lines;
 mod locks;
 mod numbers;
+mod reading;
 mod values;
 mod words;
 
-pub use lines::read_line;
+pub use faults::LineFault;
+pub use lines::{Line, ProcessName};
+pub use reading::read_line;

@@ -1,208 +1,29 @@
-//! Lines by their commands.
+//! A line of a script that was read without a fault.
 
-ghost use Rattle.std.specs.Prelude.{◌≡◌, MatchResult};
-ghost use Rattle.vlm_words.specs.Lines.{block_command, line_read, line_of, command_line, declare_line, enq_line, cvt_line, deq_line, set_line, declaration_of, words_of, next_word, no_more};
+use vlm_words::steps::{Conversion, Declaration, Dequeue, NewRequest, ValueSetting};
+use vlm_words::texts::Text;
 
-use crate::cuts;
-use crate::keyed::{cvt_words, declare_words, deq_words, enq_words, set_words};
-use crate::locks::lock;
-use crate::numbers::byte;
-use crate::words::{behind_key, is_text, mode, process_name};
-use vlm_words::scripts::{
-    BlockLine, CvtLine, DeclareWords, DeqLine, EnqLine, Line, LineFault, SetLine,
-};
-use vlm_words::steps::{Declaration, Which};
+/// A script's name for a process: 1 to 15 bytes.
+pub type ProcessName = Text<15>;
 
-/// The longest line, in bytes.
-const LONGEST: usize = 255;
-
-/// Reads a line of a script, without its line feed; the language is this project's own. It takes no
-/// memory.
-///
-/// The faults in the order of their checks: `TooLong` above 255 bytes; `UnknownCommand`; then the
-/// first faulty word from left to right, `WrongWord` where its form is not that of its place or it
-/// is given twice, else `NumberOutOfRange`; last `WrongWord` where a needed word is missing. The
-/// two faults of names are not found here.
-#[tactic(auto, unfolding(vlm_words::specs::Lines::line_read))]
-pub fn read_line(bytes: &[u8]) -> Result<Line, LineFault>
-    ensures { result ≡ line_read bytes.now }
-{
-    if bytes.len() > LONGEST {
-        return Err(LineFault::TooLong);
-    }
-    line_of(bytes)
-}
-
-/// A line without words, or whose first word begins with `#`, does nothing.
-#[tactic(auto, unfolding(vlm_words::specs::Lines::line_of))]
-fn line_of(line: &[u8]) -> Result<Line, LineFault>
-    ensures { result ≡ line_of (words_of line.now) }
-{
-    let Some((word, rest)) = cuts::next_word(line) else {
-        return Ok(Line::Empty);
-    };
-    if behind_key(b"#", word).is_some() {
-        return Ok(Line::Empty);
-    }
-    command_line(word, rest)
-}
-
-/// A line by its command.
-#[tactic(auto, unfolding(vlm_words::specs::Lines::command_line))]
-fn command_line(command: &[u8], rest: &[u8]) -> Result<Line, LineFault>
-    ensures { result ≡ command_line command.now (words_of rest.now) }
-{
-    if is_text(command, b"declare") {
-        declare_line(rest)
-    } else if is_text(command, b"enq") {
-        enq_line(rest)
-    } else if is_text(command, b"cvt") {
-        cvt_line(rest)
-    } else if is_text(command, b"deq") {
-        deq_line(rest)
-    } else if is_text(command, b"set") {
-        set_line(rest)
-    } else if is_text(command, b"block") {
-        block_line(rest)
-    } else if is_text(command, b"show") {
-        no_more(Line::Show, rest)
-    } else {
-        Err(LineFault::UnknownCommand)
-    }
-}
-
-/// The words of a declare line: NAME node=N group=N quota=N blocks=N [syslck].
-#[tactic(auto, unfolding(vlm_words::specs::Lines::declare_line))]
-fn declare_line(line: &[u8]) -> Result<Line, LineFault>
-    ensures { result ≡ declare_line (words_of line.now) }
-{
-    let (first, rest) = needed_word(line)?;
-    let name = process_name(first)?;
-    let words = declare_words(rest)?;
-    let declaration = declaration_of(words)?;
-    Ok(Line::Declare(name, declaration))
-}
-
-/// A declare line needs all four numbers.
-#[tactic(auto, unfolding(vlm_words::specs::Lines::declaration_of))]
-fn declaration_of(words: DeclareWords) -> Result<Declaration, LineFault>
-    ensures { result ≡ declaration_of words }
-{
-    let node = words.node.ok_or(LineFault::WrongWord)?;
-    let group = words.group.ok_or(LineFault::WrongWord)?;
-    let quota = words.quota.ok_or(LineFault::WrongWord)?;
-    let blocks = words.blocks.ok_or(LineFault::WrongWord)?;
-    Ok(Declaration {
-        node,
-        group,
-        syslck: words.syslck,
-        quota,
-        blocks,
-    })
-}
-
-/// The words of an enq line: NAME MODE name=RES block=N [parent=LOCK] and flags.
-#[tactic(auto, unfolding(vlm_words::specs::Lines::enq_line))]
-fn enq_line(line: &[u8]) -> Result<Line, LineFault>
-    ensures { result ≡ enq_line (words_of line.now) }
-{
-    let (first, after_name) = needed_word(line)?;
-    let name = process_name(first)?;
-    let (second, rest) = needed_word(after_name)?;
-    let mode = mode(second)?;
-    let words = enq_words(rest)?;
-    let resource = words.resource.ok_or(LineFault::WrongWord)?;
-    let block = words.block.ok_or(LineFault::WrongWord)?;
-    Ok(Line::Enq(EnqLine {
-        name,
-        mode,
-        resource,
-        block,
-        parent: words.parent.unwrap_or(Which::Id(0)),
-        flags: words.flags,
-    }))
-}
-
-/// The words of a cvt line: NAME LOCK MODE block=N and flags.
-#[tactic(auto, unfolding(vlm_words::specs::Lines::cvt_line))]
-fn cvt_line(line: &[u8]) -> Result<Line, LineFault>
-    ensures { result ≡ cvt_line (words_of line.now) }
-{
-    let (first, after_name) = needed_word(line)?;
-    let name = process_name(first)?;
-    let (second, after_lock) = needed_word(after_name)?;
-    let lock = lock(second)?;
-    let (third, rest) = needed_word(after_lock)?;
-    let mode = mode(third)?;
-    let words = cvt_words(rest)?;
-    let block = words.block.ok_or(LineFault::WrongWord)?;
-    Ok(Line::Cvt(CvtLine {
-        name,
-        lock,
-        mode,
-        block,
-        flags: words.flags,
-    }))
-}
-
-/// The words of a deq line: NAME LOCK [value=HEX] and flags.
-#[tactic(auto, unfolding(vlm_words::specs::Lines::deq_line))]
-fn deq_line(line: &[u8]) -> Result<Line, LineFault>
-    ensures { result ≡ deq_line (words_of line.now) }
-{
-    let (first, after_name) = needed_word(line)?;
-    let name = process_name(first)?;
-    let (second, rest) = needed_word(after_name)?;
-    let lock = lock(second)?;
-    let words = deq_words(rest)?;
-    Ok(Line::Deq(DeqLine {
-        name,
-        lock,
-        value: words.value,
-        flags: words.flags,
-    }))
-}
-
-/// The words of a set line: NAME block=N value=HEX.
-#[tactic(auto, unfolding(vlm_words::specs::Lines::set_line))]
-fn set_line(line: &[u8]) -> Result<Line, LineFault>
-    ensures { result ≡ set_line (words_of line.now) }
-{
-    let (first, rest) = needed_word(line)?;
-    let name = process_name(first)?;
-    let words = set_words(rest)?;
-    let block = words.block.ok_or(LineFault::WrongWord)?;
-    let value = words.value.ok_or(LineFault::WrongWord)?;
-    Ok(Line::Set(SetLine { name, block, value }))
-}
-
-/// The words of a block line: NAME N.
-#[tactic(auto, unfolding(vlm_words::specs::Lines::block_command))]
-fn block_line(line: &[u8]) -> Result<Line, LineFault>
-    ensures { result ≡ block_command (words_of line.now) }
-{
-    let (first, after_name) = needed_word(line)?;
-    let name = process_name(first)?;
-    let (second, rest) = needed_word(after_name)?;
-    let number = byte(second)?;
-    no_more(Line::Block(BlockLine { name, number }), rest)
-}
-
-/// The next word, which the line needs, and the bytes behind it.
-fn needed_word(line: &[u8]) -> Result<(&[u8], &[u8]), LineFault>
-    ensures { MatchResult result
-        (λ p. next_word (words_of line.now) ≡ Ok (p.0.now, words_of p.1.now))
-        (λ fault. next_word (words_of line.now) ≡ Err fault) }
-{
-    cuts::next_word(line).ok_or(LineFault::WrongWord)
-}
-
-/// The line, which no word may follow.
-fn no_more(line: Line, rest: &[u8]) -> Result<Line, LineFault>
-    ensures { result ≡ no_more line (words_of rest.now) }
-{
-    if cuts::next_word(rest).is_some() {
-        return Err(LineFault::WrongWord);
-    }
-    Ok(line)
+/// A line with its words as they were read. The step of a line says who makes it by a name: as its
+/// process it has 0, which no process has, until the run puts in the one that the name is bound to.
+#[derive(Clone, Copy)]
+pub enum Line {
+    /// No word, or a comment.
+    Empty,
+    /// A process is declared under a name.
+    Declare(ProcessName, Declaration),
+    /// The value part of a status block is set.
+    Set(ProcessName, ValueSetting),
+    /// A new lock is asked for.
+    Enq(ProcessName, NewRequest),
+    /// Another mode of a lock is asked for.
+    Cvt(ProcessName, Conversion),
+    /// A lock is given up, or its request is cancelled.
+    Deq(ProcessName, Dequeue),
+    /// The status block of this number is printed.
+    Block(ProcessName, u8),
+    /// Every resource is printed with its queues.
+    Show,
 }

@@ -1,16 +1,16 @@
 //! Words that stand for locks.
 
 ghost use Rattle.std.specs.Prelude.{◌≡◌};
-ghost use Rattle.vlm_words.specs.Lines.{lock_named};
+ghost use Rattle.vlm_lines.specs.Lines.{lock_named};
 
+use crate::faults::LineFault;
 use crate::numbers::{byte, number};
 use crate::words::behind_key;
-use vlm_words::scripts::LineFault;
 use vlm_words::steps::Which;
 
 /// A lock: `@N` is the one whose identification stands in status block N, a number is its
 /// identification.
-#[tactic(auto, unfolding(vlm_words::specs::Lines::lock_named))]
+#[tactic(auto, unfolding(crate::specs::Lines::lock_named))]
 pub(crate) fn lock(word: &[u8]) -> Result<Which, LineFault>
     ensures { result ≡ lock_named word.now }
 {

@@ -3,12 +3,12 @@
 ghost use Rattle.std.specs.Prelude.{◌≡◌, ◌≤◌, IfOk, length, true};
 ghost use Rattle.std.specs.Char.{is_ascii_digit};
 ghost use Rattle.std.specs.List.{list_all};
-ghost use Rattle.vlm_words.specs.Lines.{number_within, decimal_value, is_number};
+ghost use Rattle.vlm_lines.specs.Lines.{number_within, decimal_value, is_number};
 
-use vlm_words::scripts::LineFault;
+use crate::faults::LineFault;
 
 /// A number of at most ten digits and at most this limit.
-#[tactic(auto, unfolding(vlm_words::specs::Lines::number_within))]
+#[tactic(auto, unfolding(crate::specs::Lines::number_within))]
 pub(crate) fn number(limit: u32, word: &[u8]) -> Result<u32, LineFault>
     ensures value { result ≡ number_within limit word.now }
     ensures within { IfOk result (λ n. n ≤ limit) }

@@ -1,10 +1,10 @@
 //! Value blocks in hexadecimal digits.
 
 ghost use Rattle.std.specs.Prelude.{◌≡◌};
-ghost use Rattle.vlm_words.specs.Lines.{value_of};
+ghost use Rattle.vlm_lines.specs.Lines.{value_of};
 
+use crate::faults::LineFault;
 use hex::FromHex;
-use vlm_words::scripts::LineFault;
 
 /// A value block: exactly 32 hexadecimal digits.
 #[tactic(auto, using(crate::proofs::Hexadecimal::value_read))]

@@ -2,13 +2,15 @@
 
 ghost use Rattle.std.specs.Prelude.{◌≡◌, MatchOption, true, false};
 ghost use Rattle.std.specs.List.{list_all};
-ghost use Rattle.vlm_words.specs.Lines.{process_name, begins_with_letter, mode_of, is_name_byte, is_text, has_key, behind};
+ghost use Rattle.vlm_lines.specs.Lines.{process_name, begins_with_letter, mode_of, is_name_byte, is_text, has_key, behind, resource_name};
 
+use crate::faults::LineFault;
+use crate::lines::ProcessName;
 use vlm_words::modes::Mode;
-use vlm_words::scripts::{LineFault, ProcessName};
+use vlm_words::names::NameArg;
 
 /// A process's name: 1 to 15 letters, digits and underscores, the first a letter.
-#[tactic(auto, unfolding(vlm_words::specs::Lines::process_name))]
+#[tactic(auto, unfolding(crate::specs::Lines::process_name))]
 pub(crate) fn process_name(word: &[u8]) -> Result<ProcessName, LineFault>
     ensures { result ≡ process_name word.now }
 {
@@ -16,6 +18,18 @@ pub(crate) fn process_name(word: &[u8]) -> Result<ProcessName, LineFault>
         Ok(ProcessName::of(word))
     } else {
         Err(LineFault::WrongWord)
+    }
+}
+
+/// A resource's name, which is not hexadecimal.
+#[tactic(auto, unfolding(crate::specs::Lines::resource_name))]
+pub(crate) fn resource_name(bytes: &[u8]) -> Result<NameArg, LineFault>
+    ensures { result ≡ resource_name bytes.now }
+{
+    if behind_key(b"x:", bytes).is_some() {
+        Err(LineFault::WrongWord)
+    } else {
+        Ok(NameArg::of(bytes))
     }
 }
 
@@ -51,7 +65,7 @@ pub(crate) fn is_text(word: &[u8], text: &[u8]) -> bool
 }
 
 /// The mode that the word stands for.
-#[tactic(auto, unfolding(vlm_words::specs::Lines::mode_of))]
+#[tactic(auto, unfolding(crate::specs::Lines::mode_of))]
 pub(crate) fn mode(word: &[u8]) -> Result<Mode, LineFault>
     ensures { result ≡ mode_of word.now }
 {

@@ -7,8 +7,8 @@ use Rattle.std.specs.Map.{lookup}
 use Rattle.std.specs.Option.{option_map}
 use Rattle.indexmap.specs.IndexMap.{IndexMap, get, insert_entry}
 use Rattle.indexmap.proofs.CallerLemmas.{insert_entry-new}
-use Rattle.vlm_words.specs.Lines.{is_text}
-use Rattle.vlm_words.specs.Scripts.{Binding, bound_to}
+use Rattle.vlm_lines.specs.Lines.{is_text}
+use Rattle.vlm_script.specs.Scripts.{Binding, bound_to}
 use Rattle.vlm_script.specs.Bindings.{bindings_of}
 
 -- an entry of the map, as a binding

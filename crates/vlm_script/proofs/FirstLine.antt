@@ -2,7 +2,7 @@
 use Rattle.std.proofs.Common.{◌≡◌, ℕ, ◌+◌, ◌-◌, ◌<◌, List, ◌∷◌, length, take, drop, length-drop, sym, ap, ◌∙◌, arith}
 use Rattle.std.proofs.lemmas.List.{drop-drop, drop_all, nil_from_length, take_all}
 use Rattle.std.specs.List.{position_or_len}
-use Rattle.vlm_words.specs.Lines.{is_line_feed, lines_of}
+use Rattle.vlm_lines.specs.Lines.{is_line_feed, lines_of}
 use Rattle.vlm_lines.proofs.Pieces.{pieces_first}
 
 -- the first line, and what stands behind its line feed

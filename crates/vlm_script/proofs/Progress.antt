@@ -2,9 +2,9 @@
 use Rattle.std.proofs.Common.{◌≡◌, ℕ, zero, suc, ◌+◌, ◌≤◌, List, [], ◌∷◌, ◌++◌, length, take, drop, Option, None, Some, Result, Ok, Err, IfErr, OnErr, OnOk, refl, sym, ap, ◌∙◌, add-one, append_assoc, ◌^◌, ◌⊎◌, inl, inr, IfSome, length-append, length-drop, arith}
 use Rattle.std.proofs.lemmas.List.{append-nil, take-append-drop}
 use Rattle.std.specs.Io.KnownBytes.{Appends, Consumes}
-use Rattle.vlm_words.specs.Lines.{lines_of}
-use Rattle.vlm_words.specs.Scripts.{Session, Played, opening}
-use Rattle.vlm_words.specs.Scripts.Played.{opened, more}
+use Rattle.vlm_lines.specs.Lines.{lines_of}
+use Rattle.vlm_script.specs.Scripts.{Session, Played, opening}
+use Rattle.vlm_script.specs.Scripts.Played.{opened, more}
 use Rattle.vlm_script.specs.declared.faults.PlayFault.TheVariants.{Memory, Read, Write, Long}
 use Rattle.vlm_script.specs.declared.faults.PlayFault.{PlayFault}
 use Rattle.vlm_script.specs.declared.stops.Stop.{Stop}

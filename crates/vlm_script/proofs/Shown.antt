@@ -6,7 +6,7 @@ use Rattle.vlm_words.specs.declared.locks.Row.{Row}
 use Rattle.vlm_words.specs.declared.resources.Queue.{Queue}
 use Rattle.vlm_words.specs.declared.resources.Queue.TheVariants.{Granted, Conversion, Waiting}
 use Rattle.vlm_words.specs.Resources.{key_name, key_parent}
-use Rattle.vlm_words.specs.Texts.{resource_line, resource_text, resources_text}
+use Rattle.vlm_script.specs.Texts.{resource_line, resource_text, resources_text}
 use Rattle.vlm_store.specs.Records.{StoredLock, StoredResource, at_after, first_resource_at, queued, resource_at, resource_at_after, rows_of}
 use Rattle.vlm_store.proofs.Walks.{IsAtLock, IsAtResource, locks_from, resources_from}
 use Rattle.vlm_locks.specs.Plain.{plain_resource}

@@ -1,7 +1,7 @@
 -- What a map of bound names shows.
 use Rattle.std.specs.Prelude.{ℕ, List, map}
 use Rattle.indexmap.specs.IndexMap.{IndexMap}
-use Rattle.vlm_words.specs.Scripts.{Binding}
+use Rattle.vlm_script.specs.Scripts.{Binding}
 
 -- the bindings in the order of insertion
 abbrev pub bindings_of : {S : Type 0} → IndexMap (List ℕ) ℕ S → List Binding

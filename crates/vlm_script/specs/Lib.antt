@@ -1,3 +1,5 @@
+pub mod Texts
+pub mod Scripts
 pub mod Bindings
 pub mod Queues
 pub mod Sessions

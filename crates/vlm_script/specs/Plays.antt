@@ -1,7 +1,7 @@
 -- What a script's run comes to, and what it has then read and written.
 use Rattle.std.specs.Prelude.{◌≡◌, ◌<◌, ◌≤◌, ℕ, List, [], ◌++◌, length, take, ◌⊎◌, Option, Result, Ok, Err}
 use Rattle.std.specs.Io.KnownBytes.{Appends, Consumes, IsAtEnd}
-use Rattle.vlm_words.specs.Scripts.{IsText, IsTextOfFirst, HasFault}
+use Rattle.vlm_script.specs.Scripts.{IsText, IsTextOfFirst, HasFault}
 use Rattle.vlm_script.specs.declared.faults.PlayFault.{PlayFault}
 use Rattle.vlm_script.specs.declared.faults.PlayFault.TheVariants.{Line, Memory, Read, Write, Long}
 

@@ -3,7 +3,8 @@ use Rattle.std.specs.Prelude.{ℕ, List, flat_map}
 use Rattle.vlm_words.specs.declared.locks.Row.{Row}
 use Rattle.vlm_words.specs.declared.resources.Queue.{Queue}
 use Rattle.vlm_words.specs.declared.resources.Queue.TheVariants.{Granted, Conversion, Waiting}
-use Rattle.vlm_words.specs.Texts.{converting_line, granted_line, mode_asked, waiting_line}
+use Rattle.vlm_words.specs.Rows.{mode_asked}
+use Rattle.vlm_script.specs.Texts.{converting_line, granted_line, waiting_line}
 
 -- a lock's line in a queue
 abbrev pub row_line : Queue → Row → List ℕ

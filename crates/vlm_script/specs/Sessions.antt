@@ -1,8 +1,9 @@
 -- What a line of a script does in a session of the program, and how far a script has come.
 use Rattle.std.specs.Prelude.{◌≡◌, ℕ, List, ◌++◌, None, Some, Ok}
-use Rattle.vlm_words.specs.declared.scripts.Line.{Line}
-use Rattle.vlm_words.specs.Lines.{line_read}
-use Rattle.vlm_words.specs.Scripts.{Session, Binding, Runs, name_fault, fault_of}
+use Rattle.vlm_lines.specs.declared.lines.Line.{Line}
+use Rattle.vlm_lines.specs.Lines.{line_read}
+use Rattle.vlm_words.specs.declared.steps.Step.{Step}
+use Rattle.vlm_script.specs.Scripts.{Session, Binding, Makes, Runs, bound_to, name_fault, fault_of, unknown_fault}
 use Rattle.vlm_script.specs.declared.faults.PlayFault.{PlayFault}
 use Rattle.vlm_script.specs.declared.faults.PlayFault.TheVariants.{Line as line_fault, Memory as memory_fault}
 use Rattle.vlm_script.specs.declared.stops.Stop.{Stop}
@@ -16,6 +17,13 @@ pub record IsRun (old : Session) (line : Line) (new : Session) (before after : L
   pub runs : Runs old line text new
   pub printed : after ≡ before ++ text
 
+-- a step is made by the process that the name is bound to, and its answer is put at the end of the text before it
+pub record IsMade (old : Session) (name : List ℕ) (step : Step) (new : Session) (before after : List ℕ) : Type 0 where
+  pub text : List ℕ
+  pub faultless : unknown_fault (bound_to old.names name) ≡ None
+  pub makes : Makes old name step text new
+  pub printed : after ≡ before ++ text
+
 -- the bytes of a line are read, and the line has run
 pub record IsPrinted (old : Session) (bytes : List ℕ) (new : Session) (before after : List ℕ)
     : Type 0 where
@@ -27,6 +35,11 @@ pub record IsPrinted (old : Session) (bytes : List ℕ) (new : Session) (before 
 abbrev pub StopsLine : List Binding → Line → Stop → Type 0
 StopsLine names line (Fault fault) = name_fault names line ≡ Some fault
 StopsLine names line Memory = Unit {0}
+
+-- a name stops the run where it is bound to no process, or memory is wanting
+abbrev pub StopsName : List Binding → List ℕ → Stop → Type 0
+StopsName names name (Fault fault) = unknown_fault (bound_to names name) ≡ Some fault
+StopsName names name Memory = Unit {0}
 
 -- bytes stop the run by their fault, or for want of memory
 abbrev pub StopsBytes : List Binding → List ℕ → Stop → Type 0

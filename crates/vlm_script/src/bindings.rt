@@ -2,11 +2,11 @@
 
 ghost use Rattle.std.specs.Prelude.{◌≡◌, ◌<◌, [], ◌∷◌, ◌++◌, None};
 ghost use Rattle.indexmap.specs.IndexMap.{spare};
-ghost use Rattle.vlm_words.specs.Scripts.{bound_to};
+ghost use Rattle.vlm_script.specs.Scripts.{bound_to};
 ghost use Rattle.vlm_script.specs.Bindings.{bindings_of};
 
 use indexmap::IndexMap;
-use vlm_words::scripts::ProcessName;
+use vlm_lines::ProcessName;
 
 /// The names of the script, each with its process, in the order of their declarations.
 pub(crate) type Bindings = IndexMap<ProcessName, u32>;

@@ -2,7 +2,7 @@
 
 ghost use Rattle.std.specs.Prelude.{◌≡◌, ◌<◌, ◌≤◌, ◌↔◌, [], ◌∷◌, length, IsNone, IfSome};
 ghost use Rattle.std.specs.List.{position_or_len};
-ghost use Rattle.vlm_words.specs.Lines.{lines_of, is_line_feed};
+ghost use Rattle.vlm_lines.specs.Lines.{lines_of, is_line_feed};
 
 /// The first line without its line feed, and the bytes behind it. None where there are no bytes. A
 /// line ends at its line feed, and the last one at the end of the bytes.

@@ -2,7 +2,7 @@
 
 ghost use Rattle.std.specs.Prelude.{◌++◌, codes, decimal, OnOk, OnErr};
 ghost use Rattle.std.specs.Io.KnownBytes.{Appends};
-ghost use Rattle.vlm_words.specs.Faults.{fault_text};
+ghost use Rattle.vlm_lines.specs.Faults.{fault_text};
 ghost use Rattle.vlm_script.specs.Faults.{fault_line, play_fault_text};
 ghost use Rattle.vlm_script.specs.Plays.{PassesPart};
 
@@ -10,7 +10,7 @@ use crate::faults::PlayFault;
 use crate::streams::write_whole;
 use itoa::Buffer;
 use std::io::Write;
-use vlm_words::scripts::LineFault;
+use vlm_lines::LineFault;
 
 impl PlayFault {
     /// Writes the fault's text and a line feed. Where a write fails or takes no byte, some first

@@ -2,7 +2,7 @@
 
 use std::alloc::AllocError;
 use thiserror::Error;
-use vlm_words::scripts::LineFault;
+use vlm_lines::LineFault;
 
 /// Why a script was not run to its end.
 #[derive(Debug, Drop, Error)]

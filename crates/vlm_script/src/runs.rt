@@ -3,7 +3,7 @@
 ghost use Rattle.std.specs.Prelude.{◌≡◌, IfSome, IfErr, OnOk, OnErr, MatchResult};
 ghost use Rattle.vlm_script.specs.Plays.{EndsLines, Passes, PassesPart, Plays, ConsumesAtMost, ReadsFirst, ReadsScript, Wrote};
 ghost use Rattle.vlm_script.specs.Sessions.{IsPrinted, StopsBytes};
-ghost use Rattle.vlm_words.specs.Scripts.{opening};
+ghost use Rattle.vlm_script.specs.Scripts.{opening};
 
 use crate::cuts::next_line;
 use crate::faults::PlayFault;

@@ -1,9 +1,9 @@
 //! A session: the machine, and the names that the script has bound.
 
 ghost use Rattle.std.specs.Prelude.{◌≡◌, ◌++◌, None, Some, MatchResult};
-ghost use Rattle.vlm_words.specs.Scripts.{bound_to, opening, setting_made, request_made, conversion_made, dequeue_made};
-ghost use Rattle.vlm_words.specs.Texts.{answer_line};
-ghost use Rattle.vlm_script.specs.Sessions.{IsRun, IsPrinted, StopsBytes, StopsLine};
+ghost use Rattle.vlm_script.specs.Scripts.{bound_to, of_process, opening};
+ghost use Rattle.vlm_script.specs.Texts.{answer_line};
+ghost use Rattle.vlm_script.specs.Sessions.{IsMade, IsRun, IsPrinted, StopsBytes, StopsLine, StopsName};
 
 use crate::bindings::{Bindings, bind_reserved, bound_to};
 use crate::printing::{answer_line, status_block_line};
@@ -12,11 +12,8 @@ use crate::stops::Stop;
 use std::alloc::Global;
 use std::marker::Model;
 use vlm_core::Core;
-use vlm_lines::read_line;
-use vlm_words::scripts::{
-    BlockLine, CvtLine, DeqLine, EnqLine, Line, LineFault, ProcessName, SetLine,
-};
-use vlm_words::steps::{Answer, Conversion, Declaration, Dequeue, NewRequest, ValueSetting};
+use vlm_lines::{Line, LineFault, ProcessName, read_line};
+use vlm_words::steps::{Answer, Conversion, Declaration, Dequeue, NewRequest, Step, ValueSetting};
 
 /// The machine, and the names that are bound to its processes.
 #[derive(Drop)]
@@ -27,7 +24,7 @@ pub(crate) struct Session {
 }
 
 impl Model for Session {
-    ghost use Rattle.vlm_words.specs.Scripts.{Session as PlainSession};
+    ghost use Rattle.vlm_script.specs.Scripts.{Session as PlainSession};
     ghost use Rattle.vlm_script.specs.Bindings.{bindings_of};
 
     ghost Value = { PlainSession };
@@ -66,11 +63,11 @@ impl Session {
         match line {
             Line::Empty => Ok(()),
             Line::Declare(name, declaration) => self.declare(name, declaration, out),
-            Line::Set(line) => self.set(line, out),
-            Line::Enq(line) => self.enq(line, out),
-            Line::Cvt(line) => self.convert(line, out),
-            Line::Deq(line) => self.deq(line, out),
-            Line::Block(line) => self.show_status_block(line, out),
+            Line::Set(name, setting) => self.make(name, Step::SetValue(setting), out),
+            Line::Enq(name, request) => self.make(name, Step::Enq(request), out),
+            Line::Cvt(name, conversion) => self.make(name, Step::Convert(conversion), out),
+            Line::Deq(name, dequeue) => self.make(name, Step::Deq(dequeue), out),
+            Line::Block(name, number) => self.show_status_block(name, number, out),
             Line::Show => Ok(show(self.core.store(), out)?),
         }
     }
@@ -108,60 +105,31 @@ impl Session {
         print_answer(name, answer, out)
     }
 
-    // Sets a value block of the process that the name is bound to, and prints the answer.
-    fn set(&mut self, line: SetLine, out: &mut Vec<u8>) -> Result<(), Stop>
+    // Makes a step by the process that the name is bound to, and prints the answer.
+    fn make(&mut self, name: ProcessName, step: Step, out: &mut Vec<u8>) -> Result<(), Stop>
         ensures { MatchResult result
-            (λ _. IsRun self.old (Line.Set line) self.new out.old.items out.new.items)
-            (λ stop. StopsLine self.old.names (Line.Set line) stop) }
+            (λ _. IsMade self.old name step self.new out.old.items out.new.items)
+            (λ stop. StopsName self.old.names name stop) }
     {
-        let pid = self.process(&line.name)?;
-        let answer = self.core.set_value(setting_made(pid, &line));
-        print_answer(line.name, answer, out)
-    }
-
-    // Asks for a new lock of the process that the name is bound to, and prints the answer.
-    fn enq(&mut self, line: EnqLine, out: &mut Vec<u8>) -> Result<(), Stop>
-        ensures { MatchResult result
-            (λ _. IsRun self.old (Line.Enq line) self.new out.old.items out.new.items)
-            (λ stop. StopsLine self.old.names (Line.Enq line) stop) }
-    {
-        let pid = self.process(&line.name)?;
-        let answer = self.core.enq(request_made(pid, &line));
-        print_answer(line.name, answer, out)
-    }
-
-    // Asks for another mode of a lock of the process that the name is bound to, and prints the
-    // answer.
-    fn convert(&mut self, line: CvtLine, out: &mut Vec<u8>) -> Result<(), Stop>
-        ensures { MatchResult result
-            (λ _. IsRun self.old (Line.Cvt line) self.new out.old.items out.new.items)
-            (λ stop. StopsLine self.old.names (Line.Cvt line) stop) }
-    {
-        let pid = self.process(&line.name)?;
-        let answer = self.core.convert(conversion_made(pid, &line));
-        print_answer(line.name, answer, out)
-    }
-
-    // Gives up a lock of the process that the name is bound to, and prints the answer.
-    fn deq(&mut self, line: DeqLine, out: &mut Vec<u8>) -> Result<(), Stop>
-        ensures { MatchResult result
-            (λ _. IsRun self.old (Line.Deq line) self.new out.old.items out.new.items)
-            (λ stop. StopsLine self.old.names (Line.Deq line) stop) }
-    {
-        let pid = self.process(&line.name)?;
-        let answer = self.core.deq(dequeue_made(pid, &line));
-        print_answer(line.name, answer, out)
+        let pid = self.process(&name)?;
+        let answer = self.core.step(of_process(pid, step));
+        print_answer(name, answer, out)
     }
 
     // Prints a status block of the process that the name is bound to.
-    fn show_status_block(&self, line: BlockLine, out: &mut Vec<u8>) -> Result<(), Stop>
+    fn show_status_block(
+        &self,
+        name: ProcessName,
+        number: u8,
+        out: &mut Vec<u8>,
+    ) -> Result<(), Stop>
         ensures { MatchResult result
-            (λ _. IsRun self.now (Line.Block line) self.now out.old.items out.new.items)
-            (λ stop. StopsLine self.now.names (Line.Block line) stop) }
+            (λ _. IsRun self.now (Line.Block name number) self.now out.old.items out.new.items)
+            (λ stop. StopsLine self.now.names (Line.Block name number) stop) }
     {
-        let pid = self.process(&line.name)?;
-        let block = self.core.block(pid, line.number);
-        status_block_line(out, line.name.bytes(), line.number, block)?;
+        let pid = self.process(&name)?;
+        let block = self.core.block(pid, number);
+        status_block_line(out, name.bytes(), number, block)?;
         Ok(())
     }
 }
@@ -176,58 +144,17 @@ fn print_answer(name: ProcessName, answer: Answer, out: &mut Vec<u8>) -> Result<
     Ok(())
 }
 
-// The value that a set line puts into a status block of a process.
-fn setting_made(pid: u32, line: &SetLine) -> ValueSetting
-    ensures { result ≡ setting_made pid line.now }
+// The step, made by this process. Some steps are of none.
+fn of_process(pid: u32, step: Step) -> Step
+    ensures { result ≡ of_process pid step }
 {
-    ValueSetting {
-        pid,
-        block: line.block,
-        value: line.value,
-    }
-}
-
-// The request that an enq line makes of a process.
-fn request_made(pid: u32, line: &EnqLine) -> NewRequest
-    ensures { result ≡ request_made pid line.now }
-{
-    NewRequest {
-        pid,
-        mode: line.mode,
-        name: line.resource,
-        block: line.block,
-        parent: line.parent,
-        flags: line.flags,
-        ast: None,
-        bast: None,
-        param: 0,
-    }
-}
-
-// The conversion that a cvt line makes of a process.
-fn conversion_made(pid: u32, line: &CvtLine) -> Conversion
-    ensures { result ≡ conversion_made pid line.now }
-{
-    Conversion {
-        pid,
-        lock: line.lock,
-        mode: line.mode,
-        block: line.block,
-        flags: line.flags,
-        ast: None,
-        bast: None,
-        param: 0,
-    }
-}
-
-// The dequeue that a deq line makes of a process.
-fn dequeue_made(pid: u32, line: &DeqLine) -> Dequeue
-    ensures { result ≡ dequeue_made pid line.now }
-{
-    Dequeue {
-        pid,
-        lock: line.lock,
-        value: line.value,
-        flags: line.flags,
+    match step {
+        Step::SetValue(setting) => Step::SetValue(ValueSetting { pid, ..setting }),
+        Step::Enq(request) => Step::Enq(NewRequest { pid, ..request }),
+        Step::Convert(conversion) => Step::Convert(Conversion { pid, ..conversion }),
+        Step::Deq(dequeue) => Step::Deq(Dequeue { pid, ..dequeue }),
+        Step::Rundown(_) => Step::Rundown(pid),
+        Step::Take(_) => Step::Take(pid),
+        Step::Declare(_) | Step::Leave(_) | Step::Search(_) => step,
     }
 }

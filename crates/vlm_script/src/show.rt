@@ -2,7 +2,7 @@
 
 ghost use Rattle.std.specs.Prelude.{◌≡◌, ◌++◌, IfSome, OnOk, flat_map};
 ghost use Rattle.vlm_words.specs.Resources.{key_name, key_parent};
-ghost use Rattle.vlm_words.specs.Texts.{resource_line, resource_text, resources_text};
+ghost use Rattle.vlm_script.specs.Texts.{resource_line, resource_text, resources_text};
 ghost use Rattle.vlm_store.specs.declared.keys.Place.{Place};
 ghost use Rattle.vlm_store.specs.Records.{HasResource, locks_at, resource_at, rows_of};
 ghost use Rattle.vlm_locks.specs.Plain.{plain_resource, plain_resources};

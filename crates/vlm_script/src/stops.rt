@@ -5,7 +5,7 @@ ghost use Rattle.vlm_script.specs.Sessions.{stopped_at};
 
 use crate::faults::PlayFault;
 use std::alloc::AllocError;
-use vlm_words::scripts::LineFault;
+use vlm_lines::LineFault;
 
 /// Why a line ended the run of its script.
 #[derive(Clone, Copy)]

@@ -8,7 +8,6 @@ use Rattle.vlm_words.specs.declared.locks.Row.{Row}
 use Rattle.vlm_words.specs.State.{Resource}
 use Rattle.vlm_words.specs.Rows.{is_lock_of}
 use Rattle.vlm_words.specs.Convert.{ConversionAdmission, admission_among, admission_or}
-use Rattle.vlm_words.specs.Lines.{behind}
 
 -- a row of this lock of this process has this identification
 pub found_lkid : (pid lkid : ℕ) (row : Row) → is_lock_of pid lkid row ≡ true → row.lkid ≡ lkid

@@ -35,7 +35,6 @@ use Rattle.vlm_words.specs.Withdrawals.{Withdrawal, queue_endings, withdrawal_en
 use Rattle.vlm_words.specs.Stepped.{IsChoice, Stepped, conversion_change, refused_or, step_change, step_refusal, stepped, stepped_after_sweep}
 use Rattle.vlm_words.specs.Runs.{History, Run}
 use Rattle.vlm_words.specs.Laws.{ConvertsInTurn, EntersInTurn, GrantsFollowQueueOrder, IsAskedFor, IsBeside, IsFreeFor, IsGrant, IsGrantedInTurn, IsRootDomain, Stands, StandsAsAskedFor, SweptInOrder}
-use Rattle.vlm_words.specs.Lines.{behind}
 use Rattle.vlm_words.proofs.Each.{Any-none, Any-cases, Found, found_at, each_append, each_passes, each_weaker}
 use Rattle.vlm_words.proofs.Pairs.{EachPair}
 use Rattle.vlm_words.proofs.Passed.{expedited_is_null, second_passes}

@@ -22,7 +22,6 @@ use Rattle.vlm_words.specs.Convert.{ConversionAdmission, admission_among, admiss
 use Rattle.vlm_words.specs.Dequeue.{deq_change, deq_endings, withdrawal_of}
 use Rattle.vlm_words.specs.Runs.{History, Run}
 use Rattle.vlm_words.specs.Laws.{EachRequestEndsOnce, times_ended, wanting, wanting_on}
-use Rattle.vlm_words.specs.Lines.{behind}
 use Rattle.vlm_words.proofs.Always.{always, kept_by_stepped}
 use Rattle.vlm_words.proofs.Admissions.{admitted_request, some_same}
 use Rattle.vlm_words.proofs.Each.{Found, found_at}

@@ -25,7 +25,6 @@ use Rattle.vlm_words.specs.Dequeue.{deq_change, deq_endings, withdrawals_of}
 use Rattle.vlm_words.specs.Runs.{History, Run}
 use Rattle.vlm_words.specs.Laws.{GrantsFirst, IsGranted, IsGrantOf, IsSameButArmed, SweptInOrder, first_rows, goes, none, stays}
 use Rattle.vlm_words.specs.Granted.{IsGrantTo, NoGrantIsHidden, WasGranted}
-use Rattle.vlm_words.specs.Lines.{behind}
 use Rattle.vlm_words.proofs.Always.{always, kept_by_stepped}
 use Rattle.vlm_words.proofs.AtOnce.{admitted_stands}
 use Rattle.vlm_words.proofs.Admissions.{some_same}

@@ -31,7 +31,6 @@ use Rattle.vlm_words.specs.Dequeue.{deq_change, withdrawals_of}
 use Rattle.vlm_words.specs.Withdrawals.{Withdrawal, is_held_by_writer, resource_after_cancel, resource_after_withdrawals, resource_after_writer, resource_without, value_block_after_writer, resource_after_going}
 use Rattle.vlm_words.specs.Runs.{History, Run}
 use Rattle.vlm_words.specs.Laws.{HaveOneKey, IsSameResource, KeysAreApart, SerialsRise}
-use Rattle.vlm_words.specs.Lines.{given}
 use Rattle.vlm_words.proofs.Each.{Found, each_at, each_filter, each_map, each_weaker, found_at}
 use Rattle.vlm_words.proofs.EachResource.{each_served, each_entered_among}
 use Rattle.vlm_words.proofs.Pairs.{EachPair, AllPairs-from_recursion, each_pair_filter}

@@ -26,7 +26,6 @@ use Rattle.vlm_words.specs.Convert.{ConversionAdmission, admission_among, admiss
 use Rattle.vlm_words.specs.Stepped.{Stepped, conversion_change, refused_or, step_change, stepped, stepped_after_sweep}
 use Rattle.vlm_words.specs.Runs.{History, Run}
 use Rattle.vlm_words.specs.Laws.{AreCompatible, IsGrantedAtOnce, WritesAreGrantedAtOnce, action_from}
-use Rattle.vlm_words.specs.Lines.{behind}
 use Rattle.vlm_words.proofs.Each.{Any-cases, Any-here, Any-none, Any-weaker, found_at, each_passes, each_weaker}
 use Rattle.vlm_words.proofs.Pairs.{each_pair_found}
 use Rattle.vlm_words.proofs.Passed.{pair_passes, second_passes, test_fails}

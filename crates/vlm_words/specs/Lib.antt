@@ -37,8 +37,4 @@ pub mod Written
 pub mod Standing
 pub mod Writers
 pub mod Returned
-pub mod Faults
-pub mod Lines
-pub mod Texts
-pub mod Scripts
 pub mod Settled

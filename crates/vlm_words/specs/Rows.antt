@@ -1,6 +1,13 @@
--- The rows of one lock in a queue.
-use Rattle.std.specs.Prelude.{ℕ, Bool, not, ◌&&◌, ◌==◌, List, filter}
+-- Rows: what they ask for, and those of one lock in a queue.
+use Rattle.std.specs.Prelude.{ℕ, Bool, not, ◌&&◌, ◌==◌, List, filter, Option}
+use Rattle.std.specs.Option.{option_map}
+use Rattle.vlm_words.specs.declared.locks.Request.{Request}
 use Rattle.vlm_words.specs.declared.locks.Row.{Row}
+use Rattle.vlm_words.specs.declared.modes.Mode.{Mode}
+
+-- the mode of a request, if there is one
+abbrev pub mode_asked : Option Request → Option Mode
+mode_asked request = option_map (λ q. q.mode) request
 
 -- the row is this lock of this process
 abbrev pub is_lock_of : ℕ → ℕ → Row → Bool

@@ -14,6 +14,5 @@ pub mod locks;
 pub mod modes;
 pub mod names;
 pub mod resources;
-pub mod scripts;
 pub mod steps;
 pub mod texts;

@@ -1,7 +1,7 @@
 //! Answers under the names of their processes.
 
 ghost use Rattle.std.specs.Prelude.{◌≡◌, ◌++◌, codes, decimal, OnOk};
-ghost use Rattle.vlm_words.specs.Texts.{answer_line, answer_text, ast_text};
+ghost use Rattle.vlm_script.specs.Texts.{answer_line, answer_text, ast_text};
 
 use super::texts::{number, text};
 use std::alloc::AllocError;
@@ -9,7 +9,7 @@ use vlm_words::asts::{Ast, AstKind};
 use vlm_words::steps::Answer;
 
 /// The line that tells a process's answer under its name.
-#[tactic(auto, unfolding(vlm_words::specs::Texts::answer_line))]
+#[tactic(auto, unfolding(crate::specs::Texts::answer_line))]
 pub(crate) fn answer_line(out: &mut Vec<u8>, name: &[u8], answer: Answer) -> Result<(), AllocError>
     ensures { OnOk result (out.new.items ≡ out.old.items ++ answer_line name.now answer) }
 {
@@ -20,7 +20,7 @@ pub(crate) fn answer_line(out: &mut Vec<u8>, name: &[u8], answer: Answer) -> Res
 }
 
 /// An answer without the name in front of it.
-#[tactic(auto, unfolding(vlm_words::specs::Texts::answer_text))]
+#[tactic(auto, unfolding(crate::specs::Texts::answer_text))]
 fn answer_text(out: &mut Vec<u8>, answer: Answer) -> Result<(), AllocError>
     ensures { OnOk result (out.new.items ≡ out.old.items ++ answer_text answer) }
 {

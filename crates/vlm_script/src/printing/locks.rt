@@ -1,14 +1,14 @@
 //! Locks in the queues of a resource.
 
 ghost use Rattle.std.specs.Prelude.{◌≡◌, ◌++◌, OnOk};
-ghost use Rattle.vlm_words.specs.Texts.{lock_text, granted_line, converting_line, waiting_line, mode_text, mode_name};
+ghost use Rattle.vlm_script.specs.Texts.{lock_text, granted_line, converting_line, waiting_line, mode_text, mode_name};
 
 use super::texts::{number, text};
 use std::alloc::AllocError;
 use vlm_words::modes::Mode;
 
 /// A granted lock.
-#[tactic(auto, unfolding(vlm_words::specs::Texts::granted_line))]
+#[tactic(auto, unfolding(crate::specs::Texts::granted_line))]
 pub(crate) fn granted_line(
     out: &mut Vec<u8>,
     lkid: u32,
@@ -23,7 +23,7 @@ pub(crate) fn granted_line(
 }
 
 /// A lock that holds one mode and waits for another.
-#[tactic(auto, unfolding(vlm_words::specs::Texts::converting_line))]
+#[tactic(auto, unfolding(crate::specs::Texts::converting_line))]
 pub(crate) fn converting_line(
     out: &mut Vec<u8>,
     lkid: u32,
@@ -41,7 +41,7 @@ pub(crate) fn converting_line(
 }
 
 /// A lock that waits to be granted for the first time.
-#[tactic(auto, unfolding(vlm_words::specs::Texts::waiting_line))]
+#[tactic(auto, unfolding(crate::specs::Texts::waiting_line))]
 pub(crate) fn waiting_line(
     out: &mut Vec<u8>,
     lkid: u32,
@@ -56,7 +56,7 @@ pub(crate) fn waiting_line(
 }
 
 /// The beginning of a lock's line.
-#[tactic(auto, unfolding(vlm_words::specs::Texts::lock_text))]
+#[tactic(auto, unfolding(crate::specs::Texts::lock_text))]
 fn lock_text(out: &mut Vec<u8>, queue: &[u8], lkid: u32, pid: u32) -> Result<(), AllocError>
     ensures { OnOk result (out.new.items ≡ out.old.items ++ lock_text queue.now lkid pid) }
 {

@@ -2,14 +2,14 @@
 
 ghost use Rattle.std.specs.Prelude.{◌≡◌, ◌++◌, ◌&&◌, nat_le, [], OnOk};
 ghost use Rattle.std.specs.List.{list_all};
-ghost use Rattle.vlm_words.specs.Texts.{resource_line, resources_text, domain_text, name_text, is_readable, validity};
+ghost use Rattle.vlm_script.specs.Texts.{resource_line, resources_text, domain_text, name_text, is_readable, validity};
 
 use super::texts::{hexadecimal, number, text};
 use std::alloc::AllocError;
 use vlm_words::resources::Domain;
 
 /// The resource's own line.
-#[tactic(auto, unfolding(vlm_words::specs::Texts::resource_line))]
+#[tactic(auto, unfolding(crate::specs::Texts::resource_line))]
 pub(crate) fn resource_line(
     out: &mut Vec<u8>,
     serial: u32,
@@ -38,7 +38,7 @@ pub(crate) fn resource_line(
 }
 
 /// The line that tells that there is no resource.
-#[tactic(auto, unfolding(vlm_words::specs::Texts::resources_text))]
+#[tactic(auto, unfolding(crate::specs::Texts::resources_text))]
 pub(crate) fn no_resources(out: &mut Vec<u8>) -> Result<(), AllocError>
     ensures { OnOk result (out.new.items ≡ out.old.items ++ resources_text []) }
 {
@@ -59,7 +59,7 @@ fn domain_text(out: &mut Vec<u8>, domain: Domain) -> Result<(), AllocError>
 }
 
 /// A resource's name as a script has it.
-#[tactic(auto, unfolding(vlm_words::specs::Texts::name_text))]
+#[tactic(auto, unfolding(crate::specs::Texts::name_text))]
 fn name_text(out: &mut Vec<u8>, name: &[u8]) -> Result<(), AllocError>
     ensures { OnOk result (out.new.items ≡ out.old.items ++ name_text name.now) }
 {

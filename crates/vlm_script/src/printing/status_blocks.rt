@@ -1,7 +1,7 @@
 //! Status blocks.
 
 ghost use Rattle.std.specs.Prelude.{◌≡◌, ◌++◌, codes, decimal, OnOk};
-ghost use Rattle.vlm_words.specs.Texts.{status_block_line, hex_text, line_feed};
+ghost use Rattle.vlm_script.specs.Texts.{status_block_line, hex_text, line_feed};
 
 use super::texts::{hexadecimal, number, text};
 use std::alloc::AllocError;
@@ -9,7 +9,7 @@ use vlm_words::blocks::Block;
 
 /// A status block under its process's name: what stands in it, or that the process has no such
 /// block.
-#[tactic(auto, unfolding(vlm_words::specs::Texts::status_block_line))]
+#[tactic(auto, unfolding(crate::specs::Texts::status_block_line))]
 pub(crate) fn status_block_line(
     out: &mut Vec<u8>,
     name: &[u8],

@@ -2,7 +2,7 @@
 
 use std::process::Abort;
 use vlm_script::PlayFault;
-use vlm_words::scripts::LineFault;
+use vlm_lines::LineFault;
 
 fn check<R: Abort + AllocGlobal>(rt: &R, fault: &PlayFault, text: &str) {
     let shown = format!(in rt.alloc(); "{fault}").expect(rt, "memory");

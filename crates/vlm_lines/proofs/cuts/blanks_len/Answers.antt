@@ -1,7 +1,7 @@
 use Rattle.std.proofs.Common.{◌∙◌, not, rules, tests}
 use Rattle.std.proofs.lemmas.Iterator.{YieldsList-from_slice}
 use Rattle.std.proofs.lemmas.Iterator.Search.{position_from_yields_List}
-use Rattle.vlm_words.specs.Lines.{is_blank}
+use Rattle.vlm_lines.specs.Lines.{is_blank}
 use Rattle.vlm_lines.proofs.Pieces.{end_found}
 use Rattle.vlm_lines.proofs.cuts.blanks_len.Goals as goal
 

@@ -1,5 +1,5 @@
 use Rattle.std.proofs.Common.{◌≡◌, ◌<◌, ◌^◌, take}
-use Rattle.vlm_words.specs.Lines.{decimal_value}
+use Rattle.vlm_lines.specs.Lines.{decimal_value}
 use Rattle.vlm_lines.proofs.numbers.decimal_value.Given as goal
 
 abbrev pub invariant-loop-digit : goal.invariant-loop-digit

@@ -1,7 +1,7 @@
 use Rattle.std.proofs.Common.{arith, take, ◌≡◌}
 use Rattle.std.proofs.lemmas.List.{take_all}
 use Rattle.std.proofs.lemmas.Grind.{common_steps}
-use Rattle.vlm_words.specs.Lines.{process_name}
+use Rattle.vlm_lines.specs.Lines.{process_name}
 use Rattle.vlm_lines.proofs.words.process_name.Goals as goal
 
 pub returns-then-all_name_bytes : goal.returns-then-all_name_bytes

@@ -1,7 +1,7 @@
 use Rattle.std.proofs.Common.{◌∙◌, rules, tests}
 use Rattle.std.proofs.lemmas.Iterator.{YieldsList-from_slice}
 use Rattle.std.proofs.lemmas.Iterator.Search.{position_from_yields_List}
-use Rattle.vlm_words.specs.Lines.{is_line_feed}
+use Rattle.vlm_lines.specs.Lines.{is_line_feed}
 use Rattle.vlm_lines.proofs.Pieces.{end_found}
 use Rattle.vlm_script.proofs.cuts.line_len.Goals as goal
 

@@ -1,6 +1,6 @@
 use Rattle.std.proofs.Common.{◌++◌, codes, decimal}
 use Rattle.std.proofs.KnownBytes.{Appends-trans}
-use Rattle.vlm_words.specs.Faults.{fault_text}
+use Rattle.vlm_lines.specs.Faults.{fault_text}
 use Rattle.vlm_script.proofs.Written.{part_of_first, part_behind, on_err, on_err_map}
 use Rattle.vlm_script.proofs.fault_lines.write_line_fault.Goals as goal
 

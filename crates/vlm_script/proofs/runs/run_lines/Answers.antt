@@ -1,6 +1,6 @@
 use Rattle.std.proofs.Common.{◌≡◌, ◌+◌, [], ◌∷◌, drop, sym, ap, ◌∙◌, refl, arith}
 use Rattle.std.proofs.lemmas.Result.{err_from_is_err_and}
-use Rattle.vlm_words.specs.Lines.{lines_of}
+use Rattle.vlm_lines.specs.Lines.{lines_of}
 use Rattle.vlm_script.proofs.Progress.{drop-more, reached-start, reached-more, reached-passed, reached-written, stop-ends, stops-writing, stops-at, ends}
 use Rattle.vlm_script.proofs.runs.run_lines.Goals as goal
 

@@ -1,7 +1,7 @@
 -- The texts of the faults of a script's lines.
 use Rattle.std.specs.Prelude.{ℕ, List, codes}
-use Rattle.vlm_words.specs.declared.scripts.LineFault.{LineFault}
-use Rattle.vlm_words.specs.declared.scripts.LineFault.TheVariants.{TooLong, UnknownCommand, WrongWord, NumberOutOfRange, UnknownName, NameUsed}
+use Rattle.vlm_lines.specs.declared.faults.LineFault.{LineFault}
+use Rattle.vlm_lines.specs.declared.faults.LineFault.TheVariants.{TooLong, UnknownCommand, WrongWord, NumberOutOfRange, UnknownName, NameUsed}
 
 -- a fault's text
 abbrev pub fault_text : LineFault → List ℕ

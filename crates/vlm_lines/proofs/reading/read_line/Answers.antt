@@ -1,6 +1,6 @@
 use Rattle.std.proofs.Common.{rules}
-use Rattle.vlm_words.specs.Lines.{line_read}
-use Rattle.vlm_lines.proofs.lines.read_line.Goals as goal
+use Rattle.vlm_lines.specs.Lines.{line_read}
+use Rattle.vlm_lines.proofs.reading.read_line.Goals as goal
 
 pub returns : goal.returns
 unfolding line_read

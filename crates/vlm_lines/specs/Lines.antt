@@ -6,18 +6,21 @@ use Rattle.std.specs.Char.{is_ascii_digit, is_ascii_alphabetic, is_ascii_alphanu
 use Rattle.std.specs.Int.RustNames.{bit_or}
 use Rattle.vlm_words.specs.declared.modes.Mode.{Mode}
 use Rattle.vlm_words.specs.declared.modes.Mode.TheVariants.{Nl, Cr, Cw, Pr, Pw, Ex}
+use Rattle.vlm_words.specs.declared.steps.Conversion.{Conversion}
 use Rattle.vlm_words.specs.declared.steps.Declaration.{Declaration}
+use Rattle.vlm_words.specs.declared.steps.Dequeue.{Dequeue}
+use Rattle.vlm_words.specs.declared.steps.NewRequest.{NewRequest}
+use Rattle.vlm_words.specs.declared.steps.ValueSetting.{ValueSetting}
 use Rattle.vlm_words.specs.declared.steps.Which.{Which}
 use Rattle.vlm_words.specs.declared.steps.Which.TheVariants.{Id, Block}
-use Rattle.vlm_words.specs.declared.scripts.DeclareWords.{DeclareWords}
-use Rattle.vlm_words.specs.declared.scripts.CvtWords.{CvtWords}
-use Rattle.vlm_words.specs.declared.scripts.DeqWords.{DeqWords}
-use Rattle.vlm_words.specs.declared.scripts.EnqWords.{EnqWords}
-use Rattle.vlm_words.specs.declared.scripts.SetWords.{SetWords}
-use Rattle.vlm_words.specs.declared.scripts.Line.{Line}
-use Rattle.vlm_words.specs.declared.scripts.Line.TheVariants.{Empty, Declare, Enq, Cvt, Deq, Set, Block as block_words, Show}
-use Rattle.vlm_words.specs.declared.scripts.LineFault.{LineFault}
-use Rattle.vlm_words.specs.declared.scripts.LineFault.TheVariants.{TooLong, UnknownCommand, WrongWord, NumberOutOfRange}
+use Rattle.vlm_lines.specs.declared.keyed.DeclareWords.{DeclareWords}
+use Rattle.vlm_lines.specs.declared.keyed.CvtWords.{CvtWords}
+use Rattle.vlm_lines.specs.declared.keyed.EnqWords.{EnqWords}
+use Rattle.vlm_lines.specs.declared.keyed.SetWords.{SetWords}
+use Rattle.vlm_lines.specs.declared.lines.Line.{Line}
+use Rattle.vlm_lines.specs.declared.lines.Line.TheVariants.{Empty, Declare, Enq, Cvt, Deq, Set, Block as block_words, Show}
+use Rattle.vlm_lines.specs.declared.faults.LineFault.{LineFault}
+use Rattle.vlm_lines.specs.declared.faults.LineFault.TheVariants.{TooLong, UnknownCommand, WrongWord, NumberOutOfRange}
 use Rattle.vlm_words.specs.Flags.{cancel, expedite, has_flag, invvalblk, noqueue, quecvt, syncsts, system, valblk}
 
 -- the byte goes to the front of the first piece
@@ -111,15 +114,19 @@ has_key key word = starts_with ◌==◌ word key
 abbrev pub behind : List ℕ → List ℕ → List ℕ
 behind key word = drop (length key) word
 
--- a number behind a key, which is given once
-unfoldable pub number_once : Option ℕ → ℕ → List ℕ → Result (Option ℕ) LineFault
-number_once None limit digits = number_within limit digits >>= λ n. Ok (Some n)
-number_once (Some earlier) limit digits = Err WrongWord
+-- what a word gives, where none before it gave it
+abbrev pub once : {A : Type 0} → Option A → Result A LineFault → Result (Option A) LineFault
+once None read = read >>= λ value. Ok (Some value)
+once (Some earlier) read = Err WrongWord
+
+-- what the words give, each after those before it
+abbrev pub all_words : {A : Type 0} → (A → List ℕ → Result A LineFault) → A → List (List ℕ) → Result A LineFault
+all_words with_word given [] = Ok given
+all_words with_word given (word ∷ words) = with_word given word >>= λ more. all_words with_word more words
 
 -- a resource's name as its bytes, of at most the 32 that count; a hexadecimal one is not read yet
-unfoldable pub resource_once : Option (List ℕ) → List ℕ → Result (Option (List ℕ)) LineFault
-resource_once None bytes = if has_key (codes "x:") bytes then Err WrongWord else Ok (Some (take 32 bytes))
-resource_once (Some earlier) bytes = Err WrongWord
+unfoldable pub resource_name : List ℕ → Result (List ℕ) LineFault
+resource_name bytes = if has_key (codes "x:") bytes then Err WrongWord else Ok (take 32 bytes)
 
 -- the number that a hexadecimal digit of either case stands for
 abbrev pub digit_value : ℕ → ℕ
@@ -135,21 +142,15 @@ hex_value (high ∷ low ∷ digits) = (digit_value high * 16 + digit_value low) 
 unfoldable pub value_of : List ℕ → Result (List ℕ) LineFault
 value_of word = if (length word == 32) && list_all is_ascii_hexdigit word then Ok (hex_value word) else Err WrongWord
 
--- a value block behind a key, which is given once
-unfoldable pub value_once : Option (List ℕ) → List ℕ → Result (Option (List ℕ)) LineFault
-value_once None digits = value_of digits >>= λ value. Ok (Some value)
-value_once (Some earlier) digits = Err WrongWord
-
 -- a lock: `@N` is the one whose identification stands in status block N, a number is its identification
 unfoldable pub lock_named : List ℕ → Result Which LineFault
 lock_named word =
     if has_key (codes "@") word then number_within 255 (behind (codes "@") word) >>= (λ n. Ok (Block n))
     else number_within 4294967295 word >>= (λ lkid. Ok (Id lkid))
 
--- a lock behind a key, which is given once
-unfoldable pub lock_once : Option Which → List ℕ → Result (Option Which) LineFault
-lock_once None word = lock_named word >>= λ lock. Ok (Some lock)
-lock_once (Some earlier) word = Err WrongWord
+-- the identification that no process has: a line names its process
+abbrev pub no_process : ℕ
+no_process = 0
 
 -- nothing of a declare line's keyed words is read yet
 abbrev pub no_declare_words : DeclareWords
@@ -159,20 +160,15 @@ no_declare_words = record { node = None; group = None; quota = None; blocks = No
 unfoldable pub declare_word : DeclareWords → List ℕ → Result DeclareWords LineFault
 declare_word d word =
     if has_key (codes "node=") word then
-    number_once d.node 255 (behind (codes "node=") word) >>= (λ n. Ok (record d { node = n }))
+    once d.node (number_within 255 (behind (codes "node=") word)) >>= (λ n. Ok (record d { node = n }))
     else if has_key (codes "group=") word then
-    number_once d.group 65535 (behind (codes "group=") word) >>= (λ n. Ok (record d { group = n }))
+    once d.group (number_within 65535 (behind (codes "group=") word)) >>= (λ n. Ok (record d { group = n }))
     else if has_key (codes "quota=") word then
-    number_once d.quota 65535 (behind (codes "quota=") word) >>= (λ n. Ok (record d { quota = n }))
+    once d.quota (number_within 65535 (behind (codes "quota=") word)) >>= (λ n. Ok (record d { quota = n }))
     else if has_key (codes "blocks=") word then
-    number_once d.blocks 255 (behind (codes "blocks=") word) >>= (λ n. Ok (record d { blocks = n }))
+    once d.blocks (number_within 255 (behind (codes "blocks=") word)) >>= (λ n. Ok (record d { blocks = n }))
     else if is_text word (codes "syslck") && not d.syslck then Ok (record d { syslck = true })
     else Err WrongWord
-
--- the keyed words of a declare line, in any order
-abbrev pub declare_words : DeclareWords → List (List ℕ) → Result DeclareWords LineFault
-declare_words d [] = Ok d
-declare_words d (word ∷ words) = declare_word d word >>= λ e. declare_words e words
 
 -- a needed word
 abbrev pub given : {A : Type 0} → Option A → Result A LineFault
@@ -203,7 +199,7 @@ unfoldable pub declare_line : List (List ℕ) → Result Line LineFault
 declare_line words =
     next_word words >>= λ first.
     process_name first.0 >>= λ name.
-    declare_words no_declare_words first.1 >>= λ d.
+    all_words declare_word no_declare_words first.1 >>= λ d.
     declaration_of d >>= λ declaration.
     Ok (Declare name declaration)
 
@@ -238,17 +234,12 @@ no_enq_words = record { resource = None; block = None; parent = None; flags = 0 
 unfoldable pub enq_word : EnqWords → List ℕ → Result EnqWords LineFault
 enq_word e word =
     if has_key (codes "name=") word then
-    resource_once e.resource (behind (codes "name=") word) >>= (λ r. Ok (record e { resource = r }))
+    once e.resource (resource_name (behind (codes "name=") word)) >>= (λ r. Ok (record e { resource = r }))
     else if has_key (codes "block=") word then
-    number_once e.block 255 (behind (codes "block=") word) >>= (λ n. Ok (record e { block = n }))
+    once e.block (number_within 255 (behind (codes "block=") word)) >>= (λ n. Ok (record e { block = n }))
     else if has_key (codes "parent=") word then
-    lock_once e.parent (behind (codes "parent=") word) >>= (λ lock. Ok (record e { parent = lock }))
+    once e.parent (lock_named (behind (codes "parent=") word)) >>= (λ lock. Ok (record e { parent = lock }))
     else flag_once e.flags (enq_flag word) >>= (λ flags. Ok (record e { flags = flags }))
-
--- the keyed words and flags of an enq line, in any order
-abbrev pub enq_words : EnqWords → List (List ℕ) → Result EnqWords LineFault
-enq_words e [] = Ok e
-enq_words e (word ∷ words) = enq_word e word >>= λ f. enq_words f words
 
 -- without the word the identification 0 names no parent
 abbrev pub parent_of : EnqWords → Which
@@ -261,16 +252,19 @@ enq_line words =
     process_name first.0 >>= λ name.
     next_word first.1 >>= λ second.
     mode_of second.0 >>= λ mode.
-    enq_words no_enq_words second.1 >>= λ e.
+    all_words enq_word no_enq_words second.1 >>= λ e.
     given e.resource >>= λ resource.
     given e.block >>= λ block.
-    Ok (Enq (record {
-      name = name;
+    Ok (Enq name (record {
+      pid = no_process;
       mode = mode;
-      resource = resource;
+      name = resource;
       block = block;
       parent = parent_of e;
       flags = e.flags;
+      ast = None;
+      bast = None;
+      param = 0;
     }))
 
 -- nothing of a cvt line's keyed words is read yet
@@ -281,13 +275,8 @@ no_cvt_words = record { block = None; flags = 0 }
 unfoldable pub cvt_word : CvtWords → List ℕ → Result CvtWords LineFault
 cvt_word c word =
     if has_key (codes "block=") word then
-    number_once c.block 255 (behind (codes "block=") word) >>= (λ n. Ok (record c { block = n }))
+    once c.block (number_within 255 (behind (codes "block=") word)) >>= (λ n. Ok (record c { block = n }))
     else flag_once c.flags (enq_flag word) >>= (λ flags. Ok (record c { flags = flags }))
-
--- the keyed words and flags of a cvt line, in any order
-abbrev pub cvt_words : CvtWords → List (List ℕ) → Result CvtWords LineFault
-cvt_words c [] = Ok c
-cvt_words c (word ∷ words) = cvt_word c word >>= λ d. cvt_words d words
 
 -- cvt NAME LOCK MODE block=N [flags]
 unfoldable pub cvt_line : List (List ℕ) → Result Line LineFault
@@ -298,25 +287,29 @@ cvt_line words =
     lock_named second.0 >>= λ lock.
     next_word second.1 >>= λ third.
     mode_of third.0 >>= λ mode.
-    cvt_words no_cvt_words third.1 >>= λ c.
+    all_words cvt_word no_cvt_words third.1 >>= λ c.
     given c.block >>= λ block.
-    Ok (Cvt (record { name = name; lock = lock; mode = mode; block = block; flags = c.flags }))
+    Ok (Cvt name (record {
+      pid = no_process;
+      lock = lock;
+      mode = mode;
+      block = block;
+      flags = c.flags;
+      ast = None;
+      bast = None;
+      param = 0;
+    }))
 
--- nothing of a deq line's keyed words is read yet
-abbrev pub no_deq_words : DeqWords
-no_deq_words = record { value = None; flags = 0 }
+-- the dequeue of a lock before any keyed word of its line is read
+abbrev pub bare_dequeue : Which → Dequeue
+bare_dequeue lock = record { pid = no_process; lock = lock; value = None; flags = 0 }
 
 -- one more keyed word or flag of a deq line
-unfoldable pub deq_word : DeqWords → List ℕ → Result DeqWords LineFault
+unfoldable pub deq_word : Dequeue → List ℕ → Result Dequeue LineFault
 deq_word d word =
     if has_key (codes "value=") word then
-    value_once d.value (behind (codes "value=") word) >>= (λ value. Ok (record d { value = value }))
+    once d.value (value_of (behind (codes "value=") word)) >>= (λ value. Ok (record d { value = value }))
     else flag_once d.flags (deq_flag word) >>= (λ flags. Ok (record d { flags = flags }))
-
--- the keyed words and flags of a deq line, in any order
-abbrev pub deq_words : DeqWords → List (List ℕ) → Result DeqWords LineFault
-deq_words d [] = Ok d
-deq_words d (word ∷ words) = deq_word d word >>= λ e. deq_words e words
 
 -- deq NAME LOCK [value=HEX] [flags]
 unfoldable pub deq_line : List (List ℕ) → Result Line LineFault
@@ -325,8 +318,8 @@ deq_line words =
     process_name first.0 >>= λ name.
     next_word first.1 >>= λ second.
     lock_named second.0 >>= λ lock.
-    deq_words no_deq_words second.1 >>= λ d.
-    Ok (Deq (record { name = name; lock = lock; value = d.value; flags = d.flags }))
+    all_words deq_word (bare_dequeue lock) second.1 >>= λ d.
+    Ok (Deq name d)
 
 -- nothing of a set line's keyed words is read yet
 abbrev pub no_set_words : SetWords
@@ -336,25 +329,20 @@ no_set_words = record { block = None; value = None }
 unfoldable pub set_word : SetWords → List ℕ → Result SetWords LineFault
 set_word s word =
     if has_key (codes "block=") word then
-    number_once s.block 255 (behind (codes "block=") word) >>= (λ n. Ok (record s { block = n }))
+    once s.block (number_within 255 (behind (codes "block=") word)) >>= (λ n. Ok (record s { block = n }))
     else if has_key (codes "value=") word then
-    value_once s.value (behind (codes "value=") word) >>= (λ value. Ok (record s { value = value }))
+    once s.value (value_of (behind (codes "value=") word)) >>= (λ value. Ok (record s { value = value }))
     else Err WrongWord
-
--- the keyed words of a set line, in any order
-abbrev pub set_words : SetWords → List (List ℕ) → Result SetWords LineFault
-set_words s [] = Ok s
-set_words s (word ∷ words) = set_word s word >>= λ t. set_words t words
 
 -- set NAME block=N value=HEX
 unfoldable pub set_line : List (List ℕ) → Result Line LineFault
 set_line words =
     next_word words >>= λ first.
     process_name first.0 >>= λ name.
-    set_words no_set_words first.1 >>= λ s.
+    all_words set_word no_set_words first.1 >>= λ s.
     given s.block >>= λ block.
     given s.value >>= λ value.
-    Ok (Set (record { name = name; block = block; value = value }))
+    Ok (Set name (record { pid = no_process; block = block; value = value }))
 
 -- block NAME N
 unfoldable pub block_command : List (List ℕ) → Result Line LineFault
@@ -363,7 +351,7 @@ block_command words =
     process_name first.0 >>= λ name.
     next_word first.1 >>= λ second.
     number_within 255 second.0 >>= λ number.
-    no_more (block_words (record { name = name; number = number })) second.1
+    no_more (block_words name number) second.1
 
 -- a line by its command
 unfoldable pub command_line : List ℕ → List (List ℕ) → Result Line LineFault

@@ -1,12 +1,10 @@
 -- What a script's run prints.
 use Rattle.std.specs.Prelude.{ℕ, Bool, true, false, not, ◌&&◌, ◌+◌, ◌/◌, ◌%◌, nat_lt, nat_le, List, [], ◌∷◌, ◌++◌, codes, decimal, flat_map, Option, None, Some, if◌then◌else◌}
 use Rattle.std.specs.List.{list_all}
-use Rattle.std.specs.Option.{option_map}
 use Rattle.vlm_words.specs.declared.asts.Ast.{Ast}
 use Rattle.vlm_words.specs.declared.asts.AstKind.TheVariants.{Completion, Blocking}
 use Rattle.vlm_words.specs.declared.asts.AstKind.{AstKind}
 use Rattle.vlm_words.specs.declared.blocks.Block.{Block}
-use Rattle.vlm_words.specs.declared.locks.Request.{Request}
 use Rattle.vlm_words.specs.declared.locks.Row.{Row}
 use Rattle.vlm_words.specs.declared.modes.Mode.TheVariants.{Nl, Cr, Cw, Pr, Pw, Ex}
 use Rattle.vlm_words.specs.declared.modes.Mode.{Mode}
@@ -15,8 +13,9 @@ use Rattle.vlm_words.specs.declared.resources.Domain.{Domain}
 use Rattle.vlm_words.specs.declared.steps.Answer.TheVariants.{Process as process_answer, Lock, Victim, Taken, Plain}
 use Rattle.vlm_words.specs.declared.steps.Answer.{Answer}
 use Rattle.vlm_words.specs.Conditions.{condition_name}
+use Rattle.vlm_words.specs.Rows.{mode_asked}
 use Rattle.vlm_words.specs.State.{Resource}
-use Rattle.vlm_words.specs.Lines.{has_key}
+use Rattle.vlm_lines.specs.Lines.{has_key}
 
 -- the end of a line
 abbrev pub line_feed : List ℕ
@@ -96,10 +95,6 @@ resource_line serial parent domain name value valid =
 abbrev pub mode_text : Option Mode → List ℕ
 mode_text None = []
 mode_text (Some mode) = mode_name mode
-
--- a request's mode
-abbrev pub mode_asked : Option Request → Option Mode
-mode_asked request = option_map (λ q. q.mode) request
 
 -- a lock's line begins so
 unfoldable pub lock_text : List ℕ → ℕ → ℕ → List ℕ

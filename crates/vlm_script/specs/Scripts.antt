@@ -1,28 +1,20 @@
 -- The run of a script: which line prints what, and which fault is the first.
 use Rattle.std.specs.Prelude.{◌≡◌, ℕ, ◌+◌, List, [], ◌∷◌, ◌++◌, take, drop, find, Option, None, Some, Result, Ok, Err}
 use Rattle.std.specs.Option.{option_map}
-use Rattle.vlm_words.specs.declared.scripts.CvtLine.{CvtLine}
-use Rattle.vlm_words.specs.declared.scripts.DeqLine.{DeqLine}
-use Rattle.vlm_words.specs.declared.scripts.EnqLine.{EnqLine}
-use Rattle.vlm_words.specs.declared.scripts.Line.TheVariants.{Empty, Declare, Set, Enq, Cvt, Deq, Block, Show}
-use Rattle.vlm_words.specs.declared.scripts.Line.{Line}
-use Rattle.vlm_words.specs.declared.scripts.LineFault.TheVariants.{UnknownName, NameUsed}
-use Rattle.vlm_words.specs.declared.scripts.LineFault.{LineFault}
-use Rattle.vlm_words.specs.declared.scripts.SetLine.{SetLine}
+use Rattle.vlm_lines.specs.declared.lines.Line.TheVariants.{Empty, Declare, Set, Enq, Cvt, Deq, Block, Show}
+use Rattle.vlm_lines.specs.declared.lines.Line.{Line}
+use Rattle.vlm_lines.specs.declared.faults.LineFault.TheVariants.{UnknownName, NameUsed}
+use Rattle.vlm_lines.specs.declared.faults.LineFault.{LineFault}
 use Rattle.vlm_words.specs.declared.steps.Answer.TheVariants.{Process as process_answer, Lock, Victim, Taken, Plain}
 use Rattle.vlm_words.specs.declared.steps.Answer.{Answer}
-use Rattle.vlm_words.specs.declared.steps.Conversion.{Conversion}
 use Rattle.vlm_words.specs.declared.steps.Declaration.{Declaration}
-use Rattle.vlm_words.specs.declared.steps.Dequeue.{Dequeue}
-use Rattle.vlm_words.specs.declared.steps.NewRequest.{NewRequest}
-use Rattle.vlm_words.specs.declared.steps.Step.TheVariants.{Declare as declare_step, SetValue as set_step, Enq as enq_step, Convert as convert_step, Deq as deq_step}
+use Rattle.vlm_words.specs.declared.steps.Step.TheVariants.{Declare as declare_step, SetValue as set_step, Enq as enq_step, Convert as convert_step, Deq as deq_step, Rundown, Leave, Search, Take}
 use Rattle.vlm_words.specs.declared.steps.Step.{Step}
-use Rattle.vlm_words.specs.declared.steps.ValueSetting.{ValueSetting}
 use Rattle.vlm_words.specs.State.{State, start}
 use Rattle.vlm_words.specs.StatusBlocks.{status_block_at}
 use Rattle.vlm_words.specs.Stepped.{Outcome}
-use Rattle.vlm_words.specs.Lines.{is_text, line_read, lines_of}
-use Rattle.vlm_words.specs.Texts.{answer_line, resources_text, status_block_line}
+use Rattle.vlm_lines.specs.Lines.{is_text, line_read, lines_of}
+use Rattle.vlm_script.specs.Texts.{answer_line, resources_text, status_block_line}
 
 -- a name of the script, and the process that it is bound to
 pub record Binding : Type 0 where
@@ -54,47 +46,24 @@ unknown_fault (Some pid) = None
 abbrev pub name_fault : List Binding → Line → Option LineFault
 name_fault names Empty = None
 name_fault names (Declare name declaration) = used_fault (bound_to names name)
-name_fault names (Set line) = unknown_fault (bound_to names line.name)
-name_fault names (Enq line) = unknown_fault (bound_to names line.name)
-name_fault names (Cvt line) = unknown_fault (bound_to names line.name)
-name_fault names (Deq line) = unknown_fault (bound_to names line.name)
-name_fault names (Block line) = unknown_fault (bound_to names line.name)
+name_fault names (Set name setting) = unknown_fault (bound_to names name)
+name_fault names (Enq name request) = unknown_fault (bound_to names name)
+name_fault names (Cvt name conversion) = unknown_fault (bound_to names name)
+name_fault names (Deq name dequeue) = unknown_fault (bound_to names name)
+name_fault names (Block name number) = unknown_fault (bound_to names name)
 name_fault names Show = None
 
--- the request that an enq line makes of a process
-abbrev pub request_made : ℕ → EnqLine → NewRequest
-request_made pid line = record {
-  pid = pid;
-  mode = line.mode;
-  name = line.resource;
-  block = line.block;
-  parent = line.parent;
-  flags = line.flags;
-  ast = None;
-  bast = None;
-  param = 0;
-}
-
--- the conversion that a cvt line makes of a process
-abbrev pub conversion_made : ℕ → CvtLine → Conversion
-conversion_made pid line = record {
-  pid = pid;
-  lock = line.lock;
-  mode = line.mode;
-  block = line.block;
-  flags = line.flags;
-  ast = None;
-  bast = None;
-  param = 0;
-}
-
--- the dequeue that a deq line makes of a process
-abbrev pub dequeue_made : ℕ → DeqLine → Dequeue
-dequeue_made pid line = record { pid = pid; lock = line.lock; value = line.value; flags = line.flags }
-
--- the value that a set line puts into a status block of a process
-abbrev pub setting_made : ℕ → SetLine → ValueSetting
-setting_made pid line = record { pid = pid; block = line.block; value = line.value }
+-- the step, made by this process; some steps are of none
+abbrev pub of_process : ℕ → Step → Step
+of_process pid (declare_step declaration) = declare_step declaration
+of_process pid (set_step setting) = set_step (record setting { pid = pid })
+of_process pid (enq_step request) = enq_step (record request { pid = pid })
+of_process pid (convert_step conversion) = convert_step (record conversion { pid = pid })
+of_process pid (deq_step dequeue) = deq_step (record dequeue { pid = pid })
+of_process pid (Rundown none) = Rundown pid
+of_process pid (Leave node) = Leave node
+of_process pid (Search node) = Search node
+of_process pid (Take none) = Take pid
 
 -- a name is bound where its declaration is accepted
 abbrev pub bound_by : List Binding → List ℕ → Answer → List Binding
@@ -111,12 +80,12 @@ pub record Declares (old : Session) (name : List ℕ) (declaration : Declaration
   pub names : new.names ≡ bound_by old.names name answer
   pub printed : text ≡ answer_line name answer
 
--- another line with a name makes its step of the process that the name is bound to, and prints the answer
-pub record Makes (old : Session) (name : List ℕ) (step_of : ℕ → Step) (text : List ℕ) (new : Session) : Type 0 where
+-- another line with a name makes its step, by the process that the name is bound to, and prints the answer
+pub record Makes (old : Session) (name : List ℕ) (step : Step) (text : List ℕ) (new : Session) : Type 0 where
   pub pid : ℕ
   pub bound : bound_to old.names name ≡ Some pid
   pub answer : Answer
-  pub outcome : Outcome old.state (step_of pid) new.state answer
+  pub outcome : Outcome old.state (of_process pid step) new.state answer
   pub names : new.names ≡ old.names
   pub printed : text ≡ answer_line name answer
 
@@ -136,14 +105,12 @@ pub record Prints (old : Session) (shown text : List ℕ) (new : Session) : Type
 abbrev pub Runs : Session → Line → List ℕ → Session → Type 0
 Runs old Empty text new = Prints old [] text new
 Runs old (Declare name declaration) text new = Declares old name declaration text new
-Runs old (Set line) text new = Makes old line.name (λ pid. set_step (setting_made pid line)) text new
-Runs old (Enq line) text new = Makes old line.name (λ pid. enq_step (request_made pid line)) text new
-Runs old (Cvt line) text new = Makes old line.name (λ pid. convert_step (conversion_made pid line)) text new
-Runs old (Deq line) text new = Makes old line.name (λ pid. deq_step (dequeue_made pid line)) text new
-Runs old (Block line) text new =
-    Shows old line.name
-    (λ pid. status_block_line line.name line.number (status_block_at old.state.processes pid line.number))
-    text new
+Runs old (Set name setting) text new = Makes old name (set_step setting) text new
+Runs old (Enq name request) text new = Makes old name (enq_step request) text new
+Runs old (Cvt name conversion) text new = Makes old name (convert_step conversion) text new
+Runs old (Deq name dequeue) text new = Makes old name (deq_step dequeue) text new
+Runs old (Block name number) text new =
+    Shows old name (λ pid. status_block_line name number (status_block_at old.state.processes pid number)) text new
 Runs old Show text new = Prints old (resources_text old.state.resources) text new
 
 -- the fault of a line in a session: of its bytes, or of its name

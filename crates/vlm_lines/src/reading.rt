@@ -1,0 +1,223 @@
+//! Lines by their commands.
+
+ghost use Rattle.std.specs.Prelude.{◌≡◌, MatchResult};
+ghost use Rattle.vlm_lines.specs.Lines.{block_command, line_read, line_of, command_line, declare_line, enq_line, cvt_line, deq_line, set_line, declaration_of, words_of, next_word, no_more};
+
+use crate::cuts;
+use crate::faults::LineFault;
+use crate::keyed::{CvtWords, DeclareWords, EnqWords, Keyed, SetWords};
+use crate::lines::Line;
+use crate::locks::lock;
+use crate::numbers::byte;
+use crate::words::{behind_key, is_text, mode, process_name};
+use vlm_words::steps::{Conversion, Declaration, Dequeue, NewRequest, ValueSetting, Which};
+
+/// The identification that no process has.
+const NO_PROCESS: u32 = 0;
+
+/// The longest line, in bytes.
+const LONGEST: usize = 255;
+
+/// Reads a line of a script, without its line feed; the language is this project's own. It takes no
+/// memory.
+///
+/// The faults in the order of their checks: `TooLong` above 255 bytes; `UnknownCommand`; then the
+/// first faulty word from left to right, `WrongWord` where its form is not that of its place or it
+/// is given twice, else `NumberOutOfRange`; last `WrongWord` where a needed word is missing. The
+/// two faults of names are not found here.
+#[tactic(auto, unfolding(crate::specs::Lines::line_read))]
+pub fn read_line(bytes: &[u8]) -> Result<Line, LineFault>
+    ensures { result ≡ line_read bytes.now }
+{
+    if bytes.len() > LONGEST {
+        return Err(LineFault::TooLong);
+    }
+    line_of(bytes)
+}
+
+/// A line without words, or whose first word begins with `#`, does nothing.
+#[tactic(auto, unfolding(crate::specs::Lines::line_of))]
+fn line_of(line: &[u8]) -> Result<Line, LineFault>
+    ensures { result ≡ line_of (words_of line.now) }
+{
+    let Some((word, rest)) = cuts::next_word(line) else {
+        return Ok(Line::Empty);
+    };
+    if behind_key(b"#", word).is_some() {
+        return Ok(Line::Empty);
+    }
+    command_line(word, rest)
+}
+
+/// A line by its command.
+#[tactic(auto, unfolding(crate::specs::Lines::command_line))]
+fn command_line(command: &[u8], rest: &[u8]) -> Result<Line, LineFault>
+    ensures { result ≡ command_line command.now (words_of rest.now) }
+{
+    if is_text(command, b"declare") {
+        declare_line(rest)
+    } else if is_text(command, b"enq") {
+        enq_line(rest)
+    } else if is_text(command, b"cvt") {
+        cvt_line(rest)
+    } else if is_text(command, b"deq") {
+        deq_line(rest)
+    } else if is_text(command, b"set") {
+        set_line(rest)
+    } else if is_text(command, b"block") {
+        block_line(rest)
+    } else if is_text(command, b"show") {
+        no_more(Line::Show, rest)
+    } else {
+        Err(LineFault::UnknownCommand)
+    }
+}
+
+/// The words of a declare line: NAME node=N group=N quota=N blocks=N [syslck].
+#[tactic(auto, unfolding(crate::specs::Lines::declare_line))]
+fn declare_line(line: &[u8]) -> Result<Line, LineFault>
+    ensures { result ≡ declare_line (words_of line.now) }
+{
+    let (first, rest) = needed_word(line)?;
+    let name = process_name(first)?;
+    let words = DeclareWords::new().with_words(rest)?;
+    let declaration = declaration_of(words)?;
+    Ok(Line::Declare(name, declaration))
+}
+
+/// A declare line needs all four numbers.
+#[tactic(auto, unfolding(crate::specs::Lines::declaration_of))]
+fn declaration_of(words: DeclareWords) -> Result<Declaration, LineFault>
+    ensures { result ≡ declaration_of words }
+{
+    let node = words.node.ok_or(LineFault::WrongWord)?;
+    let group = words.group.ok_or(LineFault::WrongWord)?;
+    let quota = words.quota.ok_or(LineFault::WrongWord)?;
+    let blocks = words.blocks.ok_or(LineFault::WrongWord)?;
+    Ok(Declaration {
+        node,
+        group,
+        syslck: words.syslck,
+        quota,
+        blocks,
+    })
+}
+
+/// The words of an enq line: NAME MODE name=RES block=N [parent=LOCK] and flags.
+#[tactic(auto, unfolding(crate::specs::Lines::enq_line))]
+fn enq_line(line: &[u8]) -> Result<Line, LineFault>
+    ensures { result ≡ enq_line (words_of line.now) }
+{
+    let (first, after_name) = needed_word(line)?;
+    let name = process_name(first)?;
+    let (second, rest) = needed_word(after_name)?;
+    let mode = mode(second)?;
+    let words = EnqWords::new().with_words(rest)?;
+    let resource = words.resource.ok_or(LineFault::WrongWord)?;
+    let block = words.block.ok_or(LineFault::WrongWord)?;
+    let request = NewRequest {
+        pid: NO_PROCESS,
+        mode,
+        name: resource,
+        block,
+        parent: words.parent.unwrap_or(Which::Id(0)),
+        flags: words.flags,
+        ast: None,
+        bast: None,
+        param: 0,
+    };
+    Ok(Line::Enq(name, request))
+}
+
+/// The words of a cvt line: NAME LOCK MODE block=N and flags.
+#[tactic(auto, unfolding(crate::specs::Lines::cvt_line))]
+fn cvt_line(line: &[u8]) -> Result<Line, LineFault>
+    ensures { result ≡ cvt_line (words_of line.now) }
+{
+    let (first, after_name) = needed_word(line)?;
+    let name = process_name(first)?;
+    let (second, after_lock) = needed_word(after_name)?;
+    let lock = lock(second)?;
+    let (third, rest) = needed_word(after_lock)?;
+    let mode = mode(third)?;
+    let words = CvtWords::new().with_words(rest)?;
+    let block = words.block.ok_or(LineFault::WrongWord)?;
+    let conversion = Conversion {
+        pid: NO_PROCESS,
+        lock,
+        mode,
+        block,
+        flags: words.flags,
+        ast: None,
+        bast: None,
+        param: 0,
+    };
+    Ok(Line::Cvt(name, conversion))
+}
+
+/// The words of a deq line: NAME LOCK [value=HEX] and flags.
+#[tactic(auto, unfolding(crate::specs::Lines::deq_line))]
+fn deq_line(line: &[u8]) -> Result<Line, LineFault>
+    ensures { result ≡ deq_line (words_of line.now) }
+{
+    let (first, after_name) = needed_word(line)?;
+    let name = process_name(first)?;
+    let (second, rest) = needed_word(after_name)?;
+    let lock = lock(second)?;
+    let bare = Dequeue {
+        pid: NO_PROCESS,
+        lock,
+        value: None,
+        flags: 0,
+    };
+    Ok(Line::Deq(name, bare.with_words(rest)?))
+}
+
+/// The words of a set line: NAME block=N value=HEX.
+#[tactic(auto, unfolding(crate::specs::Lines::set_line))]
+fn set_line(line: &[u8]) -> Result<Line, LineFault>
+    ensures { result ≡ set_line (words_of line.now) }
+{
+    let (first, rest) = needed_word(line)?;
+    let name = process_name(first)?;
+    let words = SetWords::new().with_words(rest)?;
+    let block = words.block.ok_or(LineFault::WrongWord)?;
+    let value = words.value.ok_or(LineFault::WrongWord)?;
+    let setting = ValueSetting {
+        pid: NO_PROCESS,
+        block,
+        value,
+    };
+    Ok(Line::Set(name, setting))
+}
+
+/// The words of a block line: NAME N.
+#[tactic(auto, unfolding(crate::specs::Lines::block_command))]
+fn block_line(line: &[u8]) -> Result<Line, LineFault>
+    ensures { result ≡ block_command (words_of line.now) }
+{
+    let (first, after_name) = needed_word(line)?;
+    let name = process_name(first)?;
+    let (second, rest) = needed_word(after_name)?;
+    let number = byte(second)?;
+    no_more(Line::Block(name, number), rest)
+}
+
+/// The next word, which the line needs, and the bytes behind it.
+fn needed_word(line: &[u8]) -> Result<(&[u8], &[u8]), LineFault>
+    ensures { MatchResult result
+        (λ p. next_word (words_of line.now) ≡ Ok (p.0.now, words_of p.1.now))
+        (λ fault. next_word (words_of line.now) ≡ Err fault) }
+{
+    cuts::next_word(line).ok_or(LineFault::WrongWord)
+}
+
+/// The line, which no word may follow.
+fn no_more(line: Line, rest: &[u8]) -> Result<Line, LineFault>
+    ensures { result ≡ no_more line (words_of rest.now) }
+{
+    if cuts::next_word(rest).is_some() {
+        return Err(LineFault::WrongWord);
+    }
+    Ok(line)
+}
