@@ -2,7 +2,7 @@
 -- removal of the lock.
 use Rattle.std.proofs.Common.{◌≡◌, ◌≤◌, ◌+◌, ℕ, zero, suc, Bool, true, false, not, ◌&&◌, List, [], ◌∷◌, ◌++◌, map, drop, cond, Option, None, Some, refl, sym, ap, inl, inr, subst, arith}
 use Rattle.std.specs.Prelude.{◌==◌}
-use Rattle.std.specs.List.{filter, find, sum_by}
+use Rattle.std.specs.List.{filter, find, list_any, sum_by}
 use Rattle.std.proofs.lemmas.Bool.{and_parts, cond_both}
 use Rattle.std.proofs.lemmas.Bool.Decides.{eqb_tells, nat_tests}
 use Rattle.std.proofs.lemmas.List.Filters.{sum_by-filter_both}
@@ -19,7 +19,7 @@ use Rattle.vlm_words.specs.Convert.{resource_after_conversion, resource_after_co
 use Rattle.vlm_words.specs.Withdrawals.{Withdrawal, is_held_by_writer, resource_after_cancel, resource_after_withdrawals, resource_after_writer, resource_without, row_after_cancel, value_block_after_writer}
 use Rattle.vlm_words.specs.Laws.{GrantsFirst}
 use Rattle.vlm_words.proofs.Each.{Found, found_at}
-use Rattle.vlm_words.proofs.Sums.{sum_of_zero, sum_same}
+use Rattle.vlm_words.proofs.Sums.{any_counts, sum_of_zero, sum_same}
 use Rattle.vlm_words.proofs.Weights.{served_weighs, weigh}
 use Rattle.vlm_words.proofs.Moves.{IsByName, grant_keeps}
 use Rattle.vlm_words.proofs.Apart.{stands}
@@ -35,6 +35,10 @@ held_by pid lkid r = sum_by (locks pid lkid) r.granted + sum_by (locks pid lkid)
 
 pub locks_named : (pid lkid : ℕ) → IsByName (locks pid lkid)
 locks_named pid lkid row held want armed = refl
+
+-- a lock of the process that is found among rows is counted there
+pub locks_counted : (pid lkid : ℕ) (rows : List Row) → list_any (is_lock_of pid lkid) rows ≡ true → 1 ≤ sum_by (locks pid lkid) rows
+locks_counted pid lkid = any_counts (is_lock_of pid lkid) (locks pid lkid) (λ row here. ap (λ (b : Bool). cond b 1 0) here)
 
 -- a row of the lock is one of its identification
 pub locks-le-stands : (pid lkid : ℕ) (row : Row) → locks pid lkid row ≤ stands lkid row

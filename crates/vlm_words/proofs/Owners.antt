@@ -37,7 +37,7 @@ use Rattle.vlm_words.specs.Owners.{IsCaller, OthersAreLeftAlone}
 use Rattle.vlm_words.proofs.Always.{admission_of}
 use Rattle.vlm_words.proofs.Apart.{Apart, apart_always, standing, stands}
 use Rattle.vlm_words.proofs.Each.{each_append, each_weaker}
-use Rattle.vlm_words.proofs.Holdings.{converted_held, locks, locks_named, others_go}
+use Rattle.vlm_words.proofs.Holdings.{converted_held, locks, locks_counted, locks_named, others_go}
 use Rattle.vlm_words.proofs.InOrder.{sweep_in_order}
 use Rattle.vlm_words.proofs.Moves.{grant_keeps, swept_named}
 use Rattle.vlm_words.proofs.Passed.{test_passes}
@@ -87,18 +87,14 @@ all_of pid lkid (r ∷ rest) =
       sum_by-cons (weigh (strangers pid lkid)) r rest,
     )
 
--- a lock of the process is counted among its own
-own_counted : (pid lkid : ℕ) (rows : List Row) → list_any (is_lock_of pid lkid) rows ≡ true → 1 ≤ sum_by (locks pid lkid) rows
-own_counted pid lkid = any_counts (is_lock_of pid lkid) (locks pid lkid) (λ row here. ap (λ (b : Bool). cond b 1 0) here)
-
 on_resource_counted : (pid lkid : ℕ) (r : Resource) → holds_lock pid lkid r ≡ true → 1 ≤ weigh (locks pid lkid) r
 on_resource_counted pid lkid r held =
     elim (or_cases (list_any (is_lock_of pid lkid) r.granted || list_any (is_lock_of pid lkid) r.converting) (list_any (is_lock_of pid lkid) r.waiting) held) [
       | inl first ↦ elim (or_cases (list_any (is_lock_of pid lkid) r.granted) (list_any (is_lock_of pid lkid) r.converting) first) [
-        | inl granted ↦ omega (arith, own_counted pid lkid r.granted granted)
-        | inr converting ↦ omega (arith, own_counted pid lkid r.converting converting)
+        | inl granted ↦ omega (arith, locks_counted pid lkid r.granted granted)
+        | inr converting ↦ omega (arith, locks_counted pid lkid r.converting converting)
       ]
-      | inr waiting ↦ omega (arith, own_counted pid lkid r.waiting waiting)
+      | inr waiting ↦ omega (arith, locks_counted pid lkid r.waiting waiting)
     ]
 
 held_counted : (pid lkid : ℕ) (resources : List Resource) → list_any (holds_lock pid lkid) resources ≡ true → 1 ≤ sum_by (weigh (locks pid lkid)) resources

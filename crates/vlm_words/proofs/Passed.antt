@@ -45,6 +45,12 @@ pub second_fails : (a b : Bool) → (a && b) ≡ false → a ≡ true → b ≡ 
 second_fails true b both first = both
 second_fails false b both first = cc
 
+-- the first of two tests fails where the first passes only with the second, and the second fails
+pub first_fails : (a b : Bool) → (a && not b) ≡ false → b ≡ false → a ≡ false
+first_fails false b both second = refl
+first_fails true true both second = cc
+first_fails true false both second = cc
+
 -- where none of three checks refuses, each passes
 pub three_pass : (a b c : Option Cond) → or_else a (or_else b c) ≡ None → (a ≡ None) × (b ≡ None) × (c ≡ None)
 three_pass None None c passed = (refl, refl, passed)

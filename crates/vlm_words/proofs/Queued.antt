@@ -17,7 +17,7 @@ use Rattle.vlm_words.specs.Convert.{ConversionAdmission, admission_refusal, conv
 use Rattle.vlm_words.specs.Runs.{History, Run}
 use Rattle.vlm_words.specs.Queued.{MayWait, NoqueueIsKept}
 use Rattle.vlm_words.proofs.Each.{each_append, each_weaker}
-use Rattle.vlm_words.proofs.Passed.{admission_passes, both_pass, enq_passes, test_fails}
+use Rattle.vlm_words.proofs.Passed.{admission_passes, both_pass, enq_passes, first_fails, test_fails}
 use Rattle.vlm_words.proofs.Admissions.{admitted_request}
 use Rattle.vlm_words.proofs.Waiting.{EachConverting, Queued, queued_always}
 
@@ -31,12 +31,7 @@ unfolding enq_limit_refusal
 request_may_wait s e passed waits =
     let quota = both_pass (quota_refusal s e.pid) (or_else (numbers_refusal s) (queue_refusal e.flags (enq_at_once s e))) (enq_passes s e passed).3 in
     let numbers = both_pass (numbers_refusal s) (queue_refusal e.flags (enq_at_once s e)) quota.1 in
-    without (has_flag e.flags noqueue) (enq_at_once s e) (test_fails (has_flag e.flags noqueue && not (enq_at_once s e)) Notqueued numbers.1) waits
-  where
-    without : (a b : Bool) → (a && not b) ≡ false → b ≡ false → a ≡ false
-    without true true both waits = cc
-    without true false both waits = cc
-    without false b both waits = refl
+    first_fails (has_flag e.flags noqueue) (enq_at_once s e) (test_fails (has_flag e.flags noqueue && not (enq_at_once s e)) Notqueued numbers.1) waits
 
 -- an accepted conversion that is not granted at once may wait
 conversion_may_wait : (s : State) (c : Conversion) (a : ConversionAdmission) → convert_refusal s c ≡ None → convert_admission s c ≡ Some a
@@ -46,12 +41,7 @@ conversion_may_wait s c a passed is waits =
     subst (λ (found : Option ConversionAdmission). admission_refusal s c found ≡ None) is (admission_passes s c passed) in
     let pair = both_pass (pair_refusal c a.row) (or_else (request_numbers_refusal s) (queue_refusal c.flags a.at_once)) admitted in
     let numbers = both_pass (request_numbers_refusal s) (queue_refusal c.flags a.at_once) pair.1 in
-    without (has_flag c.flags noqueue) a.at_once (test_fails (has_flag c.flags noqueue && not a.at_once) Notqueued numbers.1) waits
-  where
-    without : (a b : Bool) → (a && not b) ≡ false → b ≡ false → a ≡ false
-    without true true both waits = cc
-    without true false both waits = cc
-    without false b both waits = refl
+    first_fails (has_flag c.flags noqueue) a.at_once (test_fails (has_flag c.flags noqueue && not a.at_once) Notqueued numbers.1) waits
 
 -- and so it may as it is queued
 rows_may_wait : (s : State) (c : Conversion) (a : ConversionAdmission) → convert_refusal s c ≡ None → convert_admission s c ≡ Some a

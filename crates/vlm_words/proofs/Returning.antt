@@ -18,7 +18,7 @@ use Rattle.vlm_words.specs.Sweeps.{blocks_after_service, processes_after_service
 use Rattle.vlm_words.specs.Written.{is_end_for, last_end, later_end}
 use Rattle.vlm_words.specs.Returned.{is_return, last_return}
 use Rattle.vlm_words.proofs.SweptValues.{WritesNothing, end_leaves}
-use Rattle.vlm_words.proofs.Writing.{IsNumbered, block_after_how, block_at, block_written, end_writes, last_of_both, many_written}
+use Rattle.vlm_words.proofs.Writing.{block_after_how, block_at, block_written, end_writes, IsNumbered, last_of_both, later_end-none, later_end-twice, many_written}
 
 -- the number of the status that goes with a mark
 abbrev pub mark_number : Bool → ℕ
@@ -81,18 +81,10 @@ module _ (P : Ending → ValueBlock → Type 0) where
 
   last_return_of_both : (pid number : ℕ) (first second : List Ending)
       → last_return pid number (first ++ second) ≡ later_end (last_return pid number second) (last_return pid number first)
-  last_return_of_both pid number [] second = of_last (last_return pid number second)
-    where
-      of_last : (last : Option Ending) → last ≡ later_end last None
-      of_last None = refl
-      of_last (Some ending) = refl
+  last_return_of_both pid number [] second = later_end-none (last_return pid number second)
   last_return_of_both pid number (ending ∷ first) second =
       ap (λ (last : Option Ending). later_end last (cond (is_end_for pid number ending && is_return ending.how) (Some ending) None)) (last_return_of_both pid number first second)
-      ∙ of_last (last_return pid number second) (last_return pid number first) (cond (is_end_for pid number ending && is_return ending.how) (Some ending) None)
-    where
-      of_last : (a b c : Option Ending) → later_end (later_end a b) c ≡ later_end a (later_end b c)
-      of_last None b c = refl
-      of_last (Some ending) b c = refl
+      ∙ later_end-twice (last_return pid number second) (last_return pid number first) (cond (is_end_for pid number ending && is_return ending.how) (Some ending) None)
 
   value_by_both : (first second : Option Ending) (a b c : List ℕ) → ValueBy first a b → ValueBy second b c → ValueBy (later_end second first) a c
   value_by_both first None a b c one other = subst (λ (value : List ℕ). ValueBy first a value) (sym other) one

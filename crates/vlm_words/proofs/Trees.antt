@@ -43,7 +43,7 @@ use Rattle.vlm_words.proofs.Keys.{KeepsPlace, Placed, Rises, WasGiven, conversio
 use Rattle.vlm_words.proofs.Weights.{entered_weighs, served_weighs, weigh}
 use Rattle.vlm_words.proofs.Moves.{IsByName, converted_named, withdrawn_named, grant_keeps}
 use Rattle.vlm_words.proofs.Apart.{Apart, apart_always, standing, stands}
-use Rattle.vlm_words.proofs.Holdings.{converted_held, withdrawn_held, entered_held, held_by, locks, served_held}
+use Rattle.vlm_words.proofs.Holdings.{converted_held, entered_held, held_by, locks, locks_counted, served_held, withdrawn_held}
 use Rattle.vlm_words.proofs.Sums.{any_counts, sum_of_zero}
 
 -- where a sub-resource stands: its parent's serial, its domain, and its level
@@ -293,18 +293,14 @@ picked P test (x ∷ xs) each any =
       | inr later ↦ picked P test xs each.1 later
     ]
 
--- a lock that is found among rows holds there
-found_locks : (pid lkid : ℕ) (rows : List Row) → list_any (is_lock_of pid lkid) rows ≡ true → 1 ≤ sum_by (locks pid lkid) rows
-found_locks pid lkid = any_counts (is_lock_of pid lkid) (locks pid lkid) (λ row here. ap (λ (b : Bool). cond b 1 0) here)
-
 -- a lock that stands on a resource and does not wait holds a mode there
 holds_mode : (pid lkid : ℕ) (r : Resource) → holds_lock pid lkid r ≡ true → list_any (is_lock_of pid lkid) r.waiting ≡ false
     → nat_lt 0 (held_by pid lkid r) ≡ true
 holds_mode pid lkid r stands waits =
     elim (or_cases (list_any (is_lock_of pid lkid) r.granted || list_any (is_lock_of pid lkid) r.converting) (list_any (is_lock_of pid lkid) r.waiting) stands) [
       | inl holds ↦ elim (or_cases (list_any (is_lock_of pid lkid) r.granted) (list_any (is_lock_of pid lkid) r.converting) holds) [
-        | inl granted ↦ grind (arith, nat_tests, found_locks pid lkid r.granted granted)
-        | inr converting ↦ grind (arith, nat_tests, found_locks pid lkid r.converting converting)
+        | inl granted ↦ grind (arith, nat_tests, locks_counted pid lkid r.granted granted)
+        | inr converting ↦ grind (arith, nat_tests, locks_counted pid lkid r.converting converting)
       ]
       | inr waiting ↦ (let no : true ≡ false = sym waiting ∙ waits in cc)
     ]
@@ -456,28 +452,29 @@ own_rooted s e passed placed occupied rooted new stays = elim (parent_of s e pas
     as_root : (r : Resource) → r.parent ≡ 0 → r.level ≡ 0 → parent_lkid s e ≡ 0 → is_rooted new (position r) (enq_row s e) ≡ true
     as_root r parent level none = rw (eq-eqb r.parent 0 parent, eq-eqb (parent_lkid s e) 0 none, eq-eqb r.level 0 level) refl
 
+    each_at_key : ((r : Resource) → is_vacant r ≡ false → AllRooted s.resources r → is_at (enq_key s e) r ≡ true → is_rooted new (position r) (enq_row s e) ≡ true)
+        → (rs : List Resource) → AllByRecursion (λ r. is_vacant r ≡ false) rs → AllByRecursion (AllRooted s.resources) rs
+        → AllByRecursion (λ r. is_at (enq_key s e) r ≡ true → is_rooted new (position r) (enq_row s e) ≡ true) rs
+    each_at_key at_key [] busy each = tt
+    each_at_key at_key (r ∷ rest) busy each = (at_key r busy.0 each.0, each_at_key at_key rest busy.1 each.1)
+
     of_root : (parent_lkid s e ≡ 0) × (parent_resource s e.pid (parent_lkid s e) ≡ None)
         → (is_rooted new (position (new_resource s.next_serial (enq_site s e))) (enq_row s e) ≡ true)
         × AllByRecursion (λ r. is_at (enq_key s e) r ≡ true → is_rooted new (position r) (enq_row s e) ≡ true) s.resources
     of_root root =
         let site : enq_site s e ≡ site_below (root_domain s e.pid e.flags) e.name None = ap (λ (up : Option Resource). site_below (root_domain s e.pid e.flags) e.name up) root.1 in (
           as_root (new_resource s.next_serial (enq_site s e)) (ap (λ (x : Site). key_parent x.key) site) (ap (λ (x : Site). x.level) site) root.0,
-          each_at_key s.resources occupied rooted,
+          each_at_key at_key s.resources occupied rooted,
         )
       where
-        each_at_key : (rs : List Resource) → AllByRecursion (λ r. is_vacant r ≡ false) rs → AllByRecursion (AllRooted s.resources) rs
-            → AllByRecursion (λ r. is_at (enq_key s e) r ≡ true → is_rooted new (position r) (enq_row s e) ≡ true) rs
-        each_at_key [] busy each = tt
-        each_at_key (r ∷ rest) busy each = (
-          (λ at.
-              let place = key_at (enq_site s e).domain (enq_key s e) r (enq_keyed s e placed) at in
-              let parent : r.parent ≡ 0 = place.0 ∙ ap (λ (up : Option Resource). key_parent (site_below (root_domain s e.pid e.flags) e.name up).key) root.1 in
-              elim (stands_well s.resources r busy.0 each.0) [
-                | inl well ↦ as_root r parent well.1 root.0
-                | inr below ↦ (let no : true ≡ false = sym (eq-eqb r.parent 0 parent) ∙ below.0 in cc)
-              ]),
-          each_at_key rest busy.1 each.1,
-        )
+        at_key : (r : Resource) → is_vacant r ≡ false → AllRooted s.resources r → is_at (enq_key s e) r ≡ true → is_rooted new (position r) (enq_row s e) ≡ true
+        at_key r busy each at =
+            let place = key_at (enq_site s e).domain (enq_key s e) r (enq_keyed s e placed) at in
+            let parent : r.parent ≡ 0 = place.0 ∙ ap (λ (up : Option Resource). key_parent (site_below (root_domain s e.pid e.flags) e.name up).key) root.1 in
+            elim (stands_well s.resources r busy each) [
+              | inl well ↦ as_root r parent well.1 root.0
+              | inr below ↦ (let no : true ≡ false = sym (eq-eqb r.parent 0 parent) ∙ below.0 in cc)
+            ]
 
     of_parent : (up : Resource) → HasParent s e up → (is_rooted new (position (new_resource s.next_serial (enq_site s e))) (enq_row s e) ≡ true)
         × AllByRecursion (λ r. is_at (enq_key s e) r ≡ true → is_rooted new (position r) (enq_row s e) ≡ true) s.resources
@@ -486,7 +483,7 @@ own_rooted s e passed placed occupied rooted new stays = elim (parent_of s e pas
           below_up (new_resource s.next_serial (enq_site s e)) (ap (λ (x : Site). key_parent x.key) site)
               (rw (ap (λ (x : Site). key_parent x.key) site, ap (λ (x : Site). x.domain) site, ap (λ (x : Site). x.level) site)
               (rw (eq-eqb up.serial up.serial refl, is_domain_refl up.domain, eq-eqb (up.level + 1) (up.level + 1) refl) refl)),
-          each_at_key s.resources occupied rooted,
+          each_at_key at_key s.resources occupied rooted,
         )
       where
         not_root : (up.serial == 0) ≡ false
@@ -510,19 +507,14 @@ own_rooted s e passed placed occupied rooted new stays = elim (parent_of s e pas
             let serial : one.0.serial ≡ r.parent = eqb-true one.0.serial r.parent (and_parts (one.0.serial == r.parent) (is_domain one.0.domain r.domain) first.0).0 in
             subst (λ (x : Resource). is_parent (position r) x ≡ true) (one.1.0 (serial ∙ parent)) one.1.1
 
-        each_at_key : (rs : List Resource) → AllByRecursion (λ r. is_vacant r ≡ false) rs → AllByRecursion (AllRooted s.resources) rs
-            → AllByRecursion (λ r. is_at (enq_key s e) r ≡ true → is_rooted new (position r) (enq_row s e) ≡ true) rs
-        each_at_key [] busy each = tt
-        each_at_key (r ∷ rest) busy each = (
-          (λ at.
-              let place = key_at (enq_site s e).domain (enq_key s e) r (enq_keyed s e placed) at in
-              let parent : r.parent ≡ up.serial = place.0 ∙ ap (λ (x : Option Resource). key_parent (site_below (root_domain s e.pid e.flags) e.name x).key) has.is in
-              elim (stands_well s.resources r busy.0 each.0) [
-                | inl well ↦ (let no : true ≡ false = sym (eq-eqb r.parent 0 well.0) ∙ ap (λ (n : ℕ). n == 0) parent ∙ not_root in cc)
-                | inr below ↦ below_up r parent (only_parent r parent below.1)
-              ]),
-          each_at_key rest busy.1 each.1,
-        )
+        at_key : (r : Resource) → is_vacant r ≡ false → AllRooted s.resources r → is_at (enq_key s e) r ≡ true → is_rooted new (position r) (enq_row s e) ≡ true
+        at_key r busy each at =
+            let place = key_at (enq_site s e).domain (enq_key s e) r (enq_keyed s e placed) at in
+            let parent : r.parent ≡ up.serial = place.0 ∙ ap (λ (x : Option Resource). key_parent (site_below (root_domain s e.pid e.flags) e.name x).key) has.is in
+            elim (stands_well s.resources r busy each) [
+              | inl well ↦ (let no : true ≡ false = sym (eq-eqb r.parent 0 well.0) ∙ ap (λ (n : ℕ). n == 0) parent ∙ not_root in cc)
+              | inr below ↦ below_up r parent (only_parent r parent below.1)
+            ]
 
 -- ---- every step
 

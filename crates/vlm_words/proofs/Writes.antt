@@ -28,7 +28,7 @@ use Rattle.vlm_words.specs.Runs.{History, Run}
 use Rattle.vlm_words.specs.Laws.{AreCompatible, IsGrantedAtOnce, WritesAreGrantedAtOnce, action_from}
 use Rattle.vlm_words.proofs.Each.{Any-cases, Any-here, Any-none, Any-weaker, found_at, each_passes, each_weaker}
 use Rattle.vlm_words.proofs.Pairs.{each_pair_found}
-use Rattle.vlm_words.proofs.Passed.{pair_passes, second_passes, test_fails}
+use Rattle.vlm_words.proofs.Passed.{first_fails, pair_passes, second_passes, test_fails}
 use Rattle.vlm_words.proofs.Always.{admission_of}
 use Rattle.vlm_words.proofs.Admissions.{admitted_request, some_same}
 use Rattle.vlm_words.proofs.HeldModes.{HoldCompatible, HoldersAgree, hold_compatible-comm, holders_agree_always}
@@ -206,12 +206,6 @@ admission_known request pid lkid (r ∷ rest) agree =
         → Known pid lkid (admission_or request r found later)
     here None is later known = known
     here (Some row) is later known = (agree.0, is)
-
--- the first of two tests fails where both do not pass and the second fails as negated
-first_fails : (a b : Bool) → (a && not b) ≡ false → b ≡ false → a ≡ false
-first_fails false b both second = refl
-first_fails true true both second = cc
-first_fails true false both second = cc
 
 -- where the held modes of a resource are compatible, a conversion that writes fits there at once
 fits_at_write : (c : Conversion) (pid lkid : ℕ) (a : ConversionAdmission) → Known pid lkid (Some a) → action_from a.row.held c.mode ≡ Write

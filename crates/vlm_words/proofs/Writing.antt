@@ -155,21 +155,23 @@ left_by_one pid number ending value before = of_tests (ending.pid == pid) refl (
 
 -- ---- one end after another
 
+-- the later of an end and none is that end
+pub later_end-none : (last : Option Ending) → last ≡ later_end last None
+later_end-none None = refl
+later_end-none (Some ending) = refl
+
+-- of three ends the latest is one, whichever two are compared first
+pub later_end-twice : (a b c : Option Ending) → later_end (later_end a b) c ≡ later_end a (later_end b c)
+later_end-twice None b c = refl
+later_end-twice (Some ending) b c = refl
+
 -- the last end of both is that of the second, or else of the first
 pub last_of_both : (pid number : ℕ) (first second : List Ending)
     → last_end pid number (first ++ second) ≡ later_end (last_end pid number second) (last_end pid number first)
-last_of_both pid number [] second = of_last (last_end pid number second)
-  where
-    of_last : (last : Option Ending) → last ≡ later_end last None
-    of_last None = refl
-    of_last (Some ending) = refl
+last_of_both pid number [] second = later_end-none (last_end pid number second)
 last_of_both pid number (ending ∷ first) second =
     ap (λ (last : Option Ending). later_end last (cond (is_end_for pid number ending) (Some ending) None)) (last_of_both pid number first second)
-    ∙ of_last (last_end pid number second) (last_end pid number first) (cond (is_end_for pid number ending) (Some ending) None)
-  where
-    of_last : (a b c : Option Ending) → later_end (later_end a b) c ≡ later_end a (later_end b c)
-    of_last None b c = refl
-    of_last (Some ending) b c = refl
+    ∙ later_end-twice (last_end pid number second) (last_end pid number first) (cond (is_end_for pid number ending) (Some ending) None)
 
 tells_last : (first second : Option Ending) (a b c : ℕ) → TellsLast first a b → TellsLast second b c → TellsLast (later_end second first) a c
 tells_last first None a b c one other = subst (λ (n : ℕ). TellsLast first a n) (sym other) one
