@@ -15,7 +15,7 @@ use Rattle.vlm_store.specs.declared.keys.Place.TheVariants.{Loose, Queued}
 use Rattle.vlm_store.specs.Records.{AreApart, AreOwnApart, AreProcessesApart, AreResourcesApart, IsAmong, IsOwnAmong, IsProcess, IsProcessAmong, IsResourceAmong, IsSound, OwnLock, Records, StoredLock, StoredProcess, StoredResource, Stores, locks_at, own_at, owned_among, owned_by, owned_on, process_at, queued, resource_at}
 use Rattle.vlm_store.proofs.Plain.{process_at-stored}
 use Rattle.vlm_store.proofs.Counting.{IsApart-append, IsIn-append}
-use Rattle.vlm_store.proofs.Undoing.{resource_is}
+use Rattle.vlm_store.proofs.Undoing.{queue_at}
 
 -- ---- keys
 
@@ -156,28 +156,24 @@ module _ (pid : ℕ) where
       ]
 
   module _ (s : Records) (sound : IsSound s) where
-    -- the queue of a stored resource
-    queue_at : (r : StoredResource) → IsResourceAmong r s.resources → (queue : Queue) → locks_at (Queued r.at queue) s ≡ queued queue r
-    queue_at r among queue = ap (λ o. option_map_or (queued queue) o []) (resource_is r s.resources sound.resources_apart among)
-
     -- a key of a resource is that of a lock in one of its queues
     stands_on : (r : StoredResource) → IsResourceAmong r s.resources → (at : ℕ) → IsIn at (keys_on r)
         → (queue : Queue) × (row : Row) × (IsAmong (record { at = at; row = row }) (locks_at (Queued r.at queue) s) × (row.pid ≡ pid))
     stands_on r among at found =
         let stands = in_queue r at found in
-        (stands.0, stands.1, (subst (IsAmong (record { at = at; row = stands.1 })) (sym (queue_at r among stands.0)) stands.2.0, stands.2.1))
+        (stands.0, stands.1, (subst (IsAmong (record { at = at; row = stands.1 })) (sym (queue_at s sound r among stands.0)) stands.2.0, stands.2.1))
 
     -- no key is that of two locks
     queue_apart : (r : StoredResource) → IsResourceAmong r s.resources → (queue : Queue) → IsApart (keys_among (queued queue r))
-    queue_apart r among queue = keys_among-apart (queued queue r) (subst AreApart (queue_at r among queue) (sound.locks_apart (Queued r.at queue)))
+    queue_apart r among queue = keys_among-apart (queued queue r) (subst AreApart (queue_at s sound r among queue) (sound.locks_apart (Queued r.at queue)))
 
     queues_apart : (r : StoredResource) → IsResourceAmong r s.resources → (a b : Queue) → Queued r.at a ≢ Queued r.at b → (k : ℕ) → IsIn k (keys_among (queued a r)) → ¬ IsIn k (keys_among (queued b r))
     queues_apart r among a b differs k here there =
         let one = among_keys (queued a r) k here in
         let other = among_keys (queued b r) k there in
         differs (
-        sound.one_place k one.0 other.0 (Queued r.at a) (Queued r.at b) (subst (IsAmong (record { at = k; row = one.0 })) (sym (queue_at r among a)) one.1.0)
-        (subst (IsAmong (record { at = k; row = other.0 })) (sym (queue_at r among b)) other.1.0)
+        sound.one_place k one.0 other.0 (Queued r.at a) (Queued r.at b) (subst (IsAmong (record { at = k; row = one.0 })) (sym (queue_at s sound r among a)) one.1.0)
+        (subst (IsAmong (record { at = k; row = other.0 })) (sym (queue_at s sound r among b)) other.1.0)
         )
 
     keys_on-apart : (r : StoredResource) → IsResourceAmong r s.resources → IsApart (keys_on r)

@@ -12,21 +12,13 @@ use Rattle.vlm_store.specs.declared.processes.Process.{Process}
 use Rattle.vlm_store.specs.declared.store.Store.TheInside.{Inside}
 use Rattle.vlm_store.specs.Kept.{IsKept, processes_shown, records_shown}
 use Rattle.vlm_store.specs.Records.{IsParentOf, IsProcess, process_with_lock}
-use Rattle.vlm_store.specs.Shown.{SameBut, but_kin, but_queued, lkid_of, new_lock, row_in}
+use Rattle.vlm_store.specs.Shown.{SameBut, but_kin, but_queued, lkid_of, new_lock}
 use Rattle.vlm_store.specs.Holdings.{IsBelow, IsNamed, IsOwned, NamesParent, below_in, below_keys, below_links, below_list, but_below, but_own, holding, named_lock, own_keys, own_links, own_list, owner_in, parent_in, processes_of, with_own_links}
 use Rattle.vlm_store.proofs.Families.{family-grown, family-other_keys}
 use Rattle.vlm_store.proofs.Kinship.{below-queued, below_kin, below_named, below_next-queued, below_own_keys, below_owned, below_prev-queued, by_part, lkid-named, lkid-queued, named-added, named-kept, own_below_keys, own_kin, own_named, own_next-queued, own_pids, own_plain, own_prev-queued, own_process_keys, owner-queued, owner_fits, parent-queued, parent_fits, queued_below, queued_below_keys, queued_own_keys, queued_owned, there_by_part}
 use Rattle.vlm_store.proofs.Living.{lock_there, process_named}
 use Rattle.vlm_store.proofs.Members.{lock_joined}
-use Rattle.vlm_store.proofs.Places.{same_then, there_through}
-
-lkid_in_row : (slot : Option Lock) → IsSome slot → option_map lkid_of slot ≡ Some (row_in slot).lkid
-lkid_in_row None there = cc
-lkid_in_row (Some l) there = refl
-
-named-queued : (slot : Option Lock) → option_map named_lock (option_map but_queued slot) ≡ option_map named_lock slot
-named-queued None = refl
-named-queued (Some l) = refl
+use Rattle.vlm_store.proofs.Places.{lkid_of_row, named-queued, same_then, there_through}
 
 parent-named : (slot : Option Lock) → parent_in (option_map named_lock slot) ≡ parent_in slot
 parent-named None = refl
@@ -141,7 +133,7 @@ module _ (s : Inside) (kept : IsKept s) (locks1 locks2 : Slab Lock) (at : ℕ) (
       names (Some k) is up =
           let there = lock_there s kept k up.0 up.1.0 in
           by_part named_lock (option_map lkid_of) lkid-named (get locks2 k) (get s.queues.locks k) (named_other k (was_other k there.0))
-          ∙ lkid_in_row (get s.queues.locks k) there.0 ∙ ap (λ (r : Row). Some r.lkid) there.2 ∙ ap Some up.1.1
+          ∙ lkid_of_row (get s.queues.locks k) there.0 ∙ ap (λ (r : Row). Some r.lkid) there.2 ∙ ap Some up.1.1
 
   pub new_lkid : option_map lkid_of (get locks2 at) ≡ Some row.lkid
   new_lkid = by_part but_queued (option_map lkid_of) lkid-queued (get locks2 at) (Some (new_lock row owner parent)) lock

@@ -1,12 +1,12 @@
 -- What the store keeps, and what a caller learns of it.
-use Rattle.std.proofs.Common.{◌≡◌, ◌≤◌, ℕ, [], map, replicate, arith, Option, None, Some, IfSome, IsSome, Result, Ok, Err, IsOk, OnErr, OnOk, refl, sym, ap, ◌∙◌, subst}
+use Rattle.std.proofs.Common.{◌≡◌, ◌≤◌, ℕ, [], map, replicate, arith, Option, None, Some, IfSome, IsSome, Result, Ok, Err, IsOk, OnErr, OnOk, refl, sym, ap, ◌∙◌}
 use Rattle.std.proofs.lemmas.Option.{none-some, same_Some}
 use Rattle.std.specs.Option.{option_map}
 use Rattle.slab.specs.Slab.{Slab, get, ContainsKey}
 use Rattle.vlm_links.specs.declared.link.TheConstants.{LAST_KEY}
 use Rattle.vlm_links.specs.declared.lists.LinkedList.{LinkedList}
 use Rattle.vlm_links.specs.Lists.{IsIn, IsLinked, IsNoList, keys_of, next_in, prev_in}
-use Rattle.vlm_links.proofs.Rings.{kept-keys, kept-linked, no_list-linked}
+use Rattle.vlm_links.proofs.Rings.{no_list-linked}
 use Rattle.vlm_words.specs.declared.locks.Row.{Row}
 use Rattle.vlm_words.specs.declared.modes.Mode.{Mode}
 use Rattle.vlm_words.specs.declared.modes.Mode.TheVariants.{Nl, Cr, Cw, Pr, Pw, Ex}
@@ -21,13 +21,13 @@ use Rattle.vlm_store.specs.declared.resources.InOrder.{InOrder}
 use Rattle.vlm_store.specs.declared.resources.Resource.{Resource}
 use Rattle.vlm_store.specs.Index.{Indexes}
 use Rattle.vlm_store.specs.Records.{FindsLock, FindsResource, HasPlace, HasResource, IsResourceAmong, StoredResource, Stores, nothing}
-use Rattle.vlm_store.specs.Shown.{IsPlaced, IsTallied, IsThere, SameBut, but_queues, face_in, keys_at, list_at, lkid_of, noted_in, order_links, queue_links, row_in, rows, shares, tally_in}
+use Rattle.vlm_store.specs.Shown.{IsPlaced, IsTallied, IsThere, SameBut, but_queues, face_in, keys_at, list_at, noted_in, order_links, queue_links, row_in, rows, shares, tally_in}
 use Rattle.vlm_store.specs.Store.{Beside, key_at, keyed, lkid_at, records_of, resource_of, tables}
 use Rattle.vlm_store.proofs.Layouts.{HasPlace-seen, IsSeen, Stores-listed, among_resource, listed-Stores, resource_at-found, resource_among}
 use Rattle.vlm_store.specs.Tallies.{count_of, held_of, held_weight, total, wanted_of, wanted_weight}
 use Rattle.vlm_store.proofs.Counting.{shares_same}
 use Rattle.vlm_store.proofs.Families.{family-empty}
-use Rattle.vlm_store.proofs.Places.{kept_keys, kept_placed, lists_same, noted_there, stands_there, there_through, through}
+use Rattle.vlm_store.proofs.Places.{kept_keys, kept_placed, lists_same, lkid_of_row, lkid_told, noted_there, stands_there, through}
 
 module _ (q : Queues) (order : LinkedList InOrder) (beside : Beside) (placed : IsPlaced q None) where
   -- a lock that a caller sees is there
@@ -54,14 +54,6 @@ module _ (q : Queues) (order : LinkedList InOrder) (beside : Beside) (placed : I
     place_there Loose has = tt
     place_there (Queued r queue) has = linked.present r (HasPlace-seen (tables q order beside) (Queued r queue) has)
 
-    lkid_there : (slot : Option Lock) (lkid : ℕ) → option_map lkid_of slot ≡ Some lkid → IsSome slot × ((row_in slot).lkid ≡ lkid)
-    lkid_there None lkid is = absurd (none-some lkid is)
-    lkid_there (Some l) lkid is = (refl, same_Some l.row.lkid lkid is)
-
-    pub lkid_of_row : (slot : Option Lock) → IsSome slot → option_map lkid_of slot ≡ Some (row_in slot).lkid
-    lkid_of_row None there = cc
-    lkid_of_row (Some l) there = refl
-
     -- the record of a lock that a caller sees has its identification
     lkid_seen : (at : ℕ) (row : Row) → Stores (records_of (tables q order beside)) at row → lkid_at q at ≡ Some row.lkid
     lkid_seen at row stored =
@@ -79,7 +71,7 @@ module _ (q : Queues) (order : LinkedList InOrder) (beside : Beside) (placed : I
     finds_lock found indexes lkid None is = λ at row stored same.
         none-some at (is ∙ indexes.complete lkid at (lkid_seen at row stored ∙ ap Some same))
     finds_lock found indexes lkid (Some at) is =
-        let there = lkid_there (get q.locks at) lkid (indexes.sound lkid at (sym is)) in
+        let there = lkid_told (get q.locks at) lkid (indexes.sound lkid at (sym is)) in
         (rows q at, (there_stored at there.0, there.1))
 
     pub no_lock : (found : ℕ → Option ℕ) → Indexes found (lkid_at q) → (lkid : ℕ) → FindsLock (records_of (tables q order beside)) lkid None → found lkid ≡ None
@@ -196,39 +188,9 @@ face_apart : (slot : Option Resource) → face_in (option_map but_queues slot) �
 face_apart None = refl
 face_apart (Some r) = refl
 
-key_apart : (slot : Option Resource) → option_map (λ (r : Resource). r.key) (option_map but_queues slot) ≡ option_map (λ (r : Resource). r.key) slot
-key_apart None = refl
-key_apart (Some r) = refl
-
-next_apart : (slot : Option Resource) → next_in order_links (option_map but_queues slot) ≡ next_in order_links slot
-next_apart None = refl
-next_apart (Some r) = refl
-
-prev_apart : (slot : Option Resource) → prev_in order_links (option_map but_queues slot) ≡ prev_in order_links slot
-prev_apart None = refl
-prev_apart (Some r) = refl
-
 module _ (old new : Slab Resource) (rest : SameBut but_queues old new) where
   pub faces_same : (r : ℕ) → face_in (get new r) ≡ face_in (get old r)
   faces_same = through but_queues face_in face_apart old new rest
-
-  pub keys_same : (r : ℕ) → option_map (λ (x : Resource). x.key) (get new r) ≡ option_map (λ (x : Resource). x.key) (get old r)
-  keys_same = through but_queues (option_map (λ (x : Resource). x.key)) key_apart old new rest
-
-  pub order_keys : (order : LinkedList InOrder) → IsLinked order_links old order → keys_of order_links new order ≡ keys_of order_links old order
-  order_keys order linked =
-      kept-keys order_links old new order linked (λ k _. through but_queues (next_in order_links) next_apart old new rest k)
-      (λ k _. through but_queues (prev_in order_links) prev_apart old new rest k) (λ k _. there_through but_queues old new rest k)
-
-  pub order_linked : (order : LinkedList InOrder) → IsLinked order_links old order → IsLinked order_links new order
-  order_linked order linked =
-      kept-linked order_links old new order linked (λ k _. through but_queues (next_in order_links) next_apart old new rest k)
-      (λ k _. through but_queues (prev_in order_links) prev_apart old new rest k) (λ k _. there_through but_queues old new rest k)
-
-  pub order_whole : (order : LinkedList InOrder) → IsLinked order_links old order → ((r : ℕ) → ContainsKey old r → IsIn r (keys_of order_links old order))
-      → (r : ℕ) → ContainsKey new r → IsIn r (keys_of order_links new order)
-  order_whole order linked ordered r there =
-      subst (IsIn r) (sym (order_keys order linked)) (ordered r (there_through but_queues new old (λ k. sym (rest k)) r there))
 
 -- room is made for locks
 module _ (q : Queues) (locks : Slab Lock) (same : (k : ℕ) → get locks k ≡ get q.locks k) (placed : IsPlaced q None) where

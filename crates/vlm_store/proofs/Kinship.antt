@@ -24,7 +24,7 @@ use Rattle.vlm_store.proofs.Counting.{shares_same}
 use Rattle.vlm_store.proofs.Families.{family-kept, family-keys}
 use Rattle.vlm_store.proofs.Members.{processes_same}
 use Rattle.vlm_store.proofs.Making.{relinked_same}
-use Rattle.vlm_store.proofs.Places.{kept_keys, kept_placed, lists_same, there_through, through}
+use Rattle.vlm_store.proofs.Places.{kept_keys, kept_placed, lists_same, lkid_told, named-queued, there_through, through}
 
 -- the processes that a caller sees
 pub records_processes : (l : Layout) → (records_of l).processes ≡ l.processes
@@ -136,11 +136,7 @@ named-added processes locks locks' at fresh same owner parent named = record {
 
     was_there : (slot : Option Lock) (up : ℕ) → ParentFits locks slot → parent_in slot ≡ Some up → IsSome (get locks up)
     was_there None up fits noted = absurd (none-some up noted)
-    was_there (Some l) up fits noted = lkid_there (get locks up) l.row.parent (subst (λ p. NamesParent locks p l.row.parent) noted fits)
-      where
-        lkid_there : (slot : Option Lock) (lkid : ℕ) → option_map lkid_of slot ≡ Some lkid → IsSome slot
-        lkid_there None lkid is = absurd (none-some lkid is)
-        lkid_there (Some x) lkid is = refl
+    was_there (Some l) up fits noted = (lkid_told (get locks up) l.row.parent (subst (λ p. NamesParent locks p l.row.parent) noted fits)).0
 
     lkid_stays : (up : ℕ) → IsSome (get locks up) → option_map lkid_of (get locks' up) ≡ option_map lkid_of (get locks up)
     lkid_stays up there =
@@ -191,11 +187,7 @@ module _ (processes : Slab Process) (locks locks' : Slab Lock) (same : SameBut b
         (through but_queued (prev_in below_links) below_prev-queued locks locks' same) (there_through but_queued locks locks' same)
 
   pub queued_named : IsNamed processes locks → IsNamed processes locks'
-  queued_named = named-kept processes processes locks locks' (λ p. refl) (λ k. by_part but_queued (option_map named_lock) again (get locks' k) (get locks k) (same k))
-    where
-      again : (slot : Option Lock) → option_map named_lock (option_map but_queued slot) ≡ option_map named_lock slot
-      again None = refl
-      again (Some l) = refl
+  queued_named = named-kept processes processes locks locks' (λ p. refl) (λ k. by_part but_queued (option_map named_lock) named-queued (get locks' k) (get locks k) (same k))
 
   pub queued_lkids : SameBut lkid_of locks locks'
   queued_lkids = through but_queued (option_map lkid_of) lkid-queued locks locks' same

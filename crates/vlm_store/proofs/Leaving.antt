@@ -1,5 +1,5 @@
 -- A lock leaves its queue, its process and its parent.
-use Rattle.std.proofs.Common.{◌≡◌, ◌≢◌, ℕ, [], map, Option, None, Some, refl, sym, ap, ◌∙◌, subst, inl, inr}
+use Rattle.std.proofs.Common.{◌≡◌, ◌≢◌, ℕ, [], map, None, Some, refl, sym, ap, ◌∙◌, subst, inl, inr}
 use Rattle.std.proofs.lemmas.Bool.{cases_eq}
 use Rattle.std.proofs.lemmas.Option.{none-some}
 use Rattle.std.specs.Option.{option_map}
@@ -16,7 +16,7 @@ use Rattle.vlm_store.proofs.Families.{family-other_keys, family-shrunk}
 use Rattle.vlm_store.proofs.Kinship.{below-queued, below_kin, below_named, below_next-queued, below_own_keys, below_prev-queued, by_part, lkid-named, named-removed, own_below, own_below_keys, own_kin, own_named, own_next-queued, own_pids, own_plain, own_prev-queued, own_process_keys, owner-queued, parent-queued, there_by_part}
 use Rattle.vlm_store.proofs.Making.{no_list_has}
 use Rattle.vlm_store.proofs.Members.{lock_left}
-use Rattle.vlm_store.proofs.Places.{same_then}
+use Rattle.vlm_store.proofs.Places.{named-queued, same_then}
 
 module _ (s : Inside) (kept : IsKept s) (at : ℕ) (childless : below_keys s.queues.locks at ≡ []) (locks1 locks2 locks3 : Slab Lock) (processes2 : Slab Process)
     (below1 : IsBelow locks1 (Some at)) (left1 : (p : ℕ) → below_keys locks1 p ≡ without at (below_keys s.queues.locks p)) (rest1 : SameBut but_below s.queues.locks locks1)
@@ -68,11 +68,7 @@ module _ (s : Inside) (kept : IsKept s) (at : ℕ) (childless : below_keys s.que
 
   named_same : (k : ℕ) → k ≢ at → option_map named_lock (get locks3 k) ≡ option_map named_lock (get s.queues.locks k)
   named_same k differs =
-      by_part but_queued (option_map named_lock) again (get locks3 k) (get locks2 k) (kin3 k differs) ∙ own_named locks1 locks2 relinks2 k ∙ below_named s.processes s.queues.locks locks1 rest1 k
-    where
-      again : (slot : Option Lock) → option_map named_lock (option_map but_queued slot) ≡ option_map named_lock slot
-      again None = refl
-      again (Some l) = refl
+      by_part but_queued (option_map named_lock) named-queued (get locks3 k) (get locks2 k) (kin3 k differs) ∙ own_named locks1 locks2 relinks2 k ∙ below_named s.processes s.queues.locks locks1 rest1 k
 
   pub left_lkids : (k : ℕ) → k ≢ at → option_map lkid_of (get locks3 k) ≡ option_map lkid_of (get s.queues.locks k)
   left_lkids k differs = by_part named_lock (option_map lkid_of) lkid-named (get locks3 k) (get s.queues.locks k) (named_same k differs)

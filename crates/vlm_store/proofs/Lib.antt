@@ -12,6 +12,7 @@ pub mod Leaving
 pub mod Living
 pub mod Making
 pub mod Members
+pub mod Order
 pub mod OwnLocks
 pub mod Places
 pub mod Plain

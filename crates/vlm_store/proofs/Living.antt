@@ -20,7 +20,7 @@ use Rattle.vlm_store.specs.Store.{tables}
 use Rattle.vlm_words.specs.Keys.{is_same_key}
 use Rattle.vlm_store.proofs.Kept.{keys_apart, lkids_apart, stored_there, there_stored}
 use Rattle.vlm_store.proofs.Layouts.{IsSound-records_of}
-use Rattle.vlm_store.proofs.Places.{one_place}
+use Rattle.vlm_store.proofs.Places.{lkid_told, one_place}
 use Rattle.vlm_store.proofs.Kinship.{records_processes}
 use Rattle.vlm_store.proofs.Members.{AreProcessesApart-processes_of, HasProcess-order, among_own, own_among, process_at-found, process_seen, seen_process}
 
@@ -40,14 +40,6 @@ noted_owner (Some l) owner is = (l, (refl, same_Some l.owner owner is))
 noted_parent : (slot : Option Lock) (parent : ℕ) → parent_in slot ≡ Some parent → (l : Lock) × ((slot ≡ Some l) × (l.parent ≡ Some parent))
 noted_parent None parent is = absurd (none-some parent is)
 noted_parent (Some l) parent is = (l, (refl, is))
-
-lkid_told : (slot : Option Lock) (lkid : ℕ) → option_map lkid_of slot ≡ Some lkid → (row_in slot).lkid ≡ lkid
-lkid_told None lkid is = absurd (none-some lkid is)
-lkid_told (Some l) lkid is = same_Some l.row.lkid lkid is
-
-there_named : (slot : Option Lock) (lkid : ℕ) → option_map lkid_of slot ≡ Some lkid → IsSome slot
-there_named None lkid is = absurd (none-some lkid is)
-there_named (Some l) lkid is = refl
 
 -- where the record of a lock notes no parent, its row names none
 named_parent : (locks : Slab Lock) (noted : Option ℕ) (lkid : ℕ) → NamesParent locks noted lkid → ¬ (lkid ≡ 0)
@@ -140,8 +132,8 @@ module _ (s : Inside) (kept : IsKept s) where
         up.0,
         (
           kept.below.stands up.0 at (λ e. none-some at (sym e)) (ap parent_in l.1 ∙ up.1.0),
-          there_named (get s.queues.locks up.0) l.0.row.parent up.1.1,
-          lkid_told (get s.queues.locks up.0) l.0.row.parent up.1.1 ∙ names,
+          (lkid_told (get s.queues.locks up.0) l.0.row.parent up.1.1).0,
+          (lkid_told (get s.queues.locks up.0) l.0.row.parent up.1.1).1 ∙ names,
         ),
       )
 
@@ -174,7 +166,7 @@ module _ (s : Inside) (kept : IsKept s) where
           (
             lock_stored own.at up_there,
             lock_stored at there,
-            ap (λ slot. (row_in slot).parent) noted.1.0 ∙ sym (lkid_told (get s.queues.locks own.at) noted.0.row.parent names),
+            ap (λ slot. (row_in slot).parent) noted.1.0 ∙ sym (lkid_told (get s.queues.locks own.at) noted.0.row.parent names).1,
           ),
         );
     named = λ at row stored has_parent.

@@ -7,9 +7,8 @@ use Rattle.slab.specs.Slab.{Slab, get, ContainsKey, Updates, with_value}
 use Rattle.slab.proofs.SlabLemmas.{Updates-with_value}
 use Rattle.vlm_links.specs.declared.link.Links.{Links}
 use Rattle.vlm_links.specs.declared.lists.LinkedList.{LinkedList}
-use Rattle.vlm_links.specs.Lists.{IsIn, IsLinked, IsNoList, IsRelinked, Relinks, keys_of, next_in, prev_in, without}
+use Rattle.vlm_links.specs.Lists.{IsIn, IsLinked, IsNoList, IsRelinked, Relinks, keys_of, without}
 use Rattle.vlm_links.proofs.KeyLists.{IsIn-push_kept, IsIn-push_last, IsIn-without_kept}
-use Rattle.vlm_links.proofs.Rings.{kept-keys, kept-linked}
 use Rattle.vlm_words.specs.declared.locks.Row.{Row}
 use Rattle.vlm_words.specs.declared.modes.Mode.{Mode}
 use Rattle.vlm_words.specs.declared.modes.Mode.TheVariants.{Nl, Cr, Cw, Pr, Pw, Ex}
@@ -20,12 +19,11 @@ use Rattle.vlm_store.specs.declared.keys.Place.TheVariants.{Loose, Queued}
 use Rattle.vlm_words.specs.declared.resources.ValueBlock.{ValueBlock}
 use Rattle.vlm_store.specs.declared.locks.Lock.{Lock}
 use Rattle.vlm_store.specs.declared.queues.Queues.{Queues}
-use Rattle.vlm_store.specs.declared.resources.InOrder.{InOrder}
 use Rattle.vlm_store.specs.declared.resources.Resource.{Resource}
-use Rattle.vlm_store.specs.Shown.{Face, IsPlaced, IsTallied, SameBut, but_value_block, face_in, face_of, keys_at, list_at, list_in, no_list, order_links, queue_links, rows, shares, tally_in, with_order_links}
+use Rattle.vlm_store.specs.Shown.{Face, IsPlaced, IsTallied, face_in, face_of, keys_at, list_at, list_in, no_list, queue_links, rows, shares, tally_in, with_order_links}
 use Rattle.vlm_store.specs.Tallies.{count_of, held_of, held_weight, no_tally, total, wanted_of, wanted_weight}
 use Rattle.vlm_store.proofs.Counting.{shares_same}
-use Rattle.vlm_store.proofs.Places.{kept_keys, kept_placed, no_list_is, there_through, through}
+use Rattle.vlm_store.proofs.Places.{kept_keys, kept_placed, no_list_is}
 
 -- what a record shows that is none of its links
 pub relinked_same : {T X : Type 0} (with_links : T → Links → T) (shown : Option T → X) → ((r : T) (pair : Links) → shown (Some (with_links r pair)) ≡ shown (Some r))
@@ -50,6 +48,12 @@ module _ (q : Queues) (resources : Slab Resource) (placed : IsPlaced q None) (li
     wanted = λ r mode. ap (λ t. wanted_of t mode) (tallies r) ∙ tallied.wanted r mode ∙ sym (shares_same q (record q { resources = resources }) (wanted_weight mode) None r resources_keys (λ k _. refl));
   }
 
+-- the queues of a resource stay where its links in the order of making are written
+list_stays : (queue : Queue) (r : Resource) (pair : Links) → list_in queue (Some (with_order_links r pair)) ≡ list_in queue (Some r)
+list_stays Granted r pair = refl
+list_stays Conversion r pair = refl
+list_stays Waiting r pair = refl
+
 -- a resource comes, and is linked
 module _ (q : Queues) (r1 r2 : Slab Resource) (at : ℕ) (made : Resource) (updates : Updates q.resources r1 at (Some made)) (fresh : get q.resources at ≡ None)
     (relinks : Relinks with_order_links r1 r2) where
@@ -59,15 +63,10 @@ module _ (q : Queues) (r1 r2 : Slab Resource) (at : ℕ) (made : Resource) (upda
     made_list Conversion = no_list_is made.converting converting
     made_list Waiting = no_list_is made.waiting waiting
 
-    list_apart : (queue : Queue) (r : Resource) (pair : Links) → list_in queue (Some (with_order_links r pair)) ≡ list_in queue (Some r)
-    list_apart Granted r pair = refl
-    list_apart Conversion r pair = refl
-    list_apart Waiting r pair = refl
-
     pub added_lists : (p : Place) → list_at (record q { resources = r2 }) p ≡ list_at q p
     added_lists Loose = refl
     added_lists (Queued r queue) =
-        relinked_same with_order_links (list_in queue) (list_apart queue) r1 r2 relinks r
+        relinked_same with_order_links (list_in queue) (list_stays queue) r1 r2 relinks r
         ∙ elim (cases_eq r at) [
           | inl same ↦ ap (λ x. list_in queue (get r1 x)) same ∙ ap (list_in queue) updates.changed ∙ made_list queue ∙ sym (ap (λ x. list_in queue (get q.resources x)) same ∙ ap (list_in queue) fresh)
           | inr differs ↦ ap (list_in queue) (updates.others r differs)
@@ -158,38 +157,6 @@ block_list r value_block Granted = refl
 block_list r value_block Conversion = refl
 block_list r value_block Waiting = refl
 
--- the order stays where value blocks are written
-module _ (old new : Slab Resource) (rest : SameBut but_value_block old new) where
-  next_same : (k : ℕ) → next_in order_links (get new k) ≡ next_in order_links (get old k)
-  next_same = through but_value_block (next_in order_links) apart old new rest
-    where
-      apart : (slot : Option Resource) → next_in order_links (option_map but_value_block slot) ≡ next_in order_links slot
-      apart None = refl
-      apart (Some r) = refl
-
-  prev_same : (k : ℕ) → prev_in order_links (get new k) ≡ prev_in order_links (get old k)
-  prev_same = through but_value_block (prev_in order_links) apart old new rest
-    where
-      apart : (slot : Option Resource) → prev_in order_links (option_map but_value_block slot) ≡ prev_in order_links slot
-      apart None = refl
-      apart (Some r) = refl
-
-  pub block_key : (k : ℕ) → option_map (λ (r : Resource). r.key) (get new k) ≡ option_map (λ (r : Resource). r.key) (get old k)
-  block_key = through but_value_block (option_map (λ (r : Resource). r.key)) apart old new rest
-    where
-      apart : (slot : Option Resource) → option_map (λ (r : Resource). r.key) (option_map but_value_block slot) ≡ option_map (λ (r : Resource). r.key) slot
-      apart None = refl
-      apart (Some r) = refl
-
-  pub block_order : (order : LinkedList InOrder) → IsLinked order_links old order → keys_of order_links new order ≡ keys_of order_links old order
-  block_order order linked = kept-keys order_links old new order linked (λ k _. next_same k) (λ k _. prev_same k) (λ k _. there_through but_value_block old new rest k)
-
-  pub block_linked : (order : LinkedList InOrder) → IsLinked order_links old order → IsLinked order_links new order
-  block_linked order linked = kept-linked order_links old new order linked (λ k _. next_same k) (λ k _. prev_same k) (λ k _. there_through but_value_block old new rest k)
-
-  pub block_whole : (order : LinkedList InOrder) → IsLinked order_links old order → ((r : ℕ) → ContainsKey old r → IsIn r (keys_of order_links old order)) → (r : ℕ) → ContainsKey new r → IsIn r (keys_of order_links new order)
-  block_whole order linked ordered r there = subst (IsIn r) (sym (block_order order linked)) (ordered r (there_through but_value_block new old (λ k. sym (rest k)) r there))
-
 -- a linked list without keys is an empty one
 pub no_list_has : {Kind : Type 0} (links : Lock → Links) (locks : Slab Lock) (list : LinkedList Kind) → IsLinked links locks list → keys_of links locks list ≡ [] → list ≡ no_list
 no_list_has links locks list linked none =
@@ -207,11 +174,6 @@ no_count Ex = refl
 -- an idle resource goes
 module _ (q : Queues) (r1 r2 : Slab Resource) (at : ℕ) (relinks : Relinks with_order_links q.resources r1) (updates : Updates r1 r2 at None) (placed : IsPlaced q None)
     (idle : (queue : Queue) → keys_at q (Queued at queue) ≡ []) where
-  list_stays : (queue : Queue) (r : Resource) (pair : Links) → list_in queue (Some (with_order_links r pair)) ≡ list_in queue (Some r)
-  list_stays Granted r pair = refl
-  list_stays Conversion r pair = refl
-  list_stays Waiting r pair = refl
-
   pub removed_lists : (p : Place) → list_at (record q { resources = r2 }) p ≡ list_at q p
   removed_lists Loose = refl
   removed_lists (Queued r queue) =

@@ -16,7 +16,8 @@ use Rattle.vlm_store.specs.declared.locks.Lock.{Lock}
 use Rattle.vlm_store.specs.declared.queues.Queues.{Queues}
 use Rattle.vlm_store.specs.declared.resources.Resource.{Resource}
 use Rattle.vlm_store.proofs.Families.{family-keys, family-kept, family-put, family-put_here, family-put_others, family-taken, family-taken_keys, one_list}
-use Rattle.vlm_store.specs.Shown.{IsPlaced, IsThere, SameBut, but_lists, but_place, but_row, but_tally, keys_at, list_at, list_in, noted, noted_in, no_list, queue_links, row_in, tally_in, with_queue_links}
+use Rattle.vlm_store.specs.Holdings.{named_lock}
+use Rattle.vlm_store.specs.Shown.{IsPlaced, IsThere, SameBut, but_lists, but_place, but_queued, but_row, but_tally, keys_at, list_at, list_in, lkid_of, noted, noted_in, no_list, queue_links, row_in, tally_in, with_queue_links}
 
 pub queue_cases : (p q : Queue) → (p ≡ q) ⊎ (p ≢ q)
 queue_cases Granted Granted = inl refl
@@ -242,3 +243,18 @@ module _ (q q' : Queues) (out : Option ℕ) (placed : IsPlaced q out) (rest : Sa
 -- an empty list has nothing in it
 pub no_list_is : {Kind : Type 0} (list : LinkedList Kind) → IsNoList list → list ≡ no_list
 no_list_is list none = λ i. record { first = none.no_first i; last = none.no_last i; len = none.no_keys i; kind = list.kind }
+
+-- a record that is there has the identification of its row
+pub lkid_of_row : (slot : Option Lock) → IsSome slot → option_map lkid_of slot ≡ Some (row_in slot).lkid
+lkid_of_row None there = cc
+lkid_of_row (Some l) there = refl
+
+-- what has an identification is there, and its row has it
+pub lkid_told : (slot : Option Lock) (lkid : ℕ) → option_map lkid_of slot ≡ Some lkid → IsSome slot × ((row_in slot).lkid ≡ lkid)
+lkid_told None lkid is = absurd (none-some lkid is)
+lkid_told (Some l) lkid is = (refl, same_Some l.row.lkid lkid is)
+
+-- what names a lock stays where only its queue changes
+pub named-queued : (slot : Option Lock) → option_map named_lock (option_map but_queued slot) ≡ option_map named_lock slot
+named-queued None = refl
+named-queued (Some l) = refl

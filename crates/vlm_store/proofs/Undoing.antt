@@ -46,10 +46,6 @@ map_same : (f : StoredResource → StoredResource) (rs : List StoredResource) �
 map_same f [] same = refl
 map_same f (r ∷ rs) same = ap (λ x. x ∷ map f rs) (same r (inl refl)) ∙ ap (λ xs. r ∷ xs) (map_same f rs (λ x there. same x (inr there)))
 
--- keys without one stay
-keys_absent : (at : ℕ) (keys : List ℕ) → ¬ IsIn at keys → without at keys ≡ keys
-keys_absent = key_absent
-
 keys_last : (at : ℕ) (keys : List ℕ) → ¬ IsIn at keys → without at (keys ++ at ∷ []) ≡ keys
 keys_last at [] absent = without_head at at [] refl
 keys_last at (k ∷ rest) absent =
@@ -113,11 +109,11 @@ module _ (s : Records) (at : ℕ) (sound : IsSound s) (absent : ¬ IsStored at s
       at_same (Some up) o = elim (o.at == up) as (λ b. (cond b (record o { sublocks = o.sublocks ++ at ∷ [] }) o).at ≡ o.at) [ true ↦ refl | false ↦ refl ]
 
       sublocks_same : (parent : Option ℕ) (o : OwnLock) → ¬ IsIn at o.sublocks → without_sublock at (with_sublock parent at o) ≡ o
-      sublocks_same None o none = ap (λ x. record { at = o.at; sublocks = x }) (keys_absent at o.sublocks none)
+      sublocks_same None o none = ap (λ x. record { at = o.at; sublocks = x }) (key_absent at o.sublocks none)
       sublocks_same (Some up) o none =
           elim (o.at == up) as (λ b. without_sublock at (cond b (record o { sublocks = o.sublocks ++ at ∷ [] }) o) ≡ o) [
             | true ↦ ap (λ x. record { at = o.at; sublocks = x }) (keys_last at o.sublocks none)
-            | false ↦ ap (λ x. record { at = o.at; sublocks = x }) (keys_absent at o.sublocks none)
+            | false ↦ ap (λ x. record { at = o.at; sublocks = x }) (key_absent at o.sublocks none)
           ]
 
   process_same : (p : StoredProcess) → IsProcessAmong p s.processes → (owner : ℕ) (parent : Option ℕ) → process_without_lock at (process_with_lock owner parent at p) ≡ p
@@ -152,13 +148,13 @@ resource_undone s res serial site absent = ap (λ x. record s { resources = x })
           | inr differs ↦ rw (ne_eqb r.at res differs) (ap (λ xs. r ∷ xs) (each rs (λ there. absent (rw (ne_eqb r.at res differs) there))))
         ]
 
+-- the queue of a stored resource
+pub queue_at : (s : Records) → IsSound s → (r : StoredResource) → IsResourceAmong r s.resources → (queue : Queue) → locks_at (Queued r.at queue) s ≡ queued queue r
+queue_at s sound r among queue = ap (λ o. option_map_or (queued queue) o []) (resource_is r s.resources sound.resources_apart among)
+
 -- ---- a lock that stands at one place leaves the lists of no other
 
 module _ (s : Records) (at : ℕ) (row : Row) (from : Place) (sound : IsSound s) (stands : IsAmong (record { at = at; row = row }) (locks_at from s)) where
-  -- the queue of a stored resource
-  queue_at : (r : StoredResource) → IsResourceAmong r s.resources → (queue : Queue) → locks_at (Queued r.at queue) s ≡ queued queue r
-  queue_at r among queue = ap (λ o. option_map_or (queued queue) o []) (resource_is r s.resources sound.resources_apart among)
-
   pub unmoved : (p : Place) → p ≢ from → without_lock at (locks_at p s) ≡ locks_at p s
   unmoved p differs = without_absent at (locks_at p s) (λ other found. differs (sound.one_place at other row p from found stands))
 
@@ -173,7 +169,7 @@ module _ (s : Records) (at : ℕ) (row : Row) (sound : IsSound s) (stands : IsAm
       → moving to (record { at = at; row = row }) (Queued r.at queue) (queued queue r) ≡ queued queue r
   left_alone to r among queue apart =
       ap (λ b. cond b (without_lock at (queued queue r) ++ record { at = at; row = row } ∷ []) (without_lock at (queued queue r))) apart
-      ∙ ap (without_lock at) (sym (queue_at s at row Loose sound stands r among queue)) ∙ unmoved s at row Loose sound stands (Queued r.at queue) (λ e. cc) ∙ queue_at s at row Loose sound stands r among queue
+      ∙ ap (without_lock at) (sym (queue_at s sound r among queue)) ∙ unmoved s at row Loose sound stands (Queued r.at queue) (λ e. cc) ∙ queue_at s sound r among queue
 
   joins : (r : StoredResource) → IsResourceAmong r s.resources → (queue : Queue) → r.at ≡ res
       → moving (Queued res queue) (record { at = at; row = row }) (Queued r.at queue) (queued queue r) ≡ queued queue r ++ record { at = at; row = row } ∷ []
@@ -181,7 +177,7 @@ module _ (s : Records) (at : ℕ) (row : Row) (sound : IsSound s) (stands : IsAm
       ap (λ b. cond b (without_lock at (queued queue r) ++ record { at = at; row = row } ∷ []) (without_lock at (queued queue r)))
       (ap (λ x. is_place (Queued x queue) (Queued res queue)) same ∙ is_place-same (Queued res queue))
       ∙ ap (λ xs. xs ++ record { at = at; row = row } ∷ [])
-      (ap (without_lock at) (sym (queue_at s at row Loose sound stands r among queue)) ∙ unmoved s at row Loose sound stands (Queued r.at queue) (λ e. cc) ∙ queue_at s at row Loose sound stands r among queue)
+      (ap (without_lock at) (sym (queue_at s sound r among queue)) ∙ unmoved s at row Loose sound stands (Queued r.at queue) (λ e. cc) ∙ queue_at s sound r among queue)
 
   joined_here : (queue : Queue) (r : StoredResource) → IsResourceAmong r s.resources → r.at ≡ res
       → resource_with (moving (Queued res queue) (record { at = at; row = row })) r ≡ joined_by queue (record { at = at; row = row }) r

@@ -14,14 +14,15 @@ use Rattle.vlm_store.specs.declared.locks.Lock.{Lock}
 use Rattle.vlm_store.specs.Holdings.{pid_at}
 use Rattle.vlm_store.specs.Kept.{beside_shown}
 use Rattle.vlm_store.specs.Records.{process_with_lock, HasRoom, IsTaken, with_new_lock}
-use Rattle.vlm_store.specs.Shown.{keys_at, list_at, lkid_of, queue_links, row_in}
+use Rattle.vlm_store.specs.Shown.{but_queues, keys_at, list_at, lkid_of, queue_links, row_in}
 use Rattle.vlm_store.specs.Store.{key_at, lkid_at, records_of, tables}
 use Rattle.vlm_store.proofs.Indexing.{Indexes-added, Indexes-same}
 use Rattle.vlm_store.proofs.Joining.{new_lkid, other_lkids, joined_kin, joined_lkids, joined_named, joined_owned, joined_processes, linked_parent_there, new_below, new_owned, owner_was_there}
-use Rattle.vlm_store.proofs.Kept.{faces_same, keys_same, no_lock, on_err, on_ok, order_keys, order_linked, order_whole, reserved_keys, reserved_placed, stored_there}
+use Rattle.vlm_store.proofs.Kept.{faces_same, no_lock, on_err, on_ok, reserved_keys, reserved_placed, stored_there}
 use Rattle.vlm_store.proofs.Kinship.{kin_keys, kin_placed, kin_rows, kin_tallied, own_below, own_pids, own_process_linked, own_process_whole, records_processes}
 use Rattle.vlm_store.proofs.Layouts.{loose_joined}
 use Rattle.vlm_store.proofs.store.Store.add_lock.Goals as goal
+use Rattle.vlm_store.proofs.Order.{keys_same, order_keys, order_linked, order_whole}
 
 pub invariant_of-self : goal.invariant_of-self
 invariant_of-self c = lock_room_kept c.self.inside c.self.invariant c.reserve_one.new.records c.reserve_one.new.index c.reserve_one.ensures.records c.reserve_one.ensures.index
@@ -103,12 +104,12 @@ invariant_of-self-2 c =
     record {
       placed = kin_placed q' c.join_parent.new.locks kin added.placed;
       tallied = kin_tallied q' c.join_parent.new.locks kin added.placed added.tallied;
-      linked = order_linked s.queues.resources q'.resources rest s.order kept.linked;
-      ordered = order_whole s.queues.resources q'.resources rest s.order kept.linked kept.ordered;
+      linked = order_linked but_queues (λ r. refl) s.queues.resources q'.resources rest s.order kept.linked;
+      ordered = order_whole but_queues (λ r. refl) s.queues.resources q'.resources rest s.order kept.linked kept.ordered;
       locks = Indexes-added nat_eq unsigned_Decides c.reserve_one.new.index c.insert.new.self c.args.row.lkid (lkid_at (record s.queues { locks = c.reserve_one.new.records })) (lkid_at q'') at
           (rw c.of-at.ensures at (on_ok c.insert.result _ (c.insert.ensures.succeeds (omega (arith, c.in_ok-reserve_one.ensures.find))) c.insert.ensures.updates))
           (ap (option_map lkid_of) added.fresh) (lkids at ∙ new_lkid s kept c.reserve_one.new.records q'.locks at c.args.row c.args.owner c.args.parent same added.fresh added.lock added.kin owner parent) (λ k differs. lkids k ∙ other_lkids s kept c.reserve_one.new.records q'.locks at c.args.row c.args.owner c.args.parent same added.fresh added.lock added.kin owner parent k differs) fresh indexes1;
-      resources = Indexes-same (get is_same_key s.resource_index) (get is_same_key s.resource_index) (key_at s.queues) (key_at q'') (λ k. refl) (keys_same s.queues.resources q'.resources rest) kept.resources;
+      resources = Indexes-same (get is_same_key s.resource_index) (get is_same_key s.resource_index) (key_at s.queues) (key_at q'') (λ k. refl) (keys_same but_queues (λ r. refl) s.queues.resources q'.resources rest) kept.resources;
       owned = joined_owned s kept c.reserve_one.new.records q'.locks at c.args.row c.args.owner c.args.parent same added.fresh added.lock added.kin owner parent c.join_process.new.processes c.join_process.new.locks c.join_parent.new.locks process.owned process.here process.elsewhere process.relinks process.rest below.here below.elsewhere below.rest;
       below = below.below;
       named = joined_named s kept c.reserve_one.new.records q'.locks at c.args.row c.args.owner c.args.parent same added.fresh added.lock added.kin owner parent c.join_process.new.processes c.join_process.new.locks c.join_parent.new.locks process.owned process.here process.elsewhere process.relinks process.rest below.here below.elsewhere below.rest;
@@ -142,7 +143,7 @@ returns-clause-added c =
     let rows : (k : ℕ) → row_in (slot_of c.join_parent.new.locks k) ≡ row_in (slot_of q'.locks k) = kin_rows q' c.join_parent.new.locks kin in
     rw (← c.self.view_is, c.of-at.ensures)
     (loose_joined old new at c.args.row (faces_same s.queues.resources q'.resources rest)
-    (order_keys s.queues.resources q'.resources rest s.order kept.linked) (rows at ∙ added.row) (λ k differs. rows k ∙ added.rows k differs ∙ ap row_in (same k)) unlisted
+    (order_keys but_queues (λ r. refl) s.queues.resources q'.resources rest s.order kept.linked) (rows at ∙ added.row) (λ k differs. rows k ∙ added.rows k differs ∙ ap row_in (same k)) unlisted
     (keys2 Loose ∙ added.here ∙ ap (λ ks. ks ++ at ∷ []) (keys1 Loose)) (λ p differs. keys2 p ∙ added.elsewhere p differs ∙ keys1 p)
     ∙ ap (λ ps. record (records_of old) { loose = (records_of old).loose ++ record { at = at; row = c.args.row } ∷ []; processes = ps; room = (records_of new).room })
     (joined_processes s kept c.reserve_one.new.records q'.locks at c.args.row c.args.owner c.args.parent same added.fresh added.lock added.kin owner parent c.join_process.new.processes c.join_process.new.locks c.join_parent.new.locks process.owned process.here process.elsewhere process.relinks process.rest below.here below.elsewhere below.rest ∙ ap (map (process_with_lock c.args.owner c.args.parent at)) (sym (records_processes old)))

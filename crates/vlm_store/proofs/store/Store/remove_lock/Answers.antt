@@ -8,16 +8,17 @@ use Rattle.vlm_words.specs.Keys.{is_same_key}
 use Rattle.vlm_store.specs.Holdings.{below_keys, pid_at}
 use Rattle.vlm_store.specs.Kept.{beside_shown}
 use Rattle.vlm_store.specs.Records.{leaving, process_without_lock, with_lists, IsGivenBack, without_stored_lock}
-use Rattle.vlm_store.specs.Shown.{but_kin, keys_at, lkid_of, rows}
+use Rattle.vlm_store.specs.Shown.{but_kin, but_queues, keys_at, lkid_of, rows}
 use Rattle.vlm_store.specs.Store.{key_at, lkid_at, records_of, tables}
 use Rattle.vlm_store.proofs.Indexing.{Indexes-removed, Indexes-same}
-use Rattle.vlm_store.proofs.Kept.{faces_same, keys_same, order_keys, order_linked, order_whole}
+use Rattle.vlm_store.proofs.Kept.{faces_same}
 use Rattle.vlm_store.proofs.Kinship.{below_kin, below_owned, kin_keys, kin_placed, kin_rows, kin_tallied, own_kin, own_pids, own_process_linked, own_process_whole, records_processes}
 use Rattle.vlm_store.proofs.Layouts.{leaving-keyed, lists_changed_beside}
 use Rattle.vlm_store.proofs.Leaving.{left_below, left_kin, left_lkids, left_named, left_owned, left_processes}
 use Rattle.vlm_store.proofs.Living.{childless, lock_there}
 use Rattle.vlm_store.proofs.Places.{same_then}
 use Rattle.vlm_store.proofs.store.Store.remove_lock.Goals as goal
+use Rattle.vlm_store.proofs.Order.{keys_same, order_keys, order_linked, order_whole}
 
 pub index-requires : goal.index-requires
 index-requires c =
@@ -62,13 +63,13 @@ invariant_of-self c =
     record {
       placed = removed.placed;
       tallied = removed.tallied;
-      linked = order_linked s.queues.resources q'.resources removed.rest s.order kept.linked;
-      ordered = order_whole s.queues.resources q'.resources removed.rest s.order kept.linked kept.ordered;
+      linked = order_linked but_queues (λ r. refl) s.queues.resources q'.resources removed.rest s.order kept.linked;
+      ordered = order_whole but_queues (λ r. refl) s.queues.resources q'.resources removed.rest s.order kept.linked kept.ordered;
       locks =
           Indexes-removed nat_eq unsigned_Decides s.lock_index c.swap_remove.new.self c.index.result.now.row.lkid (lkid_at s.queues) (lkid_at q') c.args.lock c.swap_remove.ensures.updates
           (ap (option_map lkid_of) (rw c.slot.ensures at c.index.ensures)) (ap (option_map lkid_of) removed.gone)
           (left_lkids s kept c.args.lock none c.leave_parent.new.locks c.leave_process.new.locks q'.locks c.leave_process.new.processes parent.below parent.keys parent.rest process.owned process.keys process.relinks process.rest removed.gone removed.kin) kept.locks;
-      resources = Indexes-same (get is_same_key s.resource_index) (get is_same_key s.resource_index) (key_at s.queues) (key_at q') (λ k. refl) (keys_same s.queues.resources q'.resources removed.rest) kept.resources;
+      resources = Indexes-same (get is_same_key s.resource_index) (get is_same_key s.resource_index) (key_at s.queues) (key_at q') (λ k. refl) (keys_same but_queues (λ r. refl) s.queues.resources q'.resources removed.rest) kept.resources;
       owned = left_owned s kept c.args.lock none c.leave_parent.new.locks c.leave_process.new.locks q'.locks c.leave_process.new.processes parent.below parent.keys parent.rest process.owned process.keys process.relinks process.rest removed.gone removed.kin;
       below = left_below s kept c.args.lock none c.leave_parent.new.locks c.leave_process.new.locks q'.locks c.leave_process.new.processes parent.below parent.keys parent.rest process.owned process.keys process.relinks process.rest removed.gone removed.kin;
       named = left_named s kept c.args.lock none c.leave_parent.new.locks c.leave_process.new.locks q'.locks c.leave_process.new.processes parent.below parent.keys parent.rest process.owned process.keys process.relinks process.rest removed.gone removed.kin;
@@ -96,7 +97,7 @@ returns-clause-removed c =
     (lists_changed_beside old new (leaving c.args.lock) (faces_same s.queues.resources q'.resources removed.rest)
     (leaving-keyed (rows s.queues) (rows q') (keys_at s.queues) (keys_at q') c.args.lock (λ k differs. removed.rows k differs ∙ kin_rows s.queues q2.locks kin k)
     (λ p. removed.keys p ∙ ap (without c.args.lock) (kin_keys s.queues q2.locks kin kept.placed p)))
-    (order_keys s.queues.resources q'.resources removed.rest s.order kept.linked)
+    (order_keys but_queues (λ r. refl) s.queues.resources q'.resources removed.rest s.order kept.linked)
     ∙ ap (λ ps. record (with_lists (leaving c.args.lock) (records_of old)) { processes = ps; room = (records_of new).room })
     (left_processes s kept c.args.lock none c.leave_parent.new.locks c.leave_process.new.locks q'.locks c.leave_process.new.processes parent.below parent.keys parent.rest process.owned process.keys process.relinks process.rest removed.gone removed.kin ∙ ap (map (process_without_lock c.args.lock)) (sym (records_processes old)))
     ∙ ap (λ r. record (without_stored_lock c.args.lock (records_of old)) { room = r })

@@ -7,11 +7,11 @@ use Rattle.vlm_words.specs.declared.resources.Queue.TheVariants.{Granted, Conver
 use Rattle.vlm_store.specs.declared.keys.Place.TheVariants.{Queued}
 use Rattle.vlm_words.specs.Keys.{is_same_key}
 use Rattle.vlm_store.specs.Records.{StoredResource}
-use Rattle.vlm_store.specs.Shown.{face_in, lkid_of, row_in, room_in}
+use Rattle.vlm_store.specs.Shown.{but_value_block, face_in, lkid_of, room_in, row_in}
 use Rattle.vlm_store.specs.Store.{key_at, lkid_at, tables}
 use Rattle.vlm_store.proofs.Indexing.{Indexes-same}
 use Rattle.vlm_store.proofs.Layouts.{HasResource-order, resource_written}
-use Rattle.vlm_store.proofs.Making.{block_key, block_linked, block_order, block_whole}
+use Rattle.vlm_store.proofs.Order.{keys_same, order_keys, order_linked, order_whole}
 use Rattle.vlm_store.specs.Kept.{beside_shown}
 use Rattle.vlm_store.specs.Shown.{but_queued}
 use Rattle.vlm_store.proofs.Kinship.{queued_below, queued_named, queued_owned, queued_processes}
@@ -32,10 +32,10 @@ invariant_of-self c =
     record {
       placed = set.placed;
       tallied = set.tallied;
-      linked = block_linked s.queues.resources q'.resources set.rest s.order kept.linked;
-      ordered = block_whole s.queues.resources q'.resources set.rest s.order kept.linked kept.ordered;
+      linked = order_linked but_value_block (λ r. refl) s.queues.resources q'.resources set.rest s.order kept.linked;
+      ordered = order_whole but_value_block (λ r. refl) s.queues.resources q'.resources set.rest s.order kept.linked kept.ordered;
       locks = Indexes-same (get nat_eq s.lock_index) (get nat_eq s.lock_index) (lkid_at s.queues) (lkid_at q') (λ k. refl) (λ x. ap (λ l. option_map lkid_of (slot_of l x)) set.locks) kept.locks;
-      resources = Indexes-same (get is_same_key s.resource_index) (get is_same_key s.resource_index) (key_at s.queues) (key_at q') (λ k. refl) (block_key s.queues.resources q'.resources set.rest) kept.resources;
+      resources = Indexes-same (get is_same_key s.resource_index) (get is_same_key s.resource_index) (key_at s.queues) (key_at q') (λ k. refl) (keys_same but_value_block (λ r. refl) s.queues.resources q'.resources set.rest) kept.resources;
       owned = queued_owned s.processes s.queues.locks q'.locks (same_eq but_queued s.queues.locks q'.locks set.locks) None kept.owned;
       below = queued_below s.processes s.queues.locks q'.locks (same_eq but_queued s.queues.locks q'.locks set.locks) None kept.below;
       named = queued_named s.processes s.queues.locks q'.locks (same_eq but_queued s.queues.locks q'.locks set.locks) kept.named;
@@ -51,7 +51,7 @@ returns c =
     let set = rw c.slot.ensures at c.set_value_block.ensures in
     rw (← c.self.view_is)
     (resource_written (tables s.queues s.order (beside_shown s)) (tables q' s.order (beside_shown (record s { queues = q' }))) c.args.res (λ (r : StoredResource). record r { value_block = c.args.value_block }) (λ k. ap (λ l. row_in (slot_of l k)) set.locks) set.keys
-    (λ r differs. ap face_in (set.faces r differs)) (block_order s.queues.resources q'.resources set.rest s.order c.self.invariant.linked)
+    (λ r differs. ap face_in (set.faces r differs)) (order_keys but_value_block (λ r. refl) s.queues.resources q'.resources set.rest s.order c.self.invariant.linked)
     (λ lists. rw (set.face, lists (Queued c.args.res Granted), lists (Queued c.args.res Conversion), lists (Queued c.args.res Waiting)) refl)
     (queued_processes s.processes s.queues.locks q'.locks (same_eq but_queued s.queues.locks q'.locks set.locks) s.process_order c.self.invariant.owned c.self.invariant.below)
     (queues_room s q' (ap room_in set.locks) set.resources_room))

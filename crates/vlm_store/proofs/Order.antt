@@ -1,0 +1,46 @@
+-- The order of making stays, and with it each key, where resources change but for their links in it.
+use Rattle.std.proofs.Common.{◌≡◌, ℕ, Option, None, Some, refl, sym, ap, subst}
+use Rattle.std.specs.Option.{option_map}
+use Rattle.slab.specs.Slab.{Slab, get, ContainsKey}
+use Rattle.vlm_links.specs.declared.link.Links.{Links}
+use Rattle.vlm_links.specs.declared.lists.LinkedList.{LinkedList}
+use Rattle.vlm_links.specs.Lists.{IsIn, IsLinked, keys_of, next_in, prev_in}
+use Rattle.vlm_links.proofs.Rings.{kept-keys, kept-linked}
+use Rattle.vlm_store.specs.declared.resources.InOrder.{InOrder}
+use Rattle.vlm_store.specs.declared.resources.Resource.{Resource}
+use Rattle.vlm_store.specs.Shown.{SameBut, order_links}
+use Rattle.vlm_store.proofs.Places.{there_through, through}
+
+module _ (part : Resource → Resource) (links : (r : Resource) → order_links (part r) ≡ order_links r) (old new : Slab Resource) (rest : SameBut part old new) where
+  next_same : (k : ℕ) → next_in order_links (get new k) ≡ next_in order_links (get old k)
+  next_same = through part (next_in order_links) apart old new rest
+    where
+      apart : (slot : Option Resource) → next_in order_links (option_map part slot) ≡ next_in order_links slot
+      apart None = refl
+      apart (Some r) = ap (λ (pair : Links). pair.next) (links r)
+
+  prev_same : (k : ℕ) → prev_in order_links (get new k) ≡ prev_in order_links (get old k)
+  prev_same = through part (prev_in order_links) apart old new rest
+    where
+      apart : (slot : Option Resource) → prev_in order_links (option_map part slot) ≡ prev_in order_links slot
+      apart None = refl
+      apart (Some r) = ap (λ (pair : Links). pair.prev) (links r)
+
+  pub order_keys : (order : LinkedList InOrder) → IsLinked order_links old order → keys_of order_links new order ≡ keys_of order_links old order
+  order_keys order linked = kept-keys order_links old new order linked (λ k _. next_same k) (λ k _. prev_same k) (λ k _. there_through part old new rest k)
+
+  pub order_linked : (order : LinkedList InOrder) → IsLinked order_links old order → IsLinked order_links new order
+  order_linked order linked = kept-linked order_links old new order linked (λ k _. next_same k) (λ k _. prev_same k) (λ k _. there_through part old new rest k)
+
+  pub order_whole : (order : LinkedList InOrder) → IsLinked order_links old order → ((r : ℕ) → ContainsKey old r → IsIn r (keys_of order_links old order))
+      → (r : ℕ) → ContainsKey new r → IsIn r (keys_of order_links new order)
+  order_whole order linked ordered r there = subst (IsIn r) (sym (order_keys order linked)) (ordered r (there_through part new old (λ k. sym (rest k)) r there))
+
+-- what a resource is found by stays
+pub keys_same : (part : Resource → Resource) → ((r : Resource) → (part r).key ≡ r.key) → (old new : Slab Resource) → SameBut part old new
+    → (k : ℕ) → option_map (λ (r : Resource). r.key) (get new k) ≡ option_map (λ (r : Resource). r.key) (get old k)
+keys_same part keyed old new rest = through part (option_map (λ (r : Resource). r.key)) apart old new rest
+  where
+    apart : (slot : Option Resource) → option_map (λ (r : Resource). r.key) (option_map part slot) ≡ option_map (λ (r : Resource). r.key) slot
+    apart None = refl
+    apart (Some r) = ap Some (keyed r)
