@@ -18,7 +18,7 @@ use Rattle.vlm_store.specs.declared.keys.Place.TheVariants.{Loose, Queued}
 use Rattle.vlm_store.specs.declared.locks.Lock.{Lock}
 use Rattle.vlm_store.specs.declared.queues.Queues.{Queues}
 use Rattle.vlm_store.specs.declared.resources.Resource.{Resource}
-use Rattle.vlm_store.specs.declared.resources.Tally.{Tally}
+use Rattle.vlm_store.specs.declared.tallies.Tally.{Tally}
 use Rattle.vlm_store.specs.Records.{is_queue}
 use Rattle.vlm_store.specs.Shown.{IsPlaced, IsTallied, SameBut, but_lists, keys_at, keys_but, list_at, noted, noted_in, queue_links, row_in, rows, share_of, shares, tally_in}
 use Rattle.vlm_store.specs.Tallies.{held_of, held_weight, is_mode, one_if, total, wanted_of, wanted_weight}

@@ -22,7 +22,7 @@ use Rattle.vlm_store.specs.declared.locks.InQueue.{InQueue}
 use Rattle.vlm_store.specs.declared.locks.Lock.{Lock}
 use Rattle.vlm_store.specs.declared.queues.Queues.{Queues}
 use Rattle.vlm_store.specs.declared.resources.Resource.{Resource}
-use Rattle.vlm_store.specs.declared.resources.Tally.{Tally}
+use Rattle.vlm_store.specs.declared.tallies.Tally.{Tally}
 use Rattle.vlm_store.specs.Families.{IsFamily}
 use Rattle.vlm_store.specs.Tallies.{held_of, held_weight, no_tally, total, wanted_of, wanted_weight}
 

@@ -9,7 +9,7 @@ use Rattle.vlm_words.specs.declared.resources.Queue.TheVariants.{Granted, Conver
 use Rattle.std.specs.List.{list_all}
 use Rattle.vlm_words.specs.Grants.{is_beside}
 use Rattle.vlm_words.specs.Modes.{is_compatible, rank}
-use Rattle.vlm_store.specs.declared.resources.Tally.{Tally}
+use Rattle.vlm_store.specs.declared.tallies.Tally.{Tally}
 
 -- the request, if there is one, is for this mode
 abbrev pub is_mode : Mode → Option Request → Bool

@@ -1,6 +1,7 @@
 //! The records of the lock machine, each found by its key.
 #![tactic(auto)]
 
+mod counts;
 mod growth;
 mod keys;
 mod kin;
@@ -12,6 +13,7 @@ mod processes;
 mod queues;
 mod resources;
 mod store;
+mod tallies;
 
 pub use keys::{LockAt, Place, ProcAt, ResAt};
 pub use locks::Lock;

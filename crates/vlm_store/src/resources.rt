@@ -1,27 +1,22 @@
-//! The record of a resource.
+//! The record of a resource, and how one is made and removed.
 
-ghost use Rattle.std.specs.Prelude.{◌≡◌, ◌+◌, ◌<◌, ◌≤◌, ◌^◌, refl};
-ghost use Rattle.vlm_words.specs.declared.modes.Mode.{Mode};
-ghost use Rattle.vlm_words.specs.Modes.{rank};
-ghost use Rattle.vlm_store.specs.Tallies.{count_of, counts_fit, held_of, held_weight, is_free, is_mode, one_if, wanted_of, wanted_weight};
+ghost use Rattle.std.specs.Prelude.{◌≡◌, ◌≢◌, ◌≤◌, ◌+◌, ℕ, None, Some, [], ◌∷◌, ◌++◌, refl};
+ghost use Rattle.std.specs.Option.{option_map};
+ghost use Rattle.slab.specs.Slab.{get, ContainsKey, HasRoomFor};
+ghost use Rattle.vlm_links.specs.Lists.{IsIn, IsLinked, keys_of, without};
+ghost use Rattle.vlm_words.specs.declared.resources.Queue.{Queue};
+ghost use Rattle.vlm_store.specs.declared.keys.Place.{Place};
+ghost use Rattle.vlm_store.specs.Shown.{IsPlaced, IsTallied, SameBut, but_value_block, face_in, face_of, keys_at, new_face, order_links, room_in};
 
 use crate::locks::InQueue;
-use vlm_links::{Linked, LinkedList, Links};
-use vlm_words::locks::{Request, Row};
-use vlm_words::modes::{Mode, compatible};
-use vlm_words::resources::{Domain, Key, Queue, ValueBlock};
+use crate::queues::Queues;
+use crate::tallies::Tally;
+use vlm_links::{LAST_KEY, Linked, LinkedList, Links};
+use vlm_words::resources::{Domain, Key, Queue, Site, ValueBlock};
 
 /// The list of the resources, and that of the processes, in order of making.
 #[derive(Clone, Copy)]
 pub(crate) struct InOrder;
-
-/// How many locks of a resource hold each mode, and how many want it, by the mode's rank. A converting
-/// lock is counted in both.
-#[derive(Clone, Copy)]
-pub(crate) struct Tally {
-    pub(crate) held: [u32; 6],
-    pub(crate) wanted: [u32; 6],
-}
 
 /// A resource with its queues.
 #[derive(Clone, Copy)]
@@ -64,115 +59,6 @@ impl Linked<InOrder> for Resource {
     }
 }
 
-// The place of a mode among the six.
-fn rank(mode: Mode) -> usize
-    ensures rank { result ≡ rank mode }
-    ensures below { result < 6 }
-{
-    match mode {
-        Mode::Nl => 0,
-        Mode::Cr => 1,
-        Mode::Cw => 2,
-        Mode::Pr => 3,
-        Mode::Pw => 4,
-        Mode::Ex => 5,
-    }
-}
-
-// One more lock holds, or wants, what is asked for.
-fn count_in(counts: &mut [u32; 6], request: &Option<Request>)
-    requires { (mode : Mode) → count_of counts.old mode + 1 < 2 ^ 32 }
-    ensures { (mode : Mode) → count_of counts.new mode
-        ≡ count_of counts.old mode + one_if (is_mode mode request.now) }
-{
-    if let Some(request) = request {
-        counts[rank(request.mode)] += 1;
-    }
-}
-
-// One lock less holds, or wants, what is asked for.
-fn count_out(counts: &mut [u32; 6], request: &Option<Request>)
-    requires { (mode : Mode) → one_if (is_mode mode request.now) ≤ count_of counts.old mode }
-    ensures { (mode : Mode) → count_of counts.new mode + one_if (is_mode mode request.now)
-        ≡ count_of counts.old mode }
-{
-    if let Some(request) = request {
-        counts[rank(request.mode)] -= 1;
-    }
-}
-
-impl Tally {
-    ghost use Rattle.vlm_store.specs.Tallies.{no_tally};
-
-    /// No locks.
-    pub(crate) fn new() -> Self
-        ensures { result ≡ no_tally }
-    {
-        Tally {
-            held: [0; 6],
-            wanted: [0; 6],
-        }
-    }
-
-    /// One more lock stands in the queue.
-    pub(crate) fn add(&mut self, queue: Queue, row: &Row)
-        requires held { (mode : Mode) → held_of self.old mode + 1 < 2 ^ 32 }
-        requires wanted { (mode : Mode) → wanted_of self.old mode + 1 < 2 ^ 32 }
-        ensures held { (mode : Mode) → held_of self.new mode
-            ≡ held_of self.old mode + held_weight mode queue row.now }
-        ensures wanted { (mode : Mode) → wanted_of self.new mode
-            ≡ wanted_of self.old mode + wanted_weight mode queue row.now }
-    {
-        match queue {
-            Queue::Granted => count_in(&mut self.held, &row.held),
-            Queue::Conversion => {
-                count_in(&mut self.held, &row.held);
-                count_in(&mut self.wanted, &row.want);
-            }
-            Queue::Waiting => count_in(&mut self.wanted, &row.want),
-        }
-    }
-
-    /// One lock less stands in the queue.
-    pub(crate) fn remove(&mut self, queue: Queue, row: &Row)
-        requires held { (mode : Mode) → held_weight mode queue row.now ≤ held_of self.old mode }
-        requires wanted { (mode : Mode) → wanted_weight mode queue row.now
-            ≤ wanted_of self.old mode }
-        ensures held { (mode : Mode) → held_of self.new mode + held_weight mode queue row.now
-            ≡ held_of self.old mode }
-        ensures wanted { (mode : Mode) → wanted_of self.new mode + wanted_weight mode queue row.now
-            ≡ wanted_of self.old mode }
-    {
-        match queue {
-            Queue::Granted => count_out(&mut self.held, &row.held),
-            Queue::Conversion => {
-                count_out(&mut self.held, &row.held);
-                count_out(&mut self.wanted, &row.want);
-            }
-            Queue::Waiting => count_out(&mut self.wanted, &row.want),
-        }
-    }
-
-    // Whether no lock holds this mode, or the one that is asked for is compatible with it.
-    fn is_free(&self, mode: Mode, held: Mode) -> bool
-        ensures { result ≡ is_free mode (held_of self.now) held }
-    {
-        self.held[rank(held)] == 0 || compatible(mode, held)
-    }
-
-    /// Whether the mode is compatible with every mode that is held.
-    pub(crate) fn fits(&self, mode: Mode) -> bool
-        ensures { result ≡ counts_fit mode (held_of self.now) }
-    {
-        self.is_free(mode, Mode::Nl)
-            && self.is_free(mode, Mode::Cr)
-            && self.is_free(mode, Mode::Cw)
-            && self.is_free(mode, Mode::Pr)
-            && self.is_free(mode, Mode::Pw)
-            && self.is_free(mode, Mode::Ex)
-    }
-}
-
 impl Resource {
     ghost use Rattle.vlm_store.specs.Shown.{queue_list, with_queue_list};
 
@@ -196,5 +82,93 @@ impl Resource {
             Queue::Conversion => self.converting = list,
             Queue::Waiting => self.waiting = list,
         }
+    }
+}
+
+impl Queues {
+    /// Adds a resource without locks, the last in the order of making, for which there is room.
+    pub(crate) fn add_resource(
+        &mut self,
+        order: &mut LinkedList<InOrder>,
+        serial: u32,
+        site: &Site,
+    ) -> usize
+        requires placed { IsPlaced self.old None }
+        requires tallied { IsTallied self.old None }
+        requires linked { IsLinked order_links self.old.resources order.old }
+        requires room { HasRoomFor self.old.resources 1 }
+        requires within { self.old.resources.vacant_key ≤ LAST_KEY }
+        ensures within { result ≤ LAST_KEY }
+        ensures fresh { get self.old.resources result ≡ None }
+        ensures placed { IsPlaced self.new None }
+        ensures tallied { IsTallied self.new None }
+        ensures keys { (place : Place) → keys_at self.new place ≡ keys_at self.old place }
+        ensures locks { self.new.locks ≡ self.old.locks }
+        ensures linked { IsLinked order_links self.new.resources order.new }
+        ensures order { keys_of order_links self.new.resources order.new
+            ≡ keys_of order_links self.old.resources order.old ++ result ∷ [] }
+        ensures face { option_map face_of (get self.new.resources result)
+            ≡ Some (new_face serial site.now) }
+        ensures faces { (res : ℕ) → res ≢ result → option_map face_of (get self.new.resources res)
+            ≡ option_map face_of (get self.old.resources res) }
+        ensures taken { (room_in self.new.resources).0 + 1 ≡ (room_in self.old.resources).0 }
+    {
+        let at = self.resources.insert_reserved(Resource {
+            serial,
+            domain: site.domain,
+            key: site.key,
+            level: site.level,
+            value_block: ValueBlock::new(),
+            granted: LinkedList::new(),
+            converting: LinkedList::new(),
+            waiting: LinkedList::new(),
+            tally: Tally::new(),
+            in_order: Links::none(),
+        });
+        order.push_back(&mut self.resources, at);
+        at
+    }
+
+    /// Removes a resource in whose queues no lock stands.
+    pub(crate) fn remove_resource(&mut self, order: &mut LinkedList<InOrder>, res: usize)
+        requires placed { IsPlaced self.old None }
+        requires tallied { IsTallied self.old None }
+        requires linked { IsLinked order_links self.old.resources order.old }
+        requires listed { IsIn res (keys_of order_links self.old.resources order.old) }
+        requires idle { (queue : Queue) → keys_at self.old (Place.Queued res queue) ≡ [] }
+        ensures placed { IsPlaced self.new None }
+        ensures tallied { IsTallied self.new None }
+        ensures keys { (place : Place) → keys_at self.new place ≡ keys_at self.old place }
+        ensures locks { self.new.locks ≡ self.old.locks }
+        ensures linked { IsLinked order_links self.new.resources order.new }
+        ensures order { keys_of order_links self.new.resources order.new
+            ≡ without res (keys_of order_links self.old.resources order.old) }
+        ensures gone { get self.new.resources res ≡ None }
+        ensures faces { (other : ℕ) → other ≢ res
+            → option_map face_of (get self.new.resources other)
+            ≡ option_map face_of (get self.old.resources other) }
+        ensures given_back { room_in self.new.resources ≡ ((room_in self.old.resources).0 + 1, res) }
+    {
+        order.unlink(&mut self.resources, res);
+        self.resources.remove(res);
+    }
+
+    /// Writes the value block of a resource.
+    pub(crate) fn set_value_block(&mut self, res: usize, value_block: ValueBlock)
+        requires placed { IsPlaced self.old None }
+        requires tallied { IsTallied self.old None }
+        requires there { ContainsKey self.old.resources res }
+        ensures placed { IsPlaced self.new None }
+        ensures tallied { IsTallied self.new None }
+        ensures keys { (place : Place) → keys_at self.new place ≡ keys_at self.old place }
+        ensures locks { self.new.locks ≡ self.old.locks }
+        ensures rest { SameBut but_value_block self.old.resources self.new.resources }
+        ensures face { face_in (get self.new.resources res)
+            ≡ record (face_in (get self.old.resources res)) { value_block = value_block } }
+        ensures faces { (other : ℕ) → other ≢ res
+            → get self.new.resources other ≡ get self.old.resources other }
+        ensures resources_room { room_in self.new.resources ≡ room_in self.old.resources }
+    {
+        self.resources[res].value_block = value_block;
     }
 }

@@ -14,21 +14,21 @@ pub returns-clause-placed : goal.returns-clause-placed
 returns-clause-placed c =
     resources_placed c.args.self.now c.push_back.new.nodes c.requires.placed
     (added_lists c.args.self.now c.insert_reserved-at.new.self c.push_back.new.nodes c.insert_reserved-at.result _ c.insert_reserved-at.ensures.updates c.insert_reserved-at.ensures.was_vacant
-    c.push_back.ensures.relinks c.new.ensures c.new-2.ensures c.new-3.ensures)
+    c.push_back.ensures.relinks c.new-2.ensures c.new-3.ensures c.new-4.ensures)
 
 pub returns-clause-tallied : goal.returns-clause-tallied
 returns-clause-tallied c =
     resources_tallied c.args.self.now c.push_back.new.nodes c.requires.placed
     (added_lists c.args.self.now c.insert_reserved-at.new.self c.push_back.new.nodes c.insert_reserved-at.result _ c.insert_reserved-at.ensures.updates c.insert_reserved-at.ensures.was_vacant
-    c.push_back.ensures.relinks c.new.ensures c.new-2.ensures c.new-3.ensures)
+    c.push_back.ensures.relinks c.new-2.ensures c.new-3.ensures c.new-4.ensures)
     (added_tallies c.args.self.now c.insert_reserved-at.new.self c.push_back.new.nodes c.insert_reserved-at.result _ c.insert_reserved-at.ensures.updates c.insert_reserved-at.ensures.was_vacant
-    c.push_back.ensures.relinks c.new-4.ensures) c.requires.tallied
+    c.push_back.ensures.relinks c.new-5.ensures) c.requires.tallied
 
 pub returns-clause-keys : goal.returns-clause-keys
 returns-clause-keys c =
     resources_keys c.args.self.now c.push_back.new.nodes c.requires.placed
     (added_lists c.args.self.now c.insert_reserved-at.new.self c.push_back.new.nodes c.insert_reserved-at.result _ c.insert_reserved-at.ensures.updates c.insert_reserved-at.ensures.was_vacant
-    c.push_back.ensures.relinks c.new.ensures c.new-2.ensures c.new-3.ensures)
+    c.push_back.ensures.relinks c.new-2.ensures c.new-3.ensures c.new-4.ensures)
 
 pub returns-clause-taken : goal.returns-clause-taken
 returns-clause-taken c =

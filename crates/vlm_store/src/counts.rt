@@ -1,0 +1,148 @@
+//! Which modes the locks of each resource hold and want, counted.
+
+ghost use Rattle.std.specs.Prelude.{◌≡◌, ◌≤◌, ◌<◌, ◌+◌, ◌^◌, ◌==◌, if◌then◌else◌, ℕ, None, Some};
+ghost use Rattle.std.specs.Option.{ForSome};
+ghost use Rattle.slab.specs.Slab.{get, ContainsKey};
+ghost use Rattle.vlm_words.specs.declared.resources.Queue.{Queue};
+ghost use Rattle.vlm_store.specs.declared.keys.Place.{Place};
+ghost use Rattle.vlm_store.specs.Tallies.{held_of, held_weight, keys_fit, wanted_of, wanted_weight};
+ghost use Rattle.vlm_store.specs.Shown.{IsPlaced, IsTallied, SameBut, but_tally, keys_but, room_in, rows, share_of, shares, tally_in};
+
+use crate::keys::{LockAt, Place, ResAt};
+use crate::locks::Lock;
+use crate::queues::Queues;
+use crate::tallies::Tally;
+use vlm_words::locks::Row;
+use vlm_words::modes::Mode;
+use vlm_words::resources::Queue;
+
+// The counts of a resource, without a lock that stands at this place.
+fn counted_out(mut tally: Tally, res: ResAt, place: Place, row: &Row) -> Tally
+    requires held { (mode : Mode) → share_of (held_weight mode) place res row.now
+        ≤ held_of tally mode }
+    requires wanted { (mode : Mode) → share_of (wanted_weight mode) place res row.now
+        ≤ wanted_of tally mode }
+    ensures { (mode : Mode) → held_of result mode + share_of (held_weight mode) place res row.now
+        ≡ held_of tally mode }
+{
+    let Place::Queued(at, queue) = place else {
+        return tally;
+    };
+    if at != res {
+        return tally;
+    }
+    tally.remove(queue, row);
+    tally
+}
+
+impl Queues {
+    // One lock less is counted in a queue of a resource.
+    fn tally_out(&mut self, res: ResAt, queue: Queue, row: &Row)
+        requires there { ContainsKey self.old.resources res }
+        requires held { (mode : Mode) → held_weight mode queue row.now
+            ≤ held_of (tally_in (get self.old.resources res)) mode }
+        requires wanted { (mode : Mode) → wanted_weight mode queue row.now
+            ≤ wanted_of (tally_in (get self.old.resources res)) mode }
+        ensures held { (r : ℕ) (mode : Mode) → held_of (tally_in (get self.new.resources r)) mode
+            + (if res == r then held_weight mode queue row.now else 0)
+            ≡ held_of (tally_in (get self.old.resources r)) mode }
+        ensures wanted { (r : ℕ) (mode : Mode)
+            → wanted_of (tally_in (get self.new.resources r)) mode
+            + (if res == r then wanted_weight mode queue row.now else 0)
+            ≡ wanted_of (tally_in (get self.old.resources r)) mode }
+        ensures locks { self.new.locks ≡ self.old.locks }
+        ensures loose { self.new.loose ≡ self.old.loose }
+        ensures rest { SameBut but_tally self.old.resources self.new.resources }
+        ensures resources_room { room_in self.new.resources ≡ room_in self.old.resources }
+    {
+        self.resources[res.slot()].tally.remove(queue, row);
+    }
+
+    // One lock more is counted in a queue of a resource.
+    fn tally_in(&mut self, res: ResAt, queue: Queue, row: &Row)
+        requires there { ContainsKey self.old.resources res }
+        requires held { (mode : Mode)
+            → held_of (tally_in (get self.old.resources res)) mode + 1 < 2 ^ 32 }
+        requires wanted { (mode : Mode)
+            → wanted_of (tally_in (get self.old.resources res)) mode + 1 < 2 ^ 32 }
+        ensures held { (r : ℕ) (mode : Mode) → held_of (tally_in (get self.new.resources r)) mode
+            ≡ held_of (tally_in (get self.old.resources r)) mode
+            + (if res == r then held_weight mode queue row.now else 0) }
+        ensures wanted { (r : ℕ) (mode : Mode)
+            → wanted_of (tally_in (get self.new.resources r)) mode
+            ≡ wanted_of (tally_in (get self.old.resources r)) mode
+            + (if res == r then wanted_weight mode queue row.now else 0) }
+        ensures locks { self.new.locks ≡ self.old.locks }
+        ensures loose { self.new.loose ≡ self.old.loose }
+        ensures rest { SameBut but_tally self.old.resources self.new.resources }
+        ensures resources_room { room_in self.new.resources ≡ room_in self.old.resources }
+    {
+        self.resources[res.slot()].tally.add(queue, row);
+    }
+
+    /// Counts a lock out of the queue in which it stands.
+    pub(crate) fn count_out(&mut self, at: usize)
+        requires placed { IsPlaced self.old None }
+        requires present { ContainsKey self.old.locks at }
+        requires tallied { IsTallied self.old None }
+        ensures tallied { IsTallied self.new (Some at) }
+        ensures locks { self.new.locks ≡ self.old.locks }
+        ensures loose { self.new.loose ≡ self.old.loose }
+        ensures rest { SameBut but_tally self.old.resources self.new.resources }
+        ensures resources_room { room_in self.new.resources ≡ room_in self.old.resources }
+    {
+        let Lock { row, place, .. } = self.locks[at];
+        if let Place::Queued(res, queue) = place {
+            self.tally_out(res, queue, &row);
+        }
+    }
+
+    /// Counts a lock into the queue in which it stands.
+    pub(crate) fn count_in(&mut self, at: usize)
+        requires placed { IsPlaced self.old None }
+        requires present { ContainsKey self.old.locks at }
+        requires tallied { IsTallied self.old (Some at) }
+        ensures tallied { IsTallied self.new None }
+        ensures locks { self.new.locks ≡ self.old.locks }
+        ensures loose { self.new.loose ≡ self.old.loose }
+        ensures rest { SameBut but_tally self.old.resources self.new.resources }
+        ensures resources_room { room_in self.new.resources ≡ room_in self.old.resources }
+    {
+        let Lock { row, place, .. } = self.locks[at];
+        if let Place::Queued(res, queue) = place {
+            self.tally_in(res, queue, &row);
+        }
+    }
+
+    // The counts of a resource, without the lock that asks.
+    fn tally_without(&self, res: ResAt, own: Option<LockAt>) -> Tally
+        requires placed { IsPlaced self.now None }
+        requires tallied { IsTallied self.now None }
+        requires there { ContainsKey self.now.resources res }
+        requires own { ForSome own (λ at. ContainsKey self.now.locks at) }
+        ensures { (mode : Mode) → held_of result mode ≡ shares self.now (held_weight mode) own res }
+    {
+        let tally = self.resources[res.slot()].tally;
+        match own {
+            None => tally,
+            Some(own) => {
+                let Lock { row, place, .. } = self.locks[own.slot()];
+                counted_out(tally, res, place, &row)
+            }
+        }
+    }
+
+    /// Whether the mode is compatible with what each lock of a resource holds, but for the lock that
+    /// asks.
+    pub(crate) fn fits(&self, res: ResAt, mode: Mode, own: Option<LockAt>) -> bool
+        requires placed { IsPlaced self.now None }
+        requires tallied { IsTallied self.now None }
+        requires there { ContainsKey self.now.resources res }
+        requires own { ForSome own (λ at. ContainsKey self.now.locks at) }
+        ensures { result
+            ≡ keys_fit mode (rows self.now) (keys_but self.now own (Place.Queued res Queue.Granted))
+            (keys_but self.now own (Place.Queued res Queue.Conversion)) }
+    {
+        self.tally_without(res, own).fits(mode)
+    }
+}
