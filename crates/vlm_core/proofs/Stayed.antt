@@ -1,8 +1,10 @@
 -- What stays where only processes change.
-use Rattle.std.proofs.Common.{◌≡◌, ◌⊎◌, ℕ, List, [], ◌∷◌, ◌++◌, sym, subst, inl, inr}
+use Rattle.std.proofs.Common.{◌≡◌, ◌⊎◌, ℕ, List, [], ◌∷◌, ◌++◌, refl, sym, subst, inl, inr}
 use Rattle.vlm_words.specs.declared.steps.Declaration.{Declaration}
 use Rattle.vlm_store.specs.Records.{IsProcess, IsProcessAmong, IsUnchanged, Records, Room, StoredProcess, new_stored_process, with_process_room}
 use Rattle.vlm_locks.specs.Rest.{IsAtRest}
+use Rattle.vlm_locks.specs.Rising.{HasRisingLocks}
+use Rattle.vlm_locks.proofs.Rising.{all_rise_still, rises_still, were_stored}
 use Rattle.vlm_locks.proofs.Found.{process_there}
 use Rattle.vlm_core.specs.declared.processes.Caller.{Caller}
 use Rattle.vlm_core.specs.Admissions.{IsCaller}
@@ -22,7 +24,14 @@ rests_declared s t room at pid d is rest =
     subst IsAtRest (sym is) (record {
       none_loose = rest.none_loose;
       keyed = rest.keyed;
+      rising = λ p among. elim (among_more s.processes (new_stored_process at pid d) p among) [
+        | inl was ↦ rises_still s made p p (were_stored s made refl refl) refl (rest.rising p was)
+        | inr new ↦ subst (HasRisingLocks made) new (record { own = tt; sublocks = λ own none. absurd none })
+      ];
     })
+  where
+    made : Records
+    made = with_process_room room (record s { processes = s.processes ++ new_stored_process at pid d ∷ [] })
 
 -- where a call is refused for memory, nothing that holds between two steps is lost
 pub rests_refused : (s t : Records) → IsUnchanged s t → IsAtRest s → IsAtRest t
@@ -30,4 +39,5 @@ rests_refused s t unchanged rest =
     subst IsAtRest (sym unchanged.same) (record {
       none_loose = rest.none_loose;
       keyed = rest.keyed;
+      rising = all_rise_still s (record s { room = t.room }) (were_stored s (record s { room = t.room }) refl refl) refl rest.rising;
     })

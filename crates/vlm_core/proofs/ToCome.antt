@@ -5,6 +5,7 @@ use Rattle.std.specs.List.{All, sum_by}
 use Rattle.std.specs.Option.{option_map_or}
 use Rattle.std.proofs.lemmas.List.Elements.{All-head, All-tail}
 use Rattle.std.proofs.lemmas.List.Sums.{sum_by-cons}
+use Rattle.std.proofs.Math.Nat.{lt_of_not-le}
 use Rattle.vlm_words.specs.declared.locks.Row.{Row}
 use Rattle.vlm_words.specs.declared.resources.Queue.{Queue}
 use Rattle.vlm_words.specs.declared.resources.Queue.TheVariants.{Granted, Conversion, Waiting}
@@ -18,6 +19,7 @@ use Rattle.vlm_store.specs.declared.keys.Place.{Place}
 use Rattle.vlm_store.specs.declared.keys.Place.TheVariants.{Loose, Queued}
 use Rattle.vlm_store.specs.Records.{IsAmong, IsNewLock, IsNewProcess, IsProcessAmong, IsResourceAmong, Records, StoredLock, StoredProcess, StoredResource, locks_at, queued, resource_at, rows_of}
 use Rattle.vlm_locks.specs.Plain.{plain_resource, plain_resources}
+use Rattle.vlm_locks.specs.Rising.{IsAboveAll}
 use Rattle.vlm_locks.proofs.Stood.{resource_among}
 use Rattle.vlm_core.specs.Machine.{Kept, plain_state}
 
@@ -56,7 +58,7 @@ counted_all lkid (x ∷ rest) r among =
     ]
 
 -- where no row is counted the identification is new
-pub new_lock : (s : Records) (lkid : ℕ) → s.loose ≡ [] → sum_by (rows_on lkid) (plain_resources s) ≡ 0 → IsNewLock lkid s
+new_lock : (s : Records) (lkid : ℕ) → s.loose ≡ [] → sum_by (rows_on lkid) (plain_resources s) ≡ 0 → IsNewLock lkid s
 new_lock s lkid none_loose none at row stored same = by_place stored.0 stored.1
   where
     by_place : (place : Place) → IsAmong (record { at = at; row = row }) (locks_at place s) → ⊥
@@ -69,6 +71,10 @@ new_lock s lkid none_loose none at row stored same = by_place stored.0 stored.1
             let one : 1 ≤ rows_on lkid (plain_resource r) = counted_on lkid r queue (record { at = at; row = row }) here same in
             let all : rows_on lkid (plain_resource r) ≤ sum_by (rows_on lkid) (plain_resources s) = counted_all lkid s.resources r (resource_among res s.resources r is) in
             absurd (omega (arith, one, all, none))
+
+-- where none is counted from an identification on, it is above all
+pub above_all : (s : Records) (lkid : ℕ) → s.loose ≡ [] → ((other : ℕ) → lkid ≤ other → sum_by (rows_on other) (plain_resources s) ≡ 0) → IsAboveAll lkid s
+above_all s lkid none_loose none at row stored = lt_of_not-le (λ from. new_lock s row.lkid none_loose (none row.lkid from) at row stored refl)
 
 -- ---- processes
 

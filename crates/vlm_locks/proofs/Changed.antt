@@ -1,12 +1,12 @@
 -- A change of one resource, from what stands in its place after.
-use Rattle.std.proofs.Common.{◌≡◌, ◌≢◌, ℕ, List, [], ◌∷◌, map, filter, not, cond, Some, IsSome, refl, sym, ap, ◌∙◌, subst, inl, inr, eq-eqb, ne_eqb}
+use Rattle.std.proofs.Common.{◌≡◌, ◌≢◌, ℕ, List, [], ◌∷◌, map, cond, Some, IsSome, refl, sym, ap, ◌∙◌, subst, inl, inr, eq-eqb, ne_eqb}
 use Rattle.std.specs.Prelude.{◌==◌}
 use Rattle.std.proofs.lemmas.Bool.{cases_eq}
 use Rattle.vlm_words.specs.State.{Resource}
 use Rattle.vlm_words.specs.declared.resources.Queue.{Queue}
 use Rattle.vlm_words.specs.declared.resources.Queue.TheVariants.{Granted, Conversion, Waiting}
 use Rattle.vlm_store.specs.declared.keys.Place.TheVariants.{Loose, Queued}
-use Rattle.vlm_store.specs.Records.{IsOwnAmong, IsProcessAmong, IsResourceAmong, IsSound, OwnLock, Records, Rooms, SameButBlocks, StoredProcess, StoredResource, leaving, plain_processes, process_without_lock, queued, resource_at, resource_with, without_lock, without_stored_lock, without_sublock}
+use Rattle.vlm_store.specs.Records.{IsAmong, IsResourceAmong, IsSound, Records, Rooms, SameButBlocks, StoredProcess, StoredResource, leaving, plain_processes, process_without_lock, queued, resource_at, resource_with, without_lock, without_stored_lock}
 use Rattle.vlm_store.proofs.Undoing.{map_on, unmoved}
 use Rattle.vlm_locks.specs.Plain.{plain_resource}
 use Rattle.vlm_locks.proofs.Found.{resource_alone}
@@ -15,19 +15,22 @@ use Rattle.vlm_locks.specs.Rest.{IsAtRest, IsReplaced, OthersStay}
 use Rattle.vlm_locks.specs.Standing.{IsStanding}
 use Rattle.vlm_locks.specs.Withdrawing.{IsChange}
 use Rattle.vlm_locks.proofs.Replaced.{others_stay, plain_replaced, rests, still_there}
+use Rattle.vlm_locks.specs.Staying.{LocksStay}
+use Rattle.vlm_locks.proofs.Rising.{all_rise_still, all_rise_without, rises_still, were_stored}
+use Rattle.vlm_locks.proofs.Staying.{among_without, stands_in}
 use Rattle.vlm_locks.proofs.Stood.{queue_is, stands}
 
 -- one resource is put in the place of another, as the plain change has it
-pub changed : (res : ℕ) (change : Resource → Resource) (had left : StoredResource) (old new : Records) → IsSound old → IsAtRest old → IsReplaced res had left old new
+pub changed : (res : ℕ) (change : Resource → Resource) (had left : StoredResource) (old new : Records) → IsSound old → IsAtRest old → IsReplaced res had left old new → LocksStay left had
     → change (plain_resource had) ≡ plain_resource left
     → ((x : StoredResource) → IsResourceAmong x old.resources → x.at ≢ res → change (plain_resource x) ≡ plain_resource x)
     → plain_processes new ≡ plain_processes old → IsChange res change old new
-changed res change had left old new sound rest replaced here there statuses = record {
+changed res change had left old new sound rest replaced none_join here there statuses = record {
   resources = plain_replaced res had left old new replaced change sound here there;
   statuses = statuses;
   others = others_stay res had left old new replaced;
   there = still_there res had left old new replaced;
-  rest = rests res had left old new replaced rest;
+  rest = rests res had left old new replaced none_join rest;
 }
 
 -- nothing is changed, and the plain change changes nothing
@@ -65,6 +68,7 @@ pub rests_still : (old new : Records) → SameButBlocks old new → IsAtRest old
 rests_still old new same rest = record {
   none_loose = same.loose ∙ rest.none_loose;
   keyed = λ r among. rest.keyed r (subst (IsResourceAmong r) same.resources among);
+  rising = all_rise_still old new (were_stored old new same.resources same.loose) same.processes rest.rising;
 }
 
 -- the others stay over two steps
@@ -76,29 +80,6 @@ pub removed_statuses : (lock : ℕ) (ps : List StoredProcess) → map (λ (p : S
 removed_statuses lock [] = refl
 removed_statuses lock (p ∷ ps) = ap (λ rest. p.process ∷ rest) (removed_statuses lock ps)
 
--- a process of those without the lock was there with it
-was_process : (lock : ℕ) (ps : List StoredProcess) (p : StoredProcess) → IsProcessAmong p (map (process_without_lock lock) ps)
-    → (q : StoredProcess) × (IsProcessAmong q ps × (process_without_lock lock q ≡ p))
-was_process lock [] p among = absurd among
-was_process lock (x ∷ ps) p among =
-    elim among [
-      | inl here ↦ (x, (inl refl, here))
-      | inr there ↦ let later = was_process lock ps p there in (later.0, (inr later.1.0, later.1.1))
-    ]
-
--- and so was a lock of its
-was_own : (lock : ℕ) (owns : List OwnLock) (own : OwnLock) → IsOwnAmong own (map (without_sublock lock) (filter (λ (o : OwnLock). not (o.at == lock)) owns))
-    → (o : OwnLock) × (IsOwnAmong o owns × (without_sublock lock o ≡ own))
-was_own lock [] own among = absurd among
-was_own lock (x ∷ owns) own among =
-    elim (cases_eq x.at lock) [
-      | inl same ↦ let later = was_own lock owns own (rw (eq-eqb x.at lock same) at among) in (later.0, (inr later.1.0, later.1.1))
-      | inr differs ↦ elim (rw (ne_eqb x.at lock differs) at among) [
-        | inl here ↦ (x, (inl refl, here))
-        | inr there ↦ let later = was_own lock owns own there in (later.0, (inr later.1.0, later.1.1))
-      ]
-    ]
-
 -- a change stays one with other room
 pub changed_room : (res : ℕ) (change : Resource → Resource) (s new : Records) (room : Rooms) → IsChange res change s new → IsChange res change s (record new { room = room })
 changed_room res change s new room changes = record {
@@ -109,6 +90,7 @@ changed_room res change s new room changes = record {
   rest = record {
     none_loose = changes.rest.none_loose;
     keyed = changes.rest.keyed;
+    rising = all_rise_still new (record new { room = room }) (were_stored new (record new { room = room }) refl refl) refl changes.rest.rising;
   };
 }
 
@@ -144,12 +126,21 @@ module _ (s : Records) (sound : IsSound s) (f : Standing) (standing : IsStanding
     processes = refl;
   }
 
+  -- no lock joins as it goes
+  none_joins_by_leaving : LocksStay (resource_with (leaving f.lock) standing.resource) standing.resource
+  none_joins_by_leaving queue k among = stands_in standing.resource queue k (of_queue queue among)
+    where
+      of_queue : (queue : Queue) → IsAmong k (queued queue (resource_with (leaving f.lock) standing.resource)) → IsAmong k (queued queue standing.resource)
+      of_queue Granted among = among_without f.lock k standing.resource.granted among
+      of_queue Conversion among = among_without f.lock k standing.resource.converting among
+      of_queue Waiting among = among_without f.lock k standing.resource.waiting among
+
   -- so a change of its resource is that which the plain change has there
   pub removed_changed : (change : Resource → Resource) → IsAtRest s → change (plain_resource standing.resource) ≡ plain_resource (resource_with (leaving f.lock) standing.resource)
       → ((x : StoredResource) → IsResourceAmong x s.resources → x.at ≢ f.res → change (plain_resource x) ≡ plain_resource x)
       → IsChange f.res change s (without_stored_lock f.lock s)
   removed_changed change rest here there =
-      let queues = changed f.res change standing.resource (resource_with (leaving f.lock) standing.resource) s without_queued sound rest removed_replaced here there refl in
+      let queues = changed f.res change standing.resource (resource_with (leaving f.lock) standing.resource) s without_queued sound rest removed_replaced none_joins_by_leaving here there refl in
       record {
         resources = queues.resources;
         statuses = removed_statuses f.lock s.processes;
@@ -158,5 +149,8 @@ module _ (s : Records) (sound : IsSound s) (f : Standing) (standing : IsStanding
         rest = record {
           none_loose = queues.rest.none_loose;
           keyed = queues.rest.keyed;
+          rising = λ p among.
+              rises_still without_queued (without_stored_lock f.lock s) p p (were_stored without_queued (without_stored_lock f.lock s) refl refl) refl
+              (all_rise_without without_queued f.lock s.processes queues.rest.rising p among);
         };
       }

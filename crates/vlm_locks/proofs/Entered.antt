@@ -1,5 +1,5 @@
 -- What the entry of a new lock makes of the records.
-use Rattle.std.proofs.Common.{◌≡◌, ◌≢◌, ℕ, Bool, List, [], ◌∷◌, ◌++◌, map, unwrap_or, cond, true, false, ◌&&◌, Option, Some, IsSome, IfSome, refl, sym, ap, ◌∙◌, subst, inl, inr, eq-eqb, ne_eqb}
+use Rattle.std.proofs.Common.{◌≡◌, ◌≢◌, ◌⊎◌, ℕ, Bool, List, [], ◌∷◌, ◌++◌, map, unwrap_or, cond, true, false, ◌&&◌, Option, Some, IsSome, IfSome, refl, sym, ap, ◌∙◌, subst, inl, inr, eq-eqb, ne_eqb}
 use Rattle.std.specs.Prelude.{◌==◌}
 use Rattle.std.proofs.lemmas.Bool.{cases_eq}
 use Rattle.std.proofs.lemmas.List.{map-append}
@@ -9,8 +9,9 @@ use Rattle.vlm_words.specs.declared.resources.Queue.TheVariants.{Granted, Conver
 use Rattle.vlm_words.specs.Enqueue.{resource_after_entry, resources_after_entry}
 use Rattle.vlm_words.specs.Grants.{granted_row}
 use Rattle.vlm_words.specs.Resources.{new_resource}
+use Rattle.vlm_store.specs.declared.keys.Place.{Place}
 use Rattle.vlm_store.specs.declared.keys.Place.TheVariants.{Loose, Queued}
-use Rattle.vlm_store.specs.Records.{AreResourcesApart, FindsResource, HasResource, IsAmong, IsProcess, IsProcessAmong, IsResourceAmong, IsSameLock, IsSound, IsStored, Records, Room, Stores, StoredLock, StoredProcess, StoredResource, but_blocks, is_queue, joined_by, moving, on_resource, process_with_lock, queued, resource_at, resource_with, with_lists, with_lock_room, with_new_lock, without_lock}
+use Rattle.vlm_store.specs.Records.{AreResourcesApart, FindsResource, HasResource, IsAmong, IsProcess, IsProcessAmong, IsResourceAmong, IsSameLock, IsSound, IsStored, Records, Room, Stores, StoredLock, StoredProcess, StoredResource, but_blocks, is_queue, joined_by, locks_at, moving, on_resource, process_with_lock, queued, resource_at, resource_with, with_lists, with_lock_room, with_new_lock, without_lock}
 use Rattle.vlm_store.proofs.Undoing.{map_on, resource_is, unmoved}
 use Rattle.vlm_locks.specs.Plain.{plain_resource, plain_resources}
 use Rattle.vlm_locks.specs.Rest.{but_service}
@@ -20,11 +21,13 @@ use Rattle.vlm_locks.specs.Entering.{IsAdded, IsEntered, resource_for}
 use Rattle.vlm_words.specs.Resources.{IsKeyed}
 use Rattle.vlm_locks.specs.Rest.{IsAtRest, IsReplaced, OtherLocksStay}
 use Rattle.vlm_locks.proofs.Keyed.{AreKeyed, finds_one, key_cases}
-use Rattle.vlm_locks.proofs.Replaced.{others_stay, rests, still_there}
+use Rattle.vlm_locks.proofs.Replaced.{keyed_still, others_stay, still_there, stored_cases}
 use Rattle.vlm_locks.proofs.Moves.{locks_found}
 use Rattle.vlm_locks.proofs.OtherLocks.{added_alone, locks_stay_over, moved_alone}
-use Rattle.vlm_locks.proofs.Staying.{among_last}
-use Rattle.vlm_locks.proofs.Stood.{queue_is}
+use Rattle.vlm_locks.specs.Rising.{IsAboveAll}
+use Rattle.vlm_locks.proofs.Rising.{AllRise, all_rise_with}
+use Rattle.vlm_locks.proofs.Staying.{among_last, of_joined}
+use Rattle.vlm_locks.proofs.Stood.{queue_is, queued_stored}
 
 -- ---- a lock more at the end of a queue
 
@@ -198,11 +201,47 @@ module _ (s : Records) (sound : IsSound s) (rest : IsAtRest s) (e : Entry) (keye
       processes = ap (map but_blocks) new_processes;
     }
 
+    -- a lock that is stored is the new one, or was stored
+    lock_cases : (x : ℕ) (other : Row) → Stores new x other → ((x ≡ at) × (other ≡ row)) ⊎ Stores s x other
+    lock_cases = stored_cases res found.0 left (owned_by e at s) new replaced {P = λ x other. ((x ≡ at) × (other ≡ row)) ⊎ Stores s x other} (λ queue k here. of_queue to queue k here) was
+      where
+        joined : (locks : List StoredLock) (k : StoredLock) → IsAmong k (locks ++ record { at = at; row = row } ∷ []) → (IsAmong k locks → Stores s k.at k.row)
+            → ((k.at ≡ at) × (k.row ≡ row)) ⊎ Stores s k.at k.row
+        joined locks k among stored =
+            of_joined k (record { at = at; row = row }) locks among
+            (λ is. inl (ap (λ (x : StoredLock). x.at) (sym is), ap (λ (x : StoredLock). x.row) (sym is)))
+            (λ there. inr (stored there))
+
+        in_queue : (queue : Queue) (k : StoredLock) → IsAmong k (queued queue found.0) → Stores s k.at k.row
+        in_queue queue k here = queued_stored s sound found.0 found.1.0 queue k here
+
+        of_queue : (joins queue : Queue) (k : StoredLock) → IsAmong k (queued queue (joined_by joins (record { at = at; row = row }) found.0)) → ((k.at ≡ at) × (k.row ≡ row)) ⊎ Stores s k.at k.row
+        of_queue Granted Granted k here = joined found.0.granted k here (in_queue Granted k)
+        of_queue Granted Conversion k here = inr (in_queue Conversion k here)
+        of_queue Granted Waiting k here = inr (in_queue Waiting k here)
+        of_queue Conversion Granted k here = inr (in_queue Granted k here)
+        of_queue Conversion Conversion k here = joined found.0.converting k here (in_queue Conversion k)
+        of_queue Conversion Waiting k here = inr (in_queue Waiting k here)
+        of_queue Waiting Granted k here = inr (in_queue Granted k here)
+        of_queue Waiting Conversion k here = inr (in_queue Conversion k here)
+        of_queue Waiting Waiting k here = joined found.0.waiting k here (in_queue Waiting k)
+
+        was : (x : ℕ) (other : Row) → Stores (owned_by e at s) x other → ((x ≡ at) × (other ≡ row)) ⊎ Stores s x other
+        was x other stored = inr (by_place stored.0 stored.1)
+          where
+            by_place : (place : Place) → IsAmong (record { at = x; row = other }) (locks_at place (owned_by e at s)) → Stores s x other
+            by_place Loose here = absurd here
+            by_place (Queued r queue) here = (Queued r queue, here)
+
     -- what held between two steps holds with it
-    owned_rest : IsAtRest (owned_by e at s)
-    owned_rest = record {
-      none_loose = refl;
-      keyed = rest.keyed;
+    rest_with : ¬ IsStored at s → IsSameLock e.row row → IsAboveAll e.row.lkid s → IsAtRest new
+    rest_with fresh same above = record {
+      none_loose = new_loose;
+      keyed = keyed_still res found.0 left (owned_by e at s) new replaced rest.keyed;
+      rising = subst (AllRise new) (sym new_processes)
+          (all_rise_with e.owner e.parent at s new sound e.row.lkid fresh above
+          (λ x other stored. elim (lock_cases x other stored) [ inl is ↦ inl (is.0, ap (λ (r : Row). r.lkid) is.1 ∙ sym same.lkid) | inr there ↦ inr there ])
+          rest.rising);
     }
 
     -- the plain machine finds the same resource
@@ -250,9 +289,9 @@ module _ (s : Records) (sound : IsSound s) (rest : IsAtRest s) (e : Entry) (keye
     }
 
     -- the lock has entered the resource
-    pub entered_by : ¬ IsStored at s → IsSameLock e.row row → IsProcess e.owner e.row.pid s → plain_resource left ≡ resource_after_entry e.row e.at_once (plain_resource found.0)
+    pub entered_by : ¬ IsStored at s → IsSameLock e.row row → IsAboveAll e.row.lkid s → IsProcess e.owner e.row.pid s → plain_resource left ≡ resource_after_entry e.row e.at_once (plain_resource found.0)
         → IsEntered e res s new
-    entered_by fresh same owner after = record {
+    entered_by fresh same above owner after = record {
       entered = entered_here after;
       added = is_added fresh same;
       processes = ap (map (λ (p : StoredProcess). p.process)) new_processes ∙ processes_kept e.owner e.parent at s.processes;
@@ -266,5 +305,5 @@ module _ (s : Records) (sound : IsSound s) (rest : IsAtRest s) (e : Entry) (keye
           (joined-value_block to (record { at = at; row = row }) found.0 ∙ sym (ap (λ r. r.value_block) resource_is_found));
       others = others_stay res found.0 left (owned_by e at s) new replaced;
       there = still_there res found.0 left (owned_by e at s) new replaced;
-      rest = rests res found.0 left (owned_by e at s) new replaced owned_rest;
+      rest = rest_with fresh same above;
     }

@@ -13,6 +13,7 @@ pub mod Made
 pub mod Moved
 pub mod OtherLocks
 pub mod Named
+pub mod Rising
 pub mod Replaced
 pub mod Stood
 pub mod Parting

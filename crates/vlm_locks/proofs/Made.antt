@@ -9,13 +9,15 @@ use Rattle.vlm_words.specs.Enqueue.{resources_after_entry}
 use Rattle.vlm_words.specs.Resources as plain
 use Rattle.vlm_store.specs.declared.keys.Place.{Place}
 use Rattle.vlm_store.specs.declared.keys.Place.TheVariants.{Loose, Queued}
-use Rattle.vlm_store.specs.Records.{FindsResource, IsAmong, IsNewKey, IsNewLock, IsParentOf, IsResourceAmong, Records, Rooms, StoredResource, locks_at, new_resource, queued, resource_at, with_resource_room, without_lock, without_resource}
+use Rattle.vlm_store.specs.Records.{FindsResource, IsAmong, IsNewKey, IsParentOf, IsResourceAmong, Records, Rooms, StoredResource, Stores, locks_at, new_resource, queued, resource_at, with_resource_room, without_lock, without_resource}
 use Rattle.vlm_words.specs.declared.locks.Row.{Row}
 use Rattle.vlm_locks.specs.Plain.{plain_resource, plain_resources}
 use Rattle.vlm_locks.specs.declared.entering.Entry.{Entry}
 use Rattle.vlm_locks.specs.Entering.{IsEntered, resource_for}
 use Rattle.vlm_words.specs.Resources.{IsKeyed}
 use Rattle.vlm_locks.specs.Rest.{IsAtRest}
+use Rattle.vlm_locks.specs.Rising.{IsAboveAll}
+use Rattle.vlm_locks.proofs.Rising.{all_rise_still}
 use Rattle.vlm_locks.proofs.Keyed.{AreKeyed, IsKeyFree, find-free, find-key, key_cases}
 
 -- the resource at its making
@@ -83,8 +85,11 @@ module _ (e : Entry) (res : ℕ) (room : Rooms) (s : Records) where
   same_locks (Queued x queue) = same_queue x queue s.resources
 
   -- no lock is made with it
-  pub new_still : (lkid : ℕ) → IsNewLock lkid s → IsNewLock lkid (with_made e res room s)
-  new_still lkid new at row stored = new at row (stored.0, subst (IsAmong (record { at = at; row = row })) (same_locks stored.0) stored.1)
+  was_stored : (at : ℕ) (row : Row) → Stores (with_made e res room s) at row → Stores s at row
+  was_stored at row stored = (stored.0, subst (IsAmong (record { at = at; row = row })) (same_locks stored.0) stored.1)
+
+  pub above_still : (lkid : ℕ) → IsAboveAll lkid s → IsAboveAll lkid (with_made e res room s)
+  above_still lkid above at row stored = above at row (was_stored at row stored)
 
   -- a parent is stored still
   pub parent_still : (parent : Option ℕ) (row : Row) → IsParentOf parent row s → IsParentOf parent row (with_made e res room s)
@@ -105,6 +110,7 @@ module _ (e : Entry) (res : ℕ) (room : Rooms) (s : Records) where
   rest_still keyed rest = record {
     none_loose = rest.none_loose;
     keyed = keyed_with keyed rest.keyed;
+    rising = all_rise_still s (with_made e res room s) (λ at row stored. (row, (was_stored at row stored, record { lkid = refl; pid = refl; parent = refl }))) refl rest.rising;
   }
 
   -- the new resource stands under its key

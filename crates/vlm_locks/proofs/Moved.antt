@@ -1,5 +1,5 @@
 -- A lock that stands in a queue moves to the end of one of its resource.
-use Rattle.std.proofs.Common.{◌≡◌, ◌≢◌, [], ◌∷◌, ◌++◌, map, cond, refl, sym, ap, ◌∙◌, inl, inr, eq-eqb, ne_eqb}
+use Rattle.std.proofs.Common.{◌≡◌, ◌≢◌, ◌⊎◌, Bool, true, false, List, [], ◌∷◌, ◌++◌, map, cond, refl, sym, ap, ◌∙◌, subst, inl, inr, eq-eqb, ne_eqb}
 use Rattle.std.specs.Prelude.{◌==◌}
 use Rattle.std.proofs.lemmas.Bool.{cases_eq}
 use Rattle.std.proofs.lemmas.List.{map-append}
@@ -7,14 +7,17 @@ use Rattle.vlm_words.specs.declared.locks.Row.{Row}
 use Rattle.vlm_words.specs.declared.resources.Queue.{Queue}
 use Rattle.vlm_words.specs.declared.resources.Queue.TheVariants.{Granted, Conversion, Waiting}
 use Rattle.vlm_words.specs.Rows.{rows_without}
+use Rattle.vlm_store.specs.declared.keys.Place.{Place}
 use Rattle.vlm_store.specs.declared.keys.Place.TheVariants.{Loose, Queued}
-use Rattle.vlm_store.specs.Records.{IsResourceAmong, IsSound, Records, StoredLock, StoredResource, but_blocks, is_place, moving, on_resource, queued, rows_of, with_lists, without_lock}
+use Rattle.vlm_store.specs.Records.{IsAmong, IsResourceAmong, IsSameLock, IsSound, Records, StoredLock, StoredResource, but_blocks, is_place, moving, on_resource, queued, rows_of, with_lists, without_lock}
 use Rattle.vlm_store.proofs.Layouts.{is_place-other, is_place-same}
 use Rattle.vlm_store.proofs.Undoing.{map_on, unmoved}
 use Rattle.vlm_locks.specs.declared.finding.Standing.{Standing}
 use Rattle.vlm_locks.specs.Converting.{moved_in}
 use Rattle.vlm_locks.specs.Rest.{IsReplaced}
 use Rattle.vlm_locks.specs.Standing.{IsStanding}
+use Rattle.vlm_locks.specs.Staying.{LocksStay, StandsStill}
+use Rattle.vlm_locks.proofs.Staying.{among_without, of_joined, stands_in}
 use Rattle.vlm_locks.proofs.Named.{without-absent, without-key}
 use Rattle.vlm_locks.proofs.Stood.{absent, only, own_among, queue_is, stands}
 use Rattle.vlm_locks.proofs.Found.{resource_alone, resource_at-at}
@@ -67,6 +70,29 @@ module _ (s : Records) (sound : IsSound s) (f : Standing) (standing : IsStanding
       ap (λ b. rows_of (cond b (without_lock f.lock (queued queue standing.resource) ++ record { at = f.lock; row = row } ∷ []) (without_lock f.lock (queued queue standing.resource))))
       (is_place-other (Queued standing.resource.at queue) (Queued f.res to) (λ e. differs (cc)))
       ∙ without-key (record { at = f.lock; row = f.row }) (queued queue standing.resource) (only s sound f standing standing.resource (own_among s sound f standing) queue)
+
+-- a lock of a list after a move is the moved one, or was there
+among_moved : (to : Place) (moved : StoredLock) (place : Place) (locks : List StoredLock) (k : StoredLock) → IsAmong k (moving to moved place locks) → (moved ≡ k) ⊎ IsAmong k locks
+among_moved to moved place locks k among = of_test (is_place place to) among
+  where
+    of_test : (here : Bool) → IsAmong k (cond here (without_lock moved.at locks ++ moved ∷ []) (without_lock moved.at locks)) → (moved ≡ k) ⊎ IsAmong k locks
+    of_test true among = of_joined k moved (without_lock moved.at locks) among (λ is. inl is) (λ was. inr (among_without moved.at k locks was))
+    of_test false among = inr (among_without moved.at k locks among)
+
+-- so none joins the resource
+pub none_joins_by_moving : (s : Records) (f : Standing) (standing : IsStanding f s) (row : Row) (to : Queue) → IsSameLock f.row row → LocksStay (moved_in f row to standing.resource) standing.resource
+none_joins_by_moving s f standing row to same queue k among =
+    elim (of_queue queue among) [
+      | inl is ↦
+          subst (λ (x : StoredLock). StandsStill x standing.resource) is
+          (record { queue = f.queue; row = f.row; among = standing.among; same = record { lkid = sym same.lkid; pid = sym same.pid; parent = sym same.parent } })
+      | inr was ↦ stands_in standing.resource queue k was
+    ]
+  where
+    of_queue : (queue : Queue) → IsAmong k (queued queue (moved_in f row to standing.resource)) → (record { at = f.lock; row = row } ≡ k) ⊎ IsAmong k (queued queue standing.resource)
+    of_queue Granted among = among_moved (Queued f.res to) (record { at = f.lock; row = row }) (Queued standing.resource.at Granted) standing.resource.granted k among
+    of_queue Conversion among = among_moved (Queued f.res to) (record { at = f.lock; row = row }) (Queued standing.resource.at Conversion) standing.resource.converting k among
+    of_queue Waiting among = among_moved (Queued f.res to) (record { at = f.lock; row = row }) (Queued standing.resource.at Waiting) standing.resource.waiting k among
 
 -- a queue of the resource in which the lock does not stand
 pub not_in : (s : Records) (sound : IsSound s) (f : Standing) (standing : IsStanding f s) (queue : Queue) → queue ≢ f.queue

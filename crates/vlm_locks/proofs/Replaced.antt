@@ -1,12 +1,19 @@
 -- One resource is put in the place of another of its key: what stays.
-use Rattle.std.proofs.Common.{◌≡◌, ◌≢◌, ◌⊎◌, ℕ, List, [], ◌∷◌, map, cond, IsSome, refl, sym, ap, ◌∙◌, subst, inl, inr, eq-eqb, ne_eqb}
+use Rattle.std.proofs.Common.{◌≡◌, ◌≢◌, ◌⊎◌, ℕ, List, [], ◌∷◌, map, cond, Some, IsSome, refl, sym, ap, ◌∙◌, subst, inl, inr, eq-eqb, ne_eqb}
 use Rattle.std.specs.Prelude.{◌==◌}
 use Rattle.std.proofs.lemmas.Bool.{cases_eq}
+use Rattle.std.specs.Option.{option_map_or}
 use Rattle.vlm_words.specs.State.{Resource}
-use Rattle.vlm_store.specs.Records.{HasNoSublocks, HasResource, IsOwnAmong, IsProcessAmong, IsResourceAmong, IsSound, OwnLock, Records, StoredProcess, StoredResource, but_blocks, on_resource, resource_at, without_resource}
+use Rattle.vlm_words.specs.declared.locks.Row.{Row}
+use Rattle.vlm_words.specs.declared.resources.Queue.{Queue}
+use Rattle.vlm_store.specs.declared.keys.Place.{Place}
+use Rattle.vlm_store.specs.declared.keys.Place.TheVariants.{Loose, Queued}
+use Rattle.vlm_store.specs.Records.{HasNoSublocks, HasResource, IsAmong, IsOwnAmong, IsResourceAmong, IsRowOf, IsSound, Records, StoredLock, StoredResource, Stores, but_blocks, locks_at, on_resource, queued, resource_at, without_resource}
 use Rattle.vlm_locks.specs.Plain.{plain_resource, plain_resources}
 use Rattle.vlm_words.specs.Resources.{IsKeyed}
 use Rattle.vlm_locks.specs.Rest.{IsAtRest, IsReplaced, OthersStay}
+use Rattle.vlm_locks.specs.Staying.{LocksStay}
+use Rattle.vlm_locks.proofs.Rising.{all_rise_still, same_own}
 use Rattle.vlm_locks.proofs.Stood.{resource_among}
 use Rattle.vlm_locks.proofs.Found.{resource_alone, resource_at-at, resource_at-put}
 
@@ -22,25 +29,6 @@ replaced_cases res left (r ∷ rest) x among =
       ]
       | inr there ↦ elim (replaced_cases res left rest x there) [ inl is ↦ inl is | inr was ↦ inr (inr was) ]
     ]
-
--- a process of the list has the locks of one that was there
-same_own : (old new : List StoredProcess) → map but_blocks new ≡ map but_blocks old → (p : StoredProcess) → IsProcessAmong p new → (q : StoredProcess) × (IsProcessAmong q old × (q.own ≡ p.own))
-same_own [] [] same p among = absurd among
-same_own [] (x ∷ new) same p among = cc
-same_own (y ∷ old) [] same p among = absurd among
-same_own (y ∷ old) (x ∷ new) same p among =
-    elim among [
-      | inl here ↦ (y, (inl refl, sym (ap first_own same) ∙ ap (λ (z : StoredProcess). z.own) here))
-      | inr there ↦ let later = same_own old new (ap rest_of same) p there in (later.0, (inr later.1.0, later.1.1))
-    ]
-  where
-    first_own : List StoredProcess → List OwnLock
-    first_own [] = []
-    first_own (z ∷ zs) = z.own
-
-    rest_of : List StoredProcess → List StoredProcess
-    rest_of [] = []
-    rest_of (z ∷ zs) = zs
 
 -- where status blocks alone are written no lock gets one below it
 pub no_sublocks_still : (old new : Records) → map but_blocks new.processes ≡ map but_blocks old.processes → (at : ℕ) → HasNoSublocks at old → HasNoSublocks at new
@@ -67,12 +55,25 @@ module _ (res : ℕ) (had left : StoredResource) (old new : Records) (replaced :
             | inr differs ↦ rw (ne_eqb r.at res differs, ne_eqb r.at res differs) (ap (λ rs. r ∷ rs) (without_put rest))
           ]
 
+  -- the new one is found
+  found_left : resource_at res new.resources ≡ Some left
+  found_left = ap (resource_at res) replaced.resources ∙ resource_at-put res left old.resources had left_at replaced.was
+
+  -- another is found as it was
+  found_beside : (x : ℕ) (rs : List StoredResource) → x ≢ res → resource_at x (on_resource res (λ r. left) rs) ≡ resource_at x rs
+  found_beside x [] differs = refl
+  found_beside x (r ∷ rest) differs =
+      elim (cases_eq r.at res) [
+        | inl same ↦ rw (eq-eqb r.at res same, ne_eqb left.at x (λ e. differs (sym e ∙ left_at)), ne_eqb r.at x (λ e. differs (sym e ∙ same))) (found_beside x rest differs)
+        | inr other ↦ rw (ne_eqb r.at res other) (ap (λ o. cond (r.at == x) (Some r) o) (found_beside x rest differs))
+      ]
+
   -- the resource is there
   pub still_there : HasResource res new
-  still_there = subst IsSome (sym (ap (resource_at res) replaced.resources ∙ resource_at-put res left old.resources had left_at replaced.was)) refl
+  still_there = subst IsSome (sym found_left) refl
 
   -- each resource keeps its key and its domain
-  keyed_still : ((r : StoredResource) → IsResourceAmong r old.resources → IsKeyed r.domain r.key) → (x : StoredResource) → IsResourceAmong x new.resources → IsKeyed x.domain x.key
+  pub keyed_still : ((r : StoredResource) → IsResourceAmong r old.resources → IsKeyed r.domain r.key) → (x : StoredResource) → IsResourceAmong x new.resources → IsKeyed x.domain x.key
   keyed_still keyed x among =
       elim (replaced_cases res left old.resources x (subst (IsResourceAmong x) replaced.resources among)) [
         | inl is ↦ subst (λ (r : StoredResource). IsKeyed r.domain r.key) (sym is)
@@ -80,12 +81,37 @@ module _ (res : ℕ) (had left : StoredResource) (old new : Records) (replaced :
         | inr was ↦ keyed x was
       ]
 
-  -- what held between two steps holds still
-  pub rests : IsAtRest old → IsAtRest new
-  rests rest = record {
+  -- a lock that is stored after stands on the new one, or was stored
+  pub stored_cases : {P : ℕ → Row → Type 0} → ((queue : Queue) (k : StoredLock) → IsAmong k (queued queue left) → P k.at k.row)
+      → ((at : ℕ) (row : Row) → Stores old at row → P at row) → (at : ℕ) (row : Row) → Stores new at row → P at row
+  stored_cases {P} here else at row stored = by_place stored.0 stored.1
+    where
+      by_place : (place : Place) → IsAmong (record { at = at; row = row }) (locks_at place new) → P at row
+      by_place Loose among = else at row (Loose, subst (IsAmong (record { at = at; row = row })) replaced.loose among)
+      by_place (Queued x queue) among =
+          elim (cases_eq x res) [
+            | inl same ↦ here queue (record { at = at; row = row })
+                (subst (IsAmong (record { at = at; row = row })) (ap (λ k. locks_at (Queued k queue) new) same ∙ ap (λ o. option_map_or (queued queue) o []) found_left) among)
+            | inr differs ↦ else at row (Queued x queue, subst (λ o. IsAmong (record { at = at; row = row }) (option_map_or (queued queue) o [])) (ap (resource_at x) replaced.resources ∙ found_beside x old.resources differs) among)
+          ]
+
+  -- what held between two steps holds still, if no lock joins
+  pub rests : LocksStay left had → IsAtRest old → IsAtRest new
+  rests none_join rest = record {
     none_loose = replaced.loose ∙ rest.none_loose;
     keyed = keyed_still rest.keyed;
+    rising = all_rise_still old new (stored_cases {P = λ at row. IsRowOf at row old} was_here (λ at row stored. (row, (stored, record { lkid = refl; pid = refl; parent = refl })))) replaced.processes rest.rising;
   }
+    where
+      was_here : (queue : Queue) (k : StoredLock) → IsAmong k (queued queue left) → IsRowOf k.at k.row old
+      was_here queue k among =
+          let still = none_join queue k among in (
+            still.row,
+            (
+              (Queued res still.queue, subst (IsAmong (record { at = k.at; row = still.row })) (sym (ap (λ o. option_map_or (queued still.queue) o []) replaced.was)) still.among),
+              record { lkid = sym still.same.lkid; pid = sym still.same.pid; parent = sym still.same.parent },
+            ),
+          )
 
   -- of the plain resources just that one changes, if the change leaves the others
   pub plain_replaced : (change : Resource → Resource) → IsSound old → change (plain_resource had) ≡ plain_resource left

@@ -1,16 +1,17 @@
 -- Grants leave each lock on its resource.
-use Rattle.std.proofs.Common.{◌≡◌, ℕ, List, [], ◌∷◌, ◌++◌, refl, sym, ap, ◌∙◌, subst, inl, inr}
+use Rattle.std.proofs.Common.{◌≡◌, ℕ, List, [], ◌∷◌, ◌++◌, refl, sym, ap, ◌∙◌, subst, inl, inr, eq-eqb, ne_eqb}
+use Rattle.std.proofs.lemmas.Bool.{cases_eq}
 use Rattle.vlm_words.specs.declared.locks.Row.{Row}
 use Rattle.vlm_words.specs.declared.resources.Queue.{Queue}
 use Rattle.vlm_words.specs.declared.resources.Queue.TheVariants.{Granted, Conversion, Waiting}
 use Rattle.vlm_words.specs.declared.resources.ValueBlock.{ValueBlock}
 use Rattle.vlm_words.specs.Grants.{granted_row}
-use Rattle.vlm_store.specs.Records.{IsAmong, IsResourceAmong, StoredLock, StoredResource, queued}
+use Rattle.vlm_store.specs.Records.{IsAmong, IsResourceAmong, StoredLock, StoredResource, queued, without_lock}
 use Rattle.vlm_locks.specs.Staying.{LocksStay, LocksStayAmong, StandsStill}
 use Rattle.vlm_locks.proofs.Moves.{IsHead, granted_first}
 
 -- a lock that stands in a queue stands there still
-stands_in : (r : StoredResource) (queue : Queue) (lock : StoredLock) → IsAmong lock (queued queue r) → StandsStill lock r
+pub stands_in : (r : StoredResource) (queue : Queue) (lock : StoredLock) → IsAmong lock (queued queue r) → StandsStill lock r
 stands_in r queue lock among = record { queue = queue; row = lock.row; among = among; same = record { lkid = refl; pid = refl; parent = refl } }
 
 pub all_stay : (r : StoredResource) → LocksStay r r
@@ -56,8 +57,17 @@ pub among_last : (lock : StoredLock) (xs : List StoredLock) → IsAmong lock (xs
 among_last lock [] = inl refl
 among_last lock (x ∷ xs) = inr (among_last lock xs)
 
+-- a lock of a list without one was there
+pub among_without : (at : ℕ) (lock : StoredLock) (locks : List StoredLock) → IsAmong lock (without_lock at locks) → IsAmong lock locks
+among_without at lock [] among = absurd among
+among_without at lock (x ∷ locks) among =
+    elim (cases_eq x.at at) [
+      | inl same ↦ inr (among_without at lock locks (rw (eq-eqb x.at at same) at among))
+      | inr differs ↦ elim (rw (ne_eqb x.at at differs) at among) [ inl here ↦ inl here | inr there ↦ inr (among_without at lock locks there) ]
+    ]
+
 -- a lock of a longer list is the last, or was there
-of_joined : {X : Type 0} (lock last : StoredLock) (xs : List StoredLock) → IsAmong lock (xs ++ last ∷ []) → (last ≡ lock → X) → (IsAmong lock xs → X) → X
+pub of_joined : {X : Type 0} (lock last : StoredLock) (xs : List StoredLock) → IsAmong lock (xs ++ last ∷ []) → (last ≡ lock → X) → (IsAmong lock xs → X) → X
 of_joined {X} lock last [] among is was = elim among [ inl here ↦ is here | inr none ↦ absurd none ]
 of_joined {X} lock last (x ∷ xs) among is was =
     elim among [ inl here ↦ was (inl here) | inr there ↦ of_joined lock last xs there is (λ later. was (inr later)) ]

@@ -13,6 +13,7 @@ use Rattle.vlm_locks.specs.Plain.{plain_resource, plain_resources}
 use Rattle.vlm_locks.specs.Rest.{IsAtRest}
 use Rattle.vlm_locks.specs.Sweeping.{AreSettledBut, IsSwept, Parted, StandInOrder, but_touched}
 use Rattle.vlm_locks.specs.Staying.{LocksStayAmong}
+use Rattle.vlm_locks.proofs.Rising.{all_rise_still, none_joined}
 use Rattle.vlm_locks.proofs.Staying.{stay_all_among, stay_parts, stay_twice_among}
 use Rattle.vlm_locks.proofs.Parting.{AreToSweep, among_after, among_before, to_sweep, to_sweep_behind}
 
@@ -66,7 +67,8 @@ none_touched touched [] each = refl
 none_touched touched (r ∷ rs) each = rw (each r (inl refl)) (none_touched touched rs (λ x there. each x (inr there)))
 
 module _ (touched : List ℕ) (res : ℕ) (later : List ℕ) (old s new : Records) (so_far : IsSweeping touched (res ∷ later) old s)
-    (swept : IsSwept res s new so_far.left.0) (goes_on : GoesOn) (is_touched : list_any (λ t. res == t) touched ≡ true) where
+    (swept : IsSwept res s new so_far.left.0) (goes_on : GoesOn) (is_touched : list_any (λ t. res == t) touched ≡ true)
+    (sound : IsSound old) (rest : IsAtRest old) where
   abbrev was : Parted res s.resources
   was = so_far.left.0
 
@@ -123,6 +125,15 @@ module _ (touched : List ℕ) (res : ℕ) (later : List ℕ) (old s new : Record
       of_part (y ∷ xs) ys among first second =
           elim among [ inl here ↦ first (inl here) | inr there ↦ of_part xs ys there (λ here. first (inr here)) second ]
 
+  none_loose : new.loose ≡ []
+  none_loose = swept.loose ∙ so_far.rest.none_loose
+
+  none_join : LocksStayAmong new.resources old.resources
+  none_join = stay_twice_among new.resources s.resources old.resources
+      (subst (λ rs. LocksStayAmong rs s.resources) (sym swept.resources)
+      (subst (LocksStayAmong (was.before ++ (swept.left ++ was.after))) (sym was.parted) (stay_parts swept.left (was.own ∷ []) swept.none_join was.before was.after)))
+      so_far.none_join
+
   pub sweeping_next : IsSweeping touched later old new
   sweeping_next = record {
     left = subst (AreToSweep later) (sym swept.resources)
@@ -140,12 +151,13 @@ module _ (touched : List ℕ) (res : ℕ) (later : List ℕ) (old s new : Record
     stay = stay_twice_among old.resources s.resources new.resources so_far.stay
         (subst (LocksStayAmong s.resources) (sym swept.resources)
         (subst (λ rs. LocksStayAmong rs (was.before ++ (swept.left ++ was.after))) (sym was.parted) (stay_parts (was.own ∷ []) swept.left swept.stay was.before was.after)));
-    none_join = stay_twice_among new.resources s.resources old.resources
-        (subst (λ rs. LocksStayAmong rs s.resources) (sym swept.resources)
-        (subst (LocksStayAmong (was.before ++ (swept.left ++ was.after))) (sym was.parted) (stay_parts swept.left (was.own ∷ []) swept.none_join was.before was.after)))
-        so_far.none_join;
+    none_join = none_join;
     processes = swept.processes ∙ so_far.processes;
-    rest = record { none_loose = swept.loose ∙ so_far.rest.none_loose; keyed = keyed };
+    rest = record {
+      none_loose = none_loose;
+      keyed = keyed;
+      rising = all_rise_still old new (none_joined old new sound (none_loose ∙ sym rest.none_loose) none_join) (swept.processes ∙ so_far.processes) rest.rising;
+    };
   }
 
 -- the next of the touched

@@ -21,8 +21,9 @@ use Rattle.vlm_locks.specs.Rest.{IsAtRest}
 use Rattle.vlm_locks.specs.Standing.{IsStanding}
 use Rattle.vlm_locks.specs.Withdrawing.{IsChange, may_write}
 use Rattle.vlm_locks.proofs.Changed.{changed, changed_alike, removed_changed, unchanged}
-use Rattle.vlm_locks.proofs.Moved.{joins, leaves, moved_replaced, not_in}
+use Rattle.vlm_locks.proofs.Moved.{none_joins_by_moving, joins, leaves, moved_replaced, not_in}
 use Rattle.vlm_locks.proofs.Named.{rows-absent, rows-only, without-absent, without-key}
+use Rattle.vlm_locks.proofs.Staying.{all_stay, none_joins_under_block}
 use Rattle.vlm_locks.proofs.Stood.{absent, only, own_among, queue_is}
 
 -- a queue has the lock with PW or EX if one of its rows there has
@@ -179,6 +180,7 @@ module _ (s : Records) (sound : IsSound s) (f : Standing) (standing : IsStanding
         loose = refl;
         processes = refl;
       })
+      (none_joins_under_block r r block (all_stay r))
       here (λ x among differs. not_left w named x (not_held x among differs)) refl
 
   -- and the lock stands there still
@@ -266,6 +268,7 @@ module _ (s : Records) (sound : IsSound s) (f : Standing) (standing : IsStanding
       → IsChange f.res (resource_after_cancel f.row.lkid) s new
   cancelled_conversion converts rest new is =
       changed f.res (resource_after_cancel f.row.lkid) standing.resource (moved_in f (row_after_cancel f.row) Granted standing.resource) s new sound rest
-      (moved_replaced s sound f standing (row_after_cancel f.row) Granted new is) (cancelled_own converts)
+      (moved_replaced s sound f standing (row_after_cancel f.row) Granted new is)
+      (none_joins_by_moving s f standing (row_after_cancel f.row) Granted (record { lkid = refl; pid = refl; parent = refl })) (cancelled_own converts)
       (λ x among differs. uncancelled x among (λ e. differs (cc)) (λ e. differs (cc)))
       (ap plain_processes is)

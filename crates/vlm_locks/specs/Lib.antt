@@ -2,6 +2,7 @@ pub mod Plain
 pub mod Staying
 pub mod Serving
 pub mod Standing
+pub mod Rising
 pub mod Rest
 pub mod Entering
 pub mod Sweeping

@@ -2,11 +2,12 @@
 
 ghost use Rattle.std.specs.Prelude.{◌≡◌, Some, IfOk, IfSome, IsOk, OnErr, OnOk};
 ghost use Rattle.vlm_words.specs.Enqueue.{is_at_once, resources_after_entry};
-ghost use Rattle.vlm_store.specs.Records.{FindsResource, HasResource, HasRoomForLock, HasRoomForResource, IsNewKey, IsNewLock, IsParentOf, IsProcess, IsUnchanged, SameButBlocks, StoredResource, plain_processes, resource_at};
+ghost use Rattle.vlm_store.specs.Records.{FindsResource, HasResource, HasRoomForLock, HasRoomForResource, IsNewKey, IsParentOf, IsProcess, IsUnchanged, SameButBlocks, StoredResource, plain_processes, resource_at};
 ghost use Rattle.vlm_locks.specs.Plain.{plain_resource, plain_resources};
 ghost use Rattle.vlm_locks.specs.Entering.{HasRoomToEnter, IsAdded, IsEntered, processes_accepted, processes_entered, resource_for};
 ghost use Rattle.vlm_words.specs.Resources.{IsKeyed};
 ghost use Rattle.vlm_locks.specs.Rest.{IsAtRest, OthersStay};
+ghost use Rattle.vlm_locks.specs.Rising.{IsAboveAll};
 
 use crate::endings::end_by_grant;
 use crate::grants::granted_row;
@@ -54,7 +55,7 @@ pub struct Entry {
 // goes to the end of the waiting queue. Where memory is refused, nothing is changed but that there may be more room.
 fn enter_at(store: &mut Store, entry: &Entry, res: ResAt) -> Result<(), AllocError>
     requires rest { IsAtRest store.old }
-    requires new { IsNewLock entry.now.row.lkid store.old }
+    requires rising { IsAboveAll entry.now.row.lkid store.old }
     requires owner { IsProcess entry.now.owner entry.now.row.pid store.old }
     requires parent { IsParentOf entry.now.parent entry.now.row store.old }
     requires found { FindsResource store.old entry.now.site.key (Some res) }
@@ -80,7 +81,7 @@ fn enter_at(store: &mut Store, entry: &Entry, res: ResAt) -> Result<(), AllocErr
 // nothing is changed but that there may be more room.
 fn enter_new(store: &mut Store, entry: &Entry) -> Result<ResAt, AllocError>
     requires rest { IsAtRest store.old }
-    requires new { IsNewLock entry.now.row.lkid store.old }
+    requires rising { IsAboveAll entry.now.row.lkid store.old }
     requires owner { IsProcess entry.now.owner entry.now.row.pid store.old }
     requires parent { IsParentOf entry.now.parent entry.now.row store.old }
     requires absent { IsNewKey entry.now.site.key store.old }
@@ -99,7 +100,7 @@ fn enter_new(store: &mut Store, entry: &Entry) -> Result<ResAt, AllocError>
 // is refused, nothing is changed but that there may be more room.
 fn take_in(store: &mut Store, entry: &Entry) -> Result<ResAt, AllocError>
     requires rest { IsAtRest store.old }
-    requires new { IsNewLock entry.now.row.lkid store.old }
+    requires rising { IsAboveAll entry.now.row.lkid store.old }
     requires owner { IsProcess entry.now.owner entry.now.row.pid store.old }
     requires parent { IsParentOf entry.now.parent entry.now.row store.old }
     requires found { FindsResource store.old entry.now.site.key entry.now.res }
@@ -148,7 +149,7 @@ fn accept_entered(store: &mut Store, entry: &Entry, res: ResAt)
 /// there is no room and memory is refused, nothing is changed but that there may be more room.
 pub fn enter(store: &mut Store, entry: &Entry) -> Result<ResAt, AllocError>
     requires rest { IsAtRest store.old }
-    requires new { IsNewLock entry.now.row.lkid store.old }
+    requires rising { IsAboveAll entry.now.row.lkid store.old }
     requires owner { IsProcess entry.now.owner entry.now.row.pid store.old }
     requires parent { IsParentOf entry.now.parent entry.now.row store.old }
     requires found { FindsResource store.old entry.now.site.key entry.now.res }

@@ -1,5 +1,5 @@
-use Rattle.vlm_store.specs.Records.{plain_processes}
-use Rattle.std.proofs.Common.{◌≡◌, IfSome, sym, ◌∙◌, subst}
+use Rattle.vlm_store.specs.Records.{IsSameLock, plain_processes}
+use Rattle.std.proofs.Common.{◌≡◌, IfSome, refl, sym, ◌∙◌, subst}
 use Rattle.vlm_words.specs.declared.resources.Queue.TheVariants.{Conversion, Granted}
 use Rattle.vlm_words.specs.declared.locks.Row.{Row}
 use Rattle.vlm_words.specs.Convert.{converts_at_once}
@@ -8,6 +8,8 @@ use Rattle.vlm_locks.specs.Plain.{plain_resource}
 use Rattle.vlm_locks.specs.Converting.{IsConverted, IsGrantedAtOnce, blocks_granted, moved_in}
 use Rattle.vlm_locks.specs.Rest.{IsReplaced}
 use Rattle.vlm_locks.proofs.Converted.{converted_later, converted_now}
+use Rattle.vlm_locks.proofs.Moved.{none_joins_by_moving}
+use Rattle.vlm_locks.proofs.Staying.{none_joins_under_block}
 use Rattle.vlm_locks.proofs.Replaced.{others_stay, rests, still_there}
 use Rattle.vlm_locks.proofs.converting.convert_accepted.Goals as goal
 
@@ -59,7 +61,10 @@ returns-then-at_once-clause-rest c =
     let f = c.args.standing.now in
     let standing = c.requires.standing in
     let new = c.convert_now.new.store in
-    rests f.res standing.resource (record (moved_in f (granted_row c.wanting_row-row.result) Granted standing.resource) { value_block = (blocks_granted c.wanting_row-row.result standing.resource s).value_block }) s new ((subst (λ o. IfSome o (λ r. IsGrantedAtOnce f c.wanting_row-row.result r s new)) standing.found c.convert_now.ensures.granted).replaced) c.requires.rest
+    rests f.res standing.resource (record (moved_in f (granted_row c.wanting_row-row.result) Granted standing.resource) { value_block = (blocks_granted c.wanting_row-row.result standing.resource s).value_block }) s new ((subst (λ o. IfSome o (λ r. IsGrantedAtOnce f c.wanting_row-row.result r s new)) standing.found c.convert_now.ensures.granted).replaced)
+    (none_joins_under_block standing.resource (moved_in f (granted_row c.wanting_row-row.result) Granted standing.resource) (blocks_granted c.wanting_row-row.result standing.resource s).value_block
+    (none_joins_by_moving s f standing (granted_row c.wanting_row-row.result) Granted (subst (λ (row : Row). IsSameLock f.row (granted_row row)) (sym c.wanting_row-row.ensures) (record { lkid = refl; pid = refl; parent = refl }))))
+    c.requires.rest
 
 pub returns-else-at_once-clause-others : goal.returns-else-at_once-clause-others
 returns-else-at_once-clause-others c =
@@ -83,4 +88,6 @@ returns-else-at_once-clause-rest c =
     let f = c.args.standing.now in
     let standing = c.requires.standing in
     let new = c.convert_later.new.store in
-    rests f.res standing.resource (moved_in f c.wanting_row-row.result Conversion standing.resource) s new (subst (λ o. IfSome o (λ r. IsReplaced f.res r (moved_in f c.wanting_row-row.result Conversion r) s new)) standing.found c.convert_later.ensures.replaced) c.requires.rest
+    rests f.res standing.resource (moved_in f c.wanting_row-row.result Conversion standing.resource) s new (subst (λ o. IfSome o (λ r. IsReplaced f.res r (moved_in f c.wanting_row-row.result Conversion r) s new)) standing.found c.convert_later.ensures.replaced)
+    (none_joins_by_moving s f standing c.wanting_row-row.result Conversion (subst (IsSameLock f.row) (sym c.wanting_row-row.ensures) (record { lkid = refl; pid = refl; parent = refl })))
+    c.requires.rest

@@ -4,7 +4,11 @@ use Rattle.vlm_words.specs.Grants.{granted_row}
 use Rattle.vlm_store.specs.declared.keys.Place.TheVariants.{Queued}
 use Rattle.vlm_store.specs.Records.{moving, with_lists}
 use Rattle.vlm_locks.proofs.Entered.{entered_by, joins_granted, joins_waiting, there_still}
+use Rattle.vlm_locks.proofs.Rising.{new_above}
 use Rattle.vlm_locks.proofs.entering.enter_at.Goals as goal
+
+pub add_lock-requires-clause-new : goal.add_lock-requires-clause-new
+add_lock-requires-clause-new c = new_above c.args.entry.now.row.lkid c.args.store.now c.requires.rising
 
 -- a lock that is made leaves the resources
 pub move_lock-requires-clause-there : goal.move_lock-requires-clause-there
@@ -21,7 +25,7 @@ returns-then-entry-clause-entered c =
     let e = c.args.entry.now in
     entered_by c.args.store.now c.known.ensures c.requires.rest e c.requires.keyed c.args.res c.requires.found c.in_ok-lock.lock c.add_lock.new.self _ c.known-2.ensures c.in_ok-lock.ensures.added (granted_row e.row) Granted
     c.move_lock.new.self (c.move_lock.ensures ∙ ap (λ r. with_lists (moving (Queued c.args.res Granted) (record { at = c.in_ok-lock.lock; row = r })) c.add_lock.new.self) c.granted_row.ensures)
-    c.in_ok-lock.ensures.fresh (record { lkid = refl; pid = refl; parent = refl }) c.requires.owner
+    c.in_ok-lock.ensures.fresh (record { lkid = refl; pid = refl; parent = refl }) c.requires.rising c.requires.owner
     (joins_granted c.in_ok-lock.lock e.row e.at_once c.requires.found.0 c.if-entry.true)
 
 -- it waits
@@ -29,5 +33,5 @@ pub returns-else-entry-clause-entered : goal.returns-else-entry-clause-entered
 returns-else-entry-clause-entered c =
     let e = c.args.entry.now in
     entered_by c.args.store.now c.known.ensures c.requires.rest e c.requires.keyed c.args.res c.requires.found c.in_ok-lock.lock c.add_lock.new.self _ c.known-2.ensures c.in_ok-lock.ensures.added e.row Waiting
-    c.move_lock-else-entry.new.self c.move_lock-else-entry.ensures c.in_ok-lock.ensures.fresh (record { lkid = refl; pid = refl; parent = refl }) c.requires.owner
+    c.move_lock-else-entry.new.self c.move_lock-else-entry.ensures c.in_ok-lock.ensures.fresh (record { lkid = refl; pid = refl; parent = refl }) c.requires.rising c.requires.owner
     (joins_waiting c.in_ok-lock.lock e.row e.at_once c.requires.found.0 c.if-entry.false)

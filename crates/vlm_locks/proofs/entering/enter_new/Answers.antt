@@ -1,8 +1,9 @@
 use Rattle.std.proofs.Common.{Some, sym, subst}
-use Rattle.vlm_store.specs.Records.{FindsResource, IsNewKey, IsNewLock, IsParentOf, IsProcess}
+use Rattle.vlm_store.specs.Records.{FindsResource, IsNewKey, IsParentOf, IsProcess}
 use Rattle.vlm_locks.specs.Entering.{IsEntered}
 use Rattle.vlm_locks.specs.Rest.{IsAtRest}
-use Rattle.vlm_locks.proofs.Made.{entered_made, made_found, made_is, new_still, parent_still, rest_still}
+use Rattle.vlm_locks.specs.Rising.{IsAboveAll}
+use Rattle.vlm_locks.proofs.Made.{above_still, entered_made, made_found, made_is, parent_still, rest_still}
 use Rattle.vlm_locks.proofs.entering.enter_new.Goals as goal
 
 pub add_resource-requires : goal.add_resource-requires
@@ -13,10 +14,10 @@ enter_at-requires-clause-rest c =
     let is = made_is c.args.entry.now c.in_ok-res.res c.args.store.now c.reserve_lock.new.self c.add_resource.new.self c.reserve_lock.ensures.unchanged.same c.in_ok-res.ensures.added in
     subst IsAtRest (sym is) (rest_still c.args.entry.now c.in_ok-res.res c.add_resource.new.self.room c.args.store.now c.requires.keyed c.requires.rest)
 
-pub enter_at-requires-clause-new : goal.enter_at-requires-clause-new
-enter_at-requires-clause-new c =
+pub enter_at-requires-clause-rising : goal.enter_at-requires-clause-rising
+enter_at-requires-clause-rising c =
     let is = made_is c.args.entry.now c.in_ok-res.res c.args.store.now c.reserve_lock.new.self c.add_resource.new.self c.reserve_lock.ensures.unchanged.same c.in_ok-res.ensures.added in
-    subst (IsNewLock c.args.entry.now.row.lkid) (sym is) (new_still c.args.entry.now c.in_ok-res.res c.add_resource.new.self.room c.args.store.now c.args.entry.now.row.lkid c.requires.new)
+    subst (IsAboveAll c.args.entry.now.row.lkid) (sym is) (above_still c.args.entry.now c.in_ok-res.res c.add_resource.new.self.room c.args.store.now c.args.entry.now.row.lkid c.requires.rising)
 
 pub enter_at-requires-clause-owner : goal.enter_at-requires-clause-owner
 enter_at-requires-clause-owner c =

@@ -16,7 +16,7 @@ loop-res-preserved c =
     let touched = c.args.touched.now in
     let so_far = sweeping_at touched c.loop-res.res-index c.res-item.result c.args.store.now c.loop-res.store c.loop-res-test.true c.res-item.is c.loop-res.invariant in
     sweeping_next touched c.res-item.result (drop (c.loop-res.res-index + 1) touched) c.args.store.now c.loop-res.store c.sweep_one.new.store so_far
-    (c.sweep_one.ensures so_far.left.0) c.law_a_sweep_touches_only_what_is_not_settled.ensures.next (is_touched_at touched c.loop-res.res-index c.res-item.result c.loop-res-test.true c.res-item.is)
+    (c.sweep_one.ensures so_far.left.0) c.law_a_sweep_touches_only_what_is_not_settled.ensures.next (is_touched_at touched c.loop-res.res-index c.res-item.result c.loop-res-test.true c.res-item.is) c.known.ensures c.requires.rest
 
 pub returns-clause-resources : goal.returns-clause-resources
 returns-clause-resources c =

@@ -6,17 +6,17 @@ use Rattle.vlm_core.specs.Between.{IsBetweenSteps}
 use Rattle.vlm_core.specs.Machine.{Kept, kept, plain_state}
 use Rattle.vlm_core.proofs.Entries.{entered_state, processes_are, resources_are, serial_is}
 use Rattle.vlm_core.proofs.Stayed.{rests_refused}
-use Rattle.vlm_core.proofs.ToCome.{new_lock}
+use Rattle.vlm_core.proofs.ToCome.{above_all}
 use Rattle.vlm_core.proofs.records.Machine.enq_change.Goals as goal
 
 -- the identification is to come
-pub enter-requires-clause-new : goal.enter-requires-clause-new
-enter-requires-clause-new c =
+pub enter-requires-clause-rising : goal.enter-requires-clause-rising
+enter-requires-clause-rising c =
     let between = subst (λ (m : Kept). IsBetweenSteps (plain_state m)) (sym c.self.view_is) c.requires.between in
     let admitted = subst (λ (m : Kept). IsAdmitted m c.args.request.now c.args.admitted.now) (sym c.self.view_is) c.requires.admitted in
     let row = c.args.admitted.now.entry.row in
     let lkid : row.lkid ≡ c.self.inside.last_lkid + 1 = ap (λ (r : Row). r.lkid) admitted.entry.row in
-    new_lock c.self.inside.store row.lkid c.self.invariant.rest.none_loose (between.lkids_to_come row.lkid (omega (arith, lkid)))
+    above_all c.self.inside.store row.lkid c.self.invariant.rest.none_loose (λ other from. between.lkids_to_come other (omega (arith, lkid, from)))
 
 -- where memory is refused it is as it was
 pub invariant_of-self : goal.invariant_of-self

@@ -1,0 +1,289 @@
+-- The own locks of a process, and the locks below a lock, stand by rising identification as locks come, change and go.
+use Rattle.std.proofs.Common.{◌≡◌, ◌⊎◌, ℕ, Bool, true, false, List, [], ◌∷◌, ◌++◌, map, filter, not, cond, Option, None, Some, refl, sym, ap, ◌∙◌, subst, inl, inr, arith, eq-eqb, ne_eqb}
+use Rattle.std.specs.Prelude.{◌==◌}
+use Rattle.std.proofs.lemmas.Bool.{cases_eq}
+use Rattle.std.proofs.lemmas.List.{append-nil, map-append}
+use Rattle.vlm_words.specs.declared.locks.Row.{Row}
+use Rattle.std.specs.Option.{option_map_or}
+use Rattle.vlm_store.specs.declared.keys.Place.{Place}
+use Rattle.vlm_store.specs.declared.keys.Place.TheVariants.{Loose, Queued}
+use Rattle.vlm_links.specs.Lists.{IsIn, without}
+use Rattle.vlm_links.proofs.KeyLists.{IsIn-push, IsIn-without}
+use Rattle.vlm_store.specs.Records.{IsAmong, IsNewLock, IsOwnAmong, IsProcessAmong, IsRowOf, IsSound, IsStored, OwnLock, Records, StoredProcess, StoredResource, Stores, but_blocks, locks_at, new_own, process_with_lock, process_without_lock, queued, resource_at, with_sublock, without_sublock}
+use Rattle.vlm_locks.specs.Staying.{LocksStayAmong}
+use Rattle.vlm_locks.proofs.Stood.{queued_stored, resource_among}
+use Rattle.vlm_locks.specs.Rising.{ComesBefore, HasRisingLocks, IsAboveAll, StandByIdentification, own_keys}
+
+-- each process has rising locks
+abbrev pub AllRise : Records → List StoredProcess → Type 0
+AllRise s ps = (p : StoredProcess) → IsProcessAmong p ps → HasRisingLocks s p
+
+-- each lock that is stored was stored under its key, as the same lock
+abbrev pub WereStored : Records → Records → Type 0
+WereStored old new = (at : ℕ) (row : Row) → Stores new at row → IsRowOf at row old
+
+-- ---- keys
+
+-- keys of which each two keep their order stand by it still
+stand_still : (s t : Records) (keys : List ℕ) → ((a b : ℕ) → IsIn a keys → IsIn b keys → ComesBefore s a b → ComesBefore t a b)
+    → StandByIdentification s keys → StandByIdentification t keys
+stand_still s t [] kept stand = tt
+stand_still s t (at ∷ rest) kept stand = (
+  λ later there. kept at later (inl refl) (inr there) (stand.0 later there),
+  stand_still s t rest (λ a b in_a in_b. kept a b (inr in_a) (inr in_b)) stand.1,
+)
+
+-- so do those that are left of them
+stand_without : (s : Records) (lock : ℕ) (keys : List ℕ) → StandByIdentification s keys → StandByIdentification s (without lock keys)
+stand_without s lock [] stand = tt
+stand_without s lock (at ∷ rest) stand =
+    elim (cases_eq at lock) [
+      | inl same ↦ rw (eq-eqb at lock same) (stand_without s lock rest stand.1)
+      | inr differs ↦ rw (ne_eqb at lock differs) (λ later there. stand.0 later (IsIn-without lock later rest there).0, stand_without s lock rest stand.1)
+    ]
+
+-- and with a last one that each of them comes before
+stand_with : (s : Records) (keys : List ℕ) (last : ℕ) → ((at : ℕ) → IsIn at keys → ComesBefore s at last) → StandByIdentification s keys
+    → StandByIdentification s (keys ++ last ∷ [])
+stand_with s [] last before stand = (λ later there. absurd there, tt)
+stand_with s (at ∷ rest) last before stand = (
+  λ later there. elim (IsIn-push last later rest there) [
+    | inl was ↦ stand.0 later was
+    | inr is ↦ subst (ComesBefore s at) is (before at (inl refl))
+  ],
+  stand_with s rest last (λ other there. before other (inr there)) stand.1,
+)
+
+-- ---- locks that change
+
+before_still : (old new : Records) → WereStored old new → (first second : ℕ) → ComesBefore old first second → ComesBefore new first second
+before_still old new were first second before a b in_a in_b =
+    let was_a = were first a in_a in
+    let was_b = were second b in_b in
+    omega (arith, before was_a.0 was_b.0 was_a.1.0 was_b.1.0, was_a.1.1.lkid, was_b.1.1.lkid)
+
+-- where the locks are the same each was stored
+pub were_stored : (old new : Records) → new.resources ≡ old.resources → new.loose ≡ old.loose → WereStored old new
+were_stored old new resources loose at row stored = (row, ((stored.0, by_place stored.0 stored.1), record { lkid = refl; pid = refl; parent = refl }))
+  where
+    by_place : (place : Place) → IsAmong (record { at = at; row = row }) (locks_at place new) → IsAmong (record { at = at; row = row }) (locks_at place old)
+    by_place Loose among = subst (IsAmong (record { at = at; row = row })) loose among
+    by_place (Queued res queue) among = subst (λ rs. IsAmong (record { at = at; row = row }) (option_map_or (queued queue) (resource_at res rs) [])) resources among
+
+-- and where none joins the resources
+pub none_joined : (old new : Records) → IsSound old → new.loose ≡ old.loose → LocksStayAmong new.resources old.resources → WereStored old new
+none_joined old new sound loose none_join at row stored = by_place stored.0 stored.1
+  where
+    by_place : (place : Place) → IsAmong (record { at = at; row = row }) (locks_at place new) → IsRowOf at row old
+    by_place Loose among = (row, ((Loose, subst (IsAmong (record { at = at; row = row })) loose among), record { lkid = refl; pid = refl; parent = refl }))
+    by_place (Queued res queue) among = of_found (resource_at res new.resources) refl among
+      where
+        of_found : (found : Option StoredResource) → resource_at res new.resources ≡ found → IsAmong (record { at = at; row = row }) (option_map_or (queued queue) found []) → IsRowOf at row old
+        of_found None is here = absurd here
+        of_found (Some r) is here =
+            let stays = none_join r queue (record { at = at; row = row }) (resource_among res new.resources r is) here in
+            let still = stays.1.2 in (
+              still.row,
+              (
+                queued_stored old sound stays.0 stays.1.0 still.queue (record { at = at; row = still.row }) still.among,
+                record { lkid = sym still.same.lkid; pid = sym still.same.pid; parent = sym still.same.parent },
+              ),
+            )
+
+-- a process has the locks of one that was there
+pub same_own : (old new : List StoredProcess) → map but_blocks new ≡ map but_blocks old → (p : StoredProcess) → IsProcessAmong p new → (q : StoredProcess) × (IsProcessAmong q old × (q.own ≡ p.own))
+same_own [] [] same p among = absurd among
+same_own [] (x ∷ new) same p among = cc
+same_own (y ∷ old) [] same p among = absurd among
+same_own (y ∷ old) (x ∷ new) same p among =
+    elim among [
+      | inl here ↦ (y, (inl refl, sym (ap first_own same) ∙ ap (λ (z : StoredProcess). z.own) here))
+      | inr there ↦ let later = same_own old new (ap rest_of same) p there in (later.0, (inr later.1.0, later.1.1))
+    ]
+  where
+    first_own : List StoredProcess → List OwnLock
+    first_own [] = []
+    first_own (z ∷ zs) = z.own
+
+    rest_of : List StoredProcess → List StoredProcess
+    rest_of [] = []
+    rest_of (z ∷ zs) = zs
+
+-- a process has rising locks where its locks were those of one that had
+pub rises_still : (old new : Records) (q p : StoredProcess) → WereStored old new → q.own ≡ p.own → HasRisingLocks old q → HasRisingLocks new p
+rises_still old new q p were same rises = record {
+  own = subst (λ owns. StandByIdentification new (own_keys owns)) same (stand_still old new (own_keys q.own) (λ a b in_a in_b. before_still old new were a b) rises.own);
+  sublocks = λ own among. stand_still old new own.sublocks (λ a b in_a in_b. before_still old new were a b) (rises.sublocks own (subst (IsOwnAmong own) (sym same) among));
+}
+
+-- so all have where none gets another lock
+pub all_rise_still : (old new : Records) → WereStored old new → map but_blocks new.processes ≡ map but_blocks old.processes → AllRise old old.processes → AllRise new new.processes
+all_rise_still old new were same rising p among =
+    let was = same_own old.processes new.processes same p among in
+    rises_still old new was.0 p were was.1.1 (rising was.0 was.1.0)
+
+-- ---- a lock that goes
+
+-- a process of those without the lock was there with it
+was_process : (lock : ℕ) (ps : List StoredProcess) (p : StoredProcess) → IsProcessAmong p (map (process_without_lock lock) ps)
+    → (q : StoredProcess) × (IsProcessAmong q ps × (process_without_lock lock q ≡ p))
+was_process lock [] p among = absurd among
+was_process lock (x ∷ ps) p among =
+    elim among [
+      | inl here ↦ (x, (inl refl, here))
+      | inr there ↦ let later = was_process lock ps p there in (later.0, (inr later.1.0, later.1.1))
+    ]
+
+-- and so was a lock of its
+was_own : (lock : ℕ) (owns : List OwnLock) (own : OwnLock) → IsOwnAmong own (map (without_sublock lock) (filter (λ (o : OwnLock). not (o.at == lock)) owns))
+    → (o : OwnLock) × (IsOwnAmong o owns × (without_sublock lock o ≡ own))
+was_own lock [] own among = absurd among
+was_own lock (x ∷ owns) own among =
+    elim (cases_eq x.at lock) [
+      | inl same ↦ let later = was_own lock owns own (rw (eq-eqb x.at lock same) at among) in (later.0, (inr later.1.0, later.1.1))
+      | inr differs ↦ elim (rw (ne_eqb x.at lock differs) at among) [
+        | inl here ↦ (x, (inl refl, here))
+        | inr there ↦ let later = was_own lock owns own there in (later.0, (inr later.1.0, later.1.1))
+      ]
+    ]
+
+-- of the keys just its own goes
+keys_without : (lock : ℕ) (owns : List OwnLock) → own_keys (map (without_sublock lock) (filter (λ (o : OwnLock). not (o.at == lock)) owns)) ≡ without lock (own_keys owns)
+keys_without lock [] = refl
+keys_without lock (x ∷ owns) =
+    elim (cases_eq x.at lock) [
+      | inl same ↦ rw (eq-eqb x.at lock same) (keys_without lock owns)
+      | inr differs ↦ rw (ne_eqb x.at lock differs) (ap (λ keys. x.at ∷ keys) (keys_without lock owns))
+    ]
+
+rises_without : (s : Records) (lock : ℕ) (q : StoredProcess) → HasRisingLocks s q → HasRisingLocks s (process_without_lock lock q)
+rises_without s lock q rises = record {
+  own = subst (StandByIdentification s) (sym (keys_without lock q.own)) (stand_without s lock (own_keys q.own) rises.own);
+  sublocks = λ own among.
+      let was = was_own lock q.own own among in
+      subst (λ (o : OwnLock). StandByIdentification s o.sublocks) was.1.1 (stand_without s lock was.0.sublocks (rises.sublocks was.0 was.1.0));
+}
+
+-- the locks of each process stand so still as a lock goes
+pub all_rise_without : (s : Records) (lock : ℕ) (ps : List StoredProcess) → AllRise s ps → AllRise s (map (process_without_lock lock) ps)
+all_rise_without s lock ps rising p among =
+    let was = was_process lock ps p among in
+    subst (HasRisingLocks s) was.1.1 (rises_without s lock was.0 (rising was.0 was.1.0))
+
+-- ---- a lock that is made
+
+-- an identification above all is new
+pub new_above : (lkid : ℕ) (s : Records) → IsAboveAll lkid s → IsNewLock lkid s
+new_above lkid s above at row stored same = absurd (omega (arith, above at row stored, same))
+
+own_in : (owns : List OwnLock) (at : ℕ) → IsIn at (own_keys owns) → (o : OwnLock) × (IsOwnAmong o owns × (o.at ≡ at))
+own_in [] at there = absurd there
+own_in (x ∷ owns) at there =
+    elim there [
+      | inl here ↦ (x, (inl refl, here))
+      | inr later ↦ let found = own_in owns at later in (found.0, (inr found.1.0, found.1.1))
+    ]
+
+module _ (owner : ℕ) (parent : Option ℕ) (lock : ℕ) where
+  -- a process of those with the lock was there without it
+  had_process : (ps : List StoredProcess) (p : StoredProcess) → IsProcessAmong p (map (process_with_lock owner parent lock) ps)
+      → (q : StoredProcess) × (IsProcessAmong q ps × (process_with_lock owner parent lock q ≡ p))
+  had_process [] p among = absurd among
+  had_process (x ∷ ps) p among =
+      elim among [
+        | inl here ↦ (x, (inl refl, here))
+        | inr there ↦ let later = had_process ps p there in (later.0, (inr later.1.0, later.1.1))
+      ]
+
+  -- and so was a lock of its, or it is the new one
+  had_own : (mine : Bool) (owns : List OwnLock) (own : OwnLock) → IsOwnAmong own (map (with_sublock parent lock) owns ++ cond mine (new_own lock) [])
+      → ((o : OwnLock) × (IsOwnAmong o owns × (with_sublock parent lock o ≡ own))) ⊎ (record { at = lock; sublocks = [] } ≡ own)
+  had_own true [] own among = elim among [ inl is ↦ inr is | inr none ↦ absurd none ]
+  had_own false [] own among = absurd among
+  had_own mine (x ∷ owns) own among =
+      elim among [
+        | inl here ↦ inl (x, (inl refl, here))
+        | inr there ↦ elim (had_own mine owns own there) [
+          | inl was ↦ inl (was.0, (inr was.1.0, was.1.1))
+          | inr is ↦ inr is
+        ]
+      ]
+
+  -- a lock keeps its key
+  same_at : (up : Option ℕ) (o : OwnLock) → (with_sublock up lock o).at ≡ o.at
+  same_at None o = refl
+  same_at (Some key) o = of_test (o.at == key)
+    where
+      of_test : (b : Bool) → (cond b (record o { sublocks = o.sublocks ++ lock ∷ [] }) o).at ≡ o.at
+      of_test true = refl
+      of_test false = refl
+
+  keys_with : (owns : List OwnLock) → own_keys (map (with_sublock parent lock) owns) ≡ own_keys owns
+  keys_with [] = refl
+  keys_with (o ∷ owns) = ap (λ at. at ∷ own_keys (map (with_sublock parent lock) owns)) (same_at parent o) ∙ ap (λ keys. o.at ∷ keys) (keys_with owns)
+
+  module _ (s new : Records) (sound : IsSound s) (lkid : ℕ) (fresh : ¬ IsStored lock s) (above : IsAboveAll lkid s)
+      (cases : (at : ℕ) (row : Row) → Stores new at row → ((at ≡ lock) × (row.lkid ≡ lkid)) ⊎ Stores s at row) where
+    -- another lock was stored
+    was_stored : (at : ℕ) → IsStored at s → (row : Row) → Stores new at row → Stores s at row
+    was_stored at stored row now = elim (cases at row now) [ inl is ↦ absurd (fresh (subst (λ k. IsStored k s) is.0 stored)) | inr was ↦ was ]
+
+    before_kept : (first second : ℕ) → IsStored first s → IsStored second s → ComesBefore s first second → ComesBefore new first second
+    before_kept first second stored_first stored_second before a b in_a in_b = before a b (was_stored first stored_first a in_a) (was_stored second stored_second b in_b)
+
+    -- each comes before the new one
+    before_last : (at : ℕ) → IsStored at s → ComesBefore new at lock
+    before_last at stored a b in_a in_b =
+        elim (cases lock b in_b) [
+          | inl is ↦ omega (arith, above at a (was_stored at stored a in_a), is.1)
+          | inr there ↦ absurd (fresh (b, there))
+        ]
+
+    -- keys of stored locks stand so still, and with the new one as their last
+    stand_kept : (keys : List ℕ) → ((at : ℕ) → IsIn at keys → IsStored at s) → StandByIdentification s keys → StandByIdentification new keys
+    stand_kept keys stored stand = stand_still s new keys (λ a b in_a in_b. before_kept a b (stored a in_a) (stored b in_b)) stand
+
+    stand_joined : (keys : List ℕ) → ((at : ℕ) → IsIn at keys → IsStored at s) → StandByIdentification s keys → StandByIdentification new (keys ++ lock ∷ [])
+    stand_joined keys stored stand = stand_with new keys lock (λ at there. before_last at (stored at there)) (stand_kept keys stored stand)
+
+    rises_with : (q : StoredProcess) → IsProcessAmong q s.processes → HasRisingLocks s q → HasRisingLocks new (process_with_lock owner parent lock q)
+    rises_with q among rises = record {
+      own = of_owner (q.at == owner);
+      sublocks = λ own there. elim (had_own (q.at == owner) q.own own there) [
+        | inl was ↦ subst (λ (o : OwnLock). StandByIdentification new o.sublocks) was.1.1 (of_parent parent was.0 was.1.0)
+        | inr is ↦ subst (λ (o : OwnLock). StandByIdentification new o.sublocks) is tt
+      ];
+    }
+      where
+        own_stored : (at : ℕ) → IsIn at (own_keys q.own) → IsStored at s
+        own_stored at there =
+            let found = own_in q.own at there in
+            let owned = sound.owned.owns q found.0 among found.1.0 in
+            subst (λ k. IsStored k s) found.1.1 (owned.0, owned.1.0)
+
+        below_stored : (o : OwnLock) → IsOwnAmong o q.own → (at : ℕ) → IsIn at o.sublocks → IsStored at s
+        below_stored o own at there = let below = sound.owned.below q o at among own there in (below.1, below.2.1)
+
+        of_owner : (mine : Bool) → StandByIdentification new (own_keys (map (with_sublock parent lock) q.own ++ cond mine (new_own lock) []))
+        of_owner true =
+            subst (StandByIdentification new)
+            (sym (map-append (λ (o : OwnLock). o.at) (map (with_sublock parent lock) q.own) (new_own lock) ∙ ap (λ keys. keys ++ lock ∷ []) (keys_with q.own)))
+            (stand_joined (own_keys q.own) own_stored rises.own)
+        of_owner false =
+            subst (StandByIdentification new)
+            (sym (map-append (λ (o : OwnLock). o.at) (map (with_sublock parent lock) q.own) [] ∙ append-nil _ ∙ keys_with q.own))
+            (stand_kept (own_keys q.own) own_stored rises.own)
+
+        of_parent : (up : Option ℕ) (o : OwnLock) → IsOwnAmong o q.own → StandByIdentification new (with_sublock up lock o).sublocks
+        of_parent None o own = stand_kept o.sublocks (below_stored o own) (rises.sublocks o own)
+        of_parent (Some key) o own = of_test (o.at == key)
+          where
+            of_test : (b : Bool) → StandByIdentification new (cond b (record o { sublocks = o.sublocks ++ lock ∷ [] }) o).sublocks
+            of_test true = stand_joined o.sublocks (below_stored o own) (rises.sublocks o own)
+            of_test false = stand_kept o.sublocks (below_stored o own) (rises.sublocks o own)
+
+    -- the locks of each process stand by rising identification with a new lock that is above all
+    pub all_rise_with : AllRise s s.processes → AllRise new (map (process_with_lock owner parent lock) s.processes)
+    all_rise_with rising p among =
+        let had = had_process s.processes p among in
+        subst (HasRisingLocks new) had.1.1 (rises_with had.0 had.1.0 (rising had.0 had.1.0))

@@ -1,0 +1,27 @@
+-- The order in which the locks of a process stand, and the locks below a lock.
+use Rattle.std.specs.Prelude.{◌<◌, ⊤, ℕ, List, [], ◌∷◌, map}
+use Rattle.vlm_words.specs.declared.locks.Row.{Row}
+use Rattle.vlm_links.specs.Lists.{IsIn}
+use Rattle.vlm_store.specs.Records.{IsOwnAmong, OwnLock, Records, StoredProcess, Stores}
+
+-- the lock of the one key has a lower identification than that of the other
+abbrev pub ComesBefore : Records → ℕ → ℕ → Type 0
+ComesBefore s first second = (a b : Row) → Stores s first a → Stores s second b → a.lkid < b.lkid
+
+-- the locks of these keys stand by rising identification
+abbrev pub StandByIdentification : Records → List ℕ → Type 0
+StandByIdentification s [] = ⊤
+StandByIdentification s (at ∷ rest) = ((later : ℕ) → IsIn later rest → ComesBefore s at later) × StandByIdentification s rest
+
+-- the keys of the locks of a process
+abbrev pub own_keys : List OwnLock → List ℕ
+own_keys locks = map (λ own. own.at) locks
+
+-- the locks of the process stand by rising identification, and so do the locks below each of these
+pub record HasRisingLocks (s : Records) (p : StoredProcess) : Type 0 where
+  pub own : StandByIdentification s (own_keys p.own)
+  pub sublocks : (own : OwnLock) → IsOwnAmong own p.own → StandByIdentification s own.sublocks
+
+-- each stored lock has a lower identification
+abbrev pub IsAboveAll : ℕ → Records → Type 0
+IsAboveAll lkid s = (at : ℕ) (row : Row) → Stores s at row → row.lkid < lkid
