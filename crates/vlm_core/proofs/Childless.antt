@@ -21,10 +21,11 @@ use Rattle.vlm_locks.specs.Plain.{plain_resource, plain_resources}
 use Rattle.vlm_locks.specs.declared.finding.Standing.{Standing}
 use Rattle.vlm_locks.specs.Standing.{IsStanding}
 use Rattle.vlm_locks.specs.Withdrawing.{goes}
-use Rattle.vlm_locks.proofs.Stood.{one_lock, queue_is, queued_stored, resource_among, stands, stored}
+use Rattle.vlm_locks.proofs.Stood.{one_lock, queued_stored, resource_among, stands, stored}
 use Rattle.vlm_core.specs.Machine.{Kept, plain_state}
 use Rattle.vlm_core.proofs.Siting.{each_resource}
 use Rattle.vlm_core.proofs.ToCome.{counted_all, counted_on}
+use Rattle.vlm_store.proofs.Undoing.{queue_at}
 
 -- a stored lock in its queue
 pub record IsQueued (at : ℕ) (row : Row) (s : Records) : Type 0 where
@@ -184,7 +185,7 @@ module _ (s : Records) (sound : IsSound s) (none_loose : s.loose ≡ []) (f : St
             let same : k.at ≡ f.lock = sound.lkids_apart k.at f.lock k.row f.row is_stored (stored s sound f standing) held.2.2 in
             let there : IsAmong (record { at = f.lock; row = k.row }) (locks_at (Queued r.at held.1) s) =
             subst (λ x. IsAmong (record { at = x; row = k.row }) (locks_at (Queued r.at held.1) s)) same
-            (subst (IsAmong k) (sym (queue_is s sound r (within r (inl refl)) held.1)) held.2.0) in
+            (subst (IsAmong k) (sym (queue_at s sound r (within r (inl refl)) held.1)) held.2.0) in
             let place : Queued r.at held.1 ≡ Queued f.res f.queue =
             sound.one_place f.lock k.row f.row (Queued r.at held.1) (Queued f.res f.queue) there (stands s sound f standing) in
             held.2.1 (same_queue r.at f.res held.1 f.queue place ∙ waits))

@@ -102,7 +102,8 @@ impl Machine {
     #[tactic(auto, unfolding(vlm_words::specs::Checks::which_refusal))]
     pub(crate) fn named(&self, caller: &Caller, lock: Which) -> Result<u32, Cond>
         requires { IsCaller caller.now self.now.records }
-        ensures refusal { result_err result ≡ which_refusal (plain_state self.now) caller.now.pid lock }
+        ensures refusal { result_err result
+            ≡ which_refusal (plain_state self.now) caller.now.pid lock }
         ensures lkid { IfOk result
             (λ lkid. lkid ≡ named_lkid (plain_state self.now) caller.now.pid lock) }
     {
@@ -115,7 +116,8 @@ impl Machine {
     /// The lock of the caller with this identification, where it stands. IVLOCKID where it has none.
     #[tactic(auto, unfolding(vlm_words::specs::Checks::lock_refusal))]
     pub(crate) fn own_lock(&self, caller: &Caller, lkid: u32) -> Result<Standing, Cond>
-        ensures refusal { result_err result ≡ lock_refusal (plain_state self.now) caller.now.pid lkid }
+        ensures refusal { result_err result
+            ≡ lock_refusal (plain_state self.now) caller.now.pid lkid }
         ensures standing { IfOk result
             (λ standing. IsStandingOf caller.now.pid lkid standing self.now.records) }
     {

@@ -35,7 +35,8 @@ impl Machine {
     /// Asks for another mode of a granted lock: its checks, its change, and the sweep of its resource.
     pub(crate) fn convert(&mut self, conversion: Conversion) -> Answer
         requires { IsBetweenSteps (plain_state self.old) }
-        ensures { Outcome (plain_state self.old) (Step.Convert conversion) (plain_state self.new) result }
+        ensures { Outcome (plain_state self.old) (Step.Convert conversion)
+            (plain_state self.new) result }
     {
         match self.convert_refusal(&conversion) {
             Ok(admitted) => {
@@ -74,9 +75,11 @@ impl Machine {
         conversion: &Conversion,
     ) -> Result<AdmittedConversion, Cond>
         requires flags { flag_bits flags ≡ conversion.now.flags }
-        requires standing { IsStandingOf conversion.now.pid (convert_lkid (plain_state self.now) conversion.now) standing.now self.now.records }
+        requires standing { let lkid = convert_lkid (plain_state self.now) conversion.now
+            in IsStandingOf conversion.now.pid lkid standing.now self.now.records }
         ensures refusal { let admission = convert_admission (plain_state self.now) conversion.now
-            in result_err result ≡ admission_refusal (plain_state self.now) conversion.now admission }
+            in result_err result
+            ≡ admission_refusal (plain_state self.now) conversion.now admission }
         ensures admitted { IfOk result (λ a. IsAdmittedConversion self.now conversion.now a) }
     {
         self.store.known();

@@ -22,7 +22,8 @@ impl Machine {
     /// Declares a process: its checks and its change. No resource is touched, so nothing is to be swept.
     pub(crate) fn declare(&mut self, declaration: Declaration) -> Answer
         requires { IsBetweenSteps (plain_state self.old) }
-        ensures { Outcome (plain_state self.old) (Step.Declare declaration) (plain_state self.new) result }
+        ensures { Outcome (plain_state self.old) (Step.Declare declaration)
+            (plain_state self.new) result }
     {
         if let Err(refusal) = self.declare_refusal(&declaration) {
             return Answer::Plain(refusal);
@@ -35,7 +36,8 @@ impl Machine {
 
     #[tactic(auto, unfolding(vlm_words::specs::Declare::declare_refusal))]
     fn declare_refusal(&self, declaration: &Declaration) -> Result<(), Cond>
-        ensures refusal { result_err result ≡ declare_refusal (plain_state self.now) declaration.now }
+        ensures refusal { result_err result
+            ≡ declare_refusal (plain_state self.now) declaration.now }
         ensures first { OnOk result (1 ≤ declaration.now.node) }
         ensures last { OnOk result (declaration.now.node ≤ 8) }
         ensures ordinal { OnOk result
@@ -72,7 +74,8 @@ impl Machine {
         requires first { 1 ≤ declaration.now.node }
         requires last { declaration.now.node ≤ 8 }
         requires ordinal { (node_at self.old.nodes declaration.now.node).declared < 65535 }
-        requires new { IsNewProcess (next_pid (plain_state self.old) declaration.now.node) self.old.records }
+        requires new { let pid = next_pid (plain_state self.old) declaration.now.node
+            in IsNewProcess pid self.old.records }
         ensures pid { IfOk result
             (λ pid. pid ≡ next_pid (plain_state self.old) declaration.now.node) }
         ensures change { OnOk result

@@ -45,7 +45,8 @@ pub(crate) fn group_of(store: &Store, caller: &Caller) -> u16
 pub(crate) fn has_syslck(store: &Store, caller: &Caller) -> bool
     requires { IsCaller caller.now store.now }
     ensures { result
-        ≡ option_map_or (λ p. p.syslck) (process_of (plain_processes store.now) caller.now.pid) false }
+        ≡ option_map_or (λ p. p.syslck)
+        (process_of (plain_processes store.now) caller.now.pid) false }
 {
     store.known();
     store.process_record(caller.at).authorization.syslck

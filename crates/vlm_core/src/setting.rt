@@ -19,7 +19,8 @@ impl Machine {
     /// nothing is to be swept.
     pub(crate) fn set_value(&mut self, setting: ValueSetting) -> Answer
         requires { IsBetweenSteps (plain_state self.old) }
-        ensures { Outcome (plain_state self.old) (Step.SetValue setting) (plain_state self.new) result }
+        ensures { Outcome (plain_state self.old) (Step.SetValue setting)
+            (plain_state self.new) result }
     {
         match self.set_refusal(&setting) {
             Ok(caller) => {

@@ -7,7 +7,7 @@ use Rattle.vlm_words.specs.declared.resources.Queue.{Queue}
 use Rattle.vlm_words.specs.declared.resources.Queue.TheVariants.{Granted, Conversion, Waiting}
 use Rattle.vlm_store.specs.declared.keys.Place.TheVariants.{Loose, Queued}
 use Rattle.vlm_store.specs.Records.{IsAmong, IsResourceAmong, IsSound, Records, Rooms, SameButBlocks, StoredProcess, StoredResource, leaving, plain_processes, process_without_lock, queued, resource_at, resource_with, without_lock, without_stored_lock}
-use Rattle.vlm_store.proofs.Undoing.{map_on, unmoved}
+use Rattle.vlm_store.proofs.Undoing.{map_on, queue_at, unmoved}
 use Rattle.vlm_locks.specs.Plain.{plain_resource}
 use Rattle.vlm_locks.proofs.Found.{resource_alone}
 use Rattle.vlm_locks.specs.declared.finding.Standing.{Standing}
@@ -18,7 +18,7 @@ use Rattle.vlm_locks.proofs.Replaced.{others_stay, plain_replaced, rests, still_
 use Rattle.vlm_locks.specs.Staying.{LocksStay}
 use Rattle.vlm_locks.proofs.Rising.{all_rise_still, all_rise_without, rises_still, were_stored}
 use Rattle.vlm_locks.proofs.Staying.{among_without, stands_in}
-use Rattle.vlm_locks.proofs.Stood.{queue_is, stands}
+use Rattle.vlm_locks.proofs.Stood.{stands}
 
 -- one resource is put in the place of another, as the plain change has it
 pub changed : (res : ℕ) (change : Resource → Resource) (had left : StoredResource) (old new : Records) → IsSound old → IsAtRest old → IsReplaced res had left old new → LocksStay left had
@@ -100,9 +100,9 @@ module _ (s : Records) (sound : IsSound s) (f : Standing) (standing : IsStanding
   stays x among differs =
       let each : (queue : Queue) → without_lock f.lock (queued queue x) ≡ queued queue x =
       λ queue.
-      ap (without_lock f.lock) (sym (queue_is s sound x among queue))
+      ap (without_lock f.lock) (sym (queue_at s sound x among queue))
       ∙ unmoved s f.lock f.row (Queued f.res f.queue) sound (stands s sound f standing) (Queued x.at queue) (λ e. differs (cc))
-      ∙ queue_is s sound x among queue
+      ∙ queue_at s sound x among queue
       in
       rw (each Granted, each Conversion, each Waiting) refl
 

@@ -12,7 +12,7 @@ use Rattle.vlm_words.specs.Resources.{new_resource}
 use Rattle.vlm_store.specs.declared.keys.Place.{Place}
 use Rattle.vlm_store.specs.declared.keys.Place.TheVariants.{Loose, Queued}
 use Rattle.vlm_store.specs.Records.{AreResourcesApart, FindsResource, HasResource, IsAmong, IsProcess, IsProcessAmong, IsResourceAmong, IsSameLock, IsSound, IsStored, Records, Room, Stores, StoredLock, StoredProcess, StoredResource, but_blocks, is_queue, joined_by, locks_at, moving, on_resource, process_with_lock, queued, resource_at, resource_with, with_lists, with_lock_room, with_new_lock, without_lock}
-use Rattle.vlm_store.proofs.Undoing.{map_on, resource_is, unmoved}
+use Rattle.vlm_store.proofs.Undoing.{map_on, queue_at, resource_is, unmoved}
 use Rattle.vlm_locks.specs.Plain.{plain_resource, plain_resources}
 use Rattle.vlm_locks.specs.Rest.{but_service}
 use Rattle.vlm_locks.proofs.Found.{resource_alone, resource_at-put}
@@ -27,7 +27,7 @@ use Rattle.vlm_locks.proofs.OtherLocks.{added_alone, locks_stay_over, moved_alon
 use Rattle.vlm_locks.specs.Rising.{IsAboveAll}
 use Rattle.vlm_locks.proofs.Rising.{AllRise, all_rise_with}
 use Rattle.vlm_locks.proofs.Staying.{among_last, of_joined}
-use Rattle.vlm_locks.proofs.Stood.{queue_is, queued_stored}
+use Rattle.vlm_locks.proofs.Stood.{queued_stored}
 
 -- ---- a lock more at the end of a queue
 
@@ -67,7 +67,7 @@ module _ (s : Records) (sound : IsSound s) (at : ℕ) (was row : Row) (stands : 
   -- the lock stands in no queue
   kept : (x : StoredResource) → IsResourceAmong x s.resources → (queue : Queue) → without_lock at (queued queue x) ≡ queued queue x
   kept x among queue =
-      ap (without_lock at) (sym (queue_is s sound x among queue)) ∙ unmoved s at was Loose sound stands (Queued x.at queue) (λ e. cc) ∙ queue_is s sound x among queue
+      ap (without_lock at) (sym (queue_at s sound x among queue)) ∙ unmoved s at was Loose sound stands (Queued x.at queue) (λ e. cc) ∙ queue_at s sound x among queue
 
   -- each resource is as it was, but for the one that the lock joins
   joins : (x : StoredResource) → IsResourceAmong x s.resources

@@ -11,7 +11,7 @@ use Rattle.vlm_store.specs.declared.keys.Place.{Place}
 use Rattle.vlm_store.specs.declared.keys.Place.TheVariants.{Loose, Queued}
 use Rattle.vlm_store.specs.Records.{IsAmong, IsResourceAmong, IsSameLock, IsSound, Records, StoredLock, StoredResource, but_blocks, is_place, moving, on_resource, queued, rows_of, with_lists, without_lock}
 use Rattle.vlm_store.proofs.Layouts.{is_place-other, is_place-same}
-use Rattle.vlm_store.proofs.Undoing.{map_on, unmoved}
+use Rattle.vlm_store.proofs.Undoing.{map_on, queue_at, unmoved}
 use Rattle.vlm_locks.specs.declared.finding.Standing.{Standing}
 use Rattle.vlm_locks.specs.Converting.{moved_in}
 use Rattle.vlm_locks.specs.Rest.{IsReplaced}
@@ -19,7 +19,7 @@ use Rattle.vlm_locks.specs.Standing.{IsStanding}
 use Rattle.vlm_locks.specs.Staying.{LocksStay, StandsStill}
 use Rattle.vlm_locks.proofs.Staying.{among_without, of_joined, stands_in}
 use Rattle.vlm_locks.proofs.Named.{without-absent, without-key}
-use Rattle.vlm_locks.proofs.Stood.{absent, only, own_among, queue_is, stands}
+use Rattle.vlm_locks.proofs.Stood.{absent, only, own_among, stands}
 use Rattle.vlm_locks.proofs.Found.{resource_alone, resource_at-at}
 
 module _ (s : Records) (sound : IsSound s) (f : Standing) (standing : IsStanding f s) (row : Row) (to : Queue) where
@@ -30,9 +30,9 @@ module _ (s : Records) (sound : IsSound s) (f : Standing) (standing : IsStanding
       λ queue.
       ap (λ b. cond b (without_lock f.lock (queued queue x) ++ record { at = f.lock; row = row } ∷ []) (without_lock f.lock (queued queue x)))
       (is_place-other (Queued x.at queue) (Queued f.res to) (λ e. differs (cc)))
-      ∙ ap (without_lock f.lock) (sym (queue_is s sound x among queue))
+      ∙ ap (without_lock f.lock) (sym (queue_at s sound x among queue))
       ∙ unmoved s f.lock f.row (Queued f.res f.queue) sound (stands s sound f standing) (Queued x.at queue) (λ e. differs (cc))
-      ∙ queue_is s sound x among queue
+      ∙ queue_at s sound x among queue
       in
       rw (each Granted, each Conversion, each Waiting) refl
 

@@ -9,6 +9,7 @@ use Rattle.vlm_words.specs.Grants.{granted_row}
 use Rattle.vlm_store.specs.Records.{IsAmong, IsResourceAmong, StoredLock, StoredResource, queued, without_lock}
 use Rattle.vlm_locks.specs.Staying.{LocksStay, LocksStayAmong, StandsStill}
 use Rattle.vlm_locks.proofs.Moves.{IsHead, granted_first}
+use Rattle.vlm_locks.proofs.Parting.{among_after, among_before}
 
 -- a lock that stands in a queue stands there still
 pub stands_in : (r : StoredResource) (queue : Queue) (lock : StoredLock) → IsAmong lock (queued queue r) → StandsStill lock r
@@ -170,19 +171,11 @@ stay_twice_among first second third one two r queue lock among here =
 pub stay_parts : (olds news : List StoredResource) → LocksStayAmong olds news → (before after : List StoredResource) → LocksStayAmong (before ++ (olds ++ after)) (before ++ (news ++ after))
 stay_parts olds news stay before after r queue lock among here =
     of_part before (olds ++ after) among
-    (λ first. (r, (in_front before (news ++ after) r first, refl, stands_in r queue lock here)))
+    (λ first. (r, (among_before before (news ++ after) r first, refl, stands_in r queue lock here)))
     (λ later. of_part olds after later
-    (λ own. let still = stay r queue lock own here in (still.0, (behind before (news ++ after) still.0 (in_front news after still.0 still.1.0), still.1.1, still.1.2)))
-    (λ last. (r, (behind before (news ++ after) r (behind news after r last), refl, stands_in r queue lock here))))
+    (λ own. let still = stay r queue lock own here in (still.0, (among_after before (news ++ after) still.0 (among_before news after still.0 still.1.0), still.1.1, still.1.2)))
+    (λ last. (r, (among_after before (news ++ after) r (among_after news after r last), refl, stands_in r queue lock here))))
   where
-    in_front : (xs ys : List StoredResource) (x : StoredResource) → IsResourceAmong x xs → IsResourceAmong x (xs ++ ys)
-    in_front [] ys x among = absurd among
-    in_front (y ∷ xs) ys x among = elim among [ inl is ↦ inl is | inr there ↦ inr (in_front xs ys x there) ]
-
-    behind : (xs ys : List StoredResource) (x : StoredResource) → IsResourceAmong x ys → IsResourceAmong x (xs ++ ys)
-    behind [] ys x among = among
-    behind (y ∷ xs) ys x among = inr (behind xs ys x among)
-
     of_part : {X : Type 0} (xs ys : List StoredResource) → IsResourceAmong r (xs ++ ys) → (IsResourceAmong r xs → X) → (IsResourceAmong r ys → X) → X
     of_part {X} [] ys among first second = second among
     of_part {X} (y ∷ xs) ys among first second = elim among [ inl is ↦ first (inl is) | inr there ↦ of_part xs ys there (λ own. first (inr own)) second ]

@@ -8,7 +8,7 @@ use Rattle.vlm_words.specs.declared.locks.Row.{Row}
 use Rattle.vlm_words.specs.declared.resources.Queue.{Queue}
 use Rattle.vlm_store.specs.declared.keys.Place.TheVariants.{Queued}
 use Rattle.vlm_store.specs.Records.{AreApart, IsAmong, IsProcess, IsResourceAmong, IsSound, Records, StoredLock, StoredResource, Stores, locks_at, queued, resource_at}
-use Rattle.vlm_store.proofs.Undoing.{resource_is}
+use Rattle.vlm_store.proofs.Undoing.{queue_at, resource_is}
 use Rattle.vlm_locks.specs.declared.finding.Standing.{Standing}
 use Rattle.vlm_locks.specs.Standing.{IsStanding}
 use Rattle.vlm_locks.proofs.Named.{IsAbsent, IsOnly}
@@ -42,13 +42,9 @@ pub owner_is : (s : Records) (owner : ℕ) (given row : Row) → row ≡ given �
 owner_is s owner given row same is = subst (λ (x : Row). IsProcess owner x.pid s) (sym same) is
 
 module _ (s : Records) (sound : IsSound s) where
-  -- the locks of a queue of a resource
-  pub queue_is : (r : StoredResource) → IsResourceAmong r s.resources → (queue : Queue) → locks_at (Queued r.at queue) s ≡ queued queue r
-  queue_is r among queue = ap (λ o. option_map_or (queued queue) o []) (resource_is r s.resources sound.resources_apart among)
-
   -- a lock of a queue is stored
   pub queued_stored : (r : StoredResource) → IsResourceAmong r s.resources → (queue : Queue) (k : StoredLock) → IsAmong k (queued queue r) → Stores s k.at k.row
-  queued_stored r among queue k here = (Queued r.at queue, subst (IsAmong k) (sym (queue_is r among queue)) here)
+  queued_stored r among queue k here = (Queued r.at queue, subst (IsAmong k) (sym (queue_at s sound r among queue)) here)
 
   -- one key is that of one lock
   pub one_lock : (at : ℕ) (a b : Row) → Stores s at a → Stores s at b → a ≡ b
@@ -92,5 +88,5 @@ module _ (s : Records) (sound : IsSound s) where
     pub absent : (r : StoredResource) → IsResourceAmong r s.resources → (queue : Queue) → Queued r.at queue ≢ Queued f.res f.queue → IsAbsent f.row.lkid (queued queue r)
     absent r among queue differs k here same =
         let is : k ≡ lock = (only r among queue k here).0 same in
-        let there : IsAmong lock (locks_at (Queued r.at queue) s) = subst (λ x. IsAmong x (locks_at (Queued r.at queue) s)) is (subst (IsAmong k) (sym (queue_is r among queue)) here) in
+        let there : IsAmong lock (locks_at (Queued r.at queue) s) = subst (λ x. IsAmong x (locks_at (Queued r.at queue) s)) is (subst (IsAmong k) (sym (queue_at s sound r among queue)) here) in
         differs (sound.one_place f.lock f.row f.row (Queued r.at queue) (Queued f.res f.queue) there stands)

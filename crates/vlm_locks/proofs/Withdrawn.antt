@@ -24,7 +24,8 @@ use Rattle.vlm_locks.proofs.Changed.{changed, changed_alike, removed_changed, un
 use Rattle.vlm_locks.proofs.Moved.{none_joins_by_moving, joins, leaves, moved_replaced, not_in}
 use Rattle.vlm_locks.proofs.Named.{rows-absent, rows-only, without-absent, without-key}
 use Rattle.vlm_locks.proofs.Staying.{all_stay, none_joins_under_block}
-use Rattle.vlm_locks.proofs.Stood.{absent, only, own_among, queue_is}
+use Rattle.vlm_locks.proofs.Stood.{absent, only, own_among}
+use Rattle.vlm_store.proofs.Undoing.{queue_at}
 
 -- a queue has the lock with PW or EX if one of its rows there has
 pub writer_rows : (lkid : ℕ) (rows : List Row) → has_writer lkid rows ≡ list_any (λ (row : Row). is_writer row.held) (plain.rows_of lkid rows)
@@ -68,7 +69,7 @@ module _ (s : Records) (sound : IsSound s) (f : Standing) (standing : IsStanding
   rows_here =
       let r = standing.resource in
       let among = own_among s sound f standing in
-      rows-only (record { at = f.lock; row = f.row }) (queued f.queue r) (subst AreApart (queue_is s sound r among f.queue) (sound.locks_apart (Queued r.at f.queue)))
+      rows-only (record { at = f.lock; row = f.row }) (queued f.queue r) (subst AreApart (queue_at s sound r among f.queue) (sound.locks_apart (Queued r.at f.queue)))
       (only s sound f standing r among f.queue) standing.among
 
   -- the rows of the lock in another queue

@@ -68,24 +68,22 @@ module _ (s : Records) (sound : IsSound s) (f : Standing) (standing : IsStanding
       ∙ ap (flat_map (row_endings how false)) (rows_here s sound f standing)
       ∙ append-nil (row_endings how false f.row)
 
+  -- in another queue of its resource nothing ends
+  ends_beside : (how : How) (other : Queue) → other ≢ f.queue → queue_endings how f.row.lkid (rows_of (queued other standing.resource)) ≡ []
+  ends_beside how other differs = ends_elsewhere how standing.resource (own_among s sound f standing) other (λ e. differs (cc))
+
   -- the ends on its resource, by its queue
   ends_own : (queue : Queue) → f.queue ≡ queue → ends_on (plain_resource standing.resource) ≡ queued_endings w queue f.row
-  ends_own queue is = of_queue queue is
-    where
-      there : (how : How) (other : Queue) → other ≢ f.queue → queue_endings how f.row.lkid (rows_of (queued other standing.resource)) ≡ []
-      there how other differs = ends_elsewhere how standing.resource (own_among s sound f standing) other (λ e. differs (cc))
-
-      of_queue : (queue : Queue) → f.queue ≡ queue → ends_on (plain_resource standing.resource) ≡ queued_endings w queue f.row
-      of_queue Granted is =
-          ap (λ xs. xs ++ queue_endings w.waiting f.row.lkid (rows_of standing.resource.waiting)) (there w.converting Conversion (λ e. cc))
-          ∙ there w.waiting Waiting (λ e. cc)
-      of_queue Conversion is =
-          ap (λ xs. queue_endings w.converting f.row.lkid (rows_of standing.resource.converting) ++ xs) (there w.waiting Waiting (λ e. cc))
-          ∙ append-nil (queue_endings w.converting f.row.lkid (rows_of standing.resource.converting))
-          ∙ ends_here w.converting Conversion is
-      of_queue Waiting is =
-          ap (λ xs. xs ++ queue_endings w.waiting f.row.lkid (rows_of standing.resource.waiting)) (there w.converting Conversion (λ e. cc))
-          ∙ ends_here w.waiting Waiting is
+  ends_own Granted is =
+      ap (λ xs. xs ++ queue_endings w.waiting f.row.lkid (rows_of standing.resource.waiting)) (ends_beside w.converting Conversion (λ e. cc))
+      ∙ ends_beside w.waiting Waiting (λ e. cc)
+  ends_own Conversion is =
+      ap (λ xs. queue_endings w.converting f.row.lkid (rows_of standing.resource.converting) ++ xs) (ends_beside w.waiting Waiting (λ e. cc))
+      ∙ append-nil (queue_endings w.converting f.row.lkid (rows_of standing.resource.converting))
+      ∙ ends_here w.converting Conversion is
+  ends_own Waiting is =
+      ap (λ xs. xs ++ queue_endings w.waiting f.row.lkid (rows_of standing.resource.waiting)) (ends_beside w.converting Conversion (λ e. cc))
+      ∙ ends_here w.waiting Waiting is
 
   -- of all resources only that of the lock has an end, and this is it
   ends_are : (queue : Queue) → f.queue ≡ queue → flat_map ends_on (plain_resources s) ≡ queued_endings w queue f.row

@@ -27,7 +27,8 @@ fn fits_others(store: &Store, standing: &Standing, mode: Mode) -> bool
     requires standing { IsStanding standing.now store.now }
     requires granted { standing.now.queue ≡ Queue.Granted }
     ensures { (r : StoredResource) → resource_at standing.now.res store.now.resources ≡ Some r
-        → result ≡ fits mode (rows_without standing.now.row.lkid (rows_of r.granted)) (rows_of r.converting) }
+        → result ≡ fits mode (rows_without standing.now.row.lkid (rows_of r.granted))
+        (rows_of r.converting) }
 {
     store.known();
     can_hold(store, standing.res, mode, Some(standing.lock))
@@ -79,7 +80,8 @@ fn convert_later(store: &mut Store, standing: &Standing, row: Row)
     requires standing { IsStanding standing.now store.old }
     requires row { IsSameLock standing.now.row row }
     ensures replaced { IfSome (resource_at standing.now.res store.old.resources) (λ r.
-        IsReplaced standing.now.res r (moved_in standing.now row Queue.Conversion r) store.old store.new) }
+        IsReplaced standing.now.res r (moved_in standing.now row Queue.Conversion r)
+        store.old store.new) }
     ensures statuses { plain_processes store.new ≡ plain_processes store.old }
     ensures locks { OtherLocksStay standing.now.lock store.old store.new }
 {
@@ -97,7 +99,8 @@ fn convert_accepted(store: &mut Store, standing: &Standing, asked: &Request, at_
     requires at_once { IfSome (resource_at standing.now.res store.old.resources)
         (λ r. at_once ≡ converts_at_once asked.now standing.now.row.lkid (plain_resource r)) }
     ensures converted { IfSome (resource_at standing.now.res store.old.resources)
-        (λ r. IsConverted standing.now asked.now (plain_processes store.old) r store.old store.new) }
+        (λ r. IsConverted standing.now asked.now (plain_processes store.old) r
+        store.old store.new) }
     ensures others { OthersStay standing.now.res store.old store.new }
     ensures locks { OtherLocksStay standing.now.lock store.old store.new }
     ensures own_locks { OwnLocksStay store.old store.new }

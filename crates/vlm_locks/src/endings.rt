@@ -42,7 +42,8 @@ pub(crate) fn end_by_grant(
     ensures value_block { let old = blocks_with value_block.old (plain_processes store.old)
         in value_block.new ≡ (blocks_after (grant_endings at_once row.now) old).value_block }
     ensures statuses { let old = blocks_with value_block.old (plain_processes store.old)
-        in plain_processes store.new ≡ (blocks_after (grant_endings at_once row.now) old).processes }
+        in plain_processes store.new
+        ≡ (blocks_after (grant_endings at_once row.now) old).processes }
     ensures rest { SameButBlocks store.old store.new }
 {
     let Some(request) = row.want else {

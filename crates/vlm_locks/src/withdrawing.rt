@@ -39,7 +39,8 @@ fn end_withdrawn(store: &mut Store, standing: &Standing, withdrawal: &Withdrawal
     requires standing { IsStanding standing.now store.old }
     requires named { withdrawal.now.lkid ≡ standing.now.row.lkid }
     ensures statuses { plain_processes store.new ≡ processes_after
-        (flat_map (withdrawal_endings (plain_withdrawal withdrawal.now)) (plain_resources store.old))
+        (flat_map (withdrawal_endings (plain_withdrawal withdrawal.now))
+        (plain_resources store.old))
         (plain_processes store.old) }
     ensures rest { SameButBlocks store.old store.new }
 {
@@ -109,9 +110,11 @@ fn remove(store: &mut Store, standing: &Standing)
     requires rest { IsAtRest store.old }
     requires standing { IsStanding standing.now store.old }
     requires childless { HasNoSublocks standing.now.lock store.old }
-    ensures removed { IsChange standing.now.res (resource_without standing.now.row.lkid) store.old store.new }
+    ensures removed { IsChange standing.now.res (resource_without standing.now.row.lkid)
+        store.old store.new }
     ensures locks { OtherLocksStay standing.now.lock store.old store.new }
-    ensures own_locks { store.new.processes ≡ owned_after true standing.now.lock store.old.processes }
+    ensures own_locks { store.new.processes
+        ≡ owned_after true standing.now.lock store.old.processes }
 {
     store.known();
     store.remove_lock(standing.lock);
@@ -122,7 +125,8 @@ fn grant_again(store: &mut Store, standing: &Standing)
     requires rest { IsAtRest store.old }
     requires standing { IsStanding standing.now store.old }
     requires converting { standing.now.queue ≡ Queue.Conversion }
-    ensures granted { IsChange standing.now.res (resource_after_cancel standing.now.row.lkid) store.old store.new }
+    ensures granted { IsChange standing.now.res (resource_after_cancel standing.now.row.lkid)
+        store.old store.new }
     ensures locks { OtherLocksStay standing.now.lock store.old store.new }
     ensures own_locks { store.new.processes ≡ store.old.processes }
 {
@@ -144,7 +148,8 @@ fn cancel(store: &mut Store, standing: &Standing)
     requires standing { IsStanding standing.now store.old }
     requires childless { standing.now.queue ≡ Queue.Waiting
         → HasNoSublocks standing.now.lock store.old }
-    ensures cancelled { IsChange standing.now.res (resource_after_cancel standing.now.row.lkid) store.old store.new }
+    ensures cancelled { IsChange standing.now.res (resource_after_cancel standing.now.row.lkid)
+        store.old store.new }
     ensures locks { OtherLocksStay standing.now.lock store.old store.new }
     ensures own_locks { store.new.processes
         ≡ owned_after (goes true standing.now.queue) standing.now.lock store.old.processes }
@@ -172,12 +177,14 @@ pub fn withdraw(store: &mut Store, standing: &Standing, withdrawal: &Withdrawal)
         ≡ map (resource_after_withdrawals (plain_withdrawal withdrawal.now ∷ []))
         (plain_resources store.old) }
     ensures statuses { plain_processes store.new ≡ processes_after
-        (flat_map (withdrawal_endings (plain_withdrawal withdrawal.now)) (plain_resources store.old))
+        (flat_map (withdrawal_endings (plain_withdrawal withdrawal.now))
+        (plain_resources store.old))
         (plain_processes store.old) }
     ensures others { OthersStay standing.now.res store.old store.new }
     ensures locks { OtherLocksStay standing.now.lock store.old store.new }
     ensures own_locks { map but_blocks store.new.processes ≡ map but_blocks
-        (owned_after (goes withdrawal.now.stays standing.now.queue) standing.now.lock store.old.processes) }
+        (owned_after (goes withdrawal.now.stays standing.now.queue) standing.now.lock
+        store.old.processes) }
     ensures there { HasResource standing.now.res store.new }
     ensures rest { IsAtRest store.new }
 {

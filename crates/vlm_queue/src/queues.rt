@@ -78,7 +78,8 @@ pub fn can_hold(store: &Store, res: ResAt, mode: Mode, own: Option<LockAt>) -> b
 /// Whether no lock stands in the queue.
 pub fn is_empty(store: &Store, res: ResAt, queue: Queue) -> bool
     requires { HasResource res store.now }
-    ensures { IfSome (resource_at res store.now.resources) (λ r. result ≡ is_empty (rows_of (queued queue r))) }
+    ensures { IfSome (resource_at res store.now.resources)
+        (λ r. result ≡ is_empty (rows_of (queued queue r))) }
 {
     head(store, res, queue).is_none()
 }

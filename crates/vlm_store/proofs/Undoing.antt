@@ -42,6 +42,10 @@ resource_is r (x ∷ rs) apart found =
       | inr there ↦ rw (ne_eqb x.at r.at (λ same. apart.0 r there (sym same))) (resource_is r rs apart.1 there)
     ]
 
+-- the queue of a stored resource
+pub queue_at : (s : Records) → IsSound s → (r : StoredResource) → IsResourceAmong r s.resources → (queue : Queue) → locks_at (Queued r.at queue) s ≡ queued queue r
+queue_at s sound r among queue = ap (λ o. option_map_or (queued queue) o []) (resource_is r s.resources sound.resources_apart among)
+
 map_same : (f : StoredResource → StoredResource) (rs : List StoredResource) → ((r : StoredResource) → IsResourceAmong r rs → f r ≡ r) → map f rs ≡ rs
 map_same f [] same = refl
 map_same f (r ∷ rs) same = ap (λ x. x ∷ map f rs) (same r (inl refl)) ∙ ap (λ xs. r ∷ xs) (map_same f rs (λ x there. same x (inr there)))
@@ -85,7 +89,7 @@ module _ (s : Records) (at : ℕ) (sound : IsSound s) (absent : ¬ IsStored at s
         (
           Queued r.at queue,
           subst (IsAmong (record { at = at; row = row }))
-              (sym (ap (λ o. option_map_or (queued queue) o []) (resource_is r s.resources sound.resources_apart among))) found,
+              (sym (queue_at s sound r among queue)) found,
         ),
       ))
 
@@ -147,10 +151,6 @@ resource_undone s res serial site absent = ap (λ x. record s { resources = x })
           | inl same ↦ absurd (absent (rw (eq-eqb r.at res same) refl))
           | inr differs ↦ rw (ne_eqb r.at res differs) (ap (λ xs. r ∷ xs) (each rs (λ there. absent (rw (ne_eqb r.at res differs) there))))
         ]
-
--- the queue of a stored resource
-pub queue_at : (s : Records) → IsSound s → (r : StoredResource) → IsResourceAmong r s.resources → (queue : Queue) → locks_at (Queued r.at queue) s ≡ queued queue r
-queue_at s sound r among queue = ap (λ o. option_map_or (queued queue) o []) (resource_is r s.resources sound.resources_apart among)
 
 -- ---- a lock that stands at one place leaves the lists of no other
 

@@ -26,7 +26,8 @@ pub fn law_removal_undoes_an_addition()
 pub fn law_a_loose_lock_joins_one_queue()
     ensures { (s : Records) (at : ℕ) (row : Row) (res : ℕ) (queue : Queue) → IsSound s
         → IsAmong (record { at = at; row = row }) s.loose
-        → with_lists (moving (Place.Queued res queue) (record { at = at; row = row })) s ≡ record s {
+        → with_lists (moving (Place.Queued res queue) (record { at = at; row = row })) s
+        ≡ record s {
           resources = on_resource res (joined_by queue (record { at = at; row = row })) s.resources;
           loose = without_lock at s.loose;
         } }

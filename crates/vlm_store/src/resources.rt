@@ -147,7 +147,8 @@ impl Queues {
         ensures faces { (other : ℕ) → other ≢ res
             → option_map face_of (get self.new.resources other)
             ≡ option_map face_of (get self.old.resources other) }
-        ensures given_back { room_in self.new.resources ≡ ((room_in self.old.resources).0 + 1, res) }
+        ensures given_back { room_in self.new.resources
+            ≡ ((room_in self.old.resources).0 + 1, res) }
     {
         order.unlink(&mut self.resources, res);
         self.resources.remove(res);

@@ -273,7 +273,8 @@ impl Store {
     pub fn set_value_block(&mut self, res: ResAt, value_block: ValueBlock)
         requires { HasResource res self.old }
         ensures { self.new ≡ record self.old {
-          resources = on_resource res (λ r. record r { value_block = value_block }) self.old.resources;
+          resources = on_resource res (λ r. record r { value_block = value_block })
+              self.old.resources;
         } }
     {
         self.queues.set_value_block(res.slot(), value_block);

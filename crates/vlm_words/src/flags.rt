@@ -32,7 +32,8 @@ impl Flags for EnqFlags {
 
     ghost exact = { ⊤ };
 
-    ghost table = { (codes "VALBLK", valblk) ∷ (codes "NOQUEUE", noqueue) ∷ (codes "SYNCSTS", syncsts) ∷ (codes "SYSTEM", system) ∷ (codes "EXPEDITE", expedite) ∷ (codes "QUECVT", quecvt) ∷ [] };
+    ghost table = { (codes "VALBLK", valblk) ∷ (codes "NOQUEUE", noqueue) ∷ (codes "SYNCSTS", syncsts)
+        ∷ (codes "SYSTEM", system) ∷ (codes "EXPEDITE", expedite) ∷ (codes "QUECVT", quecvt) ∷ [] };
 
     ghost set_of = { λ f. f.0 };
 

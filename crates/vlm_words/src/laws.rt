@@ -66,7 +66,8 @@ pub fn law_serials_rise()
 
 /// A declaration gives an identification that no living process has.
 pub fn law_a_declaration_gives_a_new_identification()
-    ensures { (history : History) (last : State) → Run history last → DeclarationsGiveNewIdentifications last }
+    ensures { (history : History) (last : State) → Run history last
+        → DeclarationsGiveNewIdentifications last }
 {}
 
 /// No two resources have one key.
@@ -77,7 +78,8 @@ pub fn law_keys_are_apart()
 /// A lock of a sub-resource has a parent lock, of the same process, that holds a mode on the parent resource;
 /// a lock of a root has none.
 pub fn law_a_parent_outlives_its_sublocks()
-    ensures { (history : History) (last : State) → Run history last → ParentsOutliveTheirSublocks last }
+    ensures { (history : History) (last : State) → Run history last
+        → ParentsOutliveTheirSublocks last }
 {}
 
 /// A root is at level 0, and a sub-resource one level below its parent resource, which is there and in the
@@ -96,7 +98,8 @@ pub fn law_quotas_are_kept()
 /// all other locks, with QUECVT only where no conversion is queued. Its sweep then grants the first requests
 /// of each queue, in order, and new ones only where no conversion is left.
 pub fn law_grants_follow_queue_order()
-    ensures { (history : History) (old : State) → Run history old → (step : Step) (choice : Option Row)
+    ensures { (history : History) (old : State) → Run history old
+        → (step : Step) (choice : Option Row)
         → IsChoice old step choice → step_refusal old step ≡ None
         → GrantsFollowQueueOrder old step choice }
 {}
@@ -132,7 +135,8 @@ pub fn law_no_resource_is_vacant()
 /// Between the steps a sweep has nothing to do: on no resource can anything be granted, and none is without
 /// locks.
 pub fn law_each_resource_is_settled()
-    ensures { (history : History) (last : State) → Run history last → AllByRecursion IsSettled last.resources }
+    ensures { (history : History) (last : State) → Run history last
+        → AllByRecursion IsSettled last.resources }
 {}
 
 /// A sweep touches only what is not settled, resource by resource in the order of making. Where those before it
@@ -150,21 +154,24 @@ pub fn law_a_sweep_touches_only_what_is_not_settled()
 /// the next identification too, which it answers, and a resource that is made the next serial. No step lowers
 /// a number, so none is given again.
 pub fn law_numbers_are_given_once()
-    ensures { (history : History) (old : State) → Run history old → (step : Step) (choice : Option Row)
+    ensures { (history : History) (old : State) → Run history old
+        → (step : Step) (choice : Option Row)
         → IsChoice old step choice → NumbersAreGivenOnce old step choice }
 {}
 
 /// A step breaks no rule and is accepted, or it is refused with the condition of a rule that it breaks. So no
 /// refusal comes without its reason, and none is left out.
 pub fn law_a_refusal_has_its_reason()
-    ensures { (history : History) (old : State) → Run history old → (step : Step) (choice : Option Row)
+    ensures { (history : History) (old : State) → Run history old
+        → (step : Step) (choice : Option Row)
         → IsChoice old step choice → RefusalHasItsReason old step choice }
 {}
 
 /// A root in the system's domain is made by a new request with SYSTEM alone, of a caller with the privilege
 /// SYSLCK.
 pub fn law_system_roots_are_privileged()
-    ensures { (history : History) (old : State) → Run history old → (step : Step) (choice : Option Row)
+    ensures { (history : History) (old : State) → Run history old
+        → (step : Step) (choice : Option Row)
         → IsChoice old step choice → SystemRootsArePrivileged old step choice }
 {}
 
@@ -177,7 +184,8 @@ pub fn law_noqueue_is_kept()
 /// accepted request makes its block that of a pending request for its lock. The status of a block tells how the
 /// last request ended that names it. A declaration adds its process; no other step adds one or takes one away.
 pub fn law_a_step_writes_the_status_blocks_that_are_named()
-    ensures { (history : History) (old : State) → Run history old → (step : Step) (choice : Option Row)
+    ensures { (history : History) (old : State) → Run history old
+        → (step : Step) (choice : Option Row)
         → IsChoice old step choice → WritesNamedBlocks old step choice }
 {}
 
@@ -185,7 +193,8 @@ pub fn law_a_step_writes_the_status_blocks_that_are_named()
 /// as its caller's, under the parent lock that is named: it holds the whole request, or waits for it. One that
 /// converts stands where it stood: it holds the whole request, or holds what it held and waits for it.
 pub fn law_a_lock_stands_as_asked_for()
-    ensures new { (history : History) (old : State) → Run history old → NewLocksStandAsAskedFor old }
+    ensures new { (history : History) (old : State) → Run history old
+        → NewLocksStandAsAskedFor old }
     ensures converted { (history : History) (old : State) → Run history old
         → ConvertedLocksStandAsAskedFor old }
 {}
@@ -194,7 +203,8 @@ pub fn law_a_lock_stands_as_asked_for()
 /// or EX before: by a conversion with VALBLK that gives PW or EX up or keeps it, which is granted at once, or as
 /// the lock is given up. A new resource's value block is zeros and valid. So no sweep changes one.
 pub fn law_only_writers_change_value_blocks()
-    ensures { (history : History) (old : State) → Run history old → (step : Step) (choice : Option Row)
+    ensures { (history : History) (old : State) → Run history old
+        → (step : Step) (choice : Option Row)
         → IsChoice old step choice → step_refusal old step ≡ None
         → OnlyWritersChangeValues old step choice }
 {}
@@ -204,6 +214,7 @@ pub fn law_only_writers_change_value_blocks()
 /// to a status block is the value block as it stands on the lock's resource, told by NORMAL where it is valid and
 /// by VALNOTVALID where it is not.
 pub fn law_a_grant_returns_the_value_block()
-    ensures { (history : History) (old : State) → Run history old → (step : Step) (choice : Option Row)
+    ensures { (history : History) (old : State) → Run history old
+        → (step : Step) (choice : Option Row)
         → IsChoice old step choice → GrantsReturnValues old step choice }
 {}
