@@ -12,6 +12,10 @@ use Rattle.vlm_store.proofs.Undoing.{resource_is}
 use Rattle.vlm_locks.specs.Plain.{plain_resource}
 use Rattle.vlm_core.specs.declared.views.ResourceView.{ResourceView}
 use Rattle.vlm_core.specs.Views.{GivesInTurn, IsGivenFrom, lock_at_place, resource_at_place, resource_view, row_shown, row_view, rows_in}
+use Rattle.vlm_words.specs.declared.resources.Key.{Key}
+use Rattle.vlm_words.specs.declared.resources.Domain.{Domain}
+use Rattle.vlm_words.specs.declared.resources.ValueBlock.{ValueBlock}
+use Rattle.vlm_words.specs.Resources.{key_name, key_parent}
 
 -- what holds of each key that a walk can have come to holds of the key that it has come to
 pub if_some : (key : Option ℕ) (P : ℕ → Type 0) → ForSome key P → IfSome key P
@@ -111,6 +115,13 @@ queue_given s r queue sound among =
     subst (λ ks. IsGivenFrom ks (first_at ks) (rows_of (queued queue r))) (sym here) (given_from [] (queued queue r) (subst AreApart here (sound.locks_apart place)))
 
 -- ---- what is shown
+
+-- what is shown of a record is what the plain resource shows
+pub record_shown : (o : Option StoredResource) (serial : ℕ) (key : Key) (domain : Domain) (value_block : ValueBlock) → IfSome o (λ r. serial ≡ r.serial) → IfSome o (λ r. key ≡ r.key)
+    → IfSome o (λ r. domain ≡ r.domain) → IfSome o (λ r. value_block ≡ r.value_block)
+    → IfSome o (λ r. record { serial = serial; parent = key_parent key; domain = domain; name = key_name key; value = value_block.value; valid = value_block.valid } ≡ resource_view (plain_resource r))
+record_shown None serial key domain value_block a b c d = tt
+record_shown (Some r) serial key domain value_block a b c d = rw (a, b, c, d) refl
 
 -- the resource at a place is shown as it is stored
 pub resource_shown : (i : ℕ) (rs : List StoredResource) (res : ℕ) (view : ResourceView) → AreResourcesApart rs → resource_at_place i rs ≡ Some res

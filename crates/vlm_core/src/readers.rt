@@ -10,7 +10,7 @@ ghost use Rattle.vlm_core.specs.Views.{lock_at_place, resource_at_place, resourc
 
 use crate::processes::living;
 use crate::public::Core;
-use crate::views::{ResourceView, RowView, resource_view, row_view};
+use crate::views::{ResourceView, RowView};
 use vlm_procs::status_block;
 use vlm_queue::{head, next};
 use vlm_store::{LockAt, ResAt, Store};
@@ -76,7 +76,7 @@ impl Core {
         let store = &self.machine.store;
         store.known();
         let res = resource_at(store, place)?;
-        Some(resource_view(store, res))
+        Some(ResourceView::of(store.resource_record(res)))
     }
 
     /// The lock at a place, from 0, of a queue of the resource at its place. None where one of the
@@ -88,6 +88,6 @@ impl Core {
         store.known();
         let res = resource_at(store, resource)?;
         let lock = lock_at(store, res, queue, place)?;
-        Some(row_view(&store.lock_record(lock).row))
+        Some(RowView::of(&store.lock_record(lock).row))
     }
 }

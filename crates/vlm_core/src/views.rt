@@ -1,15 +1,14 @@
 //! What the readers show.
 
-ghost use Rattle.std.specs.Prelude.{◌≡◌, IfSome};
-ghost use Rattle.vlm_store.specs.Records.{HasResource, resource_at};
-ghost use Rattle.vlm_locks.specs.Plain.{plain_resource};
-ghost use Rattle.vlm_core.specs.Views.{resource_view, row_view};
+ghost use Rattle.std.specs.Prelude.{◌≡◌};
+ghost use Rattle.vlm_words.specs.Resources.{key_name, key_parent};
+ghost use Rattle.vlm_core.specs.Views.{row_view};
 
-use vlm_store::{ResAt, Store};
+use vlm_store::Resource;
 use vlm_words::locks::Row;
 use vlm_words::modes::Mode;
 use vlm_words::names::Name;
-use vlm_words::resources::{Domain, Key};
+use vlm_words::resources::Domain;
 
 /// A resource without its queues.
 #[derive(Clone, Copy)]
@@ -41,35 +40,39 @@ pub struct RowView {
     pub want: Option<Mode>,
 }
 
-/// The resource without its key and its queues.
-pub(crate) fn resource_view(store: &Store, res: ResAt) -> ResourceView
-    requires { HasResource res store.now }
-    ensures { IfSome (resource_at res store.now.resources)
-        (λ r. result ≡ resource_view (plain_resource r)) }
-{
-    let resource = store.resource_record(res);
-    let (parent, name) = match resource.key {
-        Key::Root(_, name) => (0, name),
-        Key::Below(parent, name) => (parent, name),
-    };
-    ResourceView {
-        serial: resource.serial,
-        parent,
-        domain: resource.domain,
-        name,
-        value: resource.value_block.value,
-        valid: resource.value_block.valid,
+impl ResourceView {
+    /// What is shown of the record of a resource.
+    pub fn of(resource: &Resource) -> ResourceView
+        ensures { result ≡ record {
+          serial = resource.now.serial;
+          parent = key_parent resource.now.key;
+          domain = resource.now.domain;
+          name = key_name resource.now.key;
+          value = resource.now.value_block.value;
+          valid = resource.now.value_block.valid;
+        } }
+    {
+        ResourceView {
+            serial: resource.serial,
+            parent: resource.key.parent(),
+            domain: resource.domain,
+            name: resource.key.name(),
+            value: resource.value_block.value,
+            valid: resource.value_block.valid,
+        }
     }
 }
 
-/// The row without what a reader does not show.
-pub(crate) fn row_view(row: &Row) -> RowView
-    ensures { result ≡ row_view row.now }
-{
-    RowView {
-        lkid: row.lkid,
-        pid: row.pid,
-        held: row.held.map(|request| request.mode),
-        want: row.want.map(|request| request.mode),
+impl RowView {
+    /// What is shown of a row.
+    pub fn of(row: &Row) -> RowView
+        ensures { result ≡ row_view row.now }
+    {
+        RowView {
+            lkid: row.lkid,
+            pid: row.pid,
+            held: row.held.map(|request| request.mode),
+            want: row.want.map(|request| request.mode),
+        }
     }
 }

@@ -5,12 +5,11 @@ use Rattle.std.specs.Option.{option_map_or}
 use Rattle.vlm_words.specs.declared.locks.Row.{Row}
 use Rattle.vlm_words.specs.declared.resources.Queue.{Queue}
 use Rattle.vlm_words.specs.declared.resources.Queue.TheVariants.{Granted, Conversion, Waiting}
-use Rattle.vlm_words.specs.Resources.{key_name, key_parent}
-use Rattle.vlm_script.specs.Texts.{resource_line, resource_text, resources_text}
+use Rattle.vlm_script.specs.Texts.{queue_lines, resource_line, resource_text, resources_text, row_line}
 use Rattle.vlm_store.specs.Records.{StoredLock, StoredResource, at_after, first_resource_at, queued, resource_at, resource_at_after, rows_of}
 use Rattle.vlm_store.proofs.Walks.{IsAtLock, IsAtResource, locks_from, resources_from}
 use Rattle.vlm_locks.specs.Plain.{plain_resource}
-use Rattle.vlm_script.specs.Queues.{queue_lines, row_line}
+use Rattle.vlm_core.specs.Views.{resource_view}
 
 -- the lines of the locks that a walk of a queue has left
 abbrev pub lines_left : Queue → Option ℕ → List StoredLock → List ℕ
@@ -39,7 +38,7 @@ lines_in queue o = queue_lines queue (rows_of (option_map_or (queued queue) o []
 
 -- a resource's own line and its three queues, put one behind another, are its text
 pub resource_printed : (o : Option StoredResource) (a b c d e : List ℕ)
-    → IfSome o (λ r. b ≡ a ++ resource_line r.serial (key_parent r.key) r.domain (key_name r.key) r.value_block.value r.value_block.valid)
+    → IfSome o (λ r. b ≡ a ++ resource_line (resource_view (plain_resource r)))
     → c ≡ b ++ lines_in Granted o → d ≡ c ++ lines_in Conversion o → e ≡ d ++ lines_in Waiting o → IfSome o (λ r. e ≡ a ++ resource_text (plain_resource r))
 unfolding resource_text
 resource_printed None a b c d e line granted converting waiting = tt

@@ -1,7 +1,6 @@
 pub mod Texts
 pub mod Scripts
 pub mod Bindings
-pub mod Queues
 pub mod Sessions
 pub mod Plays
 pub mod Faults

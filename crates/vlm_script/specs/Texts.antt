@@ -13,9 +13,13 @@ use Rattle.vlm_words.specs.declared.resources.Domain.{Domain}
 use Rattle.vlm_words.specs.declared.steps.Answer.TheVariants.{Process as process_answer, Lock, Victim, Taken, Plain}
 use Rattle.vlm_words.specs.declared.steps.Answer.{Answer}
 use Rattle.vlm_words.specs.Conditions.{condition_name}
-use Rattle.vlm_words.specs.Rows.{mode_asked}
 use Rattle.vlm_words.specs.State.{Resource}
 use Rattle.vlm_lines.specs.Lines.{has_key}
+use Rattle.vlm_words.specs.declared.resources.Queue.{Queue}
+use Rattle.vlm_words.specs.declared.resources.Queue.TheVariants.{Granted, Conversion, Waiting}
+use Rattle.vlm_core.specs.declared.views.ResourceView.{ResourceView}
+use Rattle.vlm_core.specs.declared.views.RowView.{RowView}
+use Rattle.vlm_core.specs.Views.{resource_view, row_view}
 
 -- the end of a line
 abbrev pub line_feed : List ℕ
@@ -86,10 +90,10 @@ validity true = codes "valid"
 validity false = codes "invalid"
 
 -- the resource's own line
-unfoldable pub resource_line : ℕ → ℕ → Domain → List ℕ → List ℕ → Bool → List ℕ
-resource_line serial parent domain name value valid =
-    codes "resource " ++ decimal serial ++ codes " in " ++ decimal parent ++ codes " " ++ domain_text domain
-    ++ codes " name " ++ name_text name ++ codes " value " ++ hex_text value ++ codes " " ++ validity valid ++ line_feed
+unfoldable pub resource_line : ResourceView → List ℕ
+resource_line r =
+    codes "resource " ++ decimal r.serial ++ codes " in " ++ decimal r.parent ++ codes " " ++ domain_text r.domain
+    ++ codes " name " ++ name_text r.name ++ codes " value " ++ hex_text r.value ++ codes " " ++ validity r.valid ++ line_feed
 
 -- the mode of a request, or nothing where there is no request
 abbrev pub mode_text : Option Mode → List ℕ
@@ -97,37 +101,36 @@ mode_text None = []
 mode_text (Some mode) = mode_name mode
 
 -- a lock's line begins so
-unfoldable pub lock_text : List ℕ → ℕ → ℕ → List ℕ
-lock_text queue lkid pid = codes "  " ++ queue ++ codes " " ++ decimal lkid ++ codes " process " ++ decimal pid ++ codes " "
+unfoldable pub lock_text : List ℕ → RowView → List ℕ
+lock_text queue row = codes "  " ++ queue ++ codes " " ++ decimal row.lkid ++ codes " process " ++ decimal row.pid ++ codes " "
 
 -- a granted lock
-unfoldable pub granted_line : ℕ → ℕ → Option Mode → List ℕ
-granted_line lkid pid held = lock_text (codes "granted") lkid pid ++ mode_text held ++ line_feed
+unfoldable pub granted_line : RowView → List ℕ
+granted_line row = lock_text (codes "granted") row ++ mode_text row.held ++ line_feed
 
 -- a lock that holds one mode and waits for another
-unfoldable pub converting_line : ℕ → ℕ → Option Mode → Option Mode → List ℕ
-converting_line lkid pid held want =
-    lock_text (codes "converting") lkid pid ++ mode_text held ++ codes " to " ++ mode_text want ++ line_feed
+unfoldable pub converting_line : RowView → List ℕ
+converting_line row = lock_text (codes "converting") row ++ mode_text row.held ++ codes " to " ++ mode_text row.want ++ line_feed
 
 -- a lock that waits to be granted for the first time
-unfoldable pub waiting_line : ℕ → ℕ → Option Mode → List ℕ
-waiting_line lkid pid want = lock_text (codes "waiting") lkid pid ++ mode_text want ++ line_feed
+unfoldable pub waiting_line : RowView → List ℕ
+waiting_line row = lock_text (codes "waiting") row ++ mode_text row.want ++ line_feed
 
--- the lines of each queue, in queue order
-abbrev pub granted_lines : List Row → List ℕ
-granted_lines rows = flat_map (λ row. granted_line row.lkid row.pid (mode_asked row.held)) rows
+-- a lock's line in a queue
+abbrev pub row_line : Queue → Row → List ℕ
+row_line Granted row = granted_line (row_view row)
+row_line Conversion row = converting_line (row_view row)
+row_line Waiting row = waiting_line (row_view row)
 
-abbrev pub converting_lines : List Row → List ℕ
-converting_lines rows = flat_map (λ row. converting_line row.lkid row.pid (mode_asked row.held) (mode_asked row.want)) rows
-
-abbrev pub waiting_lines : List Row → List ℕ
-waiting_lines rows = flat_map (λ row. waiting_line row.lkid row.pid (mode_asked row.want)) rows
+-- the lines of a queue, in queue order
+abbrev pub queue_lines : Queue → List Row → List ℕ
+queue_lines queue rows = flat_map (row_line queue) rows
 
 -- a resource with its three queues
 unfoldable pub resource_text : Resource → List ℕ
 resource_text r =
-    resource_line r.serial r.parent r.domain r.name r.value_block.value r.value_block.valid ++ granted_lines r.granted
-    ++ converting_lines r.converting ++ waiting_lines r.waiting
+    resource_line (resource_view r) ++ queue_lines Granted r.granted ++ queue_lines Conversion r.converting
+    ++ queue_lines Waiting r.waiting
 
 -- all resources by rising serial, or that there is none
 unfoldable pub resources_text : List Resource → List ℕ

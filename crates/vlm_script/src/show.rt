@@ -1,18 +1,18 @@
 //! All resources with their queues, as the store has them.
 
 ghost use Rattle.std.specs.Prelude.{◌≡◌, ◌++◌, IfSome, OnOk, flat_map};
-ghost use Rattle.vlm_words.specs.Resources.{key_name, key_parent};
-ghost use Rattle.vlm_script.specs.Texts.{resource_line, resource_text, resources_text};
+ghost use Rattle.vlm_core.specs.Views.{resource_view};
+ghost use Rattle.vlm_script.specs.Texts.{queue_lines, resource_line, resource_text, resources_text, row_line};
 ghost use Rattle.vlm_store.specs.declared.keys.Place.{Place};
 ghost use Rattle.vlm_store.specs.Records.{HasResource, locks_at, resource_at, rows_of};
 ghost use Rattle.vlm_locks.specs.Plain.{plain_resource, plain_resources};
-ghost use Rattle.vlm_script.specs.Queues.{queue_lines, row_line};
 
 use crate::printing::{converting_line, granted_line, no_resources, resource_line, waiting_line};
 use std::alloc::AllocError;
+use vlm_core::{ResourceView, RowView};
 use vlm_store::{Place, ResAt, Store};
 use vlm_words::locks::Row;
-use vlm_words::resources::{Key, Queue};
+use vlm_words::resources::Queue;
 
 /// Prints every resource by rising serial with its queues, or that there is none.
 pub(crate) fn show(store: &Store, out: &mut Vec<u8>) -> Result<(), AllocError>
@@ -56,24 +56,9 @@ fn show_resource(store: &Store, res: ResAt, out: &mut Vec<u8>) -> Result<(), All
 fn show_head(store: &Store, res: ResAt, out: &mut Vec<u8>) -> Result<(), AllocError>
     requires { HasResource res store.now }
     ensures { OnOk result (IfSome (resource_at res store.now.resources)
-        (λ r. out.new.items ≡ out.old.items
-        ++ resource_line r.serial (key_parent r.key) r.domain (key_name r.key)
-        r.value_block.value r.value_block.valid)) }
+        (λ r. out.new.items ≡ out.old.items ++ resource_line (resource_view (plain_resource r)))) }
 {
-    let resource = store.resource_record(res);
-    let (parent, name) = match resource.key {
-        Key::Root(_, name) => (0, name),
-        Key::Below(parent, name) => (parent, name),
-    };
-    resource_line(
-        out,
-        resource.serial,
-        parent,
-        resource.domain,
-        name.bytes(),
-        &resource.value_block.value,
-        resource.value_block.valid,
-    )
+    resource_line(out, &ResourceView::of(store.resource_record(res)))
 }
 
 // Prints the locks in a queue of a resource.
@@ -95,11 +80,10 @@ fn show_queue(store: &Store, res: ResAt, queue: Queue, out: &mut Vec<u8>) -> Res
 fn show_row(queue: Queue, row: &Row, out: &mut Vec<u8>) -> Result<(), AllocError>
     ensures { OnOk result (out.new.items ≡ out.old.items ++ row_line queue row.now) }
 {
-    let held = row.held.map(|request| request.mode);
-    let want = row.want.map(|request| request.mode);
+    let row = RowView::of(row);
     match queue {
-        Queue::Granted => granted_line(out, row.lkid, row.pid, held),
-        Queue::Conversion => converting_line(out, row.lkid, row.pid, held, want),
-        Queue::Waiting => waiting_line(out, row.lkid, row.pid, want),
+        Queue::Granted => granted_line(out, &row),
+        Queue::Conversion => converting_line(out, &row),
+        Queue::Waiting => waiting_line(out, &row),
     }
 }

@@ -1,6 +1,7 @@
 //! Where a resource stands, its value block, and its three queues.
 
 ghost use Rattle.std.specs.Prelude.{◌≡◌};
+ghost use Rattle.vlm_words.specs.Resources.{key_name, key_parent};
 ghost use Rattle.vlm_words.specs.ValueBlocks.{new_value_block};
 
 use crate::names::Name;
@@ -33,6 +34,27 @@ pub struct Site {
     pub domain: Domain,
     /// 0 for a root, at most 15.
     pub level: u8,
+}
+
+impl Key {
+    /// The serial of the parent resource, or 0 for a root.
+    pub fn parent(&self) -> u32
+        ensures { result ≡ key_parent self.now }
+    {
+        match self {
+            Key::Root(_, _) => 0,
+            Key::Below(parent, _) => *parent,
+        }
+    }
+
+    /// The name of the resource.
+    pub fn name(&self) -> Name
+        ensures { result ≡ key_name self.now }
+    {
+        match self {
+            Key::Root(_, name) | Key::Below(_, name) => *name,
+        }
+    }
 }
 
 impl PartialEq for Key {

@@ -5,67 +5,52 @@ ghost use Rattle.vlm_script.specs.Texts.{lock_text, granted_line, converting_lin
 
 use super::texts::{number, text};
 use std::alloc::AllocError;
+use vlm_core::RowView;
 use vlm_words::modes::Mode;
 
 /// A granted lock.
 #[tactic(auto, unfolding(crate::specs::Texts::granted_line))]
-pub(crate) fn granted_line(
-    out: &mut Vec<u8>,
-    lkid: u32,
-    pid: u32,
-    held: Option<Mode>,
-) -> Result<(), AllocError>
-    ensures { OnOk result (out.new.items ≡ out.old.items ++ granted_line lkid pid held) }
+pub(crate) fn granted_line(out: &mut Vec<u8>, row: &RowView) -> Result<(), AllocError>
+    ensures { OnOk result (out.new.items ≡ out.old.items ++ granted_line row.now) }
 {
-    lock_text(out, b"granted", lkid, pid)?;
-    mode_text(out, held)?;
+    lock_text(out, b"granted", row)?;
+    mode_text(out, row.held)?;
     text(out, b"\n")
 }
 
 /// A lock that holds one mode and waits for another.
 #[tactic(auto, unfolding(crate::specs::Texts::converting_line))]
-pub(crate) fn converting_line(
-    out: &mut Vec<u8>,
-    lkid: u32,
-    pid: u32,
-    held: Option<Mode>,
-    want: Option<Mode>,
-) -> Result<(), AllocError>
-    ensures { OnOk result (out.new.items ≡ out.old.items ++ converting_line lkid pid held want) }
+pub(crate) fn converting_line(out: &mut Vec<u8>, row: &RowView) -> Result<(), AllocError>
+    ensures { OnOk result (out.new.items ≡ out.old.items ++ converting_line row.now) }
 {
-    lock_text(out, b"converting", lkid, pid)?;
-    mode_text(out, held)?;
+    lock_text(out, b"converting", row)?;
+    mode_text(out, row.held)?;
     text(out, b" to ")?;
-    mode_text(out, want)?;
+    mode_text(out, row.want)?;
     text(out, b"\n")
 }
 
 /// A lock that waits to be granted for the first time.
 #[tactic(auto, unfolding(crate::specs::Texts::waiting_line))]
-pub(crate) fn waiting_line(
-    out: &mut Vec<u8>,
-    lkid: u32,
-    pid: u32,
-    want: Option<Mode>,
-) -> Result<(), AllocError>
-    ensures { OnOk result (out.new.items ≡ out.old.items ++ waiting_line lkid pid want) }
+pub(crate) fn waiting_line(out: &mut Vec<u8>, row: &RowView) -> Result<(), AllocError>
+    ensures { OnOk result (out.new.items ≡ out.old.items ++ waiting_line row.now) }
 {
-    lock_text(out, b"waiting", lkid, pid)?;
-    mode_text(out, want)?;
+    lock_text(out, b"waiting", row)?;
+    mode_text(out, row.want)?;
     text(out, b"\n")
 }
 
 /// The beginning of a lock's line.
 #[tactic(auto, unfolding(crate::specs::Texts::lock_text))]
-fn lock_text(out: &mut Vec<u8>, queue: &[u8], lkid: u32, pid: u32) -> Result<(), AllocError>
-    ensures { OnOk result (out.new.items ≡ out.old.items ++ lock_text queue.now lkid pid) }
+fn lock_text(out: &mut Vec<u8>, queue: &[u8], row: &RowView) -> Result<(), AllocError>
+    ensures { OnOk result (out.new.items ≡ out.old.items ++ lock_text queue.now row.now) }
 {
     text(out, b"  ")?;
     text(out, queue)?;
     text(out, b" ")?;
-    number(out, lkid)?;
+    number(out, row.lkid)?;
     text(out, b" process ")?;
-    number(out, pid)?;
+    number(out, row.pid)?;
     text(out, b" ")
 }
 

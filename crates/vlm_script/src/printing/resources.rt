@@ -6,34 +6,26 @@ ghost use Rattle.vlm_script.specs.Texts.{resource_line, resources_text, domain_t
 
 use super::texts::{hexadecimal, number, text};
 use std::alloc::AllocError;
+use vlm_core::ResourceView;
 use vlm_words::resources::Domain;
 
 /// The resource's own line.
 #[tactic(auto, unfolding(crate::specs::Texts::resource_line))]
-pub(crate) fn resource_line(
-    out: &mut Vec<u8>,
-    serial: u32,
-    parent: u32,
-    domain: Domain,
-    name: &[u8],
-    value: &[u8; 16],
-    valid: bool,
-) -> Result<(), AllocError>
-    ensures { OnOk result (out.new.items
-        ≡ out.old.items ++ resource_line serial parent domain name.now value.now valid) }
+pub(crate) fn resource_line(out: &mut Vec<u8>, view: &ResourceView) -> Result<(), AllocError>
+    ensures { OnOk result (out.new.items ≡ out.old.items ++ resource_line view.now) }
 {
     text(out, b"resource ")?;
-    number(out, serial)?;
+    number(out, view.serial)?;
     text(out, b" in ")?;
-    number(out, parent)?;
+    number(out, view.parent)?;
     text(out, b" ")?;
-    domain_text(out, domain)?;
+    domain_text(out, view.domain)?;
     text(out, b" name ")?;
-    name_text(out, name)?;
+    name_text(out, view.name.bytes())?;
     text(out, b" value ")?;
-    hexadecimal(out, value)?;
+    hexadecimal(out, &view.value)?;
     text(out, b" ")?;
-    text(out, validity(valid).as_bytes())?;
+    text(out, validity(view.valid).as_bytes())?;
     text(out, b"\n")
 }
 

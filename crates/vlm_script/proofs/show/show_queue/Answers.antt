@@ -2,7 +2,7 @@ use Rattle.std.proofs.Common.{[], ◌++◌, ap, ◌∙◌}
 use Rattle.vlm_store.specs.declared.keys.Place.TheVariants.{Queued}
 use Rattle.vlm_store.specs.Records.{locks_at, rows_of}
 use Rattle.vlm_store.proofs.Walks.{at_lock, first-there, locks_from-first, locks_left-fewer}
-use Rattle.vlm_script.specs.Queues.{queue_lines}
+use Rattle.vlm_script.specs.Texts.{queue_lines}
 use Rattle.vlm_script.proofs.Shown.{lines_left-next}
 use Rattle.vlm_script.proofs.show.show_queue.Goals as goal
 

@@ -3,7 +3,7 @@ use Rattle.std.specs.Option.{ForSome}
 use Rattle.vlm_store.specs.declared.keys.Place.TheVariants.{Queued}
 use Rattle.vlm_store.specs.Records.{locks_at, rows_of}
 use Rattle.vlm_store.proofs.Walks.{HasLock, locks_from}
-use Rattle.vlm_script.specs.Queues.{queue_lines}
+use Rattle.vlm_script.specs.Texts.{queue_lines}
 use Rattle.vlm_script.proofs.Shown.{lines_left}
 use Rattle.vlm_script.proofs.show.show_queue.Given as goal
 

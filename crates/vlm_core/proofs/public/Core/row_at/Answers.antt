@@ -11,5 +11,5 @@ returns-in_err-lock c =
 pub returns : goal.returns
 returns c =
     rw (← c.self.view_is, ← c.self-inside.view_is)
-    (ap Some c.row_view.ensures
+    (ap Some c.of.ensures
     ∙ lock_shown _ c.args.resource c.in_ok-res.res c.args.queue c.args.place c.in_ok-lock.lock c.lock_record.result.now.row c.known.ensures (sym c.resource_at.ensures.found ∙ c.in_ok-res.was) (sym c.lock_at.ensures.found ∙ c.in_ok-lock.was) c.lock_record.ensures.only)
