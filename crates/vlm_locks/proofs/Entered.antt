@@ -203,7 +203,7 @@ module _ (s : Records) (sound : IsSound s) (rest : IsAtRest s) (e : Entry) (keye
 
     -- a lock that is stored is the new one, or was stored
     lock_cases : (x : ℕ) (other : Row) → Stores new x other → ((x ≡ at) × (other ≡ row)) ⊎ Stores s x other
-    lock_cases = stored_cases res found.0 left (owned_by e at s) new replaced {P = λ x other. ((x ≡ at) × (other ≡ row)) ⊎ Stores s x other} (λ queue k here. of_queue to queue k here) was
+    lock_cases = stored_cases res found.0 left (owned_by e at s) new replaced {P = λ x other. ((x ≡ at) × (other ≡ row)) ⊎ Stores s x other} (of_queue to) was
       where
         joined : (locks : List StoredLock) (k : StoredLock) → IsAmong k (locks ++ record { at = at; row = row } ∷ []) → (IsAmong k locks → Stores s k.at k.row)
             → ((k.at ≡ at) × (k.row ≡ row)) ⊎ Stores s k.at k.row

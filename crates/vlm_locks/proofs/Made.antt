@@ -18,6 +18,7 @@ use Rattle.vlm_words.specs.Resources.{IsKeyed}
 use Rattle.vlm_locks.specs.Rest.{IsAtRest}
 use Rattle.vlm_locks.specs.Rising.{IsAboveAll}
 use Rattle.vlm_locks.proofs.Rising.{all_rise_still}
+use Rattle.vlm_locks.proofs.Staying.{same_lock}
 use Rattle.vlm_locks.proofs.Keyed.{AreKeyed, IsKeyFree, find-free, find-key, key_cases}
 
 -- the resource at its making
@@ -110,7 +111,7 @@ module _ (e : Entry) (res : ℕ) (room : Rooms) (s : Records) where
   rest_still keyed rest = record {
     none_loose = rest.none_loose;
     keyed = keyed_with keyed rest.keyed;
-    rising = all_rise_still s (with_made e res room s) (λ at row stored. (row, (was_stored at row stored, record { lkid = refl; pid = refl; parent = refl }))) refl rest.rising;
+    rising = all_rise_still s (with_made e res room s) (λ at row stored. (row, (was_stored at row stored, same_lock row))) refl rest.rising;
   }
 
   -- the new resource stands under its key

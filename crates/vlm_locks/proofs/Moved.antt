@@ -17,7 +17,7 @@ use Rattle.vlm_locks.specs.Converting.{moved_in}
 use Rattle.vlm_locks.specs.Rest.{IsReplaced}
 use Rattle.vlm_locks.specs.Standing.{IsStanding}
 use Rattle.vlm_locks.specs.Staying.{LocksStay, StandsStill}
-use Rattle.vlm_locks.proofs.Staying.{among_without, of_joined, stands_in}
+use Rattle.vlm_locks.proofs.Staying.{among_without, of_joined, same_back, stands_in}
 use Rattle.vlm_locks.proofs.Named.{without-absent, without-key}
 use Rattle.vlm_locks.proofs.Stood.{absent, only, own_among, stands}
 use Rattle.vlm_locks.proofs.Found.{resource_alone, resource_at-at}
@@ -85,7 +85,7 @@ none_joins_by_moving s f standing row to same queue k among =
     elim (of_queue queue among) [
       | inl is ↦
           subst (λ (x : StoredLock). StandsStill x standing.resource) is
-          (record { queue = f.queue; row = f.row; among = standing.among; same = record { lkid = sym same.lkid; pid = sym same.pid; parent = sym same.parent } })
+          (record { queue = f.queue; row = f.row; among = standing.among; same = same_back f.row row same })
       | inr was ↦ stands_in standing.resource queue k was
     ]
   where

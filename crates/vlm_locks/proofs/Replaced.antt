@@ -14,6 +14,7 @@ use Rattle.vlm_words.specs.Resources.{IsKeyed}
 use Rattle.vlm_locks.specs.Rest.{IsAtRest, IsReplaced, OthersStay}
 use Rattle.vlm_locks.specs.Staying.{LocksStay}
 use Rattle.vlm_locks.proofs.Rising.{all_rise_still, same_own}
+use Rattle.vlm_locks.proofs.Staying.{same_back, same_lock}
 use Rattle.vlm_locks.proofs.Stood.{resource_among}
 use Rattle.vlm_locks.proofs.Found.{resource_alone, resource_at-at, resource_at-put}
 
@@ -100,7 +101,7 @@ module _ (res : ℕ) (had left : StoredResource) (old new : Records) (replaced :
   rests none_join rest = record {
     none_loose = replaced.loose ∙ rest.none_loose;
     keyed = keyed_still rest.keyed;
-    rising = all_rise_still old new (stored_cases {P = λ at row. IsRowOf at row old} was_here (λ at row stored. (row, (stored, record { lkid = refl; pid = refl; parent = refl })))) replaced.processes rest.rising;
+    rising = all_rise_still old new (stored_cases {P = λ at row. IsRowOf at row old} was_here (λ at row stored. (row, (stored, same_lock row)))) replaced.processes rest.rising;
   }
     where
       was_here : (queue : Queue) (k : StoredLock) → IsAmong k (queued queue left) → IsRowOf k.at k.row old
@@ -109,7 +110,7 @@ module _ (res : ℕ) (had left : StoredResource) (old new : Records) (replaced :
             still.row,
             (
               (Queued res still.queue, subst (IsAmong (record { at = k.at; row = still.row })) (sym (ap (λ o. option_map_or (queued still.queue) o []) replaced.was)) still.among),
-              record { lkid = sym still.same.lkid; pid = sym still.same.pid; parent = sym still.same.parent },
+              same_back k.row still.row still.same,
             ),
           )
 

@@ -3,16 +3,17 @@ use Rattle.std.proofs.Common.{◌≡◌, ◌⊎◌, ℕ, Bool, true, false, List
 use Rattle.std.specs.Prelude.{◌==◌}
 use Rattle.std.proofs.lemmas.Bool.{cases_eq}
 use Rattle.std.proofs.lemmas.List.{append-nil, map-append}
-use Rattle.vlm_words.specs.declared.locks.Row.{Row}
 use Rattle.std.specs.Option.{option_map_or}
-use Rattle.vlm_store.specs.declared.keys.Place.{Place}
-use Rattle.vlm_store.specs.declared.keys.Place.TheVariants.{Loose, Queued}
+use Rattle.vlm_words.specs.declared.locks.Row.{Row}
 use Rattle.vlm_links.specs.Lists.{IsIn, without}
 use Rattle.vlm_links.proofs.KeyLists.{IsIn-push, IsIn-without}
+use Rattle.vlm_store.specs.declared.keys.Place.{Place}
+use Rattle.vlm_store.specs.declared.keys.Place.TheVariants.{Loose, Queued}
 use Rattle.vlm_store.specs.Records.{IsAmong, IsNewLock, IsOwnAmong, IsProcessAmong, IsRowOf, IsSound, IsStored, OwnLock, Records, StoredProcess, StoredResource, Stores, but_blocks, locks_at, new_own, process_with_lock, process_without_lock, queued, resource_at, with_sublock, without_sublock}
 use Rattle.vlm_locks.specs.Staying.{LocksStayAmong}
-use Rattle.vlm_locks.proofs.Stood.{queued_stored, resource_among}
 use Rattle.vlm_locks.specs.Rising.{ComesBefore, HasRisingLocks, IsAboveAll, StandByIdentification, own_keys}
+use Rattle.vlm_locks.proofs.Staying.{same_back, same_lock}
+use Rattle.vlm_locks.proofs.Stood.{queued_stored, resource_among}
 
 -- each process has rising locks
 abbrev pub AllRise : Records → List StoredProcess → Type 0
@@ -64,7 +65,7 @@ before_still old new were first second before a b in_a in_b =
 
 -- where the locks are the same each was stored
 pub were_stored : (old new : Records) → new.resources ≡ old.resources → new.loose ≡ old.loose → WereStored old new
-were_stored old new resources loose at row stored = (row, ((stored.0, by_place stored.0 stored.1), record { lkid = refl; pid = refl; parent = refl }))
+were_stored old new resources loose at row stored = (row, ((stored.0, by_place stored.0 stored.1), same_lock row))
   where
     by_place : (place : Place) → IsAmong (record { at = at; row = row }) (locks_at place new) → IsAmong (record { at = at; row = row }) (locks_at place old)
     by_place Loose among = subst (IsAmong (record { at = at; row = row })) loose among
@@ -75,7 +76,7 @@ pub none_joined : (old new : Records) → IsSound old → new.loose ≡ old.loos
 none_joined old new sound loose none_join at row stored = by_place stored.0 stored.1
   where
     by_place : (place : Place) → IsAmong (record { at = at; row = row }) (locks_at place new) → IsRowOf at row old
-    by_place Loose among = (row, ((Loose, subst (IsAmong (record { at = at; row = row })) loose among), record { lkid = refl; pid = refl; parent = refl }))
+    by_place Loose among = (row, ((Loose, subst (IsAmong (record { at = at; row = row })) loose among), same_lock row))
     by_place (Queued res queue) among = of_found (resource_at res new.resources) refl among
       where
         of_found : (found : Option StoredResource) → resource_at res new.resources ≡ found → IsAmong (record { at = at; row = row }) (option_map_or (queued queue) found []) → IsRowOf at row old
@@ -86,7 +87,7 @@ none_joined old new sound loose none_join at row stored = by_place stored.0 stor
               still.row,
               (
                 queued_stored old sound stays.0 stays.1.0 still.queue (record { at = at; row = still.row }) still.among,
-                record { lkid = sym still.same.lkid; pid = sym still.same.pid; parent = sym still.same.parent },
+                same_back row still.row still.same,
               ),
             )
 
@@ -122,19 +123,19 @@ all_rise_still old new were same rising p among =
     let was = same_own old.processes new.processes same p among in
     rises_still old new was.0 p were was.1.1 (rising was.0 was.1.0)
 
--- ---- a lock that goes
-
--- a process of those without the lock was there with it
-was_process : (lock : ℕ) (ps : List StoredProcess) (p : StoredProcess) → IsProcessAmong p (map (process_without_lock lock) ps)
-    → (q : StoredProcess) × (IsProcessAmong q ps × (process_without_lock lock q ≡ p))
-was_process lock [] p among = absurd among
-was_process lock (x ∷ ps) p among =
+-- a process of those that are changed was there
+was_process : (change : StoredProcess → StoredProcess) (ps : List StoredProcess) (p : StoredProcess) → IsProcessAmong p (map change ps)
+    → (q : StoredProcess) × (IsProcessAmong q ps × (change q ≡ p))
+was_process change [] p among = absurd among
+was_process change (x ∷ ps) p among =
     elim among [
       | inl here ↦ (x, (inl refl, here))
-      | inr there ↦ let later = was_process lock ps p there in (later.0, (inr later.1.0, later.1.1))
+      | inr there ↦ let later = was_process change ps p there in (later.0, (inr later.1.0, later.1.1))
     ]
 
--- and so was a lock of its
+-- ---- a lock that goes
+
+-- a lock of a process without the one was there
 was_own : (lock : ℕ) (owns : List OwnLock) (own : OwnLock) → IsOwnAmong own (map (without_sublock lock) (filter (λ (o : OwnLock). not (o.at == lock)) owns))
     → (o : OwnLock) × (IsOwnAmong o owns × (without_sublock lock o ≡ own))
 was_own lock [] own among = absurd among
@@ -167,7 +168,7 @@ rises_without s lock q rises = record {
 -- the locks of each process stand so still as a lock goes
 pub all_rise_without : (s : Records) (lock : ℕ) (ps : List StoredProcess) → AllRise s ps → AllRise s (map (process_without_lock lock) ps)
 all_rise_without s lock ps rising p among =
-    let was = was_process lock ps p among in
+    let was = was_process (process_without_lock lock) ps p among in
     subst (HasRisingLocks s) was.1.1 (rises_without s lock was.0 (rising was.0 was.1.0))
 
 -- ---- a lock that is made
@@ -185,17 +186,7 @@ own_in (x ∷ owns) at there =
     ]
 
 module _ (owner : ℕ) (parent : Option ℕ) (lock : ℕ) where
-  -- a process of those with the lock was there without it
-  had_process : (ps : List StoredProcess) (p : StoredProcess) → IsProcessAmong p (map (process_with_lock owner parent lock) ps)
-      → (q : StoredProcess) × (IsProcessAmong q ps × (process_with_lock owner parent lock q ≡ p))
-  had_process [] p among = absurd among
-  had_process (x ∷ ps) p among =
-      elim among [
-        | inl here ↦ (x, (inl refl, here))
-        | inr there ↦ let later = had_process ps p there in (later.0, (inr later.1.0, later.1.1))
-      ]
-
-  -- and so was a lock of its, or it is the new one
+  -- a lock of a process with the one was there, or is the new one
   had_own : (mine : Bool) (owns : List OwnLock) (own : OwnLock) → IsOwnAmong own (map (with_sublock parent lock) owns ++ cond mine (new_own lock) [])
       → ((o : OwnLock) × (IsOwnAmong o owns × (with_sublock parent lock o ≡ own))) ⊎ (record { at = lock; sublocks = [] } ≡ own)
   had_own true [] own among = elim among [ inl is ↦ inr is | inr none ↦ absurd none ]
@@ -285,5 +276,5 @@ module _ (owner : ℕ) (parent : Option ℕ) (lock : ℕ) where
     -- the locks of each process stand by rising identification with a new lock that is above all
     pub all_rise_with : AllRise s s.processes → AllRise new (map (process_with_lock owner parent lock) s.processes)
     all_rise_with rising p among =
-        let had = had_process s.processes p among in
+        let had = was_process (process_with_lock owner parent lock) s.processes p among in
         subst (HasRisingLocks new) had.1.1 (rises_with had.0 had.1.0 (rising had.0 had.1.0))

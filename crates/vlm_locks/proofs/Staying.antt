@@ -6,14 +6,21 @@ use Rattle.vlm_words.specs.declared.resources.Queue.{Queue}
 use Rattle.vlm_words.specs.declared.resources.Queue.TheVariants.{Granted, Conversion, Waiting}
 use Rattle.vlm_words.specs.declared.resources.ValueBlock.{ValueBlock}
 use Rattle.vlm_words.specs.Grants.{granted_row}
-use Rattle.vlm_store.specs.Records.{IsAmong, IsResourceAmong, StoredLock, StoredResource, queued, without_lock}
+use Rattle.vlm_store.specs.Records.{IsAmong, IsResourceAmong, IsSameLock, StoredLock, StoredResource, queued, without_lock}
 use Rattle.vlm_locks.specs.Staying.{LocksStay, LocksStayAmong, StandsStill}
 use Rattle.vlm_locks.proofs.Moves.{IsHead, granted_first}
 use Rattle.vlm_locks.proofs.Parting.{among_after, among_before}
 
+-- a lock is the same as itself
+pub same_lock : (row : Row) → IsSameLock row row
+same_lock row = record { lkid = refl; pid = refl; parent = refl }
+
+pub same_back : (a b : Row) → IsSameLock a b → IsSameLock b a
+same_back a b same = record { lkid = sym same.lkid; pid = sym same.pid; parent = sym same.parent }
+
 -- a lock that stands in a queue stands there still
 pub stands_in : (r : StoredResource) (queue : Queue) (lock : StoredLock) → IsAmong lock (queued queue r) → StandsStill lock r
-stands_in r queue lock among = record { queue = queue; row = lock.row; among = among; same = record { lkid = refl; pid = refl; parent = refl } }
+stands_in r queue lock among = record { queue = queue; row = lock.row; among = among; same = same_lock lock.row }
 
 pub all_stay : (r : StoredResource) → LocksStay r r
 all_stay r queue lock among = stands_in r queue lock among

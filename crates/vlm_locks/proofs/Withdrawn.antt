@@ -21,7 +21,7 @@ use Rattle.vlm_locks.specs.Rest.{IsAtRest}
 use Rattle.vlm_locks.specs.Standing.{IsStanding}
 use Rattle.vlm_locks.specs.Withdrawing.{IsChange, may_write}
 use Rattle.vlm_locks.proofs.Changed.{changed, changed_alike, removed_changed, unchanged}
-use Rattle.vlm_locks.proofs.Moved.{none_joins_by_moving, joins, leaves, moved_replaced, not_in}
+use Rattle.vlm_locks.proofs.Moved.{joins, leaves, moved_replaced, none_joins_by_moving, not_in}
 use Rattle.vlm_locks.proofs.Named.{rows-absent, rows-only, without-absent, without-key}
 use Rattle.vlm_locks.proofs.Staying.{all_stay, none_joins_under_block}
 use Rattle.vlm_locks.proofs.Stood.{absent, only, own_among}
