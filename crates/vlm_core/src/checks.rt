@@ -24,7 +24,7 @@ impl Machine {
     /// The caller. DEPARTED where its node has departed, NONEXPR where no living process has the
     /// identification.
     #[tactic(auto, unfolding(vlm_words::specs::Checks::caller_refusal))]
-    pub(crate) fn caller(&self, pid: u32) -> Result<Caller, Cond>
+    pub(crate) fn checked_caller(&self, pid: u32) -> Result<Caller, Cond>
         ensures refusal { result_err result ≡ caller_refusal (plain_state self.now) pid }
         ensures caller { IfOk result (λ caller. IsCaller caller self.now.records) }
         ensures pid { IfOk result (λ caller. caller.pid ≡ pid) }
@@ -77,7 +77,7 @@ impl Machine {
 
     // The status block of the number. ACCVIO where the caller has none of it.
     #[tactic(auto, unfolding(vlm_words::specs::Checks::status_block_refusal, vlm_words::specs::StatusBlocks::status_block_at))]
-    fn status_block(&self, caller: &Caller, number: u8) -> Result<Block, Cond>
+    fn checked_status_block(&self, caller: &Caller, number: u8) -> Result<Block, Cond>
         requires { IsCaller caller.now self.now.records }
         ensures refusal { result_err result
             ≡ status_block_refusal (plain_state self.now) caller.now.pid number }
@@ -93,14 +93,14 @@ impl Machine {
         ensures { result_err result
             ≡ status_block_refusal (plain_state self.now) caller.now.pid number }
     {
-        self.status_block(caller, number)?;
+        self.checked_status_block(caller, number)?;
         Ok(())
     }
 
     /// The identification that is named: its own, or what stands in a status block of the caller.
     /// ACCVIO where the caller has no such block.
     #[tactic(auto, unfolding(vlm_words::specs::Checks::which_refusal))]
-    pub(crate) fn named(&self, caller: &Caller, lock: Which) -> Result<u32, Cond>
+    pub(crate) fn checked_lkid(&self, caller: &Caller, lock: Which) -> Result<u32, Cond>
         requires { IsCaller caller.now self.now.records }
         ensures refusal { result_err result
             ≡ which_refusal (plain_state self.now) caller.now.pid lock }
@@ -109,13 +109,13 @@ impl Machine {
     {
         match lock {
             Which::Id(lkid) => Ok(lkid),
-            Which::Block(number) => Ok(self.status_block(caller, number)?.lkid),
+            Which::Block(number) => Ok(self.checked_status_block(caller, number)?.lkid),
         }
     }
 
     /// The lock of the caller with this identification, where it stands. IVLOCKID where it has none.
     #[tactic(auto, unfolding(vlm_words::specs::Checks::lock_refusal))]
-    pub(crate) fn own_lock(&self, caller: &Caller, lkid: u32) -> Result<Standing, Cond>
+    pub(crate) fn checked_lock(&self, caller: &Caller, lkid: u32) -> Result<Standing, Cond>
         ensures refusal { result_err result
             ≡ lock_refusal (plain_state self.now) caller.now.pid lkid }
         ensures standing { IfOk result

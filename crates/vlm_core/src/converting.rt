@@ -38,7 +38,7 @@ impl Machine {
         ensures { Outcome (plain_state self.old) (Step.Convert conversion)
             (plain_state self.new) result }
     {
-        match self.convert_refusal(&conversion) {
+        match self.checked_conversion(&conversion) {
             Ok(admitted) => {
                 let standing = admitted.standing;
                 self.convert_change(&conversion, &admitted);
@@ -54,21 +54,21 @@ impl Machine {
 
     // The checks in their order.
     #[tactic(auto, unfolding(vlm_words::specs::Convert::convert_refusal))]
-    fn convert_refusal(&self, conversion: &Conversion) -> Result<AdmittedConversion, Cond>
+    fn checked_conversion(&self, conversion: &Conversion) -> Result<AdmittedConversion, Cond>
         ensures refusal { result_err result
             ≡ convert_refusal (plain_state self.now) conversion.now }
         ensures admitted { IfOk result (λ a. IsAdmittedConversion self.now conversion.now a) }
     {
-        let caller = self.caller(conversion.pid)?;
+        let caller = self.checked_caller(conversion.pid)?;
         let flags = checked_flags(conversion)?;
         self.check_status_block(&caller, conversion.block)?;
-        let lkid = self.named(&caller, conversion.lock)?;
-        let standing = self.own_lock(&caller, lkid)?;
-        self.admission_refusal(flags, &standing, conversion)
+        let lkid = self.checked_lkid(&caller, conversion.lock)?;
+        let standing = self.checked_lock(&caller, lkid)?;
+        self.checked_admission(flags, &standing, conversion)
     }
 
     // The lock is granted, or CVTUNGRANT; and then the checks of the conversion there, in their order.
-    fn admission_refusal(
+    fn checked_admission(
         &self,
         flags: EnqFlags,
         standing: &Standing,

@@ -25,7 +25,7 @@ impl Machine {
         ensures { Outcome (plain_state self.old) (Step.Declare declaration)
             (plain_state self.new) result }
     {
-        if let Err(refusal) = self.declare_refusal(&declaration) {
+        if let Err(refusal) = self.check_declaration(&declaration) {
             return Answer::Plain(refusal);
         }
         match self.declare_change(&declaration) {
@@ -35,7 +35,7 @@ impl Machine {
     }
 
     #[tactic(auto, unfolding(vlm_words::specs::Declare::declare_refusal))]
-    fn declare_refusal(&self, declaration: &Declaration) -> Result<(), Cond>
+    fn check_declaration(&self, declaration: &Declaration) -> Result<(), Cond>
         ensures refusal { result_err result
             ≡ declare_refusal (plain_state self.now) declaration.now }
         ensures first { OnOk result (1 ≤ declaration.now.node) }

@@ -36,7 +36,7 @@ impl Machine {
         requires { IsBetweenSteps (plain_state self.old) }
         ensures { Outcome (plain_state self.old) (Step.Deq dequeue) (plain_state self.new) result }
     {
-        match self.deq_refusal(&dequeue) {
+        match self.checked_dequeue(&dequeue) {
             Ok(admitted) => {
                 self.deq_change(&dequeue, &admitted);
                 self.sweep(admitted.standing.res);
@@ -60,17 +60,17 @@ impl Machine {
 
     // The checks in their order.
     #[tactic(auto, unfolding(vlm_words::specs::Dequeue::deq_refusal))]
-    fn deq_refusal(&self, dequeue: &Dequeue) -> Result<AdmittedDequeue, Cond>
+    fn checked_dequeue(&self, dequeue: &Dequeue) -> Result<AdmittedDequeue, Cond>
         requires { IsBetweenSteps (plain_state self.now) }
         ensures refusal { result_err result ≡ deq_refusal (plain_state self.now) dequeue.now }
         ensures admitted { IfOk result (λ a. IsAdmittedDequeue self.now dequeue.now a) }
         ensures childless { IfOk result (λ a. IsChildless self.now a) }
     {
-        let caller = self.caller(dequeue.pid)?;
+        let caller = self.checked_caller(dequeue.pid)?;
         let flags = checked_flags(dequeue)?;
-        let lkid = self.named(&caller, dequeue.lock)?;
+        let lkid = self.checked_lkid(&caller, dequeue.lock)?;
         let withdrawal = withdrawal_of(lkid, flags, dequeue);
-        let standing = self.own_lock(&caller, lkid)?;
+        let standing = self.checked_lock(&caller, lkid)?;
         let admitted = AdmittedDequeue {
             standing,
             withdrawal,

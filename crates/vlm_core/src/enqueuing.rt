@@ -95,7 +95,7 @@ impl Machine {
         requires { IsBetweenSteps (plain_state self.old) }
         ensures { Outcome (plain_state self.old) (Step.Enq request) (plain_state self.new) result }
     {
-        let admitted = match self.enq_refusal(&request) {
+        let admitted = match self.checked_request(&request) {
             Ok(admitted) => admitted,
             Err(refusal) => return Answer::Plain(refusal),
         };
@@ -110,14 +110,14 @@ impl Machine {
 
     // The checks in their order.
     #[tactic(auto, unfolding(vlm_words::specs::Enqueue::enq_refusal))]
-    fn enq_refusal(&self, request: &NewRequest) -> Result<AdmittedRequest, Cond>
+    fn checked_request(&self, request: &NewRequest) -> Result<AdmittedRequest, Cond>
         requires { IsBetweenSteps (plain_state self.now) }
         ensures refusal { result_err result ≡ enq_refusal (plain_state self.now) request.now }
         ensures admitted { IfOk result (λ a. IsAdmitted self.now request.now a) }
     {
-        let caller = self.caller(request.pid)?;
+        let caller = self.checked_caller(request.pid)?;
         let form = self.checked_form(&caller, request)?;
-        let parent = self.check_site(&caller, form.flags, form.parent)?;
+        let parent = self.checked_site(&caller, form.flags, form.parent)?;
         self.checked_limits(&caller, &form, &parent, request)
     }
 
@@ -131,7 +131,7 @@ impl Machine {
     {
         let flags = checked_flags(request)?;
         self.check_status_block(caller, request.block)?;
-        let parent = self.named(caller, request.parent)?;
+        let parent = self.checked_lkid(caller, request.parent)?;
         let name = checked_name(&request.name)?;
         check_expedite(request.mode, flags)?;
         Ok(Form {

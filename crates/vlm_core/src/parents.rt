@@ -40,7 +40,7 @@ impl Machine {
     /// none of the caller, PARNOTGRANT where it waits, EXDEPTH where it stands on the lowest level,
     /// NOSYSLCK where SYSTEM asks for a root and the caller has not the privilege.
     #[tactic(auto, unfolding(vlm_words::specs::Trees::site_refusal))]
-    pub(crate) fn check_site(
+    pub(crate) fn checked_site(
         &self,
         caller: &Caller,
         flags: EnqFlags,
@@ -53,14 +53,14 @@ impl Machine {
             (λ parent. IsParent caller.now.pid parent self.now.records) }
         ensures named { IfOk result (λ parent. lkid_of parent ≡ lkid) }
     {
-        let parent = self.parent(caller, lkid)?;
+        let parent = self.checked_parent(caller, lkid)?;
         self.check_privilege(caller, flags, lkid)?;
         Ok(parent)
     }
 
     // The parent lock, where it stands; none where 0 is named.
     #[tactic(auto, unfolding(vlm_words::specs::Trees::parent_refusal))]
-    fn parent(&self, caller: &Caller, lkid: u32) -> Result<Option<Standing>, Cond>
+    fn checked_parent(&self, caller: &Caller, lkid: u32) -> Result<Option<Standing>, Cond>
         ensures refusal { result_err result
             ≡ parent_refusal (plain_state self.now) caller.now.pid lkid }
         ensures parent { IfOk result
@@ -71,7 +71,7 @@ impl Machine {
         if lkid == 0 {
             return Ok(None);
         }
-        let parent = self.own_lock(caller, lkid)?;
+        let parent = self.checked_lock(caller, lkid)?;
         self.check_parent(&parent)?;
         Ok(Some(parent))
     }

@@ -22,7 +22,7 @@ impl Machine {
         ensures { Outcome (plain_state self.old) (Step.SetValue setting)
             (plain_state self.new) result }
     {
-        match self.set_refusal(&setting) {
+        match self.checked_setting(&setting) {
             Ok(caller) => {
                 self.set_change(&caller, &setting);
                 Answer::Plain(Cond::Normal)
@@ -33,12 +33,12 @@ impl Machine {
 
     // The checks in their order.
     #[tactic(auto, unfolding(vlm_words::specs::SetValue::set_refusal))]
-    fn set_refusal(&self, setting: &ValueSetting) -> Result<Caller, Cond>
+    fn checked_setting(&self, setting: &ValueSetting) -> Result<Caller, Cond>
         ensures refusal { result_err result ≡ set_refusal (plain_state self.now) setting.now }
         ensures caller { IfOk result (λ caller. IsCaller caller self.now.records) }
         ensures pid { IfOk result (λ caller. caller.pid ≡ setting.now.pid) }
     {
-        let caller = self.caller(setting.pid)?;
+        let caller = self.checked_caller(setting.pid)?;
         self.check_status_block(&caller, setting.block)?;
         Ok(caller)
     }

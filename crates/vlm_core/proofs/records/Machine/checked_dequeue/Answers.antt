@@ -2,7 +2,7 @@ use Rattle.std.proofs.Common.{◌≡◌, sym, ap, ◌∙◌}
 use Rattle.vlm_words.specs.Withdrawals.{Withdrawal}
 use Rattle.vlm_words.specs.Flags.{cancel, has_flag}
 use Rattle.vlm_locks.specs.Withdrawing.{goes}
-use Rattle.vlm_core.proofs.records.Machine.deq_refusal.Goals as goal
+use Rattle.vlm_core.proofs.records.Machine.checked_dequeue.Goals as goal
 
 -- the flag that is checked is that of the withdrawal
 pub returns-clause-childless : goal.returns-clause-childless

@@ -2,7 +2,7 @@ use Rattle.std.proofs.Common.{rules, ◌≡◌, refl}
 use Rattle.vlm_words.specs.Convert.{convert_request}
 use Rattle.vlm_core.specs.Machine.{plain_state}
 use Rattle.vlm_core.proofs.Admitting.{is_admitted, not_admitted}
-use Rattle.vlm_core.proofs.records.Machine.admission_refusal.Goals as goal
+use Rattle.vlm_core.proofs.records.Machine.checked_admission.Goals as goal
 
 -- a lock that is not granted is not admitted
 pub returns-then-not-is_granted-clause-refusal : goal.returns-then-not-is_granted-clause-refusal

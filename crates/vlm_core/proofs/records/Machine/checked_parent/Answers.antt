@@ -2,7 +2,7 @@ use Rattle.std.proofs.Common.{◌≡◌, rules, false, sym, ap, ◌∙◌, ne_eq
 use Rattle.std.specs.Prelude.{◌==◌}
 use Rattle.std.specs.Result.{result_err}
 use Rattle.vlm_core.proofs.Siting.{parent_checked, parent_stands}
-use Rattle.vlm_core.proofs.records.Machine.parent.Goals as goal
+use Rattle.vlm_core.proofs.records.Machine.checked_parent.Goals as goal
 
 pub returns-in_err-check_parent-clause-refusal : goal.returns-in_err-check_parent-clause-refusal
 returns-in_err-check_parent-clause-refusal c =

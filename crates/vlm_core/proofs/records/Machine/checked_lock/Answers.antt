@@ -1,6 +1,6 @@
 use Rattle.std.proofs.Common.{rules}
 use Rattle.vlm_words.specs.Checks.{lock_refusal}
-use Rattle.vlm_core.proofs.records.Machine.own_lock.Goals as goal
+use Rattle.vlm_core.proofs.records.Machine.checked_lock.Goals as goal
 
 pub returns-clause-refusal : goal.returns-clause-refusal
 unfolding lock_refusal
