@@ -2,7 +2,6 @@
 
 ghost use Rattle.std.specs.Prelude.{◌≡◌, ◌+◌, ◌<◌, ◌≤◌, ◌^◌};
 ghost use Rattle.vlm_words.specs.declared.modes.Mode.{Mode};
-ghost use Rattle.vlm_words.specs.Modes.{rank};
 ghost use Rattle.vlm_store.specs.Tallies.{count_of, counts_fit, held_of, held_weight, is_free, is_mode, one_if, wanted_of, wanted_weight};
 
 use vlm_words::locks::{Request, Row};
@@ -17,21 +16,6 @@ pub(crate) struct Tally {
     pub(crate) wanted: [u32; 6],
 }
 
-// The place of a mode among the six.
-fn rank(mode: Mode) -> usize
-    ensures rank { result ≡ rank mode }
-    ensures below { result < 6 }
-{
-    match mode {
-        Mode::Nl => 0,
-        Mode::Cr => 1,
-        Mode::Cw => 2,
-        Mode::Pr => 3,
-        Mode::Pw => 4,
-        Mode::Ex => 5,
-    }
-}
-
 // One more lock holds, or wants, what is asked for.
 fn count_in(counts: &mut [u32; 6], request: &Option<Request>)
     requires { (mode : Mode) → count_of counts.old mode + 1 < 2 ^ 32 }
@@ -39,7 +23,7 @@ fn count_in(counts: &mut [u32; 6], request: &Option<Request>)
         ≡ count_of counts.old mode + one_if (is_mode mode request.now) }
 {
     if let Some(request) = request {
-        counts[rank(request.mode)] += 1;
+        counts[request.mode.rank()] += 1;
     }
 }
 
@@ -50,7 +34,7 @@ fn count_out(counts: &mut [u32; 6], request: &Option<Request>)
         ≡ count_of counts.old mode }
 {
     if let Some(request) = request {
-        counts[rank(request.mode)] -= 1;
+        counts[request.mode.rank()] -= 1;
     }
 }
 
@@ -110,7 +94,7 @@ impl Tally {
     fn is_free(&self, mode: Mode, held: Mode) -> bool
         ensures { result ≡ is_free mode (held_of self.now) held }
     {
-        self.held[rank(held)] == 0 || compatible(mode, held)
+        self.held[held.rank()] == 0 || compatible(mode, held)
     }
 
     /// Whether the mode is compatible with every mode that is held.

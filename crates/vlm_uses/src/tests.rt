@@ -2,6 +2,7 @@
 
 mod faults;
 mod lists;
+mod modes;
 mod records;
 mod refusals;
 mod retries;

@@ -1,8 +1,8 @@
 //! The faults that end a run, as they display.
 
 use std::process::Abort;
-use vlm_script::PlayFault;
 use vlm_lines::LineFault;
+use vlm_script::PlayFault;
 
 fn check<R: Abort + AllocGlobal>(rt: &R, fault: &PlayFault, text: &str) {
     let shown = format!(in rt.alloc(); "{fault}").expect(rt, "memory");
