@@ -91,7 +91,7 @@ module _ (s : Records) (sound : IsSound s) (none_loose : s.loose ≡ []) (f : St
       none_stored at row there is =
           let parent = sound.owned.named at row there (λ zero. named (sym is ∙ zero)) in
           let same : parent.1.at ≡ f.lock =
-          sound.lkids_apart parent.1.at f.lock parent.2 f.row parent.3.3 (stored s sound f standing) (parent.3.4 ∙ is) in
+          sound.lkids_apart parent.1.at f.lock parent.2 f.row parent.3.3 (stored s f standing) (parent.3.4 ∙ is) in
           subst (IsIn at) (childless parent.0 parent.1 parent.3.0 parent.3.1 same) parent.3.2
 
       none_on : (r : StoredResource) → IsResourceAmong r s.resources → (queue : Queue) → has_sublock f.row.lkid (rows_of (queued queue r)) ≡ false
@@ -112,7 +112,7 @@ module _ (s : Records) (sound : IsSound s) (none_loose : s.loose ≡ []) (f : St
   sublock_stored p own at among here same is_in =
       let below = sound.owned.below p own at among here is_in in
       let up : below.0 ≡ f.row =
-      one_lock s sound f.lock below.0 f.row (subst (λ x. Stores s x below.0) same below.2.0) (stored s sound f standing) in
+      one_lock s sound f.lock below.0 f.row (subst (λ x. Stores s x below.0) same below.2.0) (stored s f standing) in
       (below.1, (below.2.1, below.2.2 ∙ ap (λ (x : Row). x.lkid) up))
 
   -- where no row of all names the lock as its parent, it has no sublocks
@@ -141,7 +141,7 @@ module _ (s : Records) (sound : IsSound s) (none_loose : s.loose ≡ []) (f : St
   -- no lock has the identification 0
   pub not_zero : sum_by (rows_on 0) (plain_resources s) ≡ 0 → f.row.lkid ≢ 0
   not_zero none is =
-      let there = in_queue s none_loose f.lock f.row (stored s sound f standing) in
+      let there = in_queue s none_loose f.lock f.row (stored s f standing) in
       let one = counted_on 0 there.resource there.queue (record { at = f.lock; row = f.row }) there.among is in
       let all = counted_all 0 s.resources there.resource there.there in
       absurd (omega (arith, one, all, none))
@@ -182,7 +182,7 @@ module _ (s : Records) (sound : IsSound s) (none_loose : s.loose ≡ []) (f : St
         | inl here ↦ (let held = held_stands r (within r (inl refl)) f.row.lkid pid here.1 in
             let k : StoredLock = held.0 in
             let is_stored : Stores s k.at k.row = queued_stored s sound r (within r (inl refl)) held.1 k held.2.0 in
-            let same : k.at ≡ f.lock = sound.lkids_apart k.at f.lock k.row f.row is_stored (stored s sound f standing) held.2.2 in
+            let same : k.at ≡ f.lock = sound.lkids_apart k.at f.lock k.row f.row is_stored (stored s f standing) held.2.2 in
             let there : IsAmong (record { at = f.lock; row = k.row }) (locks_at (Queued r.at held.1) s) =
             subst (λ x. IsAmong (record { at = x; row = k.row }) (locks_at (Queued r.at held.1) s)) same
             (subst (IsAmong k) (sym (queue_at s sound r (within r (inl refl)) held.1)) held.2.0) in

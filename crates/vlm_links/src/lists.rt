@@ -34,7 +34,7 @@ pub trait Linked<Kind> {
 
 /// A list of one kind: its ends, and how many records stand in it. The records and their links stand in
 /// a slab, and each call is given the slab.
-#[derive(Clone, Copy)]
+#[derive_where(Clone, Copy)]
 pub struct LinkedList<Kind> {
     first: Link,
     last: Link,

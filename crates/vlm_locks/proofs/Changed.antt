@@ -101,7 +101,7 @@ module _ (s : Records) (sound : IsSound s) (f : Standing) (standing : IsStanding
       let each : (queue : Queue) → without_lock f.lock (queued queue x) ≡ queued queue x =
       λ queue.
       ap (without_lock f.lock) (sym (queue_at s sound x among queue))
-      ∙ unmoved s f.lock f.row (Queued f.res f.queue) sound (stands s sound f standing) (Queued x.at queue) (λ e. differs (cc))
+      ∙ unmoved s f.lock f.row (Queued f.res f.queue) sound (stands s f standing) (Queued x.at queue) (λ e. differs (cc))
       ∙ queue_at s sound x among queue
       in
       rw (each Granted, each Conversion, each Waiting) refl
@@ -122,7 +122,7 @@ module _ (s : Records) (sound : IsSound s) (f : Standing) (standing : IsStanding
               ∙ sym (ap (λ b. cond b (resource_with (leaving f.lock) standing.resource) x) (eq-eqb x.at f.res same))
           | inr other ↦ stays x among other ∙ sym (ap (λ b. cond b (resource_with (leaving f.lock) standing.resource) x) (ne_eqb x.at f.res other))
         ]);
-    loose = unmoved s f.lock f.row (Queued f.res f.queue) sound (stands s sound f standing) Loose (λ e. cc);
+    loose = unmoved s f.lock f.row (Queued f.res f.queue) sound (stands s f standing) Loose (λ e. cc);
     processes = refl;
   }
 

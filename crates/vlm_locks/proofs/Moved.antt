@@ -31,7 +31,7 @@ module _ (s : Records) (sound : IsSound s) (f : Standing) (standing : IsStanding
       ap (λ b. cond b (without_lock f.lock (queued queue x) ++ record { at = f.lock; row = row } ∷ []) (without_lock f.lock (queued queue x)))
       (is_place-other (Queued x.at queue) (Queued f.res to) (λ e. differs (cc)))
       ∙ ap (without_lock f.lock) (sym (queue_at s sound x among queue))
-      ∙ unmoved s f.lock f.row (Queued f.res f.queue) sound (stands s sound f standing) (Queued x.at queue) (λ e. differs (cc))
+      ∙ unmoved s f.lock f.row (Queued f.res f.queue) sound (stands s f standing) (Queued x.at queue) (λ e. differs (cc))
       ∙ queue_at s sound x among queue
       in
       rw (each Granted, each Conversion, each Waiting) refl
@@ -49,7 +49,7 @@ module _ (s : Records) (sound : IsSound s) (f : Standing) (standing : IsStanding
         | inr other ↦ stays x among other ∙ sym (ap (λ b. cond b (moved_in f row to standing.resource) x) (ne_eqb x.at f.res other))
       ]))
       ∙ ap (λ x. record s { resources = on_resource f.res (λ x. moved_in f row to standing.resource) s.resources; loose = x })
-      (unmoved s f.lock f.row (Queued f.res f.queue) sound (stands s sound f standing) Loose (λ e. cc))
+      (unmoved s f.lock f.row (Queued f.res f.queue) sound (stands s f standing) Loose (λ e. cc))
 
   own_at : standing.resource.at ≡ f.res
   own_at = resource_at-at f.res s.resources standing.resource standing.found

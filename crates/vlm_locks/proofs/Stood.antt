@@ -41,6 +41,15 @@ one_row (k ∷ rest) apart a b in_a in_b same =
 pub owner_is : (s : Records) (owner : ℕ) (given row : Row) → row ≡ given → IsProcess owner given.pid s → IsProcess owner row.pid s
 owner_is s owner given row same is = subst (λ (x : Row). IsProcess owner x.pid s) (sym same) is
 
+module _ (s : Records) (f : Standing) (standing : IsStanding f s) where
+  -- where it stands
+  pub stands : IsAmong (record { at = f.lock; row = f.row }) (locks_at (Queued f.res f.queue) s)
+  stands = subst (IsAmong (record { at = f.lock; row = f.row })) (sym (ap (λ o. option_map_or (queued f.queue) o []) standing.found)) standing.among
+
+  -- it is stored
+  pub stored : Stores s f.lock f.row
+  stored = (Queued f.res f.queue, stands)
+
 module _ (s : Records) (sound : IsSound s) where
   -- a lock of a queue is stored
   pub queued_stored : (r : StoredResource) → IsResourceAmong r s.resources → (queue : Queue) (k : StoredLock) → IsAmong k (queued queue r) → Stores s k.at k.row
@@ -65,28 +74,21 @@ module _ (s : Records) (sound : IsSound s) where
     pub own_among : IsResourceAmong own s.resources
     own_among = resource_among f.res s.resources own standing.found
 
-    -- where it stands
-    pub stands : IsAmong lock (locks_at (Queued f.res f.queue) s)
-    stands = subst (IsAmong lock) (sym (ap (λ o. option_map_or (queued f.queue) o []) standing.found)) standing.among
-
-    pub stored : Stores s f.lock f.row
-    stored = (Queued f.res f.queue, stands)
-
     -- no other lock has its key, or its identification
     pub only : (r : StoredResource) → IsResourceAmong r s.resources → (queue : Queue) → IsOnly lock (queued queue r)
     only r among queue k here = (by_lkid, by_key)
       where
         by_key : k.at ≡ f.lock → k ≡ lock
         by_key same =
-            ap (λ (x : Row). record { at = k.at; row = x }) (one_lock k.at k.row f.row (queued_stored r among queue k here) (subst (λ x. Stores s x f.row) (sym same) stored))
+            ap (λ (x : Row). record { at = k.at; row = x }) (one_lock k.at k.row f.row (queued_stored r among queue k here) (subst (λ x. Stores s x f.row) (sym same) (stored s f standing)))
             ∙ ap (λ x. record { at = x; row = f.row }) same
 
         by_lkid : k.row.lkid ≡ f.row.lkid → k ≡ lock
-        by_lkid same = by_key (sound.lkids_apart k.at f.lock k.row f.row (queued_stored r among queue k here) stored same)
+        by_lkid same = by_key (sound.lkids_apart k.at f.lock k.row f.row (queued_stored r among queue k here) (stored s f standing) same)
 
     -- it stands in no other queue
     pub absent : (r : StoredResource) → IsResourceAmong r s.resources → (queue : Queue) → Queued r.at queue ≢ Queued f.res f.queue → IsAbsent f.row.lkid (queued queue r)
     absent r among queue differs k here same =
         let is : k ≡ lock = (only r among queue k here).0 same in
         let there : IsAmong lock (locks_at (Queued r.at queue) s) = subst (λ x. IsAmong x (locks_at (Queued r.at queue) s)) is (subst (IsAmong k) (sym (queue_at s sound r among queue)) here) in
-        differs (sound.one_place f.lock f.row f.row (Queued r.at queue) (Queued f.res f.queue) there stands)
+        differs (sound.one_place f.lock f.row f.row (Queued r.at queue) (Queued f.res f.queue) there (stands s f standing))

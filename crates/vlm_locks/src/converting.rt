@@ -16,6 +16,7 @@ use crate::finding::Standing;
 use crate::grants::granted_row;
 use vlm_procs::accept;
 use vlm_queue::{can_hold, is_empty};
+use vlm_store::laws::law_records_are_sound;
 use vlm_store::{Place, Store};
 use vlm_words::flags::EnqFlags;
 use vlm_words::locks::{Request, Row};
@@ -30,7 +31,7 @@ fn fits_others(store: &Store, standing: &Standing, mode: Mode) -> bool
         → result ≡ fits mode (rows_without standing.now.row.lkid (rows_of r.granted))
         (rows_of r.converting) }
 {
-    store.known();
+    law_records_are_sound(store);
     can_hold(store, standing.res, mode, Some(standing.lock))
 }
 
@@ -66,7 +67,6 @@ fn convert_now(store: &mut Store, standing: &Standing, row: &Row)
         (λ r. IsGrantedAtOnce standing.now row.now r store.old store.new) }
     ensures locks { OtherLocksStay standing.now.lock store.old store.new }
 {
-    store.known();
     let owner = store.lock_record(standing.lock).owner;
     let mut value_block = store.resource_record(standing.res).value_block;
     let granted = Place::Queued(standing.res, Queue::Granted);
@@ -85,7 +85,7 @@ fn convert_later(store: &mut Store, standing: &Standing, row: Row)
     ensures statuses { plain_processes store.new ≡ plain_processes store.old }
     ensures locks { OtherLocksStay standing.now.lock store.old store.new }
 {
-    store.known();
+    law_records_are_sound(store);
     let queued = Place::Queued(standing.res, Queue::Conversion);
     store.move_lock(standing.lock, row, queued);
 }
@@ -107,7 +107,7 @@ fn convert_accepted(store: &mut Store, standing: &Standing, asked: &Request, at_
     ensures there { HasResource standing.now.res store.new }
     ensures rest { IsAtRest store.new }
 {
-    store.known();
+    law_records_are_sound(store);
     let row = wanting_row(standing.row, asked);
     if at_once {
         convert_now(store, standing, &row);
@@ -134,7 +134,6 @@ pub fn convert(store: &mut Store, standing: &Standing, asked: &Request, at_once:
     ensures there { HasResource standing.now.res store.new }
     ensures rest { IsAtRest store.new }
 {
-    store.known();
     let owner = store.lock_record(standing.lock).owner;
     accept(store, owner, asked.block, standing.row.lkid);
     convert_accepted(store, standing, asked, at_once);

@@ -14,6 +14,7 @@ use crate::grants::granted_row;
 use std::alloc::AllocError;
 use vlm_procs::accept;
 use vlm_queue::{can_hold, is_empty};
+use vlm_store::laws::law_records_are_sound;
 use vlm_store::{LockAt, Place, ProcAt, ResAt, Store};
 use vlm_words::flags::EnqFlags;
 use vlm_words::locks::{Request, Row};
@@ -64,9 +65,9 @@ fn enter_at(store: &mut Store, entry: &Entry, res: ResAt) -> Result<(), AllocErr
     ensures succeeds { HasRoomForLock store.old → IsOk result }
     ensures err { OnErr result (IsUnchanged store.old store.new) }
 {
-    store.known();
+    law_records_are_sound(store);
     let lock = store.add_lock(entry.row, entry.owner, entry.parent)?;
-    store.known();
+    law_records_are_sound(store);
     if entry.at_once {
         let granted = Place::Queued(res, Queue::Granted);
         store.move_lock(lock, granted_row(entry.row), granted);

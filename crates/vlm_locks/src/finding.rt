@@ -49,7 +49,6 @@ pub fn standing_of(store: &Store, lock: LockAt) -> Option<Standing>
     ensures row { IfSome result (λ f. Stores store.now lock f.row) }
     ensures only { IfSome result (λ f. (row : Row) → Stores store.now lock row → row ≡ f.row) }
 {
-    store.known();
     let record = store.lock_record(lock);
     match record.place {
         Place::Queued(res, queue) => Some(Standing {
@@ -69,7 +68,6 @@ pub fn find_lock(store: &Store, pid: u32, lkid: u32) -> Option<Standing>
     ensures held { is_some result ≡ list_any (holds_lock pid lkid) (plain_resources store.now) }
     ensures standing { IfSome result (λ f. IsStandingOf pid lkid f store.now) }
 {
-    store.known();
     let lock = store.lock(lkid)?;
     let standing = standing_of(store, lock)?;
     if standing.row.pid == pid {

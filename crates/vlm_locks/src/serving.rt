@@ -11,6 +11,7 @@ ghost use Rattle.vlm_locks.specs.Serving.{IsServed, IsServiceOf, service_from, w
 use crate::endings::end_by_grant;
 use crate::grants::granted_row;
 use vlm_queue::{can_hold, head};
+use vlm_store::laws::law_records_are_sound;
 use vlm_store::{LockAt, Place, ResAt, Store};
 use vlm_words::locks::{Request, Row};
 use vlm_words::resources::{Queue, ValueBlock};
@@ -53,9 +54,8 @@ fn serve_queue(value_block: &mut ValueBlock, store: &mut Store, res: ResAt, queu
     ensures { IsServiceOf (service_from queue) res
         value_block.old store.old value_block.new store.new }
 {
-    store.known();
+    law_records_are_sound(store);
     while let Some(lock) = head(store, res, queue) {
-        store.known();
         let row = store.lock_record(lock).row;
         if !wanted_fits(store, res, lock, row.want) {
             break;
@@ -84,7 +84,6 @@ pub(crate) fn serve(store: &mut Store, res: ResAt)
     ensures served { IsServed res store.old store.new }
     ensures there { HasResource res store.new }
 {
-    store.known();
     let mut value_block = store.resource_record(res).value_block;
     serve_queues(&mut value_block, store, res);
     store.set_value_block(res, value_block);

@@ -10,6 +10,7 @@ ghost use Rattle.vlm_locks.specs.Sweeping.{AreSettledBut, IsSwept, Parted, Stand
 
 use crate::serving::serve;
 use vlm_queue::is_idle;
+use vlm_store::laws::law_records_are_sound;
 use vlm_store::{ResAt, Store};
 use vlm_words::laws::law_a_sweep_touches_only_what_is_not_settled;
 
@@ -18,7 +19,7 @@ fn sweep_one(store: &mut Store, res: ResAt)
     requires { HasResource res store.old }
     ensures { (was : Parted res store.old.resources) → IsSwept res store.old store.new was }
 {
-    store.known();
+    law_records_are_sound(store);
     serve(store, res);
     if is_idle(store, res) {
         store.remove_resource(res);
@@ -44,7 +45,7 @@ pub fn sweep(store: &mut Store, touched: &[ResAt])
     ensures rest { IsAtRest store.new }
 {
     law_a_sweep_touches_only_what_is_not_settled();
-    store.known();
+    law_records_are_sound(store);
     for res in touched {
         sweep_one(store, *res);
     }

@@ -14,6 +14,7 @@ ghost use Rattle.vlm_locks.specs.Withdrawing.{IsChange, goes, may_write, owned_a
 use crate::finding::Standing;
 use crate::withdrawals::{End, Withdrawal};
 use vlm_procs::end;
+use vlm_store::laws::law_records_are_sound;
 use vlm_store::{Place, Store};
 use vlm_words::locks::{Request, Row};
 use vlm_words::modes::Mode;
@@ -26,7 +27,6 @@ fn end_request(store: &mut Store, standing: &Standing, ended: End)
         (row_endings (how_ended ended) false standing.now.row) (plain_processes store.old) }
     ensures rest { SameButBlocks store.old store.new }
 {
-    store.known();
     let Some(request) = standing.row.want else {
         return;
     };
@@ -44,7 +44,7 @@ fn end_withdrawn(store: &mut Store, standing: &Standing, withdrawal: &Withdrawal
         (plain_processes store.old) }
     ensures rest { SameButBlocks store.old store.new }
 {
-    store.known();
+    law_records_are_sound(store);
     match standing.queue {
         Queue::Granted => {}
         Queue::Conversion => end_request(store, standing, withdrawal.converting),
@@ -98,7 +98,7 @@ fn leave(store: &mut Store, standing: &Standing, withdrawal: &Withdrawal)
     ensures locks { OtherLocksStay standing.now.lock store.old store.new }
     ensures own_locks { store.new.processes ≡ store.old.processes }
 {
-    store.known();
+    law_records_are_sound(store);
     if may_write(standing) {
         let block = store.resource_record(standing.res).value_block;
         store.set_value_block(standing.res, block_after_writer(block, withdrawal));
@@ -116,7 +116,7 @@ fn remove(store: &mut Store, standing: &Standing)
     ensures own_locks { store.new.processes
         ≡ owned_after true standing.now.lock store.old.processes }
 {
-    store.known();
+    law_records_are_sound(store);
     store.remove_lock(standing.lock);
 }
 
@@ -130,7 +130,7 @@ fn grant_again(store: &mut Store, standing: &Standing)
     ensures locks { OtherLocksStay standing.now.lock store.old store.new }
     ensures own_locks { store.new.processes ≡ store.old.processes }
 {
-    store.known();
+    law_records_are_sound(store);
     let row = Row {
         want: None,
         ..standing.row
@@ -154,7 +154,7 @@ fn cancel(store: &mut Store, standing: &Standing)
     ensures own_locks { store.new.processes
         ≡ owned_after (goes true standing.now.queue) standing.now.lock store.old.processes }
 {
-    store.known();
+    law_records_are_sound(store);
     match standing.queue {
         Queue::Granted => {}
         Queue::Conversion => grant_again(store, standing),

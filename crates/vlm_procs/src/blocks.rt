@@ -5,6 +5,7 @@ ghost use Rattle.vlm_words.specs.StatusBlocks.{processes_after_acceptance, proce
 ghost use Rattle.vlm_words.specs.ValueBlocks.{return_status};
 ghost use Rattle.vlm_store.specs.Records.{HasProcess, IsProcess, SameButBlocks, plain_processes};
 
+use vlm_store::laws::law_records_are_sound;
 use vlm_store::{ProcAt, Store};
 use vlm_words::blocks::Block;
 use vlm_words::conditions::Cond;
@@ -16,7 +17,6 @@ fn status_blocks(store: &Store, at: ProcAt) -> &[Block]
     ensures { (pid : ℕ) → IsProcess at pid store.now → result.now
         ≡ status_blocks_of (plain_processes store.now) pid }
 {
-    store.known();
     &store.process_record(at).blocks
 }
 
@@ -27,7 +27,7 @@ fn write(store: &mut Store, at: ProcAt, number: u8, block: Block)
         ≡ processes_after_write pid number block (plain_processes store.old) }
     ensures rest { SameButBlocks store.old store.new }
 {
-    store.known();
+    law_records_are_sound(store);
     store.set_status_block(at, number, block);
 }
 

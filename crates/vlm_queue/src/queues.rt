@@ -6,7 +6,7 @@ ghost use Rattle.std.specs.Option.{ForSome};
 ghost use Rattle.vlm_words.specs.declared.locks.Row.{Row};
 ghost use Rattle.vlm_words.specs.Grants.{is_empty};
 ghost use Rattle.vlm_store.specs.declared.keys.Place.{Place};
-ghost use Rattle.vlm_store.specs.Records.{HasResource, IsAmong, IsIdle, IsStored, Stores, at_after, first_at, fits_beside, locks_at, moving, queued, resource_at, rows_of, with_lists};
+ghost use Rattle.vlm_store.specs.Records.{HasResource, IsAmong, IsIdle, IsSound, IsStored, Stores, at_after, first_at, fits_beside, locks_at, moving, queued, resource_at, rows_of, with_lists};
 
 use vlm_store::{LockAt, Place, ResAt, Store};
 use vlm_words::modes::Mode;
@@ -17,6 +17,7 @@ pub fn head(store: &Store, res: ResAt, queue: Queue) -> Option<LockAt>
     requires { HasResource res store.now }
     ensures first { result ≡ first_at (locks_at (Place.Queued res queue) store.now) }
     ensures stored { IfSome result (λ lock. IsStored lock store.now) }
+    ensures sound { IsSound store.now }
 {
     store.first(Place::Queued(res, queue))
 }

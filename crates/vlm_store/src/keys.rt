@@ -1,95 +1,56 @@
-//! The keys of records, and where a lock stands.
+//! The handles of records, and where a lock stands.
 
 ghost use Rattle.std.specs.Prelude.{◌≡◌, ◌≤◌};
 
-use std::marker::Model;
+use std::marker::{Model, PhantomData};
 use vlm_links::LAST_KEY;
 use vlm_words::resources::Queue;
 
-/// The key of a lock record.
-#[derive(Clone, Copy, Debug, PartialEq, Eq)]
-pub struct LockAt {
+/// The handle of a record of one kind: its place in the slab of these. It is good until its record is
+/// removed; then it may be given to another.
+#[derive_where(Clone, Copy, Debug, PartialEq, Eq)]
+pub struct At<Kind> {
     at: u32,
+    kind: PhantomData<Kind>,
 }
 
-impl Model for LockAt {
+/// The kind of a handle of a lock.
+pub struct LockKind;
+
+/// The kind of a handle of a resource.
+pub struct ResourceKind;
+
+/// The kind of a handle of a living process.
+pub struct ProcessKind;
+
+/// The handle of a lock record.
+pub type LockAt = At<LockKind>;
+
+/// The handle of a resource record.
+pub type ResAt = At<ResourceKind>;
+
+/// The handle of a process record.
+pub type ProcAt = At<ProcessKind>;
+
+impl<Kind> Model for At<Kind> {
     ghost use Rattle.std.specs.Prelude.{ℕ};
 
     ghost Value = { ℕ };
 
     ghost view = { λ k. k.at };
 
-    ghost inverse = { λ at. record { at = at } };
+    ghost inverse = { λ at. record { at = at; kind = record {} } };
 }
 
-impl LockAt {
+impl<Kind> At<Kind> {
     pub(crate) fn of(slot: usize) -> Self
         requires { slot ≤ LAST_KEY }
         ensures { result ≡ slot }
     {
-        LockAt { at: slot as u32 }
-    }
-
-    pub(crate) fn slot(self) -> usize
-        ensures { result ≡ self }
-    {
-        self.at as usize
-    }
-}
-
-/// The key of a resource record.
-#[derive(Clone, Copy, Debug, PartialEq, Eq)]
-pub struct ResAt {
-    at: u32,
-}
-
-impl Model for ResAt {
-    ghost use Rattle.std.specs.Prelude.{ℕ};
-
-    ghost Value = { ℕ };
-
-    ghost view = { λ k. k.at };
-
-    ghost inverse = { λ at. record { at = at } };
-}
-
-impl ResAt {
-    pub(crate) fn of(slot: usize) -> Self
-        requires { slot ≤ LAST_KEY }
-        ensures { result ≡ slot }
-    {
-        ResAt { at: slot as u32 }
-    }
-
-    pub(crate) fn slot(self) -> usize
-        ensures { result ≡ self }
-    {
-        self.at as usize
-    }
-}
-
-/// The key of a process record.
-#[derive(Clone, Copy, Debug, PartialEq, Eq)]
-pub struct ProcAt {
-    at: u32,
-}
-
-impl Model for ProcAt {
-    ghost use Rattle.std.specs.Prelude.{ℕ};
-
-    ghost Value = { ℕ };
-
-    ghost view = { λ k. k.at };
-
-    ghost inverse = { λ at. record { at = at } };
-}
-
-impl ProcAt {
-    pub(crate) fn of(slot: usize) -> Self
-        requires { slot ≤ LAST_KEY }
-        ensures { result ≡ slot }
-    {
-        ProcAt { at: slot as u32 }
+        At {
+            at: slot as u32,
+            kind: PhantomData,
+        }
     }
 
     pub(crate) fn slot(self) -> usize

@@ -1,4 +1,5 @@
-//! What holds of the store's calls together. The functions do nothing: their contracts are the laws.
+//! What holds of the records, and of the store's calls together. The functions do nothing: their contracts
+//! are the laws.
 
 ghost use Rattle.std.specs.Prelude.{◌≡◌, ℕ, Option, [], ◌∷◌, ◌++◌};
 ghost use Rattle.vlm_words.specs.declared.locks.Row.{Row};
@@ -7,6 +8,17 @@ ghost use Rattle.vlm_words.specs.declared.resources.Site.{Site};
 ghost use Rattle.vlm_words.specs.declared.steps.Declaration.{Declaration};
 ghost use Rattle.vlm_store.specs.declared.keys.Place.{Place};
 ghost use Rattle.vlm_store.specs.Records.{Records, HasProcess, HasResource, IsAmong, IsSound, IsStored, joined_by, moving, new_resource, new_stored_process, on_resource, with_lists, with_new_lock, without_lock, without_process, without_resource, without_stored_lock};
+
+use crate::store::Store;
+
+/// Each handle is that of one record, no lock stands at two places, no two locks have one identification and
+/// no two resources one key, and the locks of a process are those that name it. The readers say so too; this
+/// says it where a step reads nothing.
+pub fn law_records_are_sound(store: &Store)
+    ensures { IsSound store.now }
+{
+    let _queues = &store.queues;
+}
 
 /// A lock, a resource or a process that was not there is added and removed again: all is as it was.
 pub fn law_removal_undoes_an_addition()

@@ -15,7 +15,7 @@ mod resources;
 mod store;
 mod tallies;
 
-pub use keys::{LockAt, Place, ProcAt, ResAt};
+pub use keys::{At, LockAt, LockKind, Place, ProcAt, ProcessKind, ResAt, ResourceKind};
 pub use locks::Lock;
 pub use processes::{Authorization, Process};
 pub use resources::Resource;

@@ -7,15 +7,12 @@ use vlm_links::{Linked, LinkedList, Links};
 use vlm_words::locks::Row;
 
 /// The lists of locks that are queues, and that of the loose locks.
-#[derive(Clone, Copy)]
 pub(crate) struct InQueue;
 
 /// The list of the locks of a process, in order of making.
-#[derive(Clone, Copy)]
 pub(crate) struct OfProcess;
 
 /// The list of the locks below a lock, in order of making.
-#[derive(Clone, Copy)]
 pub(crate) struct OfParent;
 
 /// A lock, and where it stands.

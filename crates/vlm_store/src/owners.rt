@@ -4,7 +4,7 @@ ghost use Rattle.std.specs.Prelude.{◌≡◌, ℕ, [], ◌∷◌, ◌++◌, len
 ghost use Rattle.std.specs.Bool.{OnFalse, OnTrue};
 ghost use Rattle.vlm_words.specs.Declare.{new_process};
 ghost use Rattle.vlm_words.specs.StatusBlocks.{new_status_block, process_with_block};
-ghost use Rattle.vlm_store.specs.Records.{FindsProcess, HasNoLocks, HasNoSublocks, HasProcess, HasRoomForProcess, IsGivenBack, IsNewProcess, IsProcess, IsStored, IsTaken, IsUnchanged, authorization_of, new_stored_process, on_process, own_at, owned_by, process_at, with_process_room, without_process};
+ghost use Rattle.vlm_store.specs.Records.{FindsProcess, HasNoLocks, HasNoSublocks, HasProcess, HasRoomForProcess, IsGivenBack, IsNewProcess, IsProcess, IsSound, IsStored, IsTaken, IsUnchanged, authorization_of, new_stored_process, on_process, own_at, owned_by, process_at, with_process_room, without_process};
 
 use crate::growth::reserve_one;
 use crate::keys::{LockAt, ProcAt};
@@ -19,6 +19,7 @@ impl Store {
     pub fn process(&self, pid: u32) -> Option<ProcAt>
         ensures found { FindsProcess self.now pid result }
         ensures there { IfSome result (λ at. HasProcess at self.now) }
+        ensures sound { IsSound self.now }
     {
         self.process_index.get(&pid).copied()
     }
@@ -77,6 +78,7 @@ impl Store {
             (λ p. result.now.authorization ≡ authorization_of p.process) }
         ensures blocks { IfSome (process_at at self.now.processes)
             (λ p. result.now.blocks.items ≡ p.process.blocks) }
+        ensures sound { IsSound self.now }
     {
         &self.processes[at.slot()]
     }

@@ -15,7 +15,6 @@ use vlm_links::{LAST_KEY, Linked, LinkedList, Links};
 use vlm_words::resources::{Domain, Key, Queue, Site, ValueBlock};
 
 /// The list of the resources, and that of the processes, in order of making.
-#[derive(Clone, Copy)]
 pub(crate) struct InOrder;
 
 /// A resource with its queues.

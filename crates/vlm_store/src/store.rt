@@ -90,7 +90,8 @@ impl Store {
 
     /// Where the lock of this identification is.
     pub fn lock(&self, lkid: u32) -> Option<LockAt>
-        ensures { FindsLock self.now lkid result }
+        ensures found { FindsLock self.now lkid result }
+        ensures sound { IsSound self.now }
     {
         self.lock_index.get(&lkid).copied()
     }
@@ -99,6 +100,7 @@ impl Store {
     pub fn resource(&self, key: &Key) -> Option<ResAt>
         ensures found { FindsResource self.now key.now result }
         ensures there { IfSome result (λ res. HasResource res self.now) }
+        ensures sound { IsSound self.now }
     {
         self.resource_index.get(key).copied()
     }
@@ -112,6 +114,7 @@ impl Store {
             (locks_at result.now.place self.now) }
         ensures there { HasPlace result.now.place self.now }
         ensures owner { IsProcess result.now.owner result.now.row.pid self.now }
+        ensures sound { IsSound self.now }
     {
         &self.queues.locks[lock.slot()]
     }
@@ -211,7 +214,8 @@ impl Store {
     /// The key of the first lock at a place, if there is one.
     pub fn first(&self, place: Place) -> Option<LockAt>
         requires { HasPlace place self.now }
-        ensures { result ≡ first_at (locks_at place self.now) }
+        ensures first { result ≡ first_at (locks_at place self.now) }
+        ensures sound { IsSound self.now }
     {
         let at = self.queues.list(place).first(&self.queues.locks)?;
         Some(LockAt::of(at))
@@ -238,7 +242,8 @@ impl Store {
 
     /// The key of the first resource in order of making, if there is one.
     pub fn first_resource(&self) -> Option<ResAt>
-        ensures { result ≡ first_resource_at self.now.resources }
+        ensures first { result ≡ first_resource_at self.now.resources }
+        ensures sound { IsSound self.now }
     {
         let at = self.order.first(&self.queues.resources)?;
         Some(ResAt::of(at))
@@ -265,6 +270,7 @@ impl Store {
             (λ r. result.now.level ≡ r.level) }
         ensures value_block { IfSome (resource_at res self.now.resources)
             (λ r. result.now.value_block ≡ r.value_block) }
+        ensures sound { IsSound self.now }
     {
         &self.queues.resources[res.slot()]
     }
@@ -303,13 +309,5 @@ impl Store {
             ≡ fits_beside mode own r) }
     {
         self.queues.fits(res, mode, own)
-    }
-
-    /// Each key is that of one record, no lock stands at two places, and no two locks have one
-    /// identification, no two resources one key.
-    pub fn known(&self)
-        ensures { IsSound self.now }
-    {
-        let _queues = &self.queues;
     }
 }

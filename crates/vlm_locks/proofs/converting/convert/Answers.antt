@@ -12,14 +12,14 @@ use Rattle.vlm_locks.proofs.converting.convert.Goals as goal
 pub lock_record-requires : goal.lock_record-requires
 lock_record-requires c =
     let f = c.args.standing.now in
-    (f.row, stored c.args.store.now c.known.ensures f c.requires.standing)
+    (f.row, stored c.args.store.now f c.requires.standing)
 
 pub accept-requires : goal.accept-requires
 accept-requires c =
     let s = c.args.store.now in
     let f = c.args.standing.now in
     process_there s c.lock_record.result.now.owner f.row.pid
-    (owner_is s c.lock_record.result.now.owner c.lock_record.result.now.row f.row (c.lock_record.ensures.only f.row (stored s c.known.ensures f c.requires.standing)) c.lock_record.ensures.owner)
+    (owner_is s c.lock_record.result.now.owner c.lock_record.result.now.row f.row (c.lock_record.ensures.only f.row (stored s f c.requires.standing)) c.lock_record.ensures.owner)
 
 pub convert_accepted-requires-clause-rest : goal.convert_accepted-requires-clause-rest
 convert_accepted-requires-clause-rest c = rests_still c.args.store.now c.accept.new.store c.accept.ensures.rest c.requires.rest
@@ -37,7 +37,7 @@ returns-clause-converted c =
     let s = c.args.store.now in
     let f = c.args.standing.now in
     let lives : IsProcess c.lock_record.result.now.owner f.row.pid s =
-    owner_is s c.lock_record.result.now.owner c.lock_record.result.now.row f.row (c.lock_record.ensures.only f.row (stored s c.known.ensures f c.requires.standing)) c.lock_record.ensures.owner in
+    owner_is s c.lock_record.result.now.owner c.lock_record.result.now.row f.row (c.lock_record.ensures.only f.row (stored s f c.requires.standing)) c.lock_record.ensures.owner in
     converted_accepted f c.args.asked.now s c.accept.new.store c.convert_accepted.new.store c.accept.ensures.rest (c.accept.ensures.written f.row.pid lives) c.convert_accepted.ensures.converted
 
 pub returns-clause-others : goal.returns-clause-others

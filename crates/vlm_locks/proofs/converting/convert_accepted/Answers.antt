@@ -24,7 +24,7 @@ returns-then-at_once-clause-converted c =
     (subst (λ o. IfSome o (λ r. IsGrantedAtOnce f c.wanting_row-row.result r s new)) standing.found c.convert_now.ensures.granted) in
     let at_once = subst (λ o. IfSome o (λ r. c.args.at_once ≡ converts_at_once asked f.row.lkid (plain_resource r))) standing.found c.requires.at_once in
     subst (λ o. IfSome o (λ r. IsConverted f asked (plain_processes s) r s new)) (sym standing.found)
-    (converted_now s c.known.ensures f standing asked new c.requires.granted (sym at_once ∙ c.if-at_once.true) done)
+    (converted_now s c.law_records_are_sound.ensures f standing asked new c.requires.granted (sym at_once ∙ c.if-at_once.true) done)
 
 pub returns-else-at_once-clause-converted : goal.returns-else-at_once-clause-converted
 returns-else-at_once-clause-converted c =
@@ -37,7 +37,7 @@ returns-else-at_once-clause-converted c =
     (subst (λ o. IfSome o (λ r. IsReplaced f.res r (moved_in f c.wanting_row-row.result Conversion r) s new)) standing.found c.convert_later.ensures.replaced) in
     let at_once = subst (λ o. IfSome o (λ r. c.args.at_once ≡ converts_at_once asked f.row.lkid (plain_resource r))) standing.found c.requires.at_once in
     subst (λ o. IfSome o (λ r. IsConverted f asked (plain_processes s) r s new)) (sym standing.found)
-    (converted_later s c.known.ensures f standing asked new c.requires.granted (sym at_once ∙ c.if-at_once.false) done c.convert_later.ensures.statuses)
+    (converted_later s c.law_records_are_sound.ensures f standing asked new c.requires.granted (sym at_once ∙ c.if-at_once.false) done c.convert_later.ensures.statuses)
 
 pub returns-then-at_once-clause-others : goal.returns-then-at_once-clause-others
 returns-then-at_once-clause-others c =

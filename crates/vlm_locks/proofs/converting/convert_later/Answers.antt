@@ -11,7 +11,7 @@ use Rattle.vlm_locks.proofs.converting.convert_later.Goals as goal
 pub move_lock-requires-clause-lock : goal.move_lock-requires-clause-lock
 move_lock-requires-clause-lock c =
     let f = c.args.standing.now in
-    (f.row, (stored c.args.store.now c.known.ensures f c.requires.standing, c.requires.row))
+    (f.row, (stored c.args.store.now f c.requires.standing, c.requires.row))
 
 pub returns-clause-replaced : goal.returns-clause-replaced
 returns-clause-replaced c =
@@ -19,7 +19,7 @@ returns-clause-replaced c =
     let f = c.args.standing.now in
     let standing = c.requires.standing in
     subst (λ o. IfSome o (λ r. IsReplaced f.res r (moved_in f c.args.row Conversion r) s c.move_lock.new.self)) (sym standing.found)
-    (moved_replaced s c.known.ensures f standing c.args.row Conversion c.move_lock.new.self c.move_lock.ensures)
+    (moved_replaced s c.law_records_are_sound.ensures f standing c.args.row Conversion c.move_lock.new.self c.move_lock.ensures)
 
 -- the lock alone is moved
 pub returns-clause-locks : goal.returns-clause-locks

@@ -16,12 +16,12 @@ use Rattle.vlm_locks.proofs.converting.convert_now.Goals as goal
 pub lock_record-requires : goal.lock_record-requires
 lock_record-requires c =
     let f = c.args.standing.now in
-    (f.row, stored c.args.store.now c.known.ensures f c.requires.standing)
+    (f.row, stored c.args.store.now f c.requires.standing)
 
 pub move_lock-requires-clause-lock : goal.move_lock-requires-clause-lock
 move_lock-requires-clause-lock c =
     let f = c.args.standing.now in
-    (f.row, (stored c.args.store.now c.known.ensures f c.requires.standing, subst (IsSameLock f.row) (sym c.granted_row.ensures) same))
+    (f.row, (stored c.args.store.now f c.requires.standing, subst (IsSameLock f.row) (sym c.granted_row.ensures) same))
   where
     same : IsSameLock c.args.standing.now.row (granted_row c.args.row.now)
     same = record { lkid = c.requires.row.lkid; pid = c.requires.row.pid; parent = c.requires.row.parent }
@@ -32,14 +32,14 @@ end_by_grant-requires c =
     let f = c.args.standing.now in
     rw (c.move_lock.ensures)
     (subst (λ pid. IsProcess c.lock_record.result.now.owner pid c.args.store.now) c.requires.row.pid
-    (owner_is c.args.store.now c.lock_record.result.now.owner c.lock_record.result.now.row f.row (c.lock_record.ensures.only f.row (stored c.args.store.now c.known.ensures f c.requires.standing)) c.lock_record.ensures.owner))
+    (owner_is c.args.store.now c.lock_record.result.now.owner c.lock_record.result.now.row f.row (c.lock_record.ensures.only f.row (stored c.args.store.now f c.requires.standing)) c.lock_record.ensures.owner))
 
 pub set_value_block-requires : goal.set_value_block-requires
 set_value_block-requires c =
     let s = c.args.store.now in
     let f = c.args.standing.now in
     let standing = c.requires.standing in
-    let moved = moved_replaced s c.known.ensures f standing c.granted_row.result Granted c.move_lock.new.self c.move_lock.ensures in
+    let moved = moved_replaced s c.lock_record.ensures.sound f standing c.granted_row.result Granted c.move_lock.new.self c.move_lock.ensures in
     let there = still_there f.res standing.resource (moved_in f c.granted_row.result Granted standing.resource) s c.move_lock.new.self moved in
     subst (λ rs. IsSome (resource_at f.res rs)) (sym c.end_by_grant.ensures.rest.resources) there
 
@@ -50,7 +50,7 @@ returns-clause-granted c =
     let standing = c.requires.standing in
     let row = c.args.row.now in
     subst (λ o. IfSome o (λ r. IsGrantedAtOnce f row r s c.set_value_block.new.self)) (sym standing.found)
-    (granted_at_once s c.known.ensures f standing row c.move_lock.new.self c.end_by_grant.new.store c.set_value_block.new.self c.resource_record.result.now.value_block c.end_by_grant.new.value_block
+    (granted_at_once s c.lock_record.ensures.sound f standing row c.move_lock.new.self c.end_by_grant.new.store c.set_value_block.new.self c.resource_record.result.now.value_block c.end_by_grant.new.value_block
     c.resource_record.ensures.value_block (c.move_lock.ensures ∙ ap (λ (x : Row). with_lists (moving (Queued f.res Granted) (record { at = f.lock; row = x })) s) c.granted_row.ensures) c.end_by_grant.ensures c.set_value_block.ensures)
 
 -- the lock alone is moved

@@ -10,7 +10,7 @@ use Rattle.vlm_locks.proofs.converting.fits_others.Goals as goal
 pub can_hold-requires-clause-own : goal.can_hold-requires-clause-own
 can_hold-requires-clause-own c own same =
     let f = c.args.standing.now in
-    subst (λ k. IsStored k c.args.store.now) (same_Some f.lock own same) (f.row, stored c.args.store.now c.known.ensures f c.requires.standing)
+    subst (λ k. IsStored k c.args.store.now) (same_Some f.lock own same) (f.row, stored c.args.store.now f c.requires.standing)
 
 pub returns : goal.returns
 returns c r found =
@@ -19,5 +19,5 @@ returns c r found =
     let standing = c.requires.standing in
     let told = subst (λ o. IfSome o (λ x. c.can_hold.result ≡ fits_beside c.args.mode (Some f.lock) x)) standing.found c.can_hold.ensures in
     let same : standing.resource ≡ r = same_Some standing.resource r (sym standing.found ∙ found) in
-    told ∙ fits_are s c.known.ensures f standing c.args.mode c.requires.granted
+    told ∙ fits_are s c.law_records_are_sound.ensures f standing c.args.mode c.requires.granted
     ∙ ap (λ (x : StoredResource). fits c.args.mode (rows_without f.row.lkid (rows_of x.granted)) (rows_of x.converting)) same

@@ -2,21 +2,21 @@ use Rattle.vlm_locks.proofs.Granting.{serving_begun, serving_next, serving_short
 use Rattle.vlm_locks.proofs.serving.serve_queue.Goals as goal
 
 pub loop-lock-init : goal.loop-lock-init
-loop-lock-init c = serving_begun c.args.queue c.args.res c.args.value_block.now c.args.store.now c.known.ensures c.requires.there
+loop-lock-init c = serving_begun c.args.queue c.args.res c.args.value_block.now c.args.store.now c.law_records_are_sound.ensures c.requires.there
 
 pub loop-lock-smaller : goal.loop-lock-smaller
 loop-lock-smaller c =
     serving_shorter c.args.queue c.args.res c.args.value_block.now c.args.store.now c.loop-lock.value_block c.loop-lock.store c.loop-lock.invariant
-    c.in-Some.lock c.lock_record.result.now.row c.known-in-Some.ensures c.in-Some.ensures.first c.lock_record.ensures.only c.requires.queued
+    c.in-Some.lock c.lock_record.result.now.row c.lock_record.ensures.sound c.in-Some.ensures.first c.lock_record.ensures.only c.requires.queued
     c.grant.new.value_block c.grant.new.store c.if-not-wanted_fits.ensures c.grant.ensures.moved c.grant.ensures.effect
 
 pub loop-lock-preserved : goal.loop-lock-preserved
 loop-lock-preserved c =
     serving_next c.args.queue c.args.res c.args.value_block.now c.args.store.now c.loop-lock.value_block c.loop-lock.store c.loop-lock.invariant
-    c.in-Some.lock c.lock_record.result.now.row c.known-in-Some.ensures c.in-Some.ensures.first c.lock_record.ensures.only c.requires.queued
+    c.in-Some.lock c.lock_record.result.now.row c.lock_record.ensures.sound c.in-Some.ensures.first c.lock_record.ensures.only c.requires.queued
     c.grant.new.value_block c.grant.new.store c.if-not-wanted_fits.ensures c.grant.ensures.moved c.grant.ensures.effect
 
 pub returns-then-not-wanted_fits : goal.returns-then-not-wanted_fits
 returns-then-not-wanted_fits c =
     serving_stopped c.args.queue c.args.res c.args.value_block.now c.args.store.now c.loop-lock.value_block c.loop-lock.store c.loop-lock.invariant
-    c.in-Some.lock c.lock_record.result.now.row c.known-in-Some.ensures c.in-Some.ensures.first c.lock_record.ensures.only c.requires.queued c.if-not-wanted_fits.ensures
+    c.in-Some.lock c.lock_record.result.now.row c.lock_record.ensures.sound c.in-Some.ensures.first c.lock_record.ensures.only c.requires.queued c.if-not-wanted_fits.ensures

@@ -4,7 +4,7 @@ use Rattle.vlm_locks.proofs.Touched.{is_touched_at, swept_resources, swept_statu
 use Rattle.vlm_locks.proofs.sweeping.sweep.Goals as goal
 
 pub loop-res-init : goal.loop-res-init
-loop-res-init c = sweeping_begun c.args.touched.now c.args.store.now c.known.ensures c.requires.in_order c.requires.settled c.requires.rest
+loop-res-init c = sweeping_begun c.args.touched.now c.args.store.now c.law_records_are_sound.ensures c.requires.in_order c.requires.settled c.requires.rest
 
 pub sweep_one-requires : goal.sweep_one-requires
 sweep_one-requires c =
@@ -16,7 +16,7 @@ loop-res-preserved c =
     let touched = c.args.touched.now in
     let so_far = sweeping_at touched c.loop-res.res-index c.res-item.result c.args.store.now c.loop-res.store c.loop-res-test.true c.res-item.is c.loop-res.invariant in
     sweeping_next touched c.res-item.result (drop (c.loop-res.res-index + 1) touched) c.args.store.now c.loop-res.store c.sweep_one.new.store so_far
-    (c.sweep_one.ensures so_far.left.0) c.law_a_sweep_touches_only_what_is_not_settled.ensures.next (is_touched_at touched c.loop-res.res-index c.res-item.result c.loop-res-test.true c.res-item.is) c.known.ensures c.requires.rest
+    (c.sweep_one.ensures so_far.left.0) c.law_a_sweep_touches_only_what_is_not_settled.ensures.next (is_touched_at touched c.loop-res.res-index c.res-item.result c.loop-res-test.true c.res-item.is) c.law_records_are_sound.ensures c.requires.rest
 
 pub returns-clause-resources : goal.returns-clause-resources
 returns-clause-resources c =

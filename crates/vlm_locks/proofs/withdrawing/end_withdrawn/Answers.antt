@@ -9,17 +9,17 @@ use Rattle.vlm_locks.proofs.withdrawing.end_withdrawn.Goals as goal
 pub returns-in-Granted-clause-statuses : goal.returns-in-Granted-clause-statuses
 returns-in-Granted-clause-statuses c =
     let s = c.args.store.now in
-    ap (λ ends. processes_after ends (plain_processes s)) (sym (withdrawn_ends s c.known.ensures c.args.standing.now c.requires.standing (plain_withdrawal c.args.withdrawal.now) c.requires.named Granted c.in-Granted.is))
+    ap (λ ends. processes_after ends (plain_processes s)) (sym (withdrawn_ends s c.law_records_are_sound.ensures c.args.standing.now c.requires.standing (plain_withdrawal c.args.withdrawal.now) c.requires.named Granted c.in-Granted.is))
 
 pub returns-in-Conversion-clause-statuses : goal.returns-in-Conversion-clause-statuses
 returns-in-Conversion-clause-statuses c =
     let s = c.args.store.now in
     let f = c.args.standing.now in
     c.end_request.ensures.statuses
-    ∙ ap (λ ends. processes_after ends (plain_processes s)) (sym (withdrawn_ends s c.known.ensures f c.requires.standing (plain_withdrawal c.args.withdrawal.now) c.requires.named Conversion c.in-Conversion.is))
+    ∙ ap (λ ends. processes_after ends (plain_processes s)) (sym (withdrawn_ends s c.law_records_are_sound.ensures f c.requires.standing (plain_withdrawal c.args.withdrawal.now) c.requires.named Conversion c.in-Conversion.is))
 
 pub returns-in-Waiting-clause-statuses : goal.returns-in-Waiting-clause-statuses
 returns-in-Waiting-clause-statuses c =
     let s = c.args.store.now in
     c.end_request-in-Waiting.ensures.statuses
-    ∙ ap (λ ends. processes_after ends (plain_processes s)) (sym (withdrawn_ends s c.known.ensures c.args.standing.now c.requires.standing (plain_withdrawal c.args.withdrawal.now) c.requires.named Waiting c.in-Waiting.is))
+    ∙ ap (λ ends. processes_after ends (plain_processes s)) (sym (withdrawn_ends s c.law_records_are_sound.ensures c.args.standing.now c.requires.standing (plain_withdrawal c.args.withdrawal.now) c.requires.named Waiting c.in-Waiting.is))

@@ -12,14 +12,14 @@ use Rattle.vlm_locks.proofs.withdrawing.remove.Goals as goal
 pub remove_lock-requires-clause-stored : goal.remove_lock-requires-clause-stored
 remove_lock-requires-clause-stored c =
     let f = c.args.standing.now in
-    (f.row, stored c.args.store.now c.known.ensures f c.requires.standing)
+    (f.row, stored c.args.store.now f c.requires.standing)
 
 pub returns-clause-removed : goal.returns-clause-removed
 returns-clause-removed c =
     let s = c.args.store.now in
     let f = c.args.standing.now in
     subst (IsChange f.res (resource_without f.row.lkid) s) (sym c.remove_lock.ensures.removed)
-    (changed_room f.res (resource_without f.row.lkid) s (without_stored_lock f.lock s) _ (removed s c.known.ensures f c.requires.standing c.requires.rest))
+    (changed_room f.res (resource_without f.row.lkid) s (without_stored_lock f.lock s) _ (removed s c.law_records_are_sound.ensures f c.requires.standing c.requires.rest))
 
 pub returns-clause-locks : goal.returns-clause-locks
 returns-clause-locks c =

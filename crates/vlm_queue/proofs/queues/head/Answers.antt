@@ -16,4 +16,4 @@ first_stored s place None is = tt
 first_stored s place (Some at) is = let found = first_among (locks_at place s) at is in (found.0, (place, found.1))
 
 pub returns-clause-stored : goal.returns-clause-stored
-returns-clause-stored c = first_stored c.args.store.now (Queued c.args.res c.args.queue) c.first.result c.first.ensures
+returns-clause-stored c = first_stored c.args.store.now (Queued c.args.res c.args.queue) c.first.result c.first.ensures.first

@@ -13,7 +13,7 @@ pub has_sublocks-requires : goal.has_sublocks-requires
 has_sublocks-requires c =
     let f = c.args.standing.now in
     let standing = subst (λ (m : Kept). IsStanding f m.records) (sym c.self.view_is) c.requires.standing in
-    (f.row, stored c.self.inside.store c.known.ensures f standing)
+    (f.row, stored c.self.inside.store f standing)
 
 pub returns-then-has_sublocks-clause-refusal : goal.returns-then-has_sublocks-clause-refusal
 returns-then-has_sublocks-clause-refusal c =

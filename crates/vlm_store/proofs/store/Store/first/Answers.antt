@@ -1,3 +1,4 @@
+use Rattle.vlm_store.proofs.Living.{is_sound}
 use Rattle.std.proofs.Common.{◌∙◌, sym}
 use Rattle.vlm_store.specs.Shown.{keys_at, rows}
 use Rattle.vlm_store.specs.Store.{tables}
@@ -12,14 +13,20 @@ of-requires c =
     let is = rw c.list.ensures at c.in_ok-at.ensures in
     (c.self.invariant.placed.linked c.args.place).within c.in_ok-at.at (first_key-in (keys_at s.queues c.args.place) c.in_ok-at.at is)
 
-pub returns : goal.returns
-returns c =
+pub returns-clause-first : goal.returns-clause-first
+returns-clause-first c =
     let s = c.self.inside in
     let seen = locks_at-seen (tables s.queues s.order (beside_shown s)) c.args.place (HasPlace-seen (tables s.queues s.order (beside_shown s)) c.args.place (rw (← c.self.view_is) at c.requires)) in
     rw (← c.self.view_is, seen, c.of.ensures) (rw c.list.ensures at c.in_ok-at.ensures ∙ sym (keyed-first (rows s.queues) (keys_at s.queues c.args.place)))
 
-pub returns-in_err-at : goal.returns-in_err-at
-returns-in_err-at c =
+pub returns-in_err-at-clause-first : goal.returns-in_err-at-clause-first
+returns-in_err-at-clause-first c =
     let s = c.self.inside in
     let seen = locks_at-seen (tables s.queues s.order (beside_shown s)) c.args.place (HasPlace-seen (tables s.queues s.order (beside_shown s)) c.args.place (rw (← c.self.view_is) at c.requires)) in
     rw (← c.self.view_is, seen) (c.from_residual.ensures ∙ rw c.list.ensures at c.in_err-at.ensures ∙ sym (keyed-first (rows s.queues) (keys_at s.queues c.args.place)))
+
+pub returns-clause-sound : goal.returns-clause-sound
+returns-clause-sound c = rw (← c.self.view_is) (is_sound c.self.inside c.self.invariant)
+
+pub returns-in_err-at-clause-sound : goal.returns-in_err-at-clause-sound
+returns-in_err-at-clause-sound c = rw (← c.self.view_is) (is_sound c.self.inside c.self.invariant)

@@ -7,7 +7,7 @@ use Rattle.vlm_store.specs.Shown.{noted_in, row_in}
 use Rattle.vlm_store.specs.Store.{records_of, tables}
 use Rattle.vlm_store.proofs.Kept.{stored_there, there_stored}
 use Rattle.vlm_store.proofs.Layouts.{HasPlace-among, locks_at-among}
-use Rattle.vlm_store.proofs.Living.{lock_there, owner_is}
+use Rattle.vlm_store.proofs.Living.{is_sound, lock_there, owner_is}
 use Rattle.vlm_store.proofs.store.Store.lock_record.Goals as goal
 
 pub index-requires : goal.index-requires
@@ -58,3 +58,6 @@ returns-clause-owner c =
     let here = rw c.slot.ensures at c.index.ensures in
     rw (← c.self.view_is)
     (subst (λ (r : Row). IsProcess c.index.result.now.owner r.pid (records_shown c.self.inside)) (sym (ap row_in here) ∙ there.2) (owner_is c.self.inside c.self.invariant c.args.lock c.index.result.now here))
+
+pub returns-clause-sound : goal.returns-clause-sound
+returns-clause-sound c = rw (← c.self.view_is) (is_sound c.self.inside c.self.invariant)

@@ -1,7 +1,7 @@
 use Rattle.std.proofs.Common.{sym, ap}
 use Rattle.vlm_store.specs.Holdings.{plain_in}
 use Rattle.vlm_store.specs.Records.{authorization_of}
-use Rattle.vlm_store.proofs.Living.{process_is, process_there}
+use Rattle.vlm_store.proofs.Living.{is_sound, process_is, process_there}
 use Rattle.vlm_store.proofs.store.Store.process_record.Goals as goal
 
 pub index-requires : goal.index-requires
@@ -16,3 +16,6 @@ pub returns-clause-blocks : goal.returns-clause-blocks
 returns-clause-blocks c =
     rw (← c.self.view_is, process_is c.self.inside c.self.invariant c.args.at (rw (← c.self.view_is) at c.requires))
     (sym (ap (λ slot. (plain_in slot).blocks) (rw c.slot.ensures at c.index.ensures)))
+
+pub returns-clause-sound : goal.returns-clause-sound
+returns-clause-sound c = rw (← c.self.view_is) (is_sound c.self.inside c.self.invariant)

@@ -1,3 +1,4 @@
+use Rattle.vlm_store.proofs.Living.{is_sound}
 use Rattle.std.proofs.Common.{◌∙◌}
 use Rattle.indexmap.specs.IndexMap.{get}
 use Rattle.vlm_words.specs.Keys.{is_same_key}
@@ -17,3 +18,6 @@ returns-clause-there c =
     let kept = c.self.invariant in
     rw (← c.self.view_is)
     (found_there s.queues s.order (beside_shown s) kept.placed kept.linked kept.ordered (get is_same_key s.resource_index) kept.resources c.args.key.now c.copied.result (c.copied.ensures ∙ c.get.ensures.value))
+
+pub returns-clause-sound : goal.returns-clause-sound
+returns-clause-sound c = rw (← c.self.view_is) (is_sound c.self.inside c.self.invariant)

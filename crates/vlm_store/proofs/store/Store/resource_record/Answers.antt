@@ -1,3 +1,4 @@
+use Rattle.vlm_store.proofs.Living.{is_sound}
 use Rattle.std.proofs.Common.{sym, ap}
 use Rattle.vlm_store.specs.Kept.{beside_shown}
 use Rattle.vlm_store.specs.Shown.{face_in}
@@ -39,3 +40,6 @@ returns-clause-value_block c =
     let s = c.self.inside in
     let found = resource_at-found (tables s.queues s.order (beside_shown s)) c.args.res (HasResource-order (tables s.queues s.order (beside_shown s)) c.args.res (rw (← c.self.view_is) at c.requires)) in
     rw (← c.self.view_is, found) (sym (ap (λ slot. (face_in slot).value_block) (rw c.slot.ensures at c.index.ensures)))
+
+pub returns-clause-sound : goal.returns-clause-sound
+returns-clause-sound c = rw (← c.self.view_is) (is_sound c.self.inside c.self.invariant)
