@@ -187,7 +187,7 @@ module _ (s : Records) (sound : IsSound s) (none_loose : s.loose ≡ []) (f : St
             subst (λ x. IsAmong (record { at = x; row = k.row }) (locks_at (Queued r.at held.1) s)) same
             (subst (IsAmong k) (sym (queue_at s sound r (within r (inl refl)) held.1)) held.2.0) in
             let place : Queued r.at held.1 ≡ Queued f.res f.queue =
-            sound.one_place f.lock k.row f.row (Queued r.at held.1) (Queued f.res f.queue) there (stands s sound f standing) in
+            sound.one_place f.lock k.row f.row (Queued r.at held.1) (Queued f.res f.queue) there (stands s f standing) in
             held.2.1 (same_queue r.at f.res held.1 f.queue place ∙ waits))
         | inr there ↦ none_waits waits rest (λ x later. within x (inr later)) serial pid there
       ]

@@ -195,10 +195,10 @@ module _ (m : Kept) (sound : IsSound m.records) (pid lkid : ℕ) (f : Standing) 
   }
 
 -- the row that names the parent has it
-pub parent_of_row : (s : Records) → IsSound s → (pid : ℕ) (parent : Option Standing) → IsParent pid parent s → (row : Row) → row.parent ≡ lkid_of parent
+pub parent_of_row : (s : Records) → (pid : ℕ) (parent : Option Standing) → IsParent pid parent s → (row : Row) → row.parent ≡ lkid_of parent
     → IsParentOf (option_map (λ up. up.lock) parent) row s
-parent_of_row s sound pid None is row named = named
-parent_of_row s sound pid (Some f) is row named = (f.row, (stored s f is.standing.standing, sym named))
+parent_of_row s pid None is row named = named
+parent_of_row s pid (Some f) is row named = (f.row, (stored s f is.standing.standing, sym named))
 
 -- a resource above the lowest level may be a parent
 pub shallow : (r : StoredResource) (level : ℕ) → level ≡ r.level → level < 15 → None ≡ depth_refusal (Some (plain_resource r))

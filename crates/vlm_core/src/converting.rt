@@ -16,6 +16,7 @@ use crate::checks::{acceptance, check_queue};
 use crate::flags::enq_flags;
 use crate::records::Machine;
 use vlm_locks::{Standing, convert, converts_at_once};
+use vlm_store::laws::law_records_are_sound;
 use vlm_words::conditions::Cond;
 use vlm_words::flags::EnqFlags;
 use vlm_words::locks::{Request, Row};
@@ -82,7 +83,7 @@ impl Machine {
             ≡ admission_refusal (plain_state self.now) conversion.now admission }
         ensures admitted { IfOk result (λ a. IsAdmittedConversion self.now conversion.now a) }
     {
-        self.store.known();
+        law_records_are_sound(&self.store);
         if !standing.is_granted() {
             return Err(Cond::Cvtungrant);
         }

@@ -18,6 +18,7 @@ ghost use Rattle.vlm_core.specs.Machine.{plain_state};
 use crate::flags::deq_flags;
 use crate::records::Machine;
 use vlm_locks::{End, Standing, Withdrawal, withdraw};
+use vlm_store::laws::law_records_are_sound;
 use vlm_words::conditions::Cond;
 use vlm_words::flags::DeqFlags;
 use vlm_words::steps::{Answer, Dequeue, Step};
@@ -86,7 +87,7 @@ impl Machine {
         requires { IsAdmittedDequeue self.now dequeue.now admitted.now }
         ensures { result_err result ≡ cancel_refusal (plain_state self.now) dequeue.now }
     {
-        self.store.known();
+        law_records_are_sound(&self.store);
         if admitted.withdrawal.stays && admitted.standing.is_granted() {
             Err(Cond::Cancelgrant)
         } else {
@@ -104,7 +105,7 @@ impl Machine {
         ensures childless { OnOk result (goes cancels standing.now.queue ≡ true
             → HasNoSublocks standing.now.lock self.now.records) }
     {
-        self.store.known();
+        law_records_are_sound(&self.store);
         if !cancels && self.store.has_sublocks(standing.lock) {
             Err(Cond::Sublocks)
         } else {

@@ -66,7 +66,6 @@ fn entrance(store: &Store, key: &Key, asked: &Request) -> Found
         → result.at_once ≡ is_at_once asked.now
         (unwrap_or (find (is_at site.key) (plain_resources store.now)) (new_resource serial site)) }
 {
-    store.known();
     match store.resource(key) {
         Some(res) => Found {
             res: Some(res),
@@ -187,7 +186,6 @@ impl Machine {
         requires number { self.now.next_request < 2 ^ 64 }
         ensures { IsEntry self.now request.now result }
     {
-        self.store.known();
         let site = self.site_of(caller, form.flags, form.name, parent);
         let asked = request_of(self.last_request + 1, form.flags, request);
         let entrance = entrance(&self.store, &site.key, &asked);

@@ -19,6 +19,7 @@ ghost use Rattle.vlm_core.specs.Parents.{IsParent, lkid_of};
 use crate::processes::{Caller, group_of, has_syslck};
 use crate::records::Machine;
 use vlm_locks::Standing;
+use vlm_store::laws::law_records_are_sound;
 use vlm_store::{LockAt, ResAt};
 use vlm_words::conditions::Cond;
 use vlm_words::flags::EnqFlags;
@@ -67,7 +68,7 @@ impl Machine {
             (λ parent. IsParent caller.now.pid parent self.now.records) }
         ensures named { IfOk result (λ parent. lkid_of parent ≡ lkid) }
     {
-        self.store.known();
+        law_records_are_sound(&self.store);
         if lkid == 0 {
             return Ok(None);
         }
@@ -85,7 +86,7 @@ impl Machine {
             (waiting_refusal parent.now.row.pid parent.now.row.lkid (Some (plain_resource r)))
             (depth_refusal (Some (plain_resource r))) }
     {
-        self.store.known();
+        law_records_are_sound(&self.store);
         match parent.queue {
             Queue::Waiting => Err(Cond::Parnotgrant),
             Queue::Granted | Queue::Conversion => self.check_depth(parent.res),
@@ -136,7 +137,6 @@ impl Machine {
             (parent_resource (plain_state self.now) caller.now.pid (lkid_of parent.now)) }
         ensures keyed { IsKeyed result.domain result.key }
     {
-        self.store.known();
         match parent {
             Some(parent) => {
                 let above = self.store.resource_record(parent.res);

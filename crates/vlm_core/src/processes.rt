@@ -26,7 +26,6 @@ pub(crate) fn living(store: &Store, pid: u32) -> Option<Caller>
     ensures lives { IfSome result (λ _. IsSome (process_of (plain_processes store.now) pid)) }
     ensures none { IfNone result (process_of (plain_processes store.now) pid ≡ None) }
 {
-    store.known();
     let at = store.process(pid)?;
     Some(Caller { at, pid })
 }
@@ -37,7 +36,6 @@ pub(crate) fn group_of(store: &Store, caller: &Caller) -> u16
     ensures { result
         ≡ option_map_or (λ p. p.group) (process_of (plain_processes store.now) caller.now.pid) 0 }
 {
-    store.known();
     store.process_record(caller.at).authorization.group
 }
 
@@ -48,7 +46,6 @@ pub(crate) fn has_syslck(store: &Store, caller: &Caller) -> bool
         ≡ option_map_or (λ p. p.syslck)
         (process_of (plain_processes store.now) caller.now.pid) false }
 {
-    store.known();
     store.process_record(caller.at).authorization.syslck
 }
 
@@ -59,6 +56,5 @@ pub(crate) fn has_room(store: &Store, caller: &Caller) -> bool
     ensures { result ≡ nat_lt (locks_of caller.now.pid (plain_resources store.now))
         (quota_of (plain_processes store.now) caller.now.pid) }
 {
-    store.known();
     store.lock_count(caller.at) < usize::from(store.process_record(caller.at).authorization.quota)
 }

@@ -14,6 +14,7 @@ use crate::records::Machine;
 use std::alloc::Global;
 use std::marker::Model;
 use vlm_store::Store;
+use vlm_store::laws::law_records_are_sound;
 use vlm_words::laws::{
     law_a_declaration_gives_a_new_identification, law_a_parent_outlives_its_sublocks,
     law_each_resource_is_settled, law_held_modes_are_compatible, law_identifications_are_apart,
@@ -83,7 +84,7 @@ impl Core {
     {
         law_held_modes_are_compatible();
         law_nothing_is_left_to_grant();
-        self.machine.store.known();
+        law_records_are_sound(&self.machine.store);
         &self.machine.store
     }
 

@@ -5,7 +5,7 @@ ghost use Rattle.std.specs.Prelude.{◌≡◌, length, slice_get, IfSome};
 ghost use Rattle.std.specs.Option.{option_map};
 ghost use Rattle.vlm_words.specs.StatusBlocks.{status_block_at};
 ghost use Rattle.vlm_store.specs.declared.keys.Place.{Place};
-ghost use Rattle.vlm_store.specs.Records.{HasResource, IsStored, locks_at};
+ghost use Rattle.vlm_store.specs.Records.{HasResource, IsSound, IsStored, locks_at};
 ghost use Rattle.vlm_core.specs.Views.{lock_at_place, resource_at_place, resource_view, row_shown};
 
 use crate::processes::living;
@@ -21,8 +21,8 @@ use vlm_words::resources::Queue;
 fn resource_at(store: &Store, place: usize) -> Option<ResAt>
     ensures found { result ≡ resource_at_place place store.now.resources }
     ensures there { IfSome result (λ res. HasResource res store.now) }
+    ensures sound { IsSound store.now }
 {
-    store.known();
     let mut at = store.first_resource();
     for _ in 0..place {
         let Some(res) = at else {
@@ -39,7 +39,6 @@ fn lock_at(store: &Store, res: ResAt, queue: Queue, place: usize) -> Option<Lock
     ensures found { result ≡ lock_at_place place (locks_at (Place.Queued res queue) store.now) }
     ensures there { IfSome result (λ lock. IsStored lock store.now) }
 {
-    store.known();
     let mut at = head(store, res, queue);
     for _ in 0..place {
         let Some(lock) = at else {
@@ -74,7 +73,6 @@ impl Core {
         ensures { result ≡ option_map resource_view (slice_get self.now.resources place) }
     {
         let store = &self.machine.store;
-        store.known();
         let res = resource_at(store, place)?;
         Some(ResourceView::of(store.resource_record(res)))
     }
@@ -85,7 +83,6 @@ impl Core {
         ensures { result ≡ row_shown (slice_get self.now.resources resource) queue place }
     {
         let store = &self.machine.store;
-        store.known();
         let res = resource_at(store, resource)?;
         let lock = lock_at(store, res, queue, place)?;
         Some(RowView::of(&store.lock_record(lock).row))

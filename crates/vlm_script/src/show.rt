@@ -30,7 +30,6 @@ fn show_resources(store: &Store, out: &mut Vec<u8>) -> Result<(), AllocError>
     ensures { OnOk result (out.new.items
         ≡ out.old.items ++ flat_map resource_text (plain_resources store.now)) }
 {
-    store.known();
     let mut next = store.first_resource();
     while let Some(res) = next {
         show_resource(store, res, out)?;
@@ -67,7 +66,6 @@ fn show_queue(store: &Store, res: ResAt, queue: Queue, out: &mut Vec<u8>) -> Res
     ensures { OnOk result (out.new.items ≡ out.old.items
         ++ queue_lines queue (rows_of (locks_at (Place.Queued res queue) store.now))) }
 {
-    store.known();
     let mut next = store.first(Place::Queued(res, queue));
     while let Some(lock) = next {
         show_row(queue, &store.lock_record(lock).row, out)?;

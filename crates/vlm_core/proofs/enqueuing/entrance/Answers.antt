@@ -26,4 +26,4 @@ returns-in-Some-clause-at_once c serial site same keyed = of_found (resource_at 
     of_found (Some r) is there =
         c.enters_at_once.ensures r is
         ∙ sym (ap (λ o. is_at_once c.args.asked.now (unwrap_or o (new_resource serial site)))
-        (finds_one site.domain site.key keyed c.args.store.now c.requires c.known.ensures c.in-Some.res found r is))
+        (finds_one site.domain site.key keyed c.args.store.now c.requires c.resource.ensures.sound c.in-Some.res found r is))

@@ -14,5 +14,5 @@ returns c =
     let count : c.lock_count.result ≡ locks_of caller.pid (plain_resources s) =
     c.lock_count.ensures.owned caller.pid c.requires.caller.lives ∙ all_same caller.pid s c.requires.none_loose in
     let quota : c.process_record.result.now.authorization.quota ≡ quota_of (plain_processes s) caller.pid =
-    told_is s caller.at caller.pid (λ (a : Authorization). a.quota) 0 c.process_record.result.now.authorization c.known.ensures c.requires.caller.lives c.process_record.ensures.authorization in
+    told_is s caller.at caller.pid (λ (a : Authorization). a.quota) 0 c.process_record.result.now.authorization c.process_record.ensures.sound c.requires.caller.lives c.process_record.ensures.authorization in
     ap (λ n. nat_lt n c.from.result) count ∙ ap (nat_lt (locks_of caller.pid (plain_resources s))) (c.from.ensures ∙ quota)

@@ -5,4 +5,4 @@ use Rattle.vlm_core.proofs.processes.has_syslck.Goals as goal
 
 pub returns : goal.returns
 returns c =
-    told_is c.args.store.now c.args.caller.now.at c.args.caller.now.pid (λ (a : Authorization). a.syslck) false c.process_record.result.now.authorization c.known.ensures c.requires.lives c.process_record.ensures.authorization
+    told_is c.args.store.now c.args.caller.now.at c.args.caller.now.pid (λ (a : Authorization). a.syslck) false c.process_record.result.now.authorization c.process_record.ensures.sound c.requires.lives c.process_record.ensures.authorization

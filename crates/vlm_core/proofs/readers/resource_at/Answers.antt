@@ -6,14 +6,14 @@ use Rattle.vlm_core.proofs.readers.resource_at.Goals as goal
 
 pub next_resource-at-requires : goal.next_resource-at-requires
 next_resource-at-requires c =
-    resource_place-there c.loop.counter c.args.store.now.resources c.known.ensures.resources_apart c.in-Some.res (sym c.loop.invariant ∙ c.in-Some.is)
+    resource_place-there c.loop.counter c.args.store.now.resources c.first_resource-at.ensures.sound.resources_apart c.in-Some.res (sym c.loop.invariant ∙ c.in-Some.is)
 
 pub loop-preserved : goal.loop-preserved
 loop-preserved c =
     c.next_resource-at.ensures
-    ∙ simp unary_clauses (resource_after-place c.loop.counter c.args.store.now.resources c.in-Some.res c.known.ensures.resources_apart (sym c.loop.invariant ∙ c.in-Some.is))
+    ∙ simp unary_clauses (resource_after-place c.loop.counter c.args.store.now.resources c.in-Some.res c.first_resource-at.ensures.sound.resources_apart (sym c.loop.invariant ∙ c.in-Some.is))
 
 pub returns-clause-there : goal.returns-clause-there
 returns-clause-there c =
     if_some c.loop.at (λ res. HasResource res c.args.store.now)
-    (λ res is. resource_place-there c.loop.counter c.args.store.now.resources c.known.ensures.resources_apart res (sym c.loop.invariant ∙ is))
+    (λ res is. resource_place-there c.loop.counter c.args.store.now.resources c.first_resource-at.ensures.sound.resources_apart res (sym c.loop.invariant ∙ is))

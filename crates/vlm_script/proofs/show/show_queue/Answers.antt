@@ -11,9 +11,9 @@ pub loop-next-init : goal.loop-next-init
 loop-next-init c =
     let place = Queued c.args.res c.args.queue in
     let ks = locks_at place c.args.store.now in
-    rw c.first-next.ensures (record {
+    rw c.first-next.ensures.first (record {
       there = first-there [] ks;
-      printed = ap (λ xs. c.args.out.now.items ++ queue_lines c.args.queue (rows_of xs)) (locks_from-first [] ks (c.known.ensures.locks_apart place));
+      printed = ap (λ xs. c.args.out.now.items ++ queue_lines c.args.queue (rows_of xs)) (locks_from-first [] ks (c.first-next.ensures.sound.locks_apart place));
     })
 
 -- the lock where the walk stands is stored
@@ -27,7 +27,7 @@ pub loop-next-smaller : goal.loop-next-smaller
 loop-next-smaller c =
     let place = Queued c.args.res c.args.queue in
     let ks = locks_at place c.args.store.now in
-    let stands = at_lock c.in-Some.lock ks (c.known.ensures.locks_apart place) (c.loop-next.invariant.there c.in-Some.lock c.in-Some.is) in
+    let stands = at_lock c.in-Some.lock ks (c.first-next.ensures.sound.locks_apart place) (c.loop-next.invariant.there c.in-Some.lock c.in-Some.is) in
     rw (c.next-next.ensures place stands.row stands.among, c.in-Some.is) (locks_left-fewer c.in-Some.lock ks stands)
 
 -- one more lock is printed
@@ -35,7 +35,7 @@ pub loop-next-preserved : goal.loop-next-preserved
 loop-next-preserved c =
     let place = Queued c.args.res c.args.queue in
     let ks = locks_at place c.args.store.now in
-    let stands = at_lock c.in-Some.lock ks (c.known.ensures.locks_apart place) (c.loop-next.invariant.there c.in-Some.lock c.in-Some.is) in
+    let stands = at_lock c.in-Some.lock ks (c.first-next.ensures.sound.locks_apart place) (c.loop-next.invariant.there c.in-Some.lock c.in-Some.is) in
     let same = c.lock_record.ensures.only stands.row (place, stands.among) in
     let more = lines_left-next c.args.queue c.in-Some.lock ks c.loop-next.out.items c.show_row.new.out.items c.lock_record.result.now.row stands same c.in_ok-show_row.ensures in
     rw (c.next-next.ensures place stands.row stands.among) (record {

@@ -7,14 +7,14 @@ use Rattle.vlm_script.proofs.show.show_resources.Goals as goal
 pub loop-next-smaller : goal.loop-next-smaller
 loop-next-smaller c =
     let rs = c.args.store.now.resources in
-    let stands = at_resource c.in-Some.res rs c.known.ensures.resources_apart (c.loop-next.invariant.there c.in-Some.res c.in-Some.is) in
+    let stands = at_resource c.in-Some.res rs c.first_resource-next.ensures.sound.resources_apart (c.loop-next.invariant.there c.in-Some.res c.in-Some.is) in
     rw (c.next_resource-next.ensures, c.in-Some.is) (resources_left-fewer c.in-Some.res rs stands)
 
 -- one more resource is printed
 pub loop-next-preserved : goal.loop-next-preserved
 loop-next-preserved c =
     let rs = c.args.store.now.resources in
-    let stands = at_resource c.in-Some.res rs c.known.ensures.resources_apart (c.loop-next.invariant.there c.in-Some.res c.in-Some.is) in
+    let stands = at_resource c.in-Some.res rs c.first_resource-next.ensures.sound.resources_apart (c.loop-next.invariant.there c.in-Some.res c.in-Some.is) in
     let more = text_left-next c.in-Some.res rs c.loop-next.out.items c.show_resource.new.out.items stands c.in_ok-show_resource.ensures in
     rw c.next_resource-next.ensures (record {
       there = stands.next;

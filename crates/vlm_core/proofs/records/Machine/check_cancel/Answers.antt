@@ -6,13 +6,13 @@ use Rattle.vlm_core.proofs.records.Machine.check_cancel.Goals as goal
 -- the cancel of a granted lock is refused
 pub returns-then-is_granted : goal.returns-then-is_granted
 returns-then-is_granted c =
-    sym (cancel_refused c.args.self.now (rw (← c.self.view_is) c.known.ensures) c.args.dequeue.now c.args.admitted.now c.requires (search rules) (search rules))
+    sym (cancel_refused c.args.self.now (rw (← c.self.view_is) c.law_records_are_sound.ensures) c.args.dequeue.now c.args.admitted.now c.requires (search rules) (search rules))
 
 pub returns-else-admitted : goal.returns-else-admitted
 returns-else-admitted c =
     elim c.else-admitted.branch [
       | else-admitted-via-then-admitted+else-is_granted w ↦
-          sym (cancel_passes c.args.self.now (rw (← c.self.view_is) c.known.ensures) c.args.dequeue.now c.args.admitted.now c.requires (search rules))
+          sym (cancel_passes c.args.self.now (rw (← c.self.view_is) c.law_records_are_sound.ensures) c.args.dequeue.now c.args.admitted.now c.requires (search rules))
       | else-admitted-via-else-admitted w ↦
-          sym (dequeue_passes c.args.self.now (rw (← c.self.view_is) c.known.ensures) c.args.dequeue.now c.args.admitted.now c.requires (search rules))
+          sym (dequeue_passes c.args.self.now (rw (← c.self.view_is) c.law_records_are_sound.ensures) c.args.dequeue.now c.args.admitted.now c.requires (search rules))
     ]

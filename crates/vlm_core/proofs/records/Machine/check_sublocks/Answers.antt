@@ -19,14 +19,14 @@ pub returns-then-has_sublocks-clause-refusal : goal.returns-then-has_sublocks-cl
 returns-then-has_sublocks-clause-refusal c =
     let m = c.args.self.now in
     let f = c.args.standing.now in
-    sublocks_refused m (rw (← c.self.view_is) c.known.ensures) (rw (← c.self.view_is) c.self.invariant.rest.none_loose) f c.requires.standing c.args.cancels c.if-not-cancels.true
+    sublocks_refused m (rw (← c.self.view_is) c.law_records_are_sound.ensures) (rw (← c.self.view_is) c.self.invariant.rest.none_loose) f c.requires.standing c.args.cancels c.if-not-cancels.true
     (λ none. c.if-has_sublocks.ensures.some (subst (λ (k : Kept). HasNoSublocks f.lock k.records) (sym c.self.view_is) none))
 
 pub returns-else-not-cancels-clause-refusal : goal.returns-else-not-cancels-clause-refusal
 returns-else-not-cancels-clause-refusal c =
     let m = c.args.self.now in
     let f = c.args.standing.now in
-    let sound : IsSound m.records = rw (← c.self.view_is) c.known.ensures in
+    let sound : IsSound m.records = rw (← c.self.view_is) c.law_records_are_sound.ensures in
     let none_loose : m.records.loose ≡ [] = rw (← c.self.view_is) c.self.invariant.rest.none_loose in
     elim c.else-not-cancels.branch [
       | else-not-cancels-via-then-not-cancels+else-has_sublocks w ↦
@@ -41,7 +41,7 @@ pub returns-else-not-cancels-clause-childless : goal.returns-else-not-cancels-cl
 returns-else-not-cancels-clause-childless c =
     let m = c.args.self.now in
     let f = c.args.standing.now in
-    let sound : IsSound m.records = rw (← c.self.view_is) c.known.ensures in
+    let sound : IsSound m.records = rw (← c.self.view_is) c.law_records_are_sound.ensures in
     let none_loose : m.records.loose ≡ [] = rw (← c.self.view_is) c.self.invariant.rest.none_loose in
     elim c.else-not-cancels.branch [
       | else-not-cancels-via-then-not-cancels+else-has_sublocks w ↦

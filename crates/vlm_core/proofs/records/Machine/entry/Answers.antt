@@ -42,7 +42,7 @@ returns c =
           ∙ ap (λ q. record (enq_row (plain_state m) e) { want = Some q }) asked;
       owner = subst (λ pid. IsProcess c.args.caller.now.at pid c.self.inside.store) (sym owner) caller.lives;
       parent = subst (λ up. IsParentOf up row c.self.inside.store) (sym c.lock_of.ensures)
-          (parent_of_row c.self.inside.store c.known.ensures c.args.caller.now.pid c.args.parent.now parent row named);
+          (parent_of_row c.self.inside.store c.args.caller.now.pid c.args.parent.now parent row named);
       site = site_same;
       keyed = c.site_of-site.ensures.keyed;
       serial = refl;

@@ -21,7 +21,7 @@ returns-in-Some-clause-site c =
     let r = is.standing.standing.resource in
     let found = is.standing.standing.found in
     let up : parent_resource (plain_state m) pid (lkid_of c.args.parent.now) ≡ Some (plain_resource r) =
-    ap (λ o. parent_resource (plain_state m) pid (lkid_of o)) c.in-Some.is ∙ parent_found m c.known.ensures f is.standing.standing pid is.standing.owned is.named in
+    ap (λ o. parent_resource (plain_state m) pid (lkid_of o)) c.in-Some.is ∙ parent_found m c.resource_record-above.ensures.sound f is.standing.standing pid is.standing.owned is.named in
     rw (← c.self.view_is)
     (site_record (root_domain (plain_state m) pid (flag_bits c.args.flags)) c.args.name c.resource_record-above.result.now.serial c.resource_record-above.result.now.domain c.resource_record-above.result.now.level r
     (of_some (λ (x : StoredResource). c.resource_record-above.result.now.serial ≡ x.serial) (resource_at f.res m.records.resources) r found c.resource_record-above.ensures.serial)
