@@ -26,6 +26,8 @@ pub mod Processes
 pub mod Declarations
 pub mod Quotas
 pub mod Holdings
+pub mod Rooted
+pub mod NewlyRooted
 pub mod Trees
 pub mod Owners
 pub mod Numbers
