@@ -40,6 +40,7 @@ pub mod Reasons
 pub mod Privileges
 pub mod Waiting
 pub mod Queued
+pub mod EndWrites
 pub mod Writing
 pub mod Written
 pub mod Standing
