@@ -2,6 +2,7 @@
 use Rattle.std.proofs.Common.{◌≡◌, ℕ, ◌+◌, List, [], ◌∷◌, ◌++◌, map, Bool, true, false, ◌&&◌, ◌||◌, Option, None, Some, refl, sym, ap, ◌∙◌, arith}
 use Rattle.std.specs.Prelude.{◌==◌}
 use Rattle.std.specs.List.{list_all}
+use Rattle.std.proofs.lemmas.Bool.{and_parts, or_left, or_right}
 use Rattle.std.proofs.lemmas.Bool.Decides.{nat_tests}
 use Rattle.vlm_words.specs.declared.locks.Request.{Request}
 use Rattle.vlm_words.specs.declared.locks.Row.{Row}
@@ -28,17 +29,6 @@ compatible_by_rank : (mode a b : Mode) → rank a ≡ rank b → is_compatible m
 unfolding is_compatible
 compatible_by_rank mode a b same = rw same refl
 
-both : (a b : Bool) → (a && b) ≡ true → (a ≡ true) × (b ≡ true)
-both true b h = (refl, h)
-both false b h = cc
-
-either : (a b : Bool) → a ≡ true → (a || b) ≡ true
-either a b h = rw h refl
-
-or_true : (a : Bool) → (a || true) ≡ true
-or_true true = refl
-or_true false = refl
-
 -- two tests that follow from each other are the same
 same_test : (a b : Bool) → (a ≡ true → b ≡ true) → (b ≡ true → a ≡ true) → a ≡ b
 same_test true b to from = sym (to refl)
@@ -48,11 +38,11 @@ same_test false false to from = refl
 -- the counts fit where each mode is free
 six : (a b c d e f : Bool) → (a && (b && (c && (d && (e && f))))) ≡ true → (a ≡ true) × (b ≡ true) × (c ≡ true) × (d ≡ true) × (e ≡ true) × (f ≡ true)
 six a b c d e f h =
-    let h1 = both a (b && (c && (d && (e && f)))) h in
-    let h2 = both b (c && (d && (e && f))) h1.1 in
-    let h3 = both c (d && (e && f)) h2.1 in
-    let h4 = both d (e && f) h3.1 in
-    let h5 = both e f h4.1 in
+    let h1 = and_parts a (b && (c && (d && (e && f)))) h in
+    let h2 = and_parts b (c && (d && (e && f))) h1.1 in
+    let h3 = and_parts c (d && (e && f)) h2.1 in
+    let h4 = and_parts d (e && f) h3.1 in
+    let h5 = and_parts e f h4.1 in
     (h1.0, h2.0, h3.0, h4.0, h5.0, h5.1)
 
 each_free : (mode : Mode) (f : Mode → ℕ) → counts_fit mode f ≡ true → (m : Mode) → is_free mode f m ≡ true
@@ -82,8 +72,8 @@ nothing_more : (b : ℕ) → (b == 0) ≡ true → (0 + b == 0) ≡ true
 nothing_more b h = grind (arith, nat_tests)
 
 free_rest : (a b : ℕ) (c : Bool) → ((a + b == 0) || c) ≡ true → ((b == 0) || c) ≡ true
-free_rest a b true h = or_true (b == 0)
-free_rest a b false h = either _ _ (part_zero a b (left h))
+free_rest a b true h = or_right (b == 0) true refl
+free_rest a b false h = or_left _ _ (part_zero a b (left h))
   where
     left : ((a + b == 0) || false) ≡ true → (a + b == 0) ≡ true
     left g = by_test (a + b == 0) g
@@ -121,14 +111,14 @@ module _ (mode : Mode) (rows : ℕ → Row) where
   none_held : (ks : List ℕ) → list_all (λ k. is_beside mode (rows k).held) ks ≡ true → (m : Mode) → is_compatible mode m ≡ false → (total (λ row. one_if (is_mode m row.held)) rows ks == 0) ≡ true
   none_held [] beside m unfit = refl
   none_held (k ∷ ks) beside m unfit =
-      let parts = both (is_beside mode (rows k).held) (list_all (λ x. is_beside mode (rows x).held) ks) beside in
+      let parts = and_parts (is_beside mode (rows k).held) (list_all (λ x. is_beside mode (rows x).held) ks) beside in
       rw (none_first (rows k).held m parts.0 unfit) (nothing_more (total (λ row. one_if (is_mode m row.held)) rows ks) (none_held ks parts.1 m unfit))
 
   free_all : (ks : List ℕ) → list_all (λ k. is_beside mode (rows k).held) ks ≡ true → (m : Mode) → is_free mode (λ x. total (λ row. one_if (is_mode x row.held)) rows ks) m ≡ true
   free_all ks beside m =
       elim (is_compatible mode m) as (λ b. is_compatible mode m ≡ b → ((total (λ row. one_if (is_mode m row.held)) rows ks == 0) || b) ≡ true) [
-        | true ↦ λ _. or_true (total (λ row. one_if (is_mode m row.held)) rows ks == 0)
-        | false ↦ λ unfit. either _ _ (none_held ks beside m unfit)
+        | true ↦ λ _. or_right (total (λ row. one_if (is_mode m row.held)) rows ks == 0) true refl
+        | false ↦ λ unfit. or_left _ _ (none_held ks beside m unfit)
       ] refl
 
   -- the counts fit exactly where the mode is compatible with what each lock holds

@@ -26,6 +26,8 @@ pub mod Processes
 pub mod Declarations
 pub mod Quotas
 pub mod Holdings
+pub mod Rooted
+pub mod NewlyRooted
 pub mod Trees
 pub mod Owners
 pub mod Numbers
@@ -38,6 +40,7 @@ pub mod Reasons
 pub mod Privileges
 pub mod Waiting
 pub mod Queued
+pub mod EndWrites
 pub mod Writing
 pub mod Written
 pub mod Standing

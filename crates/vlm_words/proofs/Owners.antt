@@ -41,7 +41,7 @@ use Rattle.vlm_words.proofs.Holdings.{converted_held, locks, locks_counted, lock
 use Rattle.vlm_words.proofs.InOrder.{sweep_in_order}
 use Rattle.vlm_words.proofs.Moves.{grant_keeps, swept_named}
 use Rattle.vlm_words.proofs.Passed.{test_passes}
-use Rattle.vlm_words.proofs.Sums.{any_counts, sum_of_zero}
+use Rattle.vlm_words.proofs.Sums.{sum_of_zero}
 use Rattle.vlm_words.proofs.Weights.{entered_among_weighs, weigh}
 use Rattle.vlm_words.proofs.Withdrawing.{one_ends}
 

@@ -32,7 +32,7 @@ use Rattle.vlm_words.proofs.Always.{admission_of}
 use Rattle.vlm_words.proofs.EachResource.{each_entered_among, each_swept}
 use Rattle.vlm_words.proofs.Keys.{KeepsPlace, Placed, WasGiven, conversion_keeps_place, entry_keeps_place, of_found, placed_always, service_keeps_place, withdrawals_keep_place}
 use Rattle.vlm_words.proofs.Refusals.{IsCaller, caller_passes}
-use Rattle.vlm_words.proofs.Trees.{HasParent, parent_of}
+use Rattle.vlm_words.proofs.NewlyRooted.{HasParent, parent_of}
 
 -- a root in the system's domain was one before, or the step may make one
 abbrev IsRightly : State → Type 0 → Resource → Type 0

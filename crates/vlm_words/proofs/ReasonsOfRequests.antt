@@ -34,7 +34,7 @@ use Rattle.vlm_words.proofs.Holders.{IsHolder, only_holder}
 use Rattle.vlm_words.proofs.Keys.{Placed, enq_keyed, key_at}
 use Rattle.vlm_words.proofs.AtOnce.{enters_in_turn, found_pid, no_zero, parent_by_lkid}
 use Rattle.vlm_words.proofs.Quotas.{all_counted, room_left}
-use Rattle.vlm_words.proofs.Trees.{any_found}
+use Rattle.vlm_words.proofs.NewlyRooted.{any_found}
 use Rattle.vlm_words.proofs.FlagBits.{all_built, are_built, not_built}
 use Rattle.vlm_words.proofs.Refusals.{Any_found, IsCaller, Says, all_or_any, among, among_found, block_passes, caller_passes, held_stands, is_somebody, lock_passes, says_block, says_caller, says_either, says_lock, says_none, says_some, says_unless, says_where, says_which, which_passes}
 

@@ -53,7 +53,7 @@ use Rattle.vlm_words.proofs.SweptValues.{IsHarmless, WritesNothing, conversion_i
 use Rattle.vlm_words.proofs.Waiting.{EachConverting, Queued, conversion_queued, dequeue_queued, request_queued}
 use Rattle.vlm_words.proofs.Withdrawing.{one_ends}
 use Rattle.vlm_words.proofs.Writers.{kept_value}
-use Rattle.vlm_words.proofs.Writing.{IsNumbered}
+use Rattle.vlm_words.proofs.EndWrites.{IsNumbered}
 use Rattle.vlm_words.proofs.Written.{NamesOne, admitted_names, blocks_are, converting_names, names_always, request_names, served_numbered, withdrawn_numbered}
 
 -- ---- what a grant does

@@ -1,5 +1,5 @@
 -- What grants return to status blocks.
-use Rattle.std.proofs.Common.{◌≡◌, ◌<◌, ◌+◌, ℕ, Bool, true, false, List, [], ◌∷◌, ◌++◌, length, cond, Option, None, Some, refl, sym, subst, ap, ◌∙◌}
+use Rattle.std.proofs.Common.{◌≡◌, ℕ, Bool, true, false, List, [], ◌∷◌, ◌++◌, cond, Option, None, Some, refl, sym, subst, ap, ◌∙◌}
 use Rattle.std.specs.Prelude.{◌&&◌}
 use Rattle.std.specs.List.{AllByRecursion}
 use Rattle.vlm_words.specs.declared.blocks.Block.{Block}
@@ -9,7 +9,6 @@ use Rattle.vlm_words.specs.declared.resources.ValueBlock.{ValueBlock}
 use Rattle.vlm_words.specs.Conditions.{condition_number}
 use Rattle.vlm_words.specs.ValueBlocks.{return_status}
 use Rattle.vlm_words.specs.State.{Process, Resource}
-use Rattle.vlm_words.specs.StatusBlocks.{status_blocks_of}
 use Rattle.vlm_words.specs.Endings.{Ending, How}
 use Rattle.vlm_words.specs.Endings.How.{by_abort, by_cancel, by_grant}
 use Rattle.vlm_words.specs.Effects.{Blocks, blocks_after, blocks_after_ending, blocks_with}
@@ -18,7 +17,9 @@ use Rattle.vlm_words.specs.Sweeps.{blocks_after_service, processes_after_service
 use Rattle.vlm_words.specs.Written.{is_end_for, last_end, later_end}
 use Rattle.vlm_words.specs.Returned.{is_return, last_return}
 use Rattle.vlm_words.proofs.SweptValues.{WritesNothing, end_leaves}
-use Rattle.vlm_words.proofs.Writing.{block_after_how, block_at, block_written, end_writes, IsNumbered, last_of_both, later_end-none, later_end-twice, many_written}
+use Rattle.vlm_words.proofs.Each.{each_weaker}
+use Rattle.vlm_words.proofs.EndWrites.{AreLeft, IsNumbered, ServiceLeaves, block_after_how, left_by_both, left_by_none, left_by_one, left_swept}
+use Rattle.vlm_words.proofs.Writing.{last_of_both, later_end-none, later_end-twice}
 
 -- the number of the status that goes with a mark
 abbrev pub mark_number : Bool → ℕ
@@ -107,32 +108,17 @@ module _ (P : Ending → ValueBlock → Type 0) where
 
   -- ---- all ends of a step
 
-  pub record AreReturned (endings : List Ending) (before after : List Process) : Type 0 where
-    pub many : (pid : ℕ) → length (status_blocks_of after pid) ≡ length (status_blocks_of before pid)
-    pub each : (pid k : ℕ) → k < length (status_blocks_of before pid) → ReturnsTo pid (k + 1) endings (block_at before pid k) (block_at after pid k)
+  -- what ends make of all status blocks
+  abbrev pub AreReturned : List Ending → List Process → List Process → Type 0
+  AreReturned = AreLeft ReturnsTo
 
   pub none_returned : (processes : List Process) → AreReturned [] processes processes
-  none_returned processes = record { many = λ _. refl; each = λ pid k _. returns_nothing pid (k + 1) (block_at processes pid k) }
-
-  both_returned : (first second : List Ending) (a b c : List Process) → AreReturned first a b → AreReturned second b c → AreReturned (first ++ second) a c
-  both_returned first second a b c one other = record {
-    many = λ pid. other.many pid ∙ one.many pid;
-    each = λ pid k within.
-        returns_both pid (k + 1) first second (block_at a pid k) (block_at b pid k) (block_at c pid k) (one.each pid k within)
-        (other.each pid k (subst (λ (n : ℕ). k < n) (sym (one.many pid)) within));
-  }
+  none_returned = left_by_none ReturnsTo returns_nothing
 
   pub one_returned : (ending : Ending) (b : Blocks) → IsNumbered ending → (ending.how ≡ by_grant Return → P ending b.value_block)
       → AreReturned (ending ∷ []) b.processes (blocks_after_ending ending b).processes
   one_returned ending b numbered its =
-      subst (λ (after : List Process). AreReturned (ending ∷ []) b.processes after) (sym (end_writes ending.how ending b))
-      (record {
-        many = λ pid. many_written ending.pid ending.request.block pid _ b.processes;
-        each = λ pid k within.
-            subst (λ (after : Block). ReturnsTo pid (k + 1) (ending ∷ []) (block_at b.processes pid k) after)
-            (sym (block_written ending.pid ending.request.block (block_after_how ending.how b.value_block) b.processes pid k numbered within))
-            (returns_one pid (k + 1) ending b.value_block (block_at b.processes pid k) its);
-      })
+      left_by_one ReturnsTo ending b numbered (λ pid number before. returns_one pid number ending b.value_block before its)
 
   -- what is returned, where it is, is the value block that stands there
   abbrev pub Its : ValueBlock → Ending → Type 0
@@ -143,7 +129,7 @@ module _ (P : Ending → ValueBlock → Type 0) where
       → AllByRecursion (Its b.value_block) endings → AreReturned endings b.processes (blocks_after endings b).processes
   all_returned [] b numbered nothing its = none_returned b.processes
   all_returned (ending ∷ endings) b numbered nothing its =
-      both_returned (ending ∷ []) endings b.processes (blocks_after_ending ending b).processes (blocks_after endings (blocks_after_ending ending b)).processes
+      left_by_both ReturnsTo returns_both (ending ∷ []) endings b.processes (blocks_after_ending ending b).processes (blocks_after endings (blocks_after_ending ending b)).processes
       (one_returned ending b numbered.0 its.0)
       (all_returned endings (blocks_after_ending ending b) numbered.1 nothing.1
       (subst (λ (block : ValueBlock). AllByRecursion (Its block) endings) (sym (end_leaves ending.how ending b nothing.0)) its.1))
@@ -154,18 +140,13 @@ module _ (P : Ending → ValueBlock → Type 0) where
     pub nothing : AllByRecursion WritesNothing (service r).endings
     pub its : AllByRecursion (Its r.value_block) (service r).endings
 
-  sweep_returned : (processes : List Process) (resources : List Resource) → AllByRecursion Serves resources
-      → AreReturned (sweep_endings resources) processes (processes_after_service processes resources)
-  unfolding sweep_endings blocks_after_service
-  sweep_returned processes [] serves = none_returned processes
-  sweep_returned processes (r ∷ rest) serves =
-      both_returned (service r).endings (sweep_endings rest) processes (blocks_after_service processes r).processes
-      (processes_after_service (blocks_after_service processes r).processes rest)
-      (all_returned (service r).endings (blocks_with r.value_block processes) serves.0.numbered serves.0.nothing serves.0.its)
-      (sweep_returned (blocks_after_service processes r).processes rest serves.1)
-
   -- the ends of a change, and then the grants of its sweep
   pub returned_swept : (endings : List Ending) (before changed : List Process) (resources : List Resource) → AreReturned endings before changed
       → AllByRecursion Serves resources → AreReturned (endings ++ sweep_endings resources) before (processes_after_service changed resources)
+  unfolding blocks_after_service
   returned_swept endings before changed resources left serves =
-      both_returned endings (sweep_endings resources) before changed (processes_after_service changed resources) left (sweep_returned changed resources serves)
+      left_swept ReturnsTo returns_nothing returns_both endings before changed resources left
+      (each_weaker Serves (ServiceLeaves ReturnsTo) served resources serves)
+    where
+      served : (r : Resource) → Serves r → ServiceLeaves ReturnsTo r
+      served r each processes = all_returned (service r).endings (blocks_with r.value_block processes) each.numbered each.nothing each.its

@@ -56,7 +56,7 @@ use Rattle.vlm_words.proofs.SweptValues.{IsHarmless, WritesNothing, conversion_i
 use Rattle.vlm_words.proofs.Waiting.{Queued, conversion_queued, dequeue_queued, request_queued}
 use Rattle.vlm_words.proofs.Writes.{only_row_among, write_at_once}
 use Rattle.vlm_words.proofs.Written.{blocks_are, conversion_names}
-use Rattle.vlm_words.proofs.Writing.{block_at, block_written, many_written}
+use Rattle.vlm_words.proofs.EndWrites.{block_at, block_written, many_written}
 
 -- ---- what is so of a resource
 

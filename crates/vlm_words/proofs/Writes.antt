@@ -1,6 +1,6 @@
 -- An accepted conversion that may write the value block is granted at once.
 use Rattle.std.proofs.Common.{◌≡◌, ◌≤◌, ◌||◌, ◌⊎◌, ℕ, Bool, true, false, not, List, [], ◌∷◌, ◌++◌, cond, Option, None, Some, inl, inr, refl, sym, subst, ap, ◌∙◌, arith}
-use Rattle.std.specs.Prelude.{⊤, ◌==◌, ◌&&◌, Any}
+use Rattle.std.specs.Prelude.{⊤, ◌==◌, Any}
 use Rattle.std.specs.List.{AllByRecursion, find, list_all, sum_by}
 use Rattle.std.proofs.lemmas.Bool.{and_parts, eqb-true, eq-eqb}
 use Rattle.std.proofs.lemmas.List.Sums.{sum_by-cons}

@@ -50,7 +50,8 @@ use Rattle.vlm_words.proofs.Processes.{kept_converted, kept_ended, kept_entered,
 use Rattle.vlm_words.proofs.Settled.{settled_law}
 use Rattle.vlm_words.proofs.Waiting.{EachConverting, Queued, conversion_queued, dequeue_queued, queued_always, request_queued}
 use Rattle.vlm_words.proofs.Withdrawing.{one_ends}
-use Rattle.vlm_words.proofs.Writing.{AreLeftByEnds, IsNumbered, all_left, all_left_by_none, all_left_swept, block_at, block_written, many_written}
+use Rattle.vlm_words.proofs.EndWrites.{IsNumbered, block_at, block_written, many_written}
+use Rattle.vlm_words.proofs.Writing.{AreLeftByEnds, all_left, all_left_by_none, all_left_swept}
 
 -- ---- status blocks are numbered from 1
 

@@ -1,11 +1,12 @@
 -- What resources are found by.
-use Rattle.std.specs.Prelude.{◌≡◌, ◌++◌, ◌&&◌, ◌==◌, Bool, true, false, nat_eq, refl}
+use Rattle.std.specs.Prelude.{◌≡◌, ◌++◌, ◌&&◌, ◌==◌, Bool, false, nat_eq, refl}
 use Rattle.std.specs.Bool.{Decides}
 use Rattle.std.specs.Cmp.{unsigned_Decides}
 use Rattle.std.specs.Cmp.Lexicographic.{bytes_decides, pointwise}
 use Rattle.std.specs.Hash as fed
 use Rattle.std.specs.Hash.{HashWrites}
 use Rattle.std.proofs.Common.{ap}
+use Rattle.std.proofs.lemmas.Bool.{and_from, and_parts}
 use Rattle.vlm_words.specs.declared.resources.Domain.{Domain}
 use Rattle.vlm_words.specs.declared.resources.Domain.TheVariants.{Group, System}
 use Rattle.vlm_words.specs.declared.resources.Key.{Key}
@@ -35,30 +36,23 @@ is_domain-Decides (Group a) System = (λ h. cc, λ e. cc)
 is_domain-Decides System (Group b) = (λ h. cc, λ e. cc)
 is_domain-Decides System System = (λ h. refl, λ e. refl)
 
-both : (a b : Bool) → (a && b) ≡ true → (a ≡ true) × (b ≡ true)
-both true b h = (refl, h)
-both false b h = cc
-
-both_so : (a b : Bool) → a ≡ true → b ≡ true → (a && b) ≡ true
-both_so a b h i = rw (h, i) refl
-
 -- two keys that are found the same are the same
 pub is_same_key-Decides : (a b : Key) → Decides (is_same_key a b) (a ≡ b)
 is_same_key-Decides (Root a name) (Root b other) = (
   λ h.
-      let parts = both (is_domain a b) (pointwise nat_eq name other) h in
+      let parts = and_parts (is_domain a b) (pointwise nat_eq name other) h in
       let domain = (is_domain-Decides a b).0 parts.0 in
       let text = (bytes_decides name other).0 parts.1 in
       cc,
-  λ e. both_so (is_domain a b) (pointwise nat_eq name other) ((is_domain-Decides a b).1 (cc)) ((bytes_decides name other).1 (cc)),
+  λ e. and_from (is_domain a b) (pointwise nat_eq name other) ((is_domain-Decides a b).1 (cc)) ((bytes_decides name other).1 (cc)),
 )
 is_same_key-Decides (Root a name) (Below q other) = (λ h. cc, λ e. cc)
 is_same_key-Decides (Below p name) (Root b other) = (λ h. cc, λ e. cc)
 is_same_key-Decides (Below p name) (Below q other) = (
   λ h.
-      let parts = both (p == q) (pointwise nat_eq name other) h in
+      let parts = and_parts (p == q) (pointwise nat_eq name other) h in
       let parent = (unsigned_Decides p q).0 parts.0 in
       let text = (bytes_decides name other).0 parts.1 in
       cc,
-  λ e. both_so (p == q) (pointwise nat_eq name other) ((unsigned_Decides p q).1 (cc)) ((bytes_decides name other).1 (cc)),
+  λ e. and_from (p == q) (pointwise nat_eq name other) ((unsigned_Decides p q).1 (cc)) ((bytes_decides name other).1 (cc)),
 )

@@ -1,0 +1,174 @@
+-- How writes, and the ends of requests one after another, change the status blocks of all processes.
+use Rattle.std.proofs.Common.{◌≡◌, ◌<◌, ◌+◌, ◌-◌, ℕ, Bool, true, false, List, [], ◌∷◌, ◌++◌, length, set, get_or, cond, Some, refl, sym, subst, ap, ◌∙◌, arith}
+use Rattle.std.specs.Prelude.{◌==◌, ◌&&◌}
+use Rattle.std.specs.List.{AllByRecursion}
+use Rattle.std.specs.Option.{option_map_or}
+use Rattle.std.proofs.lemmas.Bool.{cond_both, eqb-true, eqb-false, eq-eqb, ne_eqb}
+use Rattle.std.proofs.lemmas.List.{length-set, get_or-set_same, get_or-set_other}
+use Rattle.vlm_words.specs.declared.blocks.Block.{Block}
+use Rattle.vlm_words.specs.declared.conditions.Cond.TheVariants.{Normal, Abort, Cancel}
+use Rattle.vlm_words.specs.declared.modes.Act.TheVariants.{Nothing, Return, Write}
+use Rattle.vlm_words.specs.declared.resources.ValueBlock.{ValueBlock}
+use Rattle.vlm_words.specs.Conditions.{condition_number}
+use Rattle.vlm_words.specs.State.{Process, Resource, process_of}
+use Rattle.vlm_words.specs.StatusBlocks.{block_after_return, new_status_block, process_after_write, process_with_block, processes_after_return, processes_after_status, processes_after_write, status_block_of, status_blocks_of}
+use Rattle.vlm_words.specs.Endings.{Ending, How}
+use Rattle.vlm_words.specs.Endings.How.{by_abort, by_cancel, by_grant}
+use Rattle.vlm_words.specs.Effects.{Blocks, blocks_after_end, blocks_after_ending, blocks_after_return, blocks_after_writing}
+use Rattle.vlm_words.specs.Grants.{service}
+use Rattle.vlm_words.specs.Sweeps.{blocks_after_service, processes_after_service, sweep_endings}
+use Rattle.vlm_words.specs.Written.{is_end_for}
+
+-- ---- one write
+
+-- a status block of the process of this identification, the first at 0
+abbrev pub block_at : List Process → ℕ → ℕ → Block
+block_at processes pid k = get_or (status_blocks_of processes pid) k new_status_block
+
+-- a process as a write leaves it, if it is its own
+abbrev as_written : ℕ → Block → Process → Bool → Process
+as_written number block p mine = cond mine (process_with_block number block p) p
+
+-- a write changes the blocks of its process alone
+blocks_written : (owner number pid : ℕ) (block : Block) (processes : List Process)
+    → status_blocks_of (processes_after_write owner number block processes) pid
+    ≡ cond (owner == pid) (set (status_blocks_of processes pid) (number - 1) block) (status_blocks_of processes pid)
+unfolding process_after_write
+blocks_written owner number pid block [] = cond_both (owner == pid) (set [] (number - 1) block) [] (λ blocks. [] ≡ blocks) (λ _. refl) (λ _. refl)
+blocks_written owner number pid block (p ∷ rest) =
+    of_tests (p.pid == owner) refl (p.pid == pid) refl (blocks_written owner number pid block rest)
+  where
+    of_tests : (mine : Bool) → (p.pid == owner) ≡ mine → (found : Bool) → (p.pid == pid) ≡ found
+        → status_blocks_of (processes_after_write owner number block rest) pid
+        ≡ cond (owner == pid) (set (status_blocks_of rest pid) (number - 1) block) (status_blocks_of rest pid)
+        → option_map_or (λ q. q.blocks) (cond ((as_written number block p mine).pid == pid) (Some (as_written number block p mine)) (process_of (processes_after_write owner number block rest) pid)) []
+        ≡ cond (owner == pid) (set (option_map_or (λ q. q.blocks) (cond found (Some p) (process_of rest pid)) []) (number - 1) block)
+        (option_map_or (λ q. q.blocks) (cond found (Some p) (process_of rest pid)) [])
+    of_tests true is true at behind =
+        let same : (owner == pid) ≡ true = eq-eqb owner pid (sym (eqb-true p.pid owner is) ∙ eqb-true p.pid pid at) in
+        rw (at, same) refl
+    of_tests false is true at behind =
+        let differ : (owner == pid) ≡ false =
+        ne_eqb owner pid (λ same. eqb-false p.pid owner is (eqb-true p.pid pid at ∙ sym same)) in
+        rw (at, differ) refl
+    of_tests true is false at behind = rw at behind
+    of_tests false is false at behind = rw at behind
+
+-- a process has as many status blocks after a write
+pub many_written : (owner number pid : ℕ) (block : Block) (processes : List Process)
+    → length (status_blocks_of (processes_after_write owner number block processes) pid) ≡ length (status_blocks_of processes pid)
+many_written owner number pid block processes =
+    ap (λ (blocks : List Block). length blocks) (blocks_written owner number pid block processes)
+    ∙ cond_both (owner == pid) (set (status_blocks_of processes pid) (number - 1) block) (status_blocks_of processes pid)
+    (λ blocks. length blocks ≡ length (status_blocks_of processes pid))
+    (λ _. length-set (status_blocks_of processes pid) (number - 1) block) (λ _. refl)
+
+-- each block is what the write makes of it if it is the one, and else as it was
+pub block_written : (owner number : ℕ) (made : Block → Block) (processes : List Process) (pid k : ℕ) → 0 < number → k < length (status_blocks_of processes pid)
+    → block_at (processes_after_write owner number (made (status_block_of processes owner number)) processes) pid k
+    ≡ cond ((owner == pid) && (number == k + 1)) (made (block_at processes pid k)) (block_at processes pid k)
+block_written owner number made processes pid k first within =
+    ap (λ (blocks : List Block). get_or blocks k new_status_block) (blocks_written owner number pid (made (status_block_of processes owner number)) processes)
+    ∙ of_tests (owner == pid) refl (number == k + 1) refl
+  where
+    of_tests : (mine : Bool) → (owner == pid) ≡ mine → (this : Bool) → (number == k + 1) ≡ this
+        → get_or (cond mine (set (status_blocks_of processes pid) (number - 1) (made (status_block_of processes owner number))) (status_blocks_of processes pid)) k new_status_block
+        ≡ cond (mine && this) (made (block_at processes pid k)) (block_at processes pid k)
+    of_tests true is true at =
+        let place : number - 1 ≡ k = omega (arith, eqb-true number (k + 1) at) in
+        ap (λ (n : ℕ). get_or (set (status_blocks_of processes pid) n (made (status_block_of processes owner number))) k new_status_block) place
+        ∙ get_or-set_same (status_blocks_of processes pid) k (made (status_block_of processes owner number)) new_status_block within
+        ∙ ap made (ap (λ (n : ℕ). get_or (status_blocks_of processes owner) n new_status_block) place
+        ∙ ap (λ (n : ℕ). block_at processes n k) (eqb-true owner pid is))
+    of_tests true is false at =
+        get_or-set_other (status_blocks_of processes pid) (number - 1) k (made (status_block_of processes owner number)) new_status_block (λ same. eqb-false number (k + 1) at (omega (arith, same)))
+    of_tests false is this at = refl
+
+-- ---- one end
+
+-- what an end makes of its status block, where its resource has this value block
+abbrev pub block_after_how : How → ValueBlock → Block → Block
+block_after_how (by_grant Nothing) value block = record block { status = condition_number Normal }
+block_after_how (by_grant Return) value block = block_after_return value block
+block_after_how (by_grant Write) value block = record block { status = condition_number Normal }
+block_after_how by_abort value block = record block { status = condition_number Abort }
+block_after_how by_cancel value block = record block { status = condition_number Cancel }
+
+-- an end writes its status block so
+pub end_writes : (how : How) (ending : Ending) (b : Blocks) → (blocks_after_end how ending b).processes
+    ≡ processes_after_write ending.pid ending.request.block
+    (block_after_how how b.value_block (status_block_of b.processes ending.pid ending.request.block)) b.processes
+unfolding blocks_after_return blocks_after_writing processes_after_status processes_after_return
+end_writes (by_grant Nothing) ending b = refl
+end_writes (by_grant Return) ending b = refl
+end_writes (by_grant Write) ending b = refl
+end_writes by_abort ending b = refl
+end_writes by_cancel ending b = refl
+
+-- ---- all ends of a step
+
+-- the ended request names a status block; they are numbered from 1
+abbrev pub IsNumbered : Ending → Type 0
+IsNumbered ending = 0 < ending.request.block
+
+-- what ends make of a status block of a process, each said by its number
+module _ (Leaves : ℕ → ℕ → List Ending → Block → Block → Type 0) where
+  -- what they make of all status blocks
+  pub record AreLeft (endings : List Ending) (before after : List Process) : Type 0 where
+    pub many : (pid : ℕ) → length (status_blocks_of after pid) ≡ length (status_blocks_of before pid)
+    pub each : (pid k : ℕ) → k < length (status_blocks_of before pid) → Leaves pid (k + 1) endings (block_at before pid k) (block_at after pid k)
+
+  -- where nothing ends
+  pub left_by_none : ((pid number : ℕ) (block : Block) → Leaves pid number [] block block) → (processes : List Process) → AreLeft [] processes processes
+  left_by_none none processes = record { many = λ _. refl; each = λ pid k _. none pid (k + 1) (block_at processes pid k) }
+
+  -- where one request ends
+  pub left_by_one : (ending : Ending) (b : Blocks) → IsNumbered ending
+      → ((pid number : ℕ) (block : Block)
+      → Leaves pid number (ending ∷ []) block (cond (is_end_for pid number ending) (block_after_how ending.how b.value_block block) block))
+      → AreLeft (ending ∷ []) b.processes (blocks_after_ending ending b).processes
+  left_by_one ending b numbered one =
+      subst (λ (after : List Process). AreLeft (ending ∷ []) b.processes after) (sym (end_writes ending.how ending b))
+      (record {
+        many = λ pid. many_written ending.pid ending.request.block pid _ b.processes;
+        each = λ pid k within.
+            subst (λ (after : Block). Leaves pid (k + 1) (ending ∷ []) (block_at b.processes pid k) after)
+            (sym (block_written ending.pid ending.request.block (block_after_how ending.how b.value_block) b.processes pid k numbered within))
+            (one pid (k + 1) (block_at b.processes pid k));
+      })
+
+  -- what first ends and then others make of a status block is what all of them make of it
+  abbrev pub FollowOn : Type 0
+  FollowOn =
+      (pid number : ℕ) (first second : List Ending) (a b c : Block) → Leaves pid number first a b → Leaves pid number second b c
+      → Leaves pid number (first ++ second) a c
+
+  -- first ends and then others
+  pub left_by_both : FollowOn → (first second : List Ending) (a b c : List Process) → AreLeft first a b → AreLeft second b c → AreLeft (first ++ second) a c
+  left_by_both both first second a b c one other = record {
+    many = λ pid. other.many pid ∙ one.many pid;
+    each = λ pid k within.
+        both pid (k + 1) first second (block_at a pid k) (block_at b pid k) (block_at c pid k) (one.each pid k within)
+        (other.each pid k (subst (λ (n : ℕ). k < n) (sym (one.many pid)) within));
+  }
+
+  -- the grants of a service
+  abbrev pub ServiceLeaves : Resource → Type 0
+  ServiceLeaves r = (processes : List Process) → AreLeft (service r).endings processes (blocks_after_service processes r).processes
+
+  -- the grants of a sweep
+  left_by_sweep : ((pid number : ℕ) (block : Block) → Leaves pid number [] block block) → FollowOn → (processes : List Process) (resources : List Resource)
+      → AllByRecursion ServiceLeaves resources → AreLeft (sweep_endings resources) processes (processes_after_service processes resources)
+  unfolding sweep_endings
+  left_by_sweep none both processes [] serves = left_by_none none processes
+  left_by_sweep none both processes (r ∷ rest) serves =
+      left_by_both both (service r).endings (sweep_endings rest) processes (blocks_after_service processes r).processes
+      (processes_after_service (blocks_after_service processes r).processes rest)
+      (serves.0 processes) (left_by_sweep none both (blocks_after_service processes r).processes rest serves.1)
+
+  -- the ends of a change, and then the grants of its sweep
+  pub left_swept : ((pid number : ℕ) (block : Block) → Leaves pid number [] block block) → FollowOn
+      → (endings : List Ending) (before changed : List Process) (resources : List Resource) → AreLeft endings before changed
+      → AllByRecursion ServiceLeaves resources → AreLeft (endings ++ sweep_endings resources) before (processes_after_service changed resources)
+  left_swept none both endings before changed resources left serves =
+      left_by_both both endings (sweep_endings resources) before changed (processes_after_service changed resources) left (left_by_sweep none both changed resources serves)
