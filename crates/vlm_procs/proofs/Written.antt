@@ -1,9 +1,11 @@
 -- A status block that is written by the key of its process.
-use Rattle.std.proofs.Common.{◌≡◌, ℕ, List, [], map, Some, refl, sym, ap, ◌∙◌}
+use Rattle.std.proofs.Common.{◌≡◌, ◌-◌, ℕ, Bool, true, false, cond, get_or, List, [], map, Option, None, Some, refl, sym, ap, ◌∙◌}
+use Rattle.std.specs.Prelude.{nat_lt, slice_get, unwrap_or}
+use Rattle.std.proofs.lemmas.Option.{unwrap_or-slice_get}
 use Rattle.std.specs.Option.{IfSome, option_map_or}
 use Rattle.vlm_words.specs.declared.blocks.Block.{Block}
 use Rattle.vlm_words.specs.State.{Process}
-use Rattle.vlm_words.specs.StatusBlocks.{process_after_write, process_with_block, processes_after_write, status_blocks_of}
+use Rattle.vlm_words.specs.StatusBlocks.{new_status_block, process_after_write, process_with_block, processes_after_write, status_block_at, status_block_of, status_blocks_of}
 use Rattle.vlm_store.specs.Records.{IsProcess, IsSound, Records, SameButBlocks, StoredProcess, on_process, plain_processes, process_at}
 use Rattle.vlm_store.proofs.Plain.{but_blocks-on_process, plain-on_process, process_at-stored, process_of-stored}
 
@@ -15,6 +17,19 @@ blocks_are s at pid blocks sound is read =
     let told = rw found at read in
     let named = ap (λ o. option_map_or (λ (p : Process). p.blocks) o []) (process_of-stored is.0 s.processes sound.processes_apart is.1.0) in
     told ∙ sym named ∙ ap (λ x. status_blocks_of (plain_processes s) x) is.1.2
+
+-- a status block that is read, or a new one where the process does not have it
+pub block_or_new : (read : Option Block) (processes : List Process) (pid n : ℕ) → read ≡ status_block_at processes pid n
+    → unwrap_or read new_status_block ≡ status_block_of processes pid n
+unfolding status_block_at
+block_or_new read processes pid n is = ap (λ (o : Option Block). unwrap_or o new_status_block) is ∙ of_number (nat_lt 0 n)
+  where
+    blocks : List Block
+    blocks = status_blocks_of processes pid
+
+    of_number : (named : Bool) → unwrap_or (cond named (slice_get blocks (n - 1)) None) new_status_block ≡ cond named (get_or blocks (n - 1) new_status_block) new_status_block
+    of_number true = unwrap_or-slice_get blocks (n - 1) new_status_block
+    of_number false = refl
 
 -- the write of a status block
 pub written_blocks : (s : Records) (at pid n : ℕ) (block : Block) → IsSound s → IsProcess at pid s

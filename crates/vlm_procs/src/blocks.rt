@@ -20,7 +20,7 @@ fn status_blocks(store: &Store, at: ProcAt) -> &[Block]
     &store.process_record(at).blocks
 }
 
-// Puts a status block in the place of the one with this number. Number 0 is taken for 1.
+// Puts a status block in the place of the one with this number, if the process has it.
 fn write(store: &mut Store, at: ProcAt, number: u8, block: Block)
     requires { HasProcess at store.old }
     ensures written { (pid : ℕ) → IsProcess at pid store.old → plain_processes store.new
@@ -46,16 +46,13 @@ pub fn status_block(store: &Store, at: ProcAt, number: u8) -> Option<Block>
         .copied()
 }
 
-// The status block of this number, or a new one where it is not there. Number 0 is taken for 1.
+// The status block of this number, or a new one where the process does not have it.
 fn status_block_or_new(store: &Store, at: ProcAt, number: u8) -> Block
     requires { HasProcess at store.now }
     ensures { (pid : ℕ) → IsProcess at pid store.now → result
         ≡ status_block_of (plain_processes store.now) pid number }
 {
-    match status_blocks(store, at).get(usize::from(number).saturating_sub(1)) {
-        Some(block) => *block,
-        None => Block::new(),
-    }
+    status_block(store, at, number).unwrap_or(Block::new())
 }
 
 /// A request for the lock was accepted with this status block: it is pending, and the block has the
@@ -76,8 +73,7 @@ pub fn accept(store: &mut Store, at: ProcAt, number: u8, lkid: u32)
     write(store, at, number, pending);
 }
 
-/// The value part of the process's status block of this number, from 1. Zeros where it has no such block;
-/// number 0 is taken for 1.
+/// The value part of the process's status block of this number, from 1. Zeros where it has no such block.
 pub fn value(store: &Store, at: ProcAt, number: u8) -> [u8; 16]
     requires { HasProcess at store.now }
     ensures { (pid : ℕ) → IsProcess at pid store.now → result

@@ -83,8 +83,7 @@ impl Store {
         &self.processes[at.slot()]
     }
 
-    /// Puts a status block of a process in the place of the one with this number, if it is there. Number
-    /// 0 is taken for 1.
+    /// Puts a status block of a process in the place of the one with this number, from 1, if it is there.
     pub fn set_status_block(&mut self, at: ProcAt, number: u8, block: Block)
         requires { HasProcess at self.old }
         ensures { self.new ≡ record self.old {

@@ -60,16 +60,18 @@ impl Process {
         }
     }
 
-    /// Puts a status block in the place of the one with this number, if it is there. Number 0 is taken
-    /// for 1.
+    /// Puts a status block in the place of the one with this number, from 1, if it is there.
     pub(crate) fn put_status_block(&mut self, number: u8, block: Block)
         ensures plain { plain_process self.new
             ≡ process_with_block number block (plain_process self.old) }
         ensures own { self.new.own ≡ self.old.own }
         ensures order { self.new.in_order ≡ self.old.in_order }
     {
-        if let Some(place) = self.blocks.get_mut(usize::from(number).saturating_sub(1)) {
-            *place = block;
+        let Some(index) = usize::from(number).checked_sub(1) else {
+            return;
+        };
+        if let Some(old) = self.blocks.get_mut(index) {
+            *old = block;
         }
     }
 }

@@ -1,9 +1,9 @@
 -- How writes, and the ends of requests one after another, change the status blocks of all processes.
 use Rattle.std.proofs.Common.{◌≡◌, ◌<◌, ◌+◌, ◌-◌, ℕ, Bool, true, false, List, [], ◌∷◌, ◌++◌, length, set, get_or, cond, Some, refl, sym, subst, ap, ◌∙◌, arith}
-use Rattle.std.specs.Prelude.{◌==◌, ◌&&◌}
+use Rattle.std.specs.Prelude.{◌==◌, ◌&&◌, nat_lt}
 use Rattle.std.specs.List.{AllByRecursion}
 use Rattle.std.specs.Option.{option_map_or}
-use Rattle.std.proofs.lemmas.Bool.{cond_both, eqb-true, eqb-false, eq-eqb, ne_eqb}
+use Rattle.std.proofs.lemmas.Bool.{cond_both, eqb-true, eqb-false, eq-eqb, lt-ltb, ltb-false, ltb-true, ne_eqb}
 use Rattle.std.proofs.lemmas.List.{length-set, get_or-set_same, get_or-set_other}
 use Rattle.vlm_words.specs.declared.blocks.Block.{Block}
 use Rattle.vlm_words.specs.declared.conditions.Cond.TheVariants.{Normal, Abort, Cancel}
@@ -11,7 +11,7 @@ use Rattle.vlm_words.specs.declared.modes.Act.TheVariants.{Nothing, Return, Writ
 use Rattle.vlm_words.specs.declared.resources.ValueBlock.{ValueBlock}
 use Rattle.vlm_words.specs.Conditions.{condition_number}
 use Rattle.vlm_words.specs.State.{Process, Resource, process_of}
-use Rattle.vlm_words.specs.StatusBlocks.{block_after_return, new_status_block, process_after_write, process_with_block, processes_after_return, processes_after_status, processes_after_write, status_block_of, status_blocks_of}
+use Rattle.vlm_words.specs.StatusBlocks.{block_after_return, new_status_block, process_after_write, process_with_block, with_block, processes_after_return, processes_after_status, processes_after_write, status_block_of, status_blocks_of}
 use Rattle.vlm_words.specs.Endings.{Ending, How}
 use Rattle.vlm_words.specs.Endings.How.{by_abort, by_cancel, by_grant}
 use Rattle.vlm_words.specs.Effects.{Blocks, blocks_after_end, blocks_after_ending, blocks_after_return, blocks_after_writing}
@@ -29,20 +29,26 @@ block_at processes pid k = get_or (status_blocks_of processes pid) k new_status_
 abbrev as_written : ℕ → Block → Process → Bool → Process
 as_written number block p mine = cond mine (process_with_block number block p) p
 
+-- as many status blocks stand there after a write
+length-with_block : (number : ℕ) (block : Block) (blocks : List Block) → length (with_block number block blocks) ≡ length blocks
+length-with_block number block blocks =
+    cond_both (nat_lt 0 number) (set blocks (number - 1) block) blocks (λ xs. length xs ≡ length blocks)
+    (λ _. length-set blocks (number - 1) block) (λ _. refl)
+
 -- a write changes the blocks of its process alone
 blocks_written : (owner number pid : ℕ) (block : Block) (processes : List Process)
     → status_blocks_of (processes_after_write owner number block processes) pid
-    ≡ cond (owner == pid) (set (status_blocks_of processes pid) (number - 1) block) (status_blocks_of processes pid)
+    ≡ cond (owner == pid) (with_block number block (status_blocks_of processes pid)) (status_blocks_of processes pid)
 unfolding process_after_write
-blocks_written owner number pid block [] = cond_both (owner == pid) (set [] (number - 1) block) [] (λ blocks. [] ≡ blocks) (λ _. refl) (λ _. refl)
+blocks_written owner number pid block [] = cond_both (owner == pid) (with_block number block []) [] (λ blocks. [] ≡ blocks) (λ _. cond_both (nat_lt 0 number) (set [] (number - 1) block) [] (λ blocks. [] ≡ blocks) (λ _. refl) (λ _. refl)) (λ _. refl)
 blocks_written owner number pid block (p ∷ rest) =
     of_tests (p.pid == owner) refl (p.pid == pid) refl (blocks_written owner number pid block rest)
   where
     of_tests : (mine : Bool) → (p.pid == owner) ≡ mine → (found : Bool) → (p.pid == pid) ≡ found
         → status_blocks_of (processes_after_write owner number block rest) pid
-        ≡ cond (owner == pid) (set (status_blocks_of rest pid) (number - 1) block) (status_blocks_of rest pid)
+        ≡ cond (owner == pid) (with_block number block (status_blocks_of rest pid)) (status_blocks_of rest pid)
         → option_map_or (λ q. q.blocks) (cond ((as_written number block p mine).pid == pid) (Some (as_written number block p mine)) (process_of (processes_after_write owner number block rest) pid)) []
-        ≡ cond (owner == pid) (set (option_map_or (λ q. q.blocks) (cond found (Some p) (process_of rest pid)) []) (number - 1) block)
+        ≡ cond (owner == pid) (with_block number block (option_map_or (λ q. q.blocks) (cond found (Some p) (process_of rest pid)) []))
         (option_map_or (λ q. q.blocks) (cond found (Some p) (process_of rest pid)) [])
     of_tests true is true at behind =
         let same : (owner == pid) ≡ true = eq-eqb owner pid (sym (eqb-true p.pid owner is) ∙ eqb-true p.pid pid at) in
@@ -59,30 +65,54 @@ pub many_written : (owner number pid : ℕ) (block : Block) (processes : List Pr
     → length (status_blocks_of (processes_after_write owner number block processes) pid) ≡ length (status_blocks_of processes pid)
 many_written owner number pid block processes =
     ap (λ (blocks : List Block). length blocks) (blocks_written owner number pid block processes)
-    ∙ cond_both (owner == pid) (set (status_blocks_of processes pid) (number - 1) block) (status_blocks_of processes pid)
+    ∙ cond_both (owner == pid) (with_block number block (status_blocks_of processes pid)) (status_blocks_of processes pid)
     (λ blocks. length blocks ≡ length (status_blocks_of processes pid))
-    (λ _. length-set (status_blocks_of processes pid) (number - 1) block) (λ _. refl)
+    (λ _. length-with_block number block (status_blocks_of processes pid)) (λ _. refl)
+
+-- a block is read where its number says
+pub block_numbered : (processes : List Process) (pid number : ℕ) → 0 < number → status_block_of processes pid number ≡ block_at processes pid (number - 1)
+block_numbered processes pid number first =
+    ap (λ (b : Bool). cond b (block_at processes pid (number - 1)) new_status_block) (lt-ltb 0 number first)
 
 -- each block is what the write makes of it if it is the one, and else as it was
-pub block_written : (owner number : ℕ) (made : Block → Block) (processes : List Process) (pid k : ℕ) → 0 < number → k < length (status_blocks_of processes pid)
+pub block_written : (owner number : ℕ) (made : Block → Block) (processes : List Process) (pid k : ℕ) → k < length (status_blocks_of processes pid)
     → block_at (processes_after_write owner number (made (status_block_of processes owner number)) processes) pid k
     ≡ cond ((owner == pid) && (number == k + 1)) (made (block_at processes pid k)) (block_at processes pid k)
-block_written owner number made processes pid k first within =
+block_written owner number made processes pid k within =
     ap (λ (blocks : List Block). get_or blocks k new_status_block) (blocks_written owner number pid (made (status_block_of processes owner number)) processes)
-    ∙ of_tests (owner == pid) refl (number == k + 1) refl
+    ∙ of_number (nat_lt 0 number) refl
   where
-    of_tests : (mine : Bool) → (owner == pid) ≡ mine → (this : Bool) → (number == k + 1) ≡ this
-        → get_or (cond mine (set (status_blocks_of processes pid) (number - 1) (made (status_block_of processes owner number))) (status_blocks_of processes pid)) k new_status_block
+    blocks : List Block
+    blocks = status_blocks_of processes pid
+
+    read : Block
+    read = get_or (status_blocks_of processes owner) (number - 1) new_status_block
+
+    of_tests : 0 < number → (mine : Bool) → (owner == pid) ≡ mine → (this : Bool) → (number == k + 1) ≡ this
+        → get_or (cond mine (set blocks (number - 1) (made read)) blocks) k new_status_block
         ≡ cond (mine && this) (made (block_at processes pid k)) (block_at processes pid k)
-    of_tests true is true at =
-        let place : number - 1 ≡ k = omega (arith, eqb-true number (k + 1) at) in
-        ap (λ (n : ℕ). get_or (set (status_blocks_of processes pid) n (made (status_block_of processes owner number))) k new_status_block) place
-        ∙ get_or-set_same (status_blocks_of processes pid) k (made (status_block_of processes owner number)) new_status_block within
-        ∙ ap made (ap (λ (n : ℕ). get_or (status_blocks_of processes owner) n new_status_block) place
+    of_tests first true is true at =
+        let index : number - 1 ≡ k = omega (arith, eqb-true number (k + 1) at) in
+        ap (λ (n : ℕ). get_or (set blocks n (made read)) k new_status_block) index
+        ∙ get_or-set_same blocks k (made read) new_status_block within
+        ∙ ap made (ap (λ (n : ℕ). get_or (status_blocks_of processes owner) n new_status_block) index
         ∙ ap (λ (n : ℕ). block_at processes n k) (eqb-true owner pid is))
-    of_tests true is false at =
-        get_or-set_other (status_blocks_of processes pid) (number - 1) k (made (status_block_of processes owner number)) new_status_block (λ same. eqb-false number (k + 1) at (omega (arith, same)))
-    of_tests false is this at = refl
+    of_tests first true is false at =
+        get_or-set_other blocks (number - 1) k (made read) new_status_block (λ same. eqb-false number (k + 1) at (omega (arith, same, first)))
+    of_tests first false is this at = refl
+
+    -- number 0 names no block
+    of_none : (mine : Bool) → get_or (cond mine blocks blocks) k new_status_block ≡ cond (mine && false) (made (block_at processes pid k)) (block_at processes pid k)
+    of_none true = refl
+    of_none false = refl
+
+    of_number : (named : Bool) → nat_lt 0 number ≡ named
+        → get_or (cond (owner == pid) (with_block number (made (status_block_of processes owner number)) blocks) blocks) k new_status_block
+        ≡ cond ((owner == pid) && (number == k + 1)) (made (block_at processes pid k)) (block_at processes pid k)
+    of_number true is = rw is (of_tests (ltb-true 0 number is) (owner == pid) refl (number == k + 1) refl)
+    of_number false is =
+        let other : (number == k + 1) ≡ false = ne_eqb number (k + 1) (λ same. omega (arith, same, ltb-false 0 number is)) in
+        rw (is, other) (of_none (owner == pid))
 
 -- ---- one end
 
@@ -107,10 +137,6 @@ end_writes by_cancel ending b = refl
 
 -- ---- all ends of a step
 
--- the ended request names a status block; they are numbered from 1
-abbrev pub IsNumbered : Ending → Type 0
-IsNumbered ending = 0 < ending.request.block
-
 -- what ends make of a status block of a process, each said by its number
 module _ (Leaves : ℕ → ℕ → List Ending → Block → Block → Type 0) where
   -- what they make of all status blocks
@@ -123,17 +149,17 @@ module _ (Leaves : ℕ → ℕ → List Ending → Block → Block → Type 0) w
   left_by_none none processes = record { many = λ _. refl; each = λ pid k _. none pid (k + 1) (block_at processes pid k) }
 
   -- where one request ends
-  pub left_by_one : (ending : Ending) (b : Blocks) → IsNumbered ending
+  pub left_by_one : (ending : Ending) (b : Blocks)
       → ((pid number : ℕ) (block : Block)
       → Leaves pid number (ending ∷ []) block (cond (is_end_for pid number ending) (block_after_how ending.how b.value_block block) block))
       → AreLeft (ending ∷ []) b.processes (blocks_after_ending ending b).processes
-  left_by_one ending b numbered one =
+  left_by_one ending b one =
       subst (λ (after : List Process). AreLeft (ending ∷ []) b.processes after) (sym (end_writes ending.how ending b))
       (record {
         many = λ pid. many_written ending.pid ending.request.block pid _ b.processes;
         each = λ pid k within.
             subst (λ (after : Block). Leaves pid (k + 1) (ending ∷ []) (block_at b.processes pid k) after)
-            (sym (block_written ending.pid ending.request.block (block_after_how ending.how b.value_block) b.processes pid k numbered within))
+            (sym (block_written ending.pid ending.request.block (block_after_how ending.how b.value_block) b.processes pid k within))
             (one pid (k + 1) (block_at b.processes pid k));
       })
 

@@ -53,8 +53,7 @@ use Rattle.vlm_words.proofs.SweptValues.{IsHarmless, WritesNothing, conversion_i
 use Rattle.vlm_words.proofs.Waiting.{EachConverting, Queued, conversion_queued, dequeue_queued, request_queued}
 use Rattle.vlm_words.proofs.Withdrawing.{one_ends}
 use Rattle.vlm_words.proofs.Writers.{kept_value}
-use Rattle.vlm_words.proofs.EndWrites.{IsNumbered}
-use Rattle.vlm_words.proofs.Written.{NamesOne, admitted_names, blocks_are, converting_names, names_always, request_names, served_numbered, withdrawn_numbered}
+use Rattle.vlm_words.proofs.Written.{blocks_are}
 
 -- ---- what a grant does
 
@@ -206,17 +205,16 @@ record IsReturning (s : State) (made : Stepped) : Type 0 where
   blocks : AreReturned (IsItsValue made.state) made.endings base made.state.processes
 
 -- the sweep returns what stands there
-sweep_serves : (change : Stepped) → AllByRecursion (Queued NamesOne) change.state.resources → AllByRecursion (Queued IsHarmless) change.state.resources
+sweep_serves : (change : Stepped) → AllByRecursion (Queued IsHarmless) change.state.resources
     → AllByRecursion (Serves (IsItsValue (stepped_after_sweep change).state)) change.state.resources
-sweep_serves change names harmless =
-    at_each change.state.resources (served_numbered change.state.resources names) harmless (each_member change.state.resources)
+sweep_serves change harmless =
+    at_each change.state.resources harmless (each_member change.state.resources)
   where
-    at_each : (resources : List Resource) → AllByRecursion (λ r. AllByRecursion IsNumbered (service r).endings) resources → AllByRecursion (Queued IsHarmless) resources
+    at_each : (resources : List Resource) → AllByRecursion (Queued IsHarmless) resources
         → AllByRecursion (λ r. Any (λ x. r ≡ x) change.state.resources) resources → AllByRecursion (Serves (IsItsValue (stepped_after_sweep change).state)) resources
-    at_each [] numbered nothing there = tt
-    at_each (r ∷ rest) numbered nothing there = (
+    at_each [] nothing there = tt
+    at_each (r ∷ rest) nothing there = (
       record {
-        numbered = numbered.0;
         nothing = service_harmless r nothing.0;
         its =
             each_weaker (λ ending. HoldsGranted ending (service r).resource) (Its (IsItsValue (stepped_after_sweep change).state) r.value_block)
@@ -226,20 +224,20 @@ sweep_serves change names harmless =
             (λ x same. subst (λ (t : Resource). IsHeldOn ending r.value_block (service t).resource) same (held, sym (service_leaves r)))
             change.state.resources there.0)) (service r).endings (service_holds r);
       },
-      at_each rest numbered.1 nothing.1 there.1,
+      at_each rest nothing.1 there.1,
     )
 
-swept_returning : (s : State) (change : Stepped) (base : List Process) → AllByRecursion (Queued NamesOne) change.state.resources
+swept_returning : (s : State) (change : Stepped) (base : List Process)
     → AllByRecursion (Queued IsHarmless) change.state.resources → AllByRecursion (Queued (HeldSo s)) change.state.resources
     → AllByRecursion (Acts s) change.endings → AreReturned (IsItsValue (stepped_after_sweep change).state) change.endings base change.state.processes
     → IsReturning s (stepped_after_sweep change)
 unfolding sweep_endings
-swept_returning s change base names harmless held acts blocks = record {
+swept_returning s change base harmless held acts blocks = record {
   acts = each_append (Acts s) change.endings (sweep_endings change.state.resources) acts (all_act change.state.resources held);
   base = base;
   blocks =
       returned_swept (IsItsValue (stepped_after_sweep change).state) change.endings base change.state.processes change.state.resources blocks
-      (sweep_serves change names harmless);
+      (sweep_serves change harmless);
 }
   where
     all_act : (resources : List Resource) → AllByRecursion (Queued (HeldSo s)) resources → AllByRecursion (Acts s) (flat_map (λ r. (service r).endings) resources)
@@ -251,19 +249,19 @@ swept_returning s change base names harmless held acts blocks = record {
 -- ---- the steps
 
 -- a step that ends nothing itself and moves no lock
-idle_returning : (s : State) (change : Stepped) → change.endings ≡ [] → AllByRecursion (Queued NamesOne) change.state.resources
+idle_returning : (s : State) (change : Stepped) → change.endings ≡ []
     → AllByRecursion (Queued IsHarmless) change.state.resources → AllByRecursion (Queued (HeldSo s)) change.state.resources → IsReturning s (stepped_after_sweep change)
-idle_returning s change none names harmless held =
-    swept_returning s change change.state.processes names harmless held (subst (AllByRecursion (Acts s)) (sym none) tt)
+idle_returning s change none harmless held =
+    swept_returning s change change.state.processes harmless held (subst (AllByRecursion (Acts s)) (sym none) tt)
     (subst (λ (endings : List Ending). AreReturned (IsItsValue (stepped_after_sweep change).state) endings change.state.processes change.state.processes) (sym none)
     (none_returned (IsItsValue (stepped_after_sweep change).state) change.state.processes))
 
 -- the end of a request that is granted at once, if it is
-at_once_returned : (P : Ending → ValueBlock → Type 0) (b : Bool) (ending : Ending) (block : ValueBlock) (processes : List Process) → IsNumbered ending
+at_once_returned : (P : Ending → ValueBlock → Type 0) (b : Bool) (ending : Ending) (block : ValueBlock) (processes : List Process)
     → (b ≡ true → ending.how ≡ by_grant Return → P ending block)
     → AreReturned P (cond b (ending ∷ []) []) processes (blocks_after (cond b (ending ∷ []) []) (blocks_with block processes)).processes
-at_once_returned P true ending block processes numbered its = one_returned P ending (blocks_with block processes) numbered (its refl)
-at_once_returned P false ending block processes numbered its = none_returned P processes
+at_once_returned P true ending block processes its = one_returned P ending (blocks_with block processes) (its refl)
+at_once_returned P false ending block processes its = none_returned P processes
 
 at_once_acts : (s : State) (b : Bool) (row : Row) → HeldSo s row → AllByRecursion (Acts s) (cond b (grant_endings true row) [])
 at_once_acts s true row before = row_acts s true row before
@@ -286,17 +284,17 @@ request_held s e now =
       refl,
     ))
 
-request_returning : (s : State) (e : NewRequest) (choice : Option Row) → enq_refusal s e ≡ None → AllByRecursion (Queued NamesOne) s.resources
+request_returning : (s : State) (e : NewRequest) (choice : Option Row) → enq_refusal s e ≡ None
     → AllByRecursion (Queued IsHarmless) s.resources → IsReturning s (stepped_after_sweep (step_change s (Enq e) choice))
 unfolding enq_change
-request_returning s e choice passed names harmless =
+request_returning s e choice passed harmless =
     let change : Stepped = step_change s (Enq e) choice in
     let accepted : List Process = processes_after_acceptance e.pid e.block s.next_lkid s.processes in
     let safe : AllByRecursion (Queued IsHarmless) (enq_change s e).resources = request_queued IsHarmless s e (λ _. new_is_harmless s e) harmless in
-    swept_returning s change accepted (request_queued NamesOne s e (λ _. request_names s e passed) names) safe
+    swept_returning s change accepted safe
     (request_queued (HeldSo s) s e (λ _. inl (refl, refl)) (queued_held s))
     (at_once_acts s (enq_at_once s e) (enq_row s e) (inl (refl, refl)))
-    (at_once_returned (IsItsValue (stepped_after_sweep change).state) (enq_at_once s e) (request_grant s e) (enq_resource s e).value_block accepted (request_names s e passed)
+    (at_once_returned (IsItsValue (stepped_after_sweep change).state) (enq_at_once s e) (request_grant s e) (enq_resource s e).value_block accepted
     (λ now _. held_stays (request_grant s e) (enq_resource s e).value_block (enq_change s e).processes (enq_change s e).resources safe (request_held s e now)))
 
 -- the grant of a conversion
@@ -329,25 +327,24 @@ return_is_harmless : (act : Act) → by_grant act ≡ by_grant Return → act �
 return_is_harmless act is writes = cc
 
 conversion_returning : (s : State) (c : Conversion) (a : ConversionAdmission) → AllByRecursion HoldersAgree s.resources → Apart s → convert_refusal s c ≡ None
-    → convert_admission s c ≡ Some a → AllByRecursion (Queued NamesOne) s.resources → AllByRecursion (Queued IsHarmless) s.resources
+    → convert_admission s c ≡ Some a → AllByRecursion (Queued IsHarmless) s.resources
     → IsReturning s (stepped_after_sweep (conversion_change s c (Some a)))
 unfolding convert_change convert_blocks convert_admission
-conversion_returning s c a agree apart passed admitted names harmless =
+conversion_returning s c a agree apart passed admitted harmless =
     let lkid : ℕ = convert_lkid s c in
     let change : Stepped = conversion_change s c (Some a) in
     let accepted : List Process = processes_after_acceptance c.pid c.block lkid s.processes in
     let there = admitted_there (convert_request s c) c.pid lkid a s.resources admitted in
-    let named : 0 < a.request.block = admitted_names s c a passed admitted in
     let safe : AllByRecursion (Queued IsHarmless) (convert_change s c a).resources =
     conversion_queued IsHarmless s c a (conversion_is_harmless s c a agree apart passed admitted) harmless in
     let before : HeldSo s a.row =
     granted_held s c.pid lkid a.resource a.row there.1 there.0 in
-    swept_returning s change accepted (conversion_queued NamesOne s c a (λ _. converting_names s c a named s.resources) names) safe
+    swept_returning s change accepted safe
     (conversion_queued (HeldSo s) s c a
     (λ _. each_weaker (λ r. Any (λ x. r ≡ x) s.resources) (EachConverting (HeldSo s) c lkid a)
     (λ r member row is. granted_held s c.pid lkid r row member is) s.resources (each_member s.resources)) (queued_held s))
     (at_once_acts s a.at_once (wanting_row a.row a.request) before)
-    (at_once_returned (IsItsValue (stepped_after_sweep change).state) a.at_once (conversion_grant a) a.resource.value_block accepted named
+    (at_once_returned (IsItsValue (stepped_after_sweep change).state) a.at_once (conversion_grant a) a.resource.value_block accepted
     (λ now returns.
     held_stays (conversion_grant a) a.resource.value_block (convert_change s c a).processes (convert_change s c a).resources safe
     (conversion_held s c a admitted now (return_is_harmless (grant_act a.row.held (Some a.request)) returns))))
@@ -387,17 +384,16 @@ dequeue_grants_nothing s d =
 by_act : (ending : Ending) (act : Act) → IsNoGrant ending → ending.how ≡ by_grant act → ⊥
 by_act ending act none is = none (subst IsGrant (sym is) tt)
 
-dequeue_returning : (s : State) (d : Dequeue) (choice : Option Row) → AllByRecursion (Queued NamesOne) s.resources → AllByRecursion (Queued IsHarmless) s.resources
+dequeue_returning : (s : State) (d : Dequeue) (choice : Option Row) → AllByRecursion (Queued IsHarmless) s.resources
     → IsReturning s (stepped_after_sweep (step_change s (Deq d) choice))
 unfolding deq_change
-dequeue_returning s d choice names harmless =
+dequeue_returning s d choice harmless =
     let change : Stepped = step_change s (Deq d) choice in
     let P : Ending → ValueBlock → Type 0 = IsItsValue (stepped_after_sweep change).state in
     let none : AllByRecursion IsNoGrant (deq_endings s d) = dequeue_grants_nothing s d in
-    swept_returning s change s.processes (dequeue_queued NamesOne s d names) (dequeue_queued IsHarmless s d harmless) (dequeue_queued (HeldSo s) s d (queued_held s))
+    swept_returning s change s.processes (dequeue_queued IsHarmless s d harmless) (dequeue_queued (HeldSo s) s d (queued_held s))
     (each_weaker IsNoGrant (Acts s) (λ ending no grant. absurd (no grant)) (deq_endings s d) none)
     (all_returned P (deq_endings s d) (blocks_with new_value_block s.processes)
-    (subst (AllByRecursion IsNumbered) (sym (one_ends (withdrawal_of s d) s.resources)) (withdrawn_numbered (withdrawal_of s d) s.resources names))
     (each_weaker IsNoGrant WritesNothing (λ ending no. by_act ending Write no) (deq_endings s d) none)
     (each_weaker IsNoGrant (Its P new_value_block) (λ ending no returns. absurd (by_act ending Return no returns)) (deq_endings s d) none))
 
@@ -405,16 +401,16 @@ returning : (history : History) (s : State) → Run history s → (step : Step) 
     → IsReturning s (stepped_after_sweep (step_change s step choice))
 unfolding declare_change set_change
 returning history s run (Declare d) choice passed =
-    idle_returning s (step_change s (Declare d) choice) refl (names_always history s run) (harmless_always history s run) (queued_held s)
+    idle_returning s (step_change s (Declare d) choice) refl (harmless_always history s run) (queued_held s)
 returning history s run (SetValue v) choice passed =
-    idle_returning s (step_change s (SetValue v) choice) refl (names_always history s run) (harmless_always history s run) (queued_held s)
-returning history s run (Enq e) choice passed = request_returning s e choice passed (names_always history s run) (harmless_always history s run)
+    idle_returning s (step_change s (SetValue v) choice) refl (harmless_always history s run) (queued_held s)
+returning history s run (Enq e) choice passed = request_returning s e choice passed (harmless_always history s run)
 returning history s run (Convert c) choice passed =
     let admitted = admission_of s c passed in
     subst (λ (there : Option ConversionAdmission). IsReturning s (stepped_after_sweep (conversion_change s c there))) (sym admitted.1)
-    (conversion_returning s c admitted.0 (holders_agree_always history s run) (apart_always history s run) passed admitted.1 (names_always history s run)
+    (conversion_returning s c admitted.0 (holders_agree_always history s run) (apart_always history s run) passed admitted.1
     (harmless_always history s run))
-returning history s run (Deq d) choice passed = dequeue_returning s d choice (names_always history s run) (harmless_always history s run)
+returning history s run (Deq d) choice passed = dequeue_returning s d choice (harmless_always history s run)
 returning history s run (Rundown pid) choice passed = cc
 returning history s run (Leave node) choice passed = cc
 returning history s run (Search node) choice passed = cc

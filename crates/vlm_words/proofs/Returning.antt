@@ -18,7 +18,7 @@ use Rattle.vlm_words.specs.Written.{is_end_for, last_end, later_end}
 use Rattle.vlm_words.specs.Returned.{is_return, last_return}
 use Rattle.vlm_words.proofs.SweptValues.{WritesNothing, end_leaves}
 use Rattle.vlm_words.proofs.Each.{each_weaker}
-use Rattle.vlm_words.proofs.EndWrites.{AreLeft, IsNumbered, ServiceLeaves, block_after_how, left_by_both, left_by_none, left_by_one, left_swept}
+use Rattle.vlm_words.proofs.EndWrites.{AreLeft, ServiceLeaves, block_after_how, left_by_both, left_by_none, left_by_one, left_swept}
 use Rattle.vlm_words.proofs.Writing.{last_of_both, later_end-none, later_end-twice}
 
 -- the number of the status that goes with a mark
@@ -115,28 +115,27 @@ module _ (P : Ending → ValueBlock → Type 0) where
   pub none_returned : (processes : List Process) → AreReturned [] processes processes
   none_returned = left_by_none ReturnsTo returns_nothing
 
-  pub one_returned : (ending : Ending) (b : Blocks) → IsNumbered ending → (ending.how ≡ by_grant Return → P ending b.value_block)
+  pub one_returned : (ending : Ending) (b : Blocks) → (ending.how ≡ by_grant Return → P ending b.value_block)
       → AreReturned (ending ∷ []) b.processes (blocks_after_ending ending b).processes
-  one_returned ending b numbered its =
-      left_by_one ReturnsTo ending b numbered (λ pid number before. returns_one pid number ending b.value_block before its)
+  one_returned ending b its =
+      left_by_one ReturnsTo ending b (λ pid number before. returns_one pid number ending b.value_block before its)
 
   -- what is returned, where it is, is the value block that stands there
   abbrev pub Its : ValueBlock → Ending → Type 0
   Its block ending = ending.how ≡ by_grant Return → P ending block
 
   -- ends that do not write the value block
-  pub all_returned : (endings : List Ending) (b : Blocks) → AllByRecursion IsNumbered endings → AllByRecursion WritesNothing endings
+  pub all_returned : (endings : List Ending) (b : Blocks) → AllByRecursion WritesNothing endings
       → AllByRecursion (Its b.value_block) endings → AreReturned endings b.processes (blocks_after endings b).processes
-  all_returned [] b numbered nothing its = none_returned b.processes
-  all_returned (ending ∷ endings) b numbered nothing its =
+  all_returned [] b nothing its = none_returned b.processes
+  all_returned (ending ∷ endings) b nothing its =
       left_by_both ReturnsTo returns_both (ending ∷ []) endings b.processes (blocks_after_ending ending b).processes (blocks_after endings (blocks_after_ending ending b)).processes
-      (one_returned ending b numbered.0 its.0)
-      (all_returned endings (blocks_after_ending ending b) numbered.1 nothing.1
+      (one_returned ending b its.0)
+      (all_returned endings (blocks_after_ending ending b) nothing.1
       (subst (λ (block : ValueBlock). AllByRecursion (Its block) endings) (sym (end_leaves ending.how ending b nothing.0)) its.1))
 
   -- the grants on a resource in a sweep
   pub record Serves (r : Resource) : Type 0 where
-    pub numbered : AllByRecursion IsNumbered (service r).endings
     pub nothing : AllByRecursion WritesNothing (service r).endings
     pub its : AllByRecursion (Its r.value_block) (service r).endings
 
@@ -149,4 +148,4 @@ module _ (P : Ending → ValueBlock → Type 0) where
       (each_weaker Serves (ServiceLeaves ReturnsTo) served resources serves)
     where
       served : (r : Resource) → Serves r → ServiceLeaves ReturnsTo r
-      served r each processes = all_returned (service r).endings (blocks_with r.value_block processes) each.numbered each.nothing each.its
+      served r each processes = all_returned (service r).endings (blocks_with r.value_block processes) each.nothing each.its

@@ -1,5 +1,5 @@
 -- Only writers change value blocks.
-use Rattle.std.proofs.Common.{◌≡◌, ◌<◌, ◌⊎◌, ◌-◌, ◌+◌, ℕ, Bool, true, false, not, List, [], ◌∷◌, ◌++◌, map, length, get_or, cond, Option, None, Some, refl, sym, subst, ap, inl, inr, ◌∙◌, arith}
+use Rattle.std.proofs.Common.{◌≡◌, ◌⊎◌, ◌-◌, ◌+◌, ℕ, Bool, true, false, not, List, [], ◌∷◌, ◌++◌, map, length, get_or, cond, Option, None, Some, refl, sym, subst, ap, inl, inr, ◌∙◌, arith}
 use Rattle.std.specs.Prelude.{◌==◌, ◌≢◌, ◌&&◌, ◌||◌, Any, is_some, unwrap_or}
 use Rattle.std.specs.List.{AllByRecursion, find}
 use Rattle.std.proofs.lemmas.Bool.{and_from, and_parts, cases_lt, cond_both, eq-eqb, eqb-true, or_cases}
@@ -56,7 +56,7 @@ use Rattle.vlm_words.proofs.SweptValues.{IsHarmless, WritesNothing, conversion_i
 use Rattle.vlm_words.proofs.Waiting.{Queued, conversion_queued, dequeue_queued, request_queued}
 use Rattle.vlm_words.proofs.Writes.{only_row_among, write_at_once}
 use Rattle.vlm_words.proofs.Written.{blocks_are, conversion_names}
-use Rattle.vlm_words.proofs.EndWrites.{block_at, block_written, many_written}
+use Rattle.vlm_words.proofs.EndWrites.{block_at, block_numbered, block_written, many_written}
 
 -- ---- what is so of a resource
 
@@ -278,13 +278,13 @@ each_there P (y ∷ ys) x each there =
     elim (Any-cases (λ z. x ≡ z) y ys there) [ inl here ↦ subst P (sym here) each.0 | inr later ↦ each_there P ys x each.1 later ]
 
 -- an accepted request leaves the value part of each status block
-accepted_leaves : (owner number lkid pid k : ℕ) (processes : List Process) → 0 < number
+accepted_leaves : (owner number lkid pid k : ℕ) (processes : List Process)
     → (block_at (processes_after_acceptance owner number lkid processes) pid k).value ≡ (block_at processes pid k).value
 unfolding processes_after_acceptance
-accepted_leaves owner number lkid pid k processes first =
+accepted_leaves owner number lkid pid k processes =
     elim (cases_lt k (length (status_blocks_of processes pid))) [
       | inl within ↦
-          ap (λ (block : Block). block.value) (block_written owner number (λ block. record block { status = 0; lkid = lkid }) processes pid k first within)
+          ap (λ (block : Block). block.value) (block_written owner number (λ block. record block { status = 0; lkid = lkid }) processes pid k within)
           ∙ cond_both ((owner == pid) && (number == k + 1)) (record (block_at processes pid k) { status = 0; lkid = lkid }) (block_at processes pid k)
           (λ block. block.value ≡ (block_at processes pid k).value) (λ _. refl) (λ _. refl)
       | inr past ↦
@@ -368,7 +368,8 @@ module _ (s : State) (c : Conversion) (a : ConversionAdmission) (agree : AllByRe
         ap (λ (b : ValueBlock). b.value) block
             ∙ ap (λ (pid : ℕ). (status_block_of (processes_after_acceptance c.pid c.block (convert_lkid s c) s.processes) pid a.request.block).value) its_pid
             ∙ ap (λ (request : Request). (status_block_of (processes_after_acceptance c.pid c.block (convert_lkid s c) s.processes) c.pid request.block).value) asks
-            ∙ accepted_leaves c.pid c.block (convert_lkid s c) c.pid (c.block - 1) s.processes (conversion_names s c passed)
+            ∙ ap (λ (block : Block). block.value) (block_numbered (processes_after_acceptance c.pid c.block (convert_lkid s c) s.processes) c.pid c.block (conversion_names s c passed))
+            ∙ accepted_leaves c.pid c.block (convert_lkid s c) c.pid (c.block - 1) s.processes
             ∙ ap (λ (blocks : List Block). (get_or blocks (c.block - 1) new_status_block).value) (blocks_are s.processes c.pid p lives),
         ap (λ (b : ValueBlock). b.valid) block,
       )

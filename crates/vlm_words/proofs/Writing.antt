@@ -1,7 +1,6 @@
 -- What writes of status blocks make of each status block.
 use Rattle.std.proofs.Common.{◌≡◌, ℕ, Bool, true, false, List, [], ◌∷◌, ◌++◌, cond, Option, None, Some, refl, sym, subst, ap, inl, inr, ◌∙◌}
 use Rattle.std.specs.Prelude.{◌==◌, ◌&&◌}
-use Rattle.std.specs.List.{AllByRecursion}
 use Rattle.std.proofs.lemmas.Bool.{eqb-true}
 use Rattle.vlm_words.specs.declared.blocks.Block.{Block}
 use Rattle.vlm_words.specs.declared.modes.Act.TheVariants.{Nothing, Return, Write}
@@ -15,8 +14,8 @@ use Rattle.vlm_words.specs.Effects.{Blocks, blocks_after, blocks_after_ending, b
 use Rattle.vlm_words.specs.Grants.{service}
 use Rattle.vlm_words.specs.Sweeps.{blocks_after_service, processes_after_service, sweep_endings}
 use Rattle.vlm_words.specs.Written.{IsLeftByEnds, TellsHow, TellsLast, is_end_for, last_end, later_end}
-use Rattle.vlm_words.proofs.Each.{Any-behind, Any-here, any_left, each_weaker}
-use Rattle.vlm_words.proofs.EndWrites.{AreLeft, IsNumbered, ServiceLeaves, block_after_how, left_by_both, left_by_none, left_by_one, left_swept}
+use Rattle.vlm_words.proofs.Each.{Any-behind, Any-here, any_left, each_so}
+use Rattle.vlm_words.proofs.EndWrites.{AreLeft, ServiceLeaves, block_after_how, left_by_both, left_by_none, left_by_one, left_swept}
 
 -- the status that it writes tells how the request ended
 tells : (how : How) (value : ValueBlock) (block : Block) → TellsHow how (block_after_how how value block).status
@@ -109,21 +108,17 @@ pub all_left_by_none : (processes : List Process) → AreLeftByEnds [] processes
 all_left_by_none = left_by_none IsLeftByEnds one_left_by_none
 
 -- the ends of requests of one resource
-pub all_left : (endings : List Ending) (b : Blocks) → AllByRecursion IsNumbered endings → AreLeftByEnds endings b.processes (blocks_after endings b).processes
-all_left [] b numbered = all_left_by_none b.processes
-all_left (ending ∷ endings) b numbered =
+pub all_left : (endings : List Ending) (b : Blocks) → AreLeftByEnds endings b.processes (blocks_after endings b).processes
+all_left [] b = all_left_by_none b.processes
+all_left (ending ∷ endings) b =
     left_by_both IsLeftByEnds one_left_by_both (ending ∷ []) endings b.processes (blocks_after_ending ending b).processes (blocks_after endings (blocks_after_ending ending b)).processes
-    (left_by_one IsLeftByEnds ending b numbered.0 (λ pid number before. one_left_by_one pid number ending b.value_block before))
-    (all_left endings (blocks_after_ending ending b) numbered.1)
+    (left_by_one IsLeftByEnds ending b (λ pid number before. one_left_by_one pid number ending b.value_block before))
+    (all_left endings (blocks_after_ending ending b))
 
 -- the ends of a change, and then the grants of its sweep
 pub all_left_swept : (endings : List Ending) (before changed : List Process) (resources : List Resource) → AreLeftByEnds endings before changed
-    → AllByRecursion (λ r. AllByRecursion IsNumbered (service r).endings) resources
     → AreLeftByEnds (endings ++ sweep_endings resources) before (processes_after_service changed resources)
 unfolding blocks_after_service
-all_left_swept endings before changed resources left numbered =
+all_left_swept endings before changed resources left =
     left_swept IsLeftByEnds one_left_by_none one_left_by_both endings before changed resources left
-    (each_weaker (λ r. AllByRecursion IsNumbered (service r).endings) (ServiceLeaves IsLeftByEnds) served resources numbered)
-  where
-    served : (r : Resource) → AllByRecursion IsNumbered (service r).endings → ServiceLeaves IsLeftByEnds r
-    served r each processes = all_left (service r).endings (blocks_with r.value_block processes) each
+    (each_so (ServiceLeaves IsLeftByEnds) (λ r processes. all_left (service r).endings (blocks_with r.value_block processes)) resources)

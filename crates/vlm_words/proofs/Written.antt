@@ -1,14 +1,13 @@
 -- A step writes the status blocks that it names, and those that the requests name that end in it.
-use Rattle.std.proofs.Common.{◌≡◌, ◌<◌, ◌+◌, ◌&&◌, ℕ, zero, suc, Bool, true, false, List, [], ◌∷◌, ◌++◌, flat_map, length, take, get_or, cond, Option, None, Some, refl, sym, subst, ap, ◌∙◌}
-use Rattle.std.specs.Prelude.{⊤, ◌==◌, is_some, nat_lt, nat_le}
-use Rattle.std.specs.List.{AllByRecursion, AllZip}
+use Rattle.std.proofs.Common.{◌≡◌, ◌<◌, ◌+◌, ◌&&◌, ℕ, Bool, true, false, List, [], ◌∷◌, ◌++◌, length, get_or, cond, Option, None, Some, refl, sym, subst, ap, ◌∙◌}
+use Rattle.std.specs.Prelude.{◌==◌, is_some, nat_lt, nat_le}
+use Rattle.std.specs.List.{AllByRecursion}
 use Rattle.std.specs.Option.{option_map_or, option_or}
 use Rattle.std.proofs.lemmas.Bool.{and_parts, cond_both, ltb-true}
 use Rattle.std.proofs.lemmas.List.Folds.{find-append}
 use Rattle.vlm_words.specs.declared.blocks.Block.{Block}
 use Rattle.vlm_words.specs.declared.conditions.Cond.TheVariants.{Normal, Departed, Nonexpr, Accvio}
 use Rattle.vlm_words.specs.declared.conditions.Cond.{Cond}
-use Rattle.vlm_words.specs.declared.locks.Request.{Request}
 use Rattle.vlm_words.specs.declared.locks.Row.{Row}
 use Rattle.vlm_words.specs.declared.steps.Answer.TheVariants.{Plain}
 use Rattle.vlm_words.specs.declared.steps.Answer.{Answer}
@@ -22,47 +21,29 @@ use Rattle.vlm_words.specs.declared.steps.ValueSetting.{ValueSetting}
 use Rattle.vlm_words.specs.State.{Process, Resource, State, process_of}
 use Rattle.vlm_words.specs.ValueBlocks.{new_value_block}
 use Rattle.vlm_words.specs.StatusBlocks.{new_status_block, processes_after_acceptance, processes_after_setting, processes_after_write, status_block_of, status_blocks_of}
-use Rattle.vlm_words.specs.Endings.{Ending, How, row_endings, wanted_endings}
+use Rattle.vlm_words.specs.Endings.{Ending}
 use Rattle.vlm_words.specs.Effects.{blocks_with}
-use Rattle.vlm_words.specs.Grants.{grant_endings, service}
-use Rattle.vlm_words.specs.Rows.{rows_of}
 use Rattle.vlm_words.specs.Sweeps.{blocks_after_service, processes_after_service, sweep_endings}
 use Rattle.vlm_words.specs.Checks.{caller_refusal, has_departed, or_else, status_block_refusal, which_refusal}
 use Rattle.vlm_words.specs.Declare.{declare_change, declared_process}
 use Rattle.vlm_words.specs.SetValue.{set_change, set_refusal}
-use Rattle.vlm_words.specs.Enqueue.{enq_argument_refusal, enq_at_once, enq_change, enq_endings, enq_form_refusal, enq_refusal, enq_resource, enq_row, expedite_refusal, name_refusal}
-use Rattle.vlm_words.specs.Convert.{ConversionAdmission, admission_refusal, conversion_endings, convert_admission, convert_argument_refusal, convert_blocks, convert_change, convert_lkid, convert_refusal, convert_request, wanting_row}
+use Rattle.vlm_words.specs.Enqueue.{enq_change, enq_endings, enq_resource}
+use Rattle.vlm_words.specs.Convert.{ConversionAdmission, admission_refusal, conversion_endings, convert_admission, convert_argument_refusal, convert_blocks, convert_change, convert_lkid, convert_refusal}
 use Rattle.vlm_words.specs.Checks.{lock_refusal}
 use Rattle.vlm_words.specs.Steps.{node_of_pid}
-use Rattle.vlm_words.specs.Withdrawals.{Withdrawal, queue_endings, withdrawal_endings}
-use Rattle.vlm_words.specs.Dequeue.{deq_change, deq_endings, withdrawal_of}
+use Rattle.vlm_words.specs.Dequeue.{deq_change, deq_endings}
 use Rattle.vlm_words.specs.Runs.{History, Run}
 use Rattle.vlm_words.specs.Stepped.{IsChoice, Stepped, conversion_change, refused, refused_or, step_change, step_refusal, stepped, stepped_after_sweep}
-use Rattle.vlm_words.specs.Laws.{IsGrantOf}
 use Rattle.vlm_words.specs.Settled.{IsSettled}
 use Rattle.vlm_words.specs.Written.{BlocksAfter, IsLeftByEnds, ProcessesAfter, WritesNamedBlocks, block_named, names_block, without_blocks}
-use Rattle.vlm_words.proofs.Admissions.{admitted_request}
 use Rattle.vlm_words.proofs.Always.{admission_of}
-use Rattle.vlm_words.proofs.Each.{each_append, each_filter}
-use Rattle.vlm_words.proofs.InOrder.{service_in_order}
-use Rattle.vlm_words.proofs.Passed.{both_pass, enq_passes, test_passes}
+use Rattle.vlm_words.proofs.Passed.{test_passes}
 use Rattle.vlm_words.proofs.Processes.{kept_converted, kept_ended, kept_entered, kept_set, kept_swept}
 use Rattle.vlm_words.proofs.Settled.{settled_law}
-use Rattle.vlm_words.proofs.Waiting.{EachConverting, Queued, conversion_queued, dequeue_queued, queued_always, request_queued}
-use Rattle.vlm_words.proofs.Withdrawing.{one_ends}
-use Rattle.vlm_words.proofs.EndWrites.{IsNumbered, block_at, block_written, many_written}
+use Rattle.vlm_words.proofs.EndWrites.{block_at, block_written, many_written}
 use Rattle.vlm_words.proofs.Writing.{AreLeftByEnds, all_left, all_left_by_none, all_left_swept}
 
 -- ---- status blocks are numbered from 1
-
--- what is wanted names a status block
-abbrev pub Names : Option Request → Type 0
-Names None = ⊤
-Names (Some request) = 0 < request.block
-
--- what the row wants does
-abbrev pub NamesOne : Row → Type 0
-NamesOne row = Names row.want
 
 -- a status block that a process has is numbered from 1
 from_1 : (s : State) (pid block : ℕ) → status_block_refusal s pid block ≡ None → 0 < block
@@ -72,109 +53,20 @@ from_1 s pid block passed =
     (and_parts (nat_lt 0 block) (nat_le block (length (status_blocks_of s.processes pid)))
     (test_passes (nat_lt 0 block && nat_le block (length (status_blocks_of s.processes pid))) Accvio passed)).0
 
--- where none of some checks refuses, the second and the third pass
-second_of : (a b c : Option Cond) → or_else a (or_else b c) ≡ None → b ≡ None
-second_of None None c passed = refl
-second_of None (Some refusal) c passed = cc
-second_of (Some refusal) b c passed = cc
-
+-- where none of some checks refuses, the third passes
 third_of : (a b c d : Option Cond) → or_else a (or_else b (or_else c d)) ≡ None → c ≡ None
 third_of None None None d passed = refl
 third_of None None (Some refusal) d passed = cc
 third_of None (Some refusal) c d passed = cc
 third_of (Some refusal) b c d passed = cc
 
--- an accepted request names one
-pub request_names : (s : State) (e : NewRequest) → enq_refusal s e ≡ None → 0 < e.block
-unfolding enq_form_refusal
-request_names s e passed =
-    from_1 s e.pid e.block
-    (second_of (enq_argument_refusal e) (status_block_refusal s e.pid e.block)
-    (or_else (which_refusal s e.pid e.parent) (or_else (name_refusal e.name) (expedite_refusal e.flags e.mode))) (enq_passes s e passed).1)
-
--- the setting of a value
-setting_names : (s : State) (v : ValueSetting) → set_refusal s v ≡ None → 0 < v.block
-unfolding set_refusal
-setting_names s v passed = from_1 s v.pid v.block (both_pass (caller_refusal s v.pid) (status_block_refusal s v.pid v.block) passed).1
-
--- and an accepted conversion
+-- an accepted conversion names one
 pub conversion_names : (s : State) (c : Conversion) → convert_refusal s c ≡ None → 0 < c.block
 unfolding convert_refusal
 conversion_names s c passed =
     from_1 s c.pid c.block
     (third_of (caller_refusal s c.pid) (convert_argument_refusal c) (status_block_refusal s c.pid c.block)
     (or_else (which_refusal s c.pid c.lock) (or_else (lock_refusal s c.pid (convert_lkid s c)) (admission_refusal s c (convert_admission s c)))) passed)
-
--- so does it as it is admitted
-pub admitted_names : (s : State) (c : Conversion) (a : ConversionAdmission) → convert_refusal s c ≡ None → convert_admission s c ≡ Some a → 0 < a.request.block
-unfolding convert_admission
-admitted_names s c a passed is =
-    subst (λ (request : Request). 0 < request.block) (sym (admitted_request (convert_request s c) c.pid (convert_lkid s c) a s.resources is))
-    (conversion_names s c passed)
-
-pub converting_names : (s : State) (c : Conversion) (a : ConversionAdmission) → 0 < a.request.block → (resources : List Resource)
-    → AllByRecursion (EachConverting NamesOne c (convert_lkid s c) a) resources
-converting_names s c a names [] = tt
-converting_names s c a names (r ∷ rest) = (λ row _. names, converting_names s c a names rest)
-
--- after every run each queued request does
-pub names_always : (history : History) (last : State) → Run history last → AllByRecursion (Queued NamesOne) last.resources
-names_always =
-    queued_always NamesOne (λ _ s _ e passed _. request_names s e passed)
-    (λ _ s _ c a passed is _. converting_names s c a (admitted_names s c a passed is) s.resources)
-
--- ---- and so does each request that ends
-
--- the requests of rows
-zip_numbered : (rows : List Row) (endings : List Ending) → AllZip IsGrantOf rows endings → AllByRecursion NamesOne rows → AllByRecursion IsNumbered endings
-zip_numbered [] [] ends names = tt
-zip_numbered [] (ending ∷ endings) ends names = absurd ends
-zip_numbered (row ∷ rows) [] ends names = absurd ends
-zip_numbered (row ∷ rows) (ending ∷ endings) ends names =
-    (subst Names (sym ends.0.request) names.0, zip_numbered rows endings ends.1 names.1)
-
-each_take : {X : Type 0} (P : X → Type 0) (n : ℕ) (xs : List X) → AllByRecursion P xs → AllByRecursion P (take n xs)
-each_take P zero xs each = tt
-each_take P (suc n) [] each = tt
-each_take P (suc n) (x ∷ xs) each = (each.0, each_take P n xs each.1)
-
--- the grants of a service
-pub served_numbered : (resources : List Resource) → AllByRecursion (Queued NamesOne) resources → AllByRecursion (λ r. AllByRecursion IsNumbered (service r).endings) resources
-served_numbered [] names = tt
-served_numbered (r ∷ rest) names =
-    let order = service_in_order r in (
-      zip_numbered (take order.conversions r.converting ++ take order.new_requests r.waiting) (service r).endings order.ends
-          (each_append NamesOne (take order.conversions r.converting) (take order.new_requests r.waiting)
-          (each_take NamesOne order.conversions r.converting names.0.converting) (each_take NamesOne order.new_requests r.waiting names.0.waiting)),
-      served_numbered rest names.1,
-    )
-
--- the end of what a row wants
-wanted_numbered : (how : How) (at_once : Bool) (lkid pid : ℕ) (want : Option Request) → Names want → AllByRecursion IsNumbered (wanted_endings how at_once lkid pid want)
-wanted_numbered how at_once lkid pid None names = tt
-wanted_numbered how at_once lkid pid (Some request) names = (names, tt)
-
-rows_numbered : (how : How) (rows : List Row) → AllByRecursion NamesOne rows → AllByRecursion IsNumbered (flat_map (row_endings how false) rows)
-rows_numbered how [] names = tt
-rows_numbered how (row ∷ rows) names =
-    each_append IsNumbered (row_endings how false row) (flat_map (row_endings how false) rows)
-    (wanted_numbered how false row.lkid row.pid row.want names.0) (rows_numbered how rows names.1)
-
--- those that a dequeue ends
-pub withdrawn_numbered : (w : Withdrawal) (resources : List Resource) → AllByRecursion (Queued NamesOne) resources
-    → AllByRecursion IsNumbered (flat_map (withdrawal_endings w) resources)
-withdrawn_numbered w [] names = tt
-withdrawn_numbered w (r ∷ rest) names =
-    each_append IsNumbered (withdrawal_endings w r) (flat_map (withdrawal_endings w) rest)
-    (each_append IsNumbered (queue_endings w.converting w.lkid r.converting) (queue_endings w.waiting w.lkid r.waiting)
-    (rows_numbered w.converting (rows_of w.lkid r.converting) (each_filter NamesOne _ r.converting names.0.converting))
-    (rows_numbered w.waiting (rows_of w.lkid r.waiting) (each_filter NamesOne _ r.waiting names.0.waiting)))
-    (withdrawn_numbered w rest names.1)
-
--- one that is granted at once
-at_once_numbered : (b : Bool) (row : Row) → NamesOne row → AllByRecursion IsNumbered (cond b (grant_endings true row) [])
-at_once_numbered true row names = wanted_numbered _ true row.lkid row.pid row.want names
-at_once_numbered false row names = tt
 
 -- ---- what a step makes of the blocks
 
@@ -205,17 +97,17 @@ named_then_ended step answer endings pid before named after first ends = record 
 }
 
 -- a step that names one, and makes this of it
-one_named : (step : Step) (answer : Answer) (s : State) (owner number : ℕ) (made : Block → Block) → 0 < number
+one_named : (step : Step) (answer : Answer) (s : State) (owner number : ℕ) (made : Block → Block)
     → ((pid k : ℕ) → names_block step pid (k + 1) ≡ ((owner == pid) && (number == k + 1))) → ((block : Block) → block_named step answer block ≡ made block)
     → (pid : ℕ) (before : Process) → process_of s.processes pid ≡ Some before
     → NamedFirst step answer pid before.blocks (processes_after_write owner number (made (status_block_of s.processes owner number)) s.processes)
-one_named step answer s owner number made first names makes pid before is =
+one_named step answer s owner number made names makes pid before is =
     subst (λ (blocks : List Block). NamedFirst step answer pid blocks (processes_after_write owner number (made (status_block_of s.processes owner number)) s.processes))
     (blocks_are s.processes pid before is)
     (record {
       many = many_written owner number pid _ s.processes;
       each = λ k within.
-          block_written owner number made s.processes pid k first within
+          block_written owner number made s.processes pid k within
           ∙ rw (names pid k, makes (block_at s.processes pid k)) refl;
     })
 
@@ -285,16 +177,16 @@ refused_writes s step refusal is = (
 -- ---- the steps
 
 -- a step whose change is swept
-swept_writes : (s : State) (step : Step) (change : Stepped) → AllByRecursion (Queued NamesOne) change.state.resources
+swept_writes : (s : State) (step : Step) (change : Stepped)
     → ProcessesAfter step change.answer s.processes (processes_after_service change.state.processes change.state.resources)
     → (named : List Process) → ((pid : ℕ) (before : Process) → process_of s.processes pid ≡ Some before → NamedFirst step change.answer pid before.blocks named)
     → AreLeftByEnds change.endings named change.state.processes → Writes s step (stepped_after_sweep change)
-swept_writes s step change names kept named first ends = (
+swept_writes s step change kept named first ends = (
   kept,
   λ pid before there.
       named_then_ended step change.answer (change.endings ++ sweep_endings change.state.resources) pid before.blocks named
       (processes_after_service change.state.processes change.state.resources) (first pid before there)
-      (all_left_swept change.endings named change.state.processes change.state.resources ends (served_numbered change.state.resources names)),
+      (all_left_swept change.endings named change.state.processes change.state.resources ends),
 )
 
 -- where all is settled a sweep writes nothing
@@ -311,11 +203,11 @@ found_first processes p pid before is =
     ∙ ap (λ (found : Option Process). option_or found (process_of (p ∷ []) pid)) is
 
 -- a declaration
-declaration_writes : (s : State) (d : Declaration) (choice : Option Row) → AllByRecursion (Queued NamesOne) s.resources → AllByRecursion IsSettled s.resources
+declaration_writes : (s : State) (d : Declaration) (choice : Option Row) → AllByRecursion IsSettled s.resources
     → Writes s (Declare d) (stepped_after_sweep (step_change s (Declare d) choice))
 unfolding declare_change
-declaration_writes s d choice names settled =
-    swept_writes s (Declare d) (step_change s (Declare d) choice) names (nothing_swept (declare_change s d).processes s.resources settled)
+declaration_writes s d choice settled =
+    swept_writes s (Declare d) (step_change s (Declare d) choice) (nothing_swept (declare_change s d).processes s.resources settled)
     (declare_change s d).processes
     (λ pid before is. record {
       many = ap (λ (blocks : List Block). length blocks) (blocks_are (declare_change s d).processes pid before (found_first s.processes (declared_process s d) pid before is));
@@ -326,70 +218,64 @@ declaration_writes s d choice names settled =
     (all_left_by_none (declare_change s d).processes)
 
 -- the setting of a value
-setting_writes : (s : State) (v : ValueSetting) (choice : Option Row) → set_refusal s v ≡ None → AllByRecursion (Queued NamesOne) s.resources
+setting_writes : (s : State) (v : ValueSetting) (choice : Option Row)
     → Writes s (SetValue v) (stepped_after_sweep (step_change s (SetValue v) choice))
 unfolding set_change processes_after_setting
-setting_writes s v choice passed names =
-    swept_writes s (SetValue v) (step_change s (SetValue v) choice) names
+setting_writes s v choice =
+    swept_writes s (SetValue v) (step_change s (SetValue v) choice)
     (kept_swept without_blocks (λ _ _. refl) (set_change s v).processes s.resources ∙ kept_set without_blocks (λ _ _. refl) v.pid v.block v.value s.processes)
     (set_change s v).processes
-    (one_named (SetValue v) (Plain Normal) s v.pid v.block (λ block. record block { value = v.value }) (setting_names s v passed) (λ _ _. refl) (λ _. refl))
+    (one_named (SetValue v) (Plain Normal) s v.pid v.block (λ block. record block { value = v.value }) (λ _ _. refl) (λ _. refl))
     (all_left_by_none (set_change s v).processes)
 
 -- a new request
-request_writes : (s : State) (e : NewRequest) (choice : Option Row) → enq_refusal s e ≡ None → AllByRecursion (Queued NamesOne) s.resources
+request_writes : (s : State) (e : NewRequest) (choice : Option Row)
     → Writes s (Enq e) (stepped_after_sweep (step_change s (Enq e) choice))
 unfolding enq_change processes_after_acceptance
-request_writes s e choice passed names =
-    swept_writes s (Enq e) (step_change s (Enq e) choice) (request_queued NamesOne s e (λ _. request_names s e passed) names)
+request_writes s e choice =
+    swept_writes s (Enq e) (step_change s (Enq e) choice)
     (kept_swept without_blocks (λ _ _. refl) (enq_change s e).processes (enq_change s e).resources ∙ kept_entered without_blocks (λ _ _. refl) s e)
     (processes_after_acceptance e.pid e.block s.next_lkid s.processes)
-    (one_named (Enq e) (step_change s (Enq e) choice).answer s e.pid e.block (λ block. record block { status = 0; lkid = s.next_lkid }) (request_names s e passed)
+    (one_named (Enq e) (step_change s (Enq e) choice).answer s e.pid e.block (λ block. record block { status = 0; lkid = s.next_lkid })
     (λ _ _. refl) (λ _. refl))
-    (all_left (enq_endings s e) (blocks_with (enq_resource s e).value_block (processes_after_acceptance e.pid e.block s.next_lkid s.processes))
-    (at_once_numbered (enq_at_once s e) (enq_row s e) (request_names s e passed)))
+    (all_left (enq_endings s e) (blocks_with (enq_resource s e).value_block (processes_after_acceptance e.pid e.block s.next_lkid s.processes)))
 
 -- a conversion
-conversion_writes : (s : State) (c : Conversion) (a : ConversionAdmission) → convert_refusal s c ≡ None → convert_admission s c ≡ Some a
-    → AllByRecursion (Queued NamesOne) s.resources → Writes s (Convert c) (stepped_after_sweep (conversion_change s c (Some a)))
+conversion_writes : (s : State) (c : Conversion) (a : ConversionAdmission) → Writes s (Convert c) (stepped_after_sweep (conversion_change s c (Some a)))
 unfolding convert_change convert_blocks processes_after_acceptance
-conversion_writes s c a passed is names =
+conversion_writes s c a =
     let lkid : ℕ = convert_lkid s c in
-    let named : 0 < a.request.block = admitted_names s c a passed is in
-    swept_writes s (Convert c) (conversion_change s c (Some a)) (conversion_queued NamesOne s c a (λ _. converting_names s c a named s.resources) names)
+    swept_writes s (Convert c) (conversion_change s c (Some a))
     (kept_swept without_blocks (λ _ _. refl) (convert_change s c a).processes (convert_change s c a).resources ∙ kept_converted without_blocks (λ _ _. refl) s c a)
     (processes_after_acceptance c.pid c.block lkid s.processes)
-    (one_named (Convert c) (conversion_change s c (Some a)).answer s c.pid c.block (λ block. record block { status = 0; lkid = lkid }) (conversion_names s c passed)
+    (one_named (Convert c) (conversion_change s c (Some a)).answer s c.pid c.block (λ block. record block { status = 0; lkid = lkid })
     (λ _ _. refl) (λ _. refl))
-    (all_left (conversion_endings a) (blocks_with a.resource.value_block (processes_after_acceptance c.pid c.block lkid s.processes))
-    (at_once_numbered a.at_once (wanting_row a.row a.request) named))
+    (all_left (conversion_endings a) (blocks_with a.resource.value_block (processes_after_acceptance c.pid c.block lkid s.processes)))
 
 -- a dequeue
-dequeue_writes : (s : State) (d : Dequeue) (choice : Option Row) → AllByRecursion (Queued NamesOne) s.resources
-    → Writes s (Deq d) (stepped_after_sweep (step_change s (Deq d) choice))
+dequeue_writes : (s : State) (d : Dequeue) (choice : Option Row) → Writes s (Deq d) (stepped_after_sweep (step_change s (Deq d) choice))
 unfolding deq_change
-dequeue_writes s d choice names =
-    swept_writes s (Deq d) (step_change s (Deq d) choice) (dequeue_queued NamesOne s d names)
+dequeue_writes s d choice =
+    swept_writes s (Deq d) (step_change s (Deq d) choice)
     (kept_swept without_blocks (λ _ _. refl) (deq_change s d).processes (deq_change s d).resources
     ∙ kept_ended without_blocks (λ _ _. refl) (deq_endings s d) (blocks_with new_value_block s.processes))
     s.processes (unmade (Deq d) (Plain Normal) s (λ _. refl))
-    (all_left (deq_endings s d) (blocks_with new_value_block s.processes)
-    (subst (AllByRecursion IsNumbered) (sym (one_ends (withdrawal_of s d) s.resources)) (withdrawn_numbered (withdrawal_of s d) s.resources names)))
+    (all_left (deq_endings s d) (blocks_with new_value_block s.processes))
 
-writes : (s : State) → AllByRecursion (Queued NamesOne) s.resources → AllByRecursion IsSettled s.resources → (step : Step) (choice : Option Row)
+writes : (s : State) → AllByRecursion IsSettled s.resources → (step : Step) (choice : Option Row)
     → step_refusal s step ≡ None → Writes s step (stepped_after_sweep (step_change s step choice))
-writes s names settled (Declare d) choice passed = declaration_writes s d choice names settled
-writes s names settled (SetValue v) choice passed = setting_writes s v choice passed names
-writes s names settled (Enq e) choice passed = request_writes s e choice passed names
-writes s names settled (Convert c) choice passed =
+writes s settled (Declare d) choice passed = declaration_writes s d choice settled
+writes s settled (SetValue v) choice passed = setting_writes s v choice
+writes s settled (Enq e) choice passed = request_writes s e choice
+writes s settled (Convert c) choice passed =
     let admitted = admission_of s c passed in
     subst (λ (there : Option ConversionAdmission). Writes s (Convert c) (stepped_after_sweep (conversion_change s c there))) (sym admitted.1)
-    (conversion_writes s c admitted.0 passed admitted.1 names)
-writes s names settled (Deq d) choice passed = dequeue_writes s d choice names
-writes s names settled (Rundown pid) choice passed = cc
-writes s names settled (Leave node) choice passed = cc
-writes s names settled (Search node) choice passed = cc
-writes s names settled (Take pid) choice passed = cc
+    (conversion_writes s c admitted.0)
+writes s settled (Deq d) choice passed = dequeue_writes s d choice
+writes s settled (Rundown pid) choice passed = cc
+writes s settled (Leave node) choice passed = cc
+writes s settled (Search node) choice passed = cc
+writes s settled (Take pid) choice passed = cc
 
 -- after every run
 pub written_always : (history : History) (old : State) → Run history old → (step : Step) (choice : Option Row) → IsChoice old step choice → WritesNamedBlocks old step choice
@@ -403,5 +289,5 @@ written_always history old run step choice chosen =
     }
   where
     of_refusal : (refusal : Option Cond) → step_refusal old step ≡ refusal → Writes old step (refused_or refusal old (step_change old step choice))
-    of_refusal None passed = writes old (names_always history old run) (settled_law history old run) step choice passed
+    of_refusal None passed = writes old (settled_law history old run) step choice passed
     of_refusal (Some refusal) is = refused_writes old step refusal is

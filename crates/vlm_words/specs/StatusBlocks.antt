@@ -16,17 +16,22 @@ new_status_block = record { status = 0; lkid = 0; value = replicate 16 0 }
 abbrev pub status_blocks_of : List Process → ℕ → List Block
 status_blocks_of processes pid = option_map_or (λ p. p.blocks) (process_of processes pid) []
 
--- block n of the process, from 1
-abbrev pub status_block_of : List Process → ℕ → ℕ → Block
-status_block_of processes pid n = slice_index_or (status_blocks_of processes pid) (n - 1) new_status_block
-
--- block n of the process, if both are there
+-- block n of the process, if both are there: blocks are numbered from 1
 unfoldable pub status_block_at : List Process → ℕ → ℕ → Option Block
 status_block_at processes pid n = if nat_lt 0 n then slice_get (status_blocks_of processes pid) (n - 1) else None
 
--- the process with this in the place of its block n
+-- block n of the process, or a new one where it has no such block
+abbrev pub status_block_of : List Process → ℕ → ℕ → Block
+status_block_of processes pid n =
+    if nat_lt 0 n then slice_index_or (status_blocks_of processes pid) (n - 1) new_status_block else new_status_block
+
+-- these status blocks with another in the place of block n, if it is there
+abbrev pub with_block : ℕ → Block → List Block → List Block
+with_block n block blocks = if nat_lt 0 n then slice_set blocks (n - 1) block else blocks
+
+-- the process with this in the place of its block n, if it has one
 abbrev pub process_with_block : ℕ → Block → Process → Process
-process_with_block n block p = record p { blocks = slice_set p.blocks (n - 1) block }
+process_with_block n block p = record p { blocks = with_block n block p.blocks }
 
 -- block n is written if the process has this identification
 unfoldable pub process_after_write : ℕ → ℕ → Block → Process → Process
