@@ -1,5 +1,5 @@
 -- From one step to every run.
-use Rattle.std.proofs.Common.{◌≡◌, inl, inr, List, [], ◌++◌, Option, None, Some, refl, sym, subst}
+use Rattle.std.proofs.Common.{ℕ, ◌≡◌, inl, inr, List, [], ◌++◌, Option, None, Some, refl, sym, subst}
 use Rattle.std.proofs.lemmas.List.{append-nil}
 use Rattle.vlm_words.specs.declared.conditions.Cond.{Cond}
 use Rattle.vlm_words.specs.declared.locks.Row.{Row}
@@ -15,6 +15,7 @@ use Rattle.vlm_words.specs.State.{State, start}
 use Rattle.vlm_words.specs.Endings.{Ending}
 use Rattle.vlm_words.specs.Declare.{declare_refusal}
 use Rattle.vlm_words.specs.SetValue.{set_refusal}
+use Rattle.vlm_words.specs.Take.{take_refusal}
 use Rattle.vlm_words.specs.Enqueue.{enq_refusal}
 use Rattle.vlm_words.specs.Convert.{ConversionAdmission, convert_admission, convert_refusal}
 use Rattle.vlm_words.specs.Dequeue.{deq_refusal}
@@ -66,12 +67,13 @@ admission_of s c passed = some_admission s c (convert_admission s c) (admission_
 pub kept_by_stepped : (P : Said) (endings : List Ending) (s : State) → P endings s
     → ((d : Declaration) → declare_refusal s d ≡ None → HoldsAfter P endings (stepped_after_sweep (step_change s (Declare d) None)))
     → ((v : ValueSetting) → set_refusal s v ≡ None → HoldsAfter P endings (stepped_after_sweep (step_change s (SetValue v) None)))
+    → ((pid : ℕ) → take_refusal s pid ≡ None → HoldsAfter P endings (stepped_after_sweep (step_change s (Take pid) None)))
     → ((e : NewRequest) → enq_refusal s e ≡ None → HoldsAfter P endings (stepped_after_sweep (step_change s (Enq e) None)))
     → ((c : Conversion) (a : ConversionAdmission) → convert_refusal s c ≡ None → convert_admission s c ≡ Some a
     → HoldsAfter P endings (stepped_after_sweep (conversion_change s c (Some a))))
     → ((d : Dequeue) → deq_refusal s d ≡ None → HoldsAfter P endings (stepped_after_sweep (step_change s (Deq d) None)))
     → (step : Step) (choice : Option Row) → IsChoice s step choice → HoldsAfter P endings (stepped s step choice)
-kept_by_stepped P endings s held declare set enq convert deq step choice chosen =
+kept_by_stepped P endings s held declare set take enq convert deq step choice chosen =
     kept_by_refused_or P endings (step_refusal s step) s (step_change s step choice) held (each_kind step)
   where
     converts : (c : Conversion) → convert_refusal s c ≡ None → HoldsAfter P endings (stepped_after_sweep (step_change s (Convert c) choice))
@@ -89,4 +91,4 @@ kept_by_stepped P endings s held declare set enq convert deq step choice chosen 
     each_kind (Rundown pid) passed = cc
     each_kind (Leave node) passed = cc
     each_kind (Search node) passed = cc
-    each_kind (Take pid) passed = cc
+    each_kind (Take pid) passed = take pid passed

@@ -7,6 +7,7 @@ use Rattle.vlm_words.specs.declared.locks.Row.{Row}
 use Rattle.vlm_words.specs.State.{Resource, State}
 use Rattle.vlm_words.specs.Declare.{declare_change}
 use Rattle.vlm_words.specs.SetValue.{set_change}
+use Rattle.vlm_words.specs.Take.{take_change}
 use Rattle.vlm_words.specs.Enqueue.{enq_change}
 use Rattle.vlm_words.specs.Convert.{convert_blocks, convert_change, convert_lkid, resource_after_conversion}
 use Rattle.vlm_words.specs.Dequeue.{deq_change, withdrawals_of}
@@ -59,13 +60,14 @@ one_more_apart s t apart next more = record {
 -- after every run no two rows have the same identification
 pub apart_always : (history : History) (last : State)
     → Run history last → Apart last
-unfolding declare_change set_change enq_change convert_change deq_change
+unfolding declare_change set_change take_change enq_change convert_change deq_change
 apart_always =
     always (λ _ s. Apart s) (record { one_row = λ lkid. omega arith; none_is_0 = refl; none_to_come = λ lkid _. refl; first = omega arith })
     (λ history s _ apart.
     kept_by_stepped (λ _ t. Apart t) history.endings s apart
     (λ d _. fewer_apart s _ apart refl (λ lkid. omega (arith, swept_named (stands lkid) (stands_named lkid) (declare_change s d).processes s.resources)))
     (λ v _. fewer_apart s _ apart refl (λ lkid. omega (arith, swept_named (stands lkid) (stands_named lkid) (set_change s v).processes s.resources)))
+    (λ taker _. fewer_apart s _ apart refl (λ lkid. omega (arith, swept_named (stands lkid) (stands_named lkid) (take_change s taker).processes s.resources)))
     (λ e _. one_more_apart s _ apart refl (λ lkid. entered_named (stands lkid) (stands_named lkid) s e))
     (λ c a _ _. fewer_apart s _ apart refl
     (λ lkid. changed_named (stands lkid) (stands_named lkid)

@@ -19,6 +19,7 @@ use Rattle.vlm_words.specs.Sweeps.{state_after_sweep}
 use Rattle.vlm_words.specs.Checks.{has_departed}
 use Rattle.vlm_words.specs.Declare.{declare_change, declare_refusal, declared_process, is_node, next_pid}
 use Rattle.vlm_words.specs.SetValue.{set_change}
+use Rattle.vlm_words.specs.Take.{take_change}
 use Rattle.vlm_words.specs.Enqueue.{enq_change}
 use Rattle.vlm_words.specs.Convert.{convert_change}
 use Rattle.vlm_words.specs.Dequeue.{deq_change, deq_endings}
@@ -26,7 +27,7 @@ use Rattle.vlm_words.specs.Stepped.{refused_or, step_change}
 use Rattle.vlm_words.specs.Runs.{History, Run}
 use Rattle.vlm_words.specs.Laws.{DeclarationsGiveNewIdentifications}
 use Rattle.vlm_words.proofs.Each.{each_append, each_weaker}
-use Rattle.vlm_words.proofs.Processes.{kept_converted, kept_ended, kept_entered, kept_set, kept_swept}
+use Rattle.vlm_words.proofs.Processes.{kept_converted, kept_ended, kept_entered, kept_set, kept_swept, kept_taken}
 use Rattle.vlm_words.proofs.Always.{always, kept_by_stepped}
 
 -- the identifications of living processes
@@ -125,13 +126,14 @@ declared_given s d has given =
 -- after every run each living process has an identification that its node has given
 given_always : (history : History) (last : State)
     → Run history last → AllGiven last
-unfolding set_change enq_change convert_change deq_change
+unfolding set_change take_change enq_change convert_change deq_change
 given_always =
     always (λ _ s. AllGiven s) (record { eight = refl; living = tt })
     (λ history s _ given.
     kept_by_stepped (λ _ t. AllGiven t) history.endings s given
     (λ d passed. swept_given (declare_change s d) (declared_given s d (ordinal_left s d passed) given))
     (λ v _. swept_given (set_change s v) (same_given s (set_change s v) refl (kept_set (λ p. p.pid) (λ _ _. refl) v.pid v.block v.value s.processes) given))
+    (λ taker _. swept_given (take_change s taker) (same_given s (take_change s taker) refl (kept_taken (λ p. p.pid) (λ _ _. refl) taker s.processes) given))
     (λ e _. swept_given (enq_change s e) (same_given s (enq_change s e) refl (kept_entered (λ p. p.pid) (λ _ _. refl) s e) given))
     (λ c a _ _. swept_given (convert_change s c a) (same_given s (convert_change s c a) refl (kept_converted (λ p. p.pid) (λ _ _. refl) s c a) given))
     (λ d _.

@@ -15,6 +15,7 @@ use Rattle.vlm_words.specs.Sweeps.{blocks_after_service, is_vacant, resources_af
 use Rattle.vlm_words.specs.Resources.{is_at, new_resource}
 use Rattle.vlm_words.specs.Declare.{declare_change}
 use Rattle.vlm_words.specs.SetValue.{set_change}
+use Rattle.vlm_words.specs.Take.{take_change}
 use Rattle.vlm_words.specs.Trees.{enq_site}
 use Rattle.vlm_words.specs.Enqueue.{enq_at_once, enq_change, enq_refusal, enq_resource, enq_row, resource_after_entry, resources_after_entry}
 use Rattle.vlm_words.specs.Convert.{convert_admission, convert_blocks, convert_change, convert_lkid, resource_after_conversion}
@@ -92,7 +93,7 @@ pub each_always : (P Q : Resource → Type 0) → ((r : Resource) → Q r → P 
     → ((block : ValueBlock) (r : Resource) → P r → Q (with_value_block block (service r).resource)) → KeptByChanges P
     → (history : History) (last : State) → Run history last
     → AllByRecursion Q last.resources
-unfolding declare_change set_change enq_change enq_resource convert_change deq_change convert_admission
+unfolding declare_change set_change take_change enq_change enq_resource convert_change deq_change convert_admission
 each_always P Q weaker serving kept =
     always (λ _ s. AllByRecursion Q s.resources) tt
     (λ history s _ each.
@@ -100,6 +101,7 @@ each_always P Q weaker serving kept =
     kept_by_stepped (λ _ s. AllByRecursion Q s.resources) history.endings s each
     (λ d _. each_swept P Q serving (declare_change s d).processes s.resources changed)
     (λ v _. each_swept P Q serving (set_change s v).processes s.resources changed)
+    (λ taker _. each_swept P Q serving (take_change s taker).processes s.resources changed)
     (λ e passed.
     each_swept P Q serving (enq_change s e).processes (enq_change s e).resources
     (each_entered_on P s.next_serial (enq_site s e) (enq_row s e) (enq_at_once s e) s.resources

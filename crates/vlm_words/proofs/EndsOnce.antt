@@ -16,6 +16,7 @@ use Rattle.vlm_words.specs.Sweeps.{state_after_sweep, sweep_endings}
 use Rattle.vlm_words.specs.Rows.{is_lock_of}
 use Rattle.vlm_words.specs.Declare.{declare_change}
 use Rattle.vlm_words.specs.SetValue.{set_change}
+use Rattle.vlm_words.specs.Take.{take_change}
 use Rattle.vlm_words.specs.Trees.{enq_site}
 use Rattle.vlm_words.specs.Enqueue.{enq_at_once, enq_change, enq_endings, enq_resource, enq_row}
 use Rattle.vlm_words.specs.Convert.{ConversionAdmission, admission_among, admission_or, conversion_endings, convert_admission, convert_blocks, convert_change, convert_lkid, convert_request, converts_at_once, resource_after_conversion, resource_after_conversion_of, wanting_row}
@@ -168,7 +169,7 @@ one_more_counts endings more s t counted next one_more = record {
 -- after every run each accepted request is counted once
 pub counted_always : (history : History) (last : State)
     → Run history last → CountedOnce history.endings last
-unfolding declare_change set_change enq_change convert_change deq_change
+unfolding declare_change set_change take_change enq_change convert_change deq_change
 counted_always =
     always CountedOnce (record { accepted = λ number some below. absurd (omega arith); to_come = λ number past. refl })
     (λ history s run counted.
@@ -179,6 +180,8 @@ counted_always =
     (λ number. sweep_counts number (declare_change s d)))
     (λ v _. same_counts history.endings (sweep_endings s.resources) s (state_after_sweep (set_change s v)) counted refl
     (λ number. sweep_counts number (set_change s v)))
+    (λ taker _. same_counts history.endings (sweep_endings s.resources) s (state_after_sweep (take_change s taker)) counted refl
+    (λ number. sweep_counts number (take_change s taker)))
     (λ e _. one_more_counts history.endings (enq_endings s e ++ sweep_endings (enq_change s e).resources) s (state_after_sweep (enq_change s e)) counted
     refl (λ number. enqueued_counts number s e))
     (λ c a _ admitted.

@@ -17,6 +17,7 @@ use Rattle.vlm_words.specs.Sweeps.{resources_after_sweep, sweep_endings}
 use Rattle.vlm_words.specs.Rows.{is_lock_of, rows_of, rows_without}
 use Rattle.vlm_words.specs.Declare.{declare_change}
 use Rattle.vlm_words.specs.SetValue.{set_change}
+use Rattle.vlm_words.specs.Take.{take_change}
 use Rattle.vlm_words.specs.Trees.{enq_site}
 use Rattle.vlm_words.specs.Enqueue.{enq_at_once, enq_change, enq_endings, enq_resource, enq_row, resource_after_entry}
 use Rattle.vlm_words.specs.Convert.{ConversionAdmission, admission_among, admission_or, conversion_endings, convert_admission, convert_blocks, convert_change, convert_lkid, convert_request, resource_after_conversion, resource_after_conversion_of, resource_without_granted, wanting_row}
@@ -282,7 +283,7 @@ conversion_hides_none endings s c a admitted each =
     (convert_blocks s c a).value_block s.resources (all_left endings (conversion_endings a) s.resources each)
 
 has_always : (history : History) (last : State) → Run history last → AllByRecursion (EachRow (Has history.endings)) last.resources
-unfolding declare_change set_change enq_change enq_resource deq_change
+unfolding declare_change set_change take_change enq_change enq_resource deq_change
 has_always =
     always (λ endings s. AllByRecursion (EachRow (Has endings)) s.resources) tt
     (λ history s run each.
@@ -290,6 +291,7 @@ has_always =
     kept_by_stepped (λ all t. AllByRecursion (EachRow (Has all)) t.resources) endings s each
     (λ d _. changed_has endings [] (declare_change s d).processes s.resources (all_left endings [] s.resources each))
     (λ v _. changed_has endings [] (set_change s v).processes s.resources (all_left endings [] s.resources each))
+    (λ taker _. changed_has endings [] (take_change s taker).processes s.resources (all_left endings [] s.resources each))
     (λ e _.
     let more = all_left endings (enq_endings s e) s.resources each in
     changed_has endings (enq_endings s e) (enq_change s e).processes (enq_change s e).resources

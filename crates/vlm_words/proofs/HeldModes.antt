@@ -22,6 +22,7 @@ use Rattle.vlm_words.specs.Sweeps.{resources_after_sweep}
 use Rattle.vlm_words.specs.Rows.{is_lock_of, rows_without}
 use Rattle.vlm_words.specs.Declare.{declare_change}
 use Rattle.vlm_words.specs.SetValue.{set_change}
+use Rattle.vlm_words.specs.Take.{take_change}
 use Rattle.vlm_words.specs.Trees.{enq_site}
 use Rattle.vlm_words.specs.Enqueue.{enq_at_once, enq_change, enq_refusal, enq_request, enq_resource, enq_row, is_at_once, is_free_for, resource_after_entry}
 use Rattle.vlm_words.specs.Convert.{ConversionAdmission, convert_admission, convert_blocks, convert_change, convert_lkid, convert_request, converts_at_once, resource_after_conversion, resource_after_conversion_of, resource_without_granted, wanting_row}
@@ -274,13 +275,14 @@ gone_agrees w r agree =
 -- after every run the held modes of each resource are compatible, by recursion
 pub holders_agree_always : (history : History) (last : State)
     → Run history last → AllByRecursion HoldersAgree last.resources
-unfolding declare_change set_change enq_change enq_resource deq_change
+unfolding declare_change set_change take_change enq_change enq_resource deq_change
 holders_agree_always =
     always (λ _ s. AllByRecursion HoldersAgree s.resources) tt
     (λ history s run each.
     kept_by_stepped (λ _ t. AllByRecursion HoldersAgree t.resources) history.endings s each
     (λ d _. swept_agree (declare_change s d).processes s.resources each)
     (λ v _. swept_agree (set_change s v).processes s.resources each)
+    (λ taker _. swept_agree (take_change s taker).processes s.resources each)
     (λ e passed.
     swept_agree (enq_change s e).processes (enq_change s e).resources
     (each_entered_on HoldersAgree s.next_serial (enq_site s e) (enq_row s e) (enq_at_once s e) s.resources

@@ -19,6 +19,7 @@ use Rattle.vlm_words.specs.Rows.{is_lock_of, rows_of, rows_without}
 use Rattle.vlm_words.specs.Resources.{is_at, new_resource}
 use Rattle.vlm_words.specs.Declare.{declare_change}
 use Rattle.vlm_words.specs.SetValue.{set_change}
+use Rattle.vlm_words.specs.Take.{take_change}
 use Rattle.vlm_words.specs.Trees.{enq_site}
 use Rattle.vlm_words.specs.Enqueue.{enq_at_once, enq_change, enq_row, resource_after_entry, resources_after_entry}
 use Rattle.vlm_words.specs.Convert.{ConversionAdmission, convert_blocks, convert_change, convert_lkid, resource_after_conversion, resource_after_conversion_of, resource_without_granted, wanting_row}
@@ -268,7 +269,7 @@ changed s step choice change is each = record {
 }
 
 changes_keep_order : (s : State) → Apart s → (step : Step) (choice : Option Row) → step_refusal s step ≡ None → ChangesKeepOrder s step choice
-unfolding declare_change set_change enq_change convert_change deq_change
+unfolding declare_change set_change take_change enq_change convert_change deq_change
 changes_keep_order s apart (Declare d) choice passed = unchanged s (Declare d) choice refl
 changes_keep_order s apart (SetValue v) choice passed = unchanged s (SetValue v) choice refl
 changes_keep_order s apart (Enq e) choice passed =

@@ -25,6 +25,7 @@ use Rattle.vlm_words.specs.Checks.{holds_lock}
 use Rattle.vlm_words.specs.Trees.{enq_site, parent_lkid, parent_resource, root_domain, site_below}
 use Rattle.vlm_words.specs.Declare.{declare_change}
 use Rattle.vlm_words.specs.SetValue.{set_change}
+use Rattle.vlm_words.specs.Take.{take_change}
 use Rattle.vlm_words.specs.Enqueue.{enq_at_once, enq_change, enq_key, enq_row, has_resource, resource_after_entry, resources_after_entry}
 use Rattle.vlm_words.specs.Convert.{convert_blocks, convert_change, convert_lkid, resource_after_conversion, resource_after_conversion_of, resource_without_granted, wanting_row}
 use Rattle.vlm_words.specs.Dequeue.{deq_change, withdrawals_of}
@@ -348,13 +349,14 @@ unchanged_placed s t resources same same_locks placed = record {
 -- after every run the resources are placed
 pub placed_always : (history : History) (last : State)
     → Run history last → Placed last
-unfolding declare_change set_change convert_change deq_change
+unfolding declare_change set_change take_change convert_change deq_change
 placed_always =
     always (λ _ s. Placed s) (record { rising = tt; given = tt; first = omega arith; few = omega arith; two_keys = tt })
     (λ history s _ placed.
     kept_by_stepped (λ _ t. Placed t) history.endings s placed
     (λ d _. swept_placed (declare_change s d) (unchanged_placed s (declare_change s d) refl refl refl placed))
     (λ v _. swept_placed (set_change s v) (unchanged_placed s (set_change s v) refl refl refl placed))
+    (λ taker _. swept_placed (take_change s taker) (unchanged_placed s (take_change s taker) refl refl refl placed))
     (λ e _. swept_placed (enq_change s e) (entry_placed s e placed))
     (λ c a _ _.
     swept_placed (convert_change s c a)

@@ -43,6 +43,7 @@ pub mod Queued
 pub mod EndWrites
 pub mod Writing
 pub mod Written
+mod Taking
 pub mod Standing
 pub mod SweptValues
 pub mod Writers

@@ -21,6 +21,7 @@ use Rattle.vlm_words.specs.Resources.{is_at, new_resource}
 use Rattle.vlm_words.specs.Trees.{enq_site}
 use Rattle.vlm_words.specs.Declare.{declare_change}
 use Rattle.vlm_words.specs.SetValue.{set_change}
+use Rattle.vlm_words.specs.Take.{take_change}
 use Rattle.vlm_words.specs.Enqueue.{enq_at_once, enq_change, enq_key, enq_row, has_resource, resource_after_entry, resources_after_entry}
 use Rattle.vlm_words.specs.Convert.{ConversionAdmission, convert_change}
 use Rattle.vlm_words.specs.Dequeue.{deq_change}
@@ -158,7 +159,7 @@ record Taken (s : State) (step : Step) (made : Stepped) : Type 0 where
 -- an accepted step takes the numbers of what it makes
 accepted_takes : (s : State) → Apart s → (step : Step) (choice : Option Row) → step_refusal s step ≡ None
     → Placed (stepped_after_sweep (step_change s step choice)).state → Taken s step (stepped_after_sweep (step_change s step choice))
-unfolding declare_change set_change enq_change convert_change deq_change
+unfolding declare_change set_change take_change enq_change convert_change deq_change
 accepted_takes s apart (Declare d) choice passed placed = record {
   requests = record { next_lkid = refl; next_request = refl };
   serials = none_made s (state_after_sweep (declare_change s d)) placed refl;
@@ -192,7 +193,10 @@ accepted_takes s apart (Deq d) choice passed placed = record {
 accepted_takes s apart (Rundown pid) choice passed placed = cc
 accepted_takes s apart (Leave node) choice passed placed = cc
 accepted_takes s apart (Search node) choice passed placed = cc
-accepted_takes s apart (Take pid) choice passed placed = cc
+accepted_takes s apart (Take pid) choice passed placed = record {
+  requests = record { next_lkid = refl; next_request = refl };
+  serials = none_made s (state_after_sweep (take_change s pid)) placed refl;
+}
 
 -- and so does each step
 step_takes : (s : State) → Apart s → (step : Step) (choice : Option Row) (refusal : Option Cond) → step_refusal s step ≡ refusal

@@ -28,6 +28,7 @@ use Rattle.vlm_words.specs.Effects.{with_value_block}
 use Rattle.vlm_words.specs.Grants.{grant_act, grant_endings, resource_after_grant}
 use Rattle.vlm_words.specs.Declare.{declare_change}
 use Rattle.vlm_words.specs.SetValue.{set_change}
+use Rattle.vlm_words.specs.Take.{take_change}
 use Rattle.vlm_words.specs.Trees.{enq_site}
 use Rattle.vlm_words.specs.Enqueue.{enq_at_once, enq_change, enq_endings, enq_resource, enq_row}
 use Rattle.vlm_words.specs.Convert.{ConversionAdmission, conversion_endings, convert_blocks, convert_change, convert_lkid, resource_after_conversion, resource_after_conversion_of, resource_without_granted, wanting_row}
@@ -317,7 +318,7 @@ swept_alone s step change ends kept = (
 )
 
 left_alone : (s : State) → Apart s → (step : Step) (choice : Option Row) → step_refusal s step ≡ None → IsLeftAlone s step (stepped_after_sweep (step_change s step choice))
-unfolding declare_change set_change enq_change enq_resource convert_change deq_change
+unfolding declare_change set_change take_change enq_change enq_resource convert_change deq_change
 left_alone s apart (Declare d) choice passed = swept_alone s (Declare d) (step_change s (Declare d) choice) tt (λ pid lkid stranger. omega arith)
 left_alone s apart (SetValue v) choice passed = swept_alone s (SetValue v) (step_change s (SetValue v) choice) tt (λ pid lkid stranger. omega arith)
 left_alone s apart (Enq e) choice passed =
@@ -343,7 +344,7 @@ left_alone s apart (Deq d) choice passed =
 left_alone s apart (Rundown pid) choice passed = cc
 left_alone s apart (Leave node) choice passed = cc
 left_alone s apart (Search node) choice passed = cc
-left_alone s apart (Take pid) choice passed = cc
+left_alone s apart (Take pid) choice passed = swept_alone s (Take pid) (step_change s (Take pid) choice) tt (λ process lkid stranger. omega arith)
 
 -- after every run
 pub left_alone_always : (history : History) (old : State) → Run history old → (step : Step) (choice : Option Row) → IsChoice old step choice → OthersAreLeftAlone old step choice

@@ -18,6 +18,7 @@ use Rattle.vlm_words.specs.Sweeps.{state_after_sweep}
 use Rattle.vlm_words.specs.Trees.{caller_group, enq_site, has_syslck, parent_lkid, parent_refusal, parent_resource, privilege_refusal, root_domain, site_below, site_refusal}
 use Rattle.vlm_words.specs.Declare.{declare_change}
 use Rattle.vlm_words.specs.SetValue.{set_change}
+use Rattle.vlm_words.specs.Take.{take_change}
 use Rattle.vlm_words.specs.Enqueue.{enq_at_once, enq_change, enq_refusal, enq_row, resource_after_entry}
 use Rattle.vlm_words.specs.Convert.{ConversionAdmission, convert_blocks, convert_change, convert_lkid, resource_after_conversion}
 use Rattle.vlm_words.specs.Dequeue.{deq_change, withdrawals_of}
@@ -125,7 +126,7 @@ entered_rightly s e placed passed =
 -- after an accepted step each root in the system's domain is there rightly
 accepted_rightly : (s : State) → Placed s → (step : Step) (choice : Option Row) → step_refusal s step ≡ None
     → AllByRecursion (IsRightly s (IsPrivilegedStep s step)) (stepped_after_sweep (step_change s step choice)).state.resources
-unfolding declare_change set_change convert_change deq_change
+unfolding declare_change set_change take_change convert_change deq_change
 accepted_rightly s placed (Declare d) choice passed = rightly_swept s (declare_change s d) ⊥ (each_was s ⊥)
 accepted_rightly s placed (SetValue v) choice passed = rightly_swept s (set_change s v) ⊥ (each_was s ⊥)
 accepted_rightly s placed (Enq e) choice passed = rightly_swept s (enq_change s e) (IsPrivileged s e) (entered_rightly s e placed passed)
@@ -143,7 +144,7 @@ accepted_rightly s placed (Deq d) choice passed =
 accepted_rightly s placed (Rundown pid) choice passed = cc
 accepted_rightly s placed (Leave node) choice passed = cc
 accepted_rightly s placed (Search node) choice passed = cc
-accepted_rightly s placed (Take pid) choice passed = cc
+accepted_rightly s placed (Take pid) choice passed = rightly_swept s (take_change s pid) ⊥ (each_was s ⊥)
 
 -- after every run a step makes a root in the system's domain only for a caller with the privilege
 pub privileges_always : (history : History) (old : State) → Run history old

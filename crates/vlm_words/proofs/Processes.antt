@@ -7,6 +7,8 @@ use Rattle.vlm_words.specs.declared.conditions.Cond.{Cond}
 use Rattle.vlm_words.specs.declared.modes.Act.TheVariants.{Nothing, Return, Write}
 use Rattle.vlm_words.specs.declared.steps.NewRequest.{NewRequest}
 use Rattle.vlm_words.specs.declared.steps.Conversion.{Conversion}
+use Rattle.vlm_words.specs.declared.asts.Ast.{Ast}
+use Rattle.vlm_words.specs.Asts.{later, process_after_take, processes_after_take}
 use Rattle.vlm_words.specs.State.{Process, Resource, State}
 use Rattle.vlm_words.specs.StatusBlocks.{process_after_write, process_with_block, processes_after_acceptance, processes_after_return, processes_after_setting, processes_after_status, processes_after_write}
 use Rattle.vlm_words.specs.declared.resources.ValueBlock.{ValueBlock}
@@ -89,3 +91,13 @@ module _ {X : Type 0} (shown : Process → X) (blind : (p : Process) (blocks : L
       kept_ended (conversion_endings a)
       (blocks_with a.resource.value_block (processes_after_acceptance c.pid c.block (convert_lkid s c) s.processes))
       ∙ kept_accepted c.pid c.block (convert_lkid s c) s.processes
+
+-- what shows no ASTs stays where one is taken
+pub kept_taken : {X : Type 0} (shown : Process → X) → ((p : Process) (asts : List Ast) → shown (record p { asts = asts }) ≡ shown p)
+    → (pid : ℕ) (processes : List Process) → map shown (processes_after_take pid processes) ≡ map shown processes
+unfolding process_after_take
+kept_taken shown blind pid [] = refl
+kept_taken {X} shown blind pid (p ∷ rest) =
+    ap (λ (first : X). first ∷ map shown (processes_after_take pid rest))
+    (cond_both (p.pid == pid) (record p { asts = later p.asts }) p (λ q. shown q ≡ shown p) (λ _. blind p (later p.asts)) (λ _. refl))
+    ∙ ap (λ (others : List X). shown p ∷ others) (kept_taken shown blind pid rest)

@@ -15,6 +15,7 @@ use Rattle.vlm_words.specs.Checks.{numbers_refusal, or_else, queue_refusal}
 use Rattle.vlm_words.specs.Quotas.{locks_of, quota_of, quota_refusal}
 use Rattle.vlm_words.specs.Declare.{declare_change, declared_process}
 use Rattle.vlm_words.specs.SetValue.{set_change}
+use Rattle.vlm_words.specs.Take.{take_change}
 use Rattle.vlm_words.specs.Sweeps.{state_after_sweep}
 use Rattle.vlm_words.specs.Enqueue.{enq_at_once, enq_change, enq_limit_refusal, enq_refusal}
 use Rattle.vlm_words.specs.Convert.{convert_blocks, convert_change, convert_lkid, resource_after_conversion}
@@ -24,7 +25,7 @@ use Rattle.vlm_words.specs.Runs.{History, Run}
 use Rattle.vlm_words.specs.Laws.{QuotasAreKept, locks_on}
 use Rattle.vlm_words.proofs.Always.{always, kept_by_stepped}
 use Rattle.vlm_words.proofs.Passed.{both_pass, enq_passes, test_passes}
-use Rattle.vlm_words.proofs.Processes.{kept_converted, kept_ended, kept_entered, kept_set, kept_swept}
+use Rattle.vlm_words.proofs.Processes.{kept_converted, kept_ended, kept_entered, kept_set, kept_swept, kept_taken}
 use Rattle.vlm_words.proofs.Weights.{weigh}
 use Rattle.vlm_words.proofs.Moves.{IsByName, changed_named, converted_named, withdrawn_named, entered_named, swept_named}
 
@@ -122,7 +123,7 @@ entered_within s e passed within pid =
 -- after every run all are within their quotas
 within_always : (history : History) (last : State)
     → Run history last → Within last
-unfolding declare_change set_change convert_change deq_change
+unfolding declare_change set_change take_change convert_change deq_change
 within_always =
     always (λ _ s. Within s) (λ pid. omega arith)
     (λ history s _ within.
@@ -136,6 +137,10 @@ within_always =
     still_within s (state_after_sweep (set_change s v))
     (kept_swept allowance (λ _ _. refl) (set_change s v).processes s.resources ∙ kept_set allowance (λ _ _. refl) v.pid v.block v.value s.processes)
     (λ pid. omega (arith, swept_named (owned pid) (owned_named pid) (set_change s v).processes s.resources)) within)
+    (λ taker _.
+    still_within s (state_after_sweep (take_change s taker))
+    (kept_swept allowance (λ _ _. refl) (take_change s taker).processes s.resources ∙ kept_taken allowance (λ _ _. refl) taker s.processes)
+    (λ pid. omega (arith, swept_named (owned pid) (owned_named pid) (take_change s taker).processes s.resources)) within)
     (λ e passed. entered_within s e passed within)
     (λ c a _ _.
     still_within s (state_after_sweep (convert_change s c a))

@@ -209,7 +209,7 @@ step_breaks s apart placed (Deq d) = dequeue_breaks s d
 step_breaks s apart placed (Rundown pid) = says_some (Breaks s (Rundown pid)) Badparam tt
 step_breaks s apart placed (Leave node) = says_some (Breaks s (Leave node)) Badparam tt
 step_breaks s apart placed (Search node) = says_some (Breaks s (Search node)) Badparam tt
-step_breaks s apart placed (Take pid) = says_some (Breaks s (Take pid)) Badparam tt
+step_breaks s apart placed (Take pid) = says_caller (CallerBreaks s pid) s pid (λ departed. departed) (λ none. none)
 
 -- an accepted step breaks no rule
 step_keeps : (s : State) → Apart s → Placed s → (step : Step) → step_refusal s step ≡ None → (c : Cond) → Breaks s step c → ⊥
@@ -222,7 +222,7 @@ step_keeps s apart placed (Deq d) passed = dequeue_keeps s d passed
 step_keeps s apart placed (Rundown pid) passed = cc
 step_keeps s apart placed (Leave node) passed = cc
 step_keeps s apart placed (Search node) passed = cc
-step_keeps s apart placed (Take pid) passed = cc
+step_keeps s apart placed (Take pid) passed = caller_keeps s pid (caller_passes s pid passed)
 
 -- an accepted step answers so
 step_answers : (s : State) (step : Step) (choice : Option Row) → step_refusal s step ≡ None → IsAnswered s step (stepped_after_sweep (step_change s step choice))
@@ -237,7 +237,7 @@ step_answers s (Deq d) choice passed = tt
 step_answers s (Rundown pid) choice passed = cc
 step_answers s (Leave node) choice passed = cc
 step_answers s (Search node) choice passed = cc
-step_answers s (Take pid) choice passed = cc
+step_answers s (Take pid) choice passed = tt
 
 -- after every run a step breaks no rule and is accepted, or is refused for one that it breaks
 pub reasons_always : (history : History) (old : State) → Run history old

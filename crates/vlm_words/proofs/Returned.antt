@@ -31,6 +31,7 @@ use Rattle.vlm_words.specs.Rows.{is_lock_of, rows_of}
 use Rattle.vlm_words.specs.Sweeps.{is_vacant, resources_after_sweep, sweep_endings}
 use Rattle.vlm_words.specs.Declare.{declare_change}
 use Rattle.vlm_words.specs.SetValue.{set_change}
+use Rattle.vlm_words.specs.Take.{take_change}
 use Rattle.vlm_words.specs.Trees.{enq_site}
 use Rattle.vlm_words.specs.Enqueue.{enq_at_once, enq_change, enq_refusal, enq_request, enq_resource, enq_row, resource_after_entry}
 use Rattle.vlm_words.specs.Convert.{ConversionAdmission, convert_admission, convert_blocks, convert_change, convert_lkid, convert_refusal, convert_request, resource_after_conversion, resource_after_conversion_of, resource_without_granted, wanting_row}
@@ -399,7 +400,7 @@ dequeue_returning s d choice harmless =
 
 returning : (history : History) (s : State) → Run history s → (step : Step) (choice : Option Row) → step_refusal s step ≡ None
     → IsReturning s (stepped_after_sweep (step_change s step choice))
-unfolding declare_change set_change
+unfolding declare_change set_change take_change
 returning history s run (Declare d) choice passed =
     idle_returning s (step_change s (Declare d) choice) refl (harmless_always history s run) (queued_held s)
 returning history s run (SetValue v) choice passed =
@@ -414,7 +415,8 @@ returning history s run (Deq d) choice passed = dequeue_returning s d choice (ha
 returning history s run (Rundown pid) choice passed = cc
 returning history s run (Leave node) choice passed = cc
 returning history s run (Search node) choice passed = cc
-returning history s run (Take pid) choice passed = cc
+returning history s run (Take pid) choice passed =
+    idle_returning s (step_change s (Take pid) choice) refl (harmless_always history s run) (queued_held s)
 
 -- what is said of a status block
 tells_value : (s : State) (last : Option Ending) (before after : List ℕ) → ValueBy (IsItsValue s) last before after → TellsValue s last after

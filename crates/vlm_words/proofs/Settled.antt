@@ -9,6 +9,7 @@ use Rattle.vlm_words.specs.Grants.{is_empty, no_service, service}
 use Rattle.vlm_words.specs.Sweeps.{blocks_after_service, is_vacant, processes_after_service, resource_after_service, resources_after_service, resources_after_sweep, sweep_endings}
 use Rattle.vlm_words.specs.Declare.{declare_change}
 use Rattle.vlm_words.specs.SetValue.{set_change}
+use Rattle.vlm_words.specs.Take.{take_change}
 use Rattle.vlm_words.specs.Enqueue.{enq_change}
 use Rattle.vlm_words.specs.Convert.{convert_change}
 use Rattle.vlm_words.specs.Dequeue.{deq_change}
@@ -44,6 +45,7 @@ occupied_always =
     kept_by_stepped (λ _ s. AllByRecursion Occupied s.resources) history.endings s each
     (λ d _. occupied_swept (declare_change s d).processes (declare_change s d).resources)
     (λ v _. occupied_swept (set_change s v).processes (set_change s v).resources)
+    (λ taker _. occupied_swept (take_change s taker).processes (take_change s taker).resources)
     (λ e _. occupied_swept (enq_change s e).processes (enq_change s e).resources)
     (λ c a _ _. occupied_swept (convert_change s c a).processes (convert_change s c a).resources)
     (λ d _. occupied_swept (deq_change s d).processes (deq_change s d).resources))

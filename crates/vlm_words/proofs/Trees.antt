@@ -23,6 +23,7 @@ use Rattle.vlm_words.specs.Trees.{enq_site, root_domain, site_below}
 use Rattle.vlm_words.specs.Enqueue.{enq_at_once, enq_change, enq_key, enq_refusal, enq_row, resource_after_entry, resources_after_entry}
 use Rattle.vlm_words.specs.Declare.{declare_change}
 use Rattle.vlm_words.specs.SetValue.{set_change}
+use Rattle.vlm_words.specs.Take.{take_change}
 use Rattle.vlm_words.specs.Convert.{ConversionAdmission, convert_blocks, convert_change, convert_lkid, resource_after_conversion}
 use Rattle.vlm_words.specs.Dequeue.{cancel_refusal, deq_change, deq_flags_refusal, deq_refusal, dequeue_lkid, has_sublock, has_sublock_on, sublocks_refusal, withdrawal_of, withdrawals_of}
 use Rattle.vlm_words.specs.Withdrawals.{Withdrawal, resource_after_withdrawals}
@@ -250,13 +251,14 @@ occupied_always history last run =
 
 -- after every run
 pub tree_always : (history : History) (last : State) → Run history last → Tree last
-unfolding declare_change set_change
+unfolding declare_change set_change take_change
 tree_always =
     always (λ _ s. Tree s) (record { rooted = tt; low = tt })
     (λ history s run tree.
     kept_by_stepped (λ _ t. Tree t) history.endings s tree
     (λ d _. tree_swept (declare_change s d) (record { rooted = tree.rooted; low = tree.low }))
     (λ v _. tree_swept (set_change s v) (record { rooted = tree.rooted; low = tree.low }))
+    (λ taker _. tree_swept (take_change s taker) (record { rooted = tree.rooted; low = tree.low }))
     (λ e passed.
     tree_swept (enq_change s e)
     (tree_entered s e passed (placed_always history s run) (occupied_always history s run) tree))

@@ -15,6 +15,7 @@ use Rattle.vlm_words.specs.Rows.{is_lock_of}
 use Rattle.vlm_words.specs.Trees.{enq_site}
 use Rattle.vlm_words.specs.Declare.{declare_change}
 use Rattle.vlm_words.specs.SetValue.{set_change}
+use Rattle.vlm_words.specs.Take.{take_change}
 use Rattle.vlm_words.specs.Enqueue.{enq_at_once, enq_change, enq_refusal, enq_row, resource_after_entry}
 use Rattle.vlm_words.specs.Convert.{ConversionAdmission, convert_admission, convert_blocks, convert_change, convert_lkid, convert_refusal, resource_after_conversion, resource_after_conversion_of, resource_without_granted, wanting_row}
 use Rattle.vlm_words.specs.Withdrawals.{Withdrawal, is_held_by_writer, resource_after_cancel, resource_after_going, resource_after_withdrawals, resource_after_writer, resource_without, value_block_after_writer}
@@ -125,13 +126,14 @@ module _ (P : Row → Type 0) where
       → ((history : History) (s : State) → Run history s → (c : Conversion) (a : ConversionAdmission) → convert_refusal s c ≡ None → convert_admission s c ≡ Some a
       → a.at_once ≡ false → AllByRecursion (EachConverting P c (convert_lkid s c) a) s.resources)
       → (history : History) (last : State) → Run history last → AllByRecursion (Queued P) last.resources
-  unfolding declare_change set_change
+  unfolding declare_change set_change take_change
   queued_always requests conversions =
       always (λ _ s. AllByRecursion (Queued P) s.resources) tt
       (λ history s run each.
       kept_by_stepped (λ _ t. AllByRecursion (Queued P) t.resources) history.endings s each
       (λ d _. swept_queued (declare_change s d) each)
       (λ v _. swept_queued (set_change s v) each)
+      (λ taker _. swept_queued (take_change s taker) each)
       (λ e passed. swept_queued (enq_change s e) (request_queued s e (requests history s run e passed) each))
       (λ c a passed is. swept_queued (convert_change s c a) (conversion_queued s c a (conversions history s run c a passed is) each))
       (λ d _. swept_queued (deq_change s d) (dequeue_queued s d each)))

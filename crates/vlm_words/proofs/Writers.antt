@@ -33,6 +33,7 @@ use Rattle.vlm_words.specs.Resources.{is_at, new_resource}
 use Rattle.vlm_words.specs.Sweeps.{is_vacant, resources_after_sweep}
 use Rattle.vlm_words.specs.Declare.{declare_change}
 use Rattle.vlm_words.specs.SetValue.{set_change}
+use Rattle.vlm_words.specs.Take.{take_change}
 use Rattle.vlm_words.specs.Trees.{enq_site}
 use Rattle.vlm_words.specs.Enqueue.{enq_at_once, enq_change, enq_row, resource_after_entry}
 use Rattle.vlm_words.specs.Convert.{ConversionAdmission, conversion_endings, convert_admission, convert_blocks, convert_change, convert_lkid, convert_refusal, convert_request, resource_after_conversion, resource_after_conversion_of, wanting_row}
@@ -444,7 +445,7 @@ swept_change s step change harmless each = swept_has s step change.state.process
 
 accepted_has : (history : History) (s : State) → Run history s → (step : Step) (choice : Option Row) → step_refusal s step ≡ None
     → AllByRecursion (Has s step) (stepped_after_sweep (step_change s step choice)).state.resources
-unfolding declare_change set_change
+unfolding declare_change set_change take_change
 accepted_has history s run (Declare d) choice passed =
     swept_change s (Declare d) (step_change s (Declare d) choice) (harmless_always history s run) (idle_has s (Declare d) (λ r writes. writes))
 accepted_has history s run (SetValue v) choice passed =
@@ -465,7 +466,8 @@ accepted_has history s run (Deq d) choice passed =
 accepted_has history s run (Rundown pid) choice passed = cc
 accepted_has history s run (Leave node) choice passed = cc
 accepted_has history s run (Search node) choice passed = cc
-accepted_has history s run (Take pid) choice passed = cc
+accepted_has history s run (Take pid) choice passed =
+    swept_change s (Take pid) (step_change s (Take pid) choice) (harmless_always history s run) (idle_has s (Take pid) (λ r writes. writes))
 
 pub writers_always : (history : History) (old : State) → Run history old → (step : Step) (choice : Option Row) → IsChoice old step choice
     → step_refusal old step ≡ None → OnlyWritersChangeValues old step choice

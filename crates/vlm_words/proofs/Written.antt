@@ -27,6 +27,8 @@ use Rattle.vlm_words.specs.Sweeps.{blocks_after_service, processes_after_service
 use Rattle.vlm_words.specs.Checks.{caller_refusal, has_departed, or_else, status_block_refusal, which_refusal}
 use Rattle.vlm_words.specs.Declare.{declare_change, declared_process}
 use Rattle.vlm_words.specs.SetValue.{set_change, set_refusal}
+use Rattle.vlm_words.specs.Take.{take_change}
+use Rattle.vlm_words.specs.Asts.{later, process_after_take, processes_after_take}
 use Rattle.vlm_words.specs.Enqueue.{enq_change, enq_endings, enq_resource}
 use Rattle.vlm_words.specs.Convert.{ConversionAdmission, admission_refusal, conversion_endings, convert_admission, convert_argument_refusal, convert_blocks, convert_change, convert_lkid, convert_refusal}
 use Rattle.vlm_words.specs.Checks.{lock_refusal}
@@ -38,7 +40,7 @@ use Rattle.vlm_words.specs.Settled.{IsSettled}
 use Rattle.vlm_words.specs.Written.{BlocksAfter, IsLeftByEnds, ProcessesAfter, WritesNamedBlocks, block_named, names_block, without_blocks}
 use Rattle.vlm_words.proofs.Always.{admission_of}
 use Rattle.vlm_words.proofs.Passed.{test_passes}
-use Rattle.vlm_words.proofs.Processes.{kept_converted, kept_ended, kept_entered, kept_set, kept_swept}
+use Rattle.vlm_words.proofs.Processes.{kept_converted, kept_ended, kept_entered, kept_set, kept_swept, kept_taken}
 use Rattle.vlm_words.proofs.Settled.{settled_law}
 use Rattle.vlm_words.proofs.EndWrites.{block_at, block_written, many_written}
 use Rattle.vlm_words.proofs.Writing.{AreLeftByEnds, all_left, all_left_by_none, all_left_swept}
@@ -196,7 +198,7 @@ nothing_swept processes [] settled = refl
 nothing_swept processes (r ∷ rest) settled = rw settled.0.served (nothing_swept processes rest settled.1)
 
 -- who is there is found before one who is added
-found_first : (processes : List Process) (p : Process) (pid : ℕ) (before : Process) → process_of processes pid ≡ Some before
+pub found_first : (processes : List Process) (p : Process) (pid : ℕ) (before : Process) → process_of processes pid ≡ Some before
     → process_of (processes ++ p ∷ []) pid ≡ Some before
 found_first processes p pid before is =
     find-append (λ (q : Process). q.pid == pid) processes (p ∷ [])
@@ -262,6 +264,40 @@ dequeue_writes s d choice =
     s.processes (unmade (Deq d) (Plain Normal) s (λ _. refl))
     (all_left (deq_endings s d) (blocks_with new_value_block s.processes))
 
+-- a process as a take leaves it, if it is its own
+abbrev pub as_taken : Process → Bool → Process
+as_taken p mine = cond mine (record p { asts = later p.asts }) p
+
+-- status blocks stay where an AST is taken
+blocks_kept : (taker pid : ℕ) (processes : List Process) → status_blocks_of (processes_after_take taker processes) pid ≡ status_blocks_of processes pid
+unfolding process_after_take
+blocks_kept taker pid [] = refl
+blocks_kept taker pid (p ∷ rest) = of_tests (p.pid == taker) (p.pid == pid) refl (blocks_kept taker pid rest)
+  where
+    of_tests : (mine found : Bool) → (p.pid == pid) ≡ found → status_blocks_of (processes_after_take taker rest) pid ≡ status_blocks_of rest pid
+        → option_map_or (λ q. q.blocks) (cond ((as_taken p mine).pid == pid) (Some (as_taken p mine)) (process_of (processes_after_take taker rest) pid)) []
+        ≡ option_map_or (λ q. q.blocks) (cond found (Some p) (process_of rest pid)) []
+    of_tests true true at behind = rw at refl
+    of_tests false true at behind = rw at refl
+    of_tests true false at behind = rw at behind
+    of_tests false false at behind = rw at behind
+
+-- a take
+taking_writes : (s : State) (taker : ℕ) (choice : Option Row) → Writes s (Take taker) (stepped_after_sweep (step_change s (Take taker) choice))
+unfolding take_change
+taking_writes s taker choice =
+    swept_writes s (Take taker) (step_change s (Take taker) choice)
+    (kept_swept without_blocks (λ _ _. refl) (take_change s taker).processes s.resources ∙ kept_taken without_blocks (λ _ _. refl) taker s.processes)
+    (take_change s taker).processes
+    (λ pid before is.
+    let blocks : status_blocks_of (take_change s taker).processes pid ≡ before.blocks =
+    blocks_kept taker pid s.processes ∙ blocks_are s.processes pid before is in
+    record {
+      many = ap (λ (blocks : List Block). length blocks) blocks;
+      each = λ k _. ap (λ (blocks : List Block). get_or blocks k new_status_block) blocks;
+    })
+    (all_left_by_none (take_change s taker).processes)
+
 writes : (s : State) → AllByRecursion IsSettled s.resources → (step : Step) (choice : Option Row)
     → step_refusal s step ≡ None → Writes s step (stepped_after_sweep (step_change s step choice))
 writes s settled (Declare d) choice passed = declaration_writes s d choice settled
@@ -275,7 +311,7 @@ writes s settled (Deq d) choice passed = dequeue_writes s d choice
 writes s settled (Rundown pid) choice passed = cc
 writes s settled (Leave node) choice passed = cc
 writes s settled (Search node) choice passed = cc
-writes s settled (Take pid) choice passed = cc
+writes s settled (Take pid) choice passed = taking_writes s pid choice
 
 -- after every run
 pub written_always : (history : History) (old : State) → Run history old → (step : Step) (choice : Option Row) → IsChoice old step choice → WritesNamedBlocks old step choice

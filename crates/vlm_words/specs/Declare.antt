@@ -24,7 +24,7 @@ declare_refusal s d =
 abbrev pub next_pid : State → ℕ → ℕ
 next_pid s node = node * 65536 + ((node_at s.nodes node).declared + 1)
 
--- a process at its making, with new status blocks
+-- a process at its making, with new status blocks and no AST
 abbrev pub new_process : ℕ → Declaration → Process
 new_process pid d = record {
   pid = pid;
@@ -32,6 +32,7 @@ new_process pid d = record {
   syslck = d.syslck;
   quota = d.quota;
   blocks = replicate d.blocks new_status_block;
+  asts = [];
 }
 
 -- the new process

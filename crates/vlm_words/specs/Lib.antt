@@ -6,6 +6,7 @@ pub mod Conditions
 pub mod ValueBlocks
 pub mod State
 pub mod StatusBlocks
+pub mod Asts
 pub mod Steps
 pub mod Endings
 pub mod Effects
@@ -19,6 +20,7 @@ pub mod Trees
 pub mod Quotas
 pub mod Declare
 pub mod SetValue
+pub mod Take
 pub mod Enqueue
 pub mod Convert
 pub mod Withdrawals
@@ -34,6 +36,7 @@ pub mod Reasons
 pub mod Privileges
 pub mod Queued
 pub mod Written
+pub mod Taking
 pub mod Standing
 pub mod Writers
 pub mod Returned

@@ -7,7 +7,7 @@ use Rattle.vlm_words.specs.declared.locks.Request.{Request}
 use Rattle.vlm_words.specs.declared.locks.Row.{Row}
 use Rattle.vlm_words.specs.declared.modes.Mode.TheVariants.{Nl}
 use Rattle.vlm_words.specs.declared.modes.Mode.{Mode}
-use Rattle.vlm_words.specs.declared.steps.Answer.TheVariants.{Process as process_answer, Lock, Plain}
+use Rattle.vlm_words.specs.declared.steps.Answer.TheVariants.{Process as process_answer, Lock, Plain, Taken}
 use Rattle.vlm_words.specs.declared.steps.Answer.{Answer}
 use Rattle.vlm_words.specs.declared.steps.Conversion.{Conversion}
 use Rattle.vlm_words.specs.declared.steps.Declaration.{Declaration}
@@ -179,7 +179,7 @@ Breaks s (Deq d) cond = DequeueBreaks s d cond
 Breaks s (Rundown pid) cond = UnbuiltBreaks cond
 Breaks s (Leave node) cond = UnbuiltBreaks cond
 Breaks s (Search node) cond = UnbuiltBreaks cond
-Breaks s (Take pid) cond = UnbuiltBreaks cond
+Breaks s (Take pid) cond = CallerBreaks s pid cond
 
 -- what an accepted request answers: SYNCH where it is granted at once and SYNCSTS asks for that, else NORMAL
 abbrev pub IsAcceptedWith : ℕ → Type 0 → Cond → Type 0
@@ -194,6 +194,7 @@ IsAcceptance (SetValue v) AtOnce (Plain Normal) = ⊤
 IsAcceptance (Enq e) AtOnce (Lock cond lkid) = IsAcceptedWith e.flags AtOnce cond
 IsAcceptance (Convert c) AtOnce (Lock cond lkid) = IsAcceptedWith c.flags AtOnce cond
 IsAcceptance (Deq d) AtOnce (Plain Normal) = ⊤
+IsAcceptance (Take pid) AtOnce (Taken ast) = ⊤
 IsAcceptance step AtOnce answer = ⊥
 
 -- the step breaks no rule, and is accepted

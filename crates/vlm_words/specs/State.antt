@@ -1,5 +1,6 @@
 -- What the plain lock machine keeps.
 use Rattle.std.specs.Prelude.{ℕ, Bool, false, List, [], Option, ◌==◌, ◌-◌, find, slice_index_or, replicate}
+use Rattle.vlm_words.specs.declared.asts.Ast.{Ast}
 use Rattle.vlm_words.specs.declared.blocks.Block.{Block}
 use Rattle.vlm_words.specs.declared.locks.Row.{Row}
 use Rattle.vlm_words.specs.declared.resources.Domain.{Domain}
@@ -18,13 +19,14 @@ pub record Resource : Type 0 where
   pub converting : List Row
   pub waiting : List Row
 
--- a living process, with its status blocks
+-- a living process, with its status blocks and the ASTs that are queued to it and not yet taken
 pub record Process : Type 0 where
   pub pid : ℕ
   pub group : ℕ
   pub syslck : Bool
   pub quota : ℕ
   pub blocks : List Block
+  pub asts : List Ast
 
 -- how many processes a node has declared so far, and whether it has departed
 pub record Node : Type 0 where

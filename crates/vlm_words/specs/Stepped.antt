@@ -4,7 +4,7 @@ use Rattle.std.proofs.Common.{inl, inr}
 use Rattle.vlm_words.specs.declared.conditions.Cond.TheVariants.{Normal, Badparam, Insfmem}
 use Rattle.vlm_words.specs.declared.conditions.Cond.{Cond}
 use Rattle.vlm_words.specs.declared.locks.Row.{Row}
-use Rattle.vlm_words.specs.declared.steps.Answer.TheVariants.{Process as process_answer, Lock, Plain}
+use Rattle.vlm_words.specs.declared.steps.Answer.TheVariants.{Process as process_answer, Lock, Plain, Taken}
 use Rattle.vlm_words.specs.declared.steps.Answer.{Answer}
 use Rattle.vlm_words.specs.declared.steps.Conversion.{Conversion}
 use Rattle.vlm_words.specs.declared.steps.Step.TheVariants.{Declare, SetValue, Enq, Convert, Deq, Rundown, Leave, Search, Take}
@@ -15,6 +15,7 @@ use Rattle.vlm_words.specs.Sweeps.{state_after_sweep, sweep_endings}
 use Rattle.vlm_words.specs.Checks.{acceptance}
 use Rattle.vlm_words.specs.Declare.{declare_change, declare_refusal, next_pid}
 use Rattle.vlm_words.specs.SetValue.{set_change, set_refusal}
+use Rattle.vlm_words.specs.Take.{take_change, take_refusal, taken_ast}
 use Rattle.vlm_words.specs.Enqueue.{enq_at_once, enq_change, enq_endings, enq_refusal}
 use Rattle.vlm_words.specs.Convert.{ConversionAdmission, conversion_endings, convert_admission, convert_change, convert_lkid, convert_refusal}
 use Rattle.vlm_words.specs.Dequeue.{deq_change, deq_endings, deq_refusal}
@@ -48,7 +49,7 @@ step_refusal s (Deq d) = deq_refusal s d
 step_refusal s (Rundown pid) = Some Badparam
 step_refusal s (Leave node) = Some Badparam
 step_refusal s (Search node) = Some Badparam
-step_refusal s (Take pid) = Some Badparam
+step_refusal s (Take pid) = take_refusal s pid
 
 -- what a step chooses, where more than one thing may come of it: a row or none; no kind that is built chooses
 abbrev pub IsChoice : State → Step → Option Row → Type 0
@@ -77,7 +78,7 @@ step_change s (Deq d) choice = record {
 step_change s (Rundown pid) choice = refused s Badparam
 step_change s (Leave node) choice = refused s Badparam
 step_change s (Search node) choice = refused s Badparam
-step_change s (Take pid) choice = refused s Badparam
+step_change s (Take pid) choice = record { state = take_change s pid; answer = Taken (taken_ast s pid); endings = [] }
 
 -- the sweep after a change: each resource is served, and dropped if it has no lock
 abbrev pub stepped_after_sweep : Stepped → Stepped

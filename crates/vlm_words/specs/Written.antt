@@ -27,14 +27,15 @@ process_asked_for pid d = record {
   syslck = d.syslck;
   quota = d.quota;
   blocks = replicate d.blocks blank_block;
+  asts = [];
 }
 
--- the process but for its status blocks
+-- the process but for its status blocks and its ASTs
 abbrev pub without_blocks : Process → Process
-without_blocks p = record p { blocks = [] }
+without_blocks p = record p { blocks = []; asts = [] }
 
 -- an accepted declaration adds its process behind the others, and changes none; any other step leaves the processes
--- as they are, in their order, but for their status blocks
+-- as they are, in their order, but for their status blocks and their ASTs
 abbrev pub ProcessesAfter : Step → Answer → List Process → List Process → Type 0
 ProcessesAfter (Declare d) (process_answer pid) before after =
     after ≡ before ++ process_asked_for pid d ∷ []

@@ -18,6 +18,7 @@ ghost use Rattle.vlm_words.specs.Queued.{NoqueueIsKept};
 ghost use Rattle.vlm_words.specs.Writers.{OnlyWritersChangeValues};
 ghost use Rattle.vlm_words.specs.Returned.{GrantsReturnValues};
 ghost use Rattle.vlm_words.specs.Written.{WritesNamedBlocks};
+ghost use Rattle.vlm_words.specs.Taking.{AstsAreTakenInOrder};
 ghost use Rattle.vlm_words.specs.Standing.{ConvertedLocksStandAsAskedFor, NewLocksStandAsAskedFor};
 ghost use Rattle.vlm_words.specs.Reasons.{RefusalHasItsReason};
 ghost use Rattle.vlm_words.specs.Laws.{DeclarationsGiveNewIdentifications, EachRequestEndsOnce, GrantsFollowQueueOrder, HeldModesAreCompatible, IdentificationsAreApart, KeysAreApart, NoResourceIsVacant, NothingIsLeftToGrant, ParentsOutliveTheirSublocks, QuotasAreKept, RowsFitTheirQueues, SerialsRise, TreesAreBounded, WritesAreGrantedAtOnce};
@@ -187,6 +188,14 @@ pub fn law_a_step_writes_the_status_blocks_that_are_named()
     ensures { (history : History) (old : State) → Run history old
         → (step : Step) (choice : Option Row)
         → IsChoice old step choice → WritesNamedBlocks old step choice }
+{}
+
+/// A take answers the AST of its process that has been pending longest, which is then pending no more, or none where
+/// none is pending. No other step takes an AST, and no AST of another process is taken.
+pub fn law_asts_are_taken_in_order()
+    ensures { (history : History) (old : State) → Run history old
+        → (step : Step) (choice : Option Row)
+        → IsChoice old step choice → AstsAreTakenInOrder old step choice }
 {}
 
 /// The lock of an accepted request stands as it is asked for. A new one stands on the resource that is asked for,

@@ -1,0 +1,27 @@
+-- The ASTs of processes.
+use Rattle.std.specs.Prelude.{ℕ, List, [], ◌∷◌, map, ◌==◌, Option, None, Some, if◌then◌else◌}
+use Rattle.std.specs.Option.{option_map_or}
+use Rattle.vlm_words.specs.declared.asts.Ast.{Ast}
+use Rattle.vlm_words.specs.State.{Process, process_of}
+
+-- the ASTs that are queued to a living process and not yet taken, the oldest first
+abbrev pub asts_of : List Process → ℕ → List Ast
+asts_of processes pid = option_map_or (λ p. p.asts) (process_of processes pid) []
+
+-- the oldest AST, if one is pending
+abbrev pub oldest : List Ast → Option Ast
+oldest [] = None
+oldest (ast ∷ later) = Some ast
+
+-- the ASTs but for the oldest
+abbrev pub later : List Ast → List Ast
+later [] = []
+later (ast ∷ asts) = asts
+
+-- the process once its oldest AST is taken, if it has this identification
+unfoldable pub process_after_take : ℕ → Process → Process
+process_after_take pid p = if p.pid == pid then record p { asts = later p.asts } else p
+
+-- the oldest AST of the process with this identification is taken, and no other process is changed
+abbrev pub processes_after_take : ℕ → List Process → List Process
+processes_after_take pid processes = map (process_after_take pid) processes

@@ -1,0 +1,19 @@
+-- The step that takes the oldest AST of a process.
+use Rattle.std.specs.Prelude.{ℕ, Option}
+use Rattle.vlm_words.specs.declared.asts.Ast.{Ast}
+use Rattle.vlm_words.specs.declared.conditions.Cond.{Cond}
+use Rattle.vlm_words.specs.State.{State}
+use Rattle.vlm_words.specs.Asts.{asts_of, oldest, processes_after_take}
+use Rattle.vlm_words.specs.Checks.{caller_refusal}
+
+-- the check of a take: its process lives, on a node that has not departed
+abbrev pub take_refusal : State → ℕ → Option Cond
+take_refusal s pid = caller_refusal s pid
+
+-- the AST that is taken, if one is pending
+abbrev pub taken_ast : State → ℕ → Option Ast
+taken_ast s pid = oldest (asts_of s.processes pid)
+
+-- the AST is pending no more
+unfoldable pub take_change : State → ℕ → State
+take_change s pid = record s { processes = processes_after_take pid s.processes }
