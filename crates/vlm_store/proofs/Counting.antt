@@ -1,5 +1,5 @@
 -- How the counts of a resource follow the locks in its queues.
-use Rattle.std.proofs.Common.{◌≡◌, ◌≢◌, ℕ, ◌+◌, ◌<◌, ◌≤◌, List, [], ◌∷◌, ◌++◌, length, Bool, true, false, Option, None, Some, refl, sym, ap, ◌∙◌, subst, inl, inr, arith, add-zero, length-append, eq-eqb, ne_eqb}
+use Rattle.std.proofs.Common.{◌≡◌, ◌≢◌, ℕ, ◌+◌, ◌<◌, ◌≤◌, List, [], ◌∷◌, ◌++◌, Bool, true, false, Option, None, Some, refl, sym, ap, ◌∙◌, subst, inl, inr, arith, add-zero, length-append, eq-eqb, ne_eqb}
 use Rattle.std.specs.Prelude.{◌==◌, if◌then◌else◌}
 use Rattle.std.proofs.lemmas.Bool.{cases_eq}
 use Rattle.std.proofs.lemmas.Option.{none-some, same_Some}
@@ -18,33 +18,25 @@ use Rattle.vlm_store.specs.declared.keys.Place.TheVariants.{Loose, Queued}
 use Rattle.vlm_store.specs.declared.locks.Lock.{Lock}
 use Rattle.vlm_store.specs.declared.queues.Queues.{Queues}
 use Rattle.vlm_store.specs.declared.resources.Resource.{Resource}
-use Rattle.vlm_store.specs.declared.tallies.Tally.{Tally}
+use Rattle.vlm_tallies.specs.declared.tallies.Tally.{Tally}
 use Rattle.vlm_store.specs.Records.{is_queue}
 use Rattle.vlm_store.specs.Shown.{IsPlaced, IsTallied, SameBut, but_lists, keys_at, keys_but, list_at, noted, noted_in, queue_links, row_in, rows, share_of, shares, tally_in}
-use Rattle.vlm_store.specs.Tallies.{held_of, held_weight, is_mode, one_if, total, wanted_of, wanted_weight}
+use Rattle.vlm_tallies.specs.Tallies.{held_of, held_weight, is_mode, one_if, total, wanted_of, wanted_weight}
+use Rattle.vlm_tallies.proofs.Totals.{total-length}
 use Rattle.vlm_store.proofs.Families.{family-added, family-removed}
 use Rattle.vlm_store.proofs.Places.{one_place, place_cases, tally_but_lists}
 
-module _ (weight : Row → ℕ) (rows : ℕ → Row) where
-  pub total-append : (ks : List ℕ) (at : ℕ) → total weight rows (ks ++ at ∷ []) ≡ total weight rows ks + weight (rows at)
-  total-append [] at = omega arith
-  total-append (k ∷ ks) at = omega (arith, total-append ks at)
-
-  pub total-without : (ks : List ℕ) (at : ℕ) → IsApart ks → IsIn at ks → total weight rows (without at ks) + weight (rows at) ≡ total weight rows ks
-  total-without [] at apart found = absurd found
-  total-without (k ∷ ks) at apart found =
-      elim (cases_eq k at) [
-        | inl same ↦
-            let gone = without_head at k ks same ∙ without_absent at ks (λ there. apart.0 (subst (λ x. IsIn x ks) (sym same) there)) in
-            rw gone (omega (arith, ap (λ x. weight (rows x)) same))
-        | inr differs ↦
-            let there : IsIn at ks = elim found [ inl here ↦ absurd (differs here) | inr later ↦ later ] in
-            rw (without_past at k ks differs) (omega (arith, total-without ks at apart.1 there))
-      ]
-
-  pub total-length : ((row : Row) → weight row ≤ 1) → (ks : List ℕ) → total weight rows ks ≤ length ks
-  total-length one [] = omega arith
-  total-length one (k ∷ ks) = omega (arith, one (rows k), total-length one ks)
+pub total-without : (weight : Row → ℕ) (rows : ℕ → Row) (ks : List ℕ) (at : ℕ) → IsApart ks → IsIn at ks → total weight rows (without at ks) + weight (rows at) ≡ total weight rows ks
+total-without weight rows [] at apart found = absurd found
+total-without weight rows (k ∷ ks) at apart found =
+    elim (cases_eq k at) [
+      | inl same ↦
+          let gone = without_head at k ks same ∙ without_absent at ks (λ there. apart.0 (subst (λ x. IsIn x ks) (sym same) there)) in
+          rw gone (omega (arith, ap (λ x. weight (rows x)) same))
+      | inr differs ↦
+          let there : IsIn at ks = elim found [ inl here ↦ absurd (differs here) | inr later ↦ later ] in
+          rw (without_past at k ks differs) (omega (arith, total-without weight rows ks at apart.1 there))
+    ]
 
 -- rows that stay weigh the same
 pub total-kept : (weight : Row → ℕ) (rows rows' : ℕ → Row) (ks : List ℕ) → ((at : ℕ) → IsIn at ks → rows' at ≡ rows at) → total weight rows' ks ≡ total weight rows ks

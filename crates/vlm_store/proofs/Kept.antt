@@ -24,7 +24,7 @@ use Rattle.vlm_store.specs.Records.{FindsLock, FindsResource, HasPlace, HasResou
 use Rattle.vlm_store.specs.Shown.{IsPlaced, IsTallied, IsThere, SameBut, but_queues, face_in, keys_at, list_at, noted_in, order_links, queue_links, row_in, rows, shares, tally_in}
 use Rattle.vlm_store.specs.Store.{Beside, key_at, keyed, lkid_at, records_of, resource_of, tables}
 use Rattle.vlm_store.proofs.Layouts.{HasPlace-seen, IsSeen, Stores-listed, among_resource, listed-Stores, resource_at-found, resource_among}
-use Rattle.vlm_store.specs.Tallies.{count_of, held_of, held_weight, total, wanted_of, wanted_weight}
+use Rattle.vlm_tallies.specs.Tallies.{count_of, held_of, held_weight, total, wanted_of, wanted_weight}
 use Rattle.vlm_store.proofs.Counting.{shares_same}
 use Rattle.vlm_store.proofs.Families.{family-empty}
 use Rattle.vlm_store.proofs.Places.{kept_keys, kept_placed, lists_same, lkid_of_row, lkid_told, noted_there, stands_there, through}

@@ -19,7 +19,7 @@ use Rattle.vlm_store.specs.Records.{IsSameLock, StoredProcess}
 use Rattle.vlm_store.specs.Shown.{IsPlaced, IsTallied, SameBut, but_kin, but_queued, keys_at, lkid_of, named_row, noted_in, queue_links, row_in}
 use Rattle.vlm_store.specs.Holdings.{IsBelow, IsNamed, IsOwned, NamesParent, OwnerFits, ParentFits, below_in, below_keys, below_links, below_list, but_below, but_own, holding, named_lock, own_keys, own_links, own_list, owner_in, parent_in, pid_of, plain_in, process_links, processes_of, with_own_links}
 use Rattle.vlm_store.specs.Store.{Beside, Layout, records_of, tables}
-use Rattle.vlm_store.specs.Tallies.{held_weight, wanted_weight}
+use Rattle.vlm_tallies.specs.Tallies.{held_weight, wanted_weight}
 use Rattle.vlm_store.proofs.Counting.{shares_same}
 use Rattle.vlm_store.proofs.Families.{family-kept, family-keys}
 use Rattle.vlm_store.proofs.Members.{processes_same}

@@ -10,7 +10,7 @@ use Rattle.vlm_words.specs.declared.resources.Queue.{Queue}
 use Rattle.vlm_words.specs.declared.resources.Queue.TheVariants.{Granted, Conversion, Waiting}
 use Rattle.vlm_store.specs.declared.keys.Place.{Place}
 use Rattle.vlm_store.specs.declared.keys.Place.TheVariants.{Loose, Queued}
-use Rattle.vlm_store.specs.Records.{AreOwnApart, IsProcessAmong, StoredProcess, Records, StoredLock, StoredResource, AreApart, AreOwned, AreProcessesApart, AreResourcesApart, HasPlace, HasResource, IsAmong, IsResourceAmong, IsSound, Stores, at_after, first_at, first_resource_at, resource_at_after, is_place, is_queue, leaving, locks_at, moving, on_resource, queued, resource_at, resource_with, rewriting, with_lists, without_lock, without_resource}
+use Rattle.vlm_store.specs.Records.{AreOwnApart, IsProcessAmong, StoredProcess, Records, StoredLock, StoredResource, AreApart, AreOwned, AreProcessesApart, AreResourcesApart, HasPlace, HasResource, IsAmong, IsResourceAmong, IsSound, Stores, at_after, first_at, first_resource_at, resource_at_after, is_place, is_queue, leaving, locks_at, moving, on_resource, queued, resource_at, resource_with, with_lists, without_lock, without_resource}
 use Rattle.vlm_store.specs.Store.{Layout, keyed, records_of, resource_of}
 use Rattle.vlm_store.proofs.Places.{place_cases}
 
@@ -118,22 +118,6 @@ pub leaving-keyed : (rows rows' : ℕ → Row) (keys keys' : Place → List ℕ)
     → (p : Place) → map (keyed rows') (keys' p) ≡ leaving at p (map (keyed rows) (keys p))
 leaving-keyed rows rows' keys keys' at others left p =
     ap (map (keyed rows')) (left p) ∙ keyed-kept rows rows' (without at (keys p)) (λ k found. others k (IsIn-without at k (keys p) found).1) ∙ sym (keyed-without rows at (keys p))
-
-pub rewriting-keyed : (rows rows' : ℕ → Row) (keys keys' : Place → List ℕ) (at : ℕ) (row : Row) → rows' at ≡ row → ((k : ℕ) → k ≢ at → rows' k ≡ rows k) → ((p : Place) → keys' p ≡ keys p)
-    → (p : Place) → map (keyed rows') (keys' p) ≡ rewriting at row p (map (keyed rows) (keys p))
-rewriting-keyed rows rows' keys keys' at row here others same p = ap (map (keyed rows')) (same p) ∙ each (keys p)
-  where
-    each : (ks : List ℕ) → map (keyed rows') ks ≡ rewriting at row p (map (keyed rows) ks)
-    each [] = refl
-    each (k ∷ ks) =
-        elim (cases_eq k at) [
-          | inl is ↦
-              rw (eq-eqb k at is)
-              (ap (λ r. record { at = k; row = r } ∷ map (keyed rows') ks) (ap rows' is ∙ here) ∙ ap (λ rest. record { at = k; row = row } ∷ rest) (each ks))
-          | inr differs ↦
-              rw (ne_eqb k at differs)
-              (ap (λ r. record { at = k; row = r } ∷ map (keyed rows') ks) (others k differs) ∙ ap (λ rest. record { at = k; row = rows k } ∷ rest) (each ks))
-        ]
 
 module _ (old new : Layout) (change : Place → List StoredLock → List StoredLock) (faces : (r : ℕ) → new.faces r ≡ old.faces r)
     (lists : (p : Place) → map (keyed new.rows) (new.keys p) ≡ change p (map (keyed old.rows) (old.keys p))) where

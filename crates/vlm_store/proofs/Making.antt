@@ -21,7 +21,7 @@ use Rattle.vlm_store.specs.declared.locks.Lock.{Lock}
 use Rattle.vlm_store.specs.declared.queues.Queues.{Queues}
 use Rattle.vlm_store.specs.declared.resources.Resource.{Resource}
 use Rattle.vlm_store.specs.Shown.{Face, IsPlaced, IsTallied, face_in, face_of, keys_at, list_at, list_in, no_list, queue_links, rows, shares, tally_in, with_order_links}
-use Rattle.vlm_store.specs.Tallies.{count_of, held_of, held_weight, no_tally, total, wanted_of, wanted_weight}
+use Rattle.vlm_tallies.specs.Tallies.{count_of, held_of, held_weight, no_tally, total, wanted_of, wanted_weight}
 use Rattle.vlm_store.proofs.Counting.{shares_same}
 use Rattle.vlm_store.proofs.Places.{kept_keys, kept_placed, no_list_is}
 

@@ -5,4 +5,3 @@ pub mod Kept
 pub mod Records
 pub mod Shown
 pub mod Store
-pub mod Tallies

@@ -206,10 +206,6 @@ abbrev pub moving : Place → StoredLock → Place → List StoredLock → List 
 moving to lock place locks =
     if is_place place to then without_lock lock.at locks ++ lock ∷ [] else without_lock lock.at locks
 
--- a change of lists: the lock of this key has another row
-abbrev pub rewriting : ℕ → Row → Place → List StoredLock → List StoredLock
-rewriting at row place locks = map (λ k. if k.at == at then record { at = k.at; row = row } else k) locks
-
 -- a change of the resource of this key alone
 abbrev pub on_resource : ℕ → (StoredResource → StoredResource) → List StoredResource → List StoredResource
 on_resource res change resources = map (λ r. if r.at == res then change r else r) resources

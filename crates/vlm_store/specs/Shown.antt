@@ -1,5 +1,6 @@
 -- What the slabs of locks and resources show.
-use Rattle.std.specs.Prelude.{◌≡◌, ◌+◌, ◌-◌, ◌==◌, if◌then◌else◌, ℕ, false, replicate, List, Option, None, Some}
+use Rattle.std.specs.Prelude.{◌≡◌, ◌+◌, ◌-◌, ◌==◌, ◌&&◌, Bool, if◌then◌else◌, ℕ, false, replicate, List, Option, None, Some}
+use Rattle.std.specs.List.{list_all}
 use Rattle.std.specs.Option.{option_map}
 use Rattle.slab.specs.Slab.{Slab, get, slab_len, ContainsKey}
 use Rattle.vlm_links.specs.declared.link.Links.{Links}
@@ -11,6 +12,7 @@ use Rattle.vlm_words.specs.declared.resources.Domain.{Domain}
 use Rattle.vlm_words.specs.declared.resources.Domain.TheVariants.{System}
 use Rattle.vlm_words.specs.declared.resources.Queue.{Queue}
 use Rattle.vlm_words.specs.declared.resources.Queue.TheVariants.{Granted, Conversion, Waiting}
+use Rattle.vlm_words.specs.Grants.{is_beside}
 use Rattle.vlm_words.specs.ValueBlocks.{new_value_block}
 use Rattle.vlm_words.specs.declared.resources.Key.{Key}
 use Rattle.vlm_words.specs.declared.resources.Site.{Site}
@@ -22,9 +24,9 @@ use Rattle.vlm_store.specs.declared.locks.InQueue.{InQueue}
 use Rattle.vlm_store.specs.declared.locks.Lock.{Lock}
 use Rattle.vlm_store.specs.declared.queues.Queues.{Queues}
 use Rattle.vlm_store.specs.declared.resources.Resource.{Resource}
-use Rattle.vlm_store.specs.declared.tallies.Tally.{Tally}
+use Rattle.vlm_tallies.specs.declared.tallies.Tally.{Tally}
 use Rattle.vlm_store.specs.Families.{IsFamily}
-use Rattle.vlm_store.specs.Tallies.{held_of, held_weight, no_tally, total, wanted_of, wanted_weight}
+use Rattle.vlm_tallies.specs.Tallies.{held_of, held_weight, no_tally, total, wanted_of, wanted_weight}
 
 -- an empty list
 abbrev pub no_list : {Kind : Type 0} → LinkedList Kind
@@ -189,6 +191,11 @@ module _ (q : Queues) where
   pub record IsTallied (out : Option ℕ) : Type 0 where
     pub held : (res : ℕ) (mode : Mode) → held_of (tally_in (get q.resources res)) mode ≡ shares (held_weight mode) out res
     pub wanted : (res : ℕ) (mode : Mode) → wanted_of (tally_in (get q.resources res)) mode ≡ shares (wanted_weight mode) out res
+
+-- the mode is compatible with what each lock under these keys holds
+abbrev pub keys_fit : Mode → (ℕ → Row) → List ℕ → List ℕ → Bool
+keys_fit mode rows granted converting =
+    list_all (λ k. is_beside mode (rows k).held) granted && list_all (λ k. is_beside mode (rows k).held) converting
 
 -- what a lock at this place adds to the count of a resource
 abbrev pub share_of : (Queue → Row → ℕ) → Place → ℕ → Row → ℕ

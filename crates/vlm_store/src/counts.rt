@@ -5,13 +5,13 @@ ghost use Rattle.std.specs.Option.{ForSome};
 ghost use Rattle.slab.specs.Slab.{get, ContainsKey};
 ghost use Rattle.vlm_words.specs.declared.resources.Queue.{Queue};
 ghost use Rattle.vlm_store.specs.declared.keys.Place.{Place};
-ghost use Rattle.vlm_store.specs.Tallies.{held_of, held_weight, keys_fit, wanted_of, wanted_weight};
-ghost use Rattle.vlm_store.specs.Shown.{IsPlaced, IsTallied, SameBut, but_tally, keys_but, room_in, rows, share_of, shares, tally_in};
+ghost use Rattle.vlm_tallies.specs.Tallies.{held_of, held_weight, wanted_of, wanted_weight};
+ghost use Rattle.vlm_store.specs.Shown.{IsPlaced, IsTallied, SameBut, but_tally, keys_but, keys_fit, room_in, rows, share_of, shares, tally_in};
 
 use crate::keys::{LockAt, Place, ResAt};
 use crate::locks::Lock;
 use crate::queues::Queues;
-use crate::tallies::Tally;
+use vlm_tallies::Tally;
 use vlm_words::locks::Row;
 use vlm_words::modes::Mode;
 use vlm_words::resources::Queue;

@@ -13,7 +13,6 @@ mod processes;
 mod queues;
 mod resources;
 mod store;
-mod tallies;
 
 pub use keys::{At, LockAt, LockKind, Place, ProcAt, ProcessKind, ResAt, ResourceKind};
 pub use locks::Lock;

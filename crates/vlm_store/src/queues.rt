@@ -152,27 +152,6 @@ impl Queues {
         self.count_in(at);
     }
 
-    /// Gives a lock another row, where it stands.
-    pub(crate) fn set_row(&mut self, at: usize, row: &Row)
-        requires placed { IsPlaced self.old None }
-        requires tallied { IsTallied self.old None }
-        requires present { ContainsKey self.old.locks at }
-        requires named { named_row (rows self.old at) ≡ named_row row.now }
-        ensures placed { IsPlaced self.new None }
-        ensures tallied { IsTallied self.new None }
-        ensures keys { (place : Place) → keys_at self.new place ≡ keys_at self.old place }
-        ensures row { rows self.new at ≡ row.now }
-        ensures rows { (other : ℕ) → other ≢ at → rows self.new other ≡ rows self.old other }
-        ensures kin { SameBut but_queued self.old.locks self.new.locks }
-        ensures rest { SameBut but_queues self.old.resources self.new.resources }
-        ensures locks_room { room_in self.new.locks ≡ room_in self.old.locks }
-        ensures resources_room { room_in self.new.resources ≡ room_in self.old.resources }
-    {
-        self.count_out(at);
-        self.write_row(at, row);
-        self.count_in(at);
-    }
-
     /// Adds a lock that stands in no queue, and is not yet among those of its process and its parent. There
     /// is room for it.
     pub(crate) fn add(&mut self, row: &Row, owner: ProcAt, parent: Option<LockAt>) -> usize

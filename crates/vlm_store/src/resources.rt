@@ -10,8 +10,8 @@ ghost use Rattle.vlm_store.specs.Shown.{IsPlaced, IsTallied, SameBut, but_value_
 
 use crate::locks::InQueue;
 use crate::queues::Queues;
-use crate::tallies::Tally;
 use vlm_links::{LAST_KEY, Linked, LinkedList, Links};
+use vlm_tallies::Tally;
 use vlm_words::resources::{Domain, Key, Queue, Site, ValueBlock};
 
 /// The list of the resources, and that of the processes, in order of making.

@@ -4,7 +4,7 @@ ghost use Rattle.std.specs.Prelude.{◌≡◌, [], ◌∷◌, ◌++◌, length, 
 ghost use Rattle.std.specs.Option.{ForSome};
 ghost use Rattle.vlm_words.specs.declared.locks.Row.{Row};
 ghost use Rattle.vlm_store.specs.declared.keys.Place.{Place};
-ghost use Rattle.vlm_store.specs.Records.{FindsLock, FindsResource, HasNoSublocks, HasPlace, HasResource, HasRoomForLock, HasRoomForResource, IsAmong, IsGivenBack, IsTaken, IsUnchanged, IsParentOf, IsProcess, at_after, first_at, first_resource_at, fits_beside, resource_at_after, resource_at, IsIdle, IsNewKey, IsNewLock, IsRowOf, IsSound, IsStored, Stores, locks_at, moving, new_resource, nothing, on_resource, rewriting, with_lists, with_lock_room, with_new_lock, with_resource_room, without_resource, without_stored_lock};
+ghost use Rattle.vlm_store.specs.Records.{FindsLock, FindsResource, HasNoSublocks, HasPlace, HasResource, HasRoomForLock, HasRoomForResource, IsAmong, IsGivenBack, IsTaken, IsUnchanged, IsParentOf, IsProcess, at_after, first_at, first_resource_at, fits_beside, resource_at_after, resource_at, IsIdle, IsNewKey, IsNewLock, IsRowOf, IsSound, IsStored, Stores, locks_at, moving, new_resource, nothing, on_resource, with_lists, with_lock_room, with_new_lock, with_resource_room, without_resource, without_stored_lock};
 
 use crate::growth::reserve_one;
 use crate::keys::{LockAt, Place, ProcAt, ResAt};
@@ -154,14 +154,6 @@ impl Store {
         let at = LockAt::of(slot);
         let _ = self.lock_index.insert(row.lkid, at);
         Ok(at)
-    }
-
-    /// Writes what a lock holds and wants, where it stands.
-    pub fn set_row(&mut self, lock: LockAt, row: Row)
-        requires { IsRowOf lock row self.old }
-        ensures { self.new ≡ with_lists (rewriting lock row) self.old }
-    {
-        self.queues.set_row(lock.slot(), &row);
     }
 
     /// Takes a lock from where it stands, writes what it holds and wants, and puts it at the end of the

@@ -8,7 +8,7 @@ use std::alloc::AllocError;
 use std::process::Abort;
 use std::test::Fail;
 use vlm_queue::{can_hold, head, is_idle, next, pop_front, push_back, unlink};
-use vlm_store::Store;
+use vlm_store::{Place, Store};
 use vlm_words::flags::EnqFlags;
 use vlm_words::locks::{Request, Row};
 use vlm_words::modes::Mode;
@@ -126,21 +126,21 @@ fn leave(rt: &impl Abort, store: &mut Store, lkid: u32) {
     assert!(rt; stores::leave(rt, store, lkid));
 }
 
-// Takes the first converting lock out of its queue, and puts it at the end of the granted locks with this
-// mode.
+// Takes the first converting lock out of its queue, and gives it this mode. It then stands in no queue.
 fn serve(rt: &impl Abort, store: &mut Store, key: &Key, lkid: u32, mode: Mode) {
     let res = resource(rt, store, key);
     let served = pop_front(store, res, Queue::Conversion);
     let lock = lock(rt, store, lkid);
     assert!(rt; served == Some(lock));
     let old = store.lock_record(lock).row;
-    store.set_row(
+    store.move_lock(
         lock,
         Row {
             held: Some(request(mode)),
             want: None,
             ..old
         },
+        Place::Loose,
     );
 }
 

@@ -1,7 +1,7 @@
 use Rattle.std.proofs.Common.{refl, ◌∙◌, arith}
 use Rattle.slab.specs.Slab.{get}
 use Rattle.vlm_store.specs.Shown.{tally_in}
-use Rattle.vlm_store.specs.Tallies.{held_of, held_weight, wanted_of, wanted_weight}
+use Rattle.vlm_tallies.specs.Tallies.{held_of, held_weight, wanted_of, wanted_weight}
 use Rattle.vlm_store.proofs.Counting.{counted_out, loose_weighs, weighs_here}
 use Rattle.vlm_store.proofs.Places.{lists_but_tally, noted_stands}
 use Rattle.vlm_store.proofs.queues.Queues.count_out.Goals as goal

@@ -1,5 +1,5 @@
 use Rattle.std.proofs.Common.{◌∙◌}
-use Rattle.vlm_store.specs.Tallies.{held_of}
+use Rattle.vlm_tallies.specs.Tallies.{held_of}
 use Rattle.vlm_store.proofs.Fitting.{shares-fit}
 use Rattle.vlm_store.proofs.queues.Queues.fits.Goals as goal
 

@@ -1,5 +1,5 @@
 use Rattle.vlm_store.proofs.Rooms.{room_written}
-use Rattle.vlm_store.specs.Tallies.{held_of, held_weight, wanted_of, wanted_weight}
+use Rattle.vlm_tallies.specs.Tallies.{held_of, held_weight, wanted_of, wanted_weight}
 use Rattle.vlm_store.proofs.Counting.{tally_less}
 use Rattle.vlm_store.proofs.queues.Queues.tally_out.Goals as goal
 

@@ -1,6 +1,6 @@
 use Rattle.std.proofs.Common.{◌∙◌, ap, sym, arith}
 use Rattle.vlm_store.specs.Shown.{tally_in}
-use Rattle.vlm_store.specs.Tallies.{held_of, held_weight, wanted_of, wanted_weight}
+use Rattle.vlm_tallies.specs.Tallies.{held_of, held_weight, wanted_of, wanted_weight}
 use Rattle.vlm_store.proofs.Counting.{own_weighs}
 use Rattle.vlm_store.proofs.queues.Queues.tally_without.Goals as goal
 

@@ -2,18 +2,19 @@
 
 ghost use Rattle.std.specs.Prelude.{◌≡◌, ◌+◌, ◌<◌, ◌≤◌, ◌^◌};
 ghost use Rattle.vlm_words.specs.declared.modes.Mode.{Mode};
-ghost use Rattle.vlm_store.specs.Tallies.{count_of, counts_fit, held_of, held_weight, is_free, is_mode, one_if, wanted_of, wanted_weight};
+ghost use Rattle.vlm_tallies.specs.Tallies.{count_of, counts_fit, held_of, held_weight, is_free, is_mode, one_if, wanted_of, wanted_weight};
 
 use vlm_words::locks::{Request, Row};
 use vlm_words::modes::{Mode, compatible};
 use vlm_words::resources::Queue;
 
-/// How many locks of a resource hold each mode, and how many want it, by the mode's rank. A converting
-/// lock is counted in both.
+/// How many locks of a resource hold each mode, and how many want it.
 #[derive(Clone, Copy)]
-pub(crate) struct Tally {
-    pub(crate) held: [u32; 6],
-    pub(crate) wanted: [u32; 6],
+pub struct Tally {
+    // how many hold each mode, by its rank: the granted and the converting
+    held: [u32; 6],
+    // how many want each mode, by its rank: the converting and the waiting
+    wanted: [u32; 6],
 }
 
 // One more lock holds, or wants, what is asked for.
@@ -39,10 +40,10 @@ fn count_out(counts: &mut [u32; 6], request: &Option<Request>)
 }
 
 impl Tally {
-    ghost use Rattle.vlm_store.specs.Tallies.{no_tally};
+    ghost use Rattle.vlm_tallies.specs.Tallies.{no_tally};
 
-    /// No locks.
-    pub(crate) fn new() -> Self
+    /// A tally of no locks.
+    pub fn new() -> Self
         ensures { result ≡ no_tally }
     {
         Tally {
@@ -51,8 +52,8 @@ impl Tally {
         }
     }
 
-    /// One more lock stands in the queue.
-    pub(crate) fn add(&mut self, queue: Queue, row: &Row)
+    /// Counts one more lock, which stands in this queue with this row.
+    pub fn add(&mut self, queue: Queue, row: &Row)
         requires held { (mode : Mode) → held_of self.old mode + 1 < 2 ^ 32 }
         requires wanted { (mode : Mode) → wanted_of self.old mode + 1 < 2 ^ 32 }
         ensures held { (mode : Mode) → held_of self.new mode
@@ -70,8 +71,8 @@ impl Tally {
         }
     }
 
-    /// One lock less stands in the queue.
-    pub(crate) fn remove(&mut self, queue: Queue, row: &Row)
+    /// Counts out a lock that stood in this queue with this row.
+    pub fn remove(&mut self, queue: Queue, row: &Row)
         requires held { (mode : Mode) → held_weight mode queue row.now ≤ held_of self.old mode }
         requires wanted { (mode : Mode) → wanted_weight mode queue row.now
             ≤ wanted_of self.old mode }
@@ -98,7 +99,7 @@ impl Tally {
     }
 
     /// Whether the mode is compatible with every mode that is held.
-    pub(crate) fn fits(&self, mode: Mode) -> bool
+    pub fn fits(&self, mode: Mode) -> bool
         ensures { result ≡ counts_fit mode (held_of self.now) }
     {
         self.is_free(mode, Mode::Nl)

@@ -6,10 +6,8 @@ use Rattle.vlm_words.specs.declared.modes.Mode.{Mode}
 use Rattle.vlm_words.specs.declared.modes.Mode.TheVariants.{Nl, Cr, Cw, Pr, Pw, Ex}
 use Rattle.vlm_words.specs.declared.resources.Queue.{Queue}
 use Rattle.vlm_words.specs.declared.resources.Queue.TheVariants.{Granted, Conversion, Waiting}
-use Rattle.std.specs.List.{list_all}
-use Rattle.vlm_words.specs.Grants.{is_beside}
 use Rattle.vlm_words.specs.Modes.{is_compatible, rank}
-use Rattle.vlm_store.specs.declared.tallies.Tally.{Tally}
+use Rattle.vlm_tallies.specs.declared.tallies.Tally.{Tally}
 
 -- the request, if there is one, is for this mode
 abbrev pub is_mode : Mode → Option Request → Bool
@@ -48,7 +46,7 @@ wanted_weight mode Waiting row = one_if (is_mode mode row.want)
 abbrev pub no_tally : Tally
 no_tally = record { held = replicate 6 0; wanted = replicate 6 0 }
 
--- what the rows under these keys weigh together
+-- what the rows of these numbers weigh together
 abbrev pub total : (Row → ℕ) → (ℕ → Row) → List ℕ → ℕ
 total weight rows [] = 0
 total weight rows (k ∷ ks) = weight (rows k) + total weight rows ks
@@ -61,8 +59,3 @@ is_free mode counts held = (counts held == 0) || is_compatible mode held
 abbrev pub counts_fit : Mode → (Mode → ℕ) → Bool
 counts_fit mode counts =
     is_free mode counts Nl && (is_free mode counts Cr && (is_free mode counts Cw && (is_free mode counts Pr && (is_free mode counts Pw && is_free mode counts Ex))))
-
--- the mode is compatible with what each lock under these keys holds
-abbrev pub keys_fit : Mode → (ℕ → Row) → List ℕ → List ℕ → Bool
-keys_fit mode rows granted converting =
-    list_all (λ k. is_beside mode (rows k).held) granted && list_all (λ k. is_beside mode (rows k).held) converting

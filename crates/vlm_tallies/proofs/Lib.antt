@@ -1,0 +1,2 @@
+pub mod ModesThatFit
+pub mod Totals
