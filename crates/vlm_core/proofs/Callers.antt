@@ -3,7 +3,8 @@ use Rattle.std.proofs.Common.{◌≡◌, ℕ, None, Some, IfSome, IsSome, refl, 
 use Rattle.std.specs.Option.{option_map_or}
 use Rattle.vlm_words.specs.State.{Process, process_of}
 use Rattle.vlm_store.specs.declared.processes.Authorization.{Authorization}
-use Rattle.vlm_store.specs.Records.{FindsProcess, IsProcess, IsSound, Records, authorization_of, plain_processes, process_at}
+use Rattle.vlm_store.specs.Plain.{plain_processes}
+use Rattle.vlm_store.specs.Records.{FindsProcess, IsProcess, IsSound, Records, authorization_of, process_at}
 use Rattle.vlm_store.proofs.Plain.{process_at-stored, process_of-none, process_of-stored}
 
 -- what is found of a process

@@ -5,8 +5,8 @@ use Rattle.std.specs.List.{sum_by}
 use Rattle.std.proofs.lemmas.List.Sums.{sum_by-cons}
 use Rattle.vlm_words.specs.declared.locks.Row.{Row}
 use Rattle.vlm_words.specs.Quotas.{locks_of, locks_on, rows_owned}
+use Rattle.vlm_store.specs.Plain.{plain_resource, plain_resources}
 use Rattle.vlm_store.specs.Records.{Records, StoredLock, StoredResource, owned_among, owned_by, owned_on, rows_of}
-use Rattle.vlm_locks.specs.Plain.{plain_resource, plain_resources}
 
 -- the locks of a queue and their rows are as many
 among_same : (pid : ℕ) (locks : List StoredLock) → owned_among pid locks ≡ rows_owned pid (rows_of locks)

@@ -4,8 +4,7 @@ ghost use Rattle.std.specs.Prelude.{◌≡◌, [], false, nat_lt, None, IfNone, 
 ghost use Rattle.std.specs.Option.{option_map_or};
 ghost use Rattle.vlm_words.specs.Quotas.{locks_of, quota_of};
 ghost use Rattle.vlm_words.specs.State.{process_of};
-ghost use Rattle.vlm_store.specs.Records.{plain_processes};
-ghost use Rattle.vlm_locks.specs.Plain.{plain_resources};
+ghost use Rattle.vlm_store.specs.Plain.{plain_processes, plain_resources};
 ghost use Rattle.vlm_core.specs.Admissions.{IsCaller};
 
 use vlm_store::{ProcAt, Store};

@@ -6,9 +6,9 @@ use Rattle.vlm_words.specs.declared.locks.Row.{Row}
 use Rattle.vlm_words.specs.declared.resources.Queue.{Queue}
 use Rattle.vlm_words.specs.declared.resources.Queue.TheVariants.{Granted, Conversion, Waiting}
 use Rattle.vlm_script.specs.Texts.{queue_lines, resource_line, resource_text, resources_text, row_line}
+use Rattle.vlm_store.specs.Plain.{plain_resource}
 use Rattle.vlm_store.specs.Records.{StoredLock, StoredResource, at_after, first_resource_at, queued, resource_at, resource_at_after, rows_of}
 use Rattle.vlm_store.proofs.Walks.{IsAtLock, IsAtResource, locks_from, resources_from}
-use Rattle.vlm_locks.specs.Plain.{plain_resource}
 use Rattle.vlm_core.specs.Views.{resource_view}
 
 -- the lines of the locks that a walk of a queue has left

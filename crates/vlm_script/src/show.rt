@@ -4,8 +4,8 @@ ghost use Rattle.std.specs.Prelude.{◌≡◌, ◌++◌, IfSome, OnOk, flat_map}
 ghost use Rattle.vlm_core.specs.Views.{resource_view};
 ghost use Rattle.vlm_script.specs.Texts.{queue_lines, resource_line, resource_text, resources_text, row_line};
 ghost use Rattle.vlm_store.specs.declared.keys.Place.{Place};
+ghost use Rattle.vlm_store.specs.Plain.{plain_resource, plain_resources};
 ghost use Rattle.vlm_store.specs.Records.{HasResource, locks_at, resource_at, rows_of};
-ghost use Rattle.vlm_locks.specs.Plain.{plain_resource, plain_resources};
 
 use crate::printing::{converting_line, granted_line, no_resources, resource_line, waiting_line};
 use std::alloc::AllocError;

@@ -1,8 +1,7 @@
 use Rattle.std.proofs.Common.{◌≡◌, ap, ◌∙◌, nat_lt}
 use Rattle.vlm_words.specs.Quotas.{locks_of, quota_of}
 use Rattle.vlm_store.specs.declared.processes.Authorization.{Authorization}
-use Rattle.vlm_store.specs.Records.{plain_processes}
-use Rattle.vlm_locks.specs.Plain.{plain_resources}
+use Rattle.vlm_store.specs.Plain.{plain_processes, plain_resources}
 use Rattle.vlm_core.proofs.Callers.{told_is}
 use Rattle.vlm_core.proofs.Quotas.{all_same}
 use Rattle.vlm_core.proofs.processes.has_room.Goals as goal

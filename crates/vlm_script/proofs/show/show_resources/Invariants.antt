@@ -2,9 +2,9 @@ use Rattle.std.proofs.Common.{◌≡◌, ◌++◌, length}
 use Rattle.std.specs.Prelude.{flat_map}
 use Rattle.std.specs.Option.{ForSome}
 use Rattle.vlm_script.specs.Texts.{resource_text}
+use Rattle.vlm_store.specs.Plain.{plain_resources}
 use Rattle.vlm_store.specs.Records.{HasResource}
 use Rattle.vlm_store.proofs.Walks.{resources_from}
-use Rattle.vlm_locks.specs.Plain.{plain_resources}
 use Rattle.vlm_script.proofs.Shown.{text_left}
 use Rattle.vlm_script.proofs.show.show_resources.Given as goal
 

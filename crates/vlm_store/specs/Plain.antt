@@ -1,7 +1,7 @@
--- The resources of the store as the plain machine keeps them.
+-- The records as the plain machine keeps them.
 use Rattle.std.specs.Prelude.{List, map}
 use Rattle.vlm_words.specs.Resources.{key_name, key_parent}
-use Rattle.vlm_words.specs.State.{Resource}
+use Rattle.vlm_words.specs.State.{Process, Resource}
 use Rattle.vlm_store.specs.Records.{Records, StoredResource, rows_of}
 
 -- the resource without its key, and its locks without theirs
@@ -21,3 +21,7 @@ plain_resource r = record {
 -- the resources without their keys, in order of making
 abbrev pub plain_resources : Records → List Resource
 plain_resources s = map plain_resource s.resources
+
+-- the processes without their keys and locks, in order of making
+abbrev pub plain_processes : Records → List Process
+plain_processes s = map (λ p. p.process) s.processes
