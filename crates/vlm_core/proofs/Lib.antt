@@ -11,4 +11,3 @@ pub mod ToCome
 pub mod Siting
 pub mod Childless
 pub mod Quotas
-pub mod Walked

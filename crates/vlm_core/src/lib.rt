@@ -22,8 +22,7 @@ mod records;
 mod running;
 mod setting;
 mod sweeping;
-mod views;
 
 pub use public::Core;
 pub use running::{Stopped, run_steps};
-pub use views::{ResourceView, RowView};
+pub use vlm_queue::{ResourceView, RowView};

@@ -1,10 +1,13 @@
-//! What the readers show.
+//! What is shown of a resource and of a lock.
 
-ghost use Rattle.std.specs.Prelude.{◌≡◌};
+ghost use Rattle.std.specs.Prelude.{◌≡◌, IfSome};
+ghost use Rattle.vlm_words.specs.declared.locks.Row.{Row};
 ghost use Rattle.vlm_words.specs.Resources.{key_name, key_parent};
-ghost use Rattle.vlm_core.specs.Views.{row_view};
+ghost use Rattle.vlm_store.specs.Records.{HasResource, IsStored, Stores};
+ghost use Rattle.vlm_queue.specs.Views.{resource_view, row_view};
+ghost use Rattle.vlm_queue.specs.Walks.{resource_of};
 
-use vlm_store::Resource;
+use vlm_store::{LockAt, ResAt, Resource, Store};
 use vlm_words::locks::Row;
 use vlm_words::modes::Mode;
 use vlm_words::names::Name;
@@ -75,4 +78,20 @@ impl RowView {
             want: row.want.map(|request| request.mode),
         }
     }
+}
+
+/// What is shown of a resource of the store.
+pub fn resource_view(store: &Store, res: ResAt) -> ResourceView
+    requires { HasResource res store.now }
+    ensures { IfSome (resource_of res store.now) (λ r. result ≡ resource_view r) }
+{
+    ResourceView::of(store.resource_record(res))
+}
+
+/// What is shown of a lock of the store.
+pub fn row_view(store: &Store, lock: LockAt) -> RowView
+    requires { IsStored lock store.now }
+    ensures { (row : Row) → Stores store.now lock row → result ≡ row_view row }
+{
+    RowView::of(&store.lock_record(lock).row)
 }
