@@ -21,7 +21,6 @@ mod readers;
 mod records;
 mod running;
 mod setting;
-mod sweeping;
 
 pub use public::Core;
 pub use running::{Stopped, run_steps};
