@@ -12,13 +12,13 @@ use std::convert::AsStr;
 use std::io::{Read, Write};
 use vlm_script::{PlayFault, play, write_whole};
 
-/// The script ran, or help was asked for and given.
+// The script ran, or help was asked for and given.
 const DONE: u8 = 0;
-/// A line of the script has a fault.
+// A line of the script has a fault.
 const SCRIPT_FAULT: u8 = 1;
-/// The command line is refused.
+// The command line is refused.
 const REFUSED: u8 = 2;
-/// Memory, a stream or the script's length did not serve.
+// Memory, a stream or the script's length did not serve.
 const FAILED: u8 = 3;
 
 const ABOUT: &str =

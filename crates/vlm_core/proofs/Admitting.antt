@@ -14,8 +14,8 @@ use Rattle.vlm_words.specs.Dequeue.{cancel_refusal, dequeue_lkid, is_granted}
 use Rattle.vlm_words.specs.Withdrawals.{Withdrawal}
 use Rattle.vlm_words.specs.Flags.{cancel, has_flag}
 use Rattle.vlm_words.specs.Rows.{is_lock_of}
+use Rattle.vlm_store.specs.Plain.{plain_resource, plain_resources}
 use Rattle.vlm_store.specs.Records.{IsAmong, IsResourceAmong, IsSound, Records, StoredResource, queued, rows_of}
-use Rattle.vlm_locks.specs.Plain.{plain_resource, plain_resources}
 use Rattle.vlm_locks.proofs.Found.{resource_alone, resource_at-at}
 use Rattle.vlm_locks.specs.declared.finding.Standing.{Standing}
 use Rattle.vlm_locks.specs.Converting.{admission_on}

@@ -16,8 +16,8 @@ use Rattle.vlm_words.proofs.Each.{Any-cases, Any-none, each_weaker}
 use Rattle.vlm_links.specs.Lists.{IsIn}
 use Rattle.vlm_store.specs.declared.keys.Place.{Place}
 use Rattle.vlm_store.specs.declared.keys.Place.TheVariants.{Loose, Queued}
+use Rattle.vlm_store.specs.Plain.{plain_resource, plain_resources}
 use Rattle.vlm_store.specs.Records.{HasNoSublocks, IsAmong, IsOwnAmong, IsProcessAmong, IsResourceAmong, IsSound, OwnLock, Records, StoredLock, StoredProcess, StoredResource, Stores, locks_at, queued, resource_at, rows_of}
-use Rattle.vlm_locks.specs.Plain.{plain_resource, plain_resources}
 use Rattle.vlm_locks.specs.declared.finding.Standing.{Standing}
 use Rattle.vlm_locks.specs.Standing.{IsStanding}
 use Rattle.vlm_locks.specs.Withdrawing.{goes}

@@ -12,8 +12,8 @@ use Rattle.vlm_words.proofs.Withdrawing.{one_ends}
 use Rattle.vlm_words.specs.Effects.{Blocks}
 use Rattle.vlm_words.specs.State.{Process, Resource, State}
 use Rattle.vlm_words.specs.StatusBlocks.{processes_after_acceptance}
-use Rattle.vlm_store.specs.Records.{Records, StoredResource, plain_processes, resource_at}
-use Rattle.vlm_locks.specs.Plain.{plain_resources}
+use Rattle.vlm_store.specs.Plain.{plain_processes, plain_resources}
+use Rattle.vlm_store.specs.Records.{Records, StoredResource, resource_at}
 use Rattle.vlm_locks.specs.Converting.{IsConverted, admission_on, processes_accepted}
 use Rattle.vlm_core.specs.declared.converting.AdmittedConversion.{AdmittedConversion}
 use Rattle.vlm_core.specs.Admissions.{IsAdmittedConversion}

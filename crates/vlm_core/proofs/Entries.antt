@@ -9,8 +9,8 @@ use Rattle.vlm_words.specs.Enqueue.{enq_at_once, enq_change, enq_key, enq_proces
 use Rattle.vlm_words.specs.Grants.{fits, grant_endings}
 use Rattle.vlm_words.specs.Resources.{is_at, new_resource}
 use Rattle.vlm_words.specs.State.{Process, Resource, State}
-use Rattle.vlm_store.specs.Records.{FindsResource, Records, plain_processes}
-use Rattle.vlm_locks.specs.Plain.{plain_resources}
+use Rattle.vlm_store.specs.Plain.{plain_processes, plain_resources}
+use Rattle.vlm_store.specs.Records.{FindsResource, Records}
 use Rattle.vlm_locks.specs.Entering.{processes_accepted, processes_entered, resource_for}
 use Rattle.vlm_words.specs.Trees.{enq_site}
 use Rattle.vlm_locks.specs.Rest.{IsAtRest}

@@ -10,5 +10,3 @@ pub mod Stayed
 pub mod ToCome
 pub mod Siting
 pub mod Childless
-pub mod Quotas
-pub mod Walked

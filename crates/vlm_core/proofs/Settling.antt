@@ -6,8 +6,8 @@ use Rattle.vlm_words.specs.Settled.{IsSettled}
 use Rattle.vlm_words.specs.State.{State}
 use Rattle.vlm_words.specs.Sweeps.{resources_after_sweep, state_after_sweep}
 use Rattle.vlm_words.proofs.Settled as sweeps
+use Rattle.vlm_store.specs.Plain.{plain_resource, plain_resources}
 use Rattle.vlm_store.specs.Records.{IsResourceAmong, Records, StoredResource, without_resource}
-use Rattle.vlm_locks.specs.Plain.{plain_resource, plain_resources}
 use Rattle.vlm_locks.specs.Rest.{OthersStay}
 use Rattle.vlm_locks.specs.Sweeping.{AreSettledBut}
 

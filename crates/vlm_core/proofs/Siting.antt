@@ -22,8 +22,8 @@ use Rattle.vlm_words.specs.declared.steps.NewRequest.{NewRequest}
 use Rattle.vlm_words.specs.Trees.{depth_refusal, enq_site, parent_refusal, parent_resource, root_domain, site_below, waiting_refusal}
 use Rattle.vlm_words.proofs.Passed.{both_pass, test_passes}
 use Rattle.vlm_store.specs.declared.keys.Place.TheVariants.{Queued}
+use Rattle.vlm_store.specs.Plain.{plain_resource, plain_resources}
 use Rattle.vlm_store.specs.Records.{IsAmong, IsParentOf, IsResourceAmong, IsSound, Records, StoredResource, queued, resource_at, rows_of}
-use Rattle.vlm_locks.specs.Plain.{plain_resource, plain_resources}
 use Rattle.vlm_locks.proofs.Found.{resource_alone, resource_at-at}
 use Rattle.vlm_locks.specs.declared.finding.Standing.{Standing}
 use Rattle.vlm_locks.specs.Standing.{IsStanding, IsStandingOf}

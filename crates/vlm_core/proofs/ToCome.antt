@@ -17,8 +17,8 @@ use Rattle.vlm_words.specs.State.{Process}
 use Rattle.vlm_words.specs.Stepped.{refused_or, step_change}
 use Rattle.vlm_store.specs.declared.keys.Place.{Place}
 use Rattle.vlm_store.specs.declared.keys.Place.TheVariants.{Loose, Queued}
+use Rattle.vlm_store.specs.Plain.{plain_resource, plain_resources}
 use Rattle.vlm_store.specs.Records.{IsAmong, IsNewLock, IsNewProcess, IsProcessAmong, IsResourceAmong, Records, StoredLock, StoredProcess, StoredResource, locks_at, queued, resource_at, rows_of}
-use Rattle.vlm_locks.specs.Plain.{plain_resource, plain_resources}
 use Rattle.vlm_locks.specs.Rising.{IsAboveAll}
 use Rattle.vlm_locks.proofs.Stood.{resource_among}
 use Rattle.vlm_core.specs.Machine.{Kept, plain_state}

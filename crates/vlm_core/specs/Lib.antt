@@ -3,4 +3,3 @@ pub mod Between
 pub mod Machine
 pub mod Parents
 pub mod Running
-pub mod Views

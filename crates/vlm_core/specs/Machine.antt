@@ -1,8 +1,8 @@
 -- What the machine of records keeps, and what it is in the plain machine.
 use Rattle.std.specs.Prelude.{ℕ, List, ◌+◌}
 use Rattle.vlm_words.specs.State.{Node, State}
-use Rattle.vlm_store.specs.Records.{Records, plain_processes}
-use Rattle.vlm_locks.specs.Plain.{plain_resources}
+use Rattle.vlm_store.specs.Plain.{plain_processes, plain_resources}
+use Rattle.vlm_store.specs.Records.{Records}
 use Rattle.vlm_locks.specs.Rest.{IsAtRest}
 use Rattle.vlm_core.specs.declared.records.Machine.TheInside.{Inside}
 

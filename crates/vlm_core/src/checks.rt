@@ -11,10 +11,10 @@ ghost use Rattle.vlm_core.specs.Machine.{plain_state};
 ghost use Rattle.vlm_locks.specs.Standing.{IsStandingOf};
 
 use crate::nodes::has_departed;
-use crate::processes::{Caller, has_room, living};
+use crate::processes::{Caller, living};
 use crate::records::Machine;
 use vlm_locks::{Standing, find_lock};
-use vlm_procs::status_block;
+use vlm_procs::{has_room, status_block};
 use vlm_words::blocks::Block;
 use vlm_words::conditions::Cond;
 use vlm_words::flags::EnqFlags;
@@ -68,7 +68,7 @@ impl Machine {
         requires { IsCaller caller.now self.now.records }
         ensures { result_err result ≡ quota_refusal (plain_state self.now) caller.now.pid }
     {
-        if has_room(&self.store, caller) {
+        if has_room(&self.store, caller.at) {
             Ok(())
         } else {
             Err(Cond::Exenqlm)

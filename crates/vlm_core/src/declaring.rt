@@ -15,7 +15,7 @@ use std::alloc::AllocError;
 use vlm_words::conditions::Cond;
 use vlm_words::steps::{Answer, Declaration, Step};
 
-/// How many processes a node may declare in all.
+// How many processes a node may declare in all.
 const ORDINALS: u16 = 65_535;
 
 impl Machine {

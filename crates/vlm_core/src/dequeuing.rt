@@ -47,18 +47,6 @@ impl Machine {
         }
     }
 
-    // The lock's requests end, and it is gone from its queue, or only its request is.
-    #[tactic(auto, unfolding(vlm_words::specs::Dequeue::deq_change))]
-    fn deq_change(&mut self, dequeue: &Dequeue, admitted: &AdmittedDequeue)
-        requires admitted { IsAdmittedDequeue self.old dequeue.now admitted.now }
-        requires childless { IsChildless self.old admitted.now }
-        ensures change { plain_state self.new ≡ deq_change (plain_state self.old) dequeue.now }
-        ensures others { OthersStay admitted.now.standing.res self.old.records self.new.records }
-        ensures there { HasResource admitted.now.standing.res self.new.records }
-    {
-        withdraw(&mut self.store, &admitted.standing, &admitted.withdrawal);
-    }
-
     // The checks in their order.
     #[tactic(auto, unfolding(vlm_words::specs::Dequeue::deq_refusal))]
     fn checked_dequeue(&self, dequeue: &Dequeue) -> Result<AdmittedDequeue, Cond>
@@ -111,6 +99,18 @@ impl Machine {
         } else {
             Ok(())
         }
+    }
+
+    // The lock's requests end, and it is gone from its queue, or only its request is.
+    #[tactic(auto, unfolding(vlm_words::specs::Dequeue::deq_change))]
+    fn deq_change(&mut self, dequeue: &Dequeue, admitted: &AdmittedDequeue)
+        requires admitted { IsAdmittedDequeue self.old dequeue.now admitted.now }
+        requires childless { IsChildless self.old admitted.now }
+        ensures change { plain_state self.new ≡ deq_change (plain_state self.old) dequeue.now }
+        ensures others { OthersStay admitted.now.standing.res self.old.records self.new.records }
+        ensures there { HasResource admitted.now.standing.res self.new.records }
+    {
+        withdraw(&mut self.store, &admitted.standing, &admitted.withdrawal);
     }
 }
 

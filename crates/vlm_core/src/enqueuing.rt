@@ -7,9 +7,9 @@ ghost use Rattle.vlm_words.specs.Enqueue.{enq_argument_refusal, enq_change, enq_
 ghost use Rattle.vlm_words.specs.Resources.{is_at, new_resource};
 ghost use Rattle.vlm_words.specs.Flags.{flag_bits};
 ghost use Rattle.vlm_words.specs.Stepped.{Outcome};
+ghost use Rattle.vlm_store.specs.Plain.{plain_resources};
 ghost use Rattle.vlm_store.specs.Records.{FindsResource, HasResource, IsUnchanged};
 ghost use Rattle.vlm_locks.specs.Entering.{HasRoomToEnter};
-ghost use Rattle.vlm_locks.specs.Plain.{plain_resources};
 ghost use Rattle.vlm_words.specs.Resources.{IsKeyed};
 ghost use Rattle.vlm_locks.specs.Rest.{IsAtRest, OthersStay};
 ghost use Rattle.vlm_core.specs.Admissions.{IsAdmitted, IsCaller, IsEntry, IsForm};

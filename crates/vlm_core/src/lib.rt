@@ -21,9 +21,7 @@ mod readers;
 mod records;
 mod running;
 mod setting;
-mod sweeping;
-mod views;
 
 pub use public::Core;
 pub use running::{Stopped, run_steps};
-pub use views::{ResourceView, RowView};
+pub use vlm_queue::{ResourceView, RowView};

@@ -8,17 +8,18 @@ ghost use Rattle.vlm_words.specs.Checks.{or_else};
 ghost use Rattle.vlm_words.specs.Flags.{flag_bits};
 ghost use Rattle.vlm_words.specs.Resources.{IsKeyed};
 ghost use Rattle.vlm_words.specs.Trees.{depth_refusal, parent_refusal, parent_resource, privilege_refusal, root_domain, site_below, site_refusal, waiting_refusal};
+ghost use Rattle.vlm_store.specs.Plain.{plain_resource};
 ghost use Rattle.vlm_store.specs.Records.{HasResource, StoredResource, resource_at};
-ghost use Rattle.vlm_locks.specs.Plain.{plain_resource};
 ghost use Rattle.vlm_locks.specs.Standing.{IsStanding};
 ghost use Rattle.vlm_core.specs.Admissions.{IsCaller};
 ghost use Rattle.vlm_core.specs.Between.{IsBetweenSteps};
 ghost use Rattle.vlm_core.specs.Machine.{plain_state};
 ghost use Rattle.vlm_core.specs.Parents.{IsParent, lkid_of};
 
-use crate::processes::{Caller, group_of, has_syslck};
+use crate::processes::Caller;
 use crate::records::Machine;
 use vlm_locks::Standing;
+use vlm_procs::{group_of, has_syslck};
 use vlm_store::laws::law_records_are_sound;
 use vlm_store::{LockAt, ResAt};
 use vlm_words::conditions::Cond;
@@ -113,7 +114,7 @@ impl Machine {
         ensures { result_err result
             ≡ privilege_refusal (plain_state self.now) caller.now.pid (flag_bits flags) parent }
     {
-        if parent == 0 && flags.has(EnqFlags::SYSTEM) && !has_syslck(&self.store, caller) {
+        if parent == 0 && flags.has(EnqFlags::SYSTEM) && !has_syslck(&self.store, caller.at) {
             Err(Cond::Nosyslck)
         } else {
             Ok(())
@@ -165,7 +166,7 @@ impl Machine {
         if flags.has(EnqFlags::SYSTEM) {
             Domain::System
         } else {
-            Domain::Group(group_of(&self.store, caller))
+            Domain::Group(group_of(&self.store, caller.at))
         }
     }
 }

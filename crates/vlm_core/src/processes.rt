@@ -1,11 +1,8 @@
 //! The process that makes a step.
 
-ghost use Rattle.std.specs.Prelude.{◌≡◌, [], false, nat_lt, None, IfNone, IfSome, IsSome};
-ghost use Rattle.std.specs.Option.{option_map_or};
-ghost use Rattle.vlm_words.specs.Quotas.{locks_of, quota_of};
+ghost use Rattle.std.specs.Prelude.{◌≡◌, None, IfNone, IfSome, IsSome};
 ghost use Rattle.vlm_words.specs.State.{process_of};
-ghost use Rattle.vlm_store.specs.Records.{plain_processes};
-ghost use Rattle.vlm_locks.specs.Plain.{plain_resources};
+ghost use Rattle.vlm_store.specs.Plain.{plain_processes};
 ghost use Rattle.vlm_core.specs.Admissions.{IsCaller};
 
 use vlm_store::{ProcAt, Store};
@@ -28,33 +25,4 @@ pub(crate) fn living(store: &Store, pid: u32) -> Option<Caller>
 {
     let at = store.process(pid)?;
     Some(Caller { at, pid })
-}
-
-/// The UIC group of the caller.
-pub(crate) fn group_of(store: &Store, caller: &Caller) -> u16
-    requires { IsCaller caller.now store.now }
-    ensures { result
-        ≡ option_map_or (λ p. p.group) (process_of (plain_processes store.now) caller.now.pid) 0 }
-{
-    store.process_record(caller.at).authorization.group
-}
-
-/// Whether the caller has the privilege SYSLCK.
-pub(crate) fn has_syslck(store: &Store, caller: &Caller) -> bool
-    requires { IsCaller caller.now store.now }
-    ensures { result
-        ≡ option_map_or (λ p. p.syslck)
-        (process_of (plain_processes store.now) caller.now.pid) false }
-{
-    store.process_record(caller.at).authorization.syslck
-}
-
-/// Whether the caller may have one lock more: it has fewer, waiting ones too, than its quota.
-pub(crate) fn has_room(store: &Store, caller: &Caller) -> bool
-    requires caller { IsCaller caller.now store.now }
-    requires none_loose { store.now.loose ≡ [] }
-    ensures { result ≡ nat_lt (locks_of caller.now.pid (plain_resources store.now))
-        (quota_of (plain_processes store.now) caller.now.pid) }
-{
-    store.lock_count(caller.at) < usize::from(store.process_record(caller.at).authorization.quota)
 }

@@ -5,10 +5,10 @@ ghost use Rattle.vlm_words.specs.declared.resources.Queue.{Queue};
 ghost use Rattle.vlm_words.specs.Laws.{HeldModesAreCompatible, NothingIsLeftToGrant};
 ghost use Rattle.vlm_words.specs.State.{start};
 ghost use Rattle.vlm_words.specs.Stepped.{Outcome, stepped};
-ghost use Rattle.vlm_store.specs.Records.{IsResourceAmong, StoredResource, plain_processes, queued, rows_of};
-ghost use Rattle.vlm_locks.specs.Plain.{plain_resources};
+ghost use Rattle.vlm_store.specs.Plain.{plain_processes, plain_resources};
+ghost use Rattle.vlm_store.specs.Records.{IsResourceAmong, StoredResource, queued, rows_of};
+ghost use Rattle.vlm_queue.specs.Walks.{GivesInTurn};
 ghost use Rattle.vlm_core.specs.Between.{IsBetweenSteps};
-ghost use Rattle.vlm_core.specs.Views.{GivesInTurn};
 
 use crate::records::Machine;
 use std::alloc::Global;

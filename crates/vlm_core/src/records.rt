@@ -1,15 +1,19 @@
 //! The machine of records, whose methods make the parts of a step.
 
-ghost use Rattle.std.specs.Prelude.{◌≡◌};
+ghost use Rattle.std.specs.Prelude.{◌≡◌, [], ◌∷◌};
 ghost use Rattle.vlm_words.specs.State.{start};
 ghost use Rattle.vlm_words.specs.Stepped.{Outcome};
+ghost use Rattle.vlm_words.specs.Sweeps.{state_after_sweep};
+ghost use Rattle.vlm_store.specs.Records.{HasResource};
+ghost use Rattle.vlm_locks.specs.Sweeping.{AreSettledBut};
 ghost use Rattle.vlm_core.specs.Between.{IsBetweenSteps};
 ghost use Rattle.vlm_core.specs.Machine.{plain_state};
 
 use crate::nodes::{NODES, Node};
 use std::alloc::Global;
 use std::marker::Model;
-use vlm_store::Store;
+use vlm_locks::sweep;
+use vlm_store::{ResAt, Store};
 use vlm_words::conditions::Cond;
 use vlm_words::steps::{Answer, Step};
 
@@ -67,5 +71,15 @@ impl Machine {
                 Answer::Plain(Cond::Badparam)
             }
         }
+    }
+
+    /// Ends a step that touched one resource: what is queued there is granted as far as it can be, and it
+    /// goes if no lock is left on it. On the others nothing is to be done.
+    pub(crate) fn sweep(&mut self, res: ResAt)
+        requires there { HasResource res self.old.records }
+        requires settled { AreSettledBut (res ∷ []) self.old.records.resources }
+        ensures { plain_state self.new ≡ state_after_sweep (plain_state self.old) }
+    {
+        sweep(&mut self.store, &[res]);
     }
 }

@@ -19,7 +19,6 @@ pub(crate) fn next_word(bytes: &[u8]) -> Option<(&[u8], &[u8])>
     Some(cut_at(rest, end))
 }
 
-/// The bytes before this place, and those behind the byte at it.
 fn cut_at(bytes: &[u8], end: usize) -> (&[u8], &[u8])
     requires { end ≤ length bytes.now }
     ensures front { result.0.now ≡ take end bytes.now }
@@ -32,7 +31,6 @@ fn cut_at(bytes: &[u8], end: usize) -> (&[u8], &[u8])
     }
 }
 
-/// How many bytes stand before the first blank.
 fn word_len(bytes: &[u8]) -> usize
     ensures value { result ≡ position_or_len is_blank bytes.now }
     ensures within { result ≤ length bytes.now }
@@ -41,7 +39,6 @@ fn word_len(bytes: &[u8]) -> usize
     end.unwrap_or(bytes.len())
 }
 
-/// How many blanks stand in front.
 fn blanks_len(bytes: &[u8]) -> usize
     ensures value { result ≡ position_or_len (λ byte. not (is_blank byte)) bytes.now }
     ensures within { result ≤ length bytes.now }
@@ -50,7 +47,6 @@ fn blanks_len(bytes: &[u8]) -> usize
     end.unwrap_or(bytes.len())
 }
 
-/// Whether the byte parts words.
 fn is_blank_byte(byte: u8) -> bool
     ensures { result ≡ is_blank byte }
 {

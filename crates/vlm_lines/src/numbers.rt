@@ -43,7 +43,7 @@ pub(crate) fn short(word: &[u8]) -> Result<u16, LineFault>
     Ok(value as u16)
 }
 
-/// Whether the word is one or more decimal digits.
+// Whether the word is one or more decimal digits.
 #[tactic(auto, using(crate::proofs::Lengths::is_nothing_by_length))]
 fn is_number(word: &[u8]) -> bool
     ensures { result ≡ is_number word.now }
@@ -51,14 +51,12 @@ fn is_number(word: &[u8]) -> bool
     !word.is_empty() && all_digits(word)
 }
 
-/// Whether each byte is a decimal digit.
 fn all_digits(word: &[u8]) -> bool
     ensures { result ≡ list_all is_ascii_digit word.now }
 {
     word.iter().all(|digit| digit.is_ascii_digit())
 }
 
-/// The number that the digits stand for.
 fn decimal_value(digits: &[u8]) -> u64
     requires digits { list_all is_ascii_digit digits.now ≡ true }
     requires few { length digits.now ≤ 10 }

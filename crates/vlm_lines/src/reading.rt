@@ -12,10 +12,10 @@ use crate::numbers::byte;
 use crate::words::{behind_key, is_text, mode, process_name};
 use vlm_words::steps::{Conversion, Declaration, Dequeue, NewRequest, ValueSetting, Which};
 
-/// The identification that no process has.
+// The identification that no process has.
 const NO_PROCESS: u32 = 0;
 
-/// The longest line, in bytes.
+// The longest line, in bytes.
 const LONGEST: usize = 255;
 
 /// Reads a line of a script, without its line feed; the language is this project's own. It takes no
@@ -35,7 +35,7 @@ pub fn read_line(bytes: &[u8]) -> Result<Line, LineFault>
     line_of(bytes)
 }
 
-/// A line without words, or whose first word begins with `#`, does nothing.
+// A line without words, or whose first word begins with `#`, does nothing.
 #[tactic(auto, unfolding(crate::specs::Lines::line_of))]
 fn line_of(line: &[u8]) -> Result<Line, LineFault>
     ensures { result ≡ line_of (words_of line.now) }
@@ -49,7 +49,6 @@ fn line_of(line: &[u8]) -> Result<Line, LineFault>
     command_line(word, rest)
 }
 
-/// A line by its command.
 #[tactic(auto, unfolding(crate::specs::Lines::command_line))]
 fn command_line(command: &[u8], rest: &[u8]) -> Result<Line, LineFault>
     ensures { result ≡ command_line command.now (words_of rest.now) }
@@ -73,7 +72,7 @@ fn command_line(command: &[u8], rest: &[u8]) -> Result<Line, LineFault>
     }
 }
 
-/// The words of a declare line: NAME node=N group=N quota=N blocks=N [syslck].
+// The words of a declare line: NAME node=N group=N quota=N blocks=N [syslck].
 #[tactic(auto, unfolding(crate::specs::Lines::declare_line))]
 fn declare_line(line: &[u8]) -> Result<Line, LineFault>
     ensures { result ≡ declare_line (words_of line.now) }
@@ -85,7 +84,7 @@ fn declare_line(line: &[u8]) -> Result<Line, LineFault>
     Ok(Line::Declare(name, declaration))
 }
 
-/// A declare line needs all four numbers.
+// A declare line needs all four numbers.
 #[tactic(auto, unfolding(crate::specs::Lines::declaration_of))]
 fn declaration_of(words: DeclareWords) -> Result<Declaration, LineFault>
     ensures { result ≡ declaration_of words }
@@ -103,7 +102,7 @@ fn declaration_of(words: DeclareWords) -> Result<Declaration, LineFault>
     })
 }
 
-/// The words of an enq line: NAME MODE name=RES block=N [parent=LOCK] and flags.
+// The words of an enq line: NAME MODE name=RES block=N [parent=LOCK] and flags.
 #[tactic(auto, unfolding(crate::specs::Lines::enq_line))]
 fn enq_line(line: &[u8]) -> Result<Line, LineFault>
     ensures { result ≡ enq_line (words_of line.now) }
@@ -129,7 +128,7 @@ fn enq_line(line: &[u8]) -> Result<Line, LineFault>
     Ok(Line::Enq(name, request))
 }
 
-/// The words of a cvt line: NAME LOCK MODE block=N and flags.
+// The words of a cvt line: NAME LOCK MODE block=N and flags.
 #[tactic(auto, unfolding(crate::specs::Lines::cvt_line))]
 fn cvt_line(line: &[u8]) -> Result<Line, LineFault>
     ensures { result ≡ cvt_line (words_of line.now) }
@@ -155,7 +154,7 @@ fn cvt_line(line: &[u8]) -> Result<Line, LineFault>
     Ok(Line::Cvt(name, conversion))
 }
 
-/// The words of a deq line: NAME LOCK [value=HEX] and flags.
+// The words of a deq line: NAME LOCK [value=HEX] and flags.
 #[tactic(auto, unfolding(crate::specs::Lines::deq_line))]
 fn deq_line(line: &[u8]) -> Result<Line, LineFault>
     ensures { result ≡ deq_line (words_of line.now) }
@@ -173,7 +172,7 @@ fn deq_line(line: &[u8]) -> Result<Line, LineFault>
     Ok(Line::Deq(name, bare.with_words(rest)?))
 }
 
-/// The words of a set line: NAME block=N value=HEX.
+// The words of a set line: NAME block=N value=HEX.
 #[tactic(auto, unfolding(crate::specs::Lines::set_line))]
 fn set_line(line: &[u8]) -> Result<Line, LineFault>
     ensures { result ≡ set_line (words_of line.now) }
@@ -191,7 +190,7 @@ fn set_line(line: &[u8]) -> Result<Line, LineFault>
     Ok(Line::Set(name, setting))
 }
 
-/// The words of a block line: NAME N.
+// The words of a block line: NAME N.
 #[tactic(auto, unfolding(crate::specs::Lines::block_command))]
 fn block_line(line: &[u8]) -> Result<Line, LineFault>
     ensures { result ≡ block_command (words_of line.now) }
@@ -203,7 +202,6 @@ fn block_line(line: &[u8]) -> Result<Line, LineFault>
     no_more(Line::Block(name, number), rest)
 }
 
-/// The next word, which the line needs, and the bytes behind it.
 fn needed_word(line: &[u8]) -> Result<(&[u8], &[u8]), LineFault>
     ensures { MatchResult result
         (λ p. next_word (words_of line.now) ≡ Ok (p.0.now, words_of p.1.now))
@@ -212,7 +210,7 @@ fn needed_word(line: &[u8]) -> Result<(&[u8], &[u8]), LineFault>
     cuts::next_word(line).ok_or(LineFault::WrongWord)
 }
 
-/// The line, which no word may follow.
+// The line, which no word may follow.
 fn no_more(line: Line, rest: &[u8]) -> Result<Line, LineFault>
     ensures { result ≡ no_more line (words_of rest.now) }
 {

@@ -33,7 +33,6 @@ pub(crate) fn resource_name(bytes: &[u8]) -> Result<NameArg, LineFault>
     }
 }
 
-/// Whether it begins with a letter.
 fn begins_with_letter(word: &[u8]) -> bool
     ensures { result ≡ begins_with_letter word.now }
 {
@@ -43,14 +42,12 @@ fn begins_with_letter(word: &[u8]) -> bool
     }
 }
 
-/// Whether a name may have each byte.
 fn all_name_bytes(word: &[u8]) -> bool
     ensures { result ≡ list_all is_name_byte word.now }
 {
     word.iter().all(|byte| is_name_byte(*byte))
 }
 
-/// Whether a name may have the byte.
 fn is_name_byte(byte: u8) -> bool
     ensures { result ≡ is_name_byte byte }
 {

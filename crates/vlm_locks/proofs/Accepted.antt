@@ -4,8 +4,8 @@ use Rattle.vlm_words.specs.declared.locks.Request.{Request}
 use Rattle.vlm_words.specs.declared.resources.ValueBlock.{ValueBlock}
 use Rattle.vlm_words.specs.Convert.{conversion_blocks, resource_after_conversion}
 use Rattle.vlm_words.specs.State.{Resource}
-use Rattle.vlm_store.specs.Records.{Records, SameButBlocks, StoredResource, plain_processes, resource_at}
-use Rattle.vlm_locks.specs.Plain.{plain_resource, plain_resources}
+use Rattle.vlm_store.specs.Plain.{plain_processes, plain_resource, plain_resources}
+use Rattle.vlm_store.specs.Records.{Records, SameButBlocks, StoredResource, resource_at}
 use Rattle.vlm_locks.specs.declared.finding.Standing.{Standing}
 use Rattle.vlm_locks.specs.Converting.{IsConverted, admission_on, processes_accepted}
 use Rattle.vlm_locks.specs.Standing.{IsStanding}

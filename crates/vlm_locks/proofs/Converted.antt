@@ -11,8 +11,8 @@ use Rattle.vlm_words.specs.Effects.{Blocks, blocks_after, blocks_with}
 use Rattle.vlm_words.specs.Grants.{fits, grant_endings, granted_row}
 use Rattle.vlm_words.specs.Rows.{is_lock_of, rows_without}
 use Rattle.vlm_store.specs.declared.keys.Place.TheVariants.{Queued}
-use Rattle.vlm_store.specs.Records.{IsAmong, IsResourceAmong, IsSound, Records, SameButBlocks, StoredLock, StoredResource, but_blocks, fits_beside, moving, on_resource, plain_processes, queued, resource_at, rows_of, with_lists, without_lock}
-use Rattle.vlm_locks.specs.Plain.{plain_resource, plain_resources}
+use Rattle.vlm_store.specs.Plain.{plain_processes, plain_resource, plain_resources}
+use Rattle.vlm_store.specs.Records.{IsAmong, IsResourceAmong, IsSound, Records, SameButBlocks, StoredLock, StoredResource, but_blocks, fits_beside, moving, on_resource, queued, resource_at, rows_of, with_lists, without_lock}
 use Rattle.vlm_locks.proofs.Found.{on_resource-put, resource_at-at}
 use Rattle.vlm_locks.specs.declared.finding.Standing.{Standing}
 use Rattle.vlm_locks.specs.Converting.{IsConverted, IsGrantedAtOnce, admission_on, blocks_granted, moved_in}

@@ -9,8 +9,8 @@ use Rattle.vlm_words.specs.Grants.{Service, is_empty, no_service, service, servi
 use Rattle.vlm_words.specs.State.{Resource}
 use Rattle.vlm_words.specs.Sweeps.{blocks_after_service, resource_after_service}
 use Rattle.vlm_store.specs.declared.keys.Place.TheVariants.{Queued}
-use Rattle.vlm_store.specs.Records.{HasResource, IsSound, Records, StoredLock, StoredResource, but_blocks, first_at, locks_at, on_resource, plain_processes, resource_at, rows_of}
-use Rattle.vlm_locks.specs.Plain.{plain_resource}
+use Rattle.vlm_store.specs.Plain.{plain_processes, plain_resource}
+use Rattle.vlm_store.specs.Records.{HasResource, IsSound, Records, StoredLock, StoredResource, but_blocks, first_at, locks_at, on_resource, resource_at, rows_of}
 use Rattle.vlm_locks.specs.Rest.{but_service}
 use Rattle.vlm_locks.specs.Serving.{IsLeft, IsServed, IsServiceOf, service_from}
 use Rattle.vlm_locks.proofs.Found.{on_resource-put, resource_at-at, resource_at-put}

@@ -10,8 +10,8 @@ use Rattle.vlm_words.specs.Effects.{Blocks, blocks_after, blocks_after_ending, b
 use Rattle.vlm_words.specs.Endings.{Ending}
 use Rattle.vlm_words.specs.Grants.{Service, grant_endings, granted_row, no_service, service_after_grant, wanted_fits}
 use Rattle.vlm_store.specs.declared.keys.Place.TheVariants.{Queued}
-use Rattle.vlm_store.specs.Records.{HasResource, IsSound, Records, SameButBlocks, StoredLock, StoredResource, Stores, first_at, locks_at, moving, plain_processes, queued, resource_at, rows_of, with_lists}
-use Rattle.vlm_locks.specs.Plain.{plain_resource}
+use Rattle.vlm_store.specs.Plain.{plain_processes, plain_resource}
+use Rattle.vlm_store.specs.Records.{HasResource, IsSound, Records, SameButBlocks, StoredLock, StoredResource, Stores, first_at, locks_at, moving, queued, resource_at, rows_of, with_lists}
 use Rattle.vlm_locks.specs.Serving.{IsLeft, IsServiceOf, service_from, wanted_fits_beside}
 use Rattle.vlm_locks.specs.Staying.{LocksStay}
 use Rattle.vlm_locks.proofs.Found.{on_resource-own}

@@ -9,8 +9,8 @@ use Rattle.vlm_words.specs.declared.resources.Queue.TheVariants.{Granted, Conver
 use Rattle.vlm_words.specs.Checks.{holds_lock}
 use Rattle.vlm_words.specs.Rows.{is_lock_of}
 use Rattle.vlm_store.specs.declared.keys.Place.TheVariants.{Queued}
+use Rattle.vlm_store.specs.Plain.{plain_resource, plain_resources}
 use Rattle.vlm_store.specs.Records.{IsAmong, IsResourceAmong, IsSound, Records, StoredResource, Stores, locks_at, queued, resource_at, rows_of}
-use Rattle.vlm_locks.specs.Plain.{plain_resource, plain_resources}
 use Rattle.vlm_locks.specs.declared.finding.Standing.{Standing}
 use Rattle.vlm_locks.specs.Standing.{IsStanding}
 use Rattle.vlm_locks.proofs.Named.{any-among, any-not}

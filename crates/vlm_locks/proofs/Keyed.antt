@@ -7,8 +7,8 @@ use Rattle.vlm_words.specs.declared.resources.Key.TheVariants.{Root, Below}
 use Rattle.vlm_words.specs.Enqueue.{has_resource}
 use Rattle.vlm_words.specs.Keys.{is_same_key, is_same_key-Decides}
 use Rattle.vlm_words.specs.Resources.{is_at, is_domain}
+use Rattle.vlm_store.specs.Plain.{plain_resource, plain_resources}
 use Rattle.vlm_store.specs.Records.{FindsResource, IsResourceAmong, IsSound, Records, StoredResource, resource_at}
-use Rattle.vlm_locks.specs.Plain.{plain_resource, plain_resources}
 use Rattle.vlm_locks.proofs.Found.{resource_alone}
 use Rattle.vlm_words.specs.Resources.{IsKeyed}
 use Rattle.vlm_locks.specs.Rest.{IsAtRest}

@@ -9,9 +9,9 @@ use Rattle.vlm_words.specs.Enqueue.{resources_after_entry}
 use Rattle.vlm_words.specs.Resources as plain
 use Rattle.vlm_store.specs.declared.keys.Place.{Place}
 use Rattle.vlm_store.specs.declared.keys.Place.TheVariants.{Loose, Queued}
+use Rattle.vlm_store.specs.Plain.{plain_resource, plain_resources}
 use Rattle.vlm_store.specs.Records.{FindsResource, IsAmong, IsNewKey, IsParentOf, IsResourceAmong, Records, Rooms, StoredResource, Stores, locks_at, new_resource, queued, resource_at, with_resource_room, without_lock, without_resource}
 use Rattle.vlm_words.specs.declared.locks.Row.{Row}
-use Rattle.vlm_locks.specs.Plain.{plain_resource, plain_resources}
 use Rattle.vlm_locks.specs.declared.entering.Entry.{Entry}
 use Rattle.vlm_locks.specs.Entering.{IsEntered, resource_for}
 use Rattle.vlm_words.specs.Resources.{IsKeyed}

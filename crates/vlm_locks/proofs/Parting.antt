@@ -4,8 +4,8 @@ use Rattle.std.specs.List.{AllByRecursion}
 use Rattle.std.proofs.lemmas.Bool.{cases_eq}
 use Rattle.vlm_links.specs.Lists.{IsIn}
 use Rattle.vlm_words.specs.Settled.{IsSettled}
+use Rattle.vlm_store.specs.Plain.{plain_resource}
 use Rattle.vlm_store.specs.Records.{AreResourcesApart, HasResource, IsResourceAmong, Records, StoredResource, resource_at}
-use Rattle.vlm_locks.specs.Plain.{plain_resource}
 use Rattle.vlm_locks.specs.Sweeping.{AreSettledBut, Parted, StandInOrder}
 
 -- the resource of a key has some before and some after it

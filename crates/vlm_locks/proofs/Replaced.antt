@@ -8,8 +8,8 @@ use Rattle.vlm_words.specs.declared.locks.Row.{Row}
 use Rattle.vlm_words.specs.declared.resources.Queue.{Queue}
 use Rattle.vlm_store.specs.declared.keys.Place.{Place}
 use Rattle.vlm_store.specs.declared.keys.Place.TheVariants.{Loose, Queued}
+use Rattle.vlm_store.specs.Plain.{plain_resource, plain_resources}
 use Rattle.vlm_store.specs.Records.{HasNoSublocks, HasResource, IsAmong, IsOwnAmong, IsResourceAmong, IsRowOf, IsSound, Records, StoredLock, StoredResource, Stores, but_blocks, locks_at, on_resource, queued, resource_at, without_resource}
-use Rattle.vlm_locks.specs.Plain.{plain_resource, plain_resources}
 use Rattle.vlm_words.specs.Resources.{IsKeyed}
 use Rattle.vlm_locks.specs.Rest.{IsAtRest, IsReplaced, OthersStay}
 use Rattle.vlm_locks.specs.Staying.{LocksStay}

@@ -8,9 +8,9 @@ use Rattle.vlm_words.specs.declared.resources.Queue.TheVariants.{Granted, Conver
 use Rattle.vlm_words.specs.Grants.{is_empty}
 use Rattle.vlm_words.specs.State.{Process}
 use Rattle.vlm_words.specs.Sweeps.{blocks_after_service, is_vacant, resource_after_service}
-use Rattle.vlm_store.specs.Records.{IsAmong, IsIdle, IsResourceAmong, IsSound, Records, Room, StoredResource, but_blocks, on_resource, plain_processes, queued, resource_at, rows_of, with_resource_room, without_resource}
+use Rattle.vlm_store.specs.Plain.{plain_processes, plain_resource}
+use Rattle.vlm_store.specs.Records.{IsAmong, IsIdle, IsResourceAmong, IsSound, Records, Room, StoredResource, but_blocks, on_resource, queued, resource_at, rows_of, with_resource_room, without_resource}
 use Rattle.vlm_queue.proofs.Idle.{none_shown}
-use Rattle.vlm_locks.specs.Plain.{plain_resource}
 use Rattle.vlm_locks.specs.Rest.{but_service}
 use Rattle.vlm_locks.specs.Serving.{IsServed}
 use Rattle.vlm_locks.specs.Staying.{LocksStay}

@@ -8,8 +8,8 @@ use Rattle.vlm_words.specs.Resources.{IsKeyed}
 use Rattle.vlm_words.specs.Settled.{IsSettled, IsSweptNext, IsUnswept, unless_vacant}
 use Rattle.vlm_words.specs.State.{Process, Resource}
 use Rattle.vlm_words.specs.Sweeps.{processes_after_service, resource_after_service, resources_after_sweep}
-use Rattle.vlm_store.specs.Records.{IsResourceAmong, IsSound, Records, StoredResource, but_blocks, plain_processes}
-use Rattle.vlm_locks.specs.Plain.{plain_resource, plain_resources}
+use Rattle.vlm_store.specs.Plain.{plain_processes, plain_resource, plain_resources}
+use Rattle.vlm_store.specs.Records.{IsResourceAmong, IsSound, Records, StoredResource, but_blocks}
 use Rattle.vlm_locks.specs.Rest.{IsAtRest}
 use Rattle.vlm_locks.specs.Sweeping.{AreSettledBut, IsSwept, Parted, StandInOrder, but_touched}
 use Rattle.vlm_locks.specs.Staying.{LocksStayAmong}

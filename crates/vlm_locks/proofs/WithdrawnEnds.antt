@@ -13,11 +13,11 @@ use Rattle.vlm_words.specs.Endings.{Ending, How, ending_status, row_endings}
 use Rattle.vlm_words.specs.State.{Process, Resource}
 use Rattle.vlm_words.specs.StatusBlocks.{processes_after_status}
 use Rattle.vlm_store.specs.declared.keys.Place.TheVariants.{Queued}
+use Rattle.vlm_store.specs.Plain.{plain_resource, plain_resources}
 use Rattle.vlm_store.specs.Records.{AreResourcesApart, IsResourceAmong, IsSound, Records, StoredResource, queued, resource_at, rows_of}
 use Rattle.vlm_locks.specs.declared.withdrawals.End.TheVariants.{Aborted, Cancelled}
 use Rattle.vlm_locks.specs.declared.withdrawals.End.{End}
 use Rattle.vlm_locks.specs.Withdrawals.{how_ended}
-use Rattle.vlm_locks.specs.Plain.{plain_resource, plain_resources}
 use Rattle.vlm_locks.specs.declared.finding.Standing.{Standing}
 use Rattle.vlm_locks.specs.Standing.{IsStanding}
 use Rattle.vlm_locks.proofs.Stood.{own_among}

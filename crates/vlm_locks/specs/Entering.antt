@@ -9,8 +9,8 @@ use Rattle.vlm_words.specs.Resources.{is_at, new_resource}
 use Rattle.vlm_words.specs.State.{Process, Resource}
 use Rattle.vlm_words.specs.StatusBlocks.{processes_after_acceptance}
 use Rattle.vlm_words.specs.declared.resources.ValueBlock.{ValueBlock}
-use Rattle.vlm_store.specs.Records.{HasResource, HasRoomForLock, HasRoomForResource, IsProcess, IsSameLock, IsStored, Records, Stores, but_blocks, plain_processes, process_with_lock, resource_at}
-use Rattle.vlm_locks.specs.Plain.{plain_resources}
+use Rattle.vlm_store.specs.Plain.{plain_processes, plain_resources}
+use Rattle.vlm_store.specs.Records.{HasResource, HasRoomForLock, HasRoomForResource, IsProcess, IsSameLock, IsStored, Records, Stores, but_blocks, process_with_lock, resource_at}
 use Rattle.vlm_locks.specs.declared.entering.Entry.{Entry}
 use Rattle.vlm_locks.specs.Rest.{IsAtRest, OtherLocksStay, OthersStay}
 

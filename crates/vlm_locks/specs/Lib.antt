@@ -1,4 +1,3 @@
-pub mod Plain
 pub mod Staying
 pub mod Serving
 pub mod Standing

@@ -8,8 +8,8 @@ use Rattle.vlm_words.specs.Effects.{blocks_after, blocks_with}
 use Rattle.vlm_words.specs.Grants.{Service, no_service, service_of_conversions, service_of_waiting}
 use Rattle.vlm_words.specs.State.{Resource}
 use Rattle.vlm_words.specs.Sweeps.{blocks_after_service, resource_after_service}
-use Rattle.vlm_store.specs.Records.{Records, StoredResource, but_blocks, fits_beside, on_resource, plain_processes, resource_at}
-use Rattle.vlm_locks.specs.Plain.{plain_resource}
+use Rattle.vlm_store.specs.Plain.{plain_processes, plain_resource}
+use Rattle.vlm_store.specs.Records.{Records, StoredResource, but_blocks, fits_beside, on_resource, resource_at}
 use Rattle.vlm_locks.specs.Rest.{IsReplaced}
 use Rattle.vlm_locks.specs.Staying.{LocksStay}
 

@@ -4,8 +4,8 @@ use Rattle.std.specs.List.{list_any}
 use Rattle.vlm_links.specs.Lists.{IsIn}
 use Rattle.vlm_words.specs.Settled.{IsSettled, unless_vacant}
 use Rattle.vlm_words.specs.Sweeps.{blocks_after_service, resource_after_service}
-use Rattle.vlm_store.specs.Records.{IsResourceAmong, Records, StoredResource, but_blocks, plain_processes}
-use Rattle.vlm_locks.specs.Plain.{plain_resource}
+use Rattle.vlm_store.specs.Plain.{plain_processes, plain_resource}
+use Rattle.vlm_store.specs.Records.{IsResourceAmong, Records, StoredResource, but_blocks}
 use Rattle.vlm_locks.specs.Rest.{but_service}
 use Rattle.vlm_locks.specs.Staying.{LocksStayAmong}
 

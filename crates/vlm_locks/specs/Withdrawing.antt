@@ -5,8 +5,8 @@ use Rattle.vlm_words.specs.declared.resources.Queue.{Queue}
 use Rattle.vlm_words.specs.declared.resources.Queue.TheVariants.{Granted, Conversion, Waiting}
 use Rattle.vlm_words.specs.Withdrawals.{is_writer}
 use Rattle.vlm_words.specs.State.{Resource}
-use Rattle.vlm_store.specs.Records.{HasResource, Records, StoredProcess, plain_processes, process_without_lock}
-use Rattle.vlm_locks.specs.Plain.{plain_resources}
+use Rattle.vlm_store.specs.Plain.{plain_processes, plain_resources}
+use Rattle.vlm_store.specs.Records.{HasResource, Records, StoredProcess, process_without_lock}
 use Rattle.vlm_locks.specs.Rest.{IsAtRest, OthersStay}
 
 -- a lock of this queue may write the value block as it goes: it holds PW or EX, granted or converting

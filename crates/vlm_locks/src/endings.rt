@@ -3,7 +3,8 @@
 ghost use Rattle.std.specs.Prelude.{◌≡◌, Some};
 ghost use Rattle.vlm_words.specs.Effects.{blocks_after, blocks_with};
 ghost use Rattle.vlm_words.specs.Grants.{grant_act, grant_endings};
-ghost use Rattle.vlm_store.specs.Records.{IsProcess, SameButBlocks, plain_processes};
+ghost use Rattle.vlm_store.specs.Plain.{plain_processes};
+ghost use Rattle.vlm_store.specs.Records.{IsProcess, SameButBlocks};
 
 use vlm_procs::{end, end_with_return, value};
 use vlm_store::{ProcAt, Store};

@@ -2,8 +2,8 @@
 
 ghost use Rattle.std.specs.Prelude.{◌≡◌, Some, IfOk, IfSome, IsOk, OnErr, OnOk};
 ghost use Rattle.vlm_words.specs.Enqueue.{is_at_once, resources_after_entry};
-ghost use Rattle.vlm_store.specs.Records.{FindsResource, HasResource, HasRoomForLock, HasRoomForResource, IsNewKey, IsParentOf, IsProcess, IsUnchanged, SameButBlocks, StoredResource, plain_processes, resource_at};
-ghost use Rattle.vlm_locks.specs.Plain.{plain_resource, plain_resources};
+ghost use Rattle.vlm_store.specs.Plain.{plain_processes, plain_resource, plain_resources};
+ghost use Rattle.vlm_store.specs.Records.{FindsResource, HasResource, HasRoomForLock, HasRoomForResource, IsNewKey, IsParentOf, IsProcess, IsUnchanged, SameButBlocks, StoredResource, resource_at};
 ghost use Rattle.vlm_locks.specs.Entering.{HasRoomToEnter, IsAdded, IsEntered, processes_accepted, processes_entered, resource_for};
 ghost use Rattle.vlm_words.specs.Resources.{IsKeyed};
 ghost use Rattle.vlm_locks.specs.Rest.{IsAtRest, OthersStay};

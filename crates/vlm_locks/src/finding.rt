@@ -6,8 +6,8 @@ ghost use Rattle.vlm_words.specs.declared.locks.Row.{Row};
 ghost use Rattle.vlm_words.specs.declared.resources.Queue.{Queue};
 ghost use Rattle.std.specs.List.{list_any};
 ghost use Rattle.vlm_words.specs.Checks.{holds_lock};
+ghost use Rattle.vlm_store.specs.Plain.{plain_resources};
 ghost use Rattle.vlm_store.specs.Records.{IsStored, Stores};
-ghost use Rattle.vlm_locks.specs.Plain.{plain_resources};
 ghost use Rattle.vlm_locks.specs.Rest.{IsAtRest};
 ghost use Rattle.vlm_locks.specs.Standing.{IsStanding, IsStandingOf};
 

@@ -5,7 +5,8 @@ ghost use Rattle.vlm_words.specs.declared.resources.Queue.{Queue};
 ghost use Rattle.vlm_words.specs.Effects.{blocks_after, blocks_with};
 ghost use Rattle.vlm_words.specs.Grants.{grant_endings, granted_row, service};
 ghost use Rattle.vlm_store.specs.declared.keys.Place.{Place};
-ghost use Rattle.vlm_store.specs.Records.{HasResource, IsStored, SameButBlocks, StoredLock, Stores, moving, plain_processes, resource_at, with_lists};
+ghost use Rattle.vlm_store.specs.Plain.{plain_processes};
+ghost use Rattle.vlm_store.specs.Records.{HasResource, IsStored, SameButBlocks, StoredLock, Stores, moving, resource_at, with_lists};
 ghost use Rattle.vlm_locks.specs.Serving.{IsServed, IsServiceOf, service_from, wanted_fits_beside};
 
 use crate::endings::end_by_grant;

@@ -2,8 +2,8 @@
 
 ghost use Rattle.std.specs.Prelude.{◌≡◌};
 ghost use Rattle.vlm_words.specs.Sweeps.{processes_after_service, resources_after_sweep};
-ghost use Rattle.vlm_store.specs.Records.{HasResource, plain_processes};
-ghost use Rattle.vlm_locks.specs.Plain.{plain_resources};
+ghost use Rattle.vlm_store.specs.Plain.{plain_processes, plain_resources};
+ghost use Rattle.vlm_store.specs.Records.{HasResource};
 ghost use Rattle.vlm_locks.specs.Rest.{IsAtRest, OwnLocksStay};
 ghost use Rattle.vlm_locks.specs.Staying.{LocksStayAmong};
 ghost use Rattle.vlm_locks.specs.Sweeping.{AreSettledBut, IsSwept, Parted, StandInOrder, but_touched};

@@ -4,8 +4,8 @@ ghost use Rattle.std.specs.Prelude.{◌≡◌, true, false, [], ◌∷◌, flat_
 ghost use Rattle.vlm_words.specs.Withdrawals.{is_writer, processes_after, resource_after_cancel, resource_after_withdrawals, resource_after_writer, resource_without, value_block_after_writer, withdrawal_endings};
 ghost use Rattle.vlm_words.specs.Endings.{row_endings};
 ghost use Rattle.vlm_words.specs.declared.resources.Queue.{Queue};
-ghost use Rattle.vlm_store.specs.Records.{HasNoSublocks, HasResource, SameButBlocks, but_blocks, plain_processes};
-ghost use Rattle.vlm_locks.specs.Plain.{plain_resources};
+ghost use Rattle.vlm_store.specs.Plain.{plain_processes, plain_resources};
+ghost use Rattle.vlm_store.specs.Records.{HasNoSublocks, HasResource, SameButBlocks, but_blocks};
 ghost use Rattle.vlm_locks.specs.Rest.{IsAtRest, OtherLocksStay, OthersStay};
 ghost use Rattle.vlm_locks.specs.Standing.{IsStanding};
 ghost use Rattle.vlm_locks.specs.Withdrawals.{how_ended, plain_withdrawal};

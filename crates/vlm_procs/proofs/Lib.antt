@@ -1,1 +1,3 @@
+pub mod Authorized
+pub mod Quotas
 pub mod Written

@@ -6,7 +6,8 @@ use Rattle.std.specs.Option.{IfSome, option_map_or}
 use Rattle.vlm_words.specs.declared.blocks.Block.{Block}
 use Rattle.vlm_words.specs.State.{Process}
 use Rattle.vlm_words.specs.StatusBlocks.{new_status_block, process_after_write, process_with_block, processes_after_write, status_block_at, status_block_of, status_blocks_of}
-use Rattle.vlm_store.specs.Records.{IsProcess, IsSound, Records, SameButBlocks, StoredProcess, on_process, plain_processes, process_at}
+use Rattle.vlm_store.specs.Plain.{plain_processes}
+use Rattle.vlm_store.specs.Records.{IsProcess, IsSound, Records, SameButBlocks, StoredProcess, on_process, process_at}
 use Rattle.vlm_store.proofs.Plain.{but_blocks-on_process, plain-on_process, process_at-stored, process_of-stored}
 
 -- the status blocks of the process at the key

@@ -3,7 +3,8 @@
 ghost use Rattle.std.specs.Prelude.{◌≡◌, ℕ};
 ghost use Rattle.vlm_words.specs.StatusBlocks.{processes_after_acceptance, processes_after_write, status_block_at, status_block_of, status_blocks_of, processes_after_status, processes_after_return, processes_after_setting};
 ghost use Rattle.vlm_words.specs.ValueBlocks.{return_status};
-ghost use Rattle.vlm_store.specs.Records.{HasProcess, IsProcess, SameButBlocks, plain_processes};
+ghost use Rattle.vlm_store.specs.Plain.{plain_processes};
+ghost use Rattle.vlm_store.specs.Records.{HasProcess, IsProcess, SameButBlocks};
 
 use vlm_store::laws::law_records_are_sound;
 use vlm_store::{ProcAt, Store};

@@ -1,1 +1,3 @@
 pub mod Idle
+pub mod Indexed
+pub mod Walking

@@ -1,51 +1,44 @@
--- What a walk of the store has printed, and what it has left to print.
-use Rattle.std.proofs.Common.{◌≡◌, ℕ, List, [], ◌∷◌, ◌++◌, map, Option, None, Some, refl, append_assoc}
-use Rattle.std.specs.Prelude.{flat_map, IfSome}
-use Rattle.std.specs.Option.{option_map_or}
+-- What a walk of the records has printed, and what it has left to print.
+use Rattle.std.proofs.Common.{◌≡◌, ℕ, ◌<◌, List, [], ◌∷◌, ◌++◌, length, Option, None, Some, IfSome, IsSome, refl, append_assoc, arith}
+use Rattle.std.specs.Prelude.{flat_map}
 use Rattle.vlm_words.specs.declared.locks.Row.{Row}
 use Rattle.vlm_words.specs.declared.resources.Queue.{Queue}
 use Rattle.vlm_words.specs.declared.resources.Queue.TheVariants.{Granted, Conversion, Waiting}
+use Rattle.vlm_words.specs.State.{Resource}
+use Rattle.vlm_queue.specs.declared.views.ResourceView.{ResourceView}
+use Rattle.vlm_queue.specs.Views.{resource_view, row_view, rows_in}
 use Rattle.vlm_script.specs.Texts.{queue_lines, resource_line, resource_text, resources_text, row_line}
-use Rattle.vlm_store.specs.Records.{StoredLock, StoredResource, at_after, first_resource_at, queued, resource_at, resource_at_after, rows_of}
-use Rattle.vlm_store.proofs.Walks.{IsAtLock, IsAtResource, locks_from, resources_from}
-use Rattle.vlm_locks.specs.Plain.{plain_resource}
-use Rattle.vlm_core.specs.Views.{resource_view}
 
--- the lines of the locks that a walk of a queue has left
-abbrev pub lines_left : Queue → Option ℕ → List StoredLock → List ℕ
-lines_left queue next ks = queue_lines queue (rows_of (locks_from next ks))
+-- a row is printed, and the others are left
+pub row_printed : (queue : Queue) (row : Row) (rows left : List Row) (a b : List ℕ) → left ≡ row ∷ rows → b ≡ a ++ row_line queue (row_view row)
+    → b ++ queue_lines queue rows ≡ a ++ queue_lines queue left
+row_printed queue row rows left a b one printed = rw (one, printed) (append_assoc a (row_line queue (row_view row)) (queue_lines queue rows))
 
--- the text of the resources that a walk has left
-abbrev pub text_left : Option ℕ → List StoredResource → List ℕ
-text_left next rs = flat_map resource_text (map plain_resource (resources_from next rs))
+-- a resource is printed, and the others are left
+pub resource_passed : (o : Option Resource) (rest left : List Resource) (a b : List ℕ) → IsSome o → IfSome o (λ r. left ≡ r ∷ rest) → IfSome o (λ r. b ≡ a ++ resource_text r)
+    → b ++ flat_map resource_text rest ≡ a ++ flat_map resource_text left
+resource_passed None rest left a b there one printed = cc
+resource_passed (Some r) rest left a b there one printed = rw (one, printed) (append_assoc a (resource_text r) (flat_map resource_text rest))
 
--- the lock where the walk stands is printed, and the others are left
-pub lines_left-next : (queue : Queue) (at : ℕ) (ks : List StoredLock) (a b : List ℕ) (row : Row) → (stands : IsAtLock at ks) → stands.row ≡ row → b ≡ a ++ row_line queue row
-    → b ++ lines_left queue (at_after at ks) ks ≡ a ++ lines_left queue (Some at) ks
-lines_left-next queue at ks a b row stands same printed =
-    rw (stands.left, printed, same) (append_assoc a (row_line queue row) (lines_left queue (at_after at ks) ks))
+-- behind a resource fewer are left
+pub fewer_left : (o : Option Resource) (rest left : List Resource) → IsSome o → IfSome o (λ r. left ≡ r ∷ rest) → length rest < length left
+fewer_left None rest left there one = cc
+fewer_left (Some r) rest left there one = rw one (omega arith)
 
--- the resource where the walk stands is printed, and the others are left
-pub text_left-next : (res : ℕ) (rs : List StoredResource) (a b : List ℕ) → IsAtResource res rs → IfSome (resource_at res rs) (λ r. b ≡ a ++ resource_text (plain_resource r))
-    → b ++ text_left (resource_at_after res rs) rs ≡ a ++ text_left (Some res) rs
-text_left-next res rs a b stands shown =
-    let printed : b ≡ a ++ resource_text (plain_resource stands.r) = rw stands.found at shown in
-    rw (stands.left, printed) (append_assoc a (resource_text (plain_resource stands.r)) (text_left (resource_at_after res rs) rs))
-
--- the lines of a queue of the resource, none where there is no resource
-abbrev pub lines_in : Queue → Option StoredResource → List ℕ
-lines_in queue o = queue_lines queue (rows_of (option_map_or (queued queue) o []))
+-- behind a row fewer are left
+pub fewer_rows : (row : Row) (rest left : List Row) → left ≡ row ∷ rest → length rest < length left
+fewer_rows row rest left one = rw one (omega arith)
 
 -- a resource's own line and its three queues, put one behind another, are its text
-pub resource_printed : (o : Option StoredResource) (a b c d e : List ℕ)
-    → IfSome o (λ r. b ≡ a ++ resource_line (resource_view (plain_resource r)))
-    → c ≡ b ++ lines_in Granted o → d ≡ c ++ lines_in Conversion o → e ≡ d ++ lines_in Waiting o → IfSome o (λ r. e ≡ a ++ resource_text (plain_resource r))
+pub resource_printed : (o : Option Resource) (view : ResourceView) (granted converting waiting : List Row) (a b c d e : List ℕ) → IfSome o (λ r. view ≡ resource_view r)
+    → IfSome o (λ r. granted ≡ rows_in Granted r) → IfSome o (λ r. converting ≡ rows_in Conversion r) → IfSome o (λ r. waiting ≡ rows_in Waiting r)
+    → b ≡ a ++ resource_line view → c ≡ b ++ queue_lines Granted granted → d ≡ c ++ queue_lines Conversion converting → e ≡ d ++ queue_lines Waiting waiting → IfSome o (λ r. e ≡ a ++ resource_text r)
 unfolding resource_text
-resource_printed None a b c d e line granted converting waiting = tt
-resource_printed (Some r) a b c d e line granted converting waiting = rw (waiting, converting, granted, line) (simp append_assoc)
+resource_printed None view granted converting waiting a b c d e is gs cs ws line first second third = tt
+resource_printed (Some r) view granted converting waiting a b c d e is gs cs ws line first second third = rw (third, second, first, line, is, gs, cs, ws) (simp append_assoc)
 
--- where there is a first resource, all of them are printed one behind another
-pub resources_text-some : (rs : List StoredResource) (res : ℕ) → first_resource_at rs ≡ Some res → resources_text (map plain_resource rs) ≡ flat_map resource_text (map plain_resource rs)
+-- where there are resources, all of them are printed one behind another
+pub resources_text-some : (rs : List Resource) (n : ℕ) → n ≡ length rs → ¬ (n ≡ 0) → resources_text rs ≡ flat_map resource_text rs
 unfolding resources_text
-resources_text-some [] res first = cc
-resources_text-some (r ∷ rest) res first = refl
+resources_text-some [] n count some = absurd (some count)
+resources_text-some (r ∷ rest) n count some = refl

@@ -17,9 +17,9 @@ use Rattle.vlm_words.specs.State.{Resource}
 use Rattle.vlm_lines.specs.Lines.{has_key}
 use Rattle.vlm_words.specs.declared.resources.Queue.{Queue}
 use Rattle.vlm_words.specs.declared.resources.Queue.TheVariants.{Granted, Conversion, Waiting}
-use Rattle.vlm_core.specs.declared.views.ResourceView.{ResourceView}
-use Rattle.vlm_core.specs.declared.views.RowView.{RowView}
-use Rattle.vlm_core.specs.Views.{resource_view, row_view}
+use Rattle.vlm_queue.specs.declared.views.ResourceView.{ResourceView}
+use Rattle.vlm_queue.specs.declared.views.RowView.{RowView}
+use Rattle.vlm_queue.specs.Views.{resource_view, row_view}
 
 -- the end of a line
 abbrev pub line_feed : List ℕ
@@ -117,14 +117,14 @@ unfoldable pub waiting_line : RowView → List ℕ
 waiting_line row = lock_text (codes "waiting") row ++ mode_text row.want ++ line_feed
 
 -- a lock's line in a queue
-abbrev pub row_line : Queue → Row → List ℕ
-row_line Granted row = granted_line (row_view row)
-row_line Conversion row = converting_line (row_view row)
-row_line Waiting row = waiting_line (row_view row)
+abbrev pub row_line : Queue → RowView → List ℕ
+row_line Granted row = granted_line row
+row_line Conversion row = converting_line row
+row_line Waiting row = waiting_line row
 
 -- the lines of a queue, in queue order
 abbrev pub queue_lines : Queue → List Row → List ℕ
-queue_lines queue rows = flat_map (row_line queue) rows
+queue_lines queue rows = flat_map (λ row. row_line queue (row_view row)) rows
 
 -- a resource with its three queues
 unfoldable pub resource_text : Resource → List ℕ

@@ -13,7 +13,7 @@ use crate::streams::{read_whole, write_whole};
 use std::alloc::Global;
 use std::io::{Read, Write};
 
-/// How many printed bytes wait at most before they are written, but for a line's last ones.
+// How many printed bytes wait at most before they are written, but for a line's last ones.
 const WAITING: usize = 65_536;
 
 /// Reads a script whole, runs its lines in order, and writes what they print.

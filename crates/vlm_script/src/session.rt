@@ -68,7 +68,7 @@ impl Session {
             Line::Cvt(name, conversion) => self.make(name, Step::Convert(conversion), out),
             Line::Deq(name, dequeue) => self.make(name, Step::Deq(dequeue), out),
             Line::Block(name, number) => self.show_status_block(name, number, out),
-            Line::Show => Ok(show(self.core.store(), out)?),
+            Line::Show => Ok(show(&self.core, out)?),
         }
     }
 

@@ -259,10 +259,6 @@ joined_by Waiting lock r = record r { waiting = r.waiting ++ lock ∷ [] }
 
 -- ---- processes
 
--- the processes without their keys and locks, in order of making
-abbrev pub plain_processes : Records → List Process
-plain_processes s = map (λ p. p.process) s.processes
-
 -- the process of this key, if there is one
 abbrev pub process_at : ℕ → List StoredProcess → Option StoredProcess
 process_at at processes = find (λ p. p.at == at) processes

@@ -142,7 +142,7 @@ impl Step {
     }
 }
 
-/// The upper half of a process's identification.
+// The upper half of a process's identification.
 fn node_of_pid(pid: u32) -> u16
     ensures { result ≡ pid / 65536 }
 {

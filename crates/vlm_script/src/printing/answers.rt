@@ -19,7 +19,6 @@ pub(crate) fn answer_line(out: &mut Vec<u8>, name: &[u8], answer: Answer) -> Res
     text(out, b"\n")
 }
 
-/// An answer without the name in front of it.
 #[tactic(auto, unfolding(crate::specs::Texts::answer_text))]
 fn answer_text(out: &mut Vec<u8>, answer: Answer) -> Result<(), AllocError>
     ensures { OnOk result (out.new.items ≡ out.old.items ++ answer_text answer) }
@@ -45,7 +44,6 @@ fn answer_text(out: &mut Vec<u8>, answer: Answer) -> Result<(), AllocError>
     }
 }
 
-/// An AST: its kind, routine, parameter and lock.
 fn ast_text(out: &mut Vec<u8>, ast: Ast) -> Result<(), AllocError>
     ensures { OnOk result (out.new.items ≡ out.old.items ++ ast_text ast ast.kind) }
 {
@@ -55,7 +53,6 @@ fn ast_text(out: &mut Vec<u8>, ast: Ast) -> Result<(), AllocError>
     }
 }
 
-/// The kind's text, and the numbers of the AST.
 fn ast_numbers(out: &mut Vec<u8>, kind: &[u8], ast: Ast) -> Result<(), AllocError>
     ensures { OnOk result (out.new.items
         ≡ out.old.items

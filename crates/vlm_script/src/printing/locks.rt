@@ -40,7 +40,7 @@ pub(crate) fn waiting_line(out: &mut Vec<u8>, row: &RowView) -> Result<(), Alloc
     text(out, b"\n")
 }
 
-/// The beginning of a lock's line.
+// The beginning of a lock's line.
 #[tactic(auto, unfolding(crate::specs::Texts::lock_text))]
 fn lock_text(out: &mut Vec<u8>, queue: &[u8], row: &RowView) -> Result<(), AllocError>
     ensures { OnOk result (out.new.items ≡ out.old.items ++ lock_text queue.now row.now) }
@@ -54,7 +54,7 @@ fn lock_text(out: &mut Vec<u8>, queue: &[u8], row: &RowView) -> Result<(), Alloc
     text(out, b" ")
 }
 
-/// The mode of a request, or nothing where there is no request.
+// The mode of a request, or nothing where there is no request.
 fn mode_text(out: &mut Vec<u8>, mode: Option<Mode>) -> Result<(), AllocError>
     ensures { OnOk result (out.new.items ≡ out.old.items ++ mode_text mode) }
 {
@@ -64,7 +64,6 @@ fn mode_text(out: &mut Vec<u8>, mode: Option<Mode>) -> Result<(), AllocError>
     }
 }
 
-/// A mode's name.
 fn mode_name(mode: Mode) -> &'static str
     ensures { result.now ≡ mode_name mode }
 {

@@ -37,7 +37,6 @@ pub(crate) fn no_resources(out: &mut Vec<u8>) -> Result<(), AllocError>
     text(out, b"no resources\n")
 }
 
-/// A domain: the system's, or a group's.
 fn domain_text(out: &mut Vec<u8>, domain: Domain) -> Result<(), AllocError>
     ensures { OnOk result (out.new.items ≡ out.old.items ++ domain_text domain) }
 {
@@ -50,7 +49,6 @@ fn domain_text(out: &mut Vec<u8>, domain: Domain) -> Result<(), AllocError>
     }
 }
 
-/// A resource's name as a script has it.
 #[tactic(auto, unfolding(crate::specs::Texts::name_text))]
 fn name_text(out: &mut Vec<u8>, name: &[u8]) -> Result<(), AllocError>
     ensures { OnOk result (out.new.items ≡ out.old.items ++ name_text name.now) }
@@ -62,21 +60,20 @@ fn name_text(out: &mut Vec<u8>, name: &[u8]) -> Result<(), AllocError>
     hexadecimal(out, name)
 }
 
-/// Whether every byte can be read, and the name does not look like a hexadecimal one.
+// Whether every byte can be read, and the name does not look like a hexadecimal one.
 fn is_readable(name: &[u8]) -> bool
     ensures { result ≡ is_readable name.now }
 {
     all_visible(name) && !name.starts_with(b"x:")
 }
 
-/// Whether every byte is an ASCII character that shows.
+// Whether every byte is an ASCII character that shows.
 fn all_visible(name: &[u8]) -> bool
     ensures { result ≡ list_all (λ byte. nat_le 33 byte && nat_le byte 126) name.now }
 {
     name.iter().all(|byte| 33 <= *byte && *byte <= 126)
 }
 
-/// Whether a value block is valid.
 fn validity(valid: bool) -> &'static str
     ensures { result.now ≡ validity valid }
 {

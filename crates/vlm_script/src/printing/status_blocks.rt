@@ -28,7 +28,6 @@ pub(crate) fn status_block_line(
     }
 }
 
-// What stands in a status block, and the end of the line.
 fn contents(out: &mut Vec<u8>, block: &Block) -> Result<(), AllocError>
     ensures { OnOk result (out.new.items
         ≡ out.old.items ++ codes " status " ++ decimal block.now.status

@@ -8,10 +8,10 @@ use crate::faults::PlayFault;
 use std::alloc::Global;
 use std::io::Read;
 
-/// How many bytes a script has at most.
+// How many bytes a script has at most.
 const LIMIT: usize = 16_777_216;
 
-/// How many bytes are asked for at once, at most.
+// How many bytes are asked for at once, at most.
 const PIECE: usize = 8192;
 
 /// All the bytes that are left. Of more than the limit, one byte more than that is read, and `Long`
@@ -40,7 +40,7 @@ pub(crate) fn read_whole<R: Read>(alloc: Global, reader: &mut R) -> Result<Vec<u
     Err(PlayFault::Long)
 }
 
-/// One read of at most what the limit and one byte leave, put behind the input.
+// One read of at most what the limit and one byte leave, put behind the input.
 fn read_on<R: Read>(reader: &mut R, input: &mut Vec<u8>) -> Result<usize, PlayFault>
     requires { vec_len input.old ≤ 2 ^ 24 }
     ensures read { IfOk result (λ count. (bytes : List ℕ)

@@ -9,7 +9,7 @@ fn check<R: Abort + AllocGlobal>(rt: &R, fault: &PlayFault, text: &str) {
     assert!(rt; shown.as_str() == text);
 }
 
-/// A fault displays the text of its line.
+// A fault displays the text of its line.
 #[test]
 fn texts(rt: HostRuntime) {
     check(

@@ -10,7 +10,7 @@ use vlm_words::steps::{Answer, Conversion, Declaration, Dequeue, NewRequest, Ste
 
 const NOQUEUE: u16 = 2;
 
-/// Has room for one lock.
+// Has room for one lock.
 const NARROW: Declaration = Declaration {
     quota: 1,
     blocks: 1,
@@ -62,7 +62,7 @@ fn check(rt: &impl Abort, alloc: Global, steps: &[Step], want: &[Answer]) {
     assert!(rt; answers.as_slice() == want);
 }
 
-/// A conversion that must not queue is refused beside another PR, and granted to CR.
+// A conversion that must not queue is refused beside another PR, and granted to CR.
 #[test]
 fn conversions_that_must_not_queue(rt: HostRuntime) {
     let steps = [
@@ -97,7 +97,7 @@ fn put_steps(steps: &mut Vec<Step>, want: &mut Vec<Answer>) -> Result<(), AllocE
     Ok(())
 }
 
-/// A list of 1,001 steps.
+// A list of 1,001 steps.
 #[test]
 fn many_steps(rt: HostRuntime) {
     let mut steps = Vec::new(rt.alloc());

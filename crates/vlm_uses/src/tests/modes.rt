@@ -30,7 +30,7 @@ fn action(act: Act) -> u8 {
     }
 }
 
-/// Compares a table with what is answered for each pair of modes.
+// Compares a table with what is answered for each pair of modes.
 fn compare<R: Abort, F: Fn(Mode, Mode) -> u8>(rt: &R, table: &[[u8; 6]; 6], answered: F)
     requires { F.IsAlwaysCallable answered }
 {
@@ -41,7 +41,7 @@ fn compare<R: Abort, F: Fn(Mode, Mode) -> u8>(rt: &R, table: &[[u8; 6]; 6], answ
     }
 }
 
-/// What may be held together, what VALBLK does on a conversion, and which conversions QUECVT goes with.
+// What may be held together, what VALBLK does on a conversion, and which conversions QUECVT goes with.
 #[test]
 fn tables(rt: HostRuntime) {
     compare(&rt, &COMPATIBLE, |a, b| letter(compatible(a, b)));

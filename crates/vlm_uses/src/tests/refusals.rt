@@ -19,10 +19,10 @@ const QUECVT: u16 = 32;
 
 const CANCEL: u16 = 2;
 
-/// No flag has this bit.
+// No flag has this bit.
 const UNKNOWN: u16 = 256;
 
-/// Nobody has it.
+// Nobody has it.
 const STRANGER: u32 = 65_538;
 
 const DEQUEUE: Dequeue = Dequeue {
@@ -32,7 +32,7 @@ const DEQUEUE: Dequeue = Dequeue {
     flags: 0,
 };
 
-/// Lets P hold EX on A as lock 1, and Q wait for it as lock 2.
+// Lets P hold EX on A as lock 1, and Q wait for it as lock 2.
 fn begin<R: Abort>(rt: &R, core: &mut Core) {
     let steps = [
         (Step::Declare(DECLARATION), Answer::Process(P)),
@@ -57,14 +57,14 @@ fn begin<R: Abort>(rt: &R, core: &mut Core) {
     }
 }
 
-/// A machine in which P holds EX on A as lock 1, and Q waits for it as lock 2.
+// A machine in which P holds EX on A as lock 1, and Q waits for it as lock 2.
 fn machine<R: Abort + AllocGlobal>(rt: &R) -> Core {
     let mut core = Core::new(rt.alloc());
     begin(rt, &mut core);
     core
 }
 
-/// Each step is refused by its condition.
+// Each step is refused by its condition.
 fn check<R: Abort + AllocGlobal>(rt: &R, cases: &[(Step, Cond)]) {
     let mut core = machine(rt);
     refuses(rt, &mut core, cases);
@@ -83,7 +83,7 @@ fn makes_each(rt: &impl Abort, core: &mut Core) {
     assert!(rt; core.resource_count() == 2);
 }
 
-/// With ample memory each step is made: the waiting lock is granted once the other is gone.
+// With ample memory each step is made: the waiting lock is granted once the other is gone.
 #[test]
 fn accepted(rt: HostRuntime) {
     let mut core = machine(&rt);
@@ -98,8 +98,8 @@ fn nameless(block: u8) -> NewRequest {
     }
 }
 
-/// NONEXPR, BADPARAM, ACCVIO, IVBUFLEN, UNSUPPORTED, IVLOCKID, PARNOTGRANT, NOSYSLCK, NOTQUEUED. Each request
-/// breaks the rules of later ones too.
+// NONEXPR, BADPARAM, ACCVIO, IVBUFLEN, UNSUPPORTED, IVLOCKID, PARNOTGRANT, NOSYSLCK, NOTQUEUED. Each request
+// breaks the rules of later ones too.
 #[test]
 fn requests(rt: HostRuntime) {
     let cases = [
@@ -187,7 +187,7 @@ fn requests(rt: HostRuntime) {
     );
 }
 
-/// NONEXPR, BADPARAM, ACCVIO, IVLOCKID, CANCELGRANT. Each dequeue breaks the rules of the later ones too.
+// NONEXPR, BADPARAM, ACCVIO, IVLOCKID, CANCELGRANT. Each dequeue breaks the rules of the later ones too.
 #[test]
 fn dequeues(rt: HostRuntime) {
     let late = Dequeue {
@@ -261,8 +261,8 @@ fn dequeues(rt: HostRuntime) {
     );
 }
 
-/// NONEXPR, BADPARAM, ACCVIO, IVLOCKID, CVTUNGRANT, BADPARAM. Each conversion breaks the rules of the
-/// later ones too.
+// NONEXPR, BADPARAM, ACCVIO, IVLOCKID, CVTUNGRANT, BADPARAM. Each conversion breaks the rules of the
+// later ones too.
 #[test]
 fn conversions(rt: HostRuntime) {
     let late = Conversion {
@@ -331,14 +331,14 @@ fn conversions(rt: HostRuntime) {
     );
 }
 
-/// A value block to write.
+// A value block to write.
 const SETTING: ValueSetting = ValueSetting {
     pid: P,
     block: 4,
     value: [7; 16],
 };
 
-/// NONEXPR, ACCVIO.
+// NONEXPR, ACCVIO.
 #[test]
 fn settings(rt: HostRuntime) {
     let cases = [
@@ -372,7 +372,7 @@ fn settings(rt: HostRuntime) {
     );
 }
 
-/// BADPARAM for each kind that is not built, whoever the caller is.
+// BADPARAM for each kind that is not built, whoever the caller is.
 #[test]
 fn kinds_not_built(rt: HostRuntime) {
     check(

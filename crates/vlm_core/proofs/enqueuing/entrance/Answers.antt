@@ -2,8 +2,8 @@ use Rattle.std.proofs.Common.{◌≡◌, IsSome, Option, None, Some, refl, sym, 
 use Rattle.vlm_words.specs.declared.resources.Key.{Key}
 use Rattle.vlm_words.specs.Enqueue.{is_at_once}
 use Rattle.vlm_words.specs.Resources.{is_at, new_resource}
+use Rattle.vlm_store.specs.Plain.{plain_resources}
 use Rattle.vlm_store.specs.Records.{FindsResource, StoredResource, resource_at}
-use Rattle.vlm_locks.specs.Plain.{plain_resources}
 use Rattle.vlm_locks.proofs.Keyed.{finds_none, finds_one}
 use Rattle.vlm_core.proofs.Entries.{is_at_once-new}
 use Rattle.vlm_core.proofs.enqueuing.entrance.Goals as goal

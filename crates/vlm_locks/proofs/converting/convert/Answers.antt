@@ -1,7 +1,7 @@
 use Rattle.std.proofs.Common.{IfSome, sym, ap, ◌∙◌, subst, ◌≡◌}
 use Rattle.vlm_words.specs.Convert.{converts_at_once}
+use Rattle.vlm_store.specs.Plain.{plain_resource}
 use Rattle.vlm_store.specs.Records.{IsProcess, resource_at, without_resource}
-use Rattle.vlm_locks.specs.Plain.{plain_resource}
 use Rattle.vlm_locks.proofs.Changed.{rests_still}
 use Rattle.vlm_locks.proofs.Accepted.{converted_accepted, stands_accepted}
 use Rattle.vlm_locks.proofs.Found.{process_there}

@@ -1,10 +1,10 @@
-use Rattle.vlm_store.specs.Records.{IsSameLock, plain_processes}
+use Rattle.vlm_store.specs.Plain.{plain_processes, plain_resource}
+use Rattle.vlm_store.specs.Records.{IsSameLock}
 use Rattle.std.proofs.Common.{◌≡◌, IfSome, refl, sym, ◌∙◌, subst}
 use Rattle.vlm_words.specs.declared.resources.Queue.TheVariants.{Conversion, Granted}
 use Rattle.vlm_words.specs.declared.locks.Row.{Row}
 use Rattle.vlm_words.specs.Convert.{converts_at_once}
 use Rattle.vlm_words.specs.Grants.{granted_row}
-use Rattle.vlm_locks.specs.Plain.{plain_resource}
 use Rattle.vlm_locks.specs.Converting.{IsConverted, IsGrantedAtOnce, blocks_granted, moved_in}
 use Rattle.vlm_locks.specs.Rest.{IsReplaced}
 use Rattle.vlm_locks.proofs.Converted.{converted_later, converted_now}

@@ -1,5 +1,5 @@
 use Rattle.std.proofs.Common.{sym, ◌∙◌}
-use Rattle.vlm_store.specs.Records.{plain_processes}
+use Rattle.vlm_store.specs.Plain.{plain_processes}
 use Rattle.vlm_locks.proofs.Found.{process_there}
 use Rattle.vlm_locks.proofs.Stood.{owner_is, stored}
 use Rattle.vlm_locks.proofs.WithdrawnEnds.{end_written}

@@ -1,7 +1,7 @@
 use Rattle.std.proofs.Common.{sym, ap, ◌∙◌}
 use Rattle.vlm_words.specs.declared.resources.Queue.TheVariants.{Granted, Conversion, Waiting}
 use Rattle.vlm_words.specs.Withdrawals.{processes_after}
-use Rattle.vlm_store.specs.Records.{plain_processes}
+use Rattle.vlm_store.specs.Plain.{plain_processes}
 use Rattle.vlm_locks.specs.Withdrawals.{plain_withdrawal}
 use Rattle.vlm_locks.proofs.WithdrawnEnds.{withdrawn_ends}
 use Rattle.vlm_locks.proofs.withdrawing.end_withdrawn.Goals as goal

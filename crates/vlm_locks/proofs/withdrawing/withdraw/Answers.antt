@@ -1,8 +1,8 @@
 use Rattle.vlm_locks.proofs.OtherLocks.{owned_alike}
 use Rattle.std.proofs.Common.{true, [], ◌∷◌, map, ap, ◌∙◌, subst, sym}
 use Rattle.vlm_words.specs.Withdrawals.{resource_after_cancel, resource_after_withdrawals, resource_without}
+use Rattle.vlm_store.specs.Plain.{plain_resource, plain_resources}
 use Rattle.vlm_store.specs.Records.{HasNoSublocks, but_blocks, IsProcessAmong, without_resource}
-use Rattle.vlm_locks.specs.Plain.{plain_resource, plain_resources}
 use Rattle.vlm_locks.specs.Withdrawals.{plain_withdrawal}
 use Rattle.vlm_locks.specs.Withdrawing.{goes, owned_after}
 use Rattle.vlm_locks.proofs.Replaced.{no_sublocks_still}

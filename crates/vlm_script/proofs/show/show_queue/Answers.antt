@@ -1,44 +1,41 @@
-use Rattle.std.proofs.Common.{[], ◌++◌, ap, ◌∙◌}
-use Rattle.vlm_store.specs.declared.keys.Place.TheVariants.{Queued}
-use Rattle.vlm_store.specs.Records.{locks_at, rows_of}
-use Rattle.vlm_store.proofs.Walks.{at_lock, first-there, locks_from-first, locks_left-fewer}
+use Rattle.std.proofs.Common.{◌++◌, ap, ◌∙◌}
+use Rattle.vlm_queue.specs.Walks.{rows_left}
+use Rattle.vlm_queue.proofs.Walking.{begins, come_stored, passes}
 use Rattle.vlm_script.specs.Texts.{queue_lines}
-use Rattle.vlm_script.proofs.Shown.{lines_left-next}
+use Rattle.vlm_script.proofs.Shown.{fewer_rows, row_printed}
 use Rattle.vlm_script.proofs.show.show_queue.Goals as goal
 
--- the walk begins at the first lock
-pub loop-next-init : goal.loop-next-init
-loop-next-init c =
-    let place = Queued c.args.res c.args.queue in
-    let ks = locks_at place c.args.store.now in
-    rw c.first-next.ensures.first (record {
-      there = first-there [] ks;
-      printed = ap (λ xs. c.args.out.now.items ++ queue_lines c.args.queue (rows_of xs)) (locks_from-first [] ks (c.first-next.ensures.sound.locks_apart place));
-    })
+-- the walk begins at the head
+pub loop-at-init : goal.loop-at-init
+loop-at-init c =
+    let first = begins c.args.store.now c.args.res c.args.queue c.head-at.result c.head-at.ensures.first in
+    record {
+      there = first.there;
+      printed = ap (λ rows. c.args.out.now.items ++ queue_lines c.args.queue rows) first.left;
+    }
 
--- the lock where the walk stands is stored
-pub lock_record-requires : goal.lock_record-requires
-lock_record-requires c =
-    let there = c.loop-next.invariant.there c.in-Some.lock c.in-Some.is in
-    (there.0, (Queued c.args.res c.args.queue, there.1))
+-- the lock to which the walk has come is stored
+pub row_view-requires : goal.row_view-requires
+row_view-requires c = come_stored c.args.store.now c.args.res c.args.queue c.in-Some.lock (rw c.in-Some.is at c.loop-at.invariant.there)
+
+pub next-at-requires : goal.next-at-requires
+next-at-requires c = come_stored c.args.store.now c.args.res c.args.queue c.in-Some.lock (rw c.in-Some.is at c.loop-at.invariant.there)
 
 -- one lock less is left
-pub loop-next-smaller : goal.loop-next-smaller
-loop-next-smaller c =
-    let place = Queued c.args.res c.args.queue in
-    let ks = locks_at place c.args.store.now in
-    let stands = at_lock c.in-Some.lock ks (c.first-next.ensures.sound.locks_apart place) (c.loop-next.invariant.there c.in-Some.lock c.in-Some.is) in
-    rw (c.next-next.ensures place stands.row stands.among, c.in-Some.is) (locks_left-fewer c.in-Some.lock ks stands)
+pub loop-at-smaller : goal.loop-at-smaller
+loop-at-smaller c =
+    let s = c.args.store.now in
+    let one = passes s c.args.res c.args.queue c.in-Some.lock c.next-at.result c.head-at.ensures.sound (rw c.in-Some.is at c.loop-at.invariant.there) c.next-at.ensures in
+    rw c.in-Some.is (fewer_rows one.row (rows_left c.args.res c.args.queue c.next-at.result s) _ one.left)
 
 -- one more lock is printed
-pub loop-next-preserved : goal.loop-next-preserved
-loop-next-preserved c =
-    let place = Queued c.args.res c.args.queue in
-    let ks = locks_at place c.args.store.now in
-    let stands = at_lock c.in-Some.lock ks (c.first-next.ensures.sound.locks_apart place) (c.loop-next.invariant.there c.in-Some.lock c.in-Some.is) in
-    let same = c.lock_record.ensures.only stands.row (place, stands.among) in
-    let more = lines_left-next c.args.queue c.in-Some.lock ks c.loop-next.out.items c.show_row.new.out.items c.lock_record.result.now.row stands same c.in_ok-show_row.ensures in
-    rw (c.next-next.ensures place stands.row stands.among) (record {
-      there = stands.next;
-      printed = more ∙ (rw c.in-Some.is at c.loop-next.invariant.printed);
-    })
+pub loop-at-preserved : goal.loop-at-preserved
+loop-at-preserved c =
+    let s = c.args.store.now in
+    let one = passes s c.args.res c.args.queue c.in-Some.lock c.next-at.result c.head-at.ensures.sound (rw c.in-Some.is at c.loop-at.invariant.there) c.next-at.ensures in
+    let printed = rw (c.row_view.ensures one.row one.stored) at c.in_ok-show_row.ensures in
+    let more = row_printed c.args.queue one.row (rows_left c.args.res c.args.queue c.next-at.result s) _ c.loop-at.out.items c.show_row.new.out.items one.left printed in
+    record {
+      there = one.there;
+      printed = more ∙ (rw c.in-Some.is at c.loop-at.invariant.printed);
+    }

@@ -1,22 +1,23 @@
 use Rattle.std.proofs.Common.{◌∙◌}
-use Rattle.vlm_store.proofs.Walks.{at_resource, resources_left-fewer}
-use Rattle.vlm_script.proofs.Shown.{text_left-next}
+use Rattle.vlm_queue.specs.Walks.{resource_of, resources_left}
+use Rattle.vlm_queue.proofs.Walking.{is_there}
+use Rattle.vlm_script.proofs.Shown.{fewer_left, resource_passed}
 use Rattle.vlm_script.proofs.show.show_resources.Goals as goal
 
 -- one resource less is left
 pub loop-next-smaller : goal.loop-next-smaller
 loop-next-smaller c =
-    let rs = c.args.store.now.resources in
-    let stands = at_resource c.in-Some.res rs c.first_resource-next.ensures.sound.resources_apart (c.loop-next.invariant.there c.in-Some.res c.in-Some.is) in
-    rw (c.next_resource-next.ensures, c.in-Some.is) (resources_left-fewer c.in-Some.res rs stands)
+    let s = c.store-store.result.now in
+    rw c.in-Some.is
+    (fewer_left (resource_of c.in-Some.res s) (resources_left c.next_resource-next.result s) _ (is_there c.in-Some.res s (c.loop-next.invariant.there c.in-Some.res c.in-Some.is)) c.next_resource-next.ensures.left)
 
 -- one more resource is printed
 pub loop-next-preserved : goal.loop-next-preserved
 loop-next-preserved c =
-    let rs = c.args.store.now.resources in
-    let stands = at_resource c.in-Some.res rs c.first_resource-next.ensures.sound.resources_apart (c.loop-next.invariant.there c.in-Some.res c.in-Some.is) in
-    let more = text_left-next c.in-Some.res rs c.loop-next.out.items c.show_resource.new.out.items stands c.in_ok-show_resource.ensures in
-    rw c.next_resource-next.ensures (record {
-      there = stands.next;
+    let s = c.store-store.result.now in
+    let there = is_there c.in-Some.res s (c.loop-next.invariant.there c.in-Some.res c.in-Some.is) in
+    let more = resource_passed (resource_of c.in-Some.res s) (resources_left c.next_resource-next.result s) _ c.loop-next.out.items c.show_resource.new.out.items there c.next_resource-next.ensures.left c.in_ok-show_resource.ensures in
+    record {
+      there = c.next_resource-next.ensures.there;
       printed = more ∙ (rw c.in-Some.is at c.loop-next.invariant.printed);
-    })
+    }

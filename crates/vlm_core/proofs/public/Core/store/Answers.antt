@@ -1,4 +1,4 @@
-use Rattle.vlm_core.proofs.Walked.{queue_given}
+use Rattle.vlm_queue.proofs.Indexed.{queue_given}
 use Rattle.vlm_core.proofs.public.Core.store.Goals as goal
 
 pub returns-clause-queues : goal.returns-clause-queues

@@ -7,8 +7,8 @@ use Rattle.vlm_words.specs.Flags.{flag_bits}
 use Rattle.vlm_words.specs.Resources.{is_at, new_resource}
 use Rattle.vlm_words.specs.State.{Resource}
 use Rattle.vlm_words.specs.Trees.{enq_site, parent_resource, root_domain, site_below}
+use Rattle.vlm_store.specs.Plain.{plain_resources}
 use Rattle.vlm_store.specs.Records.{IsParentOf, IsProcess}
-use Rattle.vlm_locks.specs.Plain.{plain_resources}
 use Rattle.vlm_core.specs.Admissions.{IsCaller, IsForm}
 use Rattle.vlm_core.specs.Machine.{Kept, kept, plain_state}
 use Rattle.vlm_core.specs.Parents.{IsParent, lkid_of}

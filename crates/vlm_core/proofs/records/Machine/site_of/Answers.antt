@@ -2,8 +2,8 @@ use Rattle.std.proofs.Common.{◌≡◌, ◌<◌, Some, None, sym, ap, ◌∙◌
 use Rattle.vlm_words.specs.declared.resources.Domain.{Domain}
 use Rattle.vlm_words.specs.Flags.{flag_bits}
 use Rattle.vlm_words.specs.Trees.{parent_resource, root_domain, site_below}
+use Rattle.vlm_store.specs.Plain.{plain_resource}
 use Rattle.vlm_store.specs.Records.{StoredResource, resource_at}
-use Rattle.vlm_locks.specs.Plain.{plain_resource}
 use Rattle.vlm_locks.proofs.Stood.{resource_among}
 use Rattle.vlm_core.specs.Machine.{Kept, kept, plain_state}
 use Rattle.vlm_core.specs.Parents.{IsParent, IsParentStanding, lkid_of}

@@ -1,0 +1,36 @@
+-- What is shown of a resource and of a lock.
+use Rattle.std.specs.Prelude.{ℕ, List, Option, None, Some, slice_get}
+use Rattle.std.specs.Option.{option_map}
+use Rattle.vlm_words.specs.declared.locks.Row.{Row}
+use Rattle.vlm_words.specs.declared.resources.Queue.{Queue}
+use Rattle.vlm_words.specs.declared.resources.Queue.TheVariants.{Granted, Conversion, Waiting}
+use Rattle.vlm_words.specs.Rows.{mode_asked}
+use Rattle.vlm_words.specs.State.{Resource}
+use Rattle.vlm_queue.specs.declared.views.ResourceView.{ResourceView}
+use Rattle.vlm_queue.specs.declared.views.RowView.{RowView}
+
+-- a resource without its queues
+abbrev pub resource_view : Resource → ResourceView
+resource_view r = record {
+  serial = r.serial;
+  parent = r.parent;
+  domain = r.domain;
+  name = r.name;
+  value = r.value_block.value;
+  valid = r.value_block.valid;
+}
+
+-- a queue of a resource
+abbrev pub rows_in : Queue → Resource → List Row
+rows_in Granted r = r.granted
+rows_in Conversion r = r.converting
+rows_in Waiting r = r.waiting
+
+-- a lock with its modes
+abbrev pub row_view : Row → RowView
+row_view row = record { lkid = row.lkid; pid = row.pid; held = mode_asked row.held; want = mode_asked row.want }
+
+-- the lock at an index of a queue of the resource, if both are there
+abbrev pub row_shown : Option Resource → Queue → ℕ → Option RowView
+row_shown None queue index = None
+row_shown (Some r) queue index = option_map row_view (slice_get (rows_in queue r) index)
