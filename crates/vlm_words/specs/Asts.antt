@@ -1,5 +1,5 @@
 -- The ASTs of processes.
-use Rattle.std.specs.Prelude.{ℕ, List, [], ◌∷◌, map, ◌==◌, Option, None, Some, if◌then◌else◌}
+use Rattle.std.specs.Prelude.{ℕ, List, [], map, drop, ◌==◌, Option, slice_get, if◌then◌else◌}
 use Rattle.std.specs.Option.{option_map_or}
 use Rattle.vlm_words.specs.declared.asts.Ast.{Ast}
 use Rattle.vlm_words.specs.State.{Process, process_of}
@@ -10,13 +10,11 @@ asts_of processes pid = option_map_or (λ p. p.asts) (process_of processes pid) 
 
 -- the oldest AST, if one is pending
 abbrev pub oldest : List Ast → Option Ast
-oldest [] = None
-oldest (ast ∷ later) = Some ast
+oldest asts = slice_get asts 0
 
 -- the ASTs but for the oldest
 abbrev pub later : List Ast → List Ast
-later [] = []
-later (ast ∷ asts) = asts
+later asts = drop 1 asts
 
 -- the process once its oldest AST is taken, if it has this identification
 unfoldable pub process_after_take : ℕ → Process → Process

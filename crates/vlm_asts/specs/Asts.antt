@@ -1,0 +1,38 @@
+-- The ASTs of one process.
+use Rattle.std.specs.Prelude.{ℕ, ◌≤◌, ◌+◌, ◌-◌, List, [], length, Option, None, Some}
+use Rattle.circular_buffer.specs.Buffer.{Buffer}
+use Rattle.vlm_words.specs.declared.asts.Ast.{Ast}
+use Rattle.vlm_asts.specs.declared.queues.AstQueue.TheInside.{Inside}
+
+-- the ASTs that are queued and not yet taken, the oldest first; how many more are owed; and how many beyond these
+-- there is room for
+pub record Asts : Type 0 where
+  pub pending : List Ast
+  pub due : ℕ
+  pub free : ℕ
+
+-- nothing is queued or owed, and there is no room
+abbrev pub no_asts : Asts
+no_asts = record { pending = []; due = 0; free = 0 }
+
+-- the ASTs in a buffer, none where there is no buffer
+abbrev pub asts_in : Option (Buffer Ast) → List Ast
+asts_in None = []
+asts_in (Some ring) = ring.items
+
+-- how many ASTs a buffer has room for
+abbrev pub room_in : Option (Buffer Ast) → ℕ
+room_in None = 0
+room_in (Some ring) = ring.capacity
+
+-- what the fields show
+abbrev pub asts_shown : Inside → Asts
+asts_shown q = record {
+  pending = asts_in q.ring;
+  due = q.due;
+  free = room_in q.ring - (length (asts_in q.ring) + q.due);
+}
+
+-- there is room for what is queued and what is owed
+pub record HasRoomForDue (q : Inside) : Type 0 where
+  pub room : length (asts_in q.ring) + q.due ≤ room_in q.ring
