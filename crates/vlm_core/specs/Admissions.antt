@@ -1,5 +1,5 @@
 -- What the checks of a step decide, for the change that follows.
-use Rattle.std.specs.Prelude.{◌≡◌, ◌<◌, ◌^◌, true, Some}
+use Rattle.std.specs.Prelude.{◌≡◌, ◌<◌, ◌^◌, true, Option, Some}
 use Rattle.vlm_words.specs.declared.resources.Queue.TheVariants.{Granted}
 use Rattle.vlm_words.specs.declared.steps.Conversion.{Conversion}
 use Rattle.vlm_words.specs.declared.steps.Dequeue.{Dequeue}
@@ -14,6 +14,7 @@ use Rattle.vlm_words.specs.State.{State}
 use Rattle.vlm_words.specs.Trees.{enq_site, parent_lkid}
 use Rattle.vlm_store.specs.Records.{FindsResource, HasNoSublocks, HasProcess, IsParentOf, IsProcess, Records}
 use Rattle.vlm_locks.specs.declared.entering.Entry.{Entry}
+use Rattle.vlm_locks.specs.declared.finding.Standing.{Standing}
 use Rattle.vlm_locks.specs.Converting.{admission_on}
 use Rattle.vlm_locks.specs.Standing.{IsStandingOf}
 use Rattle.vlm_locks.specs.Withdrawals.{plain_withdrawal}
@@ -24,6 +25,7 @@ use Rattle.vlm_core.specs.declared.enqueuing.AdmittedRequest.{AdmittedRequest}
 use Rattle.vlm_core.specs.declared.enqueuing.Form.{Form}
 use Rattle.vlm_core.specs.declared.processes.Caller.{Caller}
 use Rattle.vlm_core.specs.Machine.{Kept, plain_state}
+use Rattle.vlm_core.specs.Parents.{IsParent, lkid_of}
 
 -- the caller is a living process, and this is its key
 pub record IsCaller (caller : Caller) (s : Records) : Type 0 where
@@ -35,6 +37,14 @@ pub record IsForm (s : State) (e : NewRequest) (form : Form) : Type 0 where
   pub flags : flag_bits form.flags ≡ e.flags
   pub parent : form.parent ≡ parent_lkid s e
   pub name : form.name ≡ e.name
+
+-- a new request is asked by this caller, says this of itself, and its parent lock stands so, if it names one
+pub record IsAskedBy (m : Kept) (e : NewRequest) (caller : Caller) (form : Form) (parent : Option Standing) : Type 0 where
+  pub living : IsCaller caller m.records
+  pub pid : caller.pid ≡ e.pid
+  pub says : IsForm (plain_state m) e form
+  pub stands : IsParent caller.pid parent m.records
+  pub named : lkid_of parent ≡ form.parent
 
 -- the entry of a new request's lock: its row and who owns it, its parent lock, where its resource stands, under which
 -- serial that is made if it is not there, and whether the request is granted at once

@@ -1,18 +1,17 @@
 -- What holds between two steps, and what a step needs of it.
-use Rattle.std.specs.Prelude.{◌≡◌, ◌≤◌, ◌<◌, ℕ, All, sum_by}
+use Rattle.std.specs.Prelude.{◌≤◌, ◌<◌, All}
 use Rattle.std.specs.List.{AllByRecursion}
-use Rattle.vlm_words.specs.Laws.{DeclarationsGiveNewIdentifications, ParentsOutliveTheirSublocks, rows_on}
+use Rattle.vlm_words.specs.Laws.{DeclarationsGiveNewIdentifications, IdentificationsAreApart, ParentsOutliveTheirSublocks}
 use Rattle.vlm_words.specs.Runs.{History, Run}
 use Rattle.vlm_words.specs.Settled.{IsSettled}
 use Rattle.vlm_words.specs.State.{State}
 
--- nothing is to be swept, no lock has an identification that is to come, or 0, serials are from 1, no more of them than
--- identifications were given, a declaration gives an identification that no living process has, and each parent lock
--- holds a mode
+-- nothing is to be swept, no two locks have one identification and none has one that is to come, or 0, serials are from 1,
+-- no more of them than identifications were given, a declaration gives an identification that no living process has, and
+-- each parent lock holds a mode
 pub record IsBetweenSteps (s : State) : Type 0 where
   pub settled : AllByRecursion IsSettled s.resources
-  pub lkids_to_come : (lkid : ℕ) → s.next_lkid ≤ lkid → sum_by (rows_on lkid) s.resources ≡ 0
-  pub no_lkid_0 : sum_by (rows_on 0) s.resources ≡ 0
+  pub identifications : IdentificationsAreApart s
   pub serials_from_1 : All (λ r. 0 < r.serial) s.resources
   pub few_serials : s.next_serial ≤ s.next_lkid
   pub new_processes : DeclarationsGiveNewIdentifications s

@@ -12,10 +12,9 @@ ghost use Rattle.vlm_store.specs.Records.{FindsResource, HasResource, IsUnchange
 ghost use Rattle.vlm_locks.specs.Entering.{HasRoomToEnter};
 ghost use Rattle.vlm_words.specs.Resources.{IsKeyed};
 ghost use Rattle.vlm_locks.specs.Rest.{IsAtRest, OthersStay};
-ghost use Rattle.vlm_core.specs.Admissions.{IsAdmitted, IsCaller, IsEntry, IsForm};
+ghost use Rattle.vlm_core.specs.Admissions.{IsAdmitted, IsAskedBy, IsCaller, IsEntry, IsForm};
 ghost use Rattle.vlm_core.specs.Between.{IsBetweenSteps};
 ghost use Rattle.vlm_core.specs.Machine.{plain_state};
-ghost use Rattle.vlm_core.specs.Parents.{IsParent, lkid_of};
 
 use crate::checks::{acceptance, check_queue};
 use crate::flags::enq_flags;
@@ -149,11 +148,7 @@ impl Machine {
         parent: &Option<Standing>,
         request: &NewRequest,
     ) -> Result<AdmittedRequest, Cond>
-        requires caller { IsCaller caller.now self.now.records }
-        requires pid { caller.now.pid ≡ request.now.pid }
-        requires form { IsForm (plain_state self.now) request.now form.now }
-        requires parent { IsParent caller.now.pid parent.now self.now.records }
-        requires named { lkid_of parent.now ≡ form.now.parent }
+        requires asked { IsAskedBy self.now request.now caller.now form.now parent.now }
         requires between { IsBetweenSteps (plain_state self.now) }
         ensures refusal { result_err result ≡ enq_limit_refusal (plain_state self.now) request.now }
         ensures admitted { IfOk result (λ a. IsAdmitted self.now request.now a) }
@@ -176,11 +171,7 @@ impl Machine {
         parent: &Option<Standing>,
         request: &NewRequest,
     ) -> Entry
-        requires caller { IsCaller caller.now self.now.records }
-        requires pid { caller.now.pid ≡ request.now.pid }
-        requires form { IsForm (plain_state self.now) request.now form.now }
-        requires parent { IsParent caller.now.pid parent.now self.now.records }
-        requires named { lkid_of parent.now ≡ form.now.parent }
+        requires asked { IsAskedBy self.now request.now caller.now form.now parent.now }
         requires between { IsBetweenSteps (plain_state self.now) }
         requires lkid { self.now.next_lkid < 2 ^ 32 }
         requires number { self.now.next_request < 2 ^ 64 }

@@ -11,7 +11,6 @@ use Rattle.vlm_words.specs.Sweeps.{blocks_after_service, resource_after_service}
 use Rattle.vlm_store.specs.declared.keys.Place.TheVariants.{Queued}
 use Rattle.vlm_store.specs.Plain.{plain_processes, plain_resource}
 use Rattle.vlm_store.specs.Records.{HasResource, IsSound, Records, StoredLock, StoredResource, but_blocks, first_at, locks_at, on_resource, resource_at, rows_of}
-use Rattle.vlm_locks.specs.Rest.{but_service}
 use Rattle.vlm_locks.specs.Serving.{IsLeft, IsServed, IsServiceOf, service_from}
 use Rattle.vlm_locks.proofs.Found.{on_resource-put, resource_at-at, resource_at-put}
 use Rattle.vlm_locks.specs.Staying.{LocksStay}
@@ -22,14 +21,17 @@ use Rattle.vlm_locks.proofs.Moves.{locks_found, none_queued}
 -- a change of one resource, and then another
 left_then : (res : ℕ) (had left last : StoredResource) (old s new : Records) → IsLeft res had left old s → IsLeft res left last s new → IsLeft res had last old new
 left_then res had left last old s new first second = record {
-  was = first.was;
+  replaced = record {
+    was = first.replaced.was;
+    same = second.replaced.same ∙ first.replaced.same;
+    resources =
+        second.replaced.resources ∙ ap (on_resource res (λ x. last)) first.replaced.resources
+        ∙ on_resource-put res left (λ x. last) old.resources (resource_at-at res s.resources left first.now);
+    loose = second.replaced.loose ∙ first.replaced.loose;
+    processes = second.replaced.processes ∙ first.replaced.processes;
+  };
   now = second.now;
   rest = second.rest ∙ first.rest;
-  resources =
-      second.resources ∙ ap (on_resource res (λ x. last)) first.resources
-      ∙ on_resource-put res left (λ x. last) old.resources (resource_at-at res s.resources left first.now);
-  loose = second.loose ∙ first.loose;
-  processes = second.processes ∙ first.processes;
 }
 
 -- the service of a resource, once no conversion is left
@@ -56,7 +58,7 @@ module _ (res : ℕ) (old_block : ValueBlock) (old : Records) (block : ValueBloc
   pub served_then : (new_block : ValueBlock) (new : Records) → None ≡ first_at (locks_at (Queued res Conversion) s)
       → IsServiceOf (service_from Waiting) res block s new_block new → IsServiceOf service res old_block old new_block new
   served_then new_block new none second =
-      let same : second.had ≡ first.left = same_Some second.had first.left (sym second.change.was ∙ first.change.now) in
+      let same : second.had ≡ first.left = same_Some second.had first.left (sym second.change.replaced.was ∙ first.change.now) in
       let r : Resource = plain_resource first.had in
       let left : Resource = plain_resource first.left in
       let empty : is_empty left.converting ≡ true =
@@ -104,7 +106,7 @@ module _ (res : ℕ) (old s new : Records) (old_block block : ValueBlock) (sound
   blocks : blocks_with block (plain_processes s) ≡ blocks_after_service (plain_processes old) (plain_resource done.had)
   unfolding blocks_after_service
   blocks =
-      let was : old_block ≡ done.had.value_block = subst (λ o. IfSome o (λ r. old_block ≡ r.value_block)) done.change.was told in
+      let was : old_block ≡ done.had.value_block = subst (λ o. IfSome o (λ r. old_block ≡ r.value_block)) done.change.replaced.was told in
       done.effect ∙ ap (λ v. blocks_after (service (plain_resource done.had)).endings (blocks_with v (plain_processes old))) was
 
   -- the resource in the end
@@ -114,7 +116,7 @@ module _ (res : ℕ) (old s new : Records) (old_block block : ValueBlock) (sound
   resources_are : new.resources ≡ on_resource res (λ x. last) old.resources
   resources_are =
       ap (λ (x : Records). x.resources) wrote
-      ∙ ap (on_resource res (λ r. record r { value_block = block })) done.change.resources
+      ∙ ap (on_resource res (λ r. record r { value_block = block })) done.change.replaced.resources
       ∙ on_resource-put res done.left (λ r. record r { value_block = block }) old.resources (resource_at-at res s.resources done.left done.change.now)
 
   -- it is there still
@@ -122,7 +124,7 @@ module _ (res : ℕ) (old s new : Records) (old_block block : ValueBlock) (sound
   still_there =
       subst IsSome
       (sym (ap (resource_at res) resources_are
-      ∙ resource_at-put res last old.resources done.had (resource_at-at res s.resources done.left done.change.now) done.change.was)) refl
+      ∙ resource_at-put res last old.resources done.had (resource_at-at res s.resources done.left done.change.now) done.change.replaced.was)) refl
 
   served_here : plain_resource last ≡ resource_after_service (plain_processes old) (plain_resource done.had)
   served_here =
@@ -135,11 +137,11 @@ module _ (res : ℕ) (old s new : Records) (old_block block : ValueBlock) (sound
     had = done.had;
     left = last;
     replaced = record {
-      was = done.change.was;
-      same = ap (λ (r : StoredResource). but_service r) done.change.rest;
+      was = done.change.replaced.was;
+      same = done.change.replaced.same;
       resources = resources_are;
-      loose = ap (λ (x : Records). x.loose) wrote ∙ done.change.loose;
-      processes = ap (λ (x : Records). map but_blocks x.processes) wrote ∙ done.change.processes;
+      loose = ap (λ (x : Records). x.loose) wrote ∙ done.change.replaced.loose;
+      processes = ap (λ (x : Records). map but_blocks x.processes) wrote ∙ done.change.replaced.processes;
     };
     stay = stays_under_block done.had done.left block done.stay;
     none_join = none_joins_under_block done.had done.left block done.none_join;

@@ -87,12 +87,15 @@ serving_begun queue res block s sound there = of_found (resource_at res s.resour
       had = r;
       left = r;
       change = record {
-        was = found;
+        replaced = record {
+          was = found;
+          same = refl;
+          resources = sym (on_resource-own res r s.resources sound.resources_apart found);
+          loose = refl;
+          processes = refl;
+        };
         now = found;
         rest = refl;
-        resources = sym (on_resource-own res r s.resources sound.resources_apart found);
-        loose = refl;
-        processes = refl;
       };
       stay = all_stay r;
       none_join = all_stay r;

@@ -11,6 +11,7 @@ use Rattle.vlm_store.specs.declared.keys.Place.TheVariants.{Loose, Queued}
 use Rattle.vlm_store.specs.Records.{AreApart, IsAmong, IsResourceAmong, IsSound, Records, SameButBlocks, StoredLock, StoredResource, Stores, first_at, is_place, locks_at, moving, on_resource, queued, resource_at, resource_with, with_lists, without_lock}
 use Rattle.vlm_store.proofs.Layouts.{is_place-other, is_place-same}
 use Rattle.vlm_store.proofs.Undoing.{map_on, resource_is, unmoved, without_absent}
+use Rattle.vlm_locks.specs.Rest.{but_service}
 use Rattle.vlm_locks.specs.Serving.{IsLeft, but_queues}
 use Rattle.vlm_locks.proofs.Found.{on_resource-put, resource_alone, resource_at-at, resource_at-put}
 
@@ -164,12 +165,15 @@ left_next old s new sound res had r queue at row change head granted differs sam
     let moved = first_moved s sound res r queue at row change.now head granted differs in
     let resources : new.resources ≡ on_resource res (λ x. next) s.resources = same.resources ∙ ap (λ (x : Records). x.resources) moved in
     record {
-      was = change.was;
+      replaced = record {
+        was = change.replaced.was;
+        same = ap (λ (x : StoredResource). but_service x) (granted_first-rest queue (record { at = at; row = granted }) head.rest r) ∙ change.replaced.same;
+        resources =
+            resources ∙ ap (on_resource res (λ x. next)) change.replaced.resources
+            ∙ on_resource-put res r (λ x. next) old.resources (resource_at-at res s.resources r change.now);
+        loose = same.loose ∙ ap (λ (x : Records). x.loose) moved ∙ change.replaced.loose;
+        processes = same.processes ∙ change.replaced.processes;
+      };
       now = ap (resource_at res) resources ∙ resource_at-put res next s.resources r keyed change.now;
       rest = granted_first-rest queue (record { at = at; row = granted }) head.rest r ∙ change.rest;
-      resources =
-          resources ∙ ap (on_resource res (λ x. next)) change.resources
-          ∙ on_resource-put res r (λ x. next) old.resources (resource_at-at res s.resources r change.now);
-      loose = same.loose ∙ ap (λ (x : Records). x.loose) moved ∙ change.loose;
-      processes = same.processes ∙ change.processes;
     }

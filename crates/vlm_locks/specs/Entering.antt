@@ -5,18 +5,28 @@ use Rattle.vlm_words.specs.declared.locks.Row.{Row}
 use Rattle.vlm_words.specs.Effects.{blocks_after, blocks_with}
 use Rattle.vlm_words.specs.Enqueue.{resources_after_entry}
 use Rattle.vlm_words.specs.Grants.{grant_endings}
-use Rattle.vlm_words.specs.Resources.{is_at, new_resource}
+use Rattle.vlm_words.specs.Resources.{IsKeyed, is_at, new_resource}
 use Rattle.vlm_words.specs.State.{Process, Resource}
 use Rattle.vlm_words.specs.StatusBlocks.{processes_after_acceptance}
 use Rattle.vlm_words.specs.declared.resources.ValueBlock.{ValueBlock}
 use Rattle.vlm_store.specs.Plain.{plain_processes, plain_resources}
-use Rattle.vlm_store.specs.Records.{HasResource, HasRoomForLock, HasRoomForResource, IsProcess, IsSameLock, IsStored, Records, Stores, but_blocks, process_with_lock, resource_at}
+use Rattle.vlm_store.specs.Records.{HasResource, HasRoomForLock, HasRoomForResource, IsParentOf, IsProcess, IsSameLock, IsStored, Records, Stores, but_blocks, process_with_lock, resource_at}
 use Rattle.vlm_locks.specs.declared.entering.Entry.{Entry}
 use Rattle.vlm_locks.specs.Rest.{IsAtRest, OtherLocksStay, OthersStay}
+use Rattle.vlm_locks.specs.Rising.{IsAboveAll}
 
 -- the resource that the lock finds under its key: a new one where none is there
 abbrev pub resource_for : Entry → List Resource → Resource
 resource_for e resources = unwrap_or (find (is_at e.site.key) resources) (new_resource e.serial e.site)
+
+-- between two steps the lock of the entry may enter: its identification is above all, its process and its parent lock are
+-- there, and the key of its resource fits the domain
+pub record MayEnter (e : Entry) (s : Records) : Type 0 where
+  pub rest : IsAtRest s
+  pub rising : IsAboveAll e.row.lkid s
+  pub owner : IsProcess e.owner e.row.pid s
+  pub parent : IsParentOf e.parent e.row s
+  pub keyed : IsKeyed e.site.domain e.site.key
 
 -- there is room for the lock, and for its resource where none is there
 pub record HasRoomToEnter (e : Entry) (s : Records) : Type 0 where

@@ -41,4 +41,4 @@ pub record IsReplaced (res : ℕ) (had left : StoredResource) (old new : Records
   pub same : but_service left ≡ but_service had
   pub resources : new.resources ≡ on_resource res (λ r. left) old.resources
   pub loose : new.loose ≡ old.loose
-  pub processes : map but_blocks new.processes ≡ map but_blocks old.processes
+  pub processes : OwnLocksStay old new

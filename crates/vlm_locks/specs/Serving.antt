@@ -1,5 +1,5 @@
 -- What the service of one resource leaves of the records.
-use Rattle.std.specs.Prelude.{◌≡◌, ℕ, Bool, false, [], map, Option, None, Some}
+use Rattle.std.specs.Prelude.{◌≡◌, ℕ, Bool, false, [], Option, None, Some}
 use Rattle.vlm_words.specs.declared.locks.Request.{Request}
 use Rattle.vlm_words.specs.declared.resources.Queue.{Queue}
 use Rattle.vlm_words.specs.declared.resources.Queue.TheVariants.{Granted, Conversion, Waiting}
@@ -9,7 +9,7 @@ use Rattle.vlm_words.specs.Grants.{Service, no_service, service_of_conversions, 
 use Rattle.vlm_words.specs.State.{Resource}
 use Rattle.vlm_words.specs.Sweeps.{blocks_after_service, resource_after_service}
 use Rattle.vlm_store.specs.Plain.{plain_processes, plain_resource}
-use Rattle.vlm_store.specs.Records.{Records, StoredResource, but_blocks, fits_beside, on_resource, resource_at}
+use Rattle.vlm_store.specs.Records.{Records, StoredResource, fits_beside, resource_at}
 use Rattle.vlm_locks.specs.Rest.{IsReplaced}
 use Rattle.vlm_locks.specs.Staying.{LocksStay}
 
@@ -40,15 +40,12 @@ service_from Granted r = no_service r
 service_from Conversion r = service_of_conversions r r.converting
 service_from Waiting r = service_of_waiting r r.waiting
 
--- of the resources only the one of this key changes, and of that its queues: it had these, and those are left; of the
--- processes only status blocks change
+-- the resource of this key was this one, and that one is in its place now, the same but for its queues; all else stays,
+-- but for status blocks
 pub record IsLeft (res : ℕ) (had left : StoredResource) (old new : Records) : Type 0 where
-  pub was : resource_at res old.resources ≡ Some had
+  pub replaced : IsReplaced res had left old new
   pub now : resource_at res new.resources ≡ Some left
   pub rest : but_queues left ≡ but_queues had
-  pub resources : new.resources ≡ on_resource res (λ r. left) old.resources
-  pub loose : new.loose ≡ old.loose
-  pub processes : map but_blocks new.processes ≡ map but_blocks old.processes
 
 -- a service of the resource of this key is done, but for its value block, which is kept beside the records: its ends took
 -- effect, from this value block and these records to those

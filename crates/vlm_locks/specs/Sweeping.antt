@@ -5,8 +5,8 @@ use Rattle.vlm_links.specs.Lists.{IsIn}
 use Rattle.vlm_words.specs.Settled.{IsSettled, unless_vacant}
 use Rattle.vlm_words.specs.Sweeps.{blocks_after_service, resource_after_service}
 use Rattle.vlm_store.specs.Plain.{plain_processes, plain_resource}
-use Rattle.vlm_store.specs.Records.{IsResourceAmong, Records, StoredResource, but_blocks}
-use Rattle.vlm_locks.specs.Rest.{but_service}
+use Rattle.vlm_store.specs.Records.{IsResourceAmong, Records, StoredResource}
+use Rattle.vlm_locks.specs.Rest.{OwnLocksStay, but_service}
 use Rattle.vlm_locks.specs.Staying.{LocksStayAmong}
 
 -- a resource of this key, with those made before and after it
@@ -40,4 +40,4 @@ pub record IsSwept (res : ℕ) (old new : Records) (was : Parted res old.resourc
   pub none_join : LocksStayAmong left (was.own ∷ [])
   pub statuses : plain_processes new ≡ (blocks_after_service (plain_processes old) (plain_resource was.own)).processes
   pub loose : new.loose ≡ old.loose
-  pub processes : map but_blocks new.processes ≡ map but_blocks old.processes
+  pub processes : OwnLocksStay old new

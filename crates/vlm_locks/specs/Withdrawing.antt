@@ -7,7 +7,8 @@ use Rattle.vlm_words.specs.Withdrawals.{is_writer}
 use Rattle.vlm_words.specs.State.{Resource}
 use Rattle.vlm_store.specs.Plain.{plain_processes, plain_resources}
 use Rattle.vlm_store.specs.Records.{HasResource, Records, StoredProcess, process_without_lock}
-use Rattle.vlm_locks.specs.Rest.{IsAtRest, OthersStay}
+use Rattle.vlm_locks.specs.declared.finding.Standing.{Standing}
+use Rattle.vlm_locks.specs.Rest.{IsAtRest, OtherLocksStay, OthersStay}
 
 -- a lock of this queue may write the value block as it goes: it holds PW or EX, granted or converting
 abbrev pub may_write : Queue → Row → Bool
@@ -36,3 +37,10 @@ pub record IsChange (res : ℕ) (change : Resource → Resource) (old new : Reco
 abbrev pub owned_after : Bool → ℕ → List StoredProcess → List StoredProcess
 owned_after false lock processes = processes
 owned_after true lock processes = map (process_without_lock lock) processes
+
+-- a part of a withdrawal is done: the lock's resource is changed, each other lock stays, and the lock is gone from those of
+-- its process, or stays too
+pub record IsPartDone (f : Standing) (change : Resource → Resource) (gone : Bool) (old new : Records) : Type 0 where
+  pub made : IsChange f.res change old new
+  pub locks : OtherLocksStay f.lock old new
+  pub own_locks : new.processes ≡ owned_after gone f.lock old.processes

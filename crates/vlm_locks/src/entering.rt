@@ -3,11 +3,9 @@
 ghost use Rattle.std.specs.Prelude.{◌≡◌, Some, IfOk, IfSome, IsOk, OnErr, OnOk};
 ghost use Rattle.vlm_words.specs.Enqueue.{is_at_once, resources_after_entry};
 ghost use Rattle.vlm_store.specs.Plain.{plain_processes, plain_resource, plain_resources};
-ghost use Rattle.vlm_store.specs.Records.{FindsResource, HasResource, HasRoomForLock, HasRoomForResource, IsNewKey, IsParentOf, IsProcess, IsUnchanged, SameButBlocks, StoredResource, resource_at};
-ghost use Rattle.vlm_locks.specs.Entering.{HasRoomToEnter, IsAdded, IsEntered, processes_accepted, processes_entered, resource_for};
-ghost use Rattle.vlm_words.specs.Resources.{IsKeyed};
+ghost use Rattle.vlm_store.specs.Records.{FindsResource, HasResource, HasRoomForLock, HasRoomForResource, IsNewKey, IsProcess, IsUnchanged, SameButBlocks, StoredResource, resource_at};
+ghost use Rattle.vlm_locks.specs.Entering.{HasRoomToEnter, IsAdded, IsEntered, MayEnter, processes_accepted, processes_entered, resource_for};
 ghost use Rattle.vlm_locks.specs.Rest.{IsAtRest, OthersStay};
-ghost use Rattle.vlm_locks.specs.Rising.{IsAboveAll};
 
 use crate::endings::end_by_grant;
 use crate::grants::granted_row;
@@ -55,12 +53,8 @@ pub struct Entry {
 // Takes a new lock in on a resource that is there: it holds what it wants where it is granted at once, else it
 // goes to the end of the waiting queue. Where memory is refused, nothing is changed but that there may be more room.
 fn enter_at(store: &mut Store, entry: &Entry, res: ResAt) -> Result<(), AllocError>
-    requires rest { IsAtRest store.old }
-    requires rising { IsAboveAll entry.now.row.lkid store.old }
-    requires owner { IsProcess entry.now.owner entry.now.row.pid store.old }
-    requires parent { IsParentOf entry.now.parent entry.now.row store.old }
+    requires may_enter { MayEnter entry.now store.old }
     requires found { FindsResource store.old entry.now.site.key (Some res) }
-    requires keyed { IsKeyed entry.now.site.domain entry.now.site.key }
     ensures entered { OnOk result (IsEntered entry.now res store.old store.new) }
     ensures succeeds { HasRoomForLock store.old → IsOk result }
     ensures err { OnErr result (IsUnchanged store.old store.new) }
@@ -81,12 +75,8 @@ fn enter_at(store: &mut Store, entry: &Entry, res: ResAt) -> Result<(), AllocErr
 // Takes a new lock in on a resource that is made for it, once there is room for the lock. Where memory is refused,
 // nothing is changed but that there may be more room.
 fn enter_new(store: &mut Store, entry: &Entry) -> Result<ResAt, AllocError>
-    requires rest { IsAtRest store.old }
-    requires rising { IsAboveAll entry.now.row.lkid store.old }
-    requires owner { IsProcess entry.now.owner entry.now.row.pid store.old }
-    requires parent { IsParentOf entry.now.parent entry.now.row store.old }
+    requires may_enter { MayEnter entry.now store.old }
     requires absent { IsNewKey entry.now.site.key store.old }
-    requires keyed { IsKeyed entry.now.site.domain entry.now.site.key }
     ensures entered { IfOk result (λ res. IsEntered entry.now res store.old store.new) }
     ensures succeeds { HasRoomForLock store.old → HasRoomForResource store.old → IsOk result }
     ensures err { OnErr result (IsUnchanged store.old store.new) }
@@ -100,12 +90,8 @@ fn enter_new(store: &mut Store, entry: &Entry) -> Result<ResAt, AllocError>
 // Takes a new lock in on the resource of its key, which is made if it is not there. Where there is no room and memory
 // is refused, nothing is changed but that there may be more room.
 fn take_in(store: &mut Store, entry: &Entry) -> Result<ResAt, AllocError>
-    requires rest { IsAtRest store.old }
-    requires rising { IsAboveAll entry.now.row.lkid store.old }
-    requires owner { IsProcess entry.now.owner entry.now.row.pid store.old }
-    requires parent { IsParentOf entry.now.parent entry.now.row store.old }
+    requires may_enter { MayEnter entry.now store.old }
     requires found { FindsResource store.old entry.now.site.key entry.now.res }
-    requires keyed { IsKeyed entry.now.site.domain entry.now.site.key }
     ensures entered { IfOk result (λ res. IsEntered entry.now res store.old store.new) }
     ensures succeeds { HasRoomToEnter entry.now store.old → IsOk result }
     ensures err { OnErr result (IsUnchanged store.old store.new) }
@@ -149,12 +135,8 @@ fn accept_entered(store: &mut Store, entry: &Entry, res: ResAt)
 /// end of the waiting queue. The status block of its request is that of a pending one, or tells of its grant. Where
 /// there is no room and memory is refused, nothing is changed but that there may be more room.
 pub fn enter(store: &mut Store, entry: &Entry) -> Result<ResAt, AllocError>
-    requires rest { IsAtRest store.old }
-    requires rising { IsAboveAll entry.now.row.lkid store.old }
-    requires owner { IsProcess entry.now.owner entry.now.row.pid store.old }
-    requires parent { IsParentOf entry.now.parent entry.now.row store.old }
+    requires may_enter { MayEnter entry.now store.old }
     requires found { FindsResource store.old entry.now.site.key entry.now.res }
-    requires keyed { IsKeyed entry.now.site.domain entry.now.site.key }
     ensures entered { OnOk result (plain_resources store.new
         ≡ resources_after_entry entry.now.serial entry.now.site entry.now.row entry.now.at_once
         (plain_resources store.old)) }

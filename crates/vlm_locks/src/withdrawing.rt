@@ -9,7 +9,7 @@ ghost use Rattle.vlm_store.specs.Records.{HasNoSublocks, HasResource, SameButBlo
 ghost use Rattle.vlm_locks.specs.Rest.{IsAtRest, OtherLocksStay, OthersStay};
 ghost use Rattle.vlm_locks.specs.Standing.{IsStanding};
 ghost use Rattle.vlm_locks.specs.Withdrawals.{how_ended, plain_withdrawal};
-ghost use Rattle.vlm_locks.specs.Withdrawing.{IsChange, goes, may_write, owned_after};
+ghost use Rattle.vlm_locks.specs.Withdrawing.{IsPartDone, goes, may_write, owned_after};
 
 use crate::finding::Standing;
 use crate::withdrawals::{End, Withdrawal};
@@ -92,11 +92,9 @@ fn leave(store: &mut Store, standing: &Standing, withdrawal: &Withdrawal)
     requires rest { IsAtRest store.old }
     requires standing { IsStanding standing.now store.old }
     requires named { withdrawal.now.lkid ≡ standing.now.row.lkid }
-    ensures left { IsChange standing.now.res
-        (resource_after_writer (plain_withdrawal withdrawal.now)) store.old store.new }
+    ensures left { IsPartDone standing.now (resource_after_writer (plain_withdrawal withdrawal.now))
+        false store.old store.new }
     ensures standing { IsStanding standing.now store.new }
-    ensures locks { OtherLocksStay standing.now.lock store.old store.new }
-    ensures own_locks { store.new.processes ≡ store.old.processes }
 {
     law_records_are_sound(store);
     if may_write(standing) {
@@ -110,11 +108,8 @@ fn remove(store: &mut Store, standing: &Standing)
     requires rest { IsAtRest store.old }
     requires standing { IsStanding standing.now store.old }
     requires childless { HasNoSublocks standing.now.lock store.old }
-    ensures removed { IsChange standing.now.res (resource_without standing.now.row.lkid)
+    ensures { IsPartDone standing.now (resource_without standing.now.row.lkid) true
         store.old store.new }
-    ensures locks { OtherLocksStay standing.now.lock store.old store.new }
-    ensures own_locks { store.new.processes
-        ≡ owned_after true standing.now.lock store.old.processes }
 {
     law_records_are_sound(store);
     store.remove_lock(standing.lock);
@@ -125,10 +120,8 @@ fn grant_again(store: &mut Store, standing: &Standing)
     requires rest { IsAtRest store.old }
     requires standing { IsStanding standing.now store.old }
     requires converting { standing.now.queue ≡ Queue.Conversion }
-    ensures granted { IsChange standing.now.res (resource_after_cancel standing.now.row.lkid)
+    ensures { IsPartDone standing.now (resource_after_cancel standing.now.row.lkid) false
         store.old store.new }
-    ensures locks { OtherLocksStay standing.now.lock store.old store.new }
-    ensures own_locks { store.new.processes ≡ store.old.processes }
 {
     law_records_are_sound(store);
     let row = Row {
@@ -148,11 +141,8 @@ fn cancel(store: &mut Store, standing: &Standing)
     requires standing { IsStanding standing.now store.old }
     requires childless { standing.now.queue ≡ Queue.Waiting
         → HasNoSublocks standing.now.lock store.old }
-    ensures cancelled { IsChange standing.now.res (resource_after_cancel standing.now.row.lkid)
-        store.old store.new }
-    ensures locks { OtherLocksStay standing.now.lock store.old store.new }
-    ensures own_locks { store.new.processes
-        ≡ owned_after (goes true standing.now.queue) standing.now.lock store.old.processes }
+    ensures { IsPartDone standing.now (resource_after_cancel standing.now.row.lkid)
+        (goes true standing.now.queue) store.old store.new }
 {
     law_records_are_sound(store);
     match standing.queue {

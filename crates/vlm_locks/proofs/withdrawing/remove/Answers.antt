@@ -14,17 +14,15 @@ remove_lock-requires-clause-stored c =
     let f = c.args.standing.now in
     (f.row, stored c.args.store.now f c.requires.standing)
 
-pub returns-clause-removed : goal.returns-clause-removed
-returns-clause-removed c =
+-- the lock alone is gone
+pub returns : goal.returns
+returns c =
     let s = c.args.store.now in
     let f = c.args.standing.now in
-    subst (IsChange f.res (resource_without f.row.lkid) s) (sym c.remove_lock.ensures.removed)
-    (changed_room f.res (resource_without f.row.lkid) s (without_stored_lock f.lock s) _ (removed s c.law_records_are_sound.ensures f c.requires.standing c.requires.rest))
-
-pub returns-clause-locks : goal.returns-clause-locks
-returns-clause-locks c =
-    let f = c.args.standing.now in
-    subst (OtherLocksStay f.lock c.args.store.now) (sym c.remove_lock.ensures.removed) (removed_alone f.lock _ c.args.store.now)
-
-pub returns-clause-own_locks : goal.returns-clause-own_locks
-returns-clause-own_locks c = ap (λ (s : Records). s.processes) c.remove_lock.ensures.removed
+    record {
+      made =
+          subst (IsChange f.res (resource_without f.row.lkid) s) (sym c.remove_lock.ensures.removed)
+          (changed_room f.res (resource_without f.row.lkid) s (without_stored_lock f.lock s) _ (removed s c.law_records_are_sound.ensures f c.requires.standing c.requires.rest));
+      locks = subst (OtherLocksStay f.lock s) (sym c.remove_lock.ensures.removed) (removed_alone f.lock _ s);
+      own_locks = ap (λ (x : Records). x.processes) c.remove_lock.ensures.removed;
+    }

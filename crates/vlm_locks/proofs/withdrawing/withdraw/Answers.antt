@@ -21,7 +21,7 @@ cancel-requires-clause-childless c =
     let none : HasNoSublocks f.lock c.end_withdrawn.new.store =
     no_sublocks_still c.args.store.now c.end_withdrawn.new.store c.end_withdrawn.ensures.rest.processes f.lock
     (c.requires.childless (ap (λ b. goes b f.queue) c.if-withdrawal.true ∙ ap (goes true) waits)) in
-    λ p own among here. none p own (subst (IsProcessAmong p) c.leave.ensures.own_locks among) here
+    λ p own among here. none p own (subst (IsProcessAmong p) c.leave.ensures.left.own_locks among) here
 
 pub remove-requires-clause-childless : goal.remove-requires-clause-childless
 remove-requires-clause-childless c =
@@ -29,21 +29,21 @@ remove-requires-clause-childless c =
     let none : HasNoSublocks f.lock c.end_withdrawn.new.store =
     no_sublocks_still c.args.store.now c.end_withdrawn.new.store c.end_withdrawn.ensures.rest.processes f.lock
     (c.requires.childless (ap (λ b. goes b f.queue) c.if-withdrawal.false)) in
-    λ p own among here. none p own (subst (IsProcessAmong p) c.leave.ensures.own_locks among) here
+    λ p own among here. none p own (subst (IsProcessAmong p) c.leave.ensures.left.own_locks among) here
 
 -- the lock stays
 pub returns-then-withdrawal-clause-resources : goal.returns-then-withdrawal-clause-resources
 returns-then-withdrawal-clause-resources c =
     let w = plain_withdrawal c.args.withdrawal.now in
     let lkid = c.args.standing.now.row.lkid in
-    c.cancel.ensures.cancelled.resources
-    ∙ ap (map (resource_after_cancel lkid)) c.leave.ensures.left.resources
+    c.cancel.ensures.made.resources
+    ∙ ap (map (resource_after_cancel lkid)) c.leave.ensures.left.made.resources
     ∙ left_staying w lkid c.requires.named c.if-withdrawal.true (plain_resources c.end_withdrawn.new.store)
     ∙ ap (λ rs. map (resource_after_withdrawals (w ∷ [])) (map plain_resource rs)) c.end_withdrawn.ensures.rest.resources
 
 pub returns-then-withdrawal-clause-others : goal.returns-then-withdrawal-clause-others
 returns-then-withdrawal-clause-others c =
-    stay_over c.args.standing.now.res c.end_withdrawn.new.store c.leave.new.store c.cancel.new.store c.leave.ensures.left.others c.cancel.ensures.cancelled.others
+    stay_over c.args.standing.now.res c.end_withdrawn.new.store c.leave.new.store c.cancel.new.store c.leave.ensures.left.made.others c.cancel.ensures.made.others
     ∙ ap (without_resource c.args.standing.now.res) c.end_withdrawn.ensures.rest.resources
 
 -- the lock goes
@@ -51,27 +51,27 @@ pub returns-else-withdrawal-clause-resources : goal.returns-else-withdrawal-clau
 returns-else-withdrawal-clause-resources c =
     let w = plain_withdrawal c.args.withdrawal.now in
     let lkid = c.args.standing.now.row.lkid in
-    c.remove.ensures.removed.resources
-    ∙ ap (map (resource_without lkid)) c.leave.ensures.left.resources
+    c.remove.ensures.made.resources
+    ∙ ap (map (resource_without lkid)) c.leave.ensures.left.made.resources
     ∙ left_without w lkid c.requires.named c.if-withdrawal.false (plain_resources c.end_withdrawn.new.store)
     ∙ ap (λ rs. map (resource_after_withdrawals (w ∷ [])) (map plain_resource rs)) c.end_withdrawn.ensures.rest.resources
 
 pub returns-else-withdrawal-clause-others : goal.returns-else-withdrawal-clause-others
 returns-else-withdrawal-clause-others c =
-    stay_over c.args.standing.now.res c.end_withdrawn.new.store c.leave.new.store c.remove.new.store c.leave.ensures.left.others c.remove.ensures.removed.others
+    stay_over c.args.standing.now.res c.end_withdrawn.new.store c.leave.new.store c.remove.new.store c.leave.ensures.left.made.others c.remove.ensures.made.others
     ∙ ap (without_resource c.args.standing.now.res) c.end_withdrawn.ensures.rest.resources
 
 -- what becomes of the process's own locks, and of those below the parent
 pub returns-then-withdrawal-clause-own_locks : goal.returns-then-withdrawal-clause-own_locks
 returns-then-withdrawal-clause-own_locks c =
     let f = c.args.standing.now in
-    ap (map but_blocks) (c.cancel.ensures.own_locks ∙ ap (owned_after (goes true f.queue) f.lock) c.leave.ensures.own_locks)
+    ap (map but_blocks) (c.cancel.ensures.own_locks ∙ ap (owned_after (goes true f.queue) f.lock) c.leave.ensures.left.own_locks)
     ∙ owned_alike (goes true f.queue) f.lock c.end_withdrawn.new.store.processes c.args.store.now.processes c.end_withdrawn.ensures.rest.processes
     ∙ ap (λ stays. map but_blocks (owned_after (goes stays f.queue) f.lock c.args.store.now.processes)) (sym c.if-withdrawal.true)
 
 pub returns-else-withdrawal-clause-own_locks : goal.returns-else-withdrawal-clause-own_locks
 returns-else-withdrawal-clause-own_locks c =
     let f = c.args.standing.now in
-    ap (map but_blocks) (c.remove.ensures.own_locks ∙ ap (owned_after true f.lock) c.leave.ensures.own_locks)
+    ap (map but_blocks) (c.remove.ensures.own_locks ∙ ap (owned_after true f.lock) c.leave.ensures.left.own_locks)
     ∙ owned_alike true f.lock c.end_withdrawn.new.store.processes c.args.store.now.processes c.end_withdrawn.ensures.rest.processes
     ∙ ap (λ stays. map but_blocks (owned_after (goes stays f.queue) f.lock c.args.store.now.processes)) (sym c.if-withdrawal.false)

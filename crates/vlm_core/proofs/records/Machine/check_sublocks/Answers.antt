@@ -30,7 +30,7 @@ returns-else-not-cancels-clause-refusal c =
     let none_loose : m.records.loose ≡ [] = rw (← c.self.view_is) c.self.invariant.rest.none_loose in
     elim c.else-not-cancels.branch [
       | else-not-cancels-via-then-not-cancels+else-has_sublocks w ↦
-          sublocks_pass m sound none_loose f c.requires.standing c.args.cancels c.requires.between.no_lkid_0
+          sublocks_pass m sound none_loose f c.requires.standing c.args.cancels c.requires.between.identifications.none_is_0
           (subst (λ (k : Kept). HasNoSublocks f.lock k.records) c.self.view_is w.if-has_sublocks.ensures.none)
       | else-not-cancels-via-else-not-cancels w ↦
           cancel_passes_sublocks m sound none_loose f c.requires.standing c.args.cancels w.if-not-cancels.false
@@ -48,7 +48,7 @@ returns-else-not-cancels-clause-childless c =
           λ _. subst (λ (k : Kept). HasNoSublocks f.lock k.records) c.self.view_is w.if-has_sublocks.ensures.none
       | else-not-cancels-via-else-not-cancels w ↦
           λ takes.
-          waiting_childless m.records sound none_loose f c.requires.standing c.requires.between.no_lkid_0
+          waiting_childless m.records sound none_loose f c.requires.standing c.requires.between.identifications.none_is_0
           (by_recursion (plain_resources m.records) c.requires.between.parents)
           (goes_waiting f.queue (sym (ap (λ b. goes b f.queue) w.if-not-cancels.false) ∙ takes))
     ]

@@ -9,14 +9,20 @@ use Rattle.vlm_core.proofs.Stayed.{rests_refused}
 use Rattle.vlm_core.proofs.ToCome.{above_all}
 use Rattle.vlm_core.proofs.records.Machine.enq_change.Goals as goal
 
--- the identification is to come
-pub enter-requires-clause-rising : goal.enter-requires-clause-rising
-enter-requires-clause-rising c =
+-- the identification is to come, and the rest was looked up
+pub enter-requires-clause-may_enter : goal.enter-requires-clause-may_enter
+enter-requires-clause-may_enter c =
     let between = subst (λ (m : Kept). IsBetweenSteps (plain_state m)) (sym c.self.view_is) c.requires.between in
     let admitted = subst (λ (m : Kept). IsAdmitted m c.args.request.now c.args.admitted.now) (sym c.self.view_is) c.requires.admitted in
     let row = c.args.admitted.now.entry.row in
     let lkid : row.lkid ≡ c.self.inside.last_lkid + 1 = ap (λ (r : Row). r.lkid) admitted.entry.row in
-    above_all c.self.inside.store row.lkid c.self.invariant.rest.none_loose (λ other from. between.lkids_to_come other (omega (arith, lkid, from)))
+    record {
+      rest = c.self.invariant.rest;
+      rising = above_all c.self.inside.store row.lkid c.self.invariant.rest.none_loose (λ other from. between.identifications.none_to_come other (omega (arith, lkid, from)));
+      owner = admitted.entry.owner;
+      parent = admitted.entry.parent;
+      keyed = admitted.entry.keyed;
+    }
 
 -- where memory is refused it is as it was
 pub invariant_of-self : goal.invariant_of-self

@@ -9,9 +9,9 @@ use Rattle.vlm_words.specs.State.{Resource}
 use Rattle.vlm_words.specs.Trees.{enq_site, parent_resource, root_domain, site_below}
 use Rattle.vlm_store.specs.Plain.{plain_resources}
 use Rattle.vlm_store.specs.Records.{IsParentOf, IsProcess}
-use Rattle.vlm_core.specs.Admissions.{IsCaller, IsForm}
+use Rattle.vlm_core.specs.Admissions.{IsAskedBy}
 use Rattle.vlm_core.specs.Machine.{Kept, kept, plain_state}
-use Rattle.vlm_core.specs.Parents.{IsParent, lkid_of}
+use Rattle.vlm_core.specs.Parents.{lkid_of}
 use Rattle.vlm_core.proofs.Siting.{parent_of_row, site_is}
 use Rattle.vlm_core.proofs.records.Machine.entry.Goals as goal
 
@@ -21,23 +21,24 @@ returns c =
     let e = c.args.request.now in
     let m = kept c.self.inside in
     let site = c.site_of-site.result in
-    let form = subst (λ (k : Kept). IsForm (plain_state k) e c.args.form.now) (sym c.self.view_is) c.requires.form in
+    let said = subst (λ (k : Kept). IsAskedBy k e c.args.caller.now c.args.form.now c.args.parent.now) (sym c.self.view_is) c.requires.asked in
+    let form = said.says in
     let found : Site → Resource = λ x. unwrap_or (find (is_at x.key) (plain_resources c.self.inside.store)) (new_resource m.next_serial x) in
     let site_told = subst
     (λ (k : Kept). site ≡ site_below (root_domain (plain_state k) c.args.caller.now.pid (flag_bits c.args.form.now.flags)) c.args.form.now.name
     (parent_resource (plain_state k) c.args.caller.now.pid (lkid_of c.args.parent.now))) (sym c.self.view_is) c.site_of-site.ensures.site in
-    let site_same : site ≡ enq_site (plain_state m) e = site_told ∙ site_is (plain_state m) e c.args.form.now c.args.caller.now.pid (lkid_of c.args.parent.now) form c.requires.pid c.requires.named in
+    let site_same : site ≡ enq_site (plain_state m) e = site_told ∙ site_is (plain_state m) e c.args.form.now c.args.caller.now.pid (lkid_of c.args.parent.now) form said.pid said.named in
     let asked : c.request_of-asked.result ≡ enq_request (plain_state m) e = search rules in
-    let caller = subst (λ (k : Kept). IsCaller c.args.caller.now k.records) (sym c.self.view_is) c.requires.caller in
-    let parent = subst (λ (k : Kept). IsParent c.args.caller.now.pid c.args.parent.now k.records) (sym c.self.view_is) c.requires.parent in
+    let caller = said.living in
+    let parent = said.stands in
     let row = c.row_of.result in
     let owner : row.pid ≡ c.args.caller.now.pid = ap (λ (r : Row). r.pid) c.row_of.ensures in
-    let named : row.parent ≡ lkid_of c.args.parent.now = ap (λ (r : Row). r.parent) c.row_of.ensures ∙ sym c.requires.named in
+    let named : row.parent ≡ lkid_of c.args.parent.now = ap (λ (r : Row). r.parent) c.row_of.ensures ∙ sym said.named in
     rw (← c.self.view_is)
     (record {
       row =
           c.row_of.ensures
-          ∙ ap (λ pid. record (enq_row (plain_state m) e) { pid = pid; parent = c.args.form.now.parent; want = Some c.request_of-asked.result }) c.requires.pid
+          ∙ ap (λ pid. record (enq_row (plain_state m) e) { pid = pid; parent = c.args.form.now.parent; want = Some c.request_of-asked.result }) said.pid
           ∙ ap (λ lkid. record (enq_row (plain_state m) e) { parent = lkid; want = Some c.request_of-asked.result }) form.parent
           ∙ ap (λ q. record (enq_row (plain_state m) e) { want = Some q }) asked;
       owner = subst (λ pid. IsProcess c.args.caller.now.at pid c.self.inside.store) (sym owner) caller.lives;
