@@ -21,6 +21,7 @@ mod readers;
 mod records;
 mod running;
 mod setting;
+mod taking;
 
 pub use public::Core;
 pub use running::{Stopped, run_steps};

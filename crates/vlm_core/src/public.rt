@@ -114,6 +114,15 @@ impl Core {
         self.step(Step::SetValue(setting))
     }
 
+    /// Takes the AST that was queued to the process first, of those that are pending (this project's own). It
+    /// takes no memory and answers the AST, or none where none is pending. Refused by DEPARTED, NONEXPR.
+    pub fn take(&mut self, pid: u32) -> Answer
+        ensures state { self.new ≡ (stepped self.old (Step.Take pid) None).state }
+        ensures answer { result ≡ (stepped self.old (Step.Take pid) None).answer }
+    {
+        self.step(Step::Take(pid))
+    }
+
     /// Asks for a new lock ($ENQ): below the resource of a parent lock of the caller, or on a root in its
     /// group, or with SYSTEM in the system's domain. It answers NORMAL, or SYNCH where it is granted at
     /// once with SYNCSTS. With VALBLK its grant returns the resource's value block. Refused by DEPARTED,

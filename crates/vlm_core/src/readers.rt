@@ -3,12 +3,13 @@
 
 ghost use Rattle.std.specs.Prelude.{◌≡◌, length, slice_get};
 ghost use Rattle.std.specs.Option.{option_map};
+ghost use Rattle.vlm_words.specs.State.{process_of};
 ghost use Rattle.vlm_words.specs.StatusBlocks.{status_block_at};
 ghost use Rattle.vlm_queue.specs.Views.{resource_view, row_shown};
 
 use crate::processes::living;
 use crate::public::Core;
-use vlm_procs::status_block;
+use vlm_procs::{pending, status_block};
 use vlm_queue::{ResourceView, RowView, resource_at, row_at};
 use vlm_words::blocks::Block;
 use vlm_words::resources::Queue;
@@ -22,6 +23,15 @@ impl Core {
     {
         let caller = living(&self.machine.store, pid)?;
         status_block(&self.machine.store, caller.at, number)
+    }
+
+    /// How many ASTs are queued to a process and not yet taken. None where no living process has the
+    /// identification.
+    pub fn pending(&self, pid: u32) -> Option<usize>
+        ensures { result ≡ option_map (λ p. length p.asts) (process_of self.now.processes pid) }
+    {
+        let caller = living(&self.machine.store, pid)?;
+        Some(pending(&self.machine.store, caller.at))
     }
 
     /// How many resources have locks.

@@ -67,9 +67,8 @@ impl Machine {
             Step::Enq(request) => self.enq(request),
             Step::Convert(conversion) => self.convert(conversion),
             Step::Deq(dequeue) => self.deq(dequeue),
-            Step::Rundown(_) | Step::Leave(_) | Step::Search(_) | Step::Take(_) => {
-                Answer::Plain(Cond::Badparam)
-            }
+            Step::Take(pid) => self.take(pid),
+            Step::Rundown(_) | Step::Leave(_) | Step::Search(_) => Answer::Plain(Cond::Badparam),
         }
     }
 

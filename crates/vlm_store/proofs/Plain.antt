@@ -54,8 +54,8 @@ pub process_of-none : (pid : ℕ) (ps : List StoredProcess) → ((p : StoredProc
 process_of-none pid [] absent = refl
 process_of-none pid (x ∷ ps) absent = rw (ne_eqb x.process.pid pid (absent x (inl refl))) (process_of-none pid ps (λ p there. absent p (inr there)))
 
--- a change that writes status blocks alone
-pub but_blocks-on_process : (at : ℕ) (change : Process → Process) → ((p : Process) → record (change p) { blocks = [] } ≡ record p { blocks = [] }) → (ps : List StoredProcess)
+-- a change of status blocks and ASTs alone
+pub but_blocks-on_process : (at : ℕ) (change : Process → Process) → ((p : Process) → record (change p) { blocks = []; asts = [] } ≡ record p { blocks = []; asts = [] }) → (ps : List StoredProcess)
     → map but_blocks (on_process at change ps) ≡ map but_blocks ps
 but_blocks-on_process at change same [] = refl
 but_blocks-on_process at change same (x ∷ ps) =

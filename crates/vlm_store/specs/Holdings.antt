@@ -77,11 +77,11 @@ named_lock l = but_kin (but_queued l)
 
 -- what the record of a process tells
 abbrev pub plain_process : Process → PlainProcess
-plain_process p = record { pid = p.pid; group = p.authorization.group; syslck = p.authorization.syslck; quota = p.authorization.quota; blocks = p.blocks.items }
+plain_process p = record { pid = p.pid; group = p.authorization.group; syslck = p.authorization.syslck; quota = p.authorization.quota; blocks = p.blocks.items; asts = p.asts.pending }
 
 -- what is told of a process that is not there
 abbrev pub no_process : PlainProcess
-no_process = record { pid = 0; group = 0; syslck = false; quota = 0; blocks = [] }
+no_process = record { pid = 0; group = 0; syslck = false; quota = 0; blocks = []; asts = [] }
 
 -- what stands under a key, or what is told of nothing
 abbrev pub plain_in : Option Process → PlainProcess

@@ -397,11 +397,11 @@ owned_by pid s = sum_by (owned_on pid) s.resources + owned_among pid s.loose
 abbrev pub HasNoLocks : ℕ → Records → Type 0
 HasNoLocks at s = own_at at s ≡ []
 
--- a process but for its status blocks
+-- a process but for what it is told in: its status blocks and its ASTs
 abbrev pub but_blocks : StoredProcess → StoredProcess
-but_blocks p = record p { process = record p.process { blocks = [] } }
+but_blocks p = record p { process = record p.process { blocks = []; asts = [] } }
 
--- status blocks are written, and nothing else
+-- status blocks are written, ASTs are queued or taken, and nothing else
 pub record SameButBlocks (old new : Records) : Type 0 where
   pub resources : new.resources ≡ old.resources
   pub loose : new.loose ≡ old.loose

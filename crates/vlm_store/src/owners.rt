@@ -2,6 +2,7 @@
 
 ghost use Rattle.std.specs.Prelude.{◌≡◌, ℕ, [], ◌∷◌, ◌++◌, length, replicate, IfOk, IfSome, IsOk, OnErr, OnOk};
 ghost use Rattle.std.specs.Bool.{OnFalse, OnTrue};
+ghost use Rattle.vlm_words.specs.Asts.{oldest, without_oldest_ast};
 ghost use Rattle.vlm_words.specs.Declare.{new_process};
 ghost use Rattle.vlm_words.specs.StatusBlocks.{new_status_block, process_with_block};
 ghost use Rattle.vlm_store.specs.Records.{FindsProcess, HasNoLocks, HasNoSublocks, HasProcess, HasRoomForProcess, IsGivenBack, IsNewProcess, IsProcess, IsSound, IsStored, IsTaken, IsUnchanged, authorization_of, new_stored_process, on_process, own_at, owned_by, process_at, with_process_room, without_process};
@@ -11,6 +12,7 @@ use crate::keys::{LockAt, ProcAt};
 use crate::processes::{Process, enter, leave};
 use crate::store::Store;
 use std::alloc::AllocError;
+use vlm_words::asts::Ast;
 use vlm_words::blocks::Block;
 use vlm_words::steps::Declaration;
 
@@ -71,13 +73,15 @@ impl Store {
         self.process_index.swap_remove(&pid);
     }
 
-    /// The record of a process: what it may do, and its status blocks, of which block n stands at n - 1.
+    /// The record of a process: what it may do, its status blocks, of which block n stands at n - 1, and its ASTs.
     pub fn process_record(&self, at: ProcAt) -> &Process
         requires { HasProcess at self.now }
         ensures authorization { IfSome (process_at at self.now.processes)
             (λ p. result.now.authorization ≡ authorization_of p.process) }
         ensures blocks { IfSome (process_at at self.now.processes)
             (λ p. result.now.blocks.items ≡ p.process.blocks) }
+        ensures asts { IfSome (process_at at self.now.processes)
+            (λ p. result.now.asts.pending ≡ p.process.asts) }
         ensures sound { IsSound self.now }
     {
         &self.processes[at.slot()]
@@ -91,6 +95,18 @@ impl Store {
         } }
     {
         self.processes[at.slot()].put_status_block(number, block);
+    }
+
+    /// Takes the oldest AST of a process, if there is one.
+    pub fn take_ast(&mut self, at: ProcAt) -> Option<Ast>
+        requires { HasProcess at self.old }
+        ensures taken { IfSome (process_at at self.old.processes)
+            (λ p. result ≡ oldest p.process.asts) }
+        ensures left { self.new ≡ record self.old {
+          processes = on_process at without_oldest_ast self.old.processes;
+        } }
+    {
+        self.processes[at.slot()].take_ast()
     }
 
     /// How many locks a process has, in whichever queue.

@@ -4,6 +4,7 @@ ghost use Rattle.std.specs.Prelude.{◌≡◌, ◌≢◌, ◌≤◌, ◌+◌, �
 ghost use Rattle.std.specs.Option.{option_map};
 ghost use Rattle.slab.specs.Slab.{get, HasRoomFor};
 ghost use Rattle.vlm_links.specs.Lists.{IsIn, IsLinked, IsNoList, keys_of, without};
+ghost use Rattle.vlm_words.specs.Asts.{oldest, without_oldest_ast};
 ghost use Rattle.vlm_words.specs.Declare.{new_process};
 ghost use Rattle.vlm_words.specs.StatusBlocks.{process_with_block};
 ghost use Rattle.vlm_store.specs.Holdings.{but_order, plain_process, process_links};
@@ -12,7 +13,9 @@ ghost use Rattle.vlm_store.specs.Shown.{room_in};
 use crate::locks::OfProcess;
 use crate::resources::InOrder;
 use slab::Slab;
+use vlm_asts::AstQueue;
 use vlm_links::{LAST_KEY, Linked, LinkedList, Links};
+use vlm_words::asts::Ast;
 use vlm_words::blocks::Block;
 use vlm_words::steps::Declaration;
 
@@ -35,6 +38,8 @@ pub struct Process {
     pub authorization: Authorization,
     /// Its status blocks: block n stands at n - 1.
     pub blocks: Vec<Block>,
+    /// The ASTs that are queued to it and not yet taken.
+    pub asts: AstQueue,
     pub(crate) own: LinkedList<OfProcess>,
     // the processes declared before and after it
     pub(crate) in_order: Links,
@@ -55,6 +60,7 @@ impl Process {
                 syslck: declaration.syslck,
             },
             blocks,
+            asts: AstQueue::new(),
             own: LinkedList::new(),
             in_order: Links::none(),
         }
@@ -73,6 +79,16 @@ impl Process {
         if let Some(old) = self.blocks.get_mut(index) {
             *old = block;
         }
+    }
+
+    /// Takes its oldest AST, if there is one.
+    pub(crate) fn take_ast(&mut self) -> Option<Ast>
+        ensures taken { result ≡ oldest (plain_process self.old).asts }
+        ensures plain { plain_process self.new ≡ without_oldest_ast (plain_process self.old) }
+        ensures own { self.new.own ≡ self.old.own }
+        ensures order { self.new.in_order ≡ self.old.in_order }
+    {
+        self.asts.take()
     }
 }
 

@@ -16,9 +16,13 @@ oldest asts = slice_get asts 0
 abbrev pub later : List Ast → List Ast
 later asts = drop 1 asts
 
+-- the process once its oldest AST is taken
+abbrev pub without_oldest_ast : Process → Process
+without_oldest_ast p = record p { asts = later p.asts }
+
 -- the process once its oldest AST is taken, if it has this identification
 unfoldable pub process_after_take : ℕ → Process → Process
-process_after_take pid p = if p.pid == pid then record p { asts = later p.asts } else p
+process_after_take pid p = if p.pid == pid then without_oldest_ast p else p
 
 -- the oldest AST of the process with this identification is taken, and no other process is changed
 abbrev pub processes_after_take : ℕ → List Process → List Process

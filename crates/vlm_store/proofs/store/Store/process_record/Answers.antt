@@ -17,5 +17,10 @@ returns-clause-blocks c =
     rw (← c.self.view_is, process_is c.self.inside c.self.invariant c.args.at (rw (← c.self.view_is) at c.requires))
     (sym (ap (λ slot. (plain_in slot).blocks) (rw c.slot.ensures at c.index.ensures)))
 
+pub returns-clause-asts : goal.returns-clause-asts
+returns-clause-asts c =
+    rw (← c.self.view_is, process_is c.self.inside c.self.invariant c.args.at (rw (← c.self.view_is) at c.requires))
+    (sym (ap (λ slot. (plain_in slot).asts) (rw c.slot.ensures at c.index.ensures)))
+
 pub returns-clause-sound : goal.returns-clause-sound
 returns-clause-sound c = rw (← c.self.view_is) (is_sound c.self.inside c.self.invariant)

@@ -1,0 +1,58 @@
+-- A process is rewritten, but for its identification, its locks and its place in the order.
+use Rattle.std.proofs.Common.{◌≡◌, ◌∙◌, ℕ, Some, ap, sym, refl, nat_eq}
+use Rattle.slab.specs.Slab.{get}
+use Rattle.indexmap.specs.IndexMap.{get as found, spare}
+use Rattle.vlm_words.specs.State.{Process as PlainProcess}
+use Rattle.vlm_store.specs.declared.processes.Process.{Process}
+use Rattle.vlm_store.specs.declared.store.Store.TheInside.{Inside}
+use Rattle.vlm_store.specs.Holdings.{holding, pid_at, plain_in, plain_process}
+use Rattle.vlm_store.specs.Kept.{IsKept, beside_shown, records_shown, rooms_shown}
+use Rattle.vlm_store.specs.Records.{on_process}
+use Rattle.vlm_store.specs.Store.{tables}
+use Rattle.vlm_store.proofs.Declaring.{process_named, process_own_keys, process_owned, rewritten, written_keys, written_linked, written_others, written_owns, written_pids, written_plain, written_whole}
+use Rattle.vlm_store.proofs.Indexing.{Indexes-same}
+use Rattle.vlm_store.proofs.Kinship.{processes_changed}
+use Rattle.vlm_store.proofs.Members.{process_written}
+use Rattle.vlm_store.proofs.Rooms.{room_written}
+use Rattle.vlm_store.proofs.RoomShown.{room_shown, room_of_same}
+
+module _ (s : Inside) (kept : IsKept s) (at : ℕ) (was now : Process) (here : get s.processes at ≡ Some was) (own : now.own ≡ was.own) (order : now.in_order ≡ was.in_order)
+    (pid : now.pid ≡ was.pid) where
+  -- the store keeps what it kept
+  pub rewritten_kept : IsKept (record s { processes = rewritten s.processes at was now here own order pid })
+  rewritten_kept =
+      let owns = written_owns s.processes at was now here own order pid in
+      let pids = written_pids s.processes at was now here own order pid in
+      let processes = rewritten s.processes at was now here own order pid in
+      record {
+        placed = kept.placed;
+        tallied = kept.tallied;
+        linked = kept.linked;
+        ordered = kept.ordered;
+        locks = kept.locks;
+        resources = kept.resources;
+        owned = process_owned s.processes processes s.queues.locks owns kept.owned;
+        below = kept.below;
+        named = process_named s.processes processes s.queues.locks (λ k l _. pids l.owner) kept.named;
+        processes_linked = written_linked s.processes at was now here own order pid s.process_order kept.processes_linked;
+        processes_ordered = written_whole s.processes at was now here own order pid s.process_order kept.processes_linked kept.processes_ordered;
+        processes = Indexes-same (found nat_eq s.process_index) (found nat_eq s.process_index) (pid_at s.processes) (pid_at processes) (λ k. refl) pids kept.processes;
+      }
+
+  -- and shows the process changed
+  pub rewritten_shown : (change : PlainProcess → PlainProcess) → plain_process now ≡ change (plain_process was)
+      → records_shown (record s { processes = rewritten s.processes at was now here own order pid })
+      ≡ record (records_shown s) { processes = on_process at change (records_shown s).processes }
+  rewritten_shown change is =
+      let owns = written_owns s.processes at was now here own order pid in
+      let processes = rewritten s.processes at was now here own order pid in
+      let plain : plain_in (get processes at) ≡ change (plain_in (get s.processes at)) =
+      written_plain s.processes at was now here own order pid ∙ is ∙ ap (λ slot. change (plain_in slot)) (sym here) in
+      processes_changed s.queues s.order (beside_shown s) (beside_shown (record s { processes = processes })) (on_process at change)
+      (process_written (holding s.processes s.queues.locks s.process_order) (holding processes s.queues.locks s.process_order) (λ k. refl) at change plain
+      (written_others s.processes at was now here own order pid) (process_own_keys s.processes processes s.queues.locks owns)
+      (written_keys s.processes at was now here own order pid s.process_order kept.processes_linked))
+      ∙ ap (λ r. record (records_shown s) { processes = on_process at change (records_shown s).processes; room = r })
+      (room_shown (λ a b. b ≡ a) (tables s.queues s.order (beside_shown s)) (tables s.queues s.order (beside_shown (record s { processes = processes })))
+      (ap (λ p. record (rooms_shown s) { processes = p })
+      (room_of_same s.processes processes (spare s.process_index) (room_written s.processes at now (rw here refl)))))
