@@ -3,7 +3,7 @@ use Rattle.std.specs.Prelude.{◌≡◌, ℕ, [], map, Some}
 use Rattle.vlm_words.specs.Resources.{IsKeyed}
 use Rattle.vlm_words.specs.ValueBlocks.{new_value_block}
 use Rattle.vlm_store.specs.declared.keys.Place.{Place}
-use Rattle.vlm_store.specs.Records.{IsProcessAmong, IsResourceAmong, Records, StoredProcess, StoredResource, but_blocks, locks_at, on_resource, resource_at, without_lock, without_resource}
+use Rattle.vlm_store.specs.Records.{HasResource, IsProcessAmong, IsResourceAmong, Records, StoredProcess, StoredResource, but_blocks, locks_at, on_resource, resource_at, without_lock, without_resource}
 use Rattle.vlm_locks.specs.Rising.{HasRisingLocks}
 
 -- between two steps each lock stands in a queue, each resource is in the domain of its key, and the locks of a process
@@ -24,6 +24,14 @@ OtherLocksStay lock old new = (place : Place) → without_lock lock (locks_at pl
 -- each process has the own locks that it had, and each of these the locks below it
 abbrev pub OwnLocksStay : Records → Records → Type 0
 OwnLocksStay old new = map but_blocks new.processes ≡ map but_blocks old.processes
+
+-- a change of one lock on its resource leaves the others: every other resource and every other lock is as it was, the
+-- resource is there still, and all is as it is between two steps
+pub record LeavesOthers (res lock : ℕ) (old new : Records) : Type 0 where
+  pub others : OthersStay res old new
+  pub locks : OtherLocksStay lock old new
+  pub there : HasResource res new
+  pub rest : IsAtRest new
 
 -- a resource but for its queues and its value block
 abbrev pub but_service : StoredResource → StoredResource

@@ -6,9 +6,9 @@ ghost use Rattle.vlm_words.specs.Convert.{converts_at_once, wanting_row};
 ghost use Rattle.vlm_words.specs.Grants.{fits};
 ghost use Rattle.vlm_words.specs.Rows.{rows_without};
 ghost use Rattle.vlm_store.specs.Plain.{plain_processes, plain_resource};
-ghost use Rattle.vlm_store.specs.Records.{HasResource, IsSameLock, StoredResource, resource_at, rows_of};
+ghost use Rattle.vlm_store.specs.Records.{IsSameLock, StoredResource, resource_at, rows_of};
 ghost use Rattle.vlm_locks.specs.Converting.{IsConverted, IsGrantedAtOnce, moved_in, processes_accepted};
-ghost use Rattle.vlm_locks.specs.Rest.{IsAtRest, IsReplaced, OtherLocksStay, OthersStay, OwnLocksStay};
+ghost use Rattle.vlm_locks.specs.Rest.{IsAtRest, IsReplaced, LeavesOthers, OtherLocksStay, OwnLocksStay};
 ghost use Rattle.vlm_locks.specs.Standing.{IsStanding};
 
 use crate::endings::end_by_grant;
@@ -101,11 +101,8 @@ fn convert_accepted(store: &mut Store, standing: &Standing, asked: &Request, at_
     ensures converted { IfSome (resource_at standing.now.res store.old.resources)
         (λ r. IsConverted standing.now asked.now (plain_processes store.old) r
         store.old store.new) }
-    ensures others { OthersStay standing.now.res store.old store.new }
-    ensures locks { OtherLocksStay standing.now.lock store.old store.new }
+    ensures beside { LeavesOthers standing.now.res standing.now.lock store.old store.new }
     ensures own_locks { OwnLocksStay store.old store.new }
-    ensures there { HasResource standing.now.res store.new }
-    ensures rest { IsAtRest store.new }
 {
     law_records_are_sound(store);
     let row = wanting_row(standing.row, asked);
@@ -128,11 +125,8 @@ pub fn convert(store: &mut Store, standing: &Standing, asked: &Request, at_once:
     ensures converted { IfSome (resource_at standing.now.res store.old.resources)
         (λ r. IsConverted standing.now asked.now
         (processes_accepted standing.now asked.now store.old) r store.old store.new) }
-    ensures others { OthersStay standing.now.res store.old store.new }
-    ensures locks { OtherLocksStay standing.now.lock store.old store.new }
+    ensures beside { LeavesOthers standing.now.res standing.now.lock store.old store.new }
     ensures own_locks { OwnLocksStay store.old store.new }
-    ensures there { HasResource standing.now.res store.new }
-    ensures rest { IsAtRest store.new }
 {
     let owner = store.lock_record(standing.lock).owner;
     accept(store, owner, asked.block, standing.row.lkid);

@@ -5,8 +5,8 @@ ghost use Rattle.vlm_words.specs.Withdrawals.{is_writer, processes_after, resour
 ghost use Rattle.vlm_words.specs.Endings.{row_endings};
 ghost use Rattle.vlm_words.specs.declared.resources.Queue.{Queue};
 ghost use Rattle.vlm_store.specs.Plain.{plain_processes, plain_resources};
-ghost use Rattle.vlm_store.specs.Records.{HasNoSublocks, HasResource, SameButBlocks, but_blocks};
-ghost use Rattle.vlm_locks.specs.Rest.{IsAtRest, OtherLocksStay, OthersStay};
+ghost use Rattle.vlm_store.specs.Records.{HasNoSublocks, SameButBlocks, but_blocks};
+ghost use Rattle.vlm_locks.specs.Rest.{IsAtRest, LeavesOthers};
 ghost use Rattle.vlm_locks.specs.Standing.{IsStanding};
 ghost use Rattle.vlm_locks.specs.Withdrawals.{how_ended, plain_withdrawal};
 ghost use Rattle.vlm_locks.specs.Withdrawing.{IsPartDone, goes, may_write, owned_after};
@@ -170,13 +170,10 @@ pub fn withdraw(store: &mut Store, standing: &Standing, withdrawal: &Withdrawal)
         (flat_map (withdrawal_endings (plain_withdrawal withdrawal.now))
         (plain_resources store.old))
         (plain_processes store.old) }
-    ensures others { OthersStay standing.now.res store.old store.new }
-    ensures locks { OtherLocksStay standing.now.lock store.old store.new }
+    ensures beside { LeavesOthers standing.now.res standing.now.lock store.old store.new }
     ensures own_locks { map but_blocks store.new.processes ≡ map but_blocks
         (owned_after (goes withdrawal.now.stays standing.now.queue) standing.now.lock
         store.old.processes) }
-    ensures there { HasResource standing.now.res store.new }
-    ensures rest { IsAtRest store.new }
 {
     end_withdrawn(store, standing, withdrawal);
     leave(store, standing, withdrawal);

@@ -40,14 +40,16 @@ returns-clause-converted c =
     owner_is s c.lock_record.result.now.owner c.lock_record.result.now.row f.row (c.lock_record.ensures.only f.row (stored s f c.requires.standing)) c.lock_record.ensures.owner in
     converted_accepted f c.args.asked.now s c.accept.new.store c.convert_accepted.new.store c.accept.ensures.rest (c.accept.ensures.written f.row.pid lives) c.convert_accepted.ensures.converted
 
-pub returns-clause-others : goal.returns-clause-others
-returns-clause-others c = c.convert_accepted.ensures.others ∙ ap (without_resource c.args.standing.now.res) c.accept.ensures.rest.resources
-
-pub returns-clause-locks : goal.returns-clause-locks
-returns-clause-locks c =
-    let lock = c.args.standing.now.lock in
-    locks_stay_over lock c.args.store.now c.accept.new.store c.convert_accepted.new.store (statuses_alone lock c.args.store.now c.accept.new.store c.accept.ensures.rest)
-    c.convert_accepted.ensures.locks
+pub returns-clause-beside : goal.returns-clause-beside
+returns-clause-beside c =
+    let f = c.args.standing.now in
+    let beside = c.convert_accepted.ensures.beside in
+    record {
+      others = beside.others ∙ ap (without_resource f.res) c.accept.ensures.rest.resources;
+      locks = locks_stay_over f.lock c.args.store.now c.accept.new.store c.convert_accepted.new.store (statuses_alone f.lock c.args.store.now c.accept.new.store c.accept.ensures.rest) beside.locks;
+      there = beside.there;
+      rest = beside.rest;
+    }
 
 pub returns-clause-own_locks : goal.returns-clause-own_locks
 returns-clause-own_locks c = c.convert_accepted.ensures.own_locks ∙ c.accept.ensures.rest.processes

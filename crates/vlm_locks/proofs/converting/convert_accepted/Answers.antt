@@ -1,5 +1,5 @@
 use Rattle.vlm_store.specs.Plain.{plain_processes, plain_resource}
-use Rattle.vlm_store.specs.Records.{IsSameLock}
+use Rattle.vlm_store.specs.Records.{IsSameLock, StoredResource}
 use Rattle.std.proofs.Common.{◌≡◌, IfSome, refl, sym, ◌∙◌, subst}
 use Rattle.vlm_words.specs.declared.resources.Queue.TheVariants.{Conversion, Granted}
 use Rattle.vlm_words.specs.declared.locks.Row.{Row}
@@ -39,55 +39,38 @@ returns-else-at_once-clause-converted c =
     subst (λ o. IfSome o (λ r. IsConverted f asked (plain_processes s) r s new)) (sym standing.found)
     (converted_later s c.law_records_are_sound.ensures f standing asked new c.requires.granted (sym at_once ∙ c.if-at_once.false) done c.convert_later.ensures.statuses)
 
-pub returns-then-at_once-clause-others : goal.returns-then-at_once-clause-others
-returns-then-at_once-clause-others c =
+pub returns-then-at_once-clause-beside : goal.returns-then-at_once-clause-beside
+returns-then-at_once-clause-beside c =
     let s = c.args.store.now in
     let f = c.args.standing.now in
     let standing = c.requires.standing in
+    let row = granted_row c.wanting_row-row.result in
+    let moved = moved_in f row Granted standing.resource in
+    let block = (blocks_granted c.wanting_row-row.result standing.resource s).value_block in
+    let left : StoredResource = record moved { value_block = block } in
     let new = c.convert_now.new.store in
-    others_stay f.res standing.resource (record (moved_in f (granted_row c.wanting_row-row.result) Granted standing.resource) { value_block = (blocks_granted c.wanting_row-row.result standing.resource s).value_block }) s new ((subst (λ o. IfSome o (λ r. IsGrantedAtOnce f c.wanting_row-row.result r s new)) standing.found c.convert_now.ensures.granted).replaced)
+    let replaced = (subst (λ o. IfSome o (λ r. IsGrantedAtOnce f c.wanting_row-row.result r s new)) standing.found c.convert_now.ensures.granted).replaced in
+    let same = subst (λ (r : Row). IsSameLock f.row (granted_row r)) (sym c.wanting_row-row.ensures) (record { lkid = refl; pid = refl; parent = refl }) in
+    record {
+      others = others_stay f.res standing.resource left s new replaced;
+      locks = c.convert_now.ensures.locks;
+      there = still_there f.res standing.resource left s new replaced;
+      rest = rests f.res standing.resource left s new replaced (none_joins_under_block standing.resource moved block (none_joins_by_moving s f standing row Granted same)) c.requires.rest;
+    }
 
-pub returns-then-at_once-clause-there : goal.returns-then-at_once-clause-there
-returns-then-at_once-clause-there c =
+pub returns-else-at_once-clause-beside : goal.returns-else-at_once-clause-beside
+returns-else-at_once-clause-beside c =
     let s = c.args.store.now in
     let f = c.args.standing.now in
     let standing = c.requires.standing in
-    let new = c.convert_now.new.store in
-    still_there f.res standing.resource (record (moved_in f (granted_row c.wanting_row-row.result) Granted standing.resource) { value_block = (blocks_granted c.wanting_row-row.result standing.resource s).value_block }) s new ((subst (λ o. IfSome o (λ r. IsGrantedAtOnce f c.wanting_row-row.result r s new)) standing.found c.convert_now.ensures.granted).replaced)
-
-pub returns-then-at_once-clause-rest : goal.returns-then-at_once-clause-rest
-returns-then-at_once-clause-rest c =
-    let s = c.args.store.now in
-    let f = c.args.standing.now in
-    let standing = c.requires.standing in
-    let new = c.convert_now.new.store in
-    rests f.res standing.resource (record (moved_in f (granted_row c.wanting_row-row.result) Granted standing.resource) { value_block = (blocks_granted c.wanting_row-row.result standing.resource s).value_block }) s new ((subst (λ o. IfSome o (λ r. IsGrantedAtOnce f c.wanting_row-row.result r s new)) standing.found c.convert_now.ensures.granted).replaced)
-    (none_joins_under_block standing.resource (moved_in f (granted_row c.wanting_row-row.result) Granted standing.resource) (blocks_granted c.wanting_row-row.result standing.resource s).value_block
-    (none_joins_by_moving s f standing (granted_row c.wanting_row-row.result) Granted (subst (λ (row : Row). IsSameLock f.row (granted_row row)) (sym c.wanting_row-row.ensures) (record { lkid = refl; pid = refl; parent = refl }))))
-    c.requires.rest
-
-pub returns-else-at_once-clause-others : goal.returns-else-at_once-clause-others
-returns-else-at_once-clause-others c =
-    let s = c.args.store.now in
-    let f = c.args.standing.now in
-    let standing = c.requires.standing in
+    let row = c.wanting_row-row.result in
+    let left = moved_in f row Conversion standing.resource in
     let new = c.convert_later.new.store in
-    others_stay f.res standing.resource (moved_in f c.wanting_row-row.result Conversion standing.resource) s new (subst (λ o. IfSome o (λ r. IsReplaced f.res r (moved_in f c.wanting_row-row.result Conversion r) s new)) standing.found c.convert_later.ensures.replaced)
-
-pub returns-else-at_once-clause-there : goal.returns-else-at_once-clause-there
-returns-else-at_once-clause-there c =
-    let s = c.args.store.now in
-    let f = c.args.standing.now in
-    let standing = c.requires.standing in
-    let new = c.convert_later.new.store in
-    still_there f.res standing.resource (moved_in f c.wanting_row-row.result Conversion standing.resource) s new (subst (λ o. IfSome o (λ r. IsReplaced f.res r (moved_in f c.wanting_row-row.result Conversion r) s new)) standing.found c.convert_later.ensures.replaced)
-
-pub returns-else-at_once-clause-rest : goal.returns-else-at_once-clause-rest
-returns-else-at_once-clause-rest c =
-    let s = c.args.store.now in
-    let f = c.args.standing.now in
-    let standing = c.requires.standing in
-    let new = c.convert_later.new.store in
-    rests f.res standing.resource (moved_in f c.wanting_row-row.result Conversion standing.resource) s new (subst (λ o. IfSome o (λ r. IsReplaced f.res r (moved_in f c.wanting_row-row.result Conversion r) s new)) standing.found c.convert_later.ensures.replaced)
-    (none_joins_by_moving s f standing c.wanting_row-row.result Conversion (subst (IsSameLock f.row) (sym c.wanting_row-row.ensures) (record { lkid = refl; pid = refl; parent = refl })))
-    c.requires.rest
+    let replaced = subst (λ o. IfSome o (λ r. IsReplaced f.res r (moved_in f row Conversion r) s new)) standing.found c.convert_later.ensures.replaced in
+    let same = subst (IsSameLock f.row) (sym c.wanting_row-row.ensures) (record { lkid = refl; pid = refl; parent = refl }) in
+    record {
+      others = others_stay f.res standing.resource left s new replaced;
+      locks = c.convert_later.ensures.locks;
+      there = still_there f.res standing.resource left s new replaced;
+      rest = rests f.res standing.resource left s new replaced (none_joins_by_moving s f standing row Conversion same) c.requires.rest;
+    }

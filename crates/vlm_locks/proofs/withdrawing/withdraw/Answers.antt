@@ -1,4 +1,4 @@
-use Rattle.vlm_locks.proofs.OtherLocks.{owned_alike}
+use Rattle.vlm_locks.proofs.OtherLocks.{locks_stay_over, owned_alike, statuses_alone}
 use Rattle.std.proofs.Common.{true, [], ◌∷◌, map, ap, ◌∙◌, subst, sym}
 use Rattle.vlm_words.specs.Withdrawals.{resource_after_cancel, resource_after_withdrawals, resource_without}
 use Rattle.vlm_store.specs.Plain.{plain_resource, plain_resources}
@@ -41,10 +41,20 @@ returns-then-withdrawal-clause-resources c =
     ∙ left_staying w lkid c.requires.named c.if-withdrawal.true (plain_resources c.end_withdrawn.new.store)
     ∙ ap (λ rs. map (resource_after_withdrawals (w ∷ [])) (map plain_resource rs)) c.end_withdrawn.ensures.rest.resources
 
-pub returns-then-withdrawal-clause-others : goal.returns-then-withdrawal-clause-others
-returns-then-withdrawal-clause-others c =
-    stay_over c.args.standing.now.res c.end_withdrawn.new.store c.leave.new.store c.cancel.new.store c.leave.ensures.left.made.others c.cancel.ensures.made.others
-    ∙ ap (without_resource c.args.standing.now.res) c.end_withdrawn.ensures.rest.resources
+pub returns-then-withdrawal-clause-beside : goal.returns-then-withdrawal-clause-beside
+returns-then-withdrawal-clause-beside c =
+    let s = c.args.store.now in
+    let ended = c.end_withdrawn.new.store in
+    let left = c.leave.new.store in
+    let new = c.cancel.new.store in
+    let f = c.args.standing.now in
+    let made = c.cancel.ensures.made in
+    record {
+      others = stay_over f.res ended left new c.leave.ensures.left.made.others made.others ∙ ap (without_resource f.res) c.end_withdrawn.ensures.rest.resources;
+      locks = locks_stay_over f.lock s ended new (statuses_alone f.lock s ended c.end_withdrawn.ensures.rest) (locks_stay_over f.lock ended left new c.leave.ensures.left.locks c.cancel.ensures.locks);
+      there = made.there;
+      rest = made.rest;
+    }
 
 -- the lock goes
 pub returns-else-withdrawal-clause-resources : goal.returns-else-withdrawal-clause-resources
@@ -56,10 +66,20 @@ returns-else-withdrawal-clause-resources c =
     ∙ left_without w lkid c.requires.named c.if-withdrawal.false (plain_resources c.end_withdrawn.new.store)
     ∙ ap (λ rs. map (resource_after_withdrawals (w ∷ [])) (map plain_resource rs)) c.end_withdrawn.ensures.rest.resources
 
-pub returns-else-withdrawal-clause-others : goal.returns-else-withdrawal-clause-others
-returns-else-withdrawal-clause-others c =
-    stay_over c.args.standing.now.res c.end_withdrawn.new.store c.leave.new.store c.remove.new.store c.leave.ensures.left.made.others c.remove.ensures.made.others
-    ∙ ap (without_resource c.args.standing.now.res) c.end_withdrawn.ensures.rest.resources
+pub returns-else-withdrawal-clause-beside : goal.returns-else-withdrawal-clause-beside
+returns-else-withdrawal-clause-beside c =
+    let s = c.args.store.now in
+    let ended = c.end_withdrawn.new.store in
+    let left = c.leave.new.store in
+    let new = c.remove.new.store in
+    let f = c.args.standing.now in
+    let made = c.remove.ensures.made in
+    record {
+      others = stay_over f.res ended left new c.leave.ensures.left.made.others made.others ∙ ap (without_resource f.res) c.end_withdrawn.ensures.rest.resources;
+      locks = locks_stay_over f.lock s ended new (statuses_alone f.lock s ended c.end_withdrawn.ensures.rest) (locks_stay_over f.lock ended left new c.leave.ensures.left.locks c.remove.ensures.locks);
+      there = made.there;
+      rest = made.rest;
+    }
 
 -- what becomes of the process's own locks, and of those below the parent
 pub returns-then-withdrawal-clause-own_locks : goal.returns-then-withdrawal-clause-own_locks

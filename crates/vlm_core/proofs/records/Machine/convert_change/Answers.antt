@@ -11,4 +11,4 @@ returns-clause-change c = λ there found.
 
 -- the other resources stay
 pub returns-clause-others : goal.returns-clause-others
-returns-clause-others c = rw (← c.self.view_is) c.convert.ensures.others
+returns-clause-others c = rw (← c.self.view_is) c.convert.ensures.beside.others

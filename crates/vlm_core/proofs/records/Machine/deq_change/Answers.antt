@@ -18,4 +18,4 @@ returns-clause-change c =
 
 -- the other resources stay
 pub returns-clause-others : goal.returns-clause-others
-returns-clause-others c = rw (← c.self.view_is) c.withdraw.ensures.others
+returns-clause-others c = rw (← c.self.view_is) c.withdraw.ensures.beside.others
