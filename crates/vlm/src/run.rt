@@ -34,6 +34,7 @@ Commands of a script, one a line:
   cvt NAME LOCK MODE block=N [flags]
   deq NAME LOCK [value=HEX] [cancel] [invvalblk]
   set NAME block=N value=HEX
+  ast NAME
   block NAME N
   show
 The flags are valblk, noqueue, syncsts, system, expedite and quecvt.

@@ -18,7 +18,7 @@ use Rattle.vlm_lines.specs.declared.keyed.CvtWords.{CvtWords}
 use Rattle.vlm_lines.specs.declared.keyed.EnqWords.{EnqWords}
 use Rattle.vlm_lines.specs.declared.keyed.SetWords.{SetWords}
 use Rattle.vlm_lines.specs.declared.lines.Line.{Line}
-use Rattle.vlm_lines.specs.declared.lines.Line.TheVariants.{Empty, Declare, Enq, Cvt, Deq, Set, Block as block_words, Show}
+use Rattle.vlm_lines.specs.declared.lines.Line.TheVariants.{Empty, Declare, Enq, Cvt, Deq, Set, Ast, Block as block_words, Show}
 use Rattle.vlm_lines.specs.declared.faults.LineFault.{LineFault}
 use Rattle.vlm_lines.specs.declared.faults.LineFault.TheVariants.{TooLong, UnknownCommand, WrongWord, NumberOutOfRange}
 use Rattle.vlm_words.specs.Flags.{cancel, expedite, has_flag, invvalblk, noqueue, quecvt, syncsts, system, valblk}
@@ -344,6 +344,13 @@ set_line words =
     given s.value >>= λ value.
     Ok (Set name (record { pid = no_process; block = block; value = value }))
 
+-- ast NAME
+unfoldable pub ast_line : List (List ℕ) → Result Line LineFault
+ast_line words =
+    next_word words >>= λ first.
+    process_name first.0 >>= λ name.
+    no_more (Ast name) first.1
+
 -- block NAME N
 unfoldable pub block_command : List (List ℕ) → Result Line LineFault
 block_command words =
@@ -361,6 +368,7 @@ command_line command words =
     else if is_text command (codes "cvt") then cvt_line words
     else if is_text command (codes "deq") then deq_line words
     else if is_text command (codes "set") then set_line words
+    else if is_text command (codes "ast") then ast_line words
     else if is_text command (codes "block") then block_command words
     else if is_text command (codes "show") then no_more Show words
     else Err UnknownCommand

@@ -15,5 +15,5 @@ mod values;
 mod words;
 
 pub use faults::LineFault;
-pub use lines::{Line, ProcessName};
+pub use lines::{Line, NO_PROCESS, ProcessName};
 pub use reading::read_line;

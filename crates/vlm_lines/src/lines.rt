@@ -6,8 +6,11 @@ use vlm_words::texts::Text;
 /// A script's name for a process: 1 to 15 bytes.
 pub type ProcessName = Text<15>;
 
+/// The identification that no process has: who makes the step of a line, until the run puts that in.
+pub const NO_PROCESS: u32 = 0;
+
 /// A line with its words as they were read. The step of a line says who makes it by a name: as its
-/// process it has 0, which no process has, until the run puts in the one that the name is bound to.
+/// process it has [`NO_PROCESS`], until the run puts in the one that the name is bound to.
 #[derive(Clone, Copy)]
 pub enum Line {
     /// No word, or a comment.
@@ -22,6 +25,8 @@ pub enum Line {
     Cvt(ProcessName, Conversion),
     /// A lock is given up, or its request is cancelled.
     Deq(ProcessName, Dequeue),
+    /// The AST that has been pending longest is taken.
+    Ast(ProcessName),
     /// The status block of this number is printed.
     Block(ProcessName, u8),
     /// Every resource is printed with its queues.

@@ -1,19 +1,16 @@
 //! Lines by their commands.
 
 ghost use Rattle.std.specs.Prelude.{◌≡◌, MatchResult};
-ghost use Rattle.vlm_lines.specs.Lines.{block_command, line_read, line_of, command_line, declare_line, enq_line, cvt_line, deq_line, set_line, declaration_of, words_of, next_word, no_more};
+ghost use Rattle.vlm_lines.specs.Lines.{ast_line, block_command, line_read, line_of, command_line, declare_line, enq_line, cvt_line, deq_line, set_line, declaration_of, words_of, next_word, no_more};
 
 use crate::cuts;
 use crate::faults::LineFault;
 use crate::keyed::{CvtWords, DeclareWords, EnqWords, Keyed, SetWords};
-use crate::lines::Line;
+use crate::lines::{Line, NO_PROCESS};
 use crate::locks::lock;
 use crate::numbers::byte;
 use crate::words::{behind_key, is_text, mode, process_name};
 use vlm_words::steps::{Conversion, Declaration, Dequeue, NewRequest, ValueSetting, Which};
-
-// The identification that no process has.
-const NO_PROCESS: u32 = 0;
 
 // The longest line, in bytes.
 const LONGEST: usize = 255;
@@ -63,6 +60,8 @@ fn command_line(command: &[u8], rest: &[u8]) -> Result<Line, LineFault>
         deq_line(rest)
     } else if is_text(command, b"set") {
         set_line(rest)
+    } else if is_text(command, b"ast") {
+        ast_line(rest)
     } else if is_text(command, b"block") {
         block_line(rest)
     } else if is_text(command, b"show") {
@@ -188,6 +187,16 @@ fn set_line(line: &[u8]) -> Result<Line, LineFault>
         value,
     };
     Ok(Line::Set(name, setting))
+}
+
+// The word of an ast line: NAME.
+#[tactic(auto, unfolding(crate::specs::Lines::ast_line))]
+fn ast_line(line: &[u8]) -> Result<Line, LineFault>
+    ensures { result ≡ ast_line (words_of line.now) }
+{
+    let (first, rest) = needed_word(line)?;
+    let name = process_name(first)?;
+    no_more(Line::Ast(name), rest)
 }
 
 // The words of a block line: NAME N.

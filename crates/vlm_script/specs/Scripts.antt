@@ -1,7 +1,7 @@
 -- The run of a script: which line prints what, and which fault is the first.
 use Rattle.std.specs.Prelude.{◌≡◌, ℕ, ◌+◌, List, [], ◌∷◌, ◌++◌, take, drop, find, Option, None, Some, Result, Ok, Err}
 use Rattle.std.specs.Option.{option_map}
-use Rattle.vlm_lines.specs.declared.lines.Line.TheVariants.{Empty, Declare, Set, Enq, Cvt, Deq, Block, Show}
+use Rattle.vlm_lines.specs.declared.lines.Line.TheVariants.{Empty, Declare, Set, Enq, Cvt, Deq, Ast, Block, Show}
 use Rattle.vlm_lines.specs.declared.lines.Line.{Line}
 use Rattle.vlm_lines.specs.declared.faults.LineFault.TheVariants.{UnknownName, NameUsed}
 use Rattle.vlm_lines.specs.declared.faults.LineFault.{LineFault}
@@ -50,6 +50,7 @@ name_fault names (Set name setting) = unknown_fault (bound_to names name)
 name_fault names (Enq name request) = unknown_fault (bound_to names name)
 name_fault names (Cvt name conversion) = unknown_fault (bound_to names name)
 name_fault names (Deq name dequeue) = unknown_fault (bound_to names name)
+name_fault names (Ast name) = unknown_fault (bound_to names name)
 name_fault names (Block name number) = unknown_fault (bound_to names name)
 name_fault names Show = None
 
@@ -109,6 +110,7 @@ Runs old (Set name setting) text new = Makes old name (set_step setting) text ne
 Runs old (Enq name request) text new = Makes old name (enq_step request) text new
 Runs old (Cvt name conversion) text new = Makes old name (convert_step conversion) text new
 Runs old (Deq name dequeue) text new = Makes old name (deq_step dequeue) text new
+Runs old (Ast name) text new = Makes old name (Take no_process) text new
 Runs old (Block name number) text new =
     Shows old name (λ pid. status_block_line name number (status_block_at old.state.processes pid number)) text new
 Runs old Show text new = Prints old (resources_text old.state.resources) text new

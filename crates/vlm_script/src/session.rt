@@ -12,7 +12,7 @@ use crate::stops::Stop;
 use std::alloc::Global;
 use std::marker::Model;
 use vlm_core::Core;
-use vlm_lines::{Line, LineFault, ProcessName, read_line};
+use vlm_lines::{Line, LineFault, NO_PROCESS, ProcessName, read_line};
 use vlm_words::steps::{Answer, Conversion, Declaration, Dequeue, NewRequest, Step, ValueSetting};
 
 /// The machine, and the names that are bound to its processes.
@@ -67,6 +67,7 @@ impl Session {
             Line::Enq(name, request) => self.make(name, Step::Enq(request), out),
             Line::Cvt(name, conversion) => self.make(name, Step::Convert(conversion), out),
             Line::Deq(name, dequeue) => self.make(name, Step::Deq(dequeue), out),
+            Line::Ast(name) => self.make(name, Step::Take(NO_PROCESS), out),
             Line::Block(name, number) => self.show_status_block(name, number, out),
             Line::Show => Ok(show(&self.core, out)?),
         }
