@@ -25,7 +25,7 @@ use Rattle.vlm_locks.proofs.Stood.{one_lock, queued_stored, resource_among, stan
 use Rattle.vlm_core.specs.Machine.{Kept, plain_state}
 use Rattle.vlm_core.proofs.Siting.{each_resource}
 use Rattle.vlm_core.proofs.ToCome.{counted_all, counted_on}
-use Rattle.vlm_store.proofs.Undoing.{queue_at}
+use Rattle.vlm_store.proofs.Records.{queue_at}
 
 -- a stored lock in its queue
 pub record IsQueued (at : ℕ) (row : Row) (s : Records) : Type 0 where

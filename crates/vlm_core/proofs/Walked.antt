@@ -8,7 +8,7 @@ use Rattle.vlm_words.specs.declared.resources.Queue.TheVariants.{Granted, Conver
 use Rattle.vlm_store.specs.declared.keys.Place.TheVariants.{Queued}
 use Rattle.vlm_store.specs.Records.{AreApart, AreResourcesApart, IsAmong, IsResourceAmong, IsSound, Records, StoredLock, StoredResource, Stores, at_after, first_at, first_resource_at, locks_at, queued, resource_at, resource_at_after, rows_of}
 use Rattle.vlm_store.proofs.Walks.{after-among, lock_among}
-use Rattle.vlm_store.proofs.Undoing.{resource_is}
+use Rattle.vlm_store.proofs.Records.{resource_is}
 use Rattle.vlm_locks.specs.Plain.{plain_resource}
 use Rattle.vlm_core.specs.declared.views.ResourceView.{ResourceView}
 use Rattle.vlm_core.specs.Views.{GivesInTurn, IsGivenFrom, lock_at_place, resource_at_place, resource_view, row_shown, row_view, rows_in}

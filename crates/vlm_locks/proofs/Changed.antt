@@ -7,7 +7,7 @@ use Rattle.vlm_words.specs.declared.resources.Queue.{Queue}
 use Rattle.vlm_words.specs.declared.resources.Queue.TheVariants.{Granted, Conversion, Waiting}
 use Rattle.vlm_store.specs.declared.keys.Place.TheVariants.{Loose, Queued}
 use Rattle.vlm_store.specs.Records.{IsAmong, IsResourceAmong, IsSound, Records, Rooms, SameButBlocks, StoredProcess, StoredResource, leaving, plain_processes, process_without_lock, queued, resource_at, resource_with, without_lock, without_stored_lock}
-use Rattle.vlm_store.proofs.Undoing.{map_on, queue_at, unmoved}
+use Rattle.vlm_store.proofs.Records.{map_on, queue_at, unmoved}
 use Rattle.vlm_locks.specs.Plain.{plain_resource}
 use Rattle.vlm_locks.proofs.Found.{resource_alone}
 use Rattle.vlm_locks.specs.declared.finding.Standing.{Standing}

@@ -1,5 +1,5 @@
 -- What the entry of a new lock makes of the records.
-use Rattle.std.proofs.Common.{◌≡◌, ◌≢◌, ◌⊎◌, ℕ, Bool, List, [], ◌∷◌, ◌++◌, map, unwrap_or, cond, true, false, ◌&&◌, Option, Some, IsSome, IfSome, refl, sym, ap, ◌∙◌, subst, inl, inr, eq-eqb, ne_eqb}
+use Rattle.std.proofs.Common.{◌≡◌, ◌≢◌, ◌⊎◌, ℕ, Bool, List, [], ◌∷◌, ◌++◌, map, unwrap_or, cond, true, false, Option, Some, IsSome, IfSome, refl, sym, ap, ◌∙◌, subst, inl, inr, eq-eqb, ne_eqb}
 use Rattle.std.specs.Prelude.{◌==◌}
 use Rattle.std.proofs.lemmas.Bool.{cases_eq}
 use Rattle.std.proofs.lemmas.List.{map-append}
@@ -11,8 +11,8 @@ use Rattle.vlm_words.specs.Grants.{granted_row}
 use Rattle.vlm_words.specs.Resources.{new_resource}
 use Rattle.vlm_store.specs.declared.keys.Place.{Place}
 use Rattle.vlm_store.specs.declared.keys.Place.TheVariants.{Loose, Queued}
-use Rattle.vlm_store.specs.Records.{AreResourcesApart, FindsResource, HasResource, IsAmong, IsProcess, IsProcessAmong, IsResourceAmong, IsSameLock, IsSound, IsStored, Records, Room, Stores, StoredLock, StoredProcess, StoredResource, but_blocks, is_queue, joined_by, locks_at, moving, on_resource, process_with_lock, queued, resource_at, resource_with, with_lists, with_lock_room, with_new_lock, without_lock}
-use Rattle.vlm_store.proofs.Undoing.{map_on, queue_at, resource_is, unmoved}
+use Rattle.vlm_store.specs.Records.{AreResourcesApart, FindsResource, HasResource, IsAmong, IsProcess, IsProcessAmong, IsResourceAmong, IsSameLock, IsSound, IsStored, Records, Room, Stores, StoredLock, StoredProcess, StoredResource, but_blocks, joined_by, locks_at, moving, on_resource, process_with_lock, queued, resource_at, with_lists, with_lock_room, with_new_lock, without_lock}
+use Rattle.vlm_store.proofs.Records.{loose_joins, map_on, resource_is}
 use Rattle.vlm_locks.specs.Plain.{plain_resource, plain_resources}
 use Rattle.vlm_locks.specs.Rest.{but_service}
 use Rattle.vlm_locks.proofs.Found.{resource_alone, resource_at-put}
@@ -56,38 +56,6 @@ pub joins_waiting : (at : ℕ) (row : Row) (at_once : Bool) (r : StoredResource)
 unfolding resource_after_entry
 joins_waiting at row at_once r queued =
     rw queued (ap (λ rows. record (plain_resource r) { waiting = rows }) (map-append (λ (k : StoredLock). k.row) r.waiting (record { at = at; row = row } ∷ [])))
-
--- ---- a loose lock joins one queue, with another row
-
--- the locks of a queue, with one more if it joins here
-abbrev with_joined : StoredLock → Bool → List StoredLock → List StoredLock
-with_joined lock here locks = cond here (locks ++ lock ∷ []) locks
-
-module _ (s : Records) (sound : IsSound s) (at : ℕ) (was row : Row) (stands : IsAmong (record { at = at; row = was }) s.loose) (res : ℕ) (to : Queue) where
-  -- the lock stands in no queue
-  kept : (x : StoredResource) → IsResourceAmong x s.resources → (queue : Queue) → without_lock at (queued queue x) ≡ queued queue x
-  kept x among queue =
-      ap (without_lock at) (sym (queue_at s sound x among queue)) ∙ unmoved s at was Loose sound stands (Queued x.at queue) (λ e. cc) ∙ queue_at s sound x among queue
-
-  -- each resource is as it was, but for the one that the lock joins
-  joins : (x : StoredResource) → IsResourceAmong x s.resources
-      → resource_with (moving (Queued res to) (record { at = at; row = row })) x ≡ cond (x.at == res) (joined_by to (record { at = at; row = row }) x) x
-  joins x among = rw (kept x among Granted, kept x among Conversion, kept x among Waiting) (by_queue to (x.at == res))
-    where
-      by_queue : (queue : Queue) (here : Bool)
-          → record x { granted = with_joined (record { at = at; row = row }) (here && is_queue Granted queue) x.granted; converting = with_joined (record { at = at; row = row }) (here && is_queue Conversion queue) x.converting; waiting = with_joined (record { at = at; row = row }) (here && is_queue Waiting queue) x.waiting }
-          ≡ cond here (joined_by queue (record { at = at; row = row }) x) x
-      by_queue Granted true = refl
-      by_queue Conversion true = refl
-      by_queue Waiting true = refl
-      by_queue queue false = refl
-
-  -- it joins the queue of its resource, and nothing else changes
-  pub loose_joins : with_lists (moving (Queued res to) (record { at = at; row = row })) s
-      ≡ record s { resources = map (λ x. cond (x.at == res) (joined_by to (record { at = at; row = row }) x) x) s.resources; loose = without_lock at s.loose }
-  loose_joins =
-      ap (λ x. record s { resources = x; loose = without_lock at s.loose })
-      (map_on (resource_with (moving (Queued res to) (record { at = at; row = row }))) (λ x. cond (x.at == res) (joined_by to (record { at = at; row = row }) x) x) s.resources joins)
 
 -- ---- the processes of a new lock
 

@@ -4,7 +4,7 @@ use Rattle.std.specs.Prelude.{◌==◌}
 use Rattle.std.proofs.lemmas.Bool.{cases_eq}
 use Rattle.std.proofs.lemmas.Option.{none-some, same_Some}
 use Rattle.vlm_store.specs.Records.{AreResourcesApart, HasProcess, IsProcess, IsProcessAmong, IsResourceAmong, Records, StoredProcess, StoredResource, on_resource, process_at, resource_at, SameButBlocks, but_blocks}
-use Rattle.vlm_store.proofs.Undoing.{map_on, resource_is}
+use Rattle.vlm_store.proofs.Records.{map_on, resource_is}
 
 process_found : (at : ℕ) (p : StoredProcess) (ps : List StoredProcess) → IsProcessAmong p ps → p.at ≡ at → IsSome (process_at at ps)
 process_found at p [] among is = absurd among

@@ -10,8 +10,8 @@ use Rattle.vlm_words.specs.Rows.{rows_without}
 use Rattle.vlm_store.specs.declared.keys.Place.{Place}
 use Rattle.vlm_store.specs.declared.keys.Place.TheVariants.{Loose, Queued}
 use Rattle.vlm_store.specs.Records.{IsAmong, IsResourceAmong, IsSameLock, IsSound, Records, StoredLock, StoredResource, but_blocks, is_place, moving, on_resource, queued, rows_of, with_lists, without_lock}
-use Rattle.vlm_store.proofs.Layouts.{is_place-other, is_place-same}
-use Rattle.vlm_store.proofs.Undoing.{map_on, queue_at, unmoved}
+use Rattle.vlm_store.proofs.Records.{is_place-other, is_place-same}
+use Rattle.vlm_store.proofs.Records.{map_on, queue_at, unmoved}
 use Rattle.vlm_locks.specs.declared.finding.Standing.{Standing}
 use Rattle.vlm_locks.specs.Converting.{moved_in}
 use Rattle.vlm_locks.specs.Rest.{IsReplaced}

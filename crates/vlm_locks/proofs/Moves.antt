@@ -9,8 +9,8 @@ use Rattle.vlm_words.specs.declared.resources.Queue.{Queue}
 use Rattle.vlm_words.specs.declared.resources.Queue.TheVariants.{Granted, Conversion, Waiting}
 use Rattle.vlm_store.specs.declared.keys.Place.TheVariants.{Loose, Queued}
 use Rattle.vlm_store.specs.Records.{AreApart, IsAmong, IsResourceAmong, IsSound, Records, SameButBlocks, StoredLock, StoredResource, Stores, first_at, is_place, locks_at, moving, on_resource, queued, resource_at, resource_with, with_lists, without_lock}
-use Rattle.vlm_store.proofs.Layouts.{is_place-other, is_place-same}
-use Rattle.vlm_store.proofs.Undoing.{map_on, resource_is, unmoved, without_absent}
+use Rattle.vlm_store.proofs.Records.{is_place-other, is_place-same}
+use Rattle.vlm_store.proofs.Records.{map_on, resource_is, unmoved, without_absent}
 use Rattle.vlm_locks.specs.Serving.{IsLeft, but_queues}
 use Rattle.vlm_locks.proofs.Found.{on_resource-put, resource_alone, resource_at-at, resource_at-put}
 

@@ -8,7 +8,7 @@ use Rattle.vlm_words.specs.declared.locks.Row.{Row}
 use Rattle.vlm_words.specs.declared.resources.Queue.{Queue}
 use Rattle.vlm_store.specs.declared.keys.Place.TheVariants.{Queued}
 use Rattle.vlm_store.specs.Records.{AreApart, IsAmong, IsProcess, IsResourceAmong, IsSound, Records, StoredLock, StoredResource, Stores, locks_at, queued, resource_at}
-use Rattle.vlm_store.proofs.Undoing.{queue_at, resource_is}
+use Rattle.vlm_store.proofs.Records.{queue_at}
 use Rattle.vlm_locks.specs.declared.finding.Standing.{Standing}
 use Rattle.vlm_locks.specs.Standing.{IsStanding}
 use Rattle.vlm_locks.proofs.Named.{IsAbsent, IsOnly}

@@ -25,7 +25,7 @@ use Rattle.vlm_locks.proofs.Moved.{joins, leaves, moved_replaced, none_joins_by_
 use Rattle.vlm_locks.proofs.Named.{rows-absent, rows-only, without-absent, without-key}
 use Rattle.vlm_locks.proofs.Staying.{all_stay, none_joins_under_block}
 use Rattle.vlm_locks.proofs.Stood.{absent, only, own_among}
-use Rattle.vlm_store.proofs.Undoing.{queue_at}
+use Rattle.vlm_store.proofs.Records.{queue_at}
 
 -- a queue has the lock with PW or EX if one of its rows there has
 pub writer_rows : (lkid : ℕ) (rows : List Row) → has_writer lkid rows ≡ list_any (λ (row : Row). is_writer row.held) (plain.rows_of lkid rows)

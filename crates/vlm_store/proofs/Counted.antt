@@ -15,7 +15,7 @@ use Rattle.vlm_store.specs.declared.keys.Place.TheVariants.{Loose, Queued}
 use Rattle.vlm_store.specs.Records.{AreApart, AreOwnApart, AreProcessesApart, AreResourcesApart, IsAmong, IsOwnAmong, IsProcess, IsProcessAmong, IsResourceAmong, IsSound, OwnLock, Records, StoredLock, StoredProcess, StoredResource, Stores, locks_at, own_at, owned_among, owned_by, owned_on, process_at, queued, resource_at}
 use Rattle.vlm_store.proofs.Plain.{process_at-stored}
 use Rattle.vlm_store.proofs.Counting.{IsApart-append, IsIn-append}
-use Rattle.vlm_store.proofs.Undoing.{queue_at}
+use Rattle.vlm_store.proofs.Records.{queue_at}
 
 -- ---- keys
 

@@ -10,39 +10,10 @@ use Rattle.vlm_words.specs.declared.resources.Queue.{Queue}
 use Rattle.vlm_words.specs.declared.resources.Queue.TheVariants.{Granted, Conversion, Waiting}
 use Rattle.vlm_store.specs.declared.keys.Place.{Place}
 use Rattle.vlm_store.specs.declared.keys.Place.TheVariants.{Loose, Queued}
-use Rattle.vlm_store.specs.Records.{AreOwnApart, IsProcessAmong, StoredProcess, Records, StoredLock, StoredResource, AreApart, AreOwned, AreProcessesApart, AreResourcesApart, HasPlace, HasResource, IsAmong, IsResourceAmong, IsSound, Stores, at_after, first_at, first_resource_at, resource_at_after, is_place, is_queue, leaving, locks_at, moving, on_resource, queued, resource_at, resource_with, with_lists, without_lock, without_resource}
+use Rattle.vlm_store.specs.Records.{AreOwnApart, IsProcessAmong, StoredProcess, Records, StoredLock, StoredResource, AreApart, AreOwned, AreProcessesApart, AreResourcesApart, HasPlace, HasResource, IsAmong, IsResourceAmong, IsSound, Stores, at_after, first_at, first_resource_at, resource_at_after, is_place, leaving, locks_at, moving, on_resource, queued, resource_at, resource_with, with_lists, without_lock, without_resource}
 use Rattle.vlm_store.specs.Store.{Layout, keyed, records_of, resource_of}
 use Rattle.vlm_store.proofs.Places.{place_cases}
-
-is_queue-same : (p : Queue) → is_queue p p ≡ true
-is_queue-same Granted = refl
-is_queue-same Conversion = refl
-is_queue-same Waiting = refl
-
-is_queue-other : (p q : Queue) → p ≢ q → is_queue p q ≡ false
-is_queue-other Granted Granted differs = absurd (differs refl)
-is_queue-other Granted Conversion differs = refl
-is_queue-other Granted Waiting differs = refl
-is_queue-other Conversion Granted differs = refl
-is_queue-other Conversion Conversion differs = absurd (differs refl)
-is_queue-other Conversion Waiting differs = refl
-is_queue-other Waiting Granted differs = refl
-is_queue-other Waiting Conversion differs = refl
-is_queue-other Waiting Waiting differs = absurd (differs refl)
-
-pub is_place-same : (p : Place) → is_place p p ≡ true
-is_place-same Loose = refl
-is_place-same (Queued r q) = rw (eq-eqb r r refl, is_queue-same q) refl
-
-pub is_place-other : (p q : Place) → p ≢ q → is_place p q ≡ false
-is_place-other Loose Loose differs = absurd (differs refl)
-is_place-other Loose (Queued b q) differs = refl
-is_place-other (Queued a p) Loose differs = refl
-is_place-other (Queued a p) (Queued b q) differs =
-    elim (cases_eq a b) [
-      | inl same ↦ rw (eq-eqb a b same, is_queue-other p q (λ e. differs (cc))) refl
-      | inr other ↦ rw (ne_eqb a b other) refl
-    ]
+use Rattle.vlm_store.proofs.Records.{is_place-other, is_place-same}
 
 -- ---- locks under their keys
 
@@ -315,6 +286,15 @@ IsSound-records_of l order_apart places_apart one_place lkids_apart keys_apart p
 
 -- ---- resources change
 
+-- no lock moves, and no row is written
+module _ (old new : Layout) (rows : (k : ℕ) → new.rows k ≡ old.rows k) (keys : (p : Place) → new.keys p ≡ old.keys p) where
+  list_same : (p : Place) → map (keyed new.rows) (new.keys p) ≡ map (keyed old.rows) (old.keys p)
+  list_same p = ap (map (keyed new.rows)) (keys p) ∙ keyed-kept old.rows new.rows (old.keys p) (λ k _. rows k)
+
+  -- the other resources stay
+  other : (res : ℕ) → ((r : ℕ) → r ≢ res → new.faces r ≡ old.faces r) → (r : ℕ) → r ≢ res → resource_of new r ≡ resource_of old r
+  other res faces r differs = rw (faces r differs, list_same (Queued r Granted), list_same (Queued r Conversion), list_same (Queued r Waiting)) refl
+
 -- a resource is made, with empty queues
 pub resource_made : (old new : Layout) (res : ℕ) (made : StoredResource) → ((k : ℕ) → new.rows k ≡ old.rows k) → ((p : Place) → new.keys p ≡ old.keys p) → ((r : ℕ) → r ≢ res → new.faces r ≡ old.faces r)
     → ¬ IsIn res old.order → new.order ≡ old.order ++ res ∷ [] → resource_of new res ≡ made → new.processes ≡ old.processes
@@ -322,19 +302,13 @@ pub resource_made : (old new : Layout) (res : ℕ) (made : StoredResource) → (
 unfolding records_of
 resource_made old new res made rows keys faces absent order is processes =
     ap (λ x. record { resources = x; loose = map (keyed new.rows) (new.keys Loose); processes = new.processes; room = new.room }) (ap (map (resource_of new)) order ∙ resources old.order absent)
-    ∙ ap (λ x. record { resources = map (resource_of old) old.order ++ made ∷ []; loose = x; processes = new.processes; room = new.room }) (list_same Loose)
+    ∙ ap (λ x. record { resources = map (resource_of old) old.order ++ made ∷ []; loose = x; processes = new.processes; room = new.room }) (list_same old new rows keys Loose)
     ∙ ap (λ x. record { resources = map (resource_of old) old.order ++ made ∷ []; loose = map (keyed old.rows) (old.keys Loose); processes = x; room = new.room }) processes
   where
-    list_same : (p : Place) → map (keyed new.rows) (new.keys p) ≡ map (keyed old.rows) (old.keys p)
-    list_same p = ap (map (keyed new.rows)) (keys p) ∙ keyed-kept old.rows new.rows (old.keys p) (λ k _. rows k)
-
-    other : (r : ℕ) → r ≢ res → resource_of new r ≡ resource_of old r
-    other r differs = rw (faces r differs, list_same (Queued r Granted), list_same (Queued r Conversion), list_same (Queued r Waiting)) refl
-
     resources : (rs : List ℕ) → ¬ IsIn res rs → map (resource_of new) (rs ++ res ∷ []) ≡ map (resource_of old) rs ++ made ∷ []
     resources [] absent = ap (λ x. x ∷ []) is
     resources (r ∷ rs) absent =
-        ap (λ x. x ∷ map (resource_of new) (rs ++ res ∷ [])) (other r (λ same. absent (inl same))) ∙ ap (λ rest. resource_of old r ∷ rest) (resources rs (λ there. absent (inr there)))
+        ap (λ x. x ∷ map (resource_of new) (rs ++ res ∷ [])) (other old new rows keys res faces r (λ same. absent (inl same))) ∙ ap (λ rest. resource_of old r ∷ rest) (resources rs (λ there. absent (inr there)))
 
 -- a resource is removed
 pub resource_removed : (old new : Layout) (res : ℕ) → ((k : ℕ) → new.rows k ≡ old.rows k) → ((p : Place) → new.keys p ≡ old.keys p) → ((r : ℕ) → r ≢ res → new.faces r ≡ old.faces r)
@@ -343,15 +317,9 @@ pub resource_removed : (old new : Layout) (res : ℕ) → ((k : ℕ) → new.row
 unfolding records_of
 resource_removed old new res rows keys faces order processes =
     ap (λ x. record { resources = x; loose = map (keyed new.rows) (new.keys Loose); processes = new.processes; room = new.room }) (ap (map (resource_of new)) order ∙ resources old.order)
-    ∙ ap (λ x. record { resources = without_resource res (map (resource_of old) old.order); loose = x; processes = new.processes; room = new.room }) (list_same Loose)
+    ∙ ap (λ x. record { resources = without_resource res (map (resource_of old) old.order); loose = x; processes = new.processes; room = new.room }) (list_same old new rows keys Loose)
     ∙ ap (λ x. record { resources = without_resource res (map (resource_of old) old.order); loose = map (keyed old.rows) (old.keys Loose); processes = x; room = new.room }) processes
   where
-    list_same : (p : Place) → map (keyed new.rows) (new.keys p) ≡ map (keyed old.rows) (old.keys p)
-    list_same p = ap (map (keyed new.rows)) (keys p) ∙ keyed-kept old.rows new.rows (old.keys p) (λ k _. rows k)
-
-    other : (r : ℕ) → r ≢ res → resource_of new r ≡ resource_of old r
-    other r differs = rw (faces r differs, list_same (Queued r Granted), list_same (Queued r Conversion), list_same (Queued r Waiting)) refl
-
     resources : (rs : List ℕ) → map (resource_of new) (without res rs) ≡ without_resource res (map (resource_of old) rs)
     resources [] = refl
     resources (r ∷ rs) =
@@ -359,7 +327,7 @@ resource_removed old new res rows keys faces order processes =
           | inl same ↦ ap (map (resource_of new)) (without_head res r rs same) ∙ resources rs ∙ rw (eq-eqb r res same) refl
           | inr differs ↦
               ap (map (resource_of new)) (without_past res r rs differs)
-              ∙ rw (ne_eqb r res differs) (ap (λ x. x ∷ map (resource_of new) (without res rs)) (other r differs) ∙ ap (λ rest. resource_of old r ∷ rest) (resources rs))
+              ∙ rw (ne_eqb r res differs) (ap (λ x. x ∷ map (resource_of new) (without res rs)) (other old new rows keys res faces r differs) ∙ ap (λ rest. resource_of old r ∷ rest) (resources rs))
         ]
 
 -- the face of one resource is written
@@ -370,25 +338,19 @@ pub resource_written : (old new : Layout) (res : ℕ) (change : StoredResource �
 unfolding records_of
 resource_written old new res change rows keys faces order is processes room =
     ap (λ x. record { resources = x; loose = map (keyed new.rows) (new.keys Loose); processes = new.processes; room = new.room }) (ap (map (resource_of new)) order ∙ resources old.order)
-    ∙ ap (λ x. record { resources = on_resource res change (map (resource_of old) old.order); loose = x; processes = new.processes; room = new.room }) (list_same Loose)
+    ∙ ap (λ x. record { resources = on_resource res change (map (resource_of old) old.order); loose = x; processes = new.processes; room = new.room }) (list_same old new rows keys Loose)
     ∙ ap (λ x. record { resources = on_resource res change (map (resource_of old) old.order); loose = map (keyed old.rows) (old.keys Loose); processes = x; room = new.room }) processes
     ∙ ap (λ x. record { resources = on_resource res change (map (resource_of old) old.order); loose = map (keyed old.rows) (old.keys Loose); processes = old.processes; room = x }) room
   where
-    list_same : (p : Place) → map (keyed new.rows) (new.keys p) ≡ map (keyed old.rows) (old.keys p)
-    list_same p = ap (map (keyed new.rows)) (keys p) ∙ keyed-kept old.rows new.rows (old.keys p) (λ k _. rows k)
-
-    other : (r : ℕ) → r ≢ res → resource_of new r ≡ resource_of old r
-    other r differs = rw (faces r differs, list_same (Queued r Granted), list_same (Queued r Conversion), list_same (Queued r Waiting)) refl
-
     resources : (rs : List ℕ) → map (resource_of new) rs ≡ on_resource res change (map (resource_of old) rs)
     resources [] = refl
     resources (r ∷ rs) =
         elim (cases_eq r res) [
           | inl same ↦
-              let head : resource_of new r ≡ change (resource_of old r) = subst (λ x. resource_of new x ≡ change (resource_of old x)) (sym same) (is list_same) in
+              let head : resource_of new r ≡ change (resource_of old r) = subst (λ x. resource_of new x ≡ change (resource_of old x)) (sym same) (is (list_same old new rows keys)) in
               rw (eq-eqb r res same) (ap (λ x. x ∷ map (resource_of new) rs) head ∙ ap (λ rest. change (resource_of old r) ∷ rest) (resources rs))
           | inr differs ↦
-              rw (ne_eqb r res differs) (ap (λ x. x ∷ map (resource_of new) rs) (other r differs) ∙ ap (λ rest. resource_of old r ∷ rest) (resources rs))
+              rw (ne_eqb r res differs) (ap (λ x. x ∷ map (resource_of new) rs) (other old new rows keys res faces r differs) ∙ ap (λ rest. resource_of old r ∷ rest) (resources rs))
         ]
 
 -- the first resource, and the one made after another
@@ -411,8 +373,3 @@ first_resource-is l = first_resource-order l l.order
 pub resource_after-is : (l : Layout) (res : ℕ) → resource_at_after res (records_of l).resources ≡ key_after res l.order
 unfolding records_of
 resource_after-is l res = resource_after-order l res l.order
-
--- the room that a caller sees
-pub records_room : (l : Layout) → (records_of l).room ≡ l.room
-unfolding records_of
-records_room l = refl
