@@ -5,8 +5,9 @@ use Rattle.std.proofs.lemmas.Option.{same_Some}
 use Rattle.vlm_words.specs.declared.locks.Row.{Row}
 use Rattle.vlm_words.specs.declared.resources.Queue.{Queue}
 use Rattle.vlm_words.specs.declared.resources.Queue.TheVariants.{Granted, Conversion, Waiting}
+use Rattle.vlm_links.specs.Lists.{IsIn}
 use Rattle.vlm_store.specs.declared.keys.Place.TheVariants.{Queued}
-use Rattle.vlm_store.specs.Records.{AreApart, AreResourcesApart, IsAmong, IsResourceAmong, IsSound, Records, StoredLock, StoredResource, Stores, at_after, first_at, first_resource_at, locks_at, queued, resource_at, resource_at_after, rows_of}
+use Rattle.vlm_store.specs.Records.{AreApart, AreResourcesApart, IsSound, Records, StoredLock, StoredResource, Stores, at_after, first_at, first_resource_at, locks_at, queued, resource_at, resource_at_after, rows_of}
 use Rattle.vlm_store.proofs.Walks.{after-among, lock_among}
 use Rattle.vlm_store.proofs.Records.{resource_is}
 use Rattle.vlm_locks.specs.Plain.{plain_resource}
@@ -30,7 +31,7 @@ first_resource-place [] = refl
 first_resource-place (r ∷ rs) = refl
 
 -- the resource at a place is one of these
-resource_place-among : (i : ℕ) (rs : List StoredResource) (res : ℕ) → resource_at_place i rs ≡ Some res → (r : StoredResource) × (IsResourceAmong r rs × (r.at ≡ res))
+resource_place-among : (i : ℕ) (rs : List StoredResource) (res : ℕ) → resource_at_place i rs ≡ Some res → (r : StoredResource) × (IsIn r rs × (r.at ≡ res))
 resource_place-among i [] res is = cc
 resource_place-among zero (x ∷ rs) res is = (x, (inl refl, same_Some x.at res is))
 resource_place-among (suc i) (x ∷ rs) res is = let behind = resource_place-among i rs res is in (behind.0, (inr behind.1.0, behind.1.1))
@@ -74,7 +75,7 @@ first-place [] = refl
 first-place (k ∷ ks) = refl
 
 -- the lock at a place is one of these, with the row at this place
-pub lock_place-among : (i : ℕ) (ks : List StoredLock) (at : ℕ) → lock_at_place i ks ≡ Some at → (row : Row) × (IsAmong (record { at = at; row = row }) ks × (slice_get (rows_of ks) i ≡ Some row))
+pub lock_place-among : (i : ℕ) (ks : List StoredLock) (at : ℕ) → lock_at_place i ks ≡ Some at → (row : Row) × (IsIn (record { at = at; row = row }) ks × (slice_get (rows_of ks) i ≡ Some row))
 lock_place-among i [] at is = cc
 lock_place-among zero (k ∷ ks) at is = (k.row, (inl (ap (λ x. record { at = x; row = k.row }) (same_Some k.at at is)), refl))
 lock_place-among (suc i) (k ∷ ks) at is = let behind = lock_place-among i ks at is in (behind.0, (inr behind.1.0, behind.1.1))
@@ -83,7 +84,7 @@ lock_place-among (suc i) (k ∷ ks) at is = let behind = lock_place-among i ks a
 lock_place-differs : (i : ℕ) (k : StoredLock) (ks : List StoredLock) (at : ℕ) → AreApart (k ∷ ks) → lock_at_place i ks ≡ Some at → ¬ (k.at ≡ at)
 lock_place-differs i k ks at apart is same =
     let behind = lock_place-among i ks at is in
-    apart.0 behind.0 (subst (λ x. IsAmong (record { at = x; row = behind.0 }) ks) (sym same) behind.1.0)
+    apart.0 behind.0 (subst (λ x. IsIn (record { at = x; row = behind.0 }) ks) (sym same) behind.1.0)
 
 -- the lock after the one at a place is that at the next place
 pub lock_after-place : (i : ℕ) (ks : List StoredLock) (at : ℕ) → AreApart ks → lock_at_place i ks ≡ Some at → at_after at ks ≡ lock_at_place (suc i) ks
@@ -108,7 +109,7 @@ given_from before (k ∷ rest) apart =
     (k.at, (refl, lock_among k before rest, subst (λ first. IsGivenFrom (before ++ k ∷ rest) first (rows_of rest)) (sym (after-among k before rest apart)) behind))
 
 -- the queue of a stored resource gives its rows in turn
-pub queue_given : (s : Records) (r : StoredResource) (queue : Queue) → IsSound s → IsResourceAmong r s.resources → GivesInTurn r.at queue (rows_of (queued queue r)) s
+pub queue_given : (s : Records) (r : StoredResource) (queue : Queue) → IsSound s → IsIn r s.resources → GivesInTurn r.at queue (rows_of (queued queue r)) s
 queue_given s r queue sound among =
     let place = Queued r.at queue in
     let here : locks_at place s ≡ queued queue r = ap (λ o. option_map_or (queued queue) o []) (resource_is r s.resources sound.resources_apart among) in

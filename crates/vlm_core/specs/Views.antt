@@ -5,8 +5,9 @@ use Rattle.vlm_words.specs.declared.locks.Row.{Row}
 use Rattle.vlm_words.specs.declared.resources.Queue.{Queue}
 use Rattle.vlm_words.specs.declared.resources.Queue.TheVariants.{Granted, Conversion, Waiting}
 use Rattle.vlm_words.specs.State.{Resource}
+use Rattle.vlm_links.specs.Lists.{IsIn}
 use Rattle.vlm_store.specs.declared.keys.Place.TheVariants.{Queued}
-use Rattle.vlm_store.specs.Records.{IsAmong, Records, StoredLock, StoredResource, at_after, first_at, locks_at}
+use Rattle.vlm_store.specs.Records.{Records, StoredLock, StoredResource, at_after, first_at, locks_at}
 use Rattle.vlm_words.specs.Rows.{mode_asked}
 use Rattle.vlm_core.specs.declared.views.ResourceView.{ResourceView}
 use Rattle.vlm_core.specs.declared.views.RowView.{RowView}
@@ -35,7 +36,7 @@ lock_at_place place locks = option_map (λ k. k.at) (slice_get locks place)
 abbrev pub IsGivenFrom : List StoredLock → Option ℕ → List Row → Type 0
 IsGivenFrom locks first [] = first ≡ None
 IsGivenFrom locks first (row ∷ rows) =
-    (at : ℕ) × ((first ≡ Some at) × IsAmong (record { at = at; row = row }) locks × IsGivenFrom locks (at_after at locks) rows)
+    (at : ℕ) × ((first ≡ Some at) × IsIn (record { at = at; row = row }) locks × IsGivenFrom locks (at_after at locks) rows)
 
 -- the queue of the resource of this key gives these rows: from its head on, one after the other
 abbrev pub GivesInTurn : ℕ → Queue → List Row → Records → Type 0

@@ -4,13 +4,14 @@ use Rattle.std.specs.Prelude.{◌==◌}
 use Rattle.std.specs.Option.{option_map_or}
 use Rattle.std.proofs.lemmas.Bool.{cases_eq}
 use Rattle.vlm_links.specs.Lists.{IsIn, IsApart, first_key, key_after, without}
+use Rattle.vlm_links.proofs.Images.{IsIn-image, IsIn-told}
 use Rattle.vlm_links.proofs.KeyLists.{IsIn-without, without_head, without_past}
 use Rattle.vlm_words.specs.declared.locks.Row.{Row}
 use Rattle.vlm_words.specs.declared.resources.Queue.{Queue}
 use Rattle.vlm_words.specs.declared.resources.Queue.TheVariants.{Granted, Conversion, Waiting}
 use Rattle.vlm_store.specs.declared.keys.Place.{Place}
 use Rattle.vlm_store.specs.declared.keys.Place.TheVariants.{Loose, Queued}
-use Rattle.vlm_store.specs.Records.{AreOwnApart, IsProcessAmong, StoredProcess, Records, StoredLock, StoredResource, AreApart, AreOwned, AreProcessesApart, AreResourcesApart, HasPlace, HasResource, IsAmong, IsResourceAmong, IsSound, Stores, at_after, first_at, first_resource_at, resource_at_after, is_place, leaving, locks_at, moving, on_resource, queued, resource_at, resource_with, with_lists, without_lock, without_resource}
+use Rattle.vlm_store.specs.Records.{AreOwnApart, StoredProcess, Records, StoredLock, StoredResource, AreApart, AreOwned, AreProcessesApart, AreResourcesApart, HasPlace, HasResource, IsSound, Stores, at_after, first_at, first_resource_at, resource_at_after, is_place, leaving, locks_at, moving, on_resource, queued, resource_at, resource_with, with_lists, without_lock, without_resource}
 use Rattle.vlm_store.specs.Store.{Layout, keyed, records_of, resource_of}
 use Rattle.vlm_store.proofs.Places.{place_cases}
 use Rattle.vlm_store.proofs.Records.{is_place-other, is_place-same}
@@ -36,18 +37,11 @@ keyed-kept rows rows' (k ∷ ks) same =
     ap (λ r. record { at = k; row = r } ∷ map (keyed rows') ks) (same k (inl refl)) ∙ ap (λ rest. keyed rows k ∷ rest) (keyed-kept rows rows' ks (λ x h. same x (inr h)))
 
 -- a lock that a caller sees is there, with its row
-pub keyed-among : (rows : ℕ → Row) (ks : List ℕ) (lock : StoredLock) → IsAmong lock (map (keyed rows) ks) → IsIn lock.at ks × (rows lock.at ≡ lock.row)
-keyed-among rows [] lock found = absurd found
-keyed-among rows (k ∷ ks) lock found =
-    elim found [
-      | inl here ↦ (inl (ap (λ (x : StoredLock). x.at) here), ap rows (sym (ap (λ (x : StoredLock). x.at) here)) ∙ ap (λ (x : StoredLock). x.row) here)
-      | inr there ↦ let more = keyed-among rows ks lock there in (inr more.0, more.1)
-    ]
+pub keyed-among : (rows : ℕ → Row) (ks : List ℕ) (lock : StoredLock) → IsIn lock (map (keyed rows) ks) → IsIn lock.at ks × (rows lock.at ≡ lock.row)
+keyed-among rows ks lock found = let of = IsIn-told (keyed rows) (λ (x : StoredLock). x.at) (λ k. refl) ks lock found in (of.0, ap (λ (x : StoredLock). x.row) of.1)
 
-pub among-keyed : (rows : ℕ → Row) (ks : List ℕ) (at : ℕ) → IsIn at ks → IsAmong (record { at = at; row = rows at }) (map (keyed rows) ks)
-among-keyed rows [] at found = absurd found
-among-keyed rows (k ∷ ks) at found =
-    elim found [ inl here ↦ inl (ap (λ x. record { at = x; row = rows x }) here) | inr there ↦ inr (among-keyed rows ks at there) ]
+pub among-keyed : (rows : ℕ → Row) (ks : List ℕ) (at : ℕ) → IsIn at ks → IsIn (record { at = at; row = rows at }) (map (keyed rows) ks)
+among-keyed rows = IsIn-image (keyed rows)
 
 -- the first lock, and the one that follows another
 pub keyed-first : (rows : ℕ → Row) (ks : List ℕ) → first_at (map (keyed rows) ks) ≡ first_key ks
@@ -213,30 +207,30 @@ seen_cases l (Queued res queue) =
     ]
 
 -- a lock that a caller sees stands there, with its row
-pub locks_at-among : (l : Layout) (p : Place) (lock : StoredLock) → IsAmong lock (locks_at p (records_of l)) → IsIn lock.at (l.keys p) × (l.rows lock.at ≡ lock.row)
+pub locks_at-among : (l : Layout) (p : Place) (lock : StoredLock) → IsIn lock (locks_at p (records_of l)) → IsIn lock.at (l.keys p) × (l.rows lock.at ≡ lock.row)
 locks_at-among l p lock found =
     elim (seen_cases l p) [
       | inl seen ↦ keyed-among l.rows (l.keys p) lock (rw (locks_at-seen l p seen) at found)
-      | inr none ↦ let nothing : IsAmong lock [] = rw none at found in absurd nothing
+      | inr none ↦ let nothing : IsIn lock [] = rw none at found in absurd nothing
     ]
 
 -- a place where a caller sees a lock is seen
-pub among-seen : (l : Layout) (p : Place) (lock : StoredLock) → IsAmong lock (locks_at p (records_of l)) → IsSeen l p
+pub among-seen : (l : Layout) (p : Place) (lock : StoredLock) → IsIn lock (locks_at p (records_of l)) → IsSeen l p
 among-seen l p lock found =
     elim (seen_cases l p) [
       | inl seen ↦ seen
-      | inr none ↦ let nothing : IsAmong lock [] = rw none at found in absurd nothing
+      | inr none ↦ let nothing : IsIn lock [] = rw none at found in absurd nothing
     ]
 
 pub Stores-listed : (l : Layout) (at : ℕ) (row : Row) → Stores (records_of l) at row → (p : Place) × (IsIn at (l.keys p) × (l.rows at ≡ row))
 Stores-listed l at row stored = (stored.0, locks_at-among l stored.0 (record { at = at; row = row }) stored.1)
 
 -- a place where a lock stands is there
-pub HasPlace-among : (s : Records) (p : Place) (lock : StoredLock) → IsAmong lock (locks_at p s) → HasPlace p s
+pub HasPlace-among : (s : Records) (p : Place) (lock : StoredLock) → IsIn lock (locks_at p s) → HasPlace p s
 HasPlace-among s Loose lock among = tt
 HasPlace-among s (Queued res queue) lock among = of_found (resource_at res s.resources) among
   where
-    of_found : (found : Option StoredResource) → IsAmong lock (option_map_or (queued queue) found []) → IsSome found
+    of_found : (found : Option StoredResource) → IsIn lock (option_map_or (queued queue) found []) → IsSome found
     of_found None among = absurd among
     of_found (Some r) among = refl
 
@@ -244,17 +238,11 @@ pub listed-Stores : (l : Layout) (p : Place) (at : ℕ) → IsSeen l p → IsIn 
 listed-Stores l p at seen found = (p, rw (locks_at-seen l p seen) (among-keyed l.rows (l.keys p) at found))
 
 -- the resources that a caller sees
-pub resource_among : (l : Layout) (rs : List ℕ) (r : StoredResource) → IsResourceAmong r (map (resource_of l) rs) → IsIn r.at rs × (resource_of l r.at ≡ r)
-resource_among l [] r found = absurd found
-resource_among l (x ∷ rs) r found =
-    elim found [
-      | inl here ↦ (inl (ap (λ (y : StoredResource). y.at) here), ap (resource_of l) (sym (ap (λ (y : StoredResource). y.at) here)) ∙ here)
-      | inr there ↦ let more = resource_among l rs r there in (inr more.0, more.1)
-    ]
+pub resource_among : (l : Layout) (rs : List ℕ) (r : StoredResource) → IsIn r (map (resource_of l) rs) → IsIn r.at rs × (resource_of l r.at ≡ r)
+resource_among l rs r = IsIn-told (resource_of l) (λ (x : StoredResource). x.at) (λ x. refl) rs r
 
-pub among_resource : (l : Layout) (rs : List ℕ) (res : ℕ) → IsIn res rs → IsResourceAmong (resource_of l res) (map (resource_of l) rs)
-among_resource l [] res found = absurd found
-among_resource l (x ∷ rs) res found = elim found [ inl here ↦ inl (ap (resource_of l) here) | inr there ↦ inr (among_resource l rs res there) ]
+pub among_resource : (l : Layout) (rs : List ℕ) (res : ℕ) → IsIn res rs → IsIn (resource_of l res) (map (resource_of l) rs)
+among_resource l = IsIn-image (resource_of l)
 
 resources_apart : (l : Layout) (rs : List ℕ) → IsApart rs → AreResourcesApart (map (resource_of l) rs)
 resources_apart l [] apart = tt
@@ -266,8 +254,8 @@ resources_apart l (r ∷ rs) apart = (
 -- what a caller sees is sound
 pub IsSound-records_of : (l : Layout) → IsApart l.order → ((p : Place) → IsApart (l.keys p)) → ((at : ℕ) (p q : Place) → IsIn at (l.keys p) → IsIn at (l.keys q) → p ≡ q)
     → ((a b : ℕ) (x y : Row) → Stores (records_of l) a x → Stores (records_of l) b y → x.lkid ≡ y.lkid → a ≡ b)
-    → ((a b : StoredResource) → IsResourceAmong a (records_of l).resources → IsResourceAmong b (records_of l).resources → a.key ≡ b.key → a.at ≡ b.at)
-    → AreProcessesApart l.processes → AreOwned (records_of l) → ((p : StoredProcess) → IsProcessAmong p l.processes → AreOwnApart p.own) → IsSound (records_of l)
+    → ((a b : StoredResource) → IsIn a (records_of l).resources → IsIn b (records_of l).resources → a.key ≡ b.key → a.at ≡ b.at)
+    → AreProcessesApart l.processes → AreOwned (records_of l) → ((p : StoredProcess) → IsIn p l.processes → AreOwnApart p.own) → IsSound (records_of l)
 unfolding records_of
 IsSound-records_of l order_apart places_apart one_place lkids_apart keys_apart processes_apart owned own_apart = record {
   resources_apart = resources_apart l l.order order_apart;

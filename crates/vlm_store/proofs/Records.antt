@@ -6,9 +6,10 @@ use Rattle.std.proofs.lemmas.Bool.{cases_eq}
 use Rattle.vlm_words.specs.declared.locks.Row.{Row}
 use Rattle.vlm_words.specs.declared.resources.Queue.{Queue}
 use Rattle.vlm_words.specs.declared.resources.Queue.TheVariants.{Granted, Conversion, Waiting}
+use Rattle.vlm_links.specs.Lists.{IsIn}
 use Rattle.vlm_store.specs.declared.keys.Place.{Place}
 use Rattle.vlm_store.specs.declared.keys.Place.TheVariants.{Loose, Queued}
-use Rattle.vlm_store.specs.Records.{AreResourcesApart, IsAmong, IsResourceAmong, IsSound, Records, StoredLock, StoredResource, is_place, is_queue, joined_by, locks_at, moving, on_resource, queued, resource_at, resource_with, with_lists, without_lock}
+use Rattle.vlm_store.specs.Records.{AreResourcesApart, IsSound, Records, StoredLock, StoredResource, is_place, is_queue, joined_by, locks_at, moving, on_resource, queued, resource_at, resource_with, with_lists, without_lock}
 
 -- ---- places
 
@@ -45,7 +46,7 @@ is_place-other (Queued a p) (Queued b q) differs =
 -- ---- locks and resources
 
 -- a list without a lock that it does not have stays
-pub without_absent : (at : ℕ) (locks : List StoredLock) → ((row : Row) → ¬ IsAmong (record { at = at; row = row }) locks) → without_lock at locks ≡ locks
+pub without_absent : (at : ℕ) (locks : List StoredLock) → ((row : Row) → ¬ IsIn (record { at = at; row = row }) locks) → without_lock at locks ≡ locks
 without_absent at [] absent = refl
 without_absent at (k ∷ rest) absent =
     elim (cases_eq k.at at) [
@@ -54,12 +55,12 @@ without_absent at (k ∷ rest) absent =
     ]
 
 -- two changes are one where they are the same on each resource
-pub map_on : {B : Type 0} (f g : StoredResource → B) (rs : List StoredResource) → ((r : StoredResource) → IsResourceAmong r rs → f r ≡ g r) → map f rs ≡ map g rs
+pub map_on : {B : Type 0} (f g : StoredResource → B) (rs : List StoredResource) → ((r : StoredResource) → IsIn r rs → f r ≡ g r) → map f rs ≡ map g rs
 map_on f g [] same = refl
 map_on f g (r ∷ rs) same = ap (λ x. x ∷ map f rs) (same r (inl refl)) ∙ ap (λ xs. g r ∷ xs) (map_on f g rs (λ x there. same x (inr there)))
 
 -- a resource is found by its key
-pub resource_is : (r : StoredResource) (rs : List StoredResource) → AreResourcesApart rs → IsResourceAmong r rs → resource_at r.at rs ≡ Some r
+pub resource_is : (r : StoredResource) (rs : List StoredResource) → AreResourcesApart rs → IsIn r rs → resource_at r.at rs ≡ Some r
 resource_is r [] apart found = absurd found
 resource_is r (x ∷ rs) apart found =
     elim found [
@@ -68,19 +69,19 @@ resource_is r (x ∷ rs) apart found =
     ]
 
 -- the queue of a stored resource
-pub queue_at : (s : Records) → IsSound s → (r : StoredResource) → IsResourceAmong r s.resources → (queue : Queue) → locks_at (Queued r.at queue) s ≡ queued queue r
+pub queue_at : (s : Records) → IsSound s → (r : StoredResource) → IsIn r s.resources → (queue : Queue) → locks_at (Queued r.at queue) s ≡ queued queue r
 queue_at s sound r among queue = ap (λ o. option_map_or (queued queue) o []) (resource_is r s.resources sound.resources_apart among)
 
 -- a queue without a lock that does not stand there stays
-pub queue_without : (s : Records) → IsSound s → (at : ℕ) (r : StoredResource) → IsResourceAmong r s.resources
-    → ((queue : Queue) (row : Row) → ¬ IsAmong (record { at = at; row = row }) (locks_at (Queued r.at queue) s)) → (queue : Queue) → without_lock at (queued queue r) ≡ queued queue r
+pub queue_without : (s : Records) → IsSound s → (at : ℕ) (r : StoredResource) → IsIn r s.resources
+    → ((queue : Queue) (row : Row) → ¬ IsIn (record { at = at; row = row }) (locks_at (Queued r.at queue) s)) → (queue : Queue) → without_lock at (queued queue r) ≡ queued queue r
 queue_without s sound at r among absent queue =
-    without_absent at (queued queue r) (λ row found. absent queue row (subst (IsAmong (record { at = at; row = row })) (sym (queue_at s sound r among queue)) found))
+    without_absent at (queued queue r) (λ row found. absent queue row (subst (IsIn (record { at = at; row = row })) (sym (queue_at s sound r among queue)) found))
 
 -- ---- a lock moves
 
 -- a lock that stands at one place leaves the lists of no other
-module _ (s : Records) (at : ℕ) (row : Row) (from : Place) (sound : IsSound s) (stands : IsAmong (record { at = at; row = row }) (locks_at from s)) where
+module _ (s : Records) (at : ℕ) (row : Row) (from : Place) (sound : IsSound s) (stands : IsIn (record { at = at; row = row }) (locks_at from s)) where
   pub unmoved : (p : Place) → p ≢ from → without_lock at (locks_at p s) ≡ locks_at p s
   unmoved p differs = without_absent at (locks_at p s) (λ other found. differs (sound.one_place at other row p from found stands))
 
@@ -88,9 +89,9 @@ module _ (s : Records) (at : ℕ) (row : Row) (from : Place) (sound : IsSound s)
 abbrev with_joined : StoredLock → Bool → List StoredLock → List StoredLock
 with_joined lock here locks = cond here (locks ++ lock ∷ []) locks
 
-module _ (s : Records) (sound : IsSound s) (at : ℕ) (was row : Row) (stands : IsAmong (record { at = at; row = was }) s.loose) (res : ℕ) (to : Queue) where
+module _ (s : Records) (sound : IsSound s) (at : ℕ) (was row : Row) (stands : IsIn (record { at = at; row = was }) s.loose) (res : ℕ) (to : Queue) where
   -- each resource is as it was, but for the one that the lock joins
-  joins : (x : StoredResource) → IsResourceAmong x s.resources
+  joins : (x : StoredResource) → IsIn x s.resources
       → resource_with (moving (Queued res to) (record { at = at; row = row })) x ≡ cond (x.at == res) (joined_by to (record { at = at; row = row }) x) x
   joins x among =
       let kept = queue_without s sound at x among (λ queue other found. no_queue x.at queue (sound.one_place at other was (Queued x.at queue) Loose found stands)) in

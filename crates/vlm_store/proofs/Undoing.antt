@@ -9,7 +9,7 @@ use Rattle.vlm_words.specs.declared.steps.Declaration.{Declaration}
 use Rattle.vlm_words.specs.declared.resources.Queue.TheVariants.{Granted, Conversion, Waiting}
 use Rattle.vlm_words.specs.declared.resources.Site.{Site}
 use Rattle.vlm_store.specs.declared.keys.Place.TheVariants.{Loose, Queued}
-use Rattle.vlm_store.specs.Records.{HasProcess, HasResource, IsOwnAmong, IsProcessAmong, OwnLock, StoredProcess, Stores, new_own, new_stored_process, process_at, process_with_lock, process_without_lock, with_new_lock, with_sublock, without_process, without_stored_lock, without_sublock, IsResourceAmong, IsSound, IsStored, Records, StoredLock, StoredResource, leaving, new_resource, resource_at, resource_with, without_lock, without_resource}
+use Rattle.vlm_store.specs.Records.{HasProcess, HasResource, OwnLock, StoredProcess, Stores, new_own, new_stored_process, process_at, process_with_lock, process_without_lock, with_new_lock, with_sublock, without_process, without_stored_lock, without_sublock, IsSound, IsStored, Records, StoredLock, StoredResource, leaving, new_resource, resource_at, resource_with, without_lock, without_resource}
 use Rattle.vlm_store.proofs.Records.{map_on, queue_without, without_absent}
 
 without_last : (at : ℕ) (row : Row) (locks : List StoredLock) → without_lock at (locks ++ record { at = at; row = row } ∷ []) ≡ without_lock at locks
@@ -48,13 +48,13 @@ process_undone s at pid d absent = ap (λ x. record s { processes = x }) (each s
         ]
 
 module _ (s : Records) (at : ℕ) (sound : IsSound s) (absent : ¬ IsStored at s) where
-  resource_same : (r : StoredResource) → IsResourceAmong r s.resources → resource_with (leaving at) r ≡ r
+  resource_same : (r : StoredResource) → IsIn r s.resources → resource_with (leaving at) r ≡ r
   resource_same r among =
       let stays = queue_without s sound at r among (λ queue row found. absent (row, (Queued r.at queue, found))) in
       rw (stays Granted, stays Conversion, stays Waiting) refl
 
   -- the locks of a process are as they were
-  own_same : (p : StoredProcess) → IsProcessAmong p s.processes → (parent : Option ℕ) (own : List OwnLock) → ((o : OwnLock) → IsOwnAmong o own → IsOwnAmong o p.own)
+  own_same : (p : StoredProcess) → IsIn p s.processes → (parent : Option ℕ) (own : List OwnLock) → ((o : OwnLock) → IsIn o own → IsIn o p.own)
       → map (without_sublock at) (filter (λ (o : OwnLock). not (o.at == at)) (map (with_sublock parent at) own)) ≡ own
   own_same p among parent [] within = refl
   own_same p among parent (o ∷ rest) within =
@@ -77,7 +77,7 @@ module _ (s : Records) (at : ℕ) (sound : IsSound s) (absent : ¬ IsStored at s
             | false ↦ ap (λ x. record { at = o.at; sublocks = x }) (key_absent at o.sublocks none)
           ]
 
-  process_same : (p : StoredProcess) → IsProcessAmong p s.processes → (owner : ℕ) (parent : Option ℕ) → process_without_lock at (process_with_lock owner parent at p) ≡ p
+  process_same : (p : StoredProcess) → IsIn p s.processes → (owner : ℕ) (parent : Option ℕ) → process_without_lock at (process_with_lock owner parent at p) ≡ p
   process_same p among owner parent =
       ap (λ x. record p { own = x })
       (elim (p.at == owner) as (λ b. map (without_sublock at) (filter (λ (o : OwnLock). not (o.at == at)) (map (with_sublock parent at) p.own ++ cond b (new_own at) [])) ≡ p.own) [
@@ -92,7 +92,7 @@ module _ (s : Records) (at : ℕ) (sound : IsSound s) (absent : ¬ IsStored at s
       (without_last at row s.loose ∙ without_absent at s.loose (λ r found. absent (r, (Loose, found))))
       ∙ ap (λ x. record s { processes = x }) (each s.processes (λ p here. here))
     where
-      each : (ps : List StoredProcess) → ((p : StoredProcess) → IsProcessAmong p ps → IsProcessAmong p s.processes) → map (process_without_lock at) (map (process_with_lock owner parent at) ps) ≡ ps
+      each : (ps : List StoredProcess) → ((p : StoredProcess) → IsIn p ps → IsIn p s.processes) → map (process_without_lock at) (map (process_with_lock owner parent at) ps) ≡ ps
       each [] within = refl
       each (p ∷ rest) within =
           ap (λ x. x ∷ map (process_without_lock at) (map (process_with_lock owner parent at) rest)) (process_same p (within p (inl refl)) owner parent)
