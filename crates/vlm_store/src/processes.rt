@@ -30,11 +30,13 @@ pub struct Authorization {
 /// A living process.
 #[derive(Drop)]
 pub struct Process {
+    // its identification, by which it is found
     pub(crate) pid: u32,
     /// What it may do.
     pub authorization: Authorization,
     /// Its status blocks: block n stands at n - 1.
     pub blocks: Vec<Block>,
+    // its locks in order of making, those that wait too
     pub(crate) own: LinkedList<OfProcess>,
     // the processes declared before and after it
     pub(crate) in_order: Links,

@@ -25,10 +25,13 @@ use vlm_words::resources::{Key, Site, ValueBlock};
 
 /// The records of the machine. Each call takes constant time but for the growth of an add.
 pub struct Store {
+    // where status blocks are made; slabs and indexes have it too
     pub(crate) alloc: Global,
+    // the locks and the resources, and the lists of locks that are queues
     pub(crate) queues: Queues,
     // the resources in order of making
     order: LinkedList<InOrder>,
+    // the living processes, each with its status blocks
     pub(crate) processes: Slab<Process>,
     // the processes in order of making
     pub(crate) process_order: LinkedList<InOrder>,
