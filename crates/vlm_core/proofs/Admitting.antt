@@ -14,8 +14,9 @@ use Rattle.vlm_words.specs.Dequeue.{cancel_refusal, dequeue_lkid, is_granted}
 use Rattle.vlm_words.specs.Withdrawals.{Withdrawal}
 use Rattle.vlm_words.specs.Flags.{cancel, has_flag}
 use Rattle.vlm_words.specs.Rows.{is_lock_of}
+use Rattle.vlm_links.specs.Lists.{IsIn}
 use Rattle.vlm_store.specs.Plain.{plain_resource, plain_resources}
-use Rattle.vlm_store.specs.Records.{IsAmong, IsResourceAmong, IsSound, Records, StoredResource, queued, rows_of}
+use Rattle.vlm_store.specs.Records.{IsSound, Records, StoredResource, queued, rows_of}
 use Rattle.vlm_locks.proofs.Found.{resource_alone, resource_at-at}
 use Rattle.vlm_locks.specs.declared.finding.Standing.{Standing}
 use Rattle.vlm_locks.specs.Converting.{admission_on}
@@ -32,15 +33,15 @@ module _ (s : Records) (sound : IsSound s) (f : Standing) (standing : IsStanding
   own = standing.resource
 
   -- a lock that is granted stands in the granted queue of its resource
-  in_granted : f.queue ≡ Granted → IsAmong (record { at = f.lock; row = f.row }) own.granted
-  in_granted granted = subst (λ (queue : Queue). IsAmong (record { at = f.lock; row = f.row }) (queued queue own)) granted standing.among
+  in_granted : f.queue ≡ Granted → IsIn (record { at = f.lock; row = f.row }) own.granted
+  in_granted granted = subst (λ (queue : Queue). IsIn (record { at = f.lock; row = f.row }) (queued queue own)) granted standing.among
 
   -- a lock that is not granted stands in no granted queue
-  in_no_granted : f.queue ≢ Granted → (r : StoredResource) → IsResourceAmong r s.resources → IsAbsent f.row.lkid r.granted
+  in_no_granted : f.queue ≢ Granted → (r : StoredResource) → IsIn r s.resources → IsAbsent f.row.lkid r.granted
   in_no_granted ungranted r among = absent s sound f standing r among Granted (λ e. ungranted (cc))
 
   -- a lock stands in the granted queue of no other resource than its own
-  on_no_other : (r : StoredResource) → IsResourceAmong r s.resources → r.at ≢ f.res → IsAbsent f.row.lkid r.granted
+  on_no_other : (r : StoredResource) → IsIn r s.resources → r.at ≢ f.res → IsAbsent f.row.lkid r.granted
   on_no_other r among differs = absent s sound f standing r among Granted (λ e. differs (cc))
 
   -- the conversion that is asked for, among these resources
@@ -58,7 +59,7 @@ module _ (s : Records) (sound : IsSound s) (f : Standing) (standing : IsStanding
       found : granted_row own ≡ Some f.row
       found = find-only (record { at = f.lock; row = f.row }) own.granted (only s sound f standing own (own_among s sound f standing) Granted) (in_granted granted)
 
-      of_list : (rs : List StoredResource) → ((r : StoredResource) → IsResourceAmong r rs → IsResourceAmong r s.resources) → IsResourceAmong own rs
+      of_list : (rs : List StoredResource) → ((r : StoredResource) → IsIn r rs → IsIn r s.resources) → IsIn own rs
           → admits asked rs ≡ Some (admission_on f asked own)
       of_list [] within among = absurd among
       of_list (r ∷ rest) within among =
@@ -79,7 +80,7 @@ module _ (s : Records) (sound : IsSound s) (f : Standing) (standing : IsStanding
   pub admitted_nowhere : (asked : Request) → f.queue ≢ Granted → admission_among asked f.row.pid f.row.lkid (plain_resources s) ≡ None
   admitted_nowhere asked ungranted = of_list s.resources (λ r here. here)
     where
-      of_list : (rs : List StoredResource) → ((r : StoredResource) → IsResourceAmong r rs → IsResourceAmong r s.resources) → admits asked rs ≡ None
+      of_list : (rs : List StoredResource) → ((r : StoredResource) → IsIn r rs → IsIn r s.resources) → admits asked rs ≡ None
       of_list [] within = refl
       of_list (r ∷ rest) within =
           ap (λ o. admission_or asked (plain_resource r) o (admits asked rest)) (find-absent f.row.pid f.row.lkid r.granted (in_no_granted ungranted r (within r (inl refl))))
@@ -93,7 +94,7 @@ module _ (s : Records) (sound : IsSound s) (f : Standing) (standing : IsStanding
   pub granted_here : f.queue ≡ Granted → is_granted f.row.pid f.row.lkid (plain_resources s) ≡ true
   granted_here granted = of_list s.resources (own_among s sound f standing)
     where
-      of_list : (rs : List StoredResource) → IsResourceAmong own rs → is_granted f.row.pid f.row.lkid (map plain_resource rs) ≡ true
+      of_list : (rs : List StoredResource) → IsIn own rs → is_granted f.row.pid f.row.lkid (map plain_resource rs) ≡ true
       of_list [] among = absurd among
       of_list (r ∷ rest) among =
           elim among [
@@ -107,7 +108,7 @@ module _ (s : Records) (sound : IsSound s) (f : Standing) (standing : IsStanding
   pub granted_nowhere : f.queue ≢ Granted → is_granted f.row.pid f.row.lkid (plain_resources s) ≡ false
   granted_nowhere ungranted = of_list s.resources (λ r here. here)
     where
-      of_list : (rs : List StoredResource) → ((r : StoredResource) → IsResourceAmong r rs → IsResourceAmong r s.resources) → is_granted f.row.pid f.row.lkid (map plain_resource rs) ≡ false
+      of_list : (rs : List StoredResource) → ((r : StoredResource) → IsIn r rs → IsIn r s.resources) → is_granted f.row.pid f.row.lkid (map plain_resource rs) ≡ false
       of_list [] within = refl
       of_list (r ∷ rest) within =
           ap (λ b. b || is_granted f.row.pid f.row.lkid (map plain_resource rest)) (any-absent f.row.pid f.row.lkid r.granted (in_no_granted ungranted r (within r (inl refl))))

@@ -17,7 +17,7 @@ use Rattle.vlm_links.specs.Lists.{IsIn}
 use Rattle.vlm_store.specs.declared.keys.Place.{Place}
 use Rattle.vlm_store.specs.declared.keys.Place.TheVariants.{Loose, Queued}
 use Rattle.vlm_store.specs.Plain.{plain_resource, plain_resources}
-use Rattle.vlm_store.specs.Records.{HasNoSublocks, IsAmong, IsOwnAmong, IsProcessAmong, IsResourceAmong, IsSound, OwnLock, Records, StoredLock, StoredProcess, StoredResource, Stores, locks_at, queued, resource_at, rows_of}
+use Rattle.vlm_store.specs.Records.{HasNoSublocks, IsSound, OwnLock, Records, StoredLock, StoredProcess, StoredResource, Stores, locks_at, queued, resource_at, rows_of}
 use Rattle.vlm_locks.specs.declared.finding.Standing.{Standing}
 use Rattle.vlm_locks.specs.Standing.{IsStanding}
 use Rattle.vlm_locks.specs.Withdrawing.{goes}
@@ -25,37 +25,37 @@ use Rattle.vlm_locks.proofs.Stood.{one_lock, queued_stored, resource_among, stan
 use Rattle.vlm_core.specs.Machine.{Kept, plain_state}
 use Rattle.vlm_core.proofs.Siting.{each_resource}
 use Rattle.vlm_core.proofs.ToCome.{counted_all, counted_on}
-use Rattle.vlm_store.proofs.Undoing.{queue_at}
+use Rattle.vlm_store.proofs.Records.{queue_at}
 
 -- a stored lock in its queue
 pub record IsQueued (at : ℕ) (row : Row) (s : Records) : Type 0 where
   pub resource : StoredResource
-  pub there : IsResourceAmong resource s.resources
+  pub there : IsIn resource s.resources
   pub queue : Queue
-  pub among : IsAmong (record { at = at; row = row }) (queued queue resource)
+  pub among : IsIn (record { at = at; row = row }) (queued queue resource)
 
 -- where none is loose, each stored lock stands in a queue
 pub in_queue : (s : Records) → s.loose ≡ [] → (at : ℕ) (row : Row) → Stores s at row → IsQueued at row s
 in_queue s none_loose at row stored = by_place stored.0 stored.1
   where
-    by_place : (place : Place) → IsAmong (record { at = at; row = row }) (locks_at place s) → IsQueued at row s
-    by_place Loose among = absurd (subst (IsAmong (record { at = at; row = row })) none_loose among)
+    by_place : (place : Place) → IsIn (record { at = at; row = row }) (locks_at place s) → IsQueued at row s
+    by_place Loose among = absurd (subst (IsIn (record { at = at; row = row })) none_loose among)
     by_place (Queued res queue) among = of_found (resource_at res s.resources) refl among
       where
-        of_found : (found : Option StoredResource) → resource_at res s.resources ≡ found → IsAmong (record { at = at; row = row }) (option_map_or (queued queue) found []) → IsQueued at row s
+        of_found : (found : Option StoredResource) → resource_at res s.resources ≡ found → IsIn (record { at = at; row = row }) (option_map_or (queued queue) found []) → IsQueued at row s
         of_found None is here = absurd here
         of_found (Some r) is here = record { resource = r; there = resource_among res s.resources r is; queue = queue; among = here }
 
 -- ---- the sublocks of a lock
 
 -- rows of which none is a sublock
-rows_none : (lkid : ℕ) (locks : List StoredLock) → ((k : StoredLock) → IsAmong k locks → k.row.parent ≢ lkid) → has_sublock lkid (rows_of locks) ≡ false
+rows_none : (lkid : ℕ) (locks : List StoredLock) → ((k : StoredLock) → IsIn k locks → k.row.parent ≢ lkid) → has_sublock lkid (rows_of locks) ≡ false
 rows_none lkid [] none = refl
 rows_none lkid (k ∷ rest) none =
     rw (ne_eqb k.row.parent lkid (none k (inl refl))) (rows_none lkid rest (λ x there. none x (inr there)))
 
 -- rows of which one is a sublock
-rows_some : (lkid : ℕ) (locks : List StoredLock) (k : StoredLock) → IsAmong k locks → k.row.parent ≡ lkid → has_sublock lkid (rows_of locks) ≡ true
+rows_some : (lkid : ℕ) (locks : List StoredLock) (k : StoredLock) → IsIn k locks → k.row.parent ≡ lkid → has_sublock lkid (rows_of locks) ≡ true
 rows_some lkid [] k among is = absurd among
 rows_some lkid (x ∷ rest) k among is =
     elim among [
@@ -64,7 +64,7 @@ rows_some lkid (x ∷ rest) k among is =
     ]
 
 -- a sublock stands on a resource, whichever its queue
-on_resource_some : (lkid : ℕ) (r : StoredResource) (queue : Queue) (k : StoredLock) → IsAmong k (queued queue r) → k.row.parent ≡ lkid → has_sublock_on lkid (plain_resource r) ≡ true
+on_resource_some : (lkid : ℕ) (r : StoredResource) (queue : Queue) (k : StoredLock) → IsIn k (queued queue r) → k.row.parent ≡ lkid → has_sublock_on lkid (plain_resource r) ≡ true
 on_resource_some lkid r Granted k among is = rw (rows_some lkid r.granted k among is) refl
 on_resource_some lkid r Conversion k among is =
     ap (λ b. b || has_sublock lkid (rows_of r.waiting))
@@ -73,7 +73,7 @@ on_resource_some lkid r Waiting k among is =
     or_right (has_sublock lkid (rows_of r.granted) || has_sublock lkid (rows_of r.converting)) (has_sublock lkid (rows_of r.waiting)) (rows_some lkid r.waiting k among is)
 
 -- and among all
-among_all_some : (lkid : ℕ) (rs : List StoredResource) (r : StoredResource) → IsResourceAmong r rs → has_sublock_on lkid (plain_resource r) ≡ true
+among_all_some : (lkid : ℕ) (rs : List StoredResource) (r : StoredResource) → IsIn r rs → has_sublock_on lkid (plain_resource r) ≡ true
     → list_any (has_sublock_on lkid) (map plain_resource rs) ≡ true
 among_all_some lkid [] r among is = absurd among
 among_all_some lkid (x ∷ rest) r among is =
@@ -94,10 +94,10 @@ module _ (s : Records) (sound : IsSound s) (none_loose : s.loose ≡ []) (f : St
           sound.lkids_apart parent.1.at f.lock parent.2 f.row parent.3.3 (stored s f standing) (parent.3.4 ∙ is) in
           subst (IsIn at) (childless parent.0 parent.1 parent.3.0 parent.3.1 same) parent.3.2
 
-      none_on : (r : StoredResource) → IsResourceAmong r s.resources → (queue : Queue) → has_sublock f.row.lkid (rows_of (queued queue r)) ≡ false
+      none_on : (r : StoredResource) → IsIn r s.resources → (queue : Queue) → has_sublock f.row.lkid (rows_of (queued queue r)) ≡ false
       none_on r among queue = rows_none f.row.lkid (queued queue r) (λ k here. none_stored k.at k.row (queued_stored s sound r among queue k here))
 
-      of_list : (rs : List StoredResource) → ((r : StoredResource) → IsResourceAmong r rs → IsResourceAmong r s.resources)
+      of_list : (rs : List StoredResource) → ((r : StoredResource) → IsIn r rs → IsIn r s.resources)
           → list_any (has_sublock_on f.row.lkid) (map plain_resource rs) ≡ false
       of_list [] within = refl
       of_list (r ∷ rest) within =
@@ -107,7 +107,7 @@ module _ (s : Records) (sound : IsSound s) (none_loose : s.loose ≡ []) (f : St
           ∙ of_list rest (λ x there. within x (inr there))
 
   -- a sublock in the list of the lock is a stored lock whose row names it
-  sublock_stored : (p : StoredProcess) (own : OwnLock) (at : ℕ) → IsProcessAmong p s.processes → IsOwnAmong own p.own → own.at ≡ f.lock → IsIn at own.sublocks
+  sublock_stored : (p : StoredProcess) (own : OwnLock) (at : ℕ) → IsIn p s.processes → IsIn own p.own → own.at ≡ f.lock → IsIn at own.sublocks
       → (row : Row) × (Stores s at row × (row.parent ≡ f.row.lkid))
   sublock_stored p own at among here same is_in =
       let below = sound.owned.below p own at among here is_in in
@@ -149,13 +149,13 @@ module _ (s : Records) (sound : IsSound s) (none_loose : s.loose ≡ []) (f : St
   -- ---- a lock that waits has no sublocks: a parent holds a mode
 
   -- what holds on a resource stands in its granted or its conversion queue
-  held_stands : (r : StoredResource) → IsResourceAmong r s.resources → (lkid pid : ℕ) → HoldsOn lkid pid (plain_resource r)
-      → (k : StoredLock) × (queue : Queue) × (IsAmong k (queued queue r) × (queue ≢ Waiting) × (k.row.lkid ≡ lkid))
+  held_stands : (r : StoredResource) → IsIn r s.resources → (lkid pid : ℕ) → HoldsOn lkid pid (plain_resource r)
+      → (k : StoredLock) × (queue : Queue) × (IsIn k (queued queue r) × (queue ≢ Waiting) × (k.row.lkid ≡ lkid))
   held_stands r among lkid pid holds = of_granted r.granted (λ k here. here) holds
     where
-      of_converting : (locks : List StoredLock) → ((k : StoredLock) → IsAmong k locks → IsAmong k r.converting)
+      of_converting : (locks : List StoredLock) → ((k : StoredLock) → IsIn k locks → IsIn k r.converting)
           → Any (λ (row : Row). (row.lkid ≡ lkid) × (row.pid ≡ pid)) (rows_of locks)
-          → (k : StoredLock) × (queue : Queue) × (IsAmong k (queued queue r) × (queue ≢ Waiting) × (k.row.lkid ≡ lkid))
+          → (k : StoredLock) × (queue : Queue) × (IsIn k (queued queue r) × (queue ≢ Waiting) × (k.row.lkid ≡ lkid))
       of_converting [] within any = absurd (Any-none (λ (row : Row). (row.lkid ≡ lkid) × (row.pid ≡ pid)) any)
       of_converting (k ∷ rest) within any =
           elim (Any-cases (λ (row : Row). (row.lkid ≡ lkid) × (row.pid ≡ pid)) k.row (rows_of rest) any) [
@@ -163,9 +163,9 @@ module _ (s : Records) (sound : IsSound s) (none_loose : s.loose ≡ []) (f : St
             | inr there ↦ of_converting rest (λ x later. within x (inr later)) there
           ]
 
-      of_granted : (locks : List StoredLock) → ((k : StoredLock) → IsAmong k locks → IsAmong k r.granted)
+      of_granted : (locks : List StoredLock) → ((k : StoredLock) → IsIn k locks → IsIn k r.granted)
           → Any (λ (row : Row). (row.lkid ≡ lkid) × (row.pid ≡ pid)) (rows_of locks ++ rows_of r.converting)
-          → (k : StoredLock) × (queue : Queue) × (IsAmong k (queued queue r) × (queue ≢ Waiting) × (k.row.lkid ≡ lkid))
+          → (k : StoredLock) × (queue : Queue) × (IsIn k (queued queue r) × (queue ≢ Waiting) × (k.row.lkid ≡ lkid))
       of_granted [] within any = of_converting r.converting (λ k here. here) any
       of_granted (k ∷ rest) within any =
           elim (Any-cases (λ (row : Row). (row.lkid ≡ lkid) × (row.pid ≡ pid)) k.row (rows_of rest ++ rows_of r.converting) any) [
@@ -174,7 +174,7 @@ module _ (s : Records) (sound : IsSound s) (none_loose : s.loose ≡ []) (f : St
           ]
 
   -- on some resource a lock of the identification holds a mode: then the lock that waits is another
-  none_waits : f.queue ≡ Waiting → (rs : List StoredResource) → ((r : StoredResource) → IsResourceAmong r rs → IsResourceAmong r s.resources) → (serial pid : ℕ)
+  none_waits : f.queue ≡ Waiting → (rs : List StoredResource) → ((r : StoredResource) → IsIn r rs → IsIn r s.resources) → (serial pid : ℕ)
       → Any (λ up. (up.serial ≡ serial) × HoldsOn f.row.lkid pid up) (map plain_resource rs) → ⊥
   none_waits waits [] within serial pid any = Any-none (λ (up : Resource). (up.serial ≡ serial) × HoldsOn f.row.lkid pid up) any
   none_waits waits (r ∷ rest) within serial pid any =
@@ -183,9 +183,9 @@ module _ (s : Records) (sound : IsSound s) (none_loose : s.loose ≡ []) (f : St
             let k : StoredLock = held.0 in
             let is_stored : Stores s k.at k.row = queued_stored s sound r (within r (inl refl)) held.1 k held.2.0 in
             let same : k.at ≡ f.lock = sound.lkids_apart k.at f.lock k.row f.row is_stored (stored s f standing) held.2.2 in
-            let there : IsAmong (record { at = f.lock; row = k.row }) (locks_at (Queued r.at held.1) s) =
-            subst (λ x. IsAmong (record { at = x; row = k.row }) (locks_at (Queued r.at held.1) s)) same
-            (subst (IsAmong k) (sym (queue_at s sound r (within r (inl refl)) held.1)) held.2.0) in
+            let there : IsIn (record { at = f.lock; row = k.row }) (locks_at (Queued r.at held.1) s) =
+            subst (λ x. IsIn (record { at = x; row = k.row }) (locks_at (Queued r.at held.1) s)) same
+            (subst (IsIn k) (sym (queue_at s sound r (within r (inl refl)) held.1)) held.2.0) in
             let place : Queued r.at held.1 ≡ Queued f.res f.queue =
             sound.one_place f.lock k.row f.row (Queued r.at held.1) (Queued f.res f.queue) there (stands s f standing) in
             held.2.1 (same_queue r.at f.res held.1 f.queue place ∙ waits))
@@ -200,7 +200,7 @@ module _ (s : Records) (sound : IsSound s) (none_loose : s.loose ≡ []) (f : St
       → f.queue ≡ Waiting → HasNoSublocks f.lock s
   waiting_childless no_lkid_0 parents waits p own among here same = of_list own.sublocks refl
     where
-      in_rows : (locks : List StoredLock) (k : StoredLock) (P : Row → Type 0) → AllByRecursion P (rows_of locks) → IsAmong k locks → P k.row
+      in_rows : (locks : List StoredLock) (k : StoredLock) (P : Row → Type 0) → AllByRecursion P (rows_of locks) → IsIn k locks → P k.row
       in_rows [] k P each is = absurd is
       in_rows (x ∷ rest) k P each is =
           elim is [
@@ -213,7 +213,7 @@ module _ (s : Records) (sound : IsSound s) (none_loose : s.loose ≡ []) (f : St
       parts P (x ∷ xs) ys each = let rest = parts P xs ys each.1 in ((each.0, rest.0), rest.1)
 
       of_queue : (r : StoredResource) (queue : Queue) (k : StoredLock) (P : Row → Type 0)
-          → AllByRecursion P (rows_of r.granted ++ rows_of r.converting ++ rows_of r.waiting) → IsAmong k (queued queue r) → P k.row
+          → AllByRecursion P (rows_of r.granted ++ rows_of r.converting ++ rows_of r.waiting) → IsIn k (queued queue r) → P k.row
       of_queue r Granted k P each is =
           in_rows r.granted k P (parts P (rows_of r.granted) (rows_of r.converting) (parts P (rows_of r.granted ++ rows_of r.converting) (rows_of r.waiting) each).0).0 is
       of_queue r Conversion k P each is =

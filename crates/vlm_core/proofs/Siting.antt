@@ -21,9 +21,10 @@ use Rattle.vlm_words.specs.Flags.{flag_bits}
 use Rattle.vlm_words.specs.declared.steps.NewRequest.{NewRequest}
 use Rattle.vlm_words.specs.Trees.{depth_refusal, enq_site, parent_refusal, parent_resource, root_domain, site_below, waiting_refusal}
 use Rattle.vlm_words.proofs.Passed.{both_pass, test_passes}
+use Rattle.vlm_links.specs.Lists.{IsIn}
 use Rattle.vlm_store.specs.declared.keys.Place.TheVariants.{Queued}
 use Rattle.vlm_store.specs.Plain.{plain_resource, plain_resources}
-use Rattle.vlm_store.specs.Records.{IsAmong, IsParentOf, IsResourceAmong, IsSound, Records, StoredResource, queued, resource_at, rows_of}
+use Rattle.vlm_store.specs.Records.{IsParentOf, IsSound, Records, StoredResource, queued, resource_at, rows_of}
 use Rattle.vlm_locks.proofs.Found.{resource_alone, resource_at-at}
 use Rattle.vlm_locks.specs.declared.finding.Standing.{Standing}
 use Rattle.vlm_locks.specs.Standing.{IsStanding, IsStandingOf}
@@ -35,7 +36,7 @@ use Rattle.vlm_core.specs.Machine.{Kept, plain_state}
 use Rattle.vlm_core.specs.Parents.{IsParent, IsParentStanding, lkid_of}
 
 -- what is so of each plain resource is so of each stored one
-pub each_resource : (P : Resource → Type 0) (rs : List StoredResource) → AllByRecursion P (map plain_resource rs) → (r : StoredResource) → IsResourceAmong r rs → P (plain_resource r)
+pub each_resource : (P : Resource → Type 0) (rs : List StoredResource) → AllByRecursion P (map plain_resource rs) → (r : StoredResource) → IsIn r rs → P (plain_resource r)
 each_resource P [] each r among = absurd among
 each_resource P (x ∷ rest) each r among =
     elim among [
@@ -53,14 +54,14 @@ module _ (s : Records) (sound : IsSound s) (f : Standing) (standing : IsStanding
   is_in queue r = list_any (is_lock_of f.row.pid f.row.lkid) (rows_of (queued queue r))
 
   -- it is in no queue but its own
-  not_in : (r : StoredResource) → IsResourceAmong r s.resources → (queue : Queue) → Queued r.at queue ≢ Queued f.res f.queue → is_in queue r ≡ false
+  not_in : (r : StoredResource) → IsIn r s.resources → (queue : Queue) → Queued r.at queue ≢ Queued f.res f.queue → is_in queue r ≡ false
   not_in r among queue differs = any-absent f.row.pid f.row.lkid (queued queue r) (absent s sound f standing r among queue differs)
 
   -- it is in its own
   in_own : (queue : Queue) → f.queue ≡ queue → is_in queue standing.resource ≡ true
   in_own queue is =
       any-among (record { at = f.lock; row = f.row }) (queued queue standing.resource)
-      (subst (λ (q : Queue). IsAmong (record { at = f.lock; row = f.row }) (queued q standing.resource)) is standing.among)
+      (subst (λ (q : Queue). IsIn (record { at = f.lock; row = f.row }) (queued q standing.resource)) is standing.among)
 
   -- it waits where its queue is the waiting one
   pub waits : f.queue ≡ Waiting → is_in Waiting standing.resource ≡ true
@@ -77,7 +78,7 @@ module _ (s : Records) (sound : IsSound s) (f : Standing) (standing : IsStanding
   holds_own Waiting is = or_right (is_in Granted standing.resource || is_in Conversion standing.resource) (is_in Waiting standing.resource) (in_own Waiting is)
 
   -- no other does
-  holds_not : (r : StoredResource) → IsResourceAmong r s.resources → r.at ≢ f.res → holds_lock f.row.pid f.row.lkid (plain_resource r) ≡ false
+  holds_not : (r : StoredResource) → IsIn r s.resources → r.at ≢ f.res → holds_lock f.row.pid f.row.lkid (plain_resource r) ≡ false
   holds_not r among differs =
       rw (not_in r among Granted (λ e. differs (cc)), not_in r among Conversion (λ e. differs (cc)), not_in r among Waiting (λ e. differs (cc))) refl
 
@@ -85,7 +86,7 @@ module _ (s : Records) (sound : IsSound s) (f : Standing) (standing : IsStanding
   pub holder_is : find (holds_lock f.row.pid f.row.lkid) (plain_resources s) ≡ Some (plain_resource standing.resource)
   holder_is = of_list s.resources (λ r here. here) (own_among s sound f standing)
     where
-      of_list : (rs : List StoredResource) → ((r : StoredResource) → IsResourceAmong r rs → IsResourceAmong r s.resources) → IsResourceAmong standing.resource rs
+      of_list : (rs : List StoredResource) → ((r : StoredResource) → IsIn r rs → IsIn r s.resources) → IsIn standing.resource rs
           → find (holds_lock f.row.pid f.row.lkid) (map plain_resource rs) ≡ Some (plain_resource standing.resource)
       of_list [] within among = absurd among
       of_list (r ∷ rest) within among =
@@ -116,7 +117,7 @@ unfolding parent_resource
 parent_none m pid = refl
 
 -- the serial of a stored resource is none of 0
-pub serial_from_1 : (s : Records) → All (λ (r : Resource). 0 < r.serial) (plain_resources s) → (r : StoredResource) → IsResourceAmong r s.resources → 0 < r.serial
+pub serial_from_1 : (s : Records) → All (λ (r : Resource). 0 < r.serial) (plain_resources s) → (r : StoredResource) → IsIn r s.resources → 0 < r.serial
 serial_from_1 s all r among =
     each_resource (λ x. 0 < x.serial) s.resources (recursion_from_All (λ (x : Resource). 0 < x.serial) (plain_resources s) all) r among
 

@@ -1,7 +1,8 @@
 -- What stays where only processes change.
 use Rattle.std.proofs.Common.{◌≡◌, ◌⊎◌, ℕ, List, [], ◌∷◌, ◌++◌, refl, sym, subst, inl, inr}
 use Rattle.vlm_words.specs.declared.steps.Declaration.{Declaration}
-use Rattle.vlm_store.specs.Records.{IsProcess, IsProcessAmong, IsUnchanged, Records, Room, StoredProcess, new_stored_process, with_process_room}
+use Rattle.vlm_links.specs.Lists.{IsIn}
+use Rattle.vlm_store.specs.Records.{IsProcess, IsUnchanged, Records, Room, StoredProcess, new_stored_process, with_process_room}
 use Rattle.vlm_locks.specs.Rest.{IsAtRest}
 use Rattle.vlm_locks.specs.Rising.{HasRisingLocks}
 use Rattle.vlm_locks.proofs.Rising.{all_rise_still, rises_still, were_stored}
@@ -14,7 +15,7 @@ pub caller_of : (caller : Caller) (s : Records) → IsProcess caller.at caller.p
 caller_of caller s is = record { lives = is; there = process_there s caller.at caller.pid is }
 
 -- a new process has no locks
-among_more : (ps : List StoredProcess) (made p : StoredProcess) → IsProcessAmong p (ps ++ made ∷ []) → IsProcessAmong p ps ⊎ (made ≡ p)
+among_more : (ps : List StoredProcess) (made p : StoredProcess) → IsIn p (ps ++ made ∷ []) → IsIn p ps ⊎ (made ≡ p)
 among_more [] made p among = elim among [ inl here ↦ inr here | inr there ↦ absurd there ]
 among_more (x ∷ ps) made p among =
     elim among [ inl here ↦ inl (inl here) | inr there ↦ elim (among_more ps made p there) [ inl was ↦ inl (inr was) | inr new ↦ inr new ] ]

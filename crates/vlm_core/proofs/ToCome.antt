@@ -15,10 +15,11 @@ use Rattle.vlm_words.specs.Declare.{declare_refusal, next_pid}
 use Rattle.vlm_words.specs.Laws.{DeclarationsGiveNewIdentifications, rows_on}
 use Rattle.vlm_words.specs.State.{Process}
 use Rattle.vlm_words.specs.Stepped.{refused_or, step_change}
+use Rattle.vlm_links.specs.Lists.{IsIn}
 use Rattle.vlm_store.specs.declared.keys.Place.{Place}
 use Rattle.vlm_store.specs.declared.keys.Place.TheVariants.{Loose, Queued}
 use Rattle.vlm_store.specs.Plain.{plain_resource, plain_resources}
-use Rattle.vlm_store.specs.Records.{IsAmong, IsNewLock, IsNewProcess, IsProcessAmong, IsResourceAmong, Records, StoredLock, StoredProcess, StoredResource, locks_at, queued, resource_at, rows_of}
+use Rattle.vlm_store.specs.Records.{IsNewLock, IsNewProcess, Records, StoredLock, StoredProcess, StoredResource, locks_at, queued, resource_at, rows_of}
 use Rattle.vlm_locks.specs.Rising.{IsAboveAll}
 use Rattle.vlm_locks.proofs.Stood.{resource_among}
 use Rattle.vlm_core.specs.Machine.{Kept, plain_state}
@@ -30,7 +31,7 @@ abbrev one_for : ℕ → Row → ℕ
 one_for lkid row = cond (row.lkid == lkid) 1 0
 
 -- a lock in a queue is counted there
-counted : (lkid : ℕ) (locks : List StoredLock) (k : StoredLock) → IsAmong k locks → k.row.lkid ≡ lkid → 1 ≤ sum_by (one_for lkid) (rows_of locks)
+counted : (lkid : ℕ) (locks : List StoredLock) (k : StoredLock) → IsIn k locks → k.row.lkid ≡ lkid → 1 ≤ sum_by (one_for lkid) (rows_of locks)
 counted lkid [] k among same = absurd among
 counted lkid (x ∷ rest) k among same =
     elim among [
@@ -41,13 +42,13 @@ counted lkid (x ∷ rest) k among same =
     ]
 
 -- and on its resource
-pub counted_on : (lkid : ℕ) (r : StoredResource) (queue : Queue) (k : StoredLock) → IsAmong k (queued queue r) → k.row.lkid ≡ lkid → 1 ≤ rows_on lkid (plain_resource r)
+pub counted_on : (lkid : ℕ) (r : StoredResource) (queue : Queue) (k : StoredLock) → IsIn k (queued queue r) → k.row.lkid ≡ lkid → 1 ≤ rows_on lkid (plain_resource r)
 counted_on lkid r Granted k among same = omega (arith, counted lkid r.granted k among same)
 counted_on lkid r Conversion k among same = omega (arith, counted lkid r.converting k among same)
 counted_on lkid r Waiting k among same = omega (arith, counted lkid r.waiting k among same)
 
 -- and of all
-pub counted_all : (lkid : ℕ) (rs : List StoredResource) (r : StoredResource) → IsResourceAmong r rs → rows_on lkid (plain_resource r) ≤ sum_by (rows_on lkid) (map plain_resource rs)
+pub counted_all : (lkid : ℕ) (rs : List StoredResource) (r : StoredResource) → IsIn r rs → rows_on lkid (plain_resource r) ≤ sum_by (rows_on lkid) (map plain_resource rs)
 counted_all lkid [] r among = absurd among
 counted_all lkid (x ∷ rest) r among =
     elim among [
@@ -61,11 +62,11 @@ counted_all lkid (x ∷ rest) r among =
 new_lock : (s : Records) (lkid : ℕ) → s.loose ≡ [] → sum_by (rows_on lkid) (plain_resources s) ≡ 0 → IsNewLock lkid s
 new_lock s lkid none_loose none at row stored same = by_place stored.0 stored.1
   where
-    by_place : (place : Place) → IsAmong (record { at = at; row = row }) (locks_at place s) → ⊥
-    by_place Loose among = subst (IsAmong (record { at = at; row = row })) none_loose among
+    by_place : (place : Place) → IsIn (record { at = at; row = row }) (locks_at place s) → ⊥
+    by_place Loose among = subst (IsIn (record { at = at; row = row })) none_loose among
     by_place (Queued res queue) among = of_found (resource_at res s.resources) refl among
       where
-        of_found : (found : Option StoredResource) → resource_at res s.resources ≡ found → IsAmong (record { at = at; row = row }) (option_map_or (queued queue) found []) → ⊥
+        of_found : (found : Option StoredResource) → resource_at res s.resources ≡ found → IsIn (record { at = at; row = row }) (option_map_or (queued queue) found []) → ⊥
         of_found None is here = here
         of_found (Some r) is here =
             let one : 1 ≤ rows_on lkid (plain_resource r) = counted_on lkid r queue (record { at = at; row = row }) here same in
@@ -79,7 +80,7 @@ above_all s lkid none_loose none at row stored = lt_of_not-le (λ from. new_lock
 -- ---- processes
 
 -- what each process has, a stored one has
-each_stored : (P : Process → Type 0) (ps : List StoredProcess) → All P (map (λ (p : StoredProcess). p.process) ps) → (p : StoredProcess) → IsProcessAmong p ps → P p.process
+each_stored : (P : Process → Type 0) (ps : List StoredProcess) → All P (map (λ (p : StoredProcess). p.process) ps) → (p : StoredProcess) → IsIn p ps → P p.process
 each_stored P [] all p among = absurd among
 each_stored P (x ∷ rest) all p among =
     elim among [

@@ -5,8 +5,9 @@ ghost use Rattle.vlm_words.specs.declared.resources.Queue.{Queue};
 ghost use Rattle.vlm_words.specs.Laws.{HeldModesAreCompatible, NothingIsLeftToGrant};
 ghost use Rattle.vlm_words.specs.State.{start};
 ghost use Rattle.vlm_words.specs.Stepped.{Outcome, stepped};
+ghost use Rattle.vlm_links.specs.Lists.{IsIn};
 ghost use Rattle.vlm_store.specs.Plain.{plain_processes, plain_resources};
-ghost use Rattle.vlm_store.specs.Records.{IsResourceAmong, StoredResource, queued, rows_of};
+ghost use Rattle.vlm_store.specs.Records.{StoredResource, queued, rows_of};
 ghost use Rattle.vlm_queue.specs.Walks.{GivesInTurn};
 ghost use Rattle.vlm_core.specs.Between.{IsBetweenSteps};
 
@@ -76,7 +77,7 @@ impl Core {
     pub fn store(&self) -> &Store
         ensures resources { plain_resources result.now ≡ self.now.resources }
         ensures processes { plain_processes result.now ≡ self.now.processes }
-        ensures queues { (r : StoredResource) → IsResourceAmong r result.now.resources
+        ensures queues { (r : StoredResource) → IsIn r result.now.resources
             → (queue : Queue) → GivesInTurn r.at queue (rows_of (queued queue r)) result.now }
         ensures none_loose { result.now.loose ≡ [] }
         ensures held { HeldModesAreCompatible self.now }

@@ -29,9 +29,6 @@ off_not_on end keys at on other off found same =
 IsOff-head : (first : ℕ) (rest : List ℕ) → ¬ IsIn first rest → IsOff rest (Some first)
 IsOff-head first rest absent key found same = absent (subst (λ k. IsIn k rest) (sym (same_Some first key same)) found)
 
-IsOff-none : (keys : List ℕ) → IsOff keys None
-IsOff-none keys key found same = none-some key same
-
 some_not_none : (key : ℕ) → Some key ≢ None
 some_not_none key same = none-some key (sym same)
 

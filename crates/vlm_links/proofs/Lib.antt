@@ -1,4 +1,5 @@
 pub mod Chains
+pub mod Images
 pub mod Keeping
 pub mod KeyLists
 pub mod Rings

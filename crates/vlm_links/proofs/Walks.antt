@@ -1,5 +1,5 @@
 -- Walks over the keys of a list, from the first to the last or back: for callers.
-use Rattle.std.proofs.Common.{◌≡◌, ℕ, List, [], ◌∷◌, ◌++◌, None, Some, refl, sym, ap, ◌∙◌, inl, inr, eq-eqb, ne_eqb}
+use Rattle.std.proofs.Common.{◌≡◌, ℕ, List, [], ◌∷◌, ◌++◌, Some, refl, sym, ap, ◌∙◌, inl, inr, eq-eqb, ne_eqb}
 use Rattle.std.proofs.lemmas.Bool.{cases_eq}
 use Rattle.std.proofs.lemmas.Option.{none-some, same_Some}
 use Rattle.vlm_links.specs.Lists.{IsIn, Place, before_from, first_key, key_after, key_before, last_from, last_key, without}
@@ -49,18 +49,10 @@ last_from-push : (from : Place) (before : List ℕ) (key : ℕ) → last_from fr
 last_from-push from [] key = refl
 last_from-push from (first ∷ rest) key = last_from-push (Some first) rest key
 
--- a walk back begins at the last key
-pub last_key-push : (before : List ℕ) (key : ℕ) → last_key (before ++ key ∷ []) ≡ Some key
-last_key-push before key = last_from-push None before key
-
 before_from-among : (from : Place) (before : List ℕ) (key : ℕ) (rest : List ℕ) → ¬ IsIn key before → before_from from key (before ++ key ∷ rest) ≡ last_from from before
 before_from-among from [] key rest absent = rw (eq-eqb key key refl) refl
 before_from-among from (first ∷ before) key rest absent =
     rw (ne_eqb first key (λ same. absent (inl same))) (before_from-among (Some first) before key rest (λ there. absent (inr there)))
-
--- and goes on with the last of those before a key
-pub key_before-among : (before : List ℕ) (key : ℕ) (rest : List ℕ) → ¬ IsIn key before → key_before key (before ++ key ∷ rest) ≡ last_key before
-key_before-among before key rest absent = before_from-among None before key rest absent
 
 -- a walk on goes on with the first of those behind a key
 pub key_after-among : (before : List ℕ) (key : ℕ) (rest : List ℕ) → ¬ IsIn key before → key_after key (before ++ key ∷ rest) ≡ first_key rest

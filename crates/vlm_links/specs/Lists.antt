@@ -9,10 +9,10 @@ use Rattle.vlm_links.specs.declared.lists.LinkedList.{LinkedList}
 abbrev pub without : ℕ → List ℕ → List ℕ
 without key keys = filter (λ other. not (other == key)) keys
 
--- the key is one of these
-abbrev pub IsIn : ℕ → List ℕ → Type 0
-IsIn key [] = ⊥
-IsIn key (first ∷ rest) = (first ≡ key) ⊎ IsIn key rest
+-- the one is among these
+abbrev pub IsIn : {A : Type 0} → A → List A → Type 0
+IsIn one [] = ⊥
+IsIn one (first ∷ rest) = (first ≡ one) ⊎ IsIn one rest
 
 -- no key is there twice
 abbrev pub IsApart : List ℕ → Type 0

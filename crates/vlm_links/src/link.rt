@@ -62,7 +62,9 @@ impl Link {
 /// The neighbours of a record in a list. A record that stands in no list may have any.
 #[derive(Clone, Copy)]
 pub struct Links {
+    // the handle of the record before it, none for the first
     pub(crate) prev: Link,
+    // the handle of the record after it, none for the last
     pub(crate) next: Link,
 }
 

@@ -36,9 +36,13 @@ pub trait Linked<Kind> {
 /// a slab, and each call is given the slab.
 #[derive_where(Clone, Copy)]
 pub struct LinkedList<Kind> {
+    // the handle of the first record, none in an empty list
     first: Link,
+    // the handle of the last record, none in an empty list
     last: Link,
+    // how many records stand in the list, the ends counted too
     len: u32,
+    // names the kind, and takes no room
     kind: PhantomData<Kind>,
 }
 

@@ -5,10 +5,11 @@ use Rattle.std.proofs.lemmas.Bool.{cases_eq}
 use Rattle.vlm_words.specs.State.{Resource}
 use Rattle.vlm_words.specs.declared.resources.Queue.{Queue}
 use Rattle.vlm_words.specs.declared.resources.Queue.TheVariants.{Granted, Conversion, Waiting}
+use Rattle.vlm_links.specs.Lists.{IsIn}
 use Rattle.vlm_store.specs.declared.keys.Place.TheVariants.{Loose, Queued}
 use Rattle.vlm_store.specs.Plain.{plain_processes, plain_resource}
-use Rattle.vlm_store.specs.Records.{IsAmong, IsResourceAmong, IsSound, Records, Rooms, SameButBlocks, StoredProcess, StoredResource, leaving, process_without_lock, queued, resource_at, resource_with, without_lock, without_stored_lock}
-use Rattle.vlm_store.proofs.Undoing.{map_on, queue_at, unmoved}
+use Rattle.vlm_store.specs.Records.{IsSound, Records, Rooms, SameButBlocks, StoredProcess, StoredResource, leaving, process_without_lock, queued, resource_at, resource_with, without_lock, without_stored_lock}
+use Rattle.vlm_store.proofs.Records.{map_on, queue_at, unmoved}
 use Rattle.vlm_locks.proofs.Found.{resource_alone}
 use Rattle.vlm_locks.specs.declared.finding.Standing.{Standing}
 use Rattle.vlm_locks.specs.Rest.{IsAtRest, IsReplaced, OthersStay}
@@ -23,7 +24,7 @@ use Rattle.vlm_locks.proofs.Stood.{stands}
 -- one resource is put in the place of another, as the plain change has it
 pub changed : (res : ℕ) (change : Resource → Resource) (had left : StoredResource) (old new : Records) → IsSound old → IsAtRest old → IsReplaced res had left old new → LocksStay left had
     → change (plain_resource had) ≡ plain_resource left
-    → ((x : StoredResource) → IsResourceAmong x old.resources → x.at ≢ res → change (plain_resource x) ≡ plain_resource x)
+    → ((x : StoredResource) → IsIn x old.resources → x.at ≢ res → change (plain_resource x) ≡ plain_resource x)
     → plain_processes new ≡ plain_processes old → IsChange res change old new
 changed res change had left old new sound rest replaced none_join here there statuses = record {
   resources = plain_replaced res had left old new replaced change sound here there;
@@ -35,7 +36,7 @@ changed res change had left old new sound rest replaced none_join here there sta
 
 -- nothing is changed, and the plain change changes nothing
 pub unchanged : (res : ℕ) (change : Resource → Resource) (had : StoredResource) (s : Records) → IsSound s → IsAtRest s → resource_at res s.resources ≡ Some had
-    → ((x : StoredResource) → IsResourceAmong x s.resources → change (plain_resource x) ≡ plain_resource x) → IsChange res change s s
+    → ((x : StoredResource) → IsIn x s.resources → change (plain_resource x) ≡ plain_resource x) → IsChange res change s s
 unchanged res change had s sound rest was same = record {
   resources = each s.resources same;
   statuses = refl;
@@ -44,12 +45,12 @@ unchanged res change had s sound rest was same = record {
   rest = rest;
 }
   where
-    each : (rs : List StoredResource) → ((x : StoredResource) → IsResourceAmong x rs → change (plain_resource x) ≡ plain_resource x) → map plain_resource rs ≡ map change (map plain_resource rs)
+    each : (rs : List StoredResource) → ((x : StoredResource) → IsIn x rs → change (plain_resource x) ≡ plain_resource x) → map plain_resource rs ≡ map change (map plain_resource rs)
     each [] same = refl
     each (x ∷ rs) same = ap (λ y. y ∷ map plain_resource rs) (sym (same x (inl refl))) ∙ ap (λ ys. change (plain_resource x) ∷ ys) (each rs (λ y there. same y (inr there)))
 
 -- two changes that do the same to each resource are one
-pub changed_alike : (res : ℕ) (f g : Resource → Resource) (old new : Records) → ((x : StoredResource) → IsResourceAmong x old.resources → f (plain_resource x) ≡ g (plain_resource x))
+pub changed_alike : (res : ℕ) (f g : Resource → Resource) (old new : Records) → ((x : StoredResource) → IsIn x old.resources → f (plain_resource x) ≡ g (plain_resource x))
     → IsChange res f old new → IsChange res g old new
 changed_alike res f g old new same change = record {
   resources = change.resources ∙ each old.resources same;
@@ -59,7 +60,7 @@ changed_alike res f g old new same change = record {
   rest = change.rest;
 }
   where
-    each : (rs : List StoredResource) → ((x : StoredResource) → IsResourceAmong x rs → f (plain_resource x) ≡ g (plain_resource x)) → map f (map plain_resource rs) ≡ map g (map plain_resource rs)
+    each : (rs : List StoredResource) → ((x : StoredResource) → IsIn x rs → f (plain_resource x) ≡ g (plain_resource x)) → map f (map plain_resource rs) ≡ map g (map plain_resource rs)
     each [] same = refl
     each (x ∷ rs) same = ap (λ y. y ∷ map f (map plain_resource rs)) (same x (inl refl)) ∙ ap (λ ys. g (plain_resource x) ∷ ys) (each rs (λ y there. same y (inr there)))
 
@@ -67,7 +68,7 @@ changed_alike res f g old new same change = record {
 pub rests_still : (old new : Records) → SameButBlocks old new → IsAtRest old → IsAtRest new
 rests_still old new same rest = record {
   none_loose = same.loose ∙ rest.none_loose;
-  keyed = λ r among. rest.keyed r (subst (IsResourceAmong r) same.resources among);
+  keyed = λ r among. rest.keyed r (subst (IsIn r) same.resources among);
   rising = all_rise_still old new (were_stored old new same.resources same.loose) same.processes rest.rising;
 }
 
@@ -96,7 +97,7 @@ changed_room res change s new room changes = record {
 
 module _ (s : Records) (sound : IsSound s) (f : Standing) (standing : IsStanding f s) where
   -- another resource stays as the lock goes
-  stays : (x : StoredResource) → IsResourceAmong x s.resources → x.at ≢ f.res → resource_with (leaving f.lock) x ≡ x
+  stays : (x : StoredResource) → IsIn x s.resources → x.at ≢ f.res → resource_with (leaving f.lock) x ≡ x
   stays x among differs =
       let each : (queue : Queue) → without_lock f.lock (queued queue x) ≡ queued queue x =
       λ queue.
@@ -130,14 +131,14 @@ module _ (s : Records) (sound : IsSound s) (f : Standing) (standing : IsStanding
   none_joins_by_leaving : LocksStay (resource_with (leaving f.lock) standing.resource) standing.resource
   none_joins_by_leaving queue k among = stands_in standing.resource queue k (of_queue queue among)
     where
-      of_queue : (queue : Queue) → IsAmong k (queued queue (resource_with (leaving f.lock) standing.resource)) → IsAmong k (queued queue standing.resource)
+      of_queue : (queue : Queue) → IsIn k (queued queue (resource_with (leaving f.lock) standing.resource)) → IsIn k (queued queue standing.resource)
       of_queue Granted among = among_without f.lock k standing.resource.granted among
       of_queue Conversion among = among_without f.lock k standing.resource.converting among
       of_queue Waiting among = among_without f.lock k standing.resource.waiting among
 
   -- so a change of its resource is that which the plain change has there
   pub removed_changed : (change : Resource → Resource) → IsAtRest s → change (plain_resource standing.resource) ≡ plain_resource (resource_with (leaving f.lock) standing.resource)
-      → ((x : StoredResource) → IsResourceAmong x s.resources → x.at ≢ f.res → change (plain_resource x) ≡ plain_resource x)
+      → ((x : StoredResource) → IsIn x s.resources → x.at ≢ f.res → change (plain_resource x) ≡ plain_resource x)
       → IsChange f.res change s (without_stored_lock f.lock s)
   removed_changed change rest here there =
       let queues = changed f.res change standing.resource (resource_with (leaving f.lock) standing.resource) s without_queued sound rest removed_replaced none_joins_by_leaving here there refl in

@@ -10,9 +10,10 @@ use Rattle.vlm_words.specs.Convert.{conversion_blocks, converts_at_once, resourc
 use Rattle.vlm_words.specs.Effects.{Blocks, blocks_after, blocks_with}
 use Rattle.vlm_words.specs.Grants.{fits, grant_endings, granted_row}
 use Rattle.vlm_words.specs.Rows.{is_lock_of, rows_without}
+use Rattle.vlm_links.specs.Lists.{IsIn}
 use Rattle.vlm_store.specs.declared.keys.Place.TheVariants.{Queued}
 use Rattle.vlm_store.specs.Plain.{plain_processes, plain_resource, plain_resources}
-use Rattle.vlm_store.specs.Records.{IsAmong, IsResourceAmong, IsSound, Records, SameButBlocks, StoredLock, StoredResource, but_blocks, fits_beside, moving, on_resource, queued, resource_at, rows_of, with_lists, without_lock}
+use Rattle.vlm_store.specs.Records.{IsSound, Records, SameButBlocks, StoredLock, StoredResource, but_blocks, fits_beside, moving, on_resource, queued, resource_at, rows_of, with_lists, without_lock}
 use Rattle.vlm_locks.proofs.Found.{on_resource-put, resource_at-at}
 use Rattle.vlm_locks.specs.declared.finding.Standing.{Standing}
 use Rattle.vlm_locks.specs.Converting.{IsConverted, IsGrantedAtOnce, admission_on, blocks_granted, moved_in}
@@ -62,7 +63,7 @@ module _ (s : Records) (sound : IsSound s) (f : Standing) (standing : IsStanding
   now asked = converts_at_once asked f.row.lkid (plain_resource standing.resource)
 
   -- a conversion changes no other resource
-  others_kept : (asked : Request) (block : ValueBlock) (x : StoredResource) → IsResourceAmong x s.resources → x.at ≢ f.res
+  others_kept : (asked : Request) (block : ValueBlock) (x : StoredResource) → IsIn x s.resources → x.at ≢ f.res
       → resource_after_conversion asked (now asked) f.row.pid f.row.lkid block (plain_resource x) ≡ plain_resource x
   unfolding resource_after_conversion
   others_kept asked block x among differs =
@@ -73,7 +74,7 @@ module _ (s : Records) (sound : IsSound s) (f : Standing) (standing : IsStanding
   found_here : f.queue ≡ Granted → find (is_lock_of f.row.pid f.row.lkid) (rows_of standing.resource.granted) ≡ Some f.row
   found_here granted =
       find-only (record { at = f.lock; row = f.row }) standing.resource.granted (only s sound f standing standing.resource (own_among s sound f standing) Granted)
-      (subst (λ q. IsAmong (record { at = f.lock; row = f.row }) (queued q standing.resource)) granted standing.among)
+      (subst (λ q. IsIn (record { at = f.lock; row = f.row }) (queued q standing.resource)) granted standing.among)
 
   -- it stands in no other queue
   elsewhere : f.queue ≡ Granted → (queue : Queue) → queue ≢ Granted → queue ≢ f.queue

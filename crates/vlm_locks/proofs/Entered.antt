@@ -1,5 +1,5 @@
 -- What the entry of a new lock makes of the records.
-use Rattle.std.proofs.Common.{◌≡◌, ◌≢◌, ◌⊎◌, ℕ, Bool, List, [], ◌∷◌, ◌++◌, map, unwrap_or, cond, true, false, ◌&&◌, Option, Some, IsSome, IfSome, refl, sym, ap, ◌∙◌, subst, inl, inr, eq-eqb, ne_eqb}
+use Rattle.std.proofs.Common.{◌≡◌, ◌≢◌, ◌⊎◌, ℕ, Bool, List, [], ◌∷◌, ◌++◌, map, unwrap_or, cond, true, false, Option, Some, IsSome, IfSome, refl, sym, ap, ◌∙◌, subst, inl, inr, eq-eqb, ne_eqb}
 use Rattle.std.specs.Prelude.{◌==◌}
 use Rattle.std.proofs.lemmas.Bool.{cases_eq}
 use Rattle.std.proofs.lemmas.List.{map-append}
@@ -9,11 +9,12 @@ use Rattle.vlm_words.specs.declared.resources.Queue.TheVariants.{Granted, Conver
 use Rattle.vlm_words.specs.Enqueue.{resource_after_entry, resources_after_entry}
 use Rattle.vlm_words.specs.Grants.{granted_row}
 use Rattle.vlm_words.specs.Resources.{new_resource}
+use Rattle.vlm_links.specs.Lists.{IsIn}
 use Rattle.vlm_store.specs.declared.keys.Place.{Place}
 use Rattle.vlm_store.specs.declared.keys.Place.TheVariants.{Loose, Queued}
 use Rattle.vlm_store.specs.Plain.{plain_resource, plain_resources}
-use Rattle.vlm_store.specs.Records.{AreResourcesApart, FindsResource, HasResource, IsAmong, IsProcess, IsProcessAmong, IsResourceAmong, IsSameLock, IsSound, IsStored, Records, Room, Stores, StoredLock, StoredProcess, StoredResource, but_blocks, is_queue, joined_by, locks_at, moving, on_resource, process_with_lock, queued, resource_at, resource_with, with_lists, with_lock_room, with_new_lock, without_lock}
-use Rattle.vlm_store.proofs.Undoing.{map_on, queue_at, resource_is, unmoved}
+use Rattle.vlm_store.specs.Records.{AreResourcesApart, FindsResource, HasResource, IsProcess, IsSameLock, IsSound, IsStored, Records, Room, Stores, StoredLock, StoredProcess, StoredResource, but_blocks, is_queue, joined_by, locks_at, moving, on_resource, process_with_lock, queued, resource_at, resource_with, with_lists, with_lock_room, with_new_lock, without_lock}
+use Rattle.vlm_store.proofs.Records.{loose_joins, map_on, resource_is}
 use Rattle.vlm_locks.specs.Rest.{but_service}
 use Rattle.vlm_locks.proofs.Found.{resource_alone, resource_at-put}
 use Rattle.vlm_locks.specs.declared.entering.Entry.{Entry}
@@ -57,38 +58,6 @@ unfolding resource_after_entry
 joins_waiting at row at_once r queued =
     rw queued (ap (λ rows. record (plain_resource r) { waiting = rows }) (map-append (λ (k : StoredLock). k.row) r.waiting (record { at = at; row = row } ∷ [])))
 
--- ---- a loose lock joins one queue, with another row
-
--- the locks of a queue, with one more if it joins here
-abbrev with_joined : StoredLock → Bool → List StoredLock → List StoredLock
-with_joined lock here locks = cond here (locks ++ lock ∷ []) locks
-
-module _ (s : Records) (sound : IsSound s) (at : ℕ) (was row : Row) (stands : IsAmong (record { at = at; row = was }) s.loose) (res : ℕ) (to : Queue) where
-  -- the lock stands in no queue
-  kept : (x : StoredResource) → IsResourceAmong x s.resources → (queue : Queue) → without_lock at (queued queue x) ≡ queued queue x
-  kept x among queue =
-      ap (without_lock at) (sym (queue_at s sound x among queue)) ∙ unmoved s at was Loose sound stands (Queued x.at queue) (λ e. cc) ∙ queue_at s sound x among queue
-
-  -- each resource is as it was, but for the one that the lock joins
-  joins : (x : StoredResource) → IsResourceAmong x s.resources
-      → resource_with (moving (Queued res to) (record { at = at; row = row })) x ≡ cond (x.at == res) (joined_by to (record { at = at; row = row }) x) x
-  joins x among = rw (kept x among Granted, kept x among Conversion, kept x among Waiting) (by_queue to (x.at == res))
-    where
-      by_queue : (queue : Queue) (here : Bool)
-          → record x { granted = with_joined (record { at = at; row = row }) (here && is_queue Granted queue) x.granted; converting = with_joined (record { at = at; row = row }) (here && is_queue Conversion queue) x.converting; waiting = with_joined (record { at = at; row = row }) (here && is_queue Waiting queue) x.waiting }
-          ≡ cond here (joined_by queue (record { at = at; row = row }) x) x
-      by_queue Granted true = refl
-      by_queue Conversion true = refl
-      by_queue Waiting true = refl
-      by_queue queue false = refl
-
-  -- it joins the queue of its resource, and nothing else changes
-  pub loose_joins : with_lists (moving (Queued res to) (record { at = at; row = row })) s
-      ≡ record s { resources = map (λ x. cond (x.at == res) (joined_by to (record { at = at; row = row }) x) x) s.resources; loose = without_lock at s.loose }
-  loose_joins =
-      ap (λ x. record s { resources = x; loose = without_lock at s.loose })
-      (map_on (resource_with (moving (Queued res to) (record { at = at; row = row }))) (λ x. cond (x.at == res) (joined_by to (record { at = at; row = row }) x) x) s.resources joins)
-
 -- ---- the processes of a new lock
 
 -- each process is as it was, but for its locks
@@ -97,7 +66,7 @@ processes_kept owner parent at [] = refl
 processes_kept owner parent at (p ∷ rest) = ap (λ ps. p.process ∷ ps) (processes_kept owner parent at rest)
 
 -- a process is still there, with the lock if it owns it
-owner_kept : (owner : ℕ) (parent : Option ℕ) (at : ℕ) (ps : List StoredProcess) (p : StoredProcess) → IsProcessAmong p ps → IsProcessAmong (process_with_lock owner parent at p) (map (process_with_lock owner parent at) ps)
+owner_kept : (owner : ℕ) (parent : Option ℕ) (at : ℕ) (ps : List StoredProcess) (p : StoredProcess) → IsIn p ps → IsIn (process_with_lock owner parent at p) (map (process_with_lock owner parent at) ps)
 owner_kept owner parent at [] p among = absurd among
 owner_kept owner parent at (x ∷ rest) p among =
     elim among [
@@ -108,15 +77,15 @@ owner_kept owner parent at (x ∷ rest) p among =
 -- ---- the resources as the plain machine leaves them
 
 -- where no resource has the key of the store, none changes
-on_resource-absent : (res : ℕ) (left : StoredResource) (rs : List StoredResource) → ((x : StoredResource) → IsResourceAmong x rs → x.at ≢ res) → on_resource res (λ x. left) rs ≡ rs
+on_resource-absent : (res : ℕ) (left : StoredResource) (rs : List StoredResource) → ((x : StoredResource) → IsIn x rs → x.at ≢ res) → on_resource res (λ x. left) rs ≡ rs
 on_resource-absent res left [] absent = refl
 on_resource-absent res left (x ∷ rest) absent =
     rw (ne_eqb x.at res (absent x (inl refl))) (ap (λ xs. x ∷ xs) (on_resource-absent res left rest (λ y there. absent y (inr there))))
 
 module _ (e : Entry) (keyed : IsKeyed e.site.domain e.site.key) where
   -- the resource of the key is the only one that changes
-  pub entered_one : (r left : StoredResource) (rs : List StoredResource) → AreKeyed rs → AreResourcesApart rs → IsResourceAmong r rs → r.key ≡ e.site.key
-      → ((x : StoredResource) → IsResourceAmong x rs → x.key ≡ e.site.key → x.at ≡ r.at) → plain_resource left ≡ resource_after_entry e.row e.at_once (plain_resource r)
+  pub entered_one : (r left : StoredResource) (rs : List StoredResource) → AreKeyed rs → AreResourcesApart rs → IsIn r rs → r.key ≡ e.site.key
+      → ((x : StoredResource) → IsIn x rs → x.key ≡ e.site.key → x.at ≡ r.at) → plain_resource left ≡ resource_after_entry e.row e.at_once (plain_resource r)
       → map plain_resource (on_resource r.at (λ x. left) rs) ≡ resources_after_entry e.serial e.site e.row e.at_once (map plain_resource rs)
   entered_one r left [] all apart among same only after = absurd among
   entered_one r left (x ∷ rest) all apart among same only after =
@@ -167,7 +136,7 @@ module _ (s : Records) (sound : IsSound s) (rest : IsAtRest s) (e : Entry) (keye
 
     -- then it stands in its queue
     new_is : new ≡ record mid { resources = map (λ x. cond (x.at == res) (joined_by to (record { at = at; row = row }) x) x) mid.resources; loose = without_lock at mid.loose }
-    new_is = moved ∙ loose_joins mid mid_sound at e.row row (subst (IsAmong (record { at = at; row = e.row })) (sym mid_loose) (inl refl)) res to
+    new_is = moved ∙ loose_joins mid mid_sound at e.row row (subst (IsIn (record { at = at; row = e.row })) (sym mid_loose) (inl refl)) res to
 
     -- the resources with it
     new_resources : new.resources ≡ on_resource res (λ x. left) s.resources
@@ -176,7 +145,7 @@ module _ (s : Records) (sound : IsSound s) (rest : IsAtRest s) (e : Entry) (keye
         ∙ ap (map (λ x. cond (x.at == res) (joined_by to (record { at = at; row = row }) x) x)) mid_resources
         ∙ map_on (λ x. cond (x.at == res) (joined_by to (record { at = at; row = row }) x) x) (λ x. cond (x.at == res) left x) s.resources each
       where
-        each : (x : StoredResource) → IsResourceAmong x s.resources → cond (x.at == res) (joined_by to (record { at = at; row = row }) x) x ≡ cond (x.at == res) left x
+        each : (x : StoredResource) → IsIn x s.resources → cond (x.at == res) (joined_by to (record { at = at; row = row }) x) x ≡ cond (x.at == res) left x
         each x among =
             elim (cases_eq x.at res) [
               | inl same ↦ ap (λ y. cond (x.at == res) (joined_by to (record { at = at; row = row }) y) x) (resource_alone res s.resources found.0 x sound.resources_apart found_there among same)
@@ -205,17 +174,17 @@ module _ (s : Records) (sound : IsSound s) (rest : IsAtRest s) (e : Entry) (keye
     lock_cases : (x : ℕ) (other : Row) → Stores new x other → ((x ≡ at) × (other ≡ row)) ⊎ Stores s x other
     lock_cases = stored_cases res found.0 left (owned_by e at s) new replaced {P = λ x other. ((x ≡ at) × (other ≡ row)) ⊎ Stores s x other} (of_queue to) was
       where
-        joined : (locks : List StoredLock) (k : StoredLock) → IsAmong k (locks ++ record { at = at; row = row } ∷ []) → (IsAmong k locks → Stores s k.at k.row)
+        joined : (locks : List StoredLock) (k : StoredLock) → IsIn k (locks ++ record { at = at; row = row } ∷ []) → (IsIn k locks → Stores s k.at k.row)
             → ((k.at ≡ at) × (k.row ≡ row)) ⊎ Stores s k.at k.row
         joined locks k among stored =
             of_joined k (record { at = at; row = row }) locks among
             (λ is. inl (ap (λ (x : StoredLock). x.at) (sym is), ap (λ (x : StoredLock). x.row) (sym is)))
             (λ there. inr (stored there))
 
-        in_queue : (queue : Queue) (k : StoredLock) → IsAmong k (queued queue found.0) → Stores s k.at k.row
+        in_queue : (queue : Queue) (k : StoredLock) → IsIn k (queued queue found.0) → Stores s k.at k.row
         in_queue queue k here = queued_stored s sound found.0 found.1.0 queue k here
 
-        of_queue : (joins queue : Queue) (k : StoredLock) → IsAmong k (queued queue (joined_by joins (record { at = at; row = row }) found.0)) → ((k.at ≡ at) × (k.row ≡ row)) ⊎ Stores s k.at k.row
+        of_queue : (joins queue : Queue) (k : StoredLock) → IsIn k (queued queue (joined_by joins (record { at = at; row = row }) found.0)) → ((k.at ≡ at) × (k.row ≡ row)) ⊎ Stores s k.at k.row
         of_queue Granted Granted k here = joined found.0.granted k here (in_queue Granted k)
         of_queue Granted Conversion k here = inr (in_queue Conversion k here)
         of_queue Granted Waiting k here = inr (in_queue Waiting k here)
@@ -229,7 +198,7 @@ module _ (s : Records) (sound : IsSound s) (rest : IsAtRest s) (e : Entry) (keye
         was : (x : ℕ) (other : Row) → Stores (owned_by e at s) x other → ((x ≡ at) × (other ≡ row)) ⊎ Stores s x other
         was x other stored = inr (by_place stored.0 stored.1)
           where
-            by_place : (place : Place) → IsAmong (record { at = x; row = other }) (locks_at place (owned_by e at s)) → Stores s x other
+            by_place : (place : Place) → IsIn (record { at = x; row = other }) (locks_at place (owned_by e at s)) → Stores s x other
             by_place Loose here = absurd here
             by_place (Queued r queue) here = (Queued r queue, here)
 
@@ -249,7 +218,7 @@ module _ (s : Records) (sound : IsSound s) (rest : IsAtRest s) (e : Entry) (keye
     resource_is_found = ap (λ o. unwrap_or o (new_resource e.serial e.site)) (finds_one e.site.domain e.site.key keyed s rest sound res found found.0 found_there)
 
     -- no other resource has the key
-    same_at : (x : StoredResource) → IsResourceAmong x s.resources → x.key ≡ e.site.key → x.at ≡ found.0.at
+    same_at : (x : StoredResource) → IsIn x s.resources → x.key ≡ e.site.key → x.at ≡ found.0.at
     same_at x among same = sym (sound.keys_apart found.0 x found.1.0 among (found.1.2 ∙ sym same))
 
     -- the resources are those of the plain machine
@@ -267,9 +236,9 @@ module _ (s : Records) (sound : IsSound s) (rest : IsAtRest s) (e : Entry) (keye
 
     -- the lock stands there
     stands : Stores new at row
-    stands = (Queued res to, subst (IsAmong (record { at = at; row = row })) (sym (locks_found new res left to left_found)) (of_queue to))
+    stands = (Queued res to, subst (IsIn (record { at = at; row = row })) (sym (locks_found new res left to left_found)) (of_queue to))
       where
-        of_queue : (queue : Queue) → IsAmong (record { at = at; row = row }) (queued queue (joined_by queue (record { at = at; row = row }) found.0))
+        of_queue : (queue : Queue) → IsIn (record { at = at; row = row }) (queued queue (joined_by queue (record { at = at; row = row }) found.0))
         of_queue Granted = among_last (record { at = at; row = row }) found.0.granted
         of_queue Conversion = among_last (record { at = at; row = row }) found.0.converting
         of_queue Waiting = among_last (record { at = at; row = row }) found.0.waiting
@@ -297,7 +266,7 @@ module _ (s : Records) (sound : IsSound s) (rest : IsAtRest s) (e : Entry) (keye
       processes = ap (map (λ (p : StoredProcess). p.process)) new_processes ∙ processes_kept e.owner e.parent at s.processes;
       owner = (
         process_with_lock e.owner e.parent at owner.0,
-        (subst (IsProcessAmong (process_with_lock e.owner e.parent at owner.0)) (sym new_processes) (owner_kept e.owner e.parent at s.processes owner.0 owner.1.0), owner.1.1, owner.1.2),
+        (subst (IsIn (process_with_lock e.owner e.parent at owner.0)) (sym new_processes) (owner_kept e.owner e.parent at s.processes owner.0 owner.1.0), owner.1.1, owner.1.2),
       );
       value_block =
           subst (λ o. IfSome o (λ r. r.value_block ≡ (resource_for e (plain_resources s)).value_block))

@@ -3,10 +3,11 @@ use Rattle.std.proofs.Common.{◌≡◌, ℕ, List, [], ◌∷◌, map, cond, So
 use Rattle.std.specs.Prelude.{◌==◌}
 use Rattle.std.proofs.lemmas.Bool.{cases_eq}
 use Rattle.std.proofs.lemmas.Option.{none-some, same_Some}
-use Rattle.vlm_store.specs.Records.{AreResourcesApart, HasProcess, IsProcess, IsProcessAmong, IsResourceAmong, Records, StoredProcess, StoredResource, on_resource, process_at, resource_at, SameButBlocks, but_blocks}
-use Rattle.vlm_store.proofs.Undoing.{map_on, resource_is}
+use Rattle.vlm_links.specs.Lists.{IsIn}
+use Rattle.vlm_store.specs.Records.{AreResourcesApart, HasProcess, IsProcess, Records, StoredProcess, StoredResource, on_resource, process_at, resource_at, SameButBlocks, but_blocks}
+use Rattle.vlm_store.proofs.Records.{map_on, resource_is}
 
-process_found : (at : ℕ) (p : StoredProcess) (ps : List StoredProcess) → IsProcessAmong p ps → p.at ≡ at → IsSome (process_at at ps)
+process_found : (at : ℕ) (p : StoredProcess) (ps : List StoredProcess) → IsIn p ps → p.at ≡ at → IsSome (process_at at ps)
 process_found at p [] among is = absurd among
 process_found at p (x ∷ ps) among is =
     elim (cases_eq x.at at) [
@@ -33,7 +34,7 @@ resource_at-at res (x ∷ rs) r found =
     ]
 
 -- a resource of the key of the one that is found is that one
-pub resource_alone : (res : ℕ) (rs : List StoredResource) (r x : StoredResource) → AreResourcesApart rs → resource_at res rs ≡ Some r → IsResourceAmong x rs → x.at ≡ res → x ≡ r
+pub resource_alone : (res : ℕ) (rs : List StoredResource) (r x : StoredResource) → AreResourcesApart rs → resource_at res rs ≡ Some r → IsIn x rs → x.at ≡ res → x ≡ r
 resource_alone res rs r x apart found among same =
     same_Some x r (sym (resource_is x rs apart among) ∙ ap (λ k. resource_at k rs) same ∙ found)
 
@@ -41,7 +42,7 @@ resource_alone res rs r x apart found among same =
 pub on_resource-own : (res : ℕ) (r : StoredResource) (rs : List StoredResource) → AreResourcesApart rs → resource_at res rs ≡ Some r → on_resource res (λ x. r) rs ≡ rs
 on_resource-own res r rs apart found = map_on (λ x. cond (x.at == res) r x) (λ x. x) rs each ∙ same rs
   where
-    each : (x : StoredResource) → IsResourceAmong x rs → cond (x.at == res) r x ≡ x
+    each : (x : StoredResource) → IsIn x rs → cond (x.at == res) r x ≡ x
     each x among =
         elim (cases_eq x.at res) [
           | inl is ↦ rw (eq-eqb x.at res is) (sym (resource_alone res rs r x apart found among is))
@@ -72,8 +73,8 @@ on_resource-put res left change (x ∷ rs) keyed =
     ]
 
 -- a process of the old list is in the new one, but for its status blocks
-process_kept : (old new : List StoredProcess) → map but_blocks new ≡ map but_blocks old → (p : StoredProcess) → IsProcessAmong p old
-    → (q : StoredProcess) × (IsProcessAmong q new × (but_blocks q ≡ but_blocks p))
+process_kept : (old new : List StoredProcess) → map but_blocks new ≡ map but_blocks old → (p : StoredProcess) → IsIn p old
+    → (q : StoredProcess) × (IsIn q new × (but_blocks q ≡ but_blocks p))
 process_kept [] new same p among = absurd among
 process_kept (x ∷ old) [] same p among = cc
 process_kept (x ∷ old) (y ∷ new) same p among =

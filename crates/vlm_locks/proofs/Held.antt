@@ -8,9 +8,10 @@ use Rattle.vlm_words.specs.declared.resources.Queue.{Queue}
 use Rattle.vlm_words.specs.declared.resources.Queue.TheVariants.{Granted, Conversion, Waiting}
 use Rattle.vlm_words.specs.Checks.{holds_lock}
 use Rattle.vlm_words.specs.Rows.{is_lock_of}
+use Rattle.vlm_links.specs.Lists.{IsIn}
 use Rattle.vlm_store.specs.declared.keys.Place.TheVariants.{Queued}
 use Rattle.vlm_store.specs.Plain.{plain_resource, plain_resources}
-use Rattle.vlm_store.specs.Records.{IsAmong, IsResourceAmong, IsSound, Records, StoredResource, Stores, locks_at, queued, resource_at, rows_of}
+use Rattle.vlm_store.specs.Records.{IsSound, Records, StoredResource, Stores, locks_at, queued, resource_at, rows_of}
 use Rattle.vlm_locks.specs.declared.finding.Standing.{Standing}
 use Rattle.vlm_locks.specs.Standing.{IsStanding}
 use Rattle.vlm_locks.proofs.Named.{any-among, any-not}
@@ -21,13 +22,13 @@ pub none_held : (s : Records) → IsSound s → (pid lkid : ℕ) → ((at : ℕ)
     → list_any (holds_lock pid lkid) (plain_resources s) ≡ false
 none_held s sound pid lkid other = of_list s.resources (λ r here. here)
   where
-    not_in : (r : StoredResource) → IsResourceAmong r s.resources → (queue : Queue) → list_any (is_lock_of pid lkid) (rows_of (queued queue r)) ≡ false
+    not_in : (r : StoredResource) → IsIn r s.resources → (queue : Queue) → list_any (is_lock_of pid lkid) (rows_of (queued queue r)) ≡ false
     not_in r among queue = any-not pid lkid (queued queue r) (λ k here same. other k.at k.row (queued_stored s sound r among queue k here) same)
 
-    not_on : (r : StoredResource) → IsResourceAmong r s.resources → holds_lock pid lkid (plain_resource r) ≡ false
+    not_on : (r : StoredResource) → IsIn r s.resources → holds_lock pid lkid (plain_resource r) ≡ false
     not_on r among = rw (not_in r among Granted, not_in r among Conversion, not_in r among Waiting) refl
 
-    of_list : (rs : List StoredResource) → ((r : StoredResource) → IsResourceAmong r rs → IsResourceAmong r s.resources) → list_any (holds_lock pid lkid) (map plain_resource rs) ≡ false
+    of_list : (rs : List StoredResource) → ((r : StoredResource) → IsIn r rs → IsIn r s.resources) → list_any (holds_lock pid lkid) (map plain_resource rs) ≡ false
     of_list [] within = refl
     of_list (r ∷ rest) within =
         ap (λ b. b || list_any (holds_lock pid lkid) (map plain_resource rest)) (not_on r (within r (inl refl)))
@@ -41,7 +42,7 @@ has_lock row queue r = list_any (is_lock_of row.pid row.lkid) (rows_of (queued q
 pub some_held : (s : Records) → IsSound s → (f : Standing) → IsStanding f s → list_any (holds_lock f.row.pid f.row.lkid) (plain_resources s) ≡ true
 some_held s sound f standing = of_list s.resources (own_among s sound f standing)
   where
-    in_queue : (queue : Queue) → IsAmong (record { at = f.lock; row = f.row }) (queued queue standing.resource) → holds_lock f.row.pid f.row.lkid (plain_resource standing.resource) ≡ true
+    in_queue : (queue : Queue) → IsIn (record { at = f.lock; row = f.row }) (queued queue standing.resource) → holds_lock f.row.pid f.row.lkid (plain_resource standing.resource) ≡ true
     in_queue Granted among = rw (any-among (record { at = f.lock; row = f.row }) standing.resource.granted among) refl
     in_queue Conversion among =
         ap (λ b. b || has_lock f.row Waiting standing.resource)
@@ -50,7 +51,7 @@ some_held s sound f standing = of_list s.resources (own_among s sound f standing
         or_right (has_lock f.row Granted standing.resource || has_lock f.row Conversion standing.resource) (has_lock f.row Waiting standing.resource)
         (any-among (record { at = f.lock; row = f.row }) standing.resource.waiting among)
 
-    of_list : (rs : List StoredResource) → IsResourceAmong standing.resource rs → list_any (holds_lock f.row.pid f.row.lkid) (map plain_resource rs) ≡ true
+    of_list : (rs : List StoredResource) → IsIn standing.resource rs → list_any (holds_lock f.row.pid f.row.lkid) (map plain_resource rs) ≡ true
     of_list [] among = absurd among
     of_list (r ∷ rest) among =
         elim among [
@@ -61,9 +62,9 @@ some_held s sound f standing = of_list s.resources (own_among s sound f standing
         ]
 
 -- a lock at a place that is a queue stands there
-pub stands_queued : (s : Records) (f : Standing) → IsAmong (record { at = f.lock; row = f.row }) (locks_at (Queued f.res f.queue) s) → IsStanding f s
+pub stands_queued : (s : Records) (f : Standing) → IsIn (record { at = f.lock; row = f.row }) (locks_at (Queued f.res f.queue) s) → IsStanding f s
 stands_queued s f among = of_found (resource_at f.res s.resources) refl among
   where
-    of_found : (found : Option StoredResource) → resource_at f.res s.resources ≡ found → IsAmong (record { at = f.lock; row = f.row }) (option_map_or (queued f.queue) found []) → IsStanding f s
+    of_found : (found : Option StoredResource) → resource_at f.res s.resources ≡ found → IsIn (record { at = f.lock; row = f.row }) (option_map_or (queued f.queue) found []) → IsStanding f s
     of_found None is among = absurd among
     of_found (Some r) is among = record { resource = r; found = is; among = among }

@@ -7,8 +7,9 @@ use Rattle.vlm_words.specs.declared.resources.Key.TheVariants.{Root, Below}
 use Rattle.vlm_words.specs.Enqueue.{has_resource}
 use Rattle.vlm_words.specs.Keys.{is_same_key, is_same_key-Decides}
 use Rattle.vlm_words.specs.Resources.{is_at, is_domain}
+use Rattle.vlm_links.specs.Lists.{IsIn}
 use Rattle.vlm_store.specs.Plain.{plain_resource, plain_resources}
-use Rattle.vlm_store.specs.Records.{FindsResource, IsResourceAmong, IsSound, Records, StoredResource, resource_at}
+use Rattle.vlm_store.specs.Records.{FindsResource, IsSound, Records, StoredResource, resource_at}
 use Rattle.vlm_locks.proofs.Found.{resource_alone}
 use Rattle.vlm_words.specs.Resources.{IsKeyed}
 use Rattle.vlm_locks.specs.Rest.{IsAtRest}
@@ -16,11 +17,11 @@ use Rattle.vlm_locks.proofs.Stood.{resource_among}
 
 -- each of the resources is in the domain of its key
 abbrev pub AreKeyed : List StoredResource → Type 0
-AreKeyed rs = (r : StoredResource) → IsResourceAmong r rs → IsKeyed r.domain r.key
+AreKeyed rs = (r : StoredResource) → IsIn r rs → IsKeyed r.domain r.key
 
 -- no resource of the list stands under the key
 abbrev pub IsKeyFree : Key → List StoredResource → Type 0
-IsKeyFree key rs = (r : StoredResource) → IsResourceAmong r rs → r.key ≢ key
+IsKeyFree key rs = (r : StoredResource) → IsIn r rs → r.key ≢ key
 
 -- a resource in the domain of its key stands under just that key
 same_key : (r : StoredResource) (own key : Key) (domain : Domain) → IsKeyed r.domain own → IsKeyed domain key → is_at key (plain_resource (record r { key = own })) ≡ is_same_key own key
@@ -47,8 +48,8 @@ module _ (domain : Domain) (key : Key) (keyed : IsKeyed domain key) where
       of_test false at is = inr (at ∙ is, λ same. let test = (is_same_key-Decides r.key key).1 same in cc)
 
   -- the one resource under the key is found
-  pub find-key : (rs : List StoredResource) (r : StoredResource) → AreKeyed rs → IsResourceAmong r rs → r.key ≡ key
-      → ((x : StoredResource) → IsResourceAmong x rs → x.key ≡ key → x ≡ r) → find (is_at key) (map plain_resource rs) ≡ Some (plain_resource r)
+  pub find-key : (rs : List StoredResource) (r : StoredResource) → AreKeyed rs → IsIn r rs → r.key ≡ key
+      → ((x : StoredResource) → IsIn x rs → x.key ≡ key → x ≡ r) → find (is_at key) (map plain_resource rs) ≡ Some (plain_resource r)
   find-key [] r all among same only = absurd among
   find-key (x ∷ rest) r all among same only =
       elim (key_cases x (all x (inl refl))) [
@@ -71,7 +72,7 @@ module _ (domain : Domain) (key : Key) (keyed : IsKeyed domain key) where
       ]
 
   -- some resource stands under the key of one
-  has-key : (rs : List StoredResource) (r : StoredResource) → AreKeyed rs → IsResourceAmong r rs → r.key ≡ key → has_resource key (map plain_resource rs) ≡ true
+  has-key : (rs : List StoredResource) (r : StoredResource) → AreKeyed rs → IsIn r rs → r.key ≡ key → has_resource key (map plain_resource rs) ≡ true
   has-key [] r all among same = absurd among
   has-key (x ∷ rest) r all among same =
       elim (key_cases x (all x (inl refl))) [

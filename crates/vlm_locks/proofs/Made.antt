@@ -7,10 +7,11 @@ use Rattle.vlm_words.specs.declared.resources.Queue.{Queue}
 use Rattle.vlm_words.specs.declared.resources.Queue.TheVariants.{Granted, Conversion, Waiting}
 use Rattle.vlm_words.specs.Enqueue.{resources_after_entry}
 use Rattle.vlm_words.specs.Resources as plain
+use Rattle.vlm_links.specs.Lists.{IsIn}
 use Rattle.vlm_store.specs.declared.keys.Place.{Place}
 use Rattle.vlm_store.specs.declared.keys.Place.TheVariants.{Loose, Queued}
 use Rattle.vlm_store.specs.Plain.{plain_resource, plain_resources}
-use Rattle.vlm_store.specs.Records.{FindsResource, IsAmong, IsNewKey, IsParentOf, IsResourceAmong, Records, Rooms, StoredResource, Stores, locks_at, new_resource, queued, resource_at, with_resource_room, without_lock, without_resource}
+use Rattle.vlm_store.specs.Records.{FindsResource, IsNewKey, IsParentOf, Records, Rooms, StoredResource, Stores, locks_at, new_resource, queued, resource_at, with_resource_room, without_lock, without_resource}
 use Rattle.vlm_words.specs.declared.locks.Row.{Row}
 use Rattle.vlm_locks.specs.declared.entering.Entry.{Entry}
 use Rattle.vlm_locks.specs.Entering.{IsEntered, resource_for}
@@ -38,7 +39,7 @@ made_is e res old mid new roomy added =
     ∙ ap (λ r. with_made e res r old) (sym (ap (λ (x : Records). x.room) added))
 
 -- a resource of the longer list is the last, or was there
-made_cases : (r : StoredResource) (rs : List StoredResource) (x : StoredResource) → IsResourceAmong x (rs ++ r ∷ []) → (x ≡ r) ⊎ IsResourceAmong x rs
+made_cases : (r : StoredResource) (rs : List StoredResource) (x : StoredResource) → IsIn x (rs ++ r ∷ []) → (x ≡ r) ⊎ IsIn x rs
 made_cases r [] x among = elim among [ inl is ↦ inl (sym is) | inr none ↦ absurd none ]
 made_cases r (y ∷ rest) x among =
     elim among [
@@ -47,7 +48,7 @@ made_cases r (y ∷ rest) x among =
     ]
 
 -- the last is one of them
-made_last : (r : StoredResource) (rs : List StoredResource) → IsResourceAmong r (rs ++ r ∷ [])
+made_last : (r : StoredResource) (rs : List StoredResource) → IsIn r (rs ++ r ∷ [])
 made_last r [] = inl refl
 made_last r (x ∷ rest) = inr (made_last r rest)
 
@@ -87,7 +88,7 @@ module _ (e : Entry) (res : ℕ) (room : Rooms) (s : Records) where
 
   -- no lock is made with it
   was_stored : (at : ℕ) (row : Row) → Stores (with_made e res room s) at row → Stores s at row
-  was_stored at row stored = (stored.0, subst (IsAmong (record { at = at; row = row })) (same_locks stored.0) stored.1)
+  was_stored at row stored = (stored.0, subst (IsIn (record { at = at; row = row })) (same_locks stored.0) stored.1)
 
   pub above_still : (lkid : ℕ) → IsAboveAll lkid s → IsAboveAll lkid (with_made e res room s)
   above_still lkid above at row stored = above at row (was_stored at row stored)
@@ -96,7 +97,7 @@ module _ (e : Entry) (res : ℕ) (room : Rooms) (s : Records) where
   pub parent_still : (parent : Option ℕ) (row : Row) → IsParentOf parent row s → IsParentOf parent row (with_made e res room s)
   parent_still None row is = is
   parent_still (Some at) row is =
-      (is.0, ((is.1.0.0, subst (IsAmong (record { at = at; row = is.0 })) (sym (same_locks is.1.0.0)) is.1.0.1), is.1.1))
+      (is.0, ((is.1.0.0, subst (IsIn (record { at = at; row = is.0 })) (sym (same_locks is.1.0.0)) is.1.0.1), is.1.1))
 
   -- each resource is in the domain of its key
   keyed_with : IsKeyed e.site.domain e.site.key → AreKeyed s.resources → AreKeyed (with_made e res room s).resources
@@ -128,7 +129,7 @@ module _ (e : Entry) (res : ℕ) (room : Rooms) (s : Records) where
         (find-key e.site.domain e.site.key keyed (with_made e res room s).resources (made e res) (keyed_with keyed rest.keyed) (made_last (made e res) s.resources) refl only)
         ∙ sym (ap (λ o. unwrap_or o (plain.new_resource e.serial e.site)) (find-free e.site.domain e.site.key keyed s.resources rest.keyed free))
       where
-        only : (x : StoredResource) → IsResourceAmong x (with_made e res room s).resources → x.key ≡ e.site.key → x ≡ made e res
+        only : (x : StoredResource) → IsIn x (with_made e res room s).resources → x.key ≡ e.site.key → x ≡ made e res
         only x among same = elim (made_cases (made e res) s.resources x among) [ inl is ↦ is | inr was ↦ absurd (free x was same) ]
 
     -- its entry leaves the same resources
@@ -156,7 +157,7 @@ module _ (e : Entry) (res : ℕ) (room : Rooms) (s : Records) where
       entered = entered.entered ∙ same_after;
       added = record {
         lock = entered.added.lock;
-        fresh = λ stored. entered.added.fresh (stored.0, (stored.1.0, subst (IsAmong (record { at = entered.added.lock; row = stored.0 })) (sym (same_locks stored.1.0)) stored.1.1));
+        fresh = λ stored. entered.added.fresh (stored.0, (stored.1.0, subst (IsIn (record { at = entered.added.lock; row = stored.0 })) (sym (same_locks stored.1.0)) stored.1.1));
         row = entered.added.row;
         stands = entered.added.stands;
         same = entered.added.same;

@@ -7,11 +7,12 @@ use Rattle.vlm_words.specs.declared.locks.Row.{Row}
 use Rattle.vlm_words.specs.declared.resources.Queue.{Queue}
 use Rattle.vlm_words.specs.declared.resources.Queue.TheVariants.{Granted, Conversion, Waiting}
 use Rattle.vlm_words.specs.Rows.{rows_without}
+use Rattle.vlm_links.specs.Lists.{IsIn}
 use Rattle.vlm_store.specs.declared.keys.Place.{Place}
 use Rattle.vlm_store.specs.declared.keys.Place.TheVariants.{Loose, Queued}
-use Rattle.vlm_store.specs.Records.{IsAmong, IsResourceAmong, IsSameLock, IsSound, Records, StoredLock, StoredResource, but_blocks, is_place, moving, on_resource, queued, rows_of, with_lists, without_lock}
-use Rattle.vlm_store.proofs.Layouts.{is_place-other, is_place-same}
-use Rattle.vlm_store.proofs.Undoing.{map_on, queue_at, unmoved}
+use Rattle.vlm_store.specs.Records.{IsSameLock, IsSound, Records, StoredLock, StoredResource, but_blocks, is_place, moving, on_resource, queued, rows_of, with_lists, without_lock}
+use Rattle.vlm_store.proofs.Records.{is_place-other, is_place-same}
+use Rattle.vlm_store.proofs.Records.{map_on, queue_at, unmoved}
 use Rattle.vlm_locks.specs.declared.finding.Standing.{Standing}
 use Rattle.vlm_locks.specs.Converting.{moved_in}
 use Rattle.vlm_locks.specs.Rest.{IsReplaced}
@@ -24,7 +25,7 @@ use Rattle.vlm_locks.proofs.Found.{resource_alone, resource_at-at}
 
 module _ (s : Records) (sound : IsSound s) (f : Standing) (standing : IsStanding f s) (row : Row) (to : Queue) where
   -- another resource stays as it was
-  stays : (x : StoredResource) → IsResourceAmong x s.resources → x.at ≢ f.res → moved_in f row to x ≡ x
+  stays : (x : StoredResource) → IsIn x s.resources → x.at ≢ f.res → moved_in f row to x ≡ x
   stays x among differs =
       let each : (queue : Queue) → moving (Queued f.res to) (record { at = f.lock; row = row }) (Queued x.at queue) (queued queue x) ≡ queued queue x =
       λ queue.
@@ -72,10 +73,10 @@ module _ (s : Records) (sound : IsSound s) (f : Standing) (standing : IsStanding
       ∙ without-key (record { at = f.lock; row = f.row }) (queued queue standing.resource) (only s sound f standing standing.resource (own_among s sound f standing) queue)
 
 -- a lock of a list after a move is the moved one, or was there
-among_moved : (to : Place) (moved : StoredLock) (place : Place) (locks : List StoredLock) (k : StoredLock) → IsAmong k (moving to moved place locks) → (moved ≡ k) ⊎ IsAmong k locks
+among_moved : (to : Place) (moved : StoredLock) (place : Place) (locks : List StoredLock) (k : StoredLock) → IsIn k (moving to moved place locks) → (moved ≡ k) ⊎ IsIn k locks
 among_moved to moved place locks k among = of_test (is_place place to) among
   where
-    of_test : (here : Bool) → IsAmong k (cond here (without_lock moved.at locks ++ moved ∷ []) (without_lock moved.at locks)) → (moved ≡ k) ⊎ IsAmong k locks
+    of_test : (here : Bool) → IsIn k (cond here (without_lock moved.at locks ++ moved ∷ []) (without_lock moved.at locks)) → (moved ≡ k) ⊎ IsIn k locks
     of_test true among = of_joined k moved (without_lock moved.at locks) among (λ is. inl is) (λ was. inr (among_without moved.at k locks was))
     of_test false among = inr (among_without moved.at k locks among)
 
@@ -89,7 +90,7 @@ none_joins_by_moving s f standing row to same queue k among =
       | inr was ↦ stands_in standing.resource queue k was
     ]
   where
-    of_queue : (queue : Queue) → IsAmong k (queued queue (moved_in f row to standing.resource)) → (record { at = f.lock; row = row } ≡ k) ⊎ IsAmong k (queued queue standing.resource)
+    of_queue : (queue : Queue) → IsIn k (queued queue (moved_in f row to standing.resource)) → (record { at = f.lock; row = row } ≡ k) ⊎ IsIn k (queued queue standing.resource)
     of_queue Granted among = among_moved (Queued f.res to) (record { at = f.lock; row = row }) (Queued standing.resource.at Granted) standing.resource.granted k among
     of_queue Conversion among = among_moved (Queued f.res to) (record { at = f.lock; row = row }) (Queued standing.resource.at Conversion) standing.resource.converting k among
     of_queue Waiting among = among_moved (Queued f.res to) (record { at = f.lock; row = row }) (Queued standing.resource.at Waiting) standing.resource.waiting k among

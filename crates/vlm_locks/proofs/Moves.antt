@@ -7,10 +7,11 @@ use Rattle.std.proofs.lemmas.Option.{none-some, same_Some}
 use Rattle.vlm_words.specs.declared.locks.Row.{Row}
 use Rattle.vlm_words.specs.declared.resources.Queue.{Queue}
 use Rattle.vlm_words.specs.declared.resources.Queue.TheVariants.{Granted, Conversion, Waiting}
+use Rattle.vlm_links.specs.Lists.{IsIn}
 use Rattle.vlm_store.specs.declared.keys.Place.TheVariants.{Loose, Queued}
-use Rattle.vlm_store.specs.Records.{AreApart, IsAmong, IsResourceAmong, IsSound, Records, SameButBlocks, StoredLock, StoredResource, Stores, first_at, is_place, locks_at, moving, on_resource, queued, resource_at, resource_with, with_lists, without_lock}
-use Rattle.vlm_store.proofs.Layouts.{is_place-other, is_place-same}
-use Rattle.vlm_store.proofs.Undoing.{map_on, resource_is, unmoved, without_absent}
+use Rattle.vlm_store.specs.Records.{AreApart, IsSound, Records, SameButBlocks, StoredLock, StoredResource, Stores, first_at, is_place, locks_at, moving, on_resource, queued, resource_at, resource_with, with_lists, without_lock}
+use Rattle.vlm_store.proofs.Records.{is_place-other, is_place-same}
+use Rattle.vlm_store.proofs.Records.{map_on, resource_is, unmoved, without_absent}
 use Rattle.vlm_locks.specs.Rest.{but_service}
 use Rattle.vlm_locks.specs.Serving.{IsLeft, but_queues}
 use Rattle.vlm_locks.proofs.Found.{on_resource-put, resource_alone, resource_at-at, resource_at-put}
@@ -55,7 +56,7 @@ head_is s res r queue at row found first only =
     of_list (k ∷ rest) is first =
         let keyed : k.at ≡ at = same_Some k.at at first in
         let named : k ≡ record { at = at; row = k.row } = ap (λ x. record { at = x; row = k.row }) keyed in
-        let stored : Stores s at k.row = (Queued res queue, subst (IsAmong (record { at = at; row = k.row })) (sym (locks_found s res r queue found ∙ is)) (inl named)) in
+        let stored : Stores s at k.row = (Queued res queue, subst (IsIn (record { at = at; row = k.row })) (sym (locks_found s res r queue found ∙ is)) (inl named)) in
         record { rest = rest; is = is ∙ ap (λ x. x ∷ rest) (named ∙ ap (λ x. record { at = at; row = x }) (only k.row stored)) }
 
 -- where no lock is the first, the queue is empty
@@ -70,14 +71,14 @@ without_first : (at : ℕ) (row : Row) (rest : List StoredLock) → AreApart (re
 without_first at row rest apart = rw (eq-eqb at at refl) (without_absent at rest apart.0)
 
 module _ (s : Records) (sound : IsSound s) (res : ℕ) (r : StoredResource) (queue : Queue) (at : ℕ) (row : Row) (found : resource_at res s.resources ≡ Some r) (head : IsHead queue r at row) where
-  head_stands : IsAmong (record { at = at; row = row }) (locks_at (Queued res queue) s)
-  head_stands = subst (IsAmong (record { at = at; row = row })) (sym (locks_found s res r queue found ∙ head.is)) (inl refl)
+  head_stands : IsIn (record { at = at; row = row }) (locks_at (Queued res queue) s)
+  head_stands = subst (IsIn (record { at = at; row = row })) (sym (locks_found s res r queue found ∙ head.is)) (inl refl)
 
   pub head_stored : Stores s at row
   head_stored = (Queued res queue, head_stands)
 
   -- the first lock stands in no other queue
-  alone : (x : StoredResource) → IsResourceAmong x s.resources → (other : Queue) → Queued x.at other ≢ Queued res queue → without_lock at (queued other x) ≡ queued other x
+  alone : (x : StoredResource) → IsIn x s.resources → (other : Queue) → Queued x.at other ≢ Queued res queue → without_lock at (queued other x) ≡ queued other x
   alone x among other differs =
       let here : locks_at (Queued x.at other) s ≡ queued other x = locks_found s x.at x other (resource_is x s.resources sound.resources_apart among) in
       ap (without_lock at) (sym here) ∙ unmoved s at row (Queued res queue) sound head_stands (Queued x.at other) differs ∙ here
@@ -110,7 +111,7 @@ module _ (s : Records) (sound : IsSound s) (res : ℕ) (r : StoredResource) (que
       ∙ ap (λ xs. xs ++ record { at = at; row = granted } ∷ []) (alone_here Granted (λ e. differs (sym e)))
 
   -- another resource stays
-  moved_there : (granted : Row) (x : StoredResource) → IsResourceAmong x s.resources → x.at ≢ res
+  moved_there : (granted : Row) (x : StoredResource) → IsIn x s.resources → x.at ≢ res
       → resource_with (moving (Queued res Granted) (record { at = at; row = granted })) x ≡ x
   moved_there granted x among differs =
       let stays : (other : Queue) → moving (Queued res Granted) (record { at = at; row = granted }) (Queued x.at other) (queued other x) ≡ queued other x =

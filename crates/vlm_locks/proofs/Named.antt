@@ -5,15 +5,16 @@ use Rattle.std.proofs.lemmas.Bool.{cases_eq}
 use Rattle.std.proofs.lemmas.Bool.{or_right}
 use Rattle.vlm_words.specs.Rows.{is_lock_of, rows_without}
 use Rattle.vlm_words.specs.Rows as plain
-use Rattle.vlm_store.specs.Records.{AreApart, IsAmong, StoredLock, rows_of, without_lock}
+use Rattle.vlm_links.specs.Lists.{IsIn}
+use Rattle.vlm_store.specs.Records.{AreApart, StoredLock, rows_of, without_lock}
 
 -- no lock of the list has this identification
 abbrev pub IsAbsent : ℕ → List StoredLock → Type 0
-IsAbsent lkid locks = (k : StoredLock) → IsAmong k locks → k.row.lkid ≢ lkid
+IsAbsent lkid locks = (k : StoredLock) → IsIn k locks → k.row.lkid ≢ lkid
 
 -- the lock of this key is the only one of the list with the identification of this row, and has this row
 abbrev pub IsOnly : StoredLock → List StoredLock → Type 0
-IsOnly lock locks = (k : StoredLock) → IsAmong k locks → (k.row.lkid ≡ lock.row.lkid → k ≡ lock) × (k.at ≡ lock.at → k ≡ lock)
+IsOnly lock locks = (k : StoredLock) → IsIn k locks → (k.row.lkid ≡ lock.row.lkid → k ≡ lock) × (k.at ≡ lock.at → k ≡ lock)
 
 -- ---- a lock that is not there
 
@@ -31,7 +32,7 @@ find-absent pid lkid [] absent = refl
 find-absent pid lkid (k ∷ rest) absent = rw (ne_eqb k.row.lkid lkid (absent k (inl refl))) (find-absent pid lkid rest (λ x there. absent x (inr there)))
 
 -- no lock of the list is that of the process
-pub any-not : (pid lkid : ℕ) (locks : List StoredLock) → ((k : StoredLock) → IsAmong k locks → k.row.lkid ≡ lkid → k.row.pid ≢ pid) → list_any (is_lock_of pid lkid) (rows_of locks) ≡ false
+pub any-not : (pid lkid : ℕ) (locks : List StoredLock) → ((k : StoredLock) → IsIn k locks → k.row.lkid ≡ lkid → k.row.pid ≢ pid) → list_any (is_lock_of pid lkid) (rows_of locks) ≡ false
 any-not pid lkid [] other = refl
 any-not pid lkid (k ∷ rest) other =
     elim (cases_eq k.row.lkid lkid) [
@@ -44,7 +45,7 @@ any-absent pid lkid locks absent = any-not pid lkid locks (λ k among same. absu
 
 -- ---- a lock that is there
 
-pub any-among : (lock : StoredLock) (locks : List StoredLock) → IsAmong lock locks → list_any (is_lock_of lock.row.pid lock.row.lkid) (rows_of locks) ≡ true
+pub any-among : (lock : StoredLock) (locks : List StoredLock) → IsIn lock locks → list_any (is_lock_of lock.row.pid lock.row.lkid) (rows_of locks) ≡ true
 any-among lock [] among = absurd among
 any-among lock (k ∷ rest) among =
     elim among [
@@ -54,7 +55,7 @@ any-among lock (k ∷ rest) among =
           or_right (is_lock_of lock.row.pid lock.row.lkid k.row) (list_any (is_lock_of lock.row.pid lock.row.lkid) (rows_of rest)) (any-among lock rest there)
     ]
 
-pub find-only : (lock : StoredLock) (locks : List StoredLock) → IsOnly lock locks → IsAmong lock locks → find (is_lock_of lock.row.pid lock.row.lkid) (rows_of locks) ≡ Some lock.row
+pub find-only : (lock : StoredLock) (locks : List StoredLock) → IsOnly lock locks → IsIn lock locks → find (is_lock_of lock.row.pid lock.row.lkid) (rows_of locks) ≡ Some lock.row
 find-only lock [] only among = absurd among
 find-only lock (k ∷ rest) only among =
     elim (cases_eq k.row.lkid lock.row.lkid) [
@@ -83,7 +84,7 @@ without-key lock (k ∷ rest) only =
     ]
 
 -- the rows of the identification are its one row
-pub rows-only : (lock : StoredLock) (locks : List StoredLock) → AreApart locks → IsOnly lock locks → IsAmong lock locks → plain.rows_of lock.row.lkid (rows_of locks) ≡ lock.row ∷ []
+pub rows-only : (lock : StoredLock) (locks : List StoredLock) → AreApart locks → IsOnly lock locks → IsIn lock locks → plain.rows_of lock.row.lkid (rows_of locks) ≡ lock.row ∷ []
 rows-only lock [] apart only among = absurd among
 rows-only lock (k ∷ rest) apart only among =
     elim (cases_eq k.row.lkid lock.row.lkid) [
@@ -99,5 +100,5 @@ rows-only lock (k ∷ rest) apart only among =
           ])
     ]
   where
-    moved : k ≡ lock → {x : StoredLock} → x ≡ lock → IsAmong x rest → IsAmong (record { at = k.at; row = lock.row }) rest
-    moved is same there = subst (λ y. IsAmong y rest) (same ∙ ap (λ (y : StoredLock). record { at = y.at; row = lock.row }) (sym is)) there
+    moved : k ≡ lock → {x : StoredLock} → x ≡ lock → IsIn x rest → IsIn (record { at = k.at; row = lock.row }) rest
+    moved is same there = subst (λ y. IsIn y rest) (same ∙ ap (λ (y : StoredLock). record { at = y.at; row = lock.row }) (sym is)) there

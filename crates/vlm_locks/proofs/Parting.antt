@@ -5,7 +5,7 @@ use Rattle.std.proofs.lemmas.Bool.{cases_eq}
 use Rattle.vlm_links.specs.Lists.{IsIn}
 use Rattle.vlm_words.specs.Settled.{IsSettled}
 use Rattle.vlm_store.specs.Plain.{plain_resource}
-use Rattle.vlm_store.specs.Records.{AreResourcesApart, HasResource, IsResourceAmong, Records, StoredResource, resource_at}
+use Rattle.vlm_store.specs.Records.{AreResourcesApart, HasResource, Records, StoredResource, resource_at}
 use Rattle.vlm_locks.specs.Sweeping.{AreSettledBut, Parted, StandInOrder}
 
 -- the resource of a key has some before and some after it
@@ -36,11 +36,11 @@ found_between res (x ∷ before) own after keyed =
 pub parted_there : (res : ℕ) (s : Records) → Parted res s.resources → HasResource res s
 parted_there res s p = subst (λ rs. IsSome (resource_at res rs)) (sym p.parted) (found_between res p.before p.own p.after p.keyed)
 
-pub among_before : (xs ys : List StoredResource) (x : StoredResource) → IsResourceAmong x xs → IsResourceAmong x (xs ++ ys)
+pub among_before : (xs ys : List StoredResource) (x : StoredResource) → IsIn x xs → IsIn x (xs ++ ys)
 among_before [] ys x among = absurd among
 among_before (y ∷ xs) ys x among = elim among [ inl here ↦ inl here | inr there ↦ inr (among_before xs ys x there) ]
 
-pub among_after : (xs ys : List StoredResource) (x : StoredResource) → IsResourceAmong x ys → IsResourceAmong x (xs ++ ys)
+pub among_after : (xs ys : List StoredResource) (x : StoredResource) → IsIn x ys → IsIn x (xs ++ ys)
 among_after [] ys x among = among
 among_after (y ∷ xs) ys x among = inr (among_after xs ys x among)
 
@@ -49,7 +49,7 @@ apart_behind : (xs ys : List StoredResource) → AreResourcesApart (xs ++ ys) �
 apart_behind [] ys apart = apart
 apart_behind (x ∷ xs) ys apart = apart_behind xs ys apart.1
 
-apart_across : (xs ys : List StoredResource) → AreResourcesApart (xs ++ ys) → (x y : StoredResource) → IsResourceAmong x xs → IsResourceAmong y ys → y.at ≢ x.at
+apart_across : (xs ys : List StoredResource) → AreResourcesApart (xs ++ ys) → (x y : StoredResource) → IsIn x xs → IsIn y ys → y.at ≢ x.at
 apart_across [] ys apart x y here there = absurd here
 apart_across (z ∷ xs) ys apart x y here there =
     elim here [
@@ -61,25 +61,25 @@ module _ (res : ℕ) (rs : List StoredResource) (apart : AreResourcesApart rs) (
   split : AreResourcesApart (p.before ++ p.own ∷ p.after)
   split = subst AreResourcesApart p.parted apart
 
-  pub own_there : IsResourceAmong p.own rs
-  own_there = subst (IsResourceAmong p.own) (sym p.parted) (among_after p.before (p.own ∷ p.after) p.own (inl refl))
+  pub own_there : IsIn p.own rs
+  own_there = subst (IsIn p.own) (sym p.parted) (among_after p.before (p.own ∷ p.after) p.own (inl refl))
 
-  before_there : (x : StoredResource) → IsResourceAmong x p.before → IsResourceAmong x rs
-  before_there x here = subst (IsResourceAmong x) (sym p.parted) (among_before p.before (p.own ∷ p.after) x here)
+  before_there : (x : StoredResource) → IsIn x p.before → IsIn x rs
+  before_there x here = subst (IsIn x) (sym p.parted) (among_before p.before (p.own ∷ p.after) x here)
 
-  after_there : (x : StoredResource) → IsResourceAmong x p.after → IsResourceAmong x rs
-  after_there x there = subst (IsResourceAmong x) (sym p.parted) (among_after p.before (p.own ∷ p.after) x (inr there))
+  after_there : (x : StoredResource) → IsIn x p.after → IsIn x rs
+  after_there x there = subst (IsIn x) (sym p.parted) (among_after p.before (p.own ∷ p.after) x (inr there))
 
-  pub before_differ : (x : StoredResource) → IsResourceAmong x p.before → x.at ≢ res
+  pub before_differ : (x : StoredResource) → IsIn x p.before → x.at ≢ res
   before_differ x here same = apart_across p.before (p.own ∷ p.after) split x p.own here (inl refl) (p.keyed ∙ sym same)
 
-  pub after_differ : (x : StoredResource) → IsResourceAmong x p.after → x.at ≢ res
+  pub after_differ : (x : StoredResource) → IsIn x p.after → x.at ≢ res
   after_differ x there same = (apart_behind p.before (p.own ∷ p.after) split).0 x there (same ∙ sym p.keyed)
 
   after_apart : AreResourcesApart p.after
   after_apart = (apart_behind p.before (p.own ∷ p.after) split).1
 
-  across : (x y : StoredResource) → IsResourceAmong x p.before → IsResourceAmong y p.after → y.at ≢ x.at
+  across : (x y : StoredResource) → IsIn x p.before → IsIn y p.after → y.at ≢ x.at
   across x y here there = apart_across p.before (p.own ∷ p.after) split x y here (inr there)
 
 -- ---- what is to be swept
@@ -88,7 +88,7 @@ module _ (res : ℕ) (rs : List StoredResource) (apart : AreResourcesApart rs) (
 abbrev pub AreSettled : List StoredResource → Type 0
 AreSettled rs = AllByRecursion IsSettled (map plain_resource rs)
 
-all_settled : (rs : List StoredResource) → ((x : StoredResource) → IsResourceAmong x rs → IsSettled (plain_resource x)) → AreSettled rs
+all_settled : (rs : List StoredResource) → ((x : StoredResource) → IsIn x rs → IsSettled (plain_resource x)) → AreSettled rs
 all_settled [] each = tt
 all_settled (r ∷ rs) each = (each r (inl refl), all_settled rs (λ x there. each x (inr there)))
 
@@ -103,12 +103,12 @@ AreToSweep (res ∷ touched) rs = (here : Parted res rs) × (AreSettled here.bef
 
 -- a touched resource is there
 touched_there : (touched : List ℕ) (rs : List StoredResource) → StandInOrder touched rs → (res : ℕ) → IsIn res touched
-    → (y : StoredResource) × (IsResourceAmong y rs × (y.at ≡ res))
+    → (y : StoredResource) × (IsIn y rs × (y.at ≡ res))
 touched_there [] rs stand res is = absurd is
 touched_there (first ∷ touched) rs stand res is =
     let p = stand.0 in
-    let there : (y : StoredResource) → IsResourceAmong y (p.own ∷ p.after) → IsResourceAmong y rs =
-    λ y among. subst (IsResourceAmong y) (sym p.parted) (among_after p.before (p.own ∷ p.after) y among) in
+    let there : (y : StoredResource) → IsIn y (p.own ∷ p.after) → IsIn y rs =
+    λ y among. subst (IsIn y) (sym p.parted) (among_after p.before (p.own ∷ p.after) y among) in
     elim is [
       | inl here ↦ (p.own, (there p.own (inl refl), p.keyed ∙ here))
       | inr later ↦ let found = touched_there touched p.after stand.1 res later in (found.0, (there found.0 (inr found.1.0), found.1.1))

@@ -6,10 +6,11 @@ use Rattle.std.specs.Option.{option_map_or}
 use Rattle.vlm_words.specs.State.{Resource}
 use Rattle.vlm_words.specs.declared.locks.Row.{Row}
 use Rattle.vlm_words.specs.declared.resources.Queue.{Queue}
+use Rattle.vlm_links.specs.Lists.{IsIn}
 use Rattle.vlm_store.specs.declared.keys.Place.{Place}
 use Rattle.vlm_store.specs.declared.keys.Place.TheVariants.{Loose, Queued}
 use Rattle.vlm_store.specs.Plain.{plain_resource, plain_resources}
-use Rattle.vlm_store.specs.Records.{HasNoSublocks, HasResource, IsAmong, IsOwnAmong, IsResourceAmong, IsRowOf, IsSound, Records, StoredLock, StoredResource, Stores, but_blocks, locks_at, on_resource, queued, resource_at, without_resource}
+use Rattle.vlm_store.specs.Records.{HasNoSublocks, HasResource, IsRowOf, IsSound, Records, StoredLock, StoredResource, Stores, but_blocks, locks_at, on_resource, queued, resource_at, without_resource}
 use Rattle.vlm_words.specs.Resources.{IsKeyed}
 use Rattle.vlm_locks.specs.Rest.{IsAtRest, IsReplaced, OthersStay}
 use Rattle.vlm_locks.specs.Staying.{LocksStay}
@@ -19,8 +20,8 @@ use Rattle.vlm_locks.proofs.Stood.{resource_among}
 use Rattle.vlm_locks.proofs.Found.{resource_alone, resource_at-at, resource_at-put}
 
 -- a resource of the list after is the new one, or it was there and has another key
-replaced_cases : (res : ℕ) (left : StoredResource) (rs : List StoredResource) (x : StoredResource) → IsResourceAmong x (on_resource res (λ r. left) rs)
-    → (x ≡ left) ⊎ IsResourceAmong x rs
+replaced_cases : (res : ℕ) (left : StoredResource) (rs : List StoredResource) (x : StoredResource) → IsIn x (on_resource res (λ r. left) rs)
+    → (x ≡ left) ⊎ IsIn x rs
 replaced_cases res left [] x among = absurd among
 replaced_cases res left (r ∷ rest) x among =
     elim among [
@@ -35,7 +36,7 @@ replaced_cases res left (r ∷ rest) x among =
 pub no_sublocks_still : (old new : Records) → map but_blocks new.processes ≡ map but_blocks old.processes → (at : ℕ) → HasNoSublocks at old → HasNoSublocks at new
 no_sublocks_still old new same at childless p own among here =
     let was = same_own old.processes new.processes same p among in
-    childless was.0 own was.1.0 (subst (IsOwnAmong own) (sym was.1.1) here)
+    childless was.0 own was.1.0 (subst (IsIn own) (sym was.1.1) here)
 
 module _ (res : ℕ) (had left : StoredResource) (old new : Records) (replaced : IsReplaced res had left old new) where
   had_at : had.at ≡ res
@@ -74,26 +75,26 @@ module _ (res : ℕ) (had left : StoredResource) (old new : Records) (replaced :
   still_there = subst IsSome (sym found_left) refl
 
   -- each resource keeps its key and its domain
-  pub keyed_still : ((r : StoredResource) → IsResourceAmong r old.resources → IsKeyed r.domain r.key) → (x : StoredResource) → IsResourceAmong x new.resources → IsKeyed x.domain x.key
+  pub keyed_still : ((r : StoredResource) → IsIn r old.resources → IsKeyed r.domain r.key) → (x : StoredResource) → IsIn x new.resources → IsKeyed x.domain x.key
   keyed_still keyed x among =
-      elim (replaced_cases res left old.resources x (subst (IsResourceAmong x) replaced.resources among)) [
+      elim (replaced_cases res left old.resources x (subst (IsIn x) replaced.resources among)) [
         | inl is ↦ subst (λ (r : StoredResource). IsKeyed r.domain r.key) (sym is)
             (subst (λ (r : StoredResource). IsKeyed r.domain r.key) (sym replaced.same) (keyed had (resource_among res old.resources had replaced.was)))
         | inr was ↦ keyed x was
       ]
 
   -- a lock that is stored after stands on the new one, or was stored
-  pub stored_cases : {P : ℕ → Row → Type 0} → ((queue : Queue) (k : StoredLock) → IsAmong k (queued queue left) → P k.at k.row)
+  pub stored_cases : {P : ℕ → Row → Type 0} → ((queue : Queue) (k : StoredLock) → IsIn k (queued queue left) → P k.at k.row)
       → ((at : ℕ) (row : Row) → Stores old at row → P at row) → (at : ℕ) (row : Row) → Stores new at row → P at row
   stored_cases {P} here else at row stored = by_place stored.0 stored.1
     where
-      by_place : (place : Place) → IsAmong (record { at = at; row = row }) (locks_at place new) → P at row
-      by_place Loose among = else at row (Loose, subst (IsAmong (record { at = at; row = row })) replaced.loose among)
+      by_place : (place : Place) → IsIn (record { at = at; row = row }) (locks_at place new) → P at row
+      by_place Loose among = else at row (Loose, subst (IsIn (record { at = at; row = row })) replaced.loose among)
       by_place (Queued x queue) among =
           elim (cases_eq x res) [
             | inl same ↦ here queue (record { at = at; row = row })
-                (subst (IsAmong (record { at = at; row = row })) (ap (λ k. locks_at (Queued k queue) new) same ∙ ap (λ o. option_map_or (queued queue) o []) found_left) among)
-            | inr differs ↦ else at row (Queued x queue, subst (λ o. IsAmong (record { at = at; row = row }) (option_map_or (queued queue) o [])) (ap (resource_at x) replaced.resources ∙ found_beside x old.resources differs) among)
+                (subst (IsIn (record { at = at; row = row })) (ap (λ k. locks_at (Queued k queue) new) same ∙ ap (λ o. option_map_or (queued queue) o []) found_left) among)
+            | inr differs ↦ else at row (Queued x queue, subst (λ o. IsIn (record { at = at; row = row }) (option_map_or (queued queue) o [])) (ap (resource_at x) replaced.resources ∙ found_beside x old.resources differs) among)
           ]
 
   -- what held between two steps holds still, if no lock joins
@@ -104,19 +105,19 @@ module _ (res : ℕ) (had left : StoredResource) (old new : Records) (replaced :
     rising = all_rise_still old new (stored_cases {P = λ at row. IsRowOf at row old} was_here (λ at row stored. (row, (stored, same_lock row)))) replaced.processes rest.rising;
   }
     where
-      was_here : (queue : Queue) (k : StoredLock) → IsAmong k (queued queue left) → IsRowOf k.at k.row old
+      was_here : (queue : Queue) (k : StoredLock) → IsIn k (queued queue left) → IsRowOf k.at k.row old
       was_here queue k among =
           let still = none_join queue k among in (
             still.row,
             (
-              (Queued res still.queue, subst (IsAmong (record { at = k.at; row = still.row })) (sym (ap (λ o. option_map_or (queued still.queue) o []) replaced.was)) still.among),
+              (Queued res still.queue, subst (IsIn (record { at = k.at; row = still.row })) (sym (ap (λ o. option_map_or (queued still.queue) o []) replaced.was)) still.among),
               same_back k.row still.row still.same,
             ),
           )
 
   -- of the plain resources just that one changes, if the change leaves the others
   pub plain_replaced : (change : Resource → Resource) → IsSound old → change (plain_resource had) ≡ plain_resource left
-      → ((x : StoredResource) → IsResourceAmong x old.resources → x.at ≢ res → change (plain_resource x) ≡ plain_resource x)
+      → ((x : StoredResource) → IsIn x old.resources → x.at ≢ res → change (plain_resource x) ≡ plain_resource x)
       → plain_resources new ≡ map change (plain_resources old)
   plain_replaced change sound here there =
       ap (map plain_resource) replaced.resources
@@ -127,7 +128,7 @@ module _ (res : ℕ) (had left : StoredResource) (old new : Records) (replaced :
         | inr differs ↦ ap (λ b. plain_resource (cond b left x)) (ne_eqb x.at res differs) ∙ sym (there x among differs)
       ])
     where
-      twice : (rs : List StoredResource) → ((x : StoredResource) → IsResourceAmong x rs → plain_resource (cond (x.at == res) left x) ≡ change (plain_resource x))
+      twice : (rs : List StoredResource) → ((x : StoredResource) → IsIn x rs → plain_resource (cond (x.at == res) left x) ≡ change (plain_resource x))
           → map plain_resource (on_resource res (λ r. left) rs) ≡ map change (map plain_resource rs)
       twice [] each = refl
       twice (x ∷ rest) each =

@@ -9,7 +9,7 @@ use Rattle.vlm_links.specs.Lists.{IsIn, without}
 use Rattle.vlm_links.proofs.KeyLists.{IsIn-push, IsIn-without}
 use Rattle.vlm_store.specs.declared.keys.Place.{Place}
 use Rattle.vlm_store.specs.declared.keys.Place.TheVariants.{Loose, Queued}
-use Rattle.vlm_store.specs.Records.{IsAmong, IsNewLock, IsOwnAmong, IsProcessAmong, IsRowOf, IsSound, IsStored, OwnLock, Records, StoredProcess, StoredResource, Stores, but_blocks, locks_at, new_own, process_with_lock, process_without_lock, queued, resource_at, with_sublock, without_sublock}
+use Rattle.vlm_store.specs.Records.{IsNewLock, IsRowOf, IsSound, IsStored, OwnLock, Records, StoredProcess, StoredResource, Stores, but_blocks, locks_at, new_own, process_with_lock, process_without_lock, queued, resource_at, with_sublock, without_sublock}
 use Rattle.vlm_locks.specs.Staying.{LocksStayAmong}
 use Rattle.vlm_locks.specs.Rising.{ComesBefore, HasRisingLocks, IsAboveAll, StandByIdentification, own_keys}
 use Rattle.vlm_locks.proofs.Staying.{same_back, same_lock}
@@ -17,7 +17,7 @@ use Rattle.vlm_locks.proofs.Stood.{queued_stored, resource_among}
 
 -- each process has rising locks
 abbrev pub AllRise : Records → List StoredProcess → Type 0
-AllRise s ps = (p : StoredProcess) → IsProcessAmong p ps → HasRisingLocks s p
+AllRise s ps = (p : StoredProcess) → IsIn p ps → HasRisingLocks s p
 
 -- each lock that is stored was stored under its key, as the same lock
 abbrev pub WereStored : Records → Records → Type 0
@@ -67,19 +67,19 @@ before_still old new were first second before a b in_a in_b =
 pub were_stored : (old new : Records) → new.resources ≡ old.resources → new.loose ≡ old.loose → WereStored old new
 were_stored old new resources loose at row stored = (row, ((stored.0, by_place stored.0 stored.1), same_lock row))
   where
-    by_place : (place : Place) → IsAmong (record { at = at; row = row }) (locks_at place new) → IsAmong (record { at = at; row = row }) (locks_at place old)
-    by_place Loose among = subst (IsAmong (record { at = at; row = row })) loose among
-    by_place (Queued res queue) among = subst (λ rs. IsAmong (record { at = at; row = row }) (option_map_or (queued queue) (resource_at res rs) [])) resources among
+    by_place : (place : Place) → IsIn (record { at = at; row = row }) (locks_at place new) → IsIn (record { at = at; row = row }) (locks_at place old)
+    by_place Loose among = subst (IsIn (record { at = at; row = row })) loose among
+    by_place (Queued res queue) among = subst (λ rs. IsIn (record { at = at; row = row }) (option_map_or (queued queue) (resource_at res rs) [])) resources among
 
 -- and where none joins the resources
 pub none_joined : (old new : Records) → IsSound old → new.loose ≡ old.loose → LocksStayAmong new.resources old.resources → WereStored old new
 none_joined old new sound loose none_join at row stored = by_place stored.0 stored.1
   where
-    by_place : (place : Place) → IsAmong (record { at = at; row = row }) (locks_at place new) → IsRowOf at row old
-    by_place Loose among = (row, ((Loose, subst (IsAmong (record { at = at; row = row })) loose among), same_lock row))
+    by_place : (place : Place) → IsIn (record { at = at; row = row }) (locks_at place new) → IsRowOf at row old
+    by_place Loose among = (row, ((Loose, subst (IsIn (record { at = at; row = row })) loose among), same_lock row))
     by_place (Queued res queue) among = of_found (resource_at res new.resources) refl among
       where
-        of_found : (found : Option StoredResource) → resource_at res new.resources ≡ found → IsAmong (record { at = at; row = row }) (option_map_or (queued queue) found []) → IsRowOf at row old
+        of_found : (found : Option StoredResource) → resource_at res new.resources ≡ found → IsIn (record { at = at; row = row }) (option_map_or (queued queue) found []) → IsRowOf at row old
         of_found None is here = absurd here
         of_found (Some r) is here =
             let stays = none_join r queue (record { at = at; row = row }) (resource_among res new.resources r is) here in
@@ -92,7 +92,7 @@ none_joined old new sound loose none_join at row stored = by_place stored.0 stor
             )
 
 -- a process has the locks of one that was there
-pub same_own : (old new : List StoredProcess) → map but_blocks new ≡ map but_blocks old → (p : StoredProcess) → IsProcessAmong p new → (q : StoredProcess) × (IsProcessAmong q old × (q.own ≡ p.own))
+pub same_own : (old new : List StoredProcess) → map but_blocks new ≡ map but_blocks old → (p : StoredProcess) → IsIn p new → (q : StoredProcess) × (IsIn q old × (q.own ≡ p.own))
 same_own [] [] same p among = absurd among
 same_own [] (x ∷ new) same p among = cc
 same_own (y ∷ old) [] same p among = absurd among
@@ -114,7 +114,7 @@ same_own (y ∷ old) (x ∷ new) same p among =
 pub rises_still : (old new : Records) (q p : StoredProcess) → WereStored old new → q.own ≡ p.own → HasRisingLocks old q → HasRisingLocks new p
 rises_still old new q p were same rises = record {
   own = subst (λ owns. StandByIdentification new (own_keys owns)) same (stand_still old new (own_keys q.own) (λ a b in_a in_b. before_still old new were a b) rises.own);
-  sublocks = λ own among. stand_still old new own.sublocks (λ a b in_a in_b. before_still old new were a b) (rises.sublocks own (subst (IsOwnAmong own) (sym same) among));
+  sublocks = λ own among. stand_still old new own.sublocks (λ a b in_a in_b. before_still old new were a b) (rises.sublocks own (subst (IsIn own) (sym same) among));
 }
 
 -- so all have where none gets another lock
@@ -124,8 +124,8 @@ all_rise_still old new were same rising p among =
     rises_still old new was.0 p were was.1.1 (rising was.0 was.1.0)
 
 -- a process of those that are changed was there
-was_process : (change : StoredProcess → StoredProcess) (ps : List StoredProcess) (p : StoredProcess) → IsProcessAmong p (map change ps)
-    → (q : StoredProcess) × (IsProcessAmong q ps × (change q ≡ p))
+was_process : (change : StoredProcess → StoredProcess) (ps : List StoredProcess) (p : StoredProcess) → IsIn p (map change ps)
+    → (q : StoredProcess) × (IsIn q ps × (change q ≡ p))
 was_process change [] p among = absurd among
 was_process change (x ∷ ps) p among =
     elim among [
@@ -136,8 +136,8 @@ was_process change (x ∷ ps) p among =
 -- ---- a lock that goes
 
 -- a lock of a process without the one was there
-was_own : (lock : ℕ) (owns : List OwnLock) (own : OwnLock) → IsOwnAmong own (map (without_sublock lock) (filter (λ (o : OwnLock). not (o.at == lock)) owns))
-    → (o : OwnLock) × (IsOwnAmong o owns × (without_sublock lock o ≡ own))
+was_own : (lock : ℕ) (owns : List OwnLock) (own : OwnLock) → IsIn own (map (without_sublock lock) (filter (λ (o : OwnLock). not (o.at == lock)) owns))
+    → (o : OwnLock) × (IsIn o owns × (without_sublock lock o ≡ own))
 was_own lock [] own among = absurd among
 was_own lock (x ∷ owns) own among =
     elim (cases_eq x.at lock) [
@@ -177,7 +177,7 @@ all_rise_without s lock ps rising p among =
 pub new_above : (lkid : ℕ) (s : Records) → IsAboveAll lkid s → IsNewLock lkid s
 new_above lkid s above at row stored same = absurd (omega (arith, above at row stored, same))
 
-own_in : (owns : List OwnLock) (at : ℕ) → IsIn at (own_keys owns) → (o : OwnLock) × (IsOwnAmong o owns × (o.at ≡ at))
+own_in : (owns : List OwnLock) (at : ℕ) → IsIn at (own_keys owns) → (o : OwnLock) × (IsIn o owns × (o.at ≡ at))
 own_in [] at there = absurd there
 own_in (x ∷ owns) at there =
     elim there [
@@ -187,8 +187,8 @@ own_in (x ∷ owns) at there =
 
 module _ (owner : ℕ) (parent : Option ℕ) (lock : ℕ) where
   -- a lock of a process with the one was there, or is the new one
-  had_own : (mine : Bool) (owns : List OwnLock) (own : OwnLock) → IsOwnAmong own (map (with_sublock parent lock) owns ++ cond mine (new_own lock) [])
-      → ((o : OwnLock) × (IsOwnAmong o owns × (with_sublock parent lock o ≡ own))) ⊎ (record { at = lock; sublocks = [] } ≡ own)
+  had_own : (mine : Bool) (owns : List OwnLock) (own : OwnLock) → IsIn own (map (with_sublock parent lock) owns ++ cond mine (new_own lock) [])
+      → ((o : OwnLock) × (IsIn o owns × (with_sublock parent lock o ≡ own))) ⊎ (record { at = lock; sublocks = [] } ≡ own)
   had_own true [] own among = elim among [ inl is ↦ inr is | inr none ↦ absurd none ]
   had_own false [] own among = absurd among
   had_own mine (x ∷ owns) own among =
@@ -237,7 +237,7 @@ module _ (owner : ℕ) (parent : Option ℕ) (lock : ℕ) where
     stand_joined : (keys : List ℕ) → ((at : ℕ) → IsIn at keys → IsStored at s) → StandByIdentification s keys → StandByIdentification new (keys ++ lock ∷ [])
     stand_joined keys stored stand = stand_with new keys lock (λ at there. before_last at (stored at there)) (stand_kept keys stored stand)
 
-    rises_with : (q : StoredProcess) → IsProcessAmong q s.processes → HasRisingLocks s q → HasRisingLocks new (process_with_lock owner parent lock q)
+    rises_with : (q : StoredProcess) → IsIn q s.processes → HasRisingLocks s q → HasRisingLocks new (process_with_lock owner parent lock q)
     rises_with q among rises = record {
       own = of_owner (q.at == owner);
       sublocks = λ own there. elim (had_own (q.at == owner) q.own own there) [
@@ -252,7 +252,7 @@ module _ (owner : ℕ) (parent : Option ℕ) (lock : ℕ) where
             let owned = sound.owned.owns q found.0 among found.1.0 in
             subst (λ k. IsStored k s) found.1.1 (owned.0, owned.1.0)
 
-        below_stored : (o : OwnLock) → IsOwnAmong o q.own → (at : ℕ) → IsIn at o.sublocks → IsStored at s
+        below_stored : (o : OwnLock) → IsIn o q.own → (at : ℕ) → IsIn at o.sublocks → IsStored at s
         below_stored o own at there = let below = sound.owned.below q o at among own there in (below.1, below.2.1)
 
         of_owner : (mine : Bool) → StandByIdentification new (own_keys (map (with_sublock parent lock) q.own ++ cond mine (new_own lock) []))
@@ -265,7 +265,7 @@ module _ (owner : ℕ) (parent : Option ℕ) (lock : ℕ) where
             (sym (map-append (λ (o : OwnLock). o.at) (map (with_sublock parent lock) q.own) [] ∙ append-nil _ ∙ keys_with q.own))
             (stand_kept (own_keys q.own) own_stored rises.own)
 
-        of_parent : (up : Option ℕ) (o : OwnLock) → IsOwnAmong o q.own → StandByIdentification new (with_sublock up lock o).sublocks
+        of_parent : (up : Option ℕ) (o : OwnLock) → IsIn o q.own → StandByIdentification new (with_sublock up lock o).sublocks
         of_parent None o own = stand_kept o.sublocks (below_stored o own) (rises.sublocks o own)
         of_parent (Some key) o own = of_test (o.at == key)
           where

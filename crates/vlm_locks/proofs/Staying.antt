@@ -6,7 +6,8 @@ use Rattle.vlm_words.specs.declared.resources.Queue.{Queue}
 use Rattle.vlm_words.specs.declared.resources.Queue.TheVariants.{Granted, Conversion, Waiting}
 use Rattle.vlm_words.specs.declared.resources.ValueBlock.{ValueBlock}
 use Rattle.vlm_words.specs.Grants.{granted_row}
-use Rattle.vlm_store.specs.Records.{IsAmong, IsResourceAmong, IsSameLock, StoredLock, StoredResource, queued, without_lock}
+use Rattle.vlm_links.specs.Lists.{IsIn}
+use Rattle.vlm_store.specs.Records.{IsSameLock, StoredLock, StoredResource, queued, without_lock}
 use Rattle.vlm_locks.specs.Staying.{LocksStay, LocksStayAmong, StandsStill}
 use Rattle.vlm_locks.proofs.Moves.{IsHead, granted_first}
 use Rattle.vlm_locks.proofs.Parting.{among_after, among_before}
@@ -19,7 +20,7 @@ pub same_back : (a b : Row) → IsSameLock a b → IsSameLock b a
 same_back a b same = record { lkid = sym same.lkid; pid = sym same.pid; parent = sym same.parent }
 
 -- a lock that stands in a queue stands there still
-pub stands_in : (r : StoredResource) (queue : Queue) (lock : StoredLock) → IsAmong lock (queued queue r) → StandsStill lock r
+pub stands_in : (r : StoredResource) (queue : Queue) (lock : StoredLock) → IsIn lock (queued queue r) → StandsStill lock r
 stands_in r queue lock among = record { queue = queue; row = lock.row; among = among; same = same_lock lock.row }
 
 pub all_stay : (r : StoredResource) → LocksStay r r
@@ -47,7 +48,7 @@ stays_under_block had left block stay queue lock among =
     let still = stay queue lock among in
     record { queue = still.queue; row = still.row; among = of_queue still.queue still.row still.among; same = still.same }
   where
-    of_queue : (queue : Queue) (row : Row) → IsAmong (record { at = lock.at; row = row }) (queued queue left) → IsAmong (record { at = lock.at; row = row }) (queued queue (record left { value_block = block }))
+    of_queue : (queue : Queue) (row : Row) → IsIn (record { at = lock.at; row = row }) (queued queue left) → IsIn (record { at = lock.at; row = row }) (queued queue (record left { value_block = block }))
     of_queue Granted row among = among
     of_queue Conversion row among = among
     of_queue Waiting row among = among
@@ -57,16 +58,16 @@ none_joins_under_block had left block stay Granted lock among = stay Granted loc
 none_joins_under_block had left block stay Conversion lock among = stay Conversion lock among
 none_joins_under_block had left block stay Waiting lock among = stay Waiting lock among
 
-among_front : (lock : StoredLock) (xs ys : List StoredLock) → IsAmong lock xs → IsAmong lock (xs ++ ys)
+among_front : (lock : StoredLock) (xs ys : List StoredLock) → IsIn lock xs → IsIn lock (xs ++ ys)
 among_front lock [] ys among = absurd among
 among_front lock (x ∷ xs) ys among = elim among [ inl here ↦ inl here | inr there ↦ inr (among_front lock xs ys there) ]
 
-pub among_last : (lock : StoredLock) (xs : List StoredLock) → IsAmong lock (xs ++ lock ∷ [])
+pub among_last : (lock : StoredLock) (xs : List StoredLock) → IsIn lock (xs ++ lock ∷ [])
 among_last lock [] = inl refl
 among_last lock (x ∷ xs) = inr (among_last lock xs)
 
 -- a lock of a list without one was there
-pub among_without : (at : ℕ) (lock : StoredLock) (locks : List StoredLock) → IsAmong lock (without_lock at locks) → IsAmong lock locks
+pub among_without : (at : ℕ) (lock : StoredLock) (locks : List StoredLock) → IsIn lock (without_lock at locks) → IsIn lock locks
 among_without at lock [] among = absurd among
 among_without at lock (x ∷ locks) among =
     elim (cases_eq x.at at) [
@@ -75,7 +76,7 @@ among_without at lock (x ∷ locks) among =
     ]
 
 -- a lock of a longer list is the last, or was there
-pub of_joined : {X : Type 0} (lock last : StoredLock) (xs : List StoredLock) → IsAmong lock (xs ++ last ∷ []) → (last ≡ lock → X) → (IsAmong lock xs → X) → X
+pub of_joined : {X : Type 0} (lock last : StoredLock) (xs : List StoredLock) → IsIn lock (xs ++ last ∷ []) → (last ≡ lock → X) → (IsIn lock xs → X) → X
 of_joined {X} lock last [] among is was = elim among [ inl here ↦ is here | inr none ↦ absurd none ]
 of_joined {X} lock last (x ∷ xs) among is was =
     elim among [ inl here ↦ was (inl here) | inr there ↦ of_joined lock last xs there is (λ later. was (inr later)) ]
@@ -93,7 +94,7 @@ module _ (r : StoredResource) (at : ℕ) (row : Row) where
       (record {
         queue = Granted;
         row = granted_row row;
-        among = subst (IsAmong granted) (sym joined) (among_last granted r.granted);
+        among = subst (IsIn granted) (sym joined) (among_last granted r.granted);
         same = record { lkid = refl; pid = refl; parent = refl };
       })
 
@@ -101,13 +102,13 @@ module _ (r : StoredResource) (at : ℕ) (row : Row) where
   was_first : (queue : Queue) (head : IsHead queue r at row) (lock : StoredLock) → granted ≡ lock → StandsStill lock r
   was_first queue head lock is =
       subst (λ (k : StoredLock). StandsStill k r) is
-      (record { queue = queue; row = row; among = subst (IsAmong (record { at = at; row = row })) (sym head.is) (inl refl); same = record { lkid = refl; pid = refl; parent = refl } })
+      (record { queue = queue; row = row; among = subst (IsIn (record { at = at; row = row })) (sym head.is) (inl refl); same = record { lkid = refl; pid = refl; parent = refl } })
 
   pub stay_granted : (queue : Queue) (head : IsHead queue r at row) → LocksStay r (granted_first queue granted head.rest r)
   stay_granted Granted head q lock among = stands_in r q lock among
   stay_granted Conversion head Granted lock among = stands_in (granted_first Conversion granted head.rest r) Granted lock (among_front lock r.granted (granted ∷ []) among)
   stay_granted Conversion head Conversion lock among =
-      elim (subst (IsAmong lock) head.is among) [
+      elim (subst (IsIn lock) head.is among) [
         | inl here ↦ is_granted (granted_first Conversion granted head.rest r) lock here refl
         | inr there ↦ stands_in (granted_first Conversion granted head.rest r) Conversion lock there
       ]
@@ -115,7 +116,7 @@ module _ (r : StoredResource) (at : ℕ) (row : Row) where
   stay_granted Waiting head Granted lock among = stands_in (granted_first Waiting granted head.rest r) Granted lock (among_front lock r.granted (granted ∷ []) among)
   stay_granted Waiting head Conversion lock among = stands_in (granted_first Waiting granted head.rest r) Conversion lock among
   stay_granted Waiting head Waiting lock among =
-      elim (subst (IsAmong lock) head.is among) [
+      elim (subst (IsIn lock) head.is among) [
         | inl here ↦ is_granted (granted_first Waiting granted head.rest r) lock here refl
         | inr there ↦ stands_in (granted_first Waiting granted head.rest r) Waiting lock there
       ]
@@ -124,12 +125,12 @@ module _ (r : StoredResource) (at : ℕ) (row : Row) where
   none_join_granted Granted head q lock among = stands_in r q lock among
   none_join_granted Conversion head Granted lock among =
       of_joined lock granted r.granted among (was_first Conversion head lock) (λ was. stands_in r Granted lock was)
-  none_join_granted Conversion head Conversion lock among = stands_in r Conversion lock (subst (IsAmong lock) (sym head.is) (inr among))
+  none_join_granted Conversion head Conversion lock among = stands_in r Conversion lock (subst (IsIn lock) (sym head.is) (inr among))
   none_join_granted Conversion head Waiting lock among = stands_in r Waiting lock among
   none_join_granted Waiting head Granted lock among =
       of_joined lock granted r.granted among (was_first Waiting head lock) (λ was. stands_in r Granted lock was)
   none_join_granted Waiting head Conversion lock among = stands_in r Conversion lock among
-  none_join_granted Waiting head Waiting lock among = stands_in r Waiting lock (subst (IsAmong lock) (sym head.is) (inr among))
+  none_join_granted Waiting head Waiting lock among = stands_in r Waiting lock (subst (IsIn lock) (sym head.is) (inr among))
 
 -- ---- among resources
 
@@ -137,15 +138,15 @@ module _ (r : StoredResource) (at : ℕ) (row : Row) where
 pub stay_alone : (had left : StoredResource) → left.at ≡ had.at → LocksStay had left → LocksStayAmong (had ∷ []) (left ∷ [])
 stay_alone had left keyed stay r queue lock among here =
     elim among [
-      | inl is ↦ (left, (inl refl, keyed ∙ ap (λ (x : StoredResource). x.at) is, stay queue lock (subst (λ (x : StoredResource). IsAmong lock (queued queue x)) (sym is) here)))
+      | inl is ↦ (left, (inl refl, keyed ∙ ap (λ (x : StoredResource). x.at) is, stay queue lock (subst (λ (x : StoredResource). IsIn lock (queued queue x)) (sym is) here)))
       | inr none ↦ absurd none
     ]
 
 -- a resource without locks may be absent
-pub stay_none : (had : StoredResource) (others : List StoredResource) → ((queue : Queue) (lock : StoredLock) → IsAmong lock (queued queue had) → ⊥) → LocksStayAmong (had ∷ []) others
+pub stay_none : (had : StoredResource) (others : List StoredResource) → ((queue : Queue) (lock : StoredLock) → IsIn lock (queued queue had) → ⊥) → LocksStayAmong (had ∷ []) others
 stay_none had others none r queue lock among here =
     elim among [
-      | inl is ↦ absurd (none queue lock (subst (λ (x : StoredResource). IsAmong lock (queued queue x)) (sym is) here))
+      | inl is ↦ absurd (none queue lock (subst (λ (x : StoredResource). IsIn lock (queued queue x)) (sym is) here))
       | inr nothing ↦ absurd nothing
     ]
 
@@ -183,6 +184,6 @@ stay_parts olds news stay before after r queue lock among here =
     (λ own. let still = stay r queue lock own here in (still.0, (among_after before (news ++ after) still.0 (among_before news after still.0 still.1.0), still.1.1, still.1.2)))
     (λ last. (r, (among_after before (news ++ after) r (among_after news after r last), refl, stands_in r queue lock here))))
   where
-    of_part : {X : Type 0} (xs ys : List StoredResource) → IsResourceAmong r (xs ++ ys) → (IsResourceAmong r xs → X) → (IsResourceAmong r ys → X) → X
+    of_part : {X : Type 0} (xs ys : List StoredResource) → IsIn r (xs ++ ys) → (IsIn r xs → X) → (IsIn r ys → X) → X
     of_part {X} [] ys among first second = second among
     of_part {X} (y ∷ xs) ys among first second = elim among [ inl is ↦ first (inl is) | inr there ↦ of_part xs ys there (λ own. first (inr own)) second ]

@@ -6,15 +6,16 @@ use Rattle.std.proofs.lemmas.Bool.{cases_eq}
 use Rattle.std.proofs.Common.{eq-eqb, ne_eqb}
 use Rattle.vlm_words.specs.declared.locks.Row.{Row}
 use Rattle.vlm_words.specs.declared.resources.Queue.{Queue}
+use Rattle.vlm_links.specs.Lists.{IsIn}
 use Rattle.vlm_store.specs.declared.keys.Place.TheVariants.{Queued}
-use Rattle.vlm_store.specs.Records.{AreApart, IsAmong, IsProcess, IsResourceAmong, IsSound, Records, StoredLock, StoredResource, Stores, locks_at, queued, resource_at}
-use Rattle.vlm_store.proofs.Undoing.{queue_at}
+use Rattle.vlm_store.specs.Records.{AreApart, IsProcess, IsSound, Records, StoredLock, StoredResource, Stores, locks_at, queued, resource_at}
+use Rattle.vlm_store.proofs.Records.{queue_at}
 use Rattle.vlm_locks.specs.declared.finding.Standing.{Standing}
 use Rattle.vlm_locks.specs.Standing.{IsStanding}
 use Rattle.vlm_locks.proofs.Named.{IsAbsent, IsOnly}
 
 -- the resource that is found is one of these
-pub resource_among : (res : ℕ) (rs : List StoredResource) (r : StoredResource) → resource_at res rs ≡ Some r → IsResourceAmong r rs
+pub resource_among : (res : ℕ) (rs : List StoredResource) (r : StoredResource) → resource_at res rs ≡ Some r → IsIn r rs
 resource_among res [] r found = absurd (none-some r found)
 resource_among res (x ∷ rs) r found =
     elim (cases_eq x.at res) [
@@ -23,16 +24,16 @@ resource_among res (x ∷ rs) r found =
     ]
 
 -- one key stands once in a list
-one_row : (locks : List StoredLock) → AreApart locks → (a b : StoredLock) → IsAmong a locks → IsAmong b locks → a.at ≡ b.at → a ≡ b
+one_row : (locks : List StoredLock) → AreApart locks → (a b : StoredLock) → IsIn a locks → IsIn b locks → a.at ≡ b.at → a ≡ b
 one_row [] apart a b in_a in_b same = absurd in_a
 one_row (k ∷ rest) apart a b in_a in_b same =
     elim in_a [
       | inl here ↦ elim in_b [
         | inl too ↦ sym here ∙ too
-        | inr there ↦ absurd (apart.0 b.row (subst (λ x. IsAmong (record { at = x; row = b.row }) rest) (sym same ∙ sym (ap (λ (y : StoredLock). y.at) here)) there))
+        | inr there ↦ absurd (apart.0 b.row (subst (λ x. IsIn (record { at = x; row = b.row }) rest) (sym same ∙ sym (ap (λ (y : StoredLock). y.at) here)) there))
       ]
       | inr there ↦ elim in_b [
-        | inl here ↦ absurd (apart.0 a.row (subst (λ x. IsAmong (record { at = x; row = a.row }) rest) (same ∙ sym (ap (λ (y : StoredLock). y.at) here)) there))
+        | inl here ↦ absurd (apart.0 a.row (subst (λ x. IsIn (record { at = x; row = a.row }) rest) (same ∙ sym (ap (λ (y : StoredLock). y.at) here)) there))
         | inr too ↦ one_row rest apart.1 a b there too same
       ]
     ]
@@ -43,8 +44,8 @@ owner_is s owner given row same is = subst (λ (x : Row). IsProcess owner x.pid 
 
 module _ (s : Records) (f : Standing) (standing : IsStanding f s) where
   -- where it stands
-  pub stands : IsAmong (record { at = f.lock; row = f.row }) (locks_at (Queued f.res f.queue) s)
-  stands = subst (IsAmong (record { at = f.lock; row = f.row })) (sym (ap (λ o. option_map_or (queued f.queue) o []) standing.found)) standing.among
+  pub stands : IsIn (record { at = f.lock; row = f.row }) (locks_at (Queued f.res f.queue) s)
+  stands = subst (IsIn (record { at = f.lock; row = f.row })) (sym (ap (λ o. option_map_or (queued f.queue) o []) standing.found)) standing.among
 
   -- it is stored
   pub stored : Stores s f.lock f.row
@@ -52,14 +53,14 @@ module _ (s : Records) (f : Standing) (standing : IsStanding f s) where
 
 module _ (s : Records) (sound : IsSound s) where
   -- a lock of a queue is stored
-  pub queued_stored : (r : StoredResource) → IsResourceAmong r s.resources → (queue : Queue) (k : StoredLock) → IsAmong k (queued queue r) → Stores s k.at k.row
-  queued_stored r among queue k here = (Queued r.at queue, subst (IsAmong k) (sym (queue_at s sound r among queue)) here)
+  pub queued_stored : (r : StoredResource) → IsIn r s.resources → (queue : Queue) (k : StoredLock) → IsIn k (queued queue r) → Stores s k.at k.row
+  queued_stored r among queue k here = (Queued r.at queue, subst (IsIn k) (sym (queue_at s sound r among queue)) here)
 
   -- one key is that of one lock
   pub one_lock : (at : ℕ) (a b : Row) → Stores s at a → Stores s at b → a ≡ b
   one_lock at a b stored_a stored_b =
       let same : stored_a.0 ≡ stored_b.0 = sound.one_place at a b stored_a.0 stored_b.0 stored_a.1 stored_b.1 in
-      let there = subst (λ p. IsAmong (record { at = at; row = a }) (locks_at p s)) same stored_a.1 in
+      let there = subst (λ p. IsIn (record { at = at; row = a }) (locks_at p s)) same stored_a.1 in
       ap (λ (x : StoredLock). x.row) (one_row (locks_at stored_b.0 s) (sound.locks_apart stored_b.0) (record { at = at; row = a }) (record { at = at; row = b }) there stored_b.1 refl)
 
   module _ (f : Standing) (standing : IsStanding f s) where
@@ -71,11 +72,11 @@ module _ (s : Records) (sound : IsSound s) where
     abbrev pub own : StoredResource
     own = standing.resource
 
-    pub own_among : IsResourceAmong own s.resources
+    pub own_among : IsIn own s.resources
     own_among = resource_among f.res s.resources own standing.found
 
     -- no other lock has its key, or its identification
-    pub only : (r : StoredResource) → IsResourceAmong r s.resources → (queue : Queue) → IsOnly lock (queued queue r)
+    pub only : (r : StoredResource) → IsIn r s.resources → (queue : Queue) → IsOnly lock (queued queue r)
     only r among queue k here = (by_lkid, by_key)
       where
         by_key : k.at ≡ f.lock → k ≡ lock
@@ -87,8 +88,8 @@ module _ (s : Records) (sound : IsSound s) where
         by_lkid same = by_key (sound.lkids_apart k.at f.lock k.row f.row (queued_stored r among queue k here) (stored s f standing) same)
 
     -- it stands in no other queue
-    pub absent : (r : StoredResource) → IsResourceAmong r s.resources → (queue : Queue) → Queued r.at queue ≢ Queued f.res f.queue → IsAbsent f.row.lkid (queued queue r)
+    pub absent : (r : StoredResource) → IsIn r s.resources → (queue : Queue) → Queued r.at queue ≢ Queued f.res f.queue → IsAbsent f.row.lkid (queued queue r)
     absent r among queue differs k here same =
         let is : k ≡ lock = (only r among queue k here).0 same in
-        let there : IsAmong lock (locks_at (Queued r.at queue) s) = subst (λ x. IsAmong x (locks_at (Queued r.at queue) s)) is (subst (IsAmong k) (sym (queue_at s sound r among queue)) here) in
+        let there : IsIn lock (locks_at (Queued r.at queue) s) = subst (λ x. IsIn x (locks_at (Queued r.at queue) s)) is (subst (IsIn k) (sym (queue_at s sound r among queue)) here) in
         differs (sound.one_place f.lock f.row f.row (Queued r.at queue) (Queued f.res f.queue) there (stands s f standing))

@@ -8,8 +8,9 @@ use Rattle.vlm_words.specs.declared.resources.Queue.TheVariants.{Granted, Conver
 use Rattle.vlm_words.specs.Grants.{is_empty}
 use Rattle.vlm_words.specs.State.{Process}
 use Rattle.vlm_words.specs.Sweeps.{blocks_after_service, is_vacant, resource_after_service}
+use Rattle.vlm_links.specs.Lists.{IsIn}
 use Rattle.vlm_store.specs.Plain.{plain_processes, plain_resource}
-use Rattle.vlm_store.specs.Records.{IsAmong, IsIdle, IsResourceAmong, IsSound, Records, Room, StoredResource, but_blocks, on_resource, queued, resource_at, rows_of, with_resource_room, without_resource}
+use Rattle.vlm_store.specs.Records.{IsIdle, IsSound, Records, Room, StoredResource, but_blocks, on_resource, queued, resource_at, rows_of, with_resource_room, without_resource}
 use Rattle.vlm_queue.proofs.Idle.{none_shown}
 use Rattle.vlm_locks.specs.Rest.{but_service}
 use Rattle.vlm_locks.specs.Serving.{IsServed}
@@ -22,13 +23,13 @@ use Rattle.vlm_locks.proofs.Replaced.{left_at}
 use Rattle.vlm_locks.proofs.Staying.{stay_alone, stay_none}
 
 -- resources of other keys stay where one is put in the place of another
-put_apart : (res : ℕ) (left : StoredResource) (rs : List StoredResource) → ((x : StoredResource) → IsResourceAmong x rs → x.at ≢ res) → on_resource res (λ r. left) rs ≡ rs
+put_apart : (res : ℕ) (left : StoredResource) (rs : List StoredResource) → ((x : StoredResource) → IsIn x rs → x.at ≢ res) → on_resource res (λ r. left) rs ≡ rs
 put_apart res left [] differ = refl
 put_apart res left (r ∷ rs) differ =
     rw (ne_eqb r.at res (differ r (inl refl))) (ap (λ xs. r ∷ xs) (put_apart res left rs (λ x there. differ x (inr there))))
 
 -- and where one goes
-without_apart : (res : ℕ) (rs : List StoredResource) → ((x : StoredResource) → IsResourceAmong x rs → x.at ≢ res) → without_resource res rs ≡ rs
+without_apart : (res : ℕ) (rs : List StoredResource) → ((x : StoredResource) → IsIn x rs → x.at ≢ res) → without_resource res rs ≡ rs
 without_apart res [] differ = refl
 without_apart res (r ∷ rs) differ =
     rw (ne_eqb r.at res (differ r (inl refl))) (ap (λ xs. r ∷ xs) (without_apart res rs (λ x there. differ x (inr there))))
@@ -131,7 +132,7 @@ module _ (res : ℕ) (old s : Records) (sound : IsSound old) (served : IsServed 
         (ap is_vacant (sym shown) ∙ idle_vacant s res left found idle));
     stay = stay_none was.own [] (λ queue lock among.
         let still = subst (λ (r : StoredResource). LocksStay r left) (sym own_is) served.stay queue lock among in
-        subst (IsAmong (record { at = lock.at; row = still.row })) (sym (locks_found s res left still.queue found) ∙ idle still.queue) still.among);
+        subst (IsIn (record { at = lock.at; row = still.row })) (sym (locks_found s res left still.queue found) ∙ idle still.queue) still.among);
     none_join = λ r queue lock among here. absurd among;
     same = λ r among. absurd among;
     statuses = ap plain_processes is ∙ statuses;

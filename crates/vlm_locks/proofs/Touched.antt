@@ -8,8 +8,9 @@ use Rattle.vlm_words.specs.Resources.{IsKeyed}
 use Rattle.vlm_words.specs.Settled.{IsSettled, IsSweptNext, IsUnswept, unless_vacant}
 use Rattle.vlm_words.specs.State.{Process, Resource}
 use Rattle.vlm_words.specs.Sweeps.{processes_after_service, resource_after_service, resources_after_sweep}
+use Rattle.vlm_links.specs.Lists.{IsIn}
 use Rattle.vlm_store.specs.Plain.{plain_processes, plain_resource, plain_resources}
-use Rattle.vlm_store.specs.Records.{IsResourceAmong, IsSound, Records, StoredResource, but_blocks}
+use Rattle.vlm_store.specs.Records.{IsSound, Records, StoredResource, but_blocks}
 use Rattle.vlm_locks.specs.Rest.{IsAtRest}
 use Rattle.vlm_locks.specs.Sweeping.{AreSettledBut, IsSwept, Parted, StandInOrder, but_touched}
 use Rattle.vlm_locks.specs.Staying.{LocksStayAmong}
@@ -62,7 +63,7 @@ but-append touched (x ∷ xs) ys =
     ]
 
 -- the touched are not among them
-none_touched : (touched : List ℕ) (rs : List StoredResource) → ((x : StoredResource) → IsResourceAmong x rs → list_any (λ res. x.at == res) touched ≡ true) → but_touched touched rs ≡ []
+none_touched : (touched : List ℕ) (rs : List StoredResource) → ((x : StoredResource) → IsIn x rs → list_any (λ res. x.at == res) touched ≡ true) → but_touched touched rs ≡ []
 none_touched touched [] each = refl
 none_touched touched (r ∷ rs) each = rw (each r (inl refl)) (none_touched touched rs (λ x there. each x (inr there)))
 
@@ -91,17 +92,17 @@ module _ (touched : List ℕ) (res : ℕ) (later : List ℕ) (old s new : Record
       ∙ ap (λ xs. before ++ xs) (map-append plain_resource swept.left was.after ∙ ap (λ xs. xs ++ after) swept.served)
 
   -- what is left of the own resource is touched
-  left_touched : (x : StoredResource) → IsResourceAmong x swept.left → list_any (λ t. x.at == t) touched ≡ true
+  left_touched : (x : StoredResource) → IsIn x swept.left → list_any (λ t. x.at == t) touched ≡ true
   left_touched x among =
       ap (λ at. list_any (λ t. at == t) touched) (ap (λ (r : StoredResource). r.at) (swept.same x among) ∙ was.keyed) ∙ is_touched
 
-  own_touched : (x : StoredResource) → IsResourceAmong x (was.own ∷ []) → list_any (λ t. x.at == t) touched ≡ true
+  own_touched : (x : StoredResource) → IsIn x (was.own ∷ []) → list_any (λ t. x.at == t) touched ≡ true
   own_touched x among =
       elim among [ inl is ↦ ap (λ at. list_any (λ t. at == t) touched) (ap (λ (r : StoredResource). r.at) (sym is) ∙ was.keyed) ∙ is_touched | inr none ↦ absurd none ]
 
   others_stay : but_touched touched new.resources ≡ but_touched touched s.resources
   others_stay =
-      let parts : (own : List StoredResource) → ((x : StoredResource) → IsResourceAmong x own → list_any (λ t. x.at == t) touched ≡ true)
+      let parts : (own : List StoredResource) → ((x : StoredResource) → IsIn x own → list_any (λ t. x.at == t) touched ≡ true)
       → but_touched touched (was.before ++ (own ++ was.after)) ≡ but_touched touched was.before ++ but_touched touched was.after =
       λ own each.
       but-append touched was.before (own ++ was.after)
@@ -110,16 +111,16 @@ module _ (touched : List ℕ) (res : ℕ) (later : List ℕ) (old s new : Record
       ap (but_touched touched) swept.resources ∙ parts swept.left left_touched
       ∙ sym (ap (but_touched touched) was.parted ∙ parts (was.own ∷ []) own_touched)
 
-  keyed : (x : StoredResource) → IsResourceAmong x new.resources → IsKeyed x.domain x.key
-  keyed x among = of_part was.before (swept.left ++ was.after) (subst (IsResourceAmong x) swept.resources among) (λ here. old_keyed (among_before was.before (was.own ∷ was.after) x here))
+  keyed : (x : StoredResource) → IsIn x new.resources → IsKeyed x.domain x.key
+  keyed x among = of_part was.before (swept.left ++ was.after) (subst (IsIn x) swept.resources among) (λ here. old_keyed (among_before was.before (was.own ∷ was.after) x here))
       (λ there. of_part swept.left was.after there
-      (λ here. subst (λ (r : StoredResource). IsKeyed r.domain r.key) (sym (swept.same x here)) (so_far.rest.keyed was.own (subst (IsResourceAmong was.own) (sym was.parted) (among_after was.before (was.own ∷ was.after) was.own (inl refl)))))
+      (λ here. subst (λ (r : StoredResource). IsKeyed r.domain r.key) (sym (swept.same x here)) (so_far.rest.keyed was.own (subst (IsIn was.own) (sym was.parted) (among_after was.before (was.own ∷ was.after) was.own (inl refl)))))
       (λ behind. old_keyed (among_after was.before (was.own ∷ was.after) x (inr behind))))
     where
-      old_keyed : IsResourceAmong x (was.before ++ was.own ∷ was.after) → IsKeyed x.domain x.key
-      old_keyed among = so_far.rest.keyed x (subst (IsResourceAmong x) (sym was.parted) among)
+      old_keyed : IsIn x (was.before ++ was.own ∷ was.after) → IsKeyed x.domain x.key
+      old_keyed among = so_far.rest.keyed x (subst (IsIn x) (sym was.parted) among)
 
-      of_part : (xs ys : List StoredResource) → IsResourceAmong x (xs ++ ys) → (IsResourceAmong x xs → IsKeyed x.domain x.key) → (IsResourceAmong x ys → IsKeyed x.domain x.key)
+      of_part : (xs ys : List StoredResource) → IsIn x (xs ++ ys) → (IsIn x xs → IsKeyed x.domain x.key) → (IsIn x ys → IsKeyed x.domain x.key)
           → IsKeyed x.domain x.key
       of_part [] ys among first second = second among
       of_part (y ∷ xs) ys among first second =

@@ -11,9 +11,10 @@ use Rattle.vlm_words.specs.Withdrawals.{Withdrawal, has_writer, is_held_by_write
 use Rattle.vlm_words.specs.Rows.{rows_without}
 use Rattle.vlm_words.specs.Rows as plain
 use Rattle.vlm_words.specs.State.{Resource}
+use Rattle.vlm_links.specs.Lists.{IsIn}
 use Rattle.vlm_store.specs.declared.keys.Place.TheVariants.{Queued}
 use Rattle.vlm_store.specs.Plain.{plain_processes, plain_resource}
-use Rattle.vlm_store.specs.Records.{AreApart, IsAmong, IsResourceAmong, IsSound, Records, StoredResource, leaving, moving, on_resource, queued, resource_at, resource_with, rows_of, with_lists, without_stored_lock}
+use Rattle.vlm_store.specs.Records.{AreApart, IsSound, Records, StoredResource, leaving, moving, on_resource, queued, resource_at, resource_with, rows_of, with_lists, without_stored_lock}
 use Rattle.vlm_locks.proofs.Found.{on_resource-own, on_resource-put, resource_alone, resource_at-at, resource_at-put}
 use Rattle.vlm_locks.specs.declared.finding.Standing.{Standing}
 use Rattle.vlm_locks.specs.Converting.{moved_in}
@@ -25,7 +26,7 @@ use Rattle.vlm_locks.proofs.Moved.{joins, leaves, moved_replaced, none_joins_by_
 use Rattle.vlm_locks.proofs.Named.{rows-absent, rows-only, without-absent, without-key}
 use Rattle.vlm_locks.proofs.Staying.{all_stay, none_joins_under_block}
 use Rattle.vlm_locks.proofs.Stood.{absent, only, own_among}
-use Rattle.vlm_store.proofs.Undoing.{queue_at}
+use Rattle.vlm_store.proofs.Records.{queue_at}
 
 -- a queue has the lock with PW or EX if one of its rows there has
 pub writer_rows : (lkid : ℕ) (rows : List Row) → has_writer lkid rows ≡ list_any (λ (row : Row). is_writer row.held) (plain.rows_of lkid rows)
@@ -73,19 +74,19 @@ module _ (s : Records) (sound : IsSound s) (f : Standing) (standing : IsStanding
       (only s sound f standing r among f.queue) standing.among
 
   -- the rows of the lock in another queue
-  pub rows_elsewhere : (x : StoredResource) → IsResourceAmong x s.resources → (queue : Queue) → Queued x.at queue ≢ Queued f.res f.queue
+  pub rows_elsewhere : (x : StoredResource) → IsIn x s.resources → (queue : Queue) → Queued x.at queue ≢ Queued f.res f.queue
       → plain.rows_of f.row.lkid (rows_of (queued queue x)) ≡ []
   rows_elsewhere x among queue differs = rows-absent f.row.lkid (queued queue x) (absent s sound f standing x among queue differs)
 
   -- another queue without the lock
-  pub stays_elsewhere : (x : StoredResource) → IsResourceAmong x s.resources → (queue : Queue) → Queued x.at queue ≢ Queued f.res f.queue
+  pub stays_elsewhere : (x : StoredResource) → IsIn x s.resources → (queue : Queue) → Queued x.at queue ≢ Queued f.res f.queue
       → rows_without f.row.lkid (rows_of (queued queue x)) ≡ rows_of (queued queue x)
   stays_elsewhere x among queue differs = without-absent f.row.lkid (queued queue x) (absent s sound f standing x among queue differs)
 
   -- ---- the lock goes
 
   -- another resource is the same without the lock
-  others_without : (x : StoredResource) → IsResourceAmong x s.resources → x.at ≢ f.res → resource_without f.row.lkid (plain_resource x) ≡ plain_resource x
+  others_without : (x : StoredResource) → IsIn x s.resources → x.at ≢ f.res → resource_without f.row.lkid (plain_resource x) ≡ plain_resource x
   unfolding resource_without
   others_without x among differs =
       rw (stays_elsewhere x among Granted (λ e. differs (cc)), stays_elsewhere x among Conversion (λ e. differs (cc)), stays_elsewhere x among Waiting (λ e. differs (cc))) refl
@@ -106,7 +107,7 @@ module _ (s : Records) (sound : IsSound s) (f : Standing) (standing : IsStanding
   -- ---- what it leaves in the value block
 
   -- another resource is not held by the lock
-  not_held : (x : StoredResource) → IsResourceAmong x s.resources → x.at ≢ f.res → is_held_by_writer f.row.lkid (plain_resource x) ≡ false
+  not_held : (x : StoredResource) → IsIn x s.resources → x.at ≢ f.res → is_held_by_writer f.row.lkid (plain_resource x) ≡ false
   not_held x among differs =
       let each : (queue : Queue) → has_writer f.row.lkid (rows_of (queued queue x)) ≡ false =
       λ queue. writer_rows f.row.lkid (rows_of (queued queue x)) ∙ ap (list_any (λ (row : Row). is_writer row.held)) (rows_elsewhere x among queue (λ e. differs (cc))) in
@@ -194,8 +195,8 @@ module _ (s : Records) (sound : IsSound s) (f : Standing) (standing : IsStanding
     among = of_queue f.queue standing.among;
   }
     where
-      of_queue : (queue : Queue) → IsAmong (record { at = f.lock; row = f.row }) (queued queue standing.resource)
-          → IsAmong (record { at = f.lock; row = f.row }) (queued queue (record standing.resource { value_block = block }))
+      of_queue : (queue : Queue) → IsIn (record { at = f.lock; row = f.row }) (queued queue standing.resource)
+          → IsIn (record { at = f.lock; row = f.row }) (queued queue (record standing.resource { value_block = block }))
       of_queue Granted among = among
       of_queue Conversion among = among
       of_queue Waiting among = among
@@ -203,7 +204,7 @@ module _ (s : Records) (sound : IsSound s) (f : Standing) (standing : IsStanding
   -- ---- only its request goes
 
   -- a resource stays where the lock neither converts nor waits
-  uncancelled : (x : StoredResource) → IsResourceAmong x s.resources → Queued x.at Conversion ≢ Queued f.res f.queue → Queued x.at Waiting ≢ Queued f.res f.queue
+  uncancelled : (x : StoredResource) → IsIn x s.resources → Queued x.at Conversion ≢ Queued f.res f.queue → Queued x.at Waiting ≢ Queued f.res f.queue
       → resource_after_cancel f.row.lkid (plain_resource x) ≡ plain_resource x
   unfolding resource_after_cancel
   uncancelled x among converts waits =
@@ -227,7 +228,7 @@ module _ (s : Records) (sound : IsSound s) (f : Standing) (standing : IsStanding
       (λ x among. uncancelled x among (λ e. cc) (λ e. cc))
 
   -- a lock that waits goes with its request
-  cancelled_alike : f.queue ≡ Waiting → (x : StoredResource) → IsResourceAmong x s.resources → resource_without f.row.lkid (plain_resource x) ≡ resource_after_cancel f.row.lkid (plain_resource x)
+  cancelled_alike : f.queue ≡ Waiting → (x : StoredResource) → IsIn x s.resources → resource_without f.row.lkid (plain_resource x) ≡ resource_after_cancel f.row.lkid (plain_resource x)
   unfolding resource_without resource_after_cancel
   cancelled_alike waits x among =
       ap (λ rows. record (plain_resource x) {

@@ -12,9 +12,10 @@ use Rattle.vlm_words.specs.Withdrawals.{Withdrawal, processes_after, queue_endin
 use Rattle.vlm_words.specs.Endings.{Ending, How, ending_status, row_endings}
 use Rattle.vlm_words.specs.State.{Process, Resource}
 use Rattle.vlm_words.specs.StatusBlocks.{processes_after_status}
+use Rattle.vlm_links.specs.Lists.{IsIn}
 use Rattle.vlm_store.specs.declared.keys.Place.TheVariants.{Queued}
 use Rattle.vlm_store.specs.Plain.{plain_resource, plain_resources}
-use Rattle.vlm_store.specs.Records.{AreResourcesApart, IsResourceAmong, IsSound, Records, StoredResource, queued, resource_at, rows_of}
+use Rattle.vlm_store.specs.Records.{AreResourcesApart, IsSound, Records, StoredResource, queued, resource_at, rows_of}
 use Rattle.vlm_locks.specs.declared.withdrawals.End.TheVariants.{Aborted, Cancelled}
 use Rattle.vlm_locks.specs.declared.withdrawals.End.{End}
 use Rattle.vlm_locks.specs.Withdrawals.{how_ended}
@@ -24,14 +25,14 @@ use Rattle.vlm_locks.proofs.Stood.{own_among}
 use Rattle.vlm_locks.proofs.Withdrawn.{rows_elsewhere, rows_here}
 
 -- where no resource has ends there are none
-ends_none : {X : Type 0} (ends : Resource → List X) (rs : List StoredResource) → ((x : StoredResource) → IsResourceAmong x rs → ends (plain_resource x) ≡ [])
+ends_none : {X : Type 0} (ends : Resource → List X) (rs : List StoredResource) → ((x : StoredResource) → IsIn x rs → ends (plain_resource x) ≡ [])
     → flat_map ends (map plain_resource rs) ≡ []
 ends_none ends [] none = refl
 ends_none ends (x ∷ rs) none = ap (λ xs. xs ++ flat_map ends (map plain_resource rs)) (none x (inl refl)) ∙ ends_none ends rs (λ y there. none y (inr there))
 
 -- where one resource alone has ends, these are all
 pub ends_one : {X : Type 0} (ends : Resource → List X) (res : ℕ) (r : StoredResource) (rs : List StoredResource) → AreResourcesApart rs → resource_at res rs ≡ Some r
-    → ((x : StoredResource) → IsResourceAmong x rs → x.at ≢ res → ends (plain_resource x) ≡ [])
+    → ((x : StoredResource) → IsIn x rs → x.at ≢ res → ends (plain_resource x) ≡ [])
     → flat_map ends (map plain_resource rs) ≡ ends (plain_resource r)
 ends_one ends res r [] apart found none = absurd (none-some r found)
 ends_one ends res r (x ∷ rs) apart found none =
@@ -57,7 +58,7 @@ module _ (s : Records) (sound : IsSound s) (f : Standing) (standing : IsStanding
   ends_on r = queue_endings w.converting f.row.lkid r.converting ++ queue_endings w.waiting f.row.lkid r.waiting
 
   -- the ends in a queue in which it does not stand
-  ends_elsewhere : (how : How) (x : StoredResource) → IsResourceAmong x s.resources → (queue : Queue) → Queued x.at queue ≢ Queued f.res f.queue
+  ends_elsewhere : (how : How) (x : StoredResource) → IsIn x s.resources → (queue : Queue) → Queued x.at queue ≢ Queued f.res f.queue
       → queue_endings how f.row.lkid (rows_of (queued queue x)) ≡ []
   ends_elsewhere how x among queue differs = ap (flat_map (row_endings how false)) (rows_elsewhere s sound f standing x among queue differs)
 

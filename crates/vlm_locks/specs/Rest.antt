@@ -2,16 +2,17 @@
 use Rattle.std.specs.Prelude.{◌≡◌, ℕ, [], map, Some}
 use Rattle.vlm_words.specs.Resources.{IsKeyed}
 use Rattle.vlm_words.specs.ValueBlocks.{new_value_block}
+use Rattle.vlm_links.specs.Lists.{IsIn}
 use Rattle.vlm_store.specs.declared.keys.Place.{Place}
-use Rattle.vlm_store.specs.Records.{HasResource, IsProcessAmong, IsResourceAmong, Records, StoredProcess, StoredResource, but_blocks, locks_at, on_resource, resource_at, without_lock, without_resource}
+use Rattle.vlm_store.specs.Records.{HasResource, Records, StoredProcess, StoredResource, but_blocks, locks_at, on_resource, resource_at, without_lock, without_resource}
 use Rattle.vlm_locks.specs.Rising.{HasRisingLocks}
 
 -- between two steps each lock stands in a queue, each resource is in the domain of its key, and the locks of a process
 -- and the locks below a lock stand by rising identification
 pub record IsAtRest (s : Records) : Type 0 where
   pub none_loose : s.loose ≡ []
-  pub keyed : (r : StoredResource) → IsResourceAmong r s.resources → IsKeyed r.domain r.key
-  pub rising : (p : StoredProcess) → IsProcessAmong p s.processes → HasRisingLocks s p
+  pub keyed : (r : StoredResource) → IsIn r s.resources → IsKeyed r.domain r.key
+  pub rising : (p : StoredProcess) → IsIn p s.processes → HasRisingLocks s p
 
 -- all resources but the one of this key are as they were, each under its key with its locks, and in their order
 abbrev pub OthersStay : ℕ → Records → Records → Type 0

@@ -2,7 +2,7 @@
 use Rattle.std.specs.Prelude.{◌<◌, ⊤, ℕ, List, [], ◌∷◌, map}
 use Rattle.vlm_words.specs.declared.locks.Row.{Row}
 use Rattle.vlm_links.specs.Lists.{IsIn}
-use Rattle.vlm_store.specs.Records.{IsOwnAmong, OwnLock, Records, StoredProcess, Stores}
+use Rattle.vlm_store.specs.Records.{OwnLock, Records, StoredProcess, Stores}
 
 -- the lock of the one key has a lower identification than that of the other
 abbrev pub ComesBefore : Records → ℕ → ℕ → Type 0
@@ -20,7 +20,7 @@ own_keys locks = map (λ own. own.at) locks
 -- the locks of the process stand by rising identification, and so do the locks below each of these
 pub record HasRisingLocks (s : Records) (p : StoredProcess) : Type 0 where
   pub own : StandByIdentification s (own_keys p.own)
-  pub sublocks : (own : OwnLock) → IsOwnAmong own p.own → StandByIdentification s own.sublocks
+  pub sublocks : (own : OwnLock) → IsIn own p.own → StandByIdentification s own.sublocks
 
 -- each stored lock has a lower identification
 abbrev pub IsAboveAll : ℕ → Records → Type 0

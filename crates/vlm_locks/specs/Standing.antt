@@ -1,13 +1,14 @@
 -- A lock in its queue.
 use Rattle.std.specs.Prelude.{◌≡◌, ℕ, Some}
-use Rattle.vlm_store.specs.Records.{IsAmong, Records, StoredResource, queued, resource_at}
+use Rattle.vlm_links.specs.Lists.{IsIn}
+use Rattle.vlm_store.specs.Records.{Records, StoredResource, queued, resource_at}
 use Rattle.vlm_locks.specs.declared.finding.Standing.{Standing}
 
 -- the lock stands so: with this row, in this queue of the resource of this key
 pub record IsStanding (f : Standing) (s : Records) : Type 0 where
   pub resource : StoredResource
   pub found : resource_at f.res s.resources ≡ Some resource
-  pub among : IsAmong (record { at = f.lock; row = f.row }) (queued f.queue resource)
+  pub among : IsIn (record { at = f.lock; row = f.row }) (queued f.queue resource)
 
 -- it is the lock of this process with this identification
 pub record IsStandingOf (pid lkid : ℕ) (f : Standing) (s : Records) : Type 0 where

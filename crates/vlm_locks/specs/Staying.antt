@@ -2,21 +2,22 @@
 use Rattle.std.specs.Prelude.{◌≡◌, List}
 use Rattle.vlm_words.specs.declared.locks.Row.{Row}
 use Rattle.vlm_words.specs.declared.resources.Queue.{Queue}
-use Rattle.vlm_store.specs.Records.{IsAmong, IsResourceAmong, IsSameLock, StoredLock, StoredResource, queued}
+use Rattle.vlm_links.specs.Lists.{IsIn}
+use Rattle.vlm_store.specs.Records.{IsSameLock, StoredLock, StoredResource, queued}
 
 -- the lock stands on the resource under its key, in whichever queue: that of the same identification, process and
 -- parent lock
 pub record StandsStill (lock : StoredLock) (r : StoredResource) : Type 0 where
   pub queue : Queue
   pub row : Row
-  pub among : IsAmong (record { at = lock.at; row = row }) (queued queue r)
+  pub among : IsIn (record { at = lock.at; row = row }) (queued queue r)
   pub same : IsSameLock lock.row row
 
 -- each lock of the one resource stands on the other
 abbrev pub LocksStay : StoredResource → StoredResource → Type 0
-LocksStay had left = (queue : Queue) (lock : StoredLock) → IsAmong lock (queued queue had) → StandsStill lock left
+LocksStay had left = (queue : Queue) (lock : StoredLock) → IsIn lock (queued queue had) → StandsStill lock left
 
 -- each lock of the ones stands on that of the others that has the key of its resource
 abbrev pub LocksStayAmong : List StoredResource → List StoredResource → Type 0
-LocksStayAmong olds news = (r : StoredResource) (queue : Queue) (lock : StoredLock) → IsResourceAmong r olds → IsAmong lock (queued queue r)
-    → (x : StoredResource) × (IsResourceAmong x news × (x.at ≡ r.at) × StandsStill lock x)
+LocksStayAmong olds news = (r : StoredResource) (queue : Queue) (lock : StoredLock) → IsIn r olds → IsIn lock (queued queue r)
+    → (x : StoredResource) × (IsIn x news × (x.at ≡ r.at) × StandsStill lock x)

@@ -5,7 +5,7 @@ use Rattle.vlm_links.specs.Lists.{IsIn}
 use Rattle.vlm_words.specs.Settled.{IsSettled, unless_vacant}
 use Rattle.vlm_words.specs.Sweeps.{blocks_after_service, resource_after_service}
 use Rattle.vlm_store.specs.Plain.{plain_processes, plain_resource}
-use Rattle.vlm_store.specs.Records.{IsResourceAmong, Records, StoredResource}
+use Rattle.vlm_store.specs.Records.{Records, StoredResource}
 use Rattle.vlm_locks.specs.Rest.{OwnLocksStay, but_service}
 use Rattle.vlm_locks.specs.Staying.{LocksStayAmong}
 
@@ -24,7 +24,7 @@ StandInOrder (res ∷ touched) resources = (here : Parted res resources) × Stan
 
 -- nothing is to be swept but the touched resources
 abbrev pub AreSettledBut : List ℕ → List StoredResource → Type 0
-AreSettledBut touched resources = (r : StoredResource) → IsResourceAmong r resources → (IsIn r.at touched → ⊥) → IsSettled (plain_resource r)
+AreSettledBut touched resources = (r : StoredResource) → IsIn r resources → (IsIn r.at touched → ⊥) → IsSettled (plain_resource r)
 
 -- the resources that are not touched
 abbrev pub but_touched : List ℕ → List StoredResource → List StoredResource
@@ -35,7 +35,7 @@ pub record IsSwept (res : ℕ) (old new : Records) (was : Parted res old.resourc
   pub left : List StoredResource
   pub resources : new.resources ≡ was.before ++ (left ++ was.after)
   pub served : map plain_resource left ≡ unless_vacant (resource_after_service (plain_processes old) (plain_resource was.own))
-  pub same : (r : StoredResource) → IsResourceAmong r left → but_service r ≡ but_service was.own
+  pub same : (r : StoredResource) → IsIn r left → but_service r ≡ but_service was.own
   pub stay : LocksStayAmong (was.own ∷ []) left
   pub none_join : LocksStayAmong left (was.own ∷ [])
   pub statuses : plain_processes new ≡ (blocks_after_service (plain_processes old) (plain_resource was.own)).processes

@@ -5,11 +5,12 @@ use Rattle.std.proofs.lemmas.Option.{same_Some}
 use Rattle.vlm_words.specs.declared.locks.Row.{Row}
 use Rattle.vlm_words.specs.declared.resources.Queue.{Queue}
 use Rattle.vlm_words.specs.declared.resources.Queue.TheVariants.{Granted, Conversion, Waiting}
+use Rattle.vlm_links.specs.Lists.{IsIn}
 use Rattle.vlm_store.specs.declared.keys.Place.TheVariants.{Queued}
 use Rattle.vlm_store.specs.Plain.{plain_resource}
-use Rattle.vlm_store.specs.Records.{AreApart, AreResourcesApart, IsAmong, IsResourceAmong, IsSound, Records, StoredLock, StoredResource, Stores, at_after, first_at, first_resource_at, locks_at, queued, resource_at, resource_at_after, rows_of}
+use Rattle.vlm_store.specs.Records.{AreApart, AreResourcesApart, IsSound, Records, StoredLock, StoredResource, Stores, at_after, first_at, first_resource_at, locks_at, queued, resource_at, resource_at_after, rows_of}
 use Rattle.vlm_store.proofs.Walks.{after-among, lock_among}
-use Rattle.vlm_store.proofs.Undoing.{resource_is}
+use Rattle.vlm_store.proofs.Records.{resource_is}
 use Rattle.vlm_queue.specs.declared.views.ResourceView.{ResourceView}
 use Rattle.vlm_queue.specs.declared.views.RowView.{RowView}
 use Rattle.vlm_queue.specs.Views.{resource_view, row_shown, row_view, rows_in}
@@ -32,7 +33,7 @@ first_resource-index [] = refl
 first_resource-index (r ∷ rs) = refl
 
 -- the resource at an index is one of these
-resource_index-among : (i : ℕ) (rs : List StoredResource) (res : ℕ) → resource_at_index i rs ≡ Some res → (r : StoredResource) × (IsResourceAmong r rs × (r.at ≡ res))
+resource_index-among : (i : ℕ) (rs : List StoredResource) (res : ℕ) → resource_at_index i rs ≡ Some res → (r : StoredResource) × (IsIn r rs × (r.at ≡ res))
 resource_index-among i [] res is = cc
 resource_index-among zero (x ∷ rs) res is = (x, (inl refl, same_Some x.at res is))
 resource_index-among (suc i) (x ∷ rs) res is = let behind = resource_index-among i rs res is in (behind.0, (inr behind.1.0, behind.1.1))
@@ -76,7 +77,7 @@ first-index [] = refl
 first-index (k ∷ ks) = refl
 
 -- the lock at an index is one of these, with the row at this index
-pub lock_index-among : (i : ℕ) (ks : List StoredLock) (at : ℕ) → lock_at_index i ks ≡ Some at → (row : Row) × (IsAmong (record { at = at; row = row }) ks × (slice_get (rows_of ks) i ≡ Some row))
+pub lock_index-among : (i : ℕ) (ks : List StoredLock) (at : ℕ) → lock_at_index i ks ≡ Some at → (row : Row) × (IsIn (record { at = at; row = row }) ks × (slice_get (rows_of ks) i ≡ Some row))
 lock_index-among i [] at is = cc
 lock_index-among zero (k ∷ ks) at is = (k.row, (inl (ap (λ x. record { at = x; row = k.row }) (same_Some k.at at is)), refl))
 lock_index-among (suc i) (k ∷ ks) at is = let behind = lock_index-among i ks at is in (behind.0, (inr behind.1.0, behind.1.1))
@@ -85,7 +86,7 @@ lock_index-among (suc i) (k ∷ ks) at is = let behind = lock_index-among i ks a
 lock_index-differs : (i : ℕ) (k : StoredLock) (ks : List StoredLock) (at : ℕ) → AreApart (k ∷ ks) → lock_at_index i ks ≡ Some at → ¬ (k.at ≡ at)
 lock_index-differs i k ks at apart is same =
     let behind = lock_index-among i ks at is in
-    apart.0 behind.0 (subst (λ x. IsAmong (record { at = x; row = behind.0 }) ks) (sym same) behind.1.0)
+    apart.0 behind.0 (subst (λ x. IsIn (record { at = x; row = behind.0 }) ks) (sym same) behind.1.0)
 
 -- the lock after the one at an index is that at the next index
 pub lock_after-index : (i : ℕ) (ks : List StoredLock) (at : ℕ) → AreApart ks → lock_at_index i ks ≡ Some at → at_after at ks ≡ lock_at_index (suc i) ks
@@ -110,7 +111,7 @@ given_from before (k ∷ rest) apart =
     (k.at, (refl, lock_among k before rest, subst (λ first. IsGivenFrom (before ++ k ∷ rest) first (rows_of rest)) (sym (after-among k before rest apart)) behind))
 
 -- the queue of a stored resource gives its rows in turn
-pub queue_given : (s : Records) (r : StoredResource) (queue : Queue) → IsSound s → IsResourceAmong r s.resources → GivesInTurn r.at queue (rows_of (queued queue r)) s
+pub queue_given : (s : Records) (r : StoredResource) (queue : Queue) → IsSound s → IsIn r s.resources → GivesInTurn r.at queue (rows_of (queued queue r)) s
 queue_given s r queue sound among =
     let place = Queued r.at queue in
     let here : locks_at place s ≡ queued queue r = ap (λ o. option_map_or (queued queue) o []) (resource_is r s.resources sound.resources_apart among) in

@@ -5,10 +5,11 @@ use Rattle.std.proofs.lemmas.Bool.{cases_eq}
 use Rattle.vlm_words.specs.declared.locks.Row.{Row}
 use Rattle.vlm_words.specs.declared.resources.Queue.{Queue}
 use Rattle.vlm_words.specs.declared.resources.Queue.TheVariants.{Granted, Conversion, Waiting}
+use Rattle.vlm_links.specs.Lists.{IsIn}
 use Rattle.vlm_store.specs.declared.keys.Place.{Place}
 use Rattle.vlm_store.specs.declared.keys.Place.TheVariants.{Queued}
 use Rattle.vlm_store.specs.Plain.{plain_resource}
-use Rattle.vlm_store.specs.Records.{HasResource, IsAmong, IsSound, IsStored, Records, StoredLock, StoredResource, Stores, at_after, first_at, first_resource_at, locks_at, queued, resource_at, resource_at_after, rows_of}
+use Rattle.vlm_store.specs.Records.{HasResource, IsSound, IsStored, Records, StoredLock, StoredResource, Stores, at_after, first_at, first_resource_at, locks_at, queued, resource_at, resource_at_after, rows_of}
 use Rattle.vlm_store.proofs.Walks.{at_lock, at_resource, first-there, first_resource-there, locks_from, resources_from as stored_from}
 use Rattle.vlm_queue.specs.Views.{rows_in}
 use Rattle.vlm_queue.specs.Walks.{IsInQueue, resource_of, resources_from, resources_left, rows_from, rows_left, rows_queued}
@@ -100,7 +101,7 @@ pub record Passes (res : ℕ) (queue : Queue) (lock : ℕ) (next : Option ℕ) (
 
 -- a walk that has come to a lock goes on to the one that follows it
 pub passes : (s : Records) (res : ℕ) (queue : Queue) (lock : ℕ) (next : Option ℕ) → IsSound s → IsInQueue res queue (Some lock) s
-    → ((place : Place) (row : Row) → IsAmong (record { at = lock; row = row }) (locks_at place s) → next ≡ at_after lock (locks_at place s))
+    → ((place : Place) (row : Row) → IsIn (record { at = lock; row = row }) (locks_at place s) → next ≡ at_after lock (locks_at place s))
     → Passes res queue lock next s
 passes s res queue lock next sound come follows =
     let place = Queued res queue in

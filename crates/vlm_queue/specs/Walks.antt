@@ -4,9 +4,10 @@ use Rattle.std.specs.Option.{ForSome, option_map}
 use Rattle.vlm_words.specs.declared.locks.Row.{Row}
 use Rattle.vlm_words.specs.declared.resources.Queue.{Queue}
 use Rattle.vlm_words.specs.State.{Resource}
+use Rattle.vlm_links.specs.Lists.{IsIn}
 use Rattle.vlm_store.specs.declared.keys.Place.TheVariants.{Queued}
 use Rattle.vlm_store.specs.Plain.{plain_resource}
-use Rattle.vlm_store.specs.Records.{IsAmong, Records, StoredLock, StoredResource, at_after, first_at, locks_at, resource_at, rows_of}
+use Rattle.vlm_store.specs.Records.{Records, StoredLock, StoredResource, at_after, first_at, locks_at, resource_at, rows_of}
 -- that a resource is there, for whoever walks and reads no records itself
 pub use Rattle.vlm_store.specs.Records.{HasResource}
 
@@ -48,7 +49,7 @@ rows_left res queue next s = rows_from next (locks_at (Queued res queue) s)
 
 -- a walk of a queue has come to one of its locks, or to its end
 abbrev pub IsInQueue : ℕ → Queue → Option ℕ → Records → Type 0
-IsInQueue res queue next s = ForSome next (λ at. (row : Row) × IsAmong (record { at = at; row = row }) (locks_at (Queued res queue) s))
+IsInQueue res queue next s = ForSome next (λ at. (row : Row) × IsIn (record { at = at; row = row }) (locks_at (Queued res queue) s))
 
 -- the key of the lock at an index of a queue
 abbrev pub lock_at_index : ℕ → List StoredLock → Option ℕ
@@ -59,7 +60,7 @@ lock_at_index index locks = option_map (λ k. k.at) (slice_get locks index)
 abbrev pub IsGivenFrom : List StoredLock → Option ℕ → List Row → Type 0
 IsGivenFrom locks first [] = first ≡ None
 IsGivenFrom locks first (row ∷ rows) =
-    (at : ℕ) × ((first ≡ Some at) × IsAmong (record { at = at; row = row }) locks × IsGivenFrom locks (at_after at locks) rows)
+    (at : ℕ) × ((first ≡ Some at) × IsIn (record { at = at; row = row }) locks × IsGivenFrom locks (at_after at locks) rows)
 
 -- the queue of the resource of this key gives these rows: from its head on, one after the other
 abbrev pub GivesInTurn : ℕ → Queue → List Row → Records → Type 0

@@ -5,8 +5,9 @@ ghost use Rattle.std.specs.Bool.{OnTrue, OnFalse};
 ghost use Rattle.std.specs.Option.{ForSome};
 ghost use Rattle.vlm_words.specs.declared.locks.Row.{Row};
 ghost use Rattle.vlm_words.specs.Grants.{is_empty};
+ghost use Rattle.vlm_links.specs.Lists.{IsIn};
 ghost use Rattle.vlm_store.specs.declared.keys.Place.{Place};
-ghost use Rattle.vlm_store.specs.Records.{HasResource, IsAmong, IsIdle, IsSound, IsStored, Stores, at_after, first_at, fits_beside, locks_at, moving, queued, resource_at, rows_of, with_lists};
+ghost use Rattle.vlm_store.specs.Records.{HasResource, IsIdle, IsSound, IsStored, Stores, at_after, first_at, fits_beside, locks_at, moving, queued, resource_at, rows_of, with_lists};
 
 use vlm_store::{LockAt, Place, ResAt, Store};
 use vlm_words::modes::Mode;
@@ -26,7 +27,7 @@ pub fn head(store: &Store, res: ResAt, queue: Queue) -> Option<LockAt>
 pub fn next(store: &Store, lock: LockAt) -> Option<LockAt>
     requires { IsStored lock store.now }
     ensures { (place : Place) (row : Row)
-        → IsAmong (record { at = lock; row = row }) (locks_at place store.now)
+        → IsIn (record { at = lock; row = row }) (locks_at place store.now)
         → result ≡ at_after lock (locks_at place store.now) }
 {
     store.next(lock)

@@ -6,16 +6,17 @@ use Rattle.std.proofs.lemmas.Bool.{cases_eq}
 use Rattle.std.proofs.lemmas.List.{length-map}
 use Rattle.std.proofs.lemmas.List.Sums.{length-filter, sum_by-cons}
 use Rattle.vlm_links.specs.Lists.{IsApart, IsIn, without}
+use Rattle.vlm_links.proofs.Images.{IsIn-image, IsIn-of_image}
 use Rattle.vlm_links.proofs.KeyLists.{IsApart-without, IsIn-without_kept, length-without}
 use Rattle.vlm_words.specs.declared.locks.Row.{Row}
 use Rattle.vlm_words.specs.declared.resources.Queue.{Queue}
 use Rattle.vlm_words.specs.declared.resources.Queue.TheVariants.{Granted, Conversion, Waiting}
 use Rattle.vlm_store.specs.declared.keys.Place.{Place}
 use Rattle.vlm_store.specs.declared.keys.Place.TheVariants.{Loose, Queued}
-use Rattle.vlm_store.specs.Records.{AreApart, AreOwnApart, AreProcessesApart, AreResourcesApart, IsAmong, IsOwnAmong, IsProcess, IsProcessAmong, IsResourceAmong, IsSound, OwnLock, Records, StoredLock, StoredProcess, StoredResource, Stores, locks_at, own_at, owned_among, owned_by, owned_on, process_at, queued, resource_at}
+use Rattle.vlm_store.specs.Records.{AreApart, AreOwnApart, AreProcessesApart, AreResourcesApart, IsProcess, IsSound, OwnLock, Records, StoredLock, StoredProcess, StoredResource, Stores, locks_at, own_at, owned_among, owned_by, owned_on, process_at, queued, resource_at}
 use Rattle.vlm_store.proofs.Plain.{process_at-stored}
 use Rattle.vlm_store.proofs.Counting.{IsApart-append, IsIn-append}
-use Rattle.vlm_store.proofs.Undoing.{queue_at}
+use Rattle.vlm_store.proofs.Records.{queue_at}
 
 -- ---- keys
 
@@ -45,18 +46,11 @@ as_long xs ys apart others within back = omega (arith, no_longer xs ys apart oth
 abbrev own_keys : List OwnLock → List ℕ
 own_keys own = map (λ (o : OwnLock). o.at) own
 
-own_key : (own : List OwnLock) (k : ℕ) → IsIn k (own_keys own) → (o : OwnLock) × (IsOwnAmong o own × (o.at ≡ k))
-own_key [] k found = absurd found
-own_key (o ∷ rest) k found =
-    elim found [
-      | inl here ↦ (o, (inl refl, here))
-      | inr there ↦ let later = own_key rest k there in (later.0, (inr later.1.0, later.1.1))
-    ]
+own_key : (own : List OwnLock) (k : ℕ) → IsIn k (own_keys own) → (o : OwnLock) × (IsIn o own × (o.at ≡ k))
+own_key = IsIn-of_image (λ (o : OwnLock). o.at)
 
-own_keyed : (own : List OwnLock) (o : OwnLock) → IsOwnAmong o own → IsIn o.at (own_keys own)
-own_keyed [] o among = absurd among
-own_keyed (first ∷ rest) o among =
-    elim among [ inl here ↦ inl (ap (λ (x : OwnLock). x.at) here) | inr there ↦ inr (own_keyed rest o there) ]
+own_keyed : (own : List OwnLock) (o : OwnLock) → IsIn o own → IsIn o.at (own_keys own)
+own_keyed = IsIn-image (λ (o : OwnLock). o.at)
 
 own_keys-apart : (own : List OwnLock) → AreOwnApart own → IsApart (own_keys own)
 own_keys-apart [] apart = tt
@@ -76,7 +70,7 @@ module _ (pid : ℕ) where
       length-map (filter (λ (k : StoredLock). k.row.pid == pid) locks) (λ (k : StoredLock). k.at) ∙ length-filter (λ (k : StoredLock). k.row.pid == pid) locks
 
   -- the lock of a key
-  among_keys : (locks : List StoredLock) (at : ℕ) → IsIn at (keys_among locks) → (row : Row) × (IsAmong (record { at = at; row = row }) locks × (row.pid ≡ pid))
+  among_keys : (locks : List StoredLock) (at : ℕ) → IsIn at (keys_among locks) → (row : Row) × (IsIn (record { at = at; row = row }) locks × (row.pid ≡ pid))
   among_keys [] at found = absurd found
   among_keys (k ∷ rest) at found =
       elim (cases_eq k.row.pid pid) [
@@ -88,7 +82,7 @@ module _ (pid : ℕ) where
         | inr differs ↦ let later = among_keys rest at (rw (ne_eqb k.row.pid pid differs) at found) in (later.0, (inr later.1.0, later.1.1))
       ]
 
-  keyed_among : (locks : List StoredLock) (lock : StoredLock) → IsAmong lock locks → lock.row.pid ≡ pid → IsIn lock.at (keys_among locks)
+  keyed_among : (locks : List StoredLock) (lock : StoredLock) → IsIn lock locks → lock.row.pid ≡ pid → IsIn lock.at (keys_among locks)
   keyed_among [] lock among is = absurd among
   keyed_among (k ∷ rest) lock among is =
       elim among [
@@ -123,7 +117,7 @@ module _ (pid : ℕ) where
         keys_among-length r.waiting,
       )
 
-  in_queue : (r : StoredResource) (at : ℕ) → IsIn at (keys_on r) → (queue : Queue) × (row : Row) × (IsAmong (record { at = at; row = row }) (queued queue r) × (row.pid ≡ pid))
+  in_queue : (r : StoredResource) (at : ℕ) → IsIn at (keys_on r) → (queue : Queue) × (row : Row) × (IsIn (record { at = at; row = row }) (queued queue r) × (row.pid ≡ pid))
   in_queue r at found =
       IsIn-append at (keys_among r.granted) (keys_among r.converting ++ keys_among r.waiting) _ (λ here. let lock = among_keys r.granted at here in (Granted, lock.0, lock.1))
       (λ later. IsIn-append at (keys_among r.converting) (keys_among r.waiting) _ (λ here. let lock = among_keys r.converting at here in (Conversion, lock.0, lock.1)) (λ here. let lock = among_keys r.waiting at here in (Waiting, lock.0, lock.1)) later) found
@@ -142,12 +136,12 @@ module _ (pid : ℕ) where
   keys_in-length (r ∷ rest) =
       omega (arith, length-append (keys_on r) (keys_in rest), keys_on-length r, keys_in-length rest, sum_by-cons (owned_on pid) r rest)
 
-  in_resource : (rs : List StoredResource) (at : ℕ) → IsIn at (keys_in rs) → (r : StoredResource) × (IsResourceAmong r rs × IsIn at (keys_on r))
+  in_resource : (rs : List StoredResource) (at : ℕ) → IsIn at (keys_in rs) → (r : StoredResource) × (IsIn r rs × IsIn at (keys_on r))
   in_resource [] at found = absurd found
   in_resource (r ∷ rest) at found =
       IsIn-append at (keys_on r) (keys_in rest) _ (λ here. (r, (inl refl, here))) (λ later. let there = in_resource rest at later in (there.0, (inr there.1.0, there.1.1))) found
 
-  resource_in : (rs : List StoredResource) (res : ℕ) (queue : Queue) (lock : StoredLock) → IsAmong lock (option_map_or (queued queue) (resource_at res rs) []) → lock.row.pid ≡ pid → IsIn lock.at (keys_in rs)
+  resource_in : (rs : List StoredResource) (res : ℕ) (queue : Queue) (lock : StoredLock) → IsIn lock (option_map_or (queued queue) (resource_at res rs) []) → lock.row.pid ≡ pid → IsIn lock.at (keys_in rs)
   resource_in [] res queue lock among is = absurd among
   resource_in (r ∷ rest) res queue lock among is =
       elim (cases_eq r.at res) [
@@ -157,33 +151,33 @@ module _ (pid : ℕ) where
 
   module _ (s : Records) (sound : IsSound s) where
     -- a key of a resource is that of a lock in one of its queues
-    stands_on : (r : StoredResource) → IsResourceAmong r s.resources → (at : ℕ) → IsIn at (keys_on r)
-        → (queue : Queue) × (row : Row) × (IsAmong (record { at = at; row = row }) (locks_at (Queued r.at queue) s) × (row.pid ≡ pid))
+    stands_on : (r : StoredResource) → IsIn r s.resources → (at : ℕ) → IsIn at (keys_on r)
+        → (queue : Queue) × (row : Row) × (IsIn (record { at = at; row = row }) (locks_at (Queued r.at queue) s) × (row.pid ≡ pid))
     stands_on r among at found =
         let stands = in_queue r at found in
-        (stands.0, stands.1, (subst (IsAmong (record { at = at; row = stands.1 })) (sym (queue_at s sound r among stands.0)) stands.2.0, stands.2.1))
+        (stands.0, stands.1, (subst (IsIn (record { at = at; row = stands.1 })) (sym (queue_at s sound r among stands.0)) stands.2.0, stands.2.1))
 
     -- no key is that of two locks
-    queue_apart : (r : StoredResource) → IsResourceAmong r s.resources → (queue : Queue) → IsApart (keys_among (queued queue r))
+    queue_apart : (r : StoredResource) → IsIn r s.resources → (queue : Queue) → IsApart (keys_among (queued queue r))
     queue_apart r among queue = keys_among-apart (queued queue r) (subst AreApart (queue_at s sound r among queue) (sound.locks_apart (Queued r.at queue)))
 
-    queues_apart : (r : StoredResource) → IsResourceAmong r s.resources → (a b : Queue) → Queued r.at a ≢ Queued r.at b → (k : ℕ) → IsIn k (keys_among (queued a r)) → ¬ IsIn k (keys_among (queued b r))
+    queues_apart : (r : StoredResource) → IsIn r s.resources → (a b : Queue) → Queued r.at a ≢ Queued r.at b → (k : ℕ) → IsIn k (keys_among (queued a r)) → ¬ IsIn k (keys_among (queued b r))
     queues_apart r among a b differs k here there =
         let one = among_keys (queued a r) k here in
         let other = among_keys (queued b r) k there in
         differs (
-        sound.one_place k one.0 other.0 (Queued r.at a) (Queued r.at b) (subst (IsAmong (record { at = k; row = one.0 })) (sym (queue_at s sound r among a)) one.1.0)
-        (subst (IsAmong (record { at = k; row = other.0 })) (sym (queue_at s sound r among b)) other.1.0)
+        sound.one_place k one.0 other.0 (Queued r.at a) (Queued r.at b) (subst (IsIn (record { at = k; row = one.0 })) (sym (queue_at s sound r among a)) one.1.0)
+        (subst (IsIn (record { at = k; row = other.0 })) (sym (queue_at s sound r among b)) other.1.0)
         )
 
-    keys_on-apart : (r : StoredResource) → IsResourceAmong r s.resources → IsApart (keys_on r)
+    keys_on-apart : (r : StoredResource) → IsIn r s.resources → IsApart (keys_on r)
     keys_on-apart r among =
         IsApart-append (keys_among r.granted) (keys_among r.converting ++ keys_among r.waiting) (queue_apart r among Granted)
         (IsApart-append (keys_among r.converting) (keys_among r.waiting) (queue_apart r among Conversion) (queue_apart r among Waiting) (queues_apart r among Conversion Waiting (λ e. cc)))
         (λ k here there.
         IsIn-append k (keys_among r.converting) (keys_among r.waiting) ⊥ (queues_apart r among Granted Conversion (λ e. cc) k here) (queues_apart r among Granted Waiting (λ e. cc) k here) there)
 
-    keys_in-apart : (rs : List StoredResource) → AreResourcesApart rs → ((r : StoredResource) → IsResourceAmong r rs → IsResourceAmong r s.resources) → IsApart (keys_in rs)
+    keys_in-apart : (rs : List StoredResource) → AreResourcesApart rs → ((r : StoredResource) → IsIn r rs → IsIn r s.resources) → IsApart (keys_in rs)
     keys_in-apart [] apart within = tt
     keys_in-apart (r ∷ rest) apart within =
         IsApart-append (keys_on r) (keys_in rest) (keys_on-apart r (within r (inl refl))) (keys_in-apart rest apart.1 (λ x there. within x (inr there)))
@@ -218,7 +212,7 @@ module _ (pid : ℕ) where
     stored_key : (at : ℕ) (row : Row) → Stores s at row → row.pid ≡ pid → IsIn at keys_by
     stored_key at row stored is = by_place stored.0 stored.1
       where
-        by_place : (place : Place) → IsAmong (record { at = at; row = row }) (locks_at place s) → IsIn at keys_by
+        by_place : (place : Place) → IsIn (record { at = at; row = row }) (locks_at place s) → IsIn at keys_by
         by_place Loose among = IsIn-second at (keys_in s.resources) (keys_among s.loose) (keyed_among s.loose (record { at = at; row = row }) among is)
         by_place (Queued res queue) among = IsIn-first at (keys_in s.resources) (keys_among s.loose) (resource_in s.resources res queue (record { at = at; row = row }) among is)
 
@@ -232,7 +226,7 @@ module _ (pid : ℕ) where
         (λ loose. let stands = among_keys s.loose at loose in (stands.0, ((Loose, stands.1.0), stands.1.1))) found
 
 -- two processes with one identification are one
-one_process : (ps : List StoredProcess) → AreProcessesApart ps → (p q : StoredProcess) → IsProcessAmong p ps → IsProcessAmong q ps → p.process.pid ≡ q.process.pid → p ≡ q
+one_process : (ps : List StoredProcess) → AreProcessesApart ps → (p q : StoredProcess) → IsIn p ps → IsIn q ps → p.process.pid ≡ q.process.pid → p ≡ q
 one_process [] apart p q here there same = absurd here
 one_process (x ∷ ps) apart p q here there same =
     elim here [
@@ -247,7 +241,7 @@ one_process (x ∷ ps) apart p q here there same =
     ]
 
 -- a process has as many locks of its own as rows name it
-pub count_is : (s : Records) (p : StoredProcess) → IsSound s → IsProcessAmong p s.processes → length p.own ≡ owned_by p.process.pid s
+pub count_is : (s : Records) (p : StoredProcess) → IsSound s → IsIn p s.processes → length p.own ≡ owned_by p.process.pid s
 count_is s p sound among =
     sym (length-map p.own (λ (o : OwnLock). o.at))
     ∙ as_long (own_keys p.own) (keys_by p.process.pid s sound) (own_keys-apart p.own (sound.own_apart p among)) (keys_by-apart p.process.pid s sound)

@@ -19,7 +19,6 @@ use Rattle.vlm_store.specs.declared.locks.Lock.{Lock}
 use Rattle.vlm_store.specs.declared.queues.Queues.{Queues}
 use Rattle.vlm_store.specs.declared.resources.Resource.{Resource}
 use Rattle.vlm_tallies.specs.declared.tallies.Tally.{Tally}
-use Rattle.vlm_store.specs.Records.{is_queue}
 use Rattle.vlm_store.specs.Shown.{IsPlaced, IsTallied, SameBut, but_lists, keys_at, keys_but, list_at, noted, noted_in, queue_links, row_in, rows, share_of, shares, tally_in}
 use Rattle.vlm_tallies.specs.Tallies.{held_of, held_weight, is_mode, one_if, total, wanted_of, wanted_weight}
 use Rattle.vlm_tallies.proofs.Totals.{total-length}
@@ -56,11 +55,6 @@ IsApart-append (x ∷ xs) ys apart apart' other = (
   λ found. IsIn-append x xs ys ⊥ apart.0 (other x (inl refl)) found,
   IsApart-append xs ys apart.1 apart' (λ k h. other k (inr h)),
 )
-
-is_queue-same : (p : Queue) → is_queue p p ≡ true
-is_queue-same Granted = refl
-is_queue-same Conversion = refl
-is_queue-same Waiting = refl
 
 module _ (q : Queues) (weight : Queue → Row → ℕ) (at : ℕ) (place : Place) (placed : IsPlaced q None) (is : noted q at ≡ Some place) (res : ℕ) where
   stood : IsIn at (keys_at q place)

@@ -53,7 +53,7 @@ module _ (processes : Slab Process) (locks : Slab Lock) (no_processes : (p : ℕ
 
 module _ (processes processes' : Slab Process) (locks : Slab Lock) (owns : (p : ℕ) → own_list processes' p ≡ own_list processes p) where
   pub process_owned : IsOwned processes locks None → IsOwned processes' locks None
-  process_owned owned = family-kept own_links owner_in locks (own_list processes) None owned locks (own_list processes') owns (λ k. refl) (λ k. refl) (λ k here. here) (λ k. refl)
+  process_owned owned = family-kept own_links owner_in locks (own_list processes) None owned locks (own_list processes') owns (λ i k _. refl) (λ i k _. refl) (λ i k _ here. here) (λ k. refl)
 
   pub process_own_keys : (p : ℕ) → own_keys processes' locks p ≡ own_keys processes locks p
   process_own_keys p = ap (keys_of own_links locks) (owns p)
@@ -113,10 +113,6 @@ module _ (processes processes' : Slab Process) (at : ℕ) (others : (p : ℕ) �
 
   pub names_stay : (locks : Slab Lock) → ((k : ℕ) (l : Lock) → get locks k ≡ Some l → l.owner ≢ at) → IsNamed processes locks → IsNamed processes' locks
   names_stay locks apart = process_named processes processes' locks (λ k l here. pid_by_order (get processes' l.owner) (get processes l.owner) (others l.owner (apart k l here)))
-
--- what is told of a process is that of its record
-pub plain_is : (slot : Option Process) (p : Process) → slot ≡ Some p → plain_in slot ≡ plain_process p
-plain_is slot p is = ap plain_in is
 
 -- a process without locks
 pub no_own : (processes : Slab Process) (locks : Slab Lock) (at : ℕ) → IsOwned processes locks None → own_keys processes locks at ≡ [] → own_in (get processes at) ≡ no_list

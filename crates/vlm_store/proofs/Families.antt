@@ -17,36 +17,41 @@ module _ {I Kind : Type 0} (links : Lock → Links) (noted : Option Lock → Opt
     pub one_list : (at : ℕ) (i j : I) → IsIn at (keys_of links locks (lists i)) → IsIn at (keys_of links locks (lists j)) → i ≡ j
     one_list at i j here there = same_Some i j (sym (family.listed i at here) ∙ family.listed j at there)
 
-    -- the lists stay where heads, links and what is noted do
-    module _ (locks' : Slab Lock) (lists' : I → LinkedList Kind) (same : (i : I) → lists' i ≡ lists i) (nexts : (k : ℕ) → next_in links (get locks' k) ≡ next_in links (get locks k))
-        (prevs : (k : ℕ) → prev_in links (get locks' k) ≡ prev_in links (get locks k)) (there : (k : ℕ) → ContainsKey locks k → ContainsKey locks' k) where
+    -- the lists stay where their heads do, and their records keep their neighbours
+    module _ (locks' : Slab Lock) (lists' : I → LinkedList Kind) (same : (i : I) → lists' i ≡ lists i)
+        (nexts : (i : I) (k : ℕ) → IsIn k (keys_of links locks (lists i)) → next_in links (get locks' k) ≡ next_in links (get locks k))
+        (prevs : (i : I) (k : ℕ) → IsIn k (keys_of links locks (lists i)) → prev_in links (get locks' k) ≡ prev_in links (get locks k))
+        (there : (i : I) (k : ℕ) → IsIn k (keys_of links locks (lists i)) → ContainsKey locks k → ContainsKey locks' k) where
       pub family-keys : (i : I) → keys_of links locks' (lists' i) ≡ keys_of links locks (lists i)
-      family-keys i = ap (keys_of links locks') (same i) ∙ kept-keys links locks locks' (lists i) (family.linked i) (λ k _. nexts k) (λ k _. prevs k) (λ k _. there k)
+      family-keys i = ap (keys_of links locks') (same i) ∙ kept-keys links locks locks' (lists i) (family.linked i) (nexts i) (prevs i) (there i)
 
+      linked_still : (i : I) → IsLinked links locks' (lists' i)
+      linked_still i = subst (IsLinked links locks') (sym (same i)) (kept-linked links locks locks' (lists i) (family.linked i) (nexts i) (prevs i) (there i))
+
+      -- each record notes what it noted
       pub family-kept : ((k : ℕ) → noted (get locks' k) ≡ noted (get locks k)) → IsFamily links noted locks' lists' out
       family-kept notes = record {
-        linked = λ i. subst (IsLinked links locks') (sym (same i)) (kept-linked links locks locks' (lists i) (family.linked i) (λ k _. nexts k) (λ k _. prevs k) (λ k _. there k));
+        linked = linked_still;
         listed = λ i at found. notes at ∙ family.listed i at (subst (IsIn at) (family-keys i) found);
         stands = λ i at differs is. subst (IsIn at) (sym (family-keys i)) (family.stands i at differs (sym (notes at) ∙ is));
         gone = λ i at out_so found. family.gone i at out_so (subst (IsIn at) (family-keys i) found);
       }
 
+    -- a record that stands in no list is none of those that stand in one
+    pub other_key : (at : ℕ) → ((i : I) → ¬ IsIn at (keys_of links locks (lists i))) → (i : I) (k : ℕ) → IsIn k (keys_of links locks (lists i)) → k ≢ at
+    other_key at unlisted i k found is = unlisted i (subst (λ x. IsIn x (keys_of links locks (lists i))) is found)
+
     -- one record changes, comes or goes that stands in no list
     module _ (locks' : Slab Lock) (lists' : I → LinkedList Kind) (same : (i : I) → lists' i ≡ lists i) (at : ℕ) (unlisted : (i : I) → ¬ IsIn at (keys_of links locks (lists i)))
         (nexts : (k : ℕ) → k ≢ at → next_in links (get locks' k) ≡ next_in links (get locks k)) (prevs : (k : ℕ) → k ≢ at → prev_in links (get locks' k) ≡ prev_in links (get locks k))
         (there : (k : ℕ) → k ≢ at → ContainsKey locks k → ContainsKey locks' k) where
-      other_key : (i : I) (k : ℕ) → IsIn k (keys_of links locks (lists i)) → k ≢ at
-      other_key i k found is = unlisted i (subst (λ x. IsIn x (keys_of links locks (lists i))) is found)
-
       pub family-other_keys : (i : I) → keys_of links locks' (lists' i) ≡ keys_of links locks (lists i)
-      family-other_keys i =
-          ap (keys_of links locks') (same i)
-          ∙ kept-keys links locks locks' (lists i) (family.linked i) (λ k found. nexts k (other_key i k found)) (λ k found. prevs k (other_key i k found)) (λ k found. there k (other_key i k found))
+      family-other_keys =
+          family-keys locks' lists' same (λ i k found. nexts k (other_key at unlisted i k found)) (λ i k found. prevs k (other_key at unlisted i k found)) (λ i k found. there k (other_key at unlisted i k found))
 
       other_linked : (i : I) → IsLinked links locks' (lists' i)
-      other_linked i =
-          subst (IsLinked links locks') (sym (same i))
-          (kept-linked links locks locks' (lists i) (family.linked i) (λ k found. nexts k (other_key i k found)) (λ k found. prevs k (other_key i k found)) (λ k found. there k (other_key i k found)))
+      other_linked =
+          linked_still locks' lists' same (λ i k found. nexts k (other_key at unlisted i k found)) (λ i k found. prevs k (other_key at unlisted i k found)) (λ i k found. there k (other_key at unlisted i k found))
 
       module _ (notes : (k : ℕ) → k ≢ at → noted (get locks' k) ≡ noted (get locks k)) where
         -- the record is new
@@ -55,11 +60,11 @@ module _ {I Kind : Type 0} (links : Lock → Links) (noted : Option Lock → Opt
           linked = other_linked;
           listed = λ i k found.
               let was = subst (IsIn k) (family-other_keys i) found in
-              notes k (other_key i k was) ∙ family.listed i k was;
+              notes k (other_key at unlisted i k was) ∙ family.listed i k was;
           stands = λ i k differs is.
               subst (IsIn k) (sym (family-other_keys i))
               (family.stands i k (λ e. none-some k (sym none ∙ sym e)) (sym (notes k (λ at_is. differs (ap Some at_is))) ∙ is));
-          gone = λ i k is found. other_key i k (subst (IsIn k) (family-other_keys i) found) (same_Some k at is);
+          gone = λ i k is found. other_key at unlisted i k (subst (IsIn k) (family-other_keys i) found) (same_Some k at is);
         }
 
         -- the record is gone, or notes no list now
@@ -68,7 +73,7 @@ module _ {I Kind : Type 0} (links : Lock → Links) (noted : Option Lock → Opt
           linked = other_linked;
           listed = λ i k found.
               let was = subst (IsIn k) (family-other_keys i) found in
-              notes k (other_key i k was) ∙ family.listed i k was;
+              notes k (other_key at unlisted i k was) ∙ family.listed i k was;
           stands = λ i k _ is. elim (cases_eq k at) [
             | inl at_is ↦ absurd (none i (ap (λ x. noted (get locks' x)) (sym at_is) ∙ is))
             | inr differs ↦
@@ -108,24 +113,35 @@ module _ {I Kind : Type 0} (links : Lock → Links) (noted : Option Lock → Opt
     gone = λ i k is found. none i (ap (λ x. noted (get locks x)) (sym (same_Some k at is)) ∙ family.listed i k found);
   }
 
-  pub family-noted_nowhere : (locks : Slab Lock) (lists : I → LinkedList Kind) (at : ℕ) → IsFamily links noted locks lists (Some at) → ((i : I) → noted (get locks at) ≢ Some i) → IsFamily links noted locks lists None
-  family-noted_nowhere locks lists at family none = record {
-    linked = family.linked;
-    listed = family.listed;
-    stands = λ i k _ is. family.stands i k (λ e. none i (ap (λ x. noted (get locks x)) (sym (same_Some k at e)) ∙ is)) is;
-    gone = λ i k is found. none-some k (sym is);
-  }
-
   -- a lock is taken off its list
   module _ (cases : (i j : I) → (i ≡ j) ⊎ (i ≢ j)) (locks locks1 locks' : Slab Lock) (lists lists' : I → LinkedList Kind) (list1 : LinkedList Kind) (at : ℕ) (i : I)
       (nexts : (k : ℕ) → next_in links (get locks' k) ≡ next_in links (get locks1 k)) (prevs : (k : ℕ) → prev_in links (get locks' k) ≡ prev_in links (get locks1 k))
       (there : (k : ℕ) → ContainsKey locks1 k → ContainsKey locks' k) (linked1 : IsLinked links locks1 list1) (here : lists' i ≡ list1)
       (elsewhere : (j : I) → j ≢ i → lists' j ≡ lists j) where
+    -- the other lists keep their records
+    module _ (out : Option ℕ) (family : IsFamily links noted locks lists out)
+        (others1 : (other : ℕ) → ¬ IsIn other (keys_of links locks (lists i)) → Some other ≢ out → get locks1 other ≡ get locks other) where
+      unchanged : (j : I) → j ≢ i → (k : ℕ) → IsIn k (keys_of links locks (lists j)) → get locks1 k ≡ get locks k
+      unchanged j differs k found = others1 k (λ also. differs (one_list locks lists out family k j i found also)) (λ is_out. family.gone j k is_out found)
+
+      other_linked1 : (j : I) → j ≢ i → IsLinked links locks1 (lists j)
+      other_linked1 j differs = same-linked links locks locks1 (lists j) (family.linked j) (unchanged j differs)
+
+      keys_elsewhere : (j : I) → j ≢ i → keys_of links locks' (lists' j) ≡ keys_of links locks (lists j)
+      keys_elsewhere j differs =
+          ap (keys_of links locks') (elsewhere j differs)
+          ∙ kept-keys links locks1 locks' (lists j) (other_linked1 j differs) (λ k _. nexts k) (λ k _. prevs k) (λ k _. there k)
+          ∙ same-keys links locks locks1 (lists j) (family.linked j) (unchanged j differs)
+
+      all_linked : (j : I) → IsLinked links locks' (lists' j)
+      all_linked j =
+          elim (cases j i) [
+            | inl same ↦ rw (same, here) (kept-linked links locks1 locks' list1 linked1 (λ k _. nexts k) (λ k _. prevs k) (λ k _. there k))
+            | inr differs ↦ rw (elsewhere j differs) (kept-linked links locks1 locks' (lists j) (other_linked1 j differs) (λ k _. nexts k) (λ k _. prevs k) (λ k _. there k))
+          ]
+
     module _ (family : IsFamily links noted locks lists None) (is : noted (get locks at) ≡ Some i) (keys1 : keys_of links locks1 list1 ≡ without at (keys_of links locks (lists i)))
         (others1 : (other : ℕ) → ¬ IsIn other (keys_of links locks (lists i)) → get locks1 other ≡ get locks other) where
-      unchanged : (j : I) → j ≢ i → (k : ℕ) → IsIn k (keys_of links locks (lists j)) → get locks1 k ≡ get locks k
-      unchanged j differs k found = others1 k (λ also. differs (one_list locks lists None family k j i found also))
-
       stood : IsIn at (keys_of links locks (lists i))
       stood = family.stands i at (λ e. none-some at (sym e)) is
 
@@ -135,20 +151,12 @@ module _ {I Kind : Type 0} (links : Lock → Links) (noted : Option Lock → Opt
             | inl same ↦ rw (same, here) (kept-keys links locks1 locks' list1 linked1 (λ k _. nexts k) (λ k _. prevs k) (λ k _. there k) ∙ keys1)
             | inr differs ↦
                 let absent : ¬ IsIn at (keys_of links locks (lists j)) = λ found. differs (one_list locks lists None family at j i found stood) in
-                let linked = same-linked links locks locks1 (lists j) (family.linked j) (unchanged j differs) in
-                rw (elsewhere j differs)
-                (kept-keys links locks1 locks' (lists j) linked (λ k _. nexts k) (λ k _. prevs k) (λ k _. there k)
-                ∙ same-keys links locks locks1 (lists j) (family.linked j) (unchanged j differs) ∙ sym (without_absent at _ absent))
+                keys_elsewhere None family (λ other absent _. others1 other absent) j differs ∙ sym (without_absent at _ absent)
           ]
 
       pub family-taken : ((k : ℕ) → noted (get locks' k) ≡ noted (get locks k)) → IsFamily links noted locks' lists' (Some at)
       family-taken notes = record {
-        linked = λ j. elim (cases j i) [
-          | inl same ↦ rw (same, here) (kept-linked links locks1 locks' list1 linked1 (λ k _. nexts k) (λ k _. prevs k) (λ k _. there k))
-          | inr differs ↦
-              let linked = same-linked links locks locks1 (lists j) (family.linked j) (unchanged j differs) in
-              rw (elsewhere j differs) (kept-linked links locks1 locks' (lists j) linked (λ k _. nexts k) (λ k _. prevs k) (λ k _. there k))
-        ];
+        linked = all_linked None family (λ other absent _. others1 other absent);
         listed = λ j k found. notes k ∙ family.listed j k (IsIn-without at k _ (subst (IsIn k) (family-taken_keys j) found)).0;
         stands = λ j k differs noted_so.
             subst (IsIn k) (sym (family-taken_keys j))
@@ -162,27 +170,18 @@ module _ {I Kind : Type 0} (links : Lock → Links) (noted : Option Lock → Opt
       unlisted : (j : I) → ¬ IsIn at (keys_of links locks (lists j))
       unlisted j = family.gone j at refl
 
-      unchanged1 : (j : I) → j ≢ i → (k : ℕ) → IsIn k (keys_of links locks (lists j)) → get locks1 k ≡ get locks k
-      unchanged1 j differs k found =
-          others1 k (λ also. differs (one_list locks lists (Some at) family k j i found also)) (λ same. unlisted j (subst (λ x. IsIn x (keys_of links locks (lists j))) same found))
-
       pub family-put_here : keys_of links locks' (lists' i) ≡ keys_of links locks (lists i) ++ at ∷ []
       family-put_here = ap (keys_of links locks') here ∙ kept-keys links locks1 locks' list1 linked1 (λ k _. nexts k) (λ k _. prevs k) (λ k _. there k) ∙ keys1
 
+      others_but : (other : ℕ) → ¬ IsIn other (keys_of links locks (lists i)) → Some other ≢ Some at → get locks1 other ≡ get locks other
+      others_but other absent differs = others1 other absent (λ same. differs (ap Some same))
+
       pub family-put_others : (j : I) → j ≢ i → keys_of links locks' (lists' j) ≡ keys_of links locks (lists j)
-      family-put_others j differs =
-          let linked = same-linked links locks locks1 (lists j) (family.linked j) (unchanged1 j differs) in
-          ap (keys_of links locks') (elsewhere j differs) ∙ kept-keys links locks1 locks' (lists j) linked (λ k _. nexts k) (λ k _. prevs k) (λ k _. there k)
-          ∙ same-keys links locks locks1 (lists j) (family.linked j) (unchanged1 j differs)
+      family-put_others = keys_elsewhere (Some at) family others_but
 
       pub family-put : noted (get locks' at) ≡ Some i → ((k : ℕ) → k ≢ at → noted (get locks' k) ≡ noted (get locks k)) → IsFamily links noted locks' lists' None
       family-put note notes = record {
-        linked = λ j. elim (cases j i) [
-          | inl same ↦ rw (same, here) (kept-linked links locks1 locks' list1 linked1 (λ k _. nexts k) (λ k _. prevs k) (λ k _. there k))
-          | inr differs ↦
-              let linked = same-linked links locks locks1 (lists j) (family.linked j) (unchanged1 j differs) in
-              rw (elsewhere j differs) (kept-linked links locks1 locks' (lists j) linked (λ k _. nexts k) (λ k _. prevs k) (λ k _. there k))
-        ];
+        linked = all_linked (Some at) family others_but;
         listed = λ j k found. elim (cases j i) [
           | inl same ↦
               elim (IsIn-push at k _ (subst (IsIn k) family-put_here (subst (λ x. IsIn k (keys_of links locks' (lists' x))) same found))) [

@@ -50,9 +50,6 @@ module _ (s : Inside) (kept : IsKept s) (locks1 locks2 : Slab Lock) (at : ℕ) (
   pub new_parent : parent_in (get locks2 at) ≡ parent
   new_parent = by_part but_queued parent_in parent-queued (get locks2 at) (Some (new_lock row owner parent)) lock
 
-  pub new_there : ContainsKey locks2 at
-  new_there = there_by_part but_queued (get locks2 at) (Some (new_lock row owner parent)) lock refl
-
   unowned : (p : ℕ) → ¬ IsIn at (own_keys s.processes locks1 p)
   unowned p = vacant_unlisted own_links locks1 (own_list s.processes p) (owned1.linked p) at fresh
 

@@ -20,7 +20,7 @@ use Rattle.vlm_store.specs.declared.queues.Queues.{Queues}
 use Rattle.vlm_store.specs.declared.resources.InOrder.{InOrder}
 use Rattle.vlm_store.specs.declared.resources.Resource.{Resource}
 use Rattle.vlm_store.specs.Index.{Indexes}
-use Rattle.vlm_store.specs.Records.{FindsLock, FindsResource, HasPlace, HasResource, IsResourceAmong, StoredResource, Stores, nothing}
+use Rattle.vlm_store.specs.Records.{FindsLock, FindsResource, HasPlace, HasResource, StoredResource, Stores, nothing}
 use Rattle.vlm_store.specs.Shown.{IsPlaced, IsTallied, IsThere, SameBut, but_queues, face_in, keys_at, list_at, noted_in, order_links, queue_links, row_in, rows, shares, tally_in}
 use Rattle.vlm_store.specs.Store.{Beside, key_at, keyed, lkid_at, records_of, resource_of, tables}
 use Rattle.vlm_store.proofs.Layouts.{HasPlace-seen, IsSeen, Stores-listed, among_resource, listed-Stores, resource_at-found, resource_among}
@@ -93,15 +93,15 @@ module _ (q : Queues) (order : LinkedList InOrder) (beside : Beside) (placed : I
     key_of_face (Some r) there = refl
 
     -- the record of a resource that a caller sees has its key
-    key_seen : (r : StoredResource) → IsResourceAmong r (records_of (tables q order beside)).resources → key_at q r.at ≡ Some r.key
+    key_seen : (r : StoredResource) → IsIn r (records_of (tables q order beside)).resources → key_at q r.at ≡ Some r.key
     unfolding records_of
     key_seen r among =
         let there = resource_among (tables q order beside) (keys_of order_links q.resources order) r among in
         key_of_face (get q.resources r.at) (linked.present r.at there.0) ∙ ap (λ (x : StoredResource). Some x.key) there.1
 
     -- no two resources have one key
-    pub keys_apart : (found : Key → Option ℕ) → Indexes found (key_at q) → (a b : StoredResource) → IsResourceAmong a (records_of (tables q order beside)).resources
-        → IsResourceAmong b (records_of (tables q order beside)).resources → a.key ≡ b.key → a.at ≡ b.at
+    pub keys_apart : (found : Key → Option ℕ) → Indexes found (key_at q) → (a b : StoredResource) → IsIn a (records_of (tables q order beside)).resources
+        → IsIn b (records_of (tables q order beside)).resources → a.key ≡ b.key → a.at ≡ b.at
     keys_apart found indexes a b among_a among_b same =
         same_Some a.at b.at (sym (indexes.complete a.key a.at (key_seen a among_a)) ∙ indexes.complete a.key b.at (key_seen b among_b ∙ ap Some (sym same)))
 

@@ -7,7 +7,7 @@ use Rattle.std.specs.Option.{option_map}
 use Rattle.slab.specs.Slab.{Slab, get, ContainsKey}
 use Rattle.vlm_links.specs.declared.lists.LinkedList.{LinkedList}
 use Rattle.vlm_links.specs.Lists.{IsIn, IsLinked, Relinks, keys_of, next_in, prev_in}
-use Rattle.vlm_links.proofs.Keeping.{shown_same}
+use Rattle.vlm_links.proofs.Keeping.{relinked_same}
 use Rattle.vlm_links.proofs.Rings.{kept-keys, kept-linked}
 use Rattle.vlm_words.specs.declared.locks.Row.{Row}
 use Rattle.vlm_store.specs.declared.keys.Place.{Place}
@@ -23,7 +23,6 @@ use Rattle.vlm_tallies.specs.Tallies.{held_weight, wanted_weight}
 use Rattle.vlm_store.proofs.Counting.{shares_same}
 use Rattle.vlm_store.proofs.Families.{family-kept, family-keys}
 use Rattle.vlm_store.proofs.Members.{processes_same}
-use Rattle.vlm_store.proofs.Making.{relinked_same}
 use Rattle.vlm_store.proofs.Places.{kept_keys, kept_placed, lists_same, lkid_told, named-queued, there_through, through}
 
 -- the processes that a caller sees
@@ -168,23 +167,23 @@ module _ (processes : Slab Process) (locks locks' : Slab Lock) (same : SameBut b
   module _ (out : Option ℕ) where
     pub queued_owned : IsOwned processes locks out → IsOwned processes locks' out
     queued_owned owned =
-        family-kept own_links owner_in locks (own_list processes) out owned locks' (own_list processes) (λ p. refl) (through but_queued (next_in own_links) own_next-queued locks locks' same)
-        (through but_queued (prev_in own_links) own_prev-queued locks locks' same) (there_through but_queued locks locks' same) (through but_queued owner_in owner-queued locks locks' same)
+        family-kept own_links owner_in locks (own_list processes) out owned locks' (own_list processes) (λ p. refl) (λ i k _. through but_queued (next_in own_links) own_next-queued locks locks' same k)
+        (λ i k _. through but_queued (prev_in own_links) own_prev-queued locks locks' same k) (λ i k _. there_through but_queued locks locks' same k) (through but_queued owner_in owner-queued locks locks' same)
 
     pub queued_below : IsBelow locks out → IsBelow locks' out
     queued_below below =
-        family-kept below_links parent_in locks (below_list locks) out below locks' (below_list locks') below_lists (through but_queued (next_in below_links) below_next-queued locks locks' same)
-        (through but_queued (prev_in below_links) below_prev-queued locks locks' same) (there_through but_queued locks locks' same) (through but_queued parent_in parent-queued locks locks' same)
+        family-kept below_links parent_in locks (below_list locks) out below locks' (below_list locks') below_lists (λ i k _. through but_queued (next_in below_links) below_next-queued locks locks' same k)
+        (λ i k _. through but_queued (prev_in below_links) below_prev-queued locks locks' same k) (λ i k _. there_through but_queued locks locks' same k) (through but_queued parent_in parent-queued locks locks' same)
 
     pub queued_own_keys : IsOwned processes locks out → (p : ℕ) → own_keys processes locks' p ≡ own_keys processes locks p
     queued_own_keys owned =
-        family-keys own_links owner_in locks (own_list processes) out owned locks' (own_list processes) (λ p. refl) (through but_queued (next_in own_links) own_next-queued locks locks' same)
-        (through but_queued (prev_in own_links) own_prev-queued locks locks' same) (there_through but_queued locks locks' same)
+        family-keys own_links owner_in locks (own_list processes) out owned locks' (own_list processes) (λ p. refl) (λ i k _. through but_queued (next_in own_links) own_next-queued locks locks' same k)
+        (λ i k _. through but_queued (prev_in own_links) own_prev-queued locks locks' same k) (λ i k _. there_through but_queued locks locks' same k)
 
     pub queued_below_keys : IsBelow locks out → (k : ℕ) → below_keys locks' k ≡ below_keys locks k
     queued_below_keys below =
-        family-keys below_links parent_in locks (below_list locks) out below locks' (below_list locks') below_lists (through but_queued (next_in below_links) below_next-queued locks locks' same)
-        (through but_queued (prev_in below_links) below_prev-queued locks locks' same) (there_through but_queued locks locks' same)
+        family-keys below_links parent_in locks (below_list locks) out below locks' (below_list locks') below_lists (λ i k _. through but_queued (next_in below_links) below_next-queued locks locks' same k)
+        (λ i k _. through but_queued (prev_in below_links) below_prev-queued locks locks' same k) (λ i k _. there_through but_queued locks locks' same k)
 
   pub queued_named : IsNamed processes locks → IsNamed processes locks'
   queued_named = named-kept processes processes locks locks' (λ p. refl) (λ k. by_part but_queued (option_map named_lock) named-queued (get locks' k) (get locks k) (same k))
@@ -248,20 +247,20 @@ module _ (locks locks' : Slab Lock) (relinks : Relinks with_own_links locks lock
   below_heads = relinked_same with_own_links below_in (λ l pair. refl) locks locks' relinks
 
   pub own_kin : SameBut but_kin locks locks'
-  own_kin = shown_same with_own_links but_kin (λ l pair. refl) locks locks' relinks
+  own_kin = relinked_same with_own_links (option_map but_kin) (λ l pair. refl) locks locks' relinks
 
   pub own_named : SameBut named_lock locks locks'
-  own_named = shown_same with_own_links named_lock (λ l pair. refl) locks locks' relinks
+  own_named = relinked_same with_own_links (option_map named_lock) (λ l pair. refl) locks locks' relinks
 
   module _ (out : Option ℕ) (below : IsBelow locks out) where
     pub own_below : IsBelow locks' out
     own_below =
-        family-kept below_links parent_in locks (below_list locks) out below locks' (below_list locks') below_heads below_next below_prev (there_through but_kin locks locks' own_kin)
+        family-kept below_links parent_in locks (below_list locks) out below locks' (below_list locks') below_heads (λ i k _. below_next k) (λ i k _. below_prev k) (λ i k _. there_through but_kin locks locks' own_kin k)
         (relinked_same with_own_links parent_in (λ l pair. refl) locks locks' relinks)
 
     pub own_below_keys : (k : ℕ) → below_keys locks' k ≡ below_keys locks k
     own_below_keys =
-        family-keys below_links parent_in locks (below_list locks) out below locks' (below_list locks') below_heads below_next below_prev (there_through but_kin locks locks' own_kin)
+        family-keys below_links parent_in locks (below_list locks) out below locks' (below_list locks') below_heads (λ i k _. below_next k) (λ i k _. below_prev k) (λ i k _. there_through but_kin locks locks' own_kin k)
 
 -- the locks below a parent are relinked
 own_next-below : (slot : Option Lock) → next_in own_links (option_map but_below slot) ≡ next_in own_links slot
@@ -294,13 +293,13 @@ module _ (processes : Slab Process) (locks locks' : Slab Lock) (same : SameBut b
   module _ (out : Option ℕ) (owned : IsOwned processes locks out) where
     pub below_owned : IsOwned processes locks' out
     below_owned =
-        family-kept own_links owner_in locks (own_list processes) out owned locks' (own_list processes) (λ p. refl) (through but_below (next_in own_links) own_next-below locks locks' same)
-        (through but_below (prev_in own_links) own_prev-below locks locks' same) (there_through but_below locks locks' same) (through but_below owner_in owner-below locks locks' same)
+        family-kept own_links owner_in locks (own_list processes) out owned locks' (own_list processes) (λ p. refl) (λ i k _. through but_below (next_in own_links) own_next-below locks locks' same k)
+        (λ i k _. through but_below (prev_in own_links) own_prev-below locks locks' same k) (λ i k _. there_through but_below locks locks' same k) (through but_below owner_in owner-below locks locks' same)
 
     pub below_own_keys : (p : ℕ) → own_keys processes locks' p ≡ own_keys processes locks p
     below_own_keys =
-        family-keys own_links owner_in locks (own_list processes) out owned locks' (own_list processes) (λ p. refl) (through but_below (next_in own_links) own_next-below locks locks' same)
-        (through but_below (prev_in own_links) own_prev-below locks locks' same) (there_through but_below locks locks' same)
+        family-keys own_links owner_in locks (own_list processes) out owned locks' (own_list processes) (λ p. refl) (λ i k _. through but_below (next_in own_links) own_next-below locks locks' same k)
+        (λ i k _. through but_below (prev_in own_links) own_prev-below locks locks' same k) (λ i k _. there_through but_below locks locks' same k)
 
 -- processes keep their order where their locks are written
 process_next-own : (slot : Option Process) → next_in process_links (option_map but_own slot) ≡ next_in process_links slot

@@ -4,45 +4,17 @@ use Rattle.std.specs.Prelude.{◌==◌}
 use Rattle.std.specs.Option.{option_map_or}
 use Rattle.std.proofs.lemmas.Bool.{cases_eq}
 use Rattle.vlm_links.specs.Lists.{IsIn, IsApart, first_key, key_after, without}
+use Rattle.vlm_links.proofs.Images.{IsIn-image, IsIn-told}
 use Rattle.vlm_links.proofs.KeyLists.{IsIn-without, without_head, without_past}
 use Rattle.vlm_words.specs.declared.locks.Row.{Row}
 use Rattle.vlm_words.specs.declared.resources.Queue.{Queue}
 use Rattle.vlm_words.specs.declared.resources.Queue.TheVariants.{Granted, Conversion, Waiting}
 use Rattle.vlm_store.specs.declared.keys.Place.{Place}
 use Rattle.vlm_store.specs.declared.keys.Place.TheVariants.{Loose, Queued}
-use Rattle.vlm_store.specs.Records.{AreOwnApart, IsProcessAmong, StoredProcess, Records, StoredLock, StoredResource, AreApart, AreOwned, AreProcessesApart, AreResourcesApart, HasPlace, HasResource, IsAmong, IsResourceAmong, IsSound, Stores, at_after, first_at, first_resource_at, resource_at_after, is_place, is_queue, leaving, locks_at, moving, on_resource, queued, resource_at, resource_with, with_lists, without_lock, without_resource}
+use Rattle.vlm_store.specs.Records.{AreOwnApart, StoredProcess, Records, StoredLock, StoredResource, AreApart, AreOwned, AreProcessesApart, AreResourcesApart, HasPlace, HasResource, IsSound, Stores, at_after, first_at, first_resource_at, resource_at_after, is_place, leaving, locks_at, moving, on_resource, queued, resource_at, resource_with, with_lists, without_lock, without_resource}
 use Rattle.vlm_store.specs.Store.{Layout, keyed, records_of, resource_of}
 use Rattle.vlm_store.proofs.Places.{place_cases}
-
-is_queue-same : (p : Queue) → is_queue p p ≡ true
-is_queue-same Granted = refl
-is_queue-same Conversion = refl
-is_queue-same Waiting = refl
-
-is_queue-other : (p q : Queue) → p ≢ q → is_queue p q ≡ false
-is_queue-other Granted Granted differs = absurd (differs refl)
-is_queue-other Granted Conversion differs = refl
-is_queue-other Granted Waiting differs = refl
-is_queue-other Conversion Granted differs = refl
-is_queue-other Conversion Conversion differs = absurd (differs refl)
-is_queue-other Conversion Waiting differs = refl
-is_queue-other Waiting Granted differs = refl
-is_queue-other Waiting Conversion differs = refl
-is_queue-other Waiting Waiting differs = absurd (differs refl)
-
-pub is_place-same : (p : Place) → is_place p p ≡ true
-is_place-same Loose = refl
-is_place-same (Queued r q) = rw (eq-eqb r r refl, is_queue-same q) refl
-
-pub is_place-other : (p q : Place) → p ≢ q → is_place p q ≡ false
-is_place-other Loose Loose differs = absurd (differs refl)
-is_place-other Loose (Queued b q) differs = refl
-is_place-other (Queued a p) Loose differs = refl
-is_place-other (Queued a p) (Queued b q) differs =
-    elim (cases_eq a b) [
-      | inl same ↦ rw (eq-eqb a b same, is_queue-other p q (λ e. differs (cc))) refl
-      | inr other ↦ rw (ne_eqb a b other) refl
-    ]
+use Rattle.vlm_store.proofs.Records.{is_place-other, is_place-same}
 
 -- ---- locks under their keys
 
@@ -65,18 +37,11 @@ keyed-kept rows rows' (k ∷ ks) same =
     ap (λ r. record { at = k; row = r } ∷ map (keyed rows') ks) (same k (inl refl)) ∙ ap (λ rest. keyed rows k ∷ rest) (keyed-kept rows rows' ks (λ x h. same x (inr h)))
 
 -- a lock that a caller sees is there, with its row
-pub keyed-among : (rows : ℕ → Row) (ks : List ℕ) (lock : StoredLock) → IsAmong lock (map (keyed rows) ks) → IsIn lock.at ks × (rows lock.at ≡ lock.row)
-keyed-among rows [] lock found = absurd found
-keyed-among rows (k ∷ ks) lock found =
-    elim found [
-      | inl here ↦ (inl (ap (λ (x : StoredLock). x.at) here), ap rows (sym (ap (λ (x : StoredLock). x.at) here)) ∙ ap (λ (x : StoredLock). x.row) here)
-      | inr there ↦ let more = keyed-among rows ks lock there in (inr more.0, more.1)
-    ]
+pub keyed-among : (rows : ℕ → Row) (ks : List ℕ) (lock : StoredLock) → IsIn lock (map (keyed rows) ks) → IsIn lock.at ks × (rows lock.at ≡ lock.row)
+keyed-among rows ks lock found = let of = IsIn-told (keyed rows) (λ (x : StoredLock). x.at) (λ k. refl) ks lock found in (of.0, ap (λ (x : StoredLock). x.row) of.1)
 
-pub among-keyed : (rows : ℕ → Row) (ks : List ℕ) (at : ℕ) → IsIn at ks → IsAmong (record { at = at; row = rows at }) (map (keyed rows) ks)
-among-keyed rows [] at found = absurd found
-among-keyed rows (k ∷ ks) at found =
-    elim found [ inl here ↦ inl (ap (λ x. record { at = x; row = rows x }) here) | inr there ↦ inr (among-keyed rows ks at there) ]
+pub among-keyed : (rows : ℕ → Row) (ks : List ℕ) (at : ℕ) → IsIn at ks → IsIn (record { at = at; row = rows at }) (map (keyed rows) ks)
+among-keyed rows = IsIn-image (keyed rows)
 
 -- the first lock, and the one that follows another
 pub keyed-first : (rows : ℕ → Row) (ks : List ℕ) → first_at (map (keyed rows) ks) ≡ first_key ks
@@ -242,30 +207,30 @@ seen_cases l (Queued res queue) =
     ]
 
 -- a lock that a caller sees stands there, with its row
-pub locks_at-among : (l : Layout) (p : Place) (lock : StoredLock) → IsAmong lock (locks_at p (records_of l)) → IsIn lock.at (l.keys p) × (l.rows lock.at ≡ lock.row)
+pub locks_at-among : (l : Layout) (p : Place) (lock : StoredLock) → IsIn lock (locks_at p (records_of l)) → IsIn lock.at (l.keys p) × (l.rows lock.at ≡ lock.row)
 locks_at-among l p lock found =
     elim (seen_cases l p) [
       | inl seen ↦ keyed-among l.rows (l.keys p) lock (rw (locks_at-seen l p seen) at found)
-      | inr none ↦ let nothing : IsAmong lock [] = rw none at found in absurd nothing
+      | inr none ↦ let nothing : IsIn lock [] = rw none at found in absurd nothing
     ]
 
 -- a place where a caller sees a lock is seen
-pub among-seen : (l : Layout) (p : Place) (lock : StoredLock) → IsAmong lock (locks_at p (records_of l)) → IsSeen l p
+pub among-seen : (l : Layout) (p : Place) (lock : StoredLock) → IsIn lock (locks_at p (records_of l)) → IsSeen l p
 among-seen l p lock found =
     elim (seen_cases l p) [
       | inl seen ↦ seen
-      | inr none ↦ let nothing : IsAmong lock [] = rw none at found in absurd nothing
+      | inr none ↦ let nothing : IsIn lock [] = rw none at found in absurd nothing
     ]
 
 pub Stores-listed : (l : Layout) (at : ℕ) (row : Row) → Stores (records_of l) at row → (p : Place) × (IsIn at (l.keys p) × (l.rows at ≡ row))
 Stores-listed l at row stored = (stored.0, locks_at-among l stored.0 (record { at = at; row = row }) stored.1)
 
 -- a place where a lock stands is there
-pub HasPlace-among : (s : Records) (p : Place) (lock : StoredLock) → IsAmong lock (locks_at p s) → HasPlace p s
+pub HasPlace-among : (s : Records) (p : Place) (lock : StoredLock) → IsIn lock (locks_at p s) → HasPlace p s
 HasPlace-among s Loose lock among = tt
 HasPlace-among s (Queued res queue) lock among = of_found (resource_at res s.resources) among
   where
-    of_found : (found : Option StoredResource) → IsAmong lock (option_map_or (queued queue) found []) → IsSome found
+    of_found : (found : Option StoredResource) → IsIn lock (option_map_or (queued queue) found []) → IsSome found
     of_found None among = absurd among
     of_found (Some r) among = refl
 
@@ -273,17 +238,11 @@ pub listed-Stores : (l : Layout) (p : Place) (at : ℕ) → IsSeen l p → IsIn 
 listed-Stores l p at seen found = (p, rw (locks_at-seen l p seen) (among-keyed l.rows (l.keys p) at found))
 
 -- the resources that a caller sees
-pub resource_among : (l : Layout) (rs : List ℕ) (r : StoredResource) → IsResourceAmong r (map (resource_of l) rs) → IsIn r.at rs × (resource_of l r.at ≡ r)
-resource_among l [] r found = absurd found
-resource_among l (x ∷ rs) r found =
-    elim found [
-      | inl here ↦ (inl (ap (λ (y : StoredResource). y.at) here), ap (resource_of l) (sym (ap (λ (y : StoredResource). y.at) here)) ∙ here)
-      | inr there ↦ let more = resource_among l rs r there in (inr more.0, more.1)
-    ]
+pub resource_among : (l : Layout) (rs : List ℕ) (r : StoredResource) → IsIn r (map (resource_of l) rs) → IsIn r.at rs × (resource_of l r.at ≡ r)
+resource_among l rs r = IsIn-told (resource_of l) (λ (x : StoredResource). x.at) (λ x. refl) rs r
 
-pub among_resource : (l : Layout) (rs : List ℕ) (res : ℕ) → IsIn res rs → IsResourceAmong (resource_of l res) (map (resource_of l) rs)
-among_resource l [] res found = absurd found
-among_resource l (x ∷ rs) res found = elim found [ inl here ↦ inl (ap (resource_of l) here) | inr there ↦ inr (among_resource l rs res there) ]
+pub among_resource : (l : Layout) (rs : List ℕ) (res : ℕ) → IsIn res rs → IsIn (resource_of l res) (map (resource_of l) rs)
+among_resource l = IsIn-image (resource_of l)
 
 resources_apart : (l : Layout) (rs : List ℕ) → IsApart rs → AreResourcesApart (map (resource_of l) rs)
 resources_apart l [] apart = tt
@@ -295,8 +254,8 @@ resources_apart l (r ∷ rs) apart = (
 -- what a caller sees is sound
 pub IsSound-records_of : (l : Layout) → IsApart l.order → ((p : Place) → IsApart (l.keys p)) → ((at : ℕ) (p q : Place) → IsIn at (l.keys p) → IsIn at (l.keys q) → p ≡ q)
     → ((a b : ℕ) (x y : Row) → Stores (records_of l) a x → Stores (records_of l) b y → x.lkid ≡ y.lkid → a ≡ b)
-    → ((a b : StoredResource) → IsResourceAmong a (records_of l).resources → IsResourceAmong b (records_of l).resources → a.key ≡ b.key → a.at ≡ b.at)
-    → AreProcessesApart l.processes → AreOwned (records_of l) → ((p : StoredProcess) → IsProcessAmong p l.processes → AreOwnApart p.own) → IsSound (records_of l)
+    → ((a b : StoredResource) → IsIn a (records_of l).resources → IsIn b (records_of l).resources → a.key ≡ b.key → a.at ≡ b.at)
+    → AreProcessesApart l.processes → AreOwned (records_of l) → ((p : StoredProcess) → IsIn p l.processes → AreOwnApart p.own) → IsSound (records_of l)
 unfolding records_of
 IsSound-records_of l order_apart places_apart one_place lkids_apart keys_apart processes_apart owned own_apart = record {
   resources_apart = resources_apart l l.order order_apart;
@@ -315,6 +274,15 @@ IsSound-records_of l order_apart places_apart one_place lkids_apart keys_apart p
 
 -- ---- resources change
 
+-- no lock moves, and no row is written
+module _ (old new : Layout) (rows : (k : ℕ) → new.rows k ≡ old.rows k) (keys : (p : Place) → new.keys p ≡ old.keys p) where
+  list_same : (p : Place) → map (keyed new.rows) (new.keys p) ≡ map (keyed old.rows) (old.keys p)
+  list_same p = ap (map (keyed new.rows)) (keys p) ∙ keyed-kept old.rows new.rows (old.keys p) (λ k _. rows k)
+
+  -- the other resources stay
+  other : (res : ℕ) → ((r : ℕ) → r ≢ res → new.faces r ≡ old.faces r) → (r : ℕ) → r ≢ res → resource_of new r ≡ resource_of old r
+  other res faces r differs = rw (faces r differs, list_same (Queued r Granted), list_same (Queued r Conversion), list_same (Queued r Waiting)) refl
+
 -- a resource is made, with empty queues
 pub resource_made : (old new : Layout) (res : ℕ) (made : StoredResource) → ((k : ℕ) → new.rows k ≡ old.rows k) → ((p : Place) → new.keys p ≡ old.keys p) → ((r : ℕ) → r ≢ res → new.faces r ≡ old.faces r)
     → ¬ IsIn res old.order → new.order ≡ old.order ++ res ∷ [] → resource_of new res ≡ made → new.processes ≡ old.processes
@@ -322,19 +290,13 @@ pub resource_made : (old new : Layout) (res : ℕ) (made : StoredResource) → (
 unfolding records_of
 resource_made old new res made rows keys faces absent order is processes =
     ap (λ x. record { resources = x; loose = map (keyed new.rows) (new.keys Loose); processes = new.processes; room = new.room }) (ap (map (resource_of new)) order ∙ resources old.order absent)
-    ∙ ap (λ x. record { resources = map (resource_of old) old.order ++ made ∷ []; loose = x; processes = new.processes; room = new.room }) (list_same Loose)
+    ∙ ap (λ x. record { resources = map (resource_of old) old.order ++ made ∷ []; loose = x; processes = new.processes; room = new.room }) (list_same old new rows keys Loose)
     ∙ ap (λ x. record { resources = map (resource_of old) old.order ++ made ∷ []; loose = map (keyed old.rows) (old.keys Loose); processes = x; room = new.room }) processes
   where
-    list_same : (p : Place) → map (keyed new.rows) (new.keys p) ≡ map (keyed old.rows) (old.keys p)
-    list_same p = ap (map (keyed new.rows)) (keys p) ∙ keyed-kept old.rows new.rows (old.keys p) (λ k _. rows k)
-
-    other : (r : ℕ) → r ≢ res → resource_of new r ≡ resource_of old r
-    other r differs = rw (faces r differs, list_same (Queued r Granted), list_same (Queued r Conversion), list_same (Queued r Waiting)) refl
-
     resources : (rs : List ℕ) → ¬ IsIn res rs → map (resource_of new) (rs ++ res ∷ []) ≡ map (resource_of old) rs ++ made ∷ []
     resources [] absent = ap (λ x. x ∷ []) is
     resources (r ∷ rs) absent =
-        ap (λ x. x ∷ map (resource_of new) (rs ++ res ∷ [])) (other r (λ same. absent (inl same))) ∙ ap (λ rest. resource_of old r ∷ rest) (resources rs (λ there. absent (inr there)))
+        ap (λ x. x ∷ map (resource_of new) (rs ++ res ∷ [])) (other old new rows keys res faces r (λ same. absent (inl same))) ∙ ap (λ rest. resource_of old r ∷ rest) (resources rs (λ there. absent (inr there)))
 
 -- a resource is removed
 pub resource_removed : (old new : Layout) (res : ℕ) → ((k : ℕ) → new.rows k ≡ old.rows k) → ((p : Place) → new.keys p ≡ old.keys p) → ((r : ℕ) → r ≢ res → new.faces r ≡ old.faces r)
@@ -343,15 +305,9 @@ pub resource_removed : (old new : Layout) (res : ℕ) → ((k : ℕ) → new.row
 unfolding records_of
 resource_removed old new res rows keys faces order processes =
     ap (λ x. record { resources = x; loose = map (keyed new.rows) (new.keys Loose); processes = new.processes; room = new.room }) (ap (map (resource_of new)) order ∙ resources old.order)
-    ∙ ap (λ x. record { resources = without_resource res (map (resource_of old) old.order); loose = x; processes = new.processes; room = new.room }) (list_same Loose)
+    ∙ ap (λ x. record { resources = without_resource res (map (resource_of old) old.order); loose = x; processes = new.processes; room = new.room }) (list_same old new rows keys Loose)
     ∙ ap (λ x. record { resources = without_resource res (map (resource_of old) old.order); loose = map (keyed old.rows) (old.keys Loose); processes = x; room = new.room }) processes
   where
-    list_same : (p : Place) → map (keyed new.rows) (new.keys p) ≡ map (keyed old.rows) (old.keys p)
-    list_same p = ap (map (keyed new.rows)) (keys p) ∙ keyed-kept old.rows new.rows (old.keys p) (λ k _. rows k)
-
-    other : (r : ℕ) → r ≢ res → resource_of new r ≡ resource_of old r
-    other r differs = rw (faces r differs, list_same (Queued r Granted), list_same (Queued r Conversion), list_same (Queued r Waiting)) refl
-
     resources : (rs : List ℕ) → map (resource_of new) (without res rs) ≡ without_resource res (map (resource_of old) rs)
     resources [] = refl
     resources (r ∷ rs) =
@@ -359,7 +315,7 @@ resource_removed old new res rows keys faces order processes =
           | inl same ↦ ap (map (resource_of new)) (without_head res r rs same) ∙ resources rs ∙ rw (eq-eqb r res same) refl
           | inr differs ↦
               ap (map (resource_of new)) (without_past res r rs differs)
-              ∙ rw (ne_eqb r res differs) (ap (λ x. x ∷ map (resource_of new) (without res rs)) (other r differs) ∙ ap (λ rest. resource_of old r ∷ rest) (resources rs))
+              ∙ rw (ne_eqb r res differs) (ap (λ x. x ∷ map (resource_of new) (without res rs)) (other old new rows keys res faces r differs) ∙ ap (λ rest. resource_of old r ∷ rest) (resources rs))
         ]
 
 -- the face of one resource is written
@@ -370,25 +326,19 @@ pub resource_written : (old new : Layout) (res : ℕ) (change : StoredResource �
 unfolding records_of
 resource_written old new res change rows keys faces order is processes room =
     ap (λ x. record { resources = x; loose = map (keyed new.rows) (new.keys Loose); processes = new.processes; room = new.room }) (ap (map (resource_of new)) order ∙ resources old.order)
-    ∙ ap (λ x. record { resources = on_resource res change (map (resource_of old) old.order); loose = x; processes = new.processes; room = new.room }) (list_same Loose)
+    ∙ ap (λ x. record { resources = on_resource res change (map (resource_of old) old.order); loose = x; processes = new.processes; room = new.room }) (list_same old new rows keys Loose)
     ∙ ap (λ x. record { resources = on_resource res change (map (resource_of old) old.order); loose = map (keyed old.rows) (old.keys Loose); processes = x; room = new.room }) processes
     ∙ ap (λ x. record { resources = on_resource res change (map (resource_of old) old.order); loose = map (keyed old.rows) (old.keys Loose); processes = old.processes; room = x }) room
   where
-    list_same : (p : Place) → map (keyed new.rows) (new.keys p) ≡ map (keyed old.rows) (old.keys p)
-    list_same p = ap (map (keyed new.rows)) (keys p) ∙ keyed-kept old.rows new.rows (old.keys p) (λ k _. rows k)
-
-    other : (r : ℕ) → r ≢ res → resource_of new r ≡ resource_of old r
-    other r differs = rw (faces r differs, list_same (Queued r Granted), list_same (Queued r Conversion), list_same (Queued r Waiting)) refl
-
     resources : (rs : List ℕ) → map (resource_of new) rs ≡ on_resource res change (map (resource_of old) rs)
     resources [] = refl
     resources (r ∷ rs) =
         elim (cases_eq r res) [
           | inl same ↦
-              let head : resource_of new r ≡ change (resource_of old r) = subst (λ x. resource_of new x ≡ change (resource_of old x)) (sym same) (is list_same) in
+              let head : resource_of new r ≡ change (resource_of old r) = subst (λ x. resource_of new x ≡ change (resource_of old x)) (sym same) (is (list_same old new rows keys)) in
               rw (eq-eqb r res same) (ap (λ x. x ∷ map (resource_of new) rs) head ∙ ap (λ rest. change (resource_of old r) ∷ rest) (resources rs))
           | inr differs ↦
-              rw (ne_eqb r res differs) (ap (λ x. x ∷ map (resource_of new) rs) (other r differs) ∙ ap (λ rest. resource_of old r ∷ rest) (resources rs))
+              rw (ne_eqb r res differs) (ap (λ x. x ∷ map (resource_of new) rs) (other old new rows keys res faces r differs) ∙ ap (λ rest. resource_of old r ∷ rest) (resources rs))
         ]
 
 -- the first resource, and the one made after another
@@ -411,8 +361,3 @@ first_resource-is l = first_resource-order l l.order
 pub resource_after-is : (l : Layout) (res : ℕ) → resource_at_after res (records_of l).resources ≡ key_after res l.order
 unfolding records_of
 resource_after-is l res = resource_after-order l res l.order
-
--- the room that a caller sees
-pub records_room : (l : Layout) → (records_of l).room ≡ l.room
-unfolding records_of
-records_room l = refl

@@ -16,6 +16,7 @@ pub mod Order
 pub mod OwnLocks
 pub mod Places
 pub mod Plain
+pub mod Records
 pub mod Rewriting
 pub mod RoomShown
 pub mod Rooms

@@ -12,7 +12,7 @@ use Rattle.vlm_words.specs.declared.locks.Row.{Row}
 use Rattle.vlm_store.specs.declared.locks.Lock.{Lock}
 use Rattle.vlm_store.specs.declared.processes.Process.{Process}
 use Rattle.vlm_store.specs.declared.store.Store.TheInside.{Inside}
-use Rattle.vlm_store.specs.Records.{AreOwnApart, AreOwned, AreProcessesApart, FindsProcess, HasNoSublocks, HasProcess, IsOwnAmong, IsProcess, IsProcessAmong, IsSound, OwnLock, StoredProcess, Stores, own_at, process_at}
+use Rattle.vlm_store.specs.Records.{AreOwnApart, AreOwned, AreProcessesApart, FindsProcess, HasNoSublocks, HasProcess, IsProcess, IsSound, OwnLock, StoredProcess, Stores, own_at, process_at}
 use Rattle.vlm_store.specs.Kept.{IsKept, beside_shown, processes_shown, records_shown}
 use Rattle.vlm_store.specs.Shown.{lkid_of, row_in, rows}
 use Rattle.vlm_store.specs.Holdings.{Holding, NamesParent, OwnerFits, ParentFits, below_keys, holding, own_keys, own_of, owner_in, parent_in, pid_at, pid_of, plain_in, process_links, process_of, processes_of}
@@ -74,11 +74,11 @@ module _ (s : Inside) (kept : IsKept s) where
   pub own_is : (at : ℕ) → HasProcess at (records_shown s) → own_at at (records_shown s) ≡ map (own_of held) (own_keys s.processes s.queues.locks at)
   own_is at has = ap (λ o. option_map_or (λ (p : StoredProcess). p.own) o []) (process_is at has)
 
-  pub among_shown : (at : ℕ) → IsIn at (keys_of process_links s.processes s.process_order) → IsProcessAmong (process_of held at) (records_shown s).processes
-  among_shown at found = subst (IsProcessAmong (process_of held at)) (sym shown) (process_seen held at found)
+  pub among_shown : (at : ℕ) → IsIn at (keys_of process_links s.processes s.process_order) → IsIn (process_of held at) (records_shown s).processes
+  among_shown at found = subst (IsIn (process_of held at)) (sym shown) (process_seen held at found)
 
-  pub shown_among : (p : StoredProcess) → IsProcessAmong p (records_shown s).processes → IsIn p.at (keys_of process_links s.processes s.process_order) × (process_of held p.at ≡ p)
-  shown_among p among = seen_process held p (subst (IsProcessAmong p) shown among)
+  pub shown_among : (p : StoredProcess) → IsIn p (records_shown s).processes → IsIn p.at (keys_of process_links s.processes s.process_order) × (process_of held p.at ≡ p)
+  shown_among p among = seen_process held p (subst (IsIn p) shown among)
 
   pub lock_there : (at : ℕ) (row : Row) → Stores (records_shown s) at row → ContainsKey s.queues.locks at × (at ≤ LAST_KEY) × (rows s.queues at ≡ row)
   lock_there = stored_there s.queues s.order (beside_shown s) kept.placed
@@ -94,15 +94,15 @@ module _ (s : Inside) (kept : IsKept s) where
       (process_of held l.owner, (among_shown l.owner (kept.processes_ordered l.owner there.0), refl, there.1))
 
   -- the locks of a process that a caller sees
-  pub own_among_shown : (p : StoredProcess) (own : OwnLock) → IsProcessAmong p (records_shown s).processes → IsOwnAmong own p.own
+  pub own_among_shown : (p : StoredProcess) (own : OwnLock) → IsIn p (records_shown s).processes → IsIn own p.own
       → (IsIn own.at (own_keys s.processes s.queues.locks p.at) × (below_keys s.queues.locks own.at ≡ own.sublocks)) × (p.own ≡ map (own_of held) (own_keys s.processes s.queues.locks p.at))
   own_among_shown p own among has =
       let is : map (own_of held) (own_keys s.processes s.queues.locks p.at) ≡ p.own = ap (λ (x : StoredProcess). x.own) (shown_among p among).1 in
-      (own_among held (own_keys s.processes s.queues.locks p.at) own (subst (IsOwnAmong own) (sym is) has), sym is)
+      (own_among held (own_keys s.processes s.queues.locks p.at) own (subst (IsIn own) (sym is) has), sym is)
 
   -- a stored lock is among those of the process that its row names
   is_owned : (at : ℕ) (row : Row) → Stores (records_shown s) at row
-      → (p : StoredProcess) × (own : OwnLock) × (IsProcessAmong p (records_shown s).processes × (p.process.pid ≡ row.pid) × IsOwnAmong own p.own × (own.at ≡ at))
+      → (p : StoredProcess) × (own : OwnLock) × (IsIn p (records_shown s).processes × (p.process.pid ≡ row.pid) × IsIn own p.own × (own.at ≡ at))
   is_owned at row stored =
       let there = lock_there at row stored in
       let l = there_is (get s.queues.locks at) there.0 in
@@ -188,7 +188,7 @@ module _ (s : Inside) (kept : IsKept s) where
   }
 
   -- no two of the locks of a process have one key
-  pub own_apart : (p : StoredProcess) → IsProcessAmong p (processes_shown s) → AreOwnApart p.own
+  pub own_apart : (p : StoredProcess) → IsIn p (processes_shown s) → AreOwnApart p.own
   own_apart p among =
       let seen = seen_process held p among in
       subst AreOwnApart (ap (λ (x : StoredProcess). x.own) seen.1) (apart (own_keys s.processes s.queues.locks p.at) (kept.owned.linked p.at).apart)

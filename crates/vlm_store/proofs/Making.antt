@@ -7,7 +7,8 @@ use Rattle.slab.specs.Slab.{Slab, get, ContainsKey, Updates, with_value}
 use Rattle.slab.proofs.SlabLemmas.{Updates-with_value}
 use Rattle.vlm_links.specs.declared.link.Links.{Links}
 use Rattle.vlm_links.specs.declared.lists.LinkedList.{LinkedList}
-use Rattle.vlm_links.specs.Lists.{IsIn, IsLinked, IsNoList, IsRelinked, Relinks, keys_of, without}
+use Rattle.vlm_links.specs.Lists.{IsIn, IsLinked, IsNoList, Relinks, keys_of, without}
+use Rattle.vlm_links.proofs.Keeping.{relinked_same}
 use Rattle.vlm_links.proofs.KeyLists.{IsIn-push_kept, IsIn-push_last, IsIn-without_kept}
 use Rattle.vlm_words.specs.declared.locks.Row.{Row}
 use Rattle.vlm_words.specs.declared.modes.Mode.{Mode}
@@ -25,17 +26,21 @@ use Rattle.vlm_tallies.specs.Tallies.{count_of, held_of, held_weight, no_tally, 
 use Rattle.vlm_store.proofs.Counting.{shares_same}
 use Rattle.vlm_store.proofs.Places.{kept_keys, kept_placed, no_list_is}
 
--- what a record shows that is none of its links
-pub relinked_same : {T X : Type 0} (with_links : T → Links → T) (shown : Option T → X) → ((r : T) (pair : Links) → shown (Some (with_links r pair)) ≡ shown (Some r))
-    → (old new : Slab T) → Relinks with_links old new → (k : ℕ) → shown (get new k) ≡ shown (get old k)
-relinked_same {T} {X} with_links shown apart old new relinks k = slot_same (get old k) (get new k) (relinks.records k)
-  where
-    slot_same : (was now : Option T) → IsRelinked with_links was now → shown now ≡ shown was
-    slot_same None now is = ap shown is
-    slot_same (Some r) now is = ap shown is.1 ∙ apart r is.0
+-- what is read off each record stays where it stays of the one that comes, goes or is written
+but_one : {T X : Type 0} (read : Option T → X) (old new : Slab T) (at : ℕ) → read (get new at) ≡ read (get old at) → ((k : ℕ) → k ≢ at → read (get new k) ≡ read (get old k))
+    → (k : ℕ) → read (get new k) ≡ read (get old k)
+but_one read old new at here others k =
+    elim (cases_eq k at) [
+      | inl same ↦ ap (λ x. read (get new x)) same ∙ here ∙ sym (ap (λ x. read (get old x)) same)
+      | inr differs ↦ others k differs
+    ]
+
+-- the list of each place stays as resources change
+abbrev pub ListsStay : Queues → Slab Resource → Type 0
+ListsStay q resources = (p : Place) → list_at (record q { resources = resources }) p ≡ list_at q p
 
 -- the locks stay where the lists of the resources do
-module _ (q : Queues) (resources : Slab Resource) (placed : IsPlaced q None) (lists : (p : Place) → list_at (record q { resources = resources }) p ≡ list_at q p) where
+module _ (q : Queues) (resources : Slab Resource) (placed : IsPlaced q None) (lists : ListsStay q resources) where
   pub resources_keys : (p : Place) → keys_at (record q { resources = resources }) p ≡ keys_at q p
   resources_keys = kept_keys q None placed (record q { resources = resources }) lists (λ k. refl) (λ k. refl) (λ k here. here)
 
@@ -63,26 +68,20 @@ module _ (q : Queues) (r1 r2 : Slab Resource) (at : ℕ) (made : Resource) (upda
     made_list Conversion = no_list_is made.converting converting
     made_list Waiting = no_list_is made.waiting waiting
 
-    pub added_lists : (p : Place) → list_at (record q { resources = r2 }) p ≡ list_at q p
+    pub added_lists : ListsStay q r2
     added_lists Loose = refl
     added_lists (Queued r queue) =
         relinked_same with_order_links (list_in queue) (list_stays queue) r1 r2 relinks r
-        ∙ elim (cases_eq r at) [
-          | inl same ↦ ap (λ x. list_in queue (get r1 x)) same ∙ ap (list_in queue) updates.changed ∙ made_list queue ∙ sym (ap (λ x. list_in queue (get q.resources x)) same ∙ ap (list_in queue) fresh)
-          | inr differs ↦ ap (list_in queue) (updates.others r differs)
-        ]
+        ∙ but_one (list_in queue) q.resources r1 at (ap (list_in queue) updates.changed ∙ made_list queue ∙ sym (ap (list_in queue) fresh)) (λ k differs. ap (list_in queue) (updates.others k differs)) r
 
   pub added_tallies : made.tally ≡ no_tally → (r : ℕ) → tally_in (get r2 r) ≡ tally_in (get q.resources r)
   added_tallies none r =
       relinked_same with_order_links tally_in (λ x pair. refl) r1 r2 relinks r
-      ∙ elim (cases_eq r at) [
-        | inl same ↦ ap (λ x. tally_in (get r1 x)) same ∙ ap tally_in updates.changed ∙ none ∙ sym (ap (λ x. tally_in (get q.resources x)) same ∙ ap tally_in fresh)
-        | inr differs ↦ ap tally_in (updates.others r differs)
-      ]
+      ∙ but_one tally_in q.resources r1 at (ap tally_in updates.changed ∙ none ∙ sym (ap tally_in fresh)) (λ k differs. ap tally_in (updates.others k differs)) r
 
 -- room is made for resources
 module _ (q : Queues) (resources : Slab Resource) (same : (r : ℕ) → get resources r ≡ get q.resources r) where
-  pub reserved_lists : (p : Place) → list_at (record q { resources = resources }) p ≡ list_at q p
+  pub reserved_lists : ListsStay q resources
   reserved_lists Loose = refl
   reserved_lists (Queued r queue) = ap (list_in queue) (same r)
 
@@ -133,24 +132,18 @@ whole_left {T} links old new order order' at ordered left gone was r there =
 
 -- what stands besides lists and counts is written in one resource
 module _ (q : Queues) (res : ℕ) (was now : Resource) (there : ContainsKey q.resources res) (here : get q.resources res ≡ Some was) where
-  pub written_lists : ((queue : Queue) → list_in queue (Some now) ≡ list_in queue (Some was)) → (p : Place) → list_at (record q { resources = with_value q.resources res now }) p ≡ list_at q p
+  written : Updates q.resources (with_value q.resources res now) res (Some now)
+  written = Updates-with_value q.resources res now there
+
+  pub written_lists : ((queue : Queue) → list_in queue (Some now) ≡ list_in queue (Some was)) → ListsStay q (with_value q.resources res now)
   written_lists lists Loose = refl
   written_lists lists (Queued r queue) =
-      let updates = Updates-with_value q.resources res now there in
-      elim (cases_eq r res) [
-        | inl same ↦
-            ap (λ x. list_in queue (get (with_value q.resources res now) x)) same ∙ ap (list_in queue) updates.changed ∙ lists queue
-            ∙ sym (ap (λ x. list_in queue (get q.resources x)) same ∙ ap (list_in queue) here)
-        | inr differs ↦ ap (list_in queue) (updates.others r differs)
-      ]
+      but_one (list_in queue) q.resources (with_value q.resources res now) res (ap (list_in queue) written.changed ∙ lists queue ∙ sym (ap (list_in queue) here))
+      (λ k differs. ap (list_in queue) (written.others k differs)) r
 
   pub written_tallies : now.tally ≡ was.tally → (r : ℕ) → tally_in (get (with_value q.resources res now) r) ≡ tally_in (get q.resources r)
-  written_tallies tally r =
-      let updates = Updates-with_value q.resources res now there in
-      elim (cases_eq r res) [
-        | inl same ↦ ap (λ x. tally_in (get (with_value q.resources res now) x)) same ∙ ap tally_in updates.changed ∙ tally ∙ sym (ap (λ x. tally_in (get q.resources x)) same ∙ ap tally_in here)
-        | inr differs ↦ ap tally_in (updates.others r differs)
-      ]
+  written_tallies tally =
+      but_one tally_in q.resources (with_value q.resources res now) res (ap tally_in written.changed ∙ tally ∙ sym (ap tally_in here)) (λ k differs. ap tally_in (written.others k differs))
 
 pub block_list : (r : Resource) (value_block : ValueBlock) (queue : Queue) → list_in queue (Some (record r { value_block = value_block })) ≡ list_in queue (Some r)
 block_list r value_block Granted = refl
@@ -174,15 +167,12 @@ no_count Ex = refl
 -- an idle resource goes
 module _ (q : Queues) (r1 r2 : Slab Resource) (at : ℕ) (relinks : Relinks with_order_links q.resources r1) (updates : Updates r1 r2 at None) (placed : IsPlaced q None)
     (idle : (queue : Queue) → keys_at q (Queued at queue) ≡ []) where
-  pub removed_lists : (p : Place) → list_at (record q { resources = r2 }) p ≡ list_at q p
+  pub removed_lists : ListsStay q r2
   removed_lists Loose = refl
   removed_lists (Queued r queue) =
-      elim (cases_eq r at) [
-        | inl same ↦
-            ap (λ x. list_in queue (get r2 x)) same ∙ ap (list_in queue) updates.changed
-            ∙ sym (ap (λ x. list_in queue (get q.resources x)) same ∙ no_list_has queue_links q.locks (list_at q (Queued at queue)) (placed.linked (Queued at queue)) (idle queue))
-        | inr differs ↦ ap (list_in queue) (updates.others r differs) ∙ relinked_same with_order_links (list_in queue) (list_stays queue) q.resources r1 relinks r
-      ]
+      but_one (list_in queue) q.resources r2 at
+      (ap (list_in queue) updates.changed ∙ sym (no_list_has queue_links q.locks (list_at q (Queued at queue)) (placed.linked (Queued at queue)) (idle queue)))
+      (λ k differs. ap (list_in queue) (updates.others k differs) ∙ relinked_same with_order_links (list_in queue) (list_stays queue) q.resources r1 relinks k) r
 
   no_share : (weight : Queue → Row → ℕ) → shares q weight None at ≡ 0
   no_share weight = omega (arith, ap (total (weight Granted) (rows q)) (idle Granted), ap (total (weight Conversion) (rows q)) (idle Conversion), ap (total (weight Waiting) (rows q)) (idle Waiting))

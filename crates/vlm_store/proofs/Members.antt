@@ -4,9 +4,10 @@ use Rattle.std.specs.Prelude.{◌==◌, if◌then◌else◌}
 use Rattle.std.proofs.lemmas.Bool.{cases_eq}
 use Rattle.std.proofs.lemmas.Option.{same_Some}
 use Rattle.vlm_links.specs.Lists.{IsApart, IsIn, without}
+use Rattle.vlm_links.proofs.Images.{IsIn-image, IsIn-told}
 use Rattle.vlm_links.proofs.KeyLists.{without_head, without_past}
 use Rattle.vlm_words.specs.State.{Process}
-use Rattle.vlm_store.specs.Records.{AreProcessesApart, IsOwnAmong, IsProcessAmong, OwnLock, StoredProcess, changed_process, new_own, on_process, process_at, process_with_lock, process_without_lock, with_sublock, without_process, without_sublock}
+use Rattle.vlm_store.specs.Records.{AreProcessesApart, OwnLock, StoredProcess, changed_process, new_own, on_process, process_at, process_with_lock, process_without_lock, with_sublock, without_process, without_sublock}
 use Rattle.vlm_store.specs.Holdings.{Holding, own_of, process_of, processes_of}
 
 -- ---- what is seen
@@ -37,38 +38,26 @@ unfolding processes_of
 HasProcess-order h at found = process_there h at h.order found
 
 -- the processes that a caller sees
-process_among : (h : Holding) (ps : List ℕ) (p : StoredProcess) → IsProcessAmong p (map (process_of h) ps) → IsIn p.at ps × (process_of h p.at ≡ p)
-process_among h [] p found = absurd found
-process_among h (x ∷ ps) p found =
-    elim found [
-      | inl here ↦ (inl (ap (λ (y : StoredProcess). y.at) here), ap (process_of h) (sym (ap (λ (y : StoredProcess). y.at) here)) ∙ here)
-      | inr there ↦ let more = process_among h ps p there in (inr more.0, more.1)
-    ]
+process_among : (h : Holding) (ps : List ℕ) (p : StoredProcess) → IsIn p (map (process_of h) ps) → IsIn p.at ps × (process_of h p.at ≡ p)
+process_among h = IsIn-told (process_of h) (λ (x : StoredProcess). x.at) (λ p. refl)
 
-among_process : (h : Holding) (ps : List ℕ) (at : ℕ) → IsIn at ps → IsProcessAmong (process_of h at) (map (process_of h) ps)
-among_process h [] at found = absurd found
-among_process h (x ∷ ps) at found = elim found [ inl here ↦ inl (ap (process_of h) here) | inr there ↦ inr (among_process h ps at there) ]
+among_process : (h : Holding) (ps : List ℕ) (at : ℕ) → IsIn at ps → IsIn (process_of h at) (map (process_of h) ps)
+among_process h = IsIn-image (process_of h)
 
-pub seen_process : (h : Holding) (p : StoredProcess) → IsProcessAmong p (processes_of h) → IsIn p.at h.order × (process_of h p.at ≡ p)
+pub seen_process : (h : Holding) (p : StoredProcess) → IsIn p (processes_of h) → IsIn p.at h.order × (process_of h p.at ≡ p)
 unfolding processes_of
 seen_process h p found = process_among h h.order p found
 
-pub process_seen : (h : Holding) (at : ℕ) → IsIn at h.order → IsProcessAmong (process_of h at) (processes_of h)
+pub process_seen : (h : Holding) (at : ℕ) → IsIn at h.order → IsIn (process_of h at) (processes_of h)
 unfolding processes_of
 process_seen h at found = among_process h h.order at found
 
 -- the locks of a process that a caller sees
-pub own_among : (h : Holding) (ks : List ℕ) (own : OwnLock) → IsOwnAmong own (map (own_of h) ks) → IsIn own.at ks × (h.below own.at ≡ own.sublocks)
-own_among h [] own found = absurd found
-own_among h (k ∷ ks) own found =
-    elim found [
-      | inl here ↦ (inl (ap (λ (y : OwnLock). y.at) here), ap h.below (sym (ap (λ (y : OwnLock). y.at) here)) ∙ ap (λ (y : OwnLock). y.sublocks) here)
-      | inr there ↦ let more = own_among h ks own there in (inr more.0, more.1)
-    ]
+pub own_among : (h : Holding) (ks : List ℕ) (own : OwnLock) → IsIn own (map (own_of h) ks) → IsIn own.at ks × (h.below own.at ≡ own.sublocks)
+own_among h ks own found = let of = IsIn-told (own_of h) (λ (x : OwnLock). x.at) (λ k. refl) ks own found in (of.0, ap (λ (x : OwnLock). x.sublocks) of.1)
 
-pub among_own : (h : Holding) (ks : List ℕ) (at : ℕ) → IsIn at ks → IsOwnAmong (own_of h at) (map (own_of h) ks)
-among_own h [] at found = absurd found
-among_own h (k ∷ ks) at found = elim found [ inl here ↦ inl (ap (own_of h) here) | inr there ↦ inr (among_own h ks at there) ]
+pub among_own : (h : Holding) (ks : List ℕ) (at : ℕ) → IsIn at ks → IsIn (own_of h at) (map (own_of h) ks)
+among_own h = IsIn-image (own_of h)
 
 -- keys and identifications are apart
 processes_apart : (h : Holding) (ps : List ℕ) → IsApart ps → ((a b : ℕ) → IsIn a ps → IsIn b ps → (h.plain a).pid ≡ (h.plain b).pid → a ≡ b) → AreProcessesApart (map (process_of h) ps)

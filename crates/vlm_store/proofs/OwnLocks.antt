@@ -7,16 +7,15 @@ use Rattle.slab.specs.Slab.{Slab, get, ContainsKey, with_value}
 use Rattle.slab.proofs.SlabLemmas.{Updates-with_value}
 use Rattle.vlm_links.specs.declared.lists.LinkedList.{LinkedList}
 use Rattle.vlm_links.specs.Lists.{IsIn, IsLinked, Relinks, keys_of, next_in, prev_in, without}
-use Rattle.vlm_links.proofs.Keeping.{shown_same}
+use Rattle.vlm_links.proofs.Keeping.{relinked_same}
 use Rattle.vlm_store.specs.declared.locks.Lock.{Lock}
 use Rattle.vlm_store.specs.declared.locks.OfParent.{OfParent}
 use Rattle.vlm_store.specs.declared.locks.OfProcess.{OfProcess}
 use Rattle.vlm_store.specs.declared.processes.Process.{Process}
 use Rattle.vlm_store.specs.Shown.{SameBut}
-use Rattle.vlm_store.specs.Holdings.{IsBelow, IsOwned, below_in, below_keys, below_links, below_list, but_below, but_own, own_in, own_keys, own_links, own_list, owner_in, parent_in, with_below_links, with_own_links}
-use Rattle.vlm_store.proofs.Families.{family-put, family-put_here, family-put_others, family-taken, family-taken_keys, family-unnoted, family-noted_nowhere}
-use Rattle.vlm_store.proofs.Making.{relinked_same}
-use Rattle.vlm_store.proofs.Places.{same_then, there_through}
+use Rattle.vlm_store.specs.Holdings.{IsBelow, IsOwned, below_in, below_keys, below_links, below_list, but_below, own_in, own_keys, own_links, own_list, owner_in, parent_in, with_below_links, with_own_links}
+use Rattle.vlm_store.proofs.Families.{family-put, family-put_here, family-put_others, family-taken, family-taken_keys, family-unnoted}
+use Rattle.vlm_store.proofs.Places.{there_through}
 
 -- a record that is written shows what it showed
 pub written_same : {T X : Type 0} (s : Slab T) (at : ℕ) (was now : T) (shown : Option T → X) → get s at ≡ Some was → shown (Some now) ≡ shown (Some was)
@@ -61,9 +60,6 @@ module _ (processes : Slab Process) (locks locks1 : Slab Lock) (at owner : ℕ) 
   owners : (k : ℕ) → owner_in (get locks1 k) ≡ owner_in (get locks k)
   owners = relinked_same with_own_links owner_in (λ l pair. refl) locks locks1 relinks
 
-  pub owners_rest : SameBut but_own processes left_processes
-  owners_rest = written_same processes owner was (record was { own = own1 }) (option_map but_own) here refl
-
   module _ (owned : IsOwned processes locks None) (is : owner_in (get locks at) ≡ Some owner) (keys1 : keys_of own_links locks1 own1 ≡ without at (keys_of own_links locks first.own))
       (others1 : (other : ℕ) → ¬ IsIn other (keys_of own_links locks first.own) → get locks1 other ≡ get locks other) where
     left_keys1 : keys_of own_links locks1 own1 ≡ without at (own_keys processes locks owner)
@@ -90,11 +86,6 @@ module _ (processes : Slab Process) (locks locks1 : Slab Lock) (at owner : ℕ) 
     joined_others1 : (other : ℕ) → ¬ IsIn other (own_keys processes locks owner) → other ≢ at → get locks1 other ≡ get locks other
     joined_others1 other absent = others1 other (λ found. absent (subst (λ l. IsIn other (keys_of own_links locks l)) head found))
 
-    pub process_joined_here : own_keys left_processes locks1 owner ≡ own_keys processes locks owner ++ at ∷ []
-    process_joined_here =
-        family-put_here own_links owner_in cases_eq locks locks1 locks1 (own_list processes) (own_list left_processes) own1 at owner (λ k. refl) (λ k. refl) (λ k h. h) linked1 head_here head_elsewhere
-        owned joined_keys1 joined_others1
-
     pub process_joined_others : (p : ℕ) → p ≢ owner → own_keys left_processes locks1 p ≡ own_keys processes locks p
     process_joined_others =
         family-put_others own_links owner_in cases_eq locks locks1 locks1 (own_list processes) (own_list left_processes) own1 at owner (λ k. refl) (λ k. refl) (λ k h. h) linked1 head_here head_elsewhere
@@ -119,9 +110,6 @@ parent_there locks below at parent is = by_slot (get locks parent) refl (below.s
 pub below_none : (locks : Slab Lock) (at : ℕ) → IsBelow locks None → parent_in (get locks at) ≡ None → IsBelow locks (Some at)
 below_none locks at below none = family-unnoted below_links parent_in locks (below_list locks) at below (λ i is. none-some i (sym none ∙ is))
 
-pub below_again : (locks : Slab Lock) (at : ℕ) → IsBelow locks (Some at) → parent_in (get locks at) ≡ None → IsBelow locks None
-below_again locks at below none = family-noted_nowhere below_links parent_in locks (below_list locks) at below (λ i is. none-some i (sym none ∙ is))
-
 module _ (locks locks1 : Slab Lock) (at parent : ℕ) (first was : Lock) (sublocks1 : LinkedList OfParent) (here0 : get locks parent ≡ Some first) (here1 : get locks1 parent ≡ Some was)
     (relinks : Relinks with_below_links locks locks1) (linked1 : IsLinked below_links locks1 sublocks1) where
   -- the locks once the sublocks of one are written
@@ -143,9 +131,6 @@ module _ (locks locks1 : Slab Lock) (at parent : ℕ) (first was : Lock) (subloc
 
   there : (k : ℕ) → ContainsKey locks1 k → ContainsKey left_locks k
   there = there_through but_below locks1 left_locks written_rest
-
-  pub parents_rest : SameBut but_below locks left_locks
-  parents_rest = same_then but_below locks locks1 left_locks (shown_same with_below_links but_below (λ l pair. refl) locks locks1 relinks) written_rest
 
   below_here : below_list left_locks parent ≡ sublocks1
   below_here =

@@ -6,7 +6,7 @@ use Rattle.std.specs.Option.{option_map}
 use Rattle.slab.specs.Slab.{Slab, get, ContainsKey}
 use Rattle.vlm_links.specs.declared.lists.LinkedList.{LinkedList}
 use Rattle.vlm_links.specs.Lists.{IsIn, IsLinked, IsNoList, Relinks, keys_of, next_in, prev_in, without}
-use Rattle.vlm_links.proofs.Keeping.{shown_same}
+use Rattle.vlm_links.proofs.Keeping.{relinked_same}
 use Rattle.vlm_words.specs.declared.resources.Queue.{Queue}
 use Rattle.vlm_words.specs.declared.resources.Queue.TheVariants.{Granted, Conversion, Waiting}
 use Rattle.vlm_store.specs.declared.keys.Place.{Place}
@@ -52,14 +52,6 @@ there_through {T} {X} part old new same key here = sym (is_apart (get new key)) 
     is_apart None = refl
     is_apart (Some r) = refl
 
--- what shows less is the same too
-pub coarser : {T X Y : Type 0} (part : T → X) (less : X → Y) → (old new : Slab T) → SameBut part old new → SameBut (λ r. less (part r)) old new
-coarser {T} {X} {Y} part less old new same key = sym (twice (get new key)) ∙ ap (option_map less) (same key) ∙ twice (get old key)
-  where
-    twice : (slot : Option T) → option_map less (option_map part slot) ≡ option_map (λ r. less (part r)) slot
-    twice None = refl
-    twice (Some r) = refl
-
 pub same_then : {T X : Type 0} (part : T → X) → (a b c : Slab T) → SameBut part a b → SameBut part b c → SameBut part a c
 same_then part a b c first second key = second key ∙ first key
 
@@ -95,10 +87,10 @@ module _ (q : Queues) (out : Option ℕ) (placed : IsPlaced q out) where
       (nexts : (k : ℕ) → next_in queue_links (get q'.locks k) ≡ next_in queue_links (get q.locks k)) (prevs : (k : ℕ) → prev_in queue_links (get q'.locks k) ≡ prev_in queue_links (get q.locks k))
       (there : (k : ℕ) → ContainsKey q.locks k → ContainsKey q'.locks k) where
     pub kept_keys : (p : Place) → keys_at q' p ≡ keys_at q p
-    kept_keys = family-keys queue_links noted_in q.locks (list_at q) out placed q'.locks (list_at q') lists nexts prevs there
+    kept_keys = family-keys queue_links noted_in q.locks (list_at q) out placed q'.locks (list_at q') lists (λ i k _. nexts k) (λ i k _. prevs k) (λ i k _. there k)
 
     pub kept_placed : ((k : ℕ) → noted q' k ≡ noted q k) → IsPlaced q' out
-    kept_placed = family-kept queue_links noted_in q.locks (list_at q) out placed q'.locks (list_at q') lists nexts prevs there
+    kept_placed = family-kept queue_links noted_in q.locks (list_at q) out placed q'.locks (list_at q') lists (λ i k _. nexts k) (λ i k _. prevs k) (λ i k _. there k)
 
 -- the heads of the lists are those of the fields
 pub lists_same : (q q' : Queues) → q'.resources ≡ q.resources → q'.loose ≡ q.loose → (p : Place) → list_at q' p ≡ list_at q p
@@ -113,7 +105,7 @@ noted_by (Some l) None same = same
 noted_by (Some l) (Some l') same = same
 
 noted_relinked : (old new : Slab Lock) → Relinks with_queue_links old new → (k : ℕ) → noted_in (get new k) ≡ noted_in (get old k)
-noted_relinked old new relinks k = noted_by (get new k) (get old k) (shown_same with_queue_links (λ l. l.place) (λ l pair. refl) old new relinks k)
+noted_relinked old new relinks k = noted_by (get new k) (get old k) (relinked_same with_queue_links (option_map (λ (l : Lock). l.place)) (λ l pair. refl) old new relinks k)
 
 -- a lock is taken off
 module _ (q q' : Queues) (locks1 : Slab Lock) (list1 : LinkedList InQueue) (at : ℕ) (place : Place) (placed : IsPlaced q None) (is : noted q at ≡ Some place)
@@ -203,7 +195,7 @@ row_by_map (Some l) None same = cc
 row_by_map (Some l) (Some l') same = same_Some l.row l'.row same
 
 pub rows_relinked : (old new : Slab Lock) → Relinks with_queue_links old new → (k : ℕ) → row_in (get new k) ≡ row_in (get old k)
-rows_relinked old new relinks k = row_by_map (get new k) (get old k) (shown_same with_queue_links (λ l. l.row) (λ l pair. refl) old new relinks k)
+rows_relinked old new relinks k = row_by_map (get new k) (get old k) (relinked_same with_queue_links (option_map (λ (l : Lock). l.row)) (λ l pair. refl) old new relinks k)
 
 -- places and links stay where rows are written
 noted_but_row : (slot : Option Lock) → noted_in (option_map but_row slot) ≡ noted_in slot

@@ -3,11 +3,12 @@ use Rattle.std.proofs.Common.{◌≡◌, ◌≢◌, ℕ, List, [], ◌∷◌, ma
 use Rattle.std.specs.Prelude.{◌==◌, if◌then◌else◌}
 use Rattle.std.proofs.lemmas.Bool.{cases_eq}
 use Rattle.vlm_words.specs.State.{Process, process_of}
-use Rattle.vlm_store.specs.Records.{AreProcessesApart, IsProcessAmong, StoredProcess, but_blocks, on_process, process_at}
+use Rattle.vlm_links.specs.Lists.{IsIn}
+use Rattle.vlm_store.specs.Records.{AreProcessesApart, StoredProcess, but_blocks, on_process, process_at}
 
 -- the process of an identification
 module _ (p : StoredProcess) where
-  pub process_of-stored : (ps : List StoredProcess) → AreProcessesApart ps → IsProcessAmong p ps → process_of (map (λ (x : StoredProcess). x.process) ps) p.process.pid ≡ Some p.process
+  pub process_of-stored : (ps : List StoredProcess) → AreProcessesApart ps → IsIn p ps → process_of (map (λ (x : StoredProcess). x.process) ps) p.process.pid ≡ Some p.process
   process_of-stored [] apart found = absurd found
   process_of-stored (x ∷ ps) apart found =
       elim found [
@@ -16,7 +17,7 @@ module _ (p : StoredProcess) where
       ]
 
   -- the process of a key
-  pub process_at-stored : (ps : List StoredProcess) → AreProcessesApart ps → IsProcessAmong p ps → process_at p.at ps ≡ Some p
+  pub process_at-stored : (ps : List StoredProcess) → AreProcessesApart ps → IsIn p ps → process_at p.at ps ≡ Some p
   process_at-stored [] apart found = absurd found
   process_at-stored (x ∷ ps) apart found =
       elim found [
@@ -25,14 +26,14 @@ module _ (p : StoredProcess) where
       ]
 
   -- a change by the key is one by the identification
-  on_others : (change : Process → Process) (ps : List StoredProcess) → ((x : StoredProcess) → IsProcessAmong x ps → (x.at ≢ p.at) × (x.process.pid ≢ p.process.pid))
+  on_others : (change : Process → Process) (ps : List StoredProcess) → ((x : StoredProcess) → IsIn x ps → (x.at ≢ p.at) × (x.process.pid ≢ p.process.pid))
       → map (λ (x : StoredProcess). x.process) (on_process p.at change ps) ≡ map (λ (x : Process). if x.pid == p.process.pid then change x else x) (map (λ (x : StoredProcess). x.process) ps)
   on_others change [] others = refl
   on_others change (x ∷ ps) others =
       let differs = others x (inl refl) in
       rw (ne_eqb x.at p.at differs.0, ne_eqb x.process.pid p.process.pid differs.1) (ap (λ rest. x.process ∷ rest) (on_others change ps (λ y there. others y (inr there))))
 
-  pub plain-on_process : (change : Process → Process) (ps : List StoredProcess) → AreProcessesApart ps → IsProcessAmong p ps
+  pub plain-on_process : (change : Process → Process) (ps : List StoredProcess) → AreProcessesApart ps → IsIn p ps
       → map (λ (x : StoredProcess). x.process) (on_process p.at change ps) ≡ map (λ (x : Process). if x.pid == p.process.pid then change x else x) (map (λ (x : StoredProcess). x.process) ps)
   plain-on_process change [] apart found = absurd found
   plain-on_process change (x ∷ ps) apart found =
@@ -50,7 +51,7 @@ module _ (p : StoredProcess) where
       ]
 
 -- no process has the identification
-pub process_of-none : (pid : ℕ) (ps : List StoredProcess) → ((p : StoredProcess) → IsProcessAmong p ps → ¬ (p.process.pid ≡ pid)) → process_of (map (λ (x : StoredProcess). x.process) ps) pid ≡ None
+pub process_of-none : (pid : ℕ) (ps : List StoredProcess) → ((p : StoredProcess) → IsIn p ps → ¬ (p.process.pid ≡ pid)) → process_of (map (λ (x : StoredProcess). x.process) ps) pid ≡ None
 process_of-none pid [] absent = refl
 process_of-none pid (x ∷ ps) absent = rw (ne_eqb x.process.pid pid (absent x (inl refl))) (process_of-none pid ps (λ p there. absent p (inr there)))
 

@@ -94,10 +94,6 @@ module _ (s : Inside) where
     processes = room_of_less s.processes processes (spare s.process_index) finds is more finds_more;
   }
 
-  -- nothing is changed at all
-  pub not_changed : IsUnchanged (records_shown s) (records_shown s)
-  not_changed = record { same = refl; locks = no_less _; resources = no_less _; processes = no_less _ }
-
 -- the room stays where the queues keep it
 pub queues_room : (s : Inside) (q' : Queues) → room_in q'.locks ≡ room_in s.queues.locks → room_in q'.resources ≡ room_in s.queues.resources → rooms_shown (record s { queues = q' }) ≡ rooms_shown s
 queues_room s q' locks resources =
@@ -148,21 +144,3 @@ unfolding records_of
 lock_reserved (Ok x) l nodes finds is place key find =
     subst HasRoom (sym is) (record { place = room_place nodes place; key = subst (λ k. k ≤ LAST_KEY) (sym (room_key nodes)) key; find = find })
 lock_reserved (Err e) l nodes finds is place key find = tt
-
--- ---- for callers
-
--- room is left where there is no less
-pub has_no_less : (old new : Room) → IsNoLess old new → HasRoom old → HasRoom new
-has_no_less old new more room = record { place = omega arith; key = subst (λ k. k ≤ LAST_KEY) (sym more.next_key) room.key; find = omega arith }
-
-no_less_twice : (a b c : Room) → IsNoLess a b → IsNoLess b c → IsNoLess a c
-no_less_twice a b c first second = record { places = omega arith; next_key = second.next_key ∙ first.next_key; finds = omega arith }
-
--- nothing is changed by two calls that change nothing
-pub unchanged_twice : (a b c : Records) → IsUnchanged a b → IsUnchanged b c → IsUnchanged a c
-unchanged_twice a b c first second = record {
-  same = second.same ∙ ap (λ (x : Records). record x { room = c.room }) first.same;
-  locks = no_less_twice a.room.locks b.room.locks c.room.locks first.locks second.locks;
-  resources = no_less_twice a.room.resources b.room.resources c.room.resources first.resources second.resources;
-  processes = no_less_twice a.room.processes b.room.processes c.room.processes first.processes second.processes;
-}

@@ -9,7 +9,7 @@ use Rattle.vlm_links.specs.Lists.{IsIn, keys_of}
 use Rattle.vlm_store.specs.declared.locks.Lock.{Lock}
 use Rattle.vlm_store.specs.declared.processes.Process.{Process}
 use Rattle.vlm_store.specs.declared.store.Store.TheInside.{Inside}
-use Rattle.vlm_store.specs.Records.{HasProcess, HasNoParent, IsOwnAmong, IsProcessAmong, IsStored, OwnLock, StoredProcess, own_keys_at, own_of_key, process_at, sublocks_at}
+use Rattle.vlm_store.specs.Records.{HasProcess, HasNoParent, IsStored, OwnLock, StoredProcess, own_keys_at, own_of_key, process_at, sublocks_at}
 use Rattle.vlm_store.specs.Kept.{IsKept, records_shown}
 use Rattle.vlm_store.specs.Shown.{rows}
 use Rattle.vlm_store.specs.Holdings.{Holding, below_in, below_keys, below_links, own_in, own_keys, own_links, own_of, owner_in, parent_in}
@@ -18,15 +18,15 @@ use Rattle.vlm_store.proofs.OwnLocks.{parent_there}
 
 -- ---- the locks of all processes
 
-own_ahead : (own : OwnLock) (xs ys : List OwnLock) → IsOwnAmong own xs → IsOwnAmong own (xs ++ ys)
+own_ahead : (own : OwnLock) (xs ys : List OwnLock) → IsIn own xs → IsIn own (xs ++ ys)
 own_ahead own [] ys among = absurd among
 own_ahead own (x ∷ xs) ys among = elim among [ inl here ↦ inl here | inr there ↦ inr (own_ahead own xs ys there) ]
 
-own_behind : (own : OwnLock) (xs ys : List OwnLock) → IsOwnAmong own ys → IsOwnAmong own (xs ++ ys)
+own_behind : (own : OwnLock) (xs ys : List OwnLock) → IsIn own ys → IsIn own (xs ++ ys)
 own_behind own [] ys among = among
 own_behind own (x ∷ xs) ys among = inr (own_behind own xs ys among)
 
-own_either : (own : OwnLock) (xs ys : List OwnLock) → IsOwnAmong own (xs ++ ys) → IsOwnAmong own xs ⊎ IsOwnAmong own ys
+own_either : (own : OwnLock) (xs ys : List OwnLock) → IsIn own (xs ++ ys) → IsIn own xs ⊎ IsIn own ys
 own_either own [] ys among = inr among
 own_either own (x ∷ xs) ys among =
     elim among [
@@ -35,16 +35,16 @@ own_either own (x ∷ xs) ys among =
     ]
 
 -- a lock of a process is one of all
-pub own_of_all : (p : StoredProcess) (own : OwnLock) (ps : List StoredProcess) → IsProcessAmong p ps → IsOwnAmong own p.own → IsOwnAmong own (flat_map (λ (q : StoredProcess). q.own) ps)
+pub own_of_all : (p : StoredProcess) (own : OwnLock) (ps : List StoredProcess) → IsIn p ps → IsIn own p.own → IsIn own (flat_map (λ (q : StoredProcess). q.own) ps)
 own_of_all p own [] among has = absurd among
 own_of_all p own (q ∷ ps) among has =
     elim among [
-      | inl here ↦ own_ahead own q.own _ (subst (λ (x : StoredProcess). IsOwnAmong own x.own) (sym here) has)
+      | inl here ↦ own_ahead own q.own _ (subst (λ (x : StoredProcess). IsIn own x.own) (sym here) has)
       | inr there ↦ own_behind own q.own _ (own_of_all p own ps there has)
     ]
 
 -- and one of all is a lock of a process
-pub all_of_own : (own : OwnLock) (ps : List StoredProcess) → IsOwnAmong own (flat_map (λ (q : StoredProcess). q.own) ps) → (p : StoredProcess) × (IsProcessAmong p ps × IsOwnAmong own p.own)
+pub all_of_own : (own : OwnLock) (ps : List StoredProcess) → IsIn own (flat_map (λ (q : StoredProcess). q.own) ps) → (p : StoredProcess) × (IsIn p ps × IsIn own p.own)
 all_of_own own [] among = absurd among
 all_of_own own (q ∷ ps) among =
     elim (own_either own q.own _ among) [
@@ -54,7 +54,7 @@ all_of_own own (q ∷ ps) among =
 
 -- a lock is found by its key, or none of these has it
 pub own_found : (at : ℕ) (owns : List OwnLock)
-    → ((own : OwnLock) × ((own_of_key at owns ≡ Some own) × IsOwnAmong own owns × (own.at ≡ at))) ⊎ ((own_of_key at owns ≡ None) × ((own : OwnLock) → IsOwnAmong own owns → ¬ (own.at ≡ at)))
+    → ((own : OwnLock) × ((own_of_key at owns ≡ Some own) × IsIn own owns × (own.at ≡ at))) ⊎ ((own_of_key at owns ≡ None) × ((own : OwnLock) → IsIn own owns → ¬ (own.at ≡ at)))
 own_found at [] = inr (refl, λ own among. absurd among)
 own_found at (x ∷ owns) =
     elim (cases_eq x.at at) [
@@ -107,7 +107,7 @@ module _ (s : Inside) (kept : IsKept s) where
 
   -- the locks below a lock that is found
   sublocks_found : (at : ℕ) (own : OwnLock) → own_of_key at (flat_map (λ (q : StoredProcess). q.own) (records_shown s).processes) ≡ Some own
-      → IsOwnAmong own (flat_map (λ (q : StoredProcess). q.own) (records_shown s).processes) → own.at ≡ at → sublocks_at at (records_shown s) ≡ below_keys s.queues.locks at
+      → IsIn own (flat_map (λ (q : StoredProcess). q.own) (records_shown s).processes) → own.at ≡ at → sublocks_at at (records_shown s) ≡ below_keys s.queues.locks at
   sublocks_found at own is among same =
       let of = all_of_own own (records_shown s).processes among in
       ap (λ o. option_map_or (λ (x : OwnLock). x.sublocks) o []) is ∙ sym (own_among_shown s kept of.0 own of.1.0 of.1.1).0.1 ∙ ap (below_keys s.queues.locks) same

@@ -5,7 +5,8 @@ use Rattle.std.specs.Option.{ForSome}
 use Rattle.std.proofs.lemmas.Bool.{cases_eq}
 use Rattle.std.proofs.lemmas.Option.{same_Some}
 use Rattle.vlm_words.specs.declared.locks.Row.{Row}
-use Rattle.vlm_store.specs.Records.{AreApart, AreResourcesApart, IsAmong, IsResourceAmong, StoredLock, StoredResource, at_after, first_at, first_resource_at, resource_at, resource_at_after}
+use Rattle.vlm_links.specs.Lists.{IsIn}
+use Rattle.vlm_store.specs.Records.{AreApart, AreResourcesApart, StoredLock, StoredResource, at_after, first_at, first_resource_at, resource_at, resource_at_after}
 
 -- ---- resources
 
@@ -16,7 +17,7 @@ resources_from (Some res) [] = []
 resources_from (Some res) (r ∷ rest) = if r.at == res then r ∷ rest else resources_from (Some res) rest
 
 -- a resource is among those before and behind it
-pub resource_among : (r : StoredResource) (before rest : List StoredResource) → IsResourceAmong r (before ++ r ∷ rest)
+pub resource_among : (r : StoredResource) (before rest : List StoredResource) → IsIn r (before ++ r ∷ rest)
 resource_among r [] rest = inl refl
 resource_among r (x ∷ before) rest = inr (resource_among r before rest)
 
@@ -114,14 +115,14 @@ locks_from (Some at) [] = []
 locks_from (Some at) (k ∷ rest) = if k.at == at then k ∷ rest else locks_from (Some at) rest
 
 -- a lock is among those before and behind it
-pub lock_among : (k : StoredLock) (before rest : List StoredLock) → IsAmong k (before ++ k ∷ rest)
+pub lock_among : (k : StoredLock) (before rest : List StoredLock) → IsIn k (before ++ k ∷ rest)
 lock_among k [] rest = inl refl
 lock_among k (x ∷ before) rest = inr (lock_among k before rest)
 
 -- a lock before another has another key
 lock_differs : (x k : StoredLock) (before rest : List StoredLock) → AreApart (x ∷ before ++ k ∷ rest) → ¬ (x.at ≡ k.at)
 lock_differs x k before rest apart same =
-    apart.0 k.row (subst (λ at. IsAmong (record { at = at; row = k.row }) (before ++ k ∷ rest)) (sym same) (lock_among k before rest))
+    apart.0 k.row (subst (λ at. IsIn (record { at = at; row = k.row }) (before ++ k ∷ rest)) (sym same) (lock_among k before rest))
 
 -- the lock after one is the first of those behind it
 pub after-among : (k : StoredLock) (before rest : List StoredLock) → AreApart (before ++ k ∷ rest) → at_after k.at (before ++ k ∷ rest) ≡ first_at rest
@@ -140,7 +141,7 @@ locks_from-first before (k ∷ rest) apart = locks_from-among k before rest apar
 
 -- a lock of this key is one of these
 abbrev pub HasLock : ℕ → List StoredLock → Type 0
-HasLock at ks = (row : Row) × IsAmong (record { at = at; row = row }) ks
+HasLock at ks = (row : Row) × IsIn (record { at = at; row = row }) ks
 
 -- the first of the last locks is there
 pub first-there : (before rest : List StoredLock) → ForSome (first_at rest) (λ at. HasLock at (before ++ rest))
@@ -150,7 +151,7 @@ first-there before (k ∷ rest) at is = subst (λ x. HasLock x (before ++ k ∷ 
 -- a walk stands at a lock: it is among the others, it is the first of what is left, and the next one is there
 pub record IsAtLock (at : ℕ) (ks : List StoredLock) : Type 0 where
   pub row : Row
-  pub among : IsAmong (record { at = at; row = row }) ks
+  pub among : IsIn (record { at = at; row = row }) ks
   pub left : locks_from (Some at) ks ≡ record { at = at; row = row } ∷ locks_from (at_after at ks) ks
   pub next : ForSome (at_after at ks) (λ after. HasLock after ks)
 
@@ -161,7 +162,7 @@ record LockSplit (k : StoredLock) (ks : List StoredLock) : Type 0 where
   split : before ++ k ∷ rest ≡ ks
 
 -- a lock that is one of these stands among the others
-lock_split : (k : StoredLock) (ks : List StoredLock) → IsAmong k ks → LockSplit k ks
+lock_split : (k : StoredLock) (ks : List StoredLock) → IsIn k ks → LockSplit k ks
 lock_split k [] among = absurd among
 lock_split k (x ∷ ks) among =
     elim among [

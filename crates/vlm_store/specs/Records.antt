@@ -1,6 +1,6 @@
 -- What the store shows: resources with their queues, locks, and processes with their own locks, each under
 -- its key.
-use Rattle.std.specs.Prelude.{◌≡◌, ◌⊎◌, ◌<◌, ◌≤◌, ℕ, Bool, true, false, not, ◌==◌, ◌&&◌, ◌+◌, count_by, sum_by, List, [], ◌∷◌, ◌++◌, map, filter, find, flat_map, Option, None, Some, IsSome, if◌then◌else◌}
+use Rattle.std.specs.Prelude.{◌≡◌, ◌<◌, ◌≤◌, ℕ, Bool, true, false, not, ◌==◌, ◌&&◌, ◌+◌, count_by, sum_by, List, [], ◌∷◌, ◌++◌, map, filter, find, flat_map, Option, None, Some, IsSome, if◌then◌else◌}
 use Rattle.std.specs.Option.{option_map_or}
 use Rattle.vlm_words.specs.declared.locks.Row.{Row}
 use Rattle.vlm_words.specs.declared.modes.Mode.{Mode}
@@ -116,14 +116,9 @@ abbrev pub locks_at : Place → Records → List StoredLock
 locks_at Loose s = s.loose
 locks_at (Queued res queue) s = option_map_or (queued queue) (resource_at res s.resources) []
 
--- the lock is one of these
-abbrev pub IsAmong : StoredLock → List StoredLock → Type 0
-IsAmong lock [] = ⊥
-IsAmong lock (first ∷ rest) = (first ≡ lock) ⊎ IsAmong lock rest
-
 -- a lock with this key and row stands somewhere
 abbrev pub Stores : Records → ℕ → Row → Type 0
-Stores s at row = (place : Place) × IsAmong (record { at = at; row = row }) (locks_at place s)
+Stores s at row = (place : Place) × IsIn (record { at = at; row = row }) (locks_at place s)
 
 -- a lock of this key stands somewhere
 abbrev pub IsStored : ℕ → Records → Type 0
@@ -148,15 +143,10 @@ FindsLock s lkid (Some at) = (row : Row) × (Stores s at row × (row.lkid ≡ lk
 abbrev pub IsNewLock : ℕ → Records → Type 0
 IsNewLock lkid s = FindsLock s lkid None
 
--- the resource is one of these
-abbrev pub IsResourceAmong : StoredResource → List StoredResource → Type 0
-IsResourceAmong r [] = ⊥
-IsResourceAmong r (first ∷ rest) = (first ≡ r) ⊎ IsResourceAmong r rest
-
 -- where the resource under this key is stored, or none where there is none
 abbrev pub FindsResource : Records → Key → Option ℕ → Type 0
-FindsResource s key None = (r : StoredResource) → IsResourceAmong r s.resources → ¬ (r.key ≡ key)
-FindsResource s key (Some at) = (r : StoredResource) × (IsResourceAmong r s.resources × (r.at ≡ at) × (r.key ≡ key))
+FindsResource s key None = (r : StoredResource) → IsIn r s.resources → ¬ (r.key ≡ key)
+FindsResource s key (Some at) = (r : StoredResource) × (IsIn r s.resources × (r.at ≡ at) × (r.key ≡ key))
 
 -- no resource stands under this key
 abbrev pub IsNewKey : Key → Records → Type 0
@@ -271,18 +261,13 @@ HasProcess at s = IsSome (process_at at s.processes)
 abbrev pub authorization_of : Process → Authorization
 authorization_of p = record { group = p.group; quota = p.quota; syslck = p.syslck }
 
--- the process is one of these
-abbrev pub IsProcessAmong : StoredProcess → List StoredProcess → Type 0
-IsProcessAmong p [] = ⊥
-IsProcessAmong p (first ∷ rest) = (first ≡ p) ⊎ IsProcessAmong p rest
-
 -- the key is that of the living process with this identification
 abbrev pub IsProcess : ℕ → ℕ → Records → Type 0
-IsProcess at pid s = (p : StoredProcess) × (IsProcessAmong p s.processes × (p.at ≡ at) × (p.process.pid ≡ pid))
+IsProcess at pid s = (p : StoredProcess) × (IsIn p s.processes × (p.at ≡ at) × (p.process.pid ≡ pid))
 
 -- the key of the living process with this identification, or none where there is none
 abbrev pub FindsProcess : Records → ℕ → Option ℕ → Type 0
-FindsProcess s pid None = (p : StoredProcess) → IsProcessAmong p s.processes → ¬ (p.process.pid ≡ pid)
+FindsProcess s pid None = (p : StoredProcess) → IsIn p s.processes → ¬ (p.process.pid ≡ pid)
 FindsProcess s pid (Some at) = IsProcess at pid s
 
 -- no living process has this identification
@@ -346,14 +331,9 @@ without_stored_lock at s = record s {
   processes = map (process_without_lock at) s.processes;
 }
 
--- the lock is one of these of a process
-abbrev pub IsOwnAmong : OwnLock → List OwnLock → Type 0
-IsOwnAmong own [] = ⊥
-IsOwnAmong own (first ∷ rest) = (first ≡ own) ⊎ IsOwnAmong own rest
-
 -- no lock stands below the one of this key
 abbrev pub HasNoSublocks : ℕ → Records → Type 0
-HasNoSublocks at s = (p : StoredProcess) (own : OwnLock) → IsProcessAmong p s.processes → IsOwnAmong own p.own
+HasNoSublocks at s = (p : StoredProcess) (own : OwnLock) → IsIn p s.processes → IsIn own p.own
     → own.at ≡ at → own.sublocks ≡ []
 
 -- the parent that the row of a new lock names is stored under this key; 0 names none
@@ -469,45 +449,45 @@ with_process_room room s = record s { room = record s.room { processes = room } 
 -- no two of the keys are the same
 abbrev pub AreApart : List StoredLock → Type 0
 AreApart [] = Unit {0}
-AreApart (k ∷ rest) = ((row : Row) → ¬ IsAmong (record { at = k.at; row = row }) rest) × AreApart rest
+AreApart (k ∷ rest) = ((row : Row) → ¬ IsIn (record { at = k.at; row = row }) rest) × AreApart rest
 
 -- no two of the resources have one key
 abbrev pub AreResourcesApart : List StoredResource → Type 0
 AreResourcesApart [] = Unit {0}
-AreResourcesApart (r ∷ rest) = ((other : StoredResource) → IsResourceAmong other rest → ¬ (other.at ≡ r.at)) × AreResourcesApart rest
+AreResourcesApart (r ∷ rest) = ((other : StoredResource) → IsIn other rest → ¬ (other.at ≡ r.at)) × AreResourcesApart rest
 
 -- no two of the processes have one key, or one identification
 abbrev pub AreProcessesApart : List StoredProcess → Type 0
 AreProcessesApart [] = Unit {0}
 AreProcessesApart (p ∷ rest) =
-    ((other : StoredProcess) → IsProcessAmong other rest → ¬ (other.at ≡ p.at) × ¬ (other.process.pid ≡ p.process.pid))
+    ((other : StoredProcess) → IsIn other rest → ¬ (other.at ≡ p.at) × ¬ (other.process.pid ≡ p.process.pid))
     × AreProcessesApart rest
 
 -- no two of the locks of a process have one key
 abbrev pub AreOwnApart : List OwnLock → Type 0
 AreOwnApart [] = Unit {0}
-AreOwnApart (own ∷ rest) = ((other : OwnLock) → IsOwnAmong other rest → ¬ (other.at ≡ own.at)) × AreOwnApart rest
+AreOwnApart (own ∷ rest) = ((other : OwnLock) → IsIn other rest → ¬ (other.at ≡ own.at)) × AreOwnApart rest
 
 -- the locks of a process are those whose rows name it, and the locks below a lock those whose rows name it
 -- as their parent
 pub record AreOwned (s : Records) : Type 0 where
   pub owned : (at : ℕ) (row : Row) → Stores s at row
-      → (p : StoredProcess) × (own : OwnLock) × (IsProcessAmong p s.processes × (p.process.pid ≡ row.pid) × IsOwnAmong own p.own × (own.at ≡ at))
-  pub owns : (p : StoredProcess) (own : OwnLock) → IsProcessAmong p s.processes → IsOwnAmong own p.own
+      → (p : StoredProcess) × (own : OwnLock) × (IsIn p s.processes × (p.process.pid ≡ row.pid) × IsIn own p.own × (own.at ≡ at))
+  pub owns : (p : StoredProcess) (own : OwnLock) → IsIn p s.processes → IsIn own p.own
       → (row : Row) × (Stores s own.at row × (row.pid ≡ p.process.pid))
-  pub below : (p : StoredProcess) (own : OwnLock) (at : ℕ) → IsProcessAmong p s.processes → IsOwnAmong own p.own → IsIn at own.sublocks
+  pub below : (p : StoredProcess) (own : OwnLock) (at : ℕ) → IsIn p s.processes → IsIn own p.own → IsIn at own.sublocks
       → (up : Row) × (row : Row) × (Stores s own.at up × Stores s at row × (row.parent ≡ up.lkid))
   pub named : (at : ℕ) (row : Row) → Stores s at row → ¬ (row.parent ≡ 0)
-      → (p : StoredProcess) × (own : OwnLock) × (up : Row) × (IsProcessAmong p s.processes × IsOwnAmong own p.own × IsIn at own.sublocks × Stores s own.at up × (up.lkid ≡ row.parent))
+      → (p : StoredProcess) × (own : OwnLock) × (up : Row) × (IsIn p s.processes × IsIn own p.own × IsIn at own.sublocks × Stores s own.at up × (up.lkid ≡ row.parent))
 
 -- each key is that of one record, no lock stands at two places, no two locks have one identification and no two
 -- resources one key, and the locks of a process are those whose rows name it, each once
 pub record IsSound (s : Records) : Type 0 where
   pub resources_apart : AreResourcesApart s.resources
   pub locks_apart : (place : Place) → AreApart (locks_at place s)
-  pub one_place : (at : ℕ) (a b : Row) (p q : Place) → IsAmong (record { at = at; row = a }) (locks_at p s) → IsAmong (record { at = at; row = b }) (locks_at q s) → p ≡ q
+  pub one_place : (at : ℕ) (a b : Row) (p q : Place) → IsIn (record { at = at; row = a }) (locks_at p s) → IsIn (record { at = at; row = b }) (locks_at q s) → p ≡ q
   pub lkids_apart : (a b : ℕ) (x y : Row) → Stores s a x → Stores s b y → x.lkid ≡ y.lkid → a ≡ b
-  pub keys_apart : (a b : StoredResource) → IsResourceAmong a s.resources → IsResourceAmong b s.resources → a.key ≡ b.key → a.at ≡ b.at
+  pub keys_apart : (a b : StoredResource) → IsIn a s.resources → IsIn b s.resources → a.key ≡ b.key → a.at ≡ b.at
   pub processes_apart : AreProcessesApart s.processes
   pub owned : AreOwned s
-  pub own_apart : (p : StoredProcess) → IsProcessAmong p s.processes → AreOwnApart p.own
+  pub own_apart : (p : StoredProcess) → IsIn p s.processes → AreOwnApart p.own

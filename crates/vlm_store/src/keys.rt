@@ -10,7 +10,9 @@ use vlm_words::resources::Queue;
 /// removed; then it may be given to another.
 #[derive_where(Clone, Copy, Debug, PartialEq, Eq)]
 pub struct At<Kind> {
+    // the place of the record in its slab, at most `LAST_KEY`
     at: u32,
+    // names the kind, and takes no room
     kind: PhantomData<Kind>,
 }
 

@@ -6,8 +6,9 @@ ghost use Rattle.vlm_words.specs.declared.locks.Row.{Row};
 ghost use Rattle.vlm_words.specs.declared.resources.Queue.{Queue};
 ghost use Rattle.vlm_words.specs.declared.resources.Site.{Site};
 ghost use Rattle.vlm_words.specs.declared.steps.Declaration.{Declaration};
+ghost use Rattle.vlm_links.specs.Lists.{IsIn};
 ghost use Rattle.vlm_store.specs.declared.keys.Place.{Place};
-ghost use Rattle.vlm_store.specs.Records.{Records, HasProcess, HasResource, IsAmong, IsSound, IsStored, joined_by, moving, new_resource, new_stored_process, on_resource, with_lists, with_new_lock, without_lock, without_process, without_resource, without_stored_lock};
+ghost use Rattle.vlm_store.specs.Records.{Records, HasProcess, HasResource, IsSound, IsStored, joined_by, moving, new_resource, new_stored_process, on_resource, with_lists, with_new_lock, without_lock, without_process, without_resource, without_stored_lock};
 
 use crate::store::Store;
 
@@ -37,7 +38,7 @@ pub fn law_removal_undoes_an_addition()
 /// A loose lock that moves to a queue joins it at the end, and no other list changes.
 pub fn law_a_loose_lock_joins_one_queue()
     ensures { (s : Records) (at : ℕ) (row : Row) (res : ℕ) (queue : Queue) → IsSound s
-        → IsAmong (record { at = at; row = row }) s.loose
+        → IsIn (record { at = at; row = row }) s.loose
         → with_lists (moving (Place.Queued res queue) (record { at = at; row = row })) s
         ≡ record s {
           resources = on_resource res (joined_by queue (record { at = at; row = row })) s.resources;

@@ -1,4 +1,20 @@
-//! The records of the lock machine, each found by its key.
+//! The records of the lock machine, each found by its identification or its key.
+//!
+//! # Implementation
+//!
+//! Three slabs have the records of locks, resources and processes. A handle is a record's place in its slab,
+//! in four bytes (`At`): it is good until the record is removed, and may then be given to another. Three
+//! indexes lead to the handles, by identification or by the key of a resource.
+//!
+//! A lock notes where it stands: its queue (`place`), its process (`owner`) and its parent, if it has one. In
+//! the list of each it is linked by a pair of links of its own; what is in no queue is in the list of the
+//! loose locks. The ends of these lists are in the records that have them: three queues in a resource, own
+//! locks in a process, sublocks in a lock. Resources and processes are linked in order of making. A resource
+//! counts its locks in a tally, so a lock that moves is counted out, linked anew, and counted in.
+//!
+//! A slab and its index grow where one more record is to be added and there is no room, before anything is
+//! changed. Nothing else takes memory, but for the status blocks that a new process is given; and neither
+//! slab nor index shrinks.
 #![tactic(auto)]
 
 mod counts;

@@ -22,17 +22,17 @@ pub struct Lock {
     pub row: Row,
     /// The queue in which it stands.
     pub place: Place,
-    // its neighbours there
+    // its neighbours there, or among the loose locks
     pub(crate) in_queue: Links,
     /// The process that owns it.
     pub owner: ProcAt,
     // its neighbours among that process's locks
     pub(crate) of_process: Links,
-    // the lock that it was made under
+    // the lock that it was made under, if its row names one
     pub(crate) parent: Option<LockAt>,
     // its neighbours among that lock's sublocks
     pub(crate) of_parent: Links,
-    // the locks that were made under it
+    // the locks that were made under it and are there still
     pub(crate) sublocks: LinkedList<OfParent>,
 }
 

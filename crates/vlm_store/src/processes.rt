@@ -33,6 +33,7 @@ pub struct Authorization {
 /// A living process.
 #[derive(Drop)]
 pub struct Process {
+    // its identification, by which it is found
     pub(crate) pid: u32,
     /// What it may do.
     pub authorization: Authorization,

@@ -17,9 +17,11 @@ use vlm_words::locks::Row;
 /// The locks, each in one list: a queue of a resource, or that of the loose locks.
 #[derive(Drop)]
 pub(crate) struct Queues {
+    // all locks, the loose ones too
     pub(crate) locks: Slab<Lock>,
+    // all resources, those in whose queues no lock stands too
     pub(crate) resources: Slab<Resource>,
-    // the locks that stand in no queue
+    // the locks that stand in no queue, in the order in which they joined
     pub(crate) loose: LinkedList<InQueue>,
 }
 

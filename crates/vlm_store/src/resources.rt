@@ -30,9 +30,13 @@ pub struct Resource {
     pub level: u8,
     /// Its value block, which its locks hand on.
     pub value_block: ValueBlock,
+    // the locks that hold a mode and want no other
     pub(crate) granted: LinkedList<InQueue>,
+    // the locks that hold a mode and want another, the first in line first
     pub(crate) converting: LinkedList<InQueue>,
+    // the locks that want a mode and hold none, the first in line first
     pub(crate) waiting: LinkedList<InQueue>,
+    // the locks of the three queues, counted by the modes that they hold and want
     pub(crate) tally: Tally,
     // the resources made before and after it
     pub(crate) in_order: Links,

@@ -3,8 +3,9 @@
 ghost use Rattle.std.specs.Prelude.{◌≡◌, [], ◌∷◌, ◌++◌, length, IfOk, IfSome, IsOk, OnErr, OnOk};
 ghost use Rattle.std.specs.Option.{ForSome};
 ghost use Rattle.vlm_words.specs.declared.locks.Row.{Row};
+ghost use Rattle.vlm_links.specs.Lists.{IsIn};
 ghost use Rattle.vlm_store.specs.declared.keys.Place.{Place};
-ghost use Rattle.vlm_store.specs.Records.{FindsLock, FindsResource, HasNoSublocks, HasPlace, HasResource, HasRoomForLock, HasRoomForResource, IsAmong, IsGivenBack, IsTaken, IsUnchanged, IsParentOf, IsProcess, at_after, first_at, first_resource_at, fits_beside, resource_at_after, resource_at, IsIdle, IsNewKey, IsNewLock, IsRowOf, IsSound, IsStored, Stores, locks_at, moving, new_resource, nothing, on_resource, with_lists, with_lock_room, with_new_lock, with_resource_room, without_resource, without_stored_lock};
+ghost use Rattle.vlm_store.specs.Records.{FindsLock, FindsResource, HasNoSublocks, HasPlace, HasResource, HasRoomForLock, HasRoomForResource, IsGivenBack, IsTaken, IsUnchanged, IsParentOf, IsProcess, at_after, first_at, first_resource_at, fits_beside, resource_at_after, resource_at, IsIdle, IsNewKey, IsNewLock, IsRowOf, IsSound, IsStored, Stores, locks_at, moving, new_resource, nothing, on_resource, with_lists, with_lock_room, with_new_lock, with_resource_room, without_resource, without_stored_lock};
 
 use crate::growth::reserve_one;
 use crate::keys::{LockAt, Place, ProcAt, ResAt};
@@ -24,10 +25,13 @@ use vlm_words::resources::{Key, Site, ValueBlock};
 
 /// The records of the machine. Each call takes constant time but for the growth of an add.
 pub struct Store {
+    // where status blocks are made; slabs and indexes have it too
     pub(crate) alloc: Global,
+    // the locks and the resources, and the lists of locks that are queues
     pub(crate) queues: Queues,
     // the resources in order of making
     order: LinkedList<InOrder>,
+    // the living processes, each with its status blocks
     pub(crate) processes: Slab<Process>,
     // the processes in order of making
     pub(crate) process_order: LinkedList<InOrder>,
@@ -110,7 +114,7 @@ impl Store {
         requires { IsStored lock self.now }
         ensures row { Stores self.now lock result.now.row }
         ensures only { (row : Row) → Stores self.now lock row → row ≡ result.now.row }
-        ensures stands { IsAmong (record { at = lock; row = result.now.row })
+        ensures stands { IsIn (record { at = lock; row = result.now.row })
             (locks_at result.now.place self.now) }
         ensures there { HasPlace result.now.place self.now }
         ensures owner { IsProcess result.now.owner result.now.row.pid self.now }
@@ -217,7 +221,7 @@ impl Store {
     pub fn next(&self, lock: LockAt) -> Option<LockAt>
         requires { IsStored lock self.now }
         ensures { (place : Place) (row : Row)
-            → IsAmong (record { at = lock; row = row }) (locks_at place self.now)
+            → IsIn (record { at = lock; row = row }) (locks_at place self.now)
             → result ≡ at_after lock (locks_at place self.now) }
     {
         let list = self.queues.list(self.queues.locks[lock.slot()].place);

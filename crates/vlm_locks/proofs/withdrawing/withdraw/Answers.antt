@@ -1,8 +1,9 @@
 use Rattle.vlm_locks.proofs.OtherLocks.{locks_stay_over, owned_alike, statuses_alone}
 use Rattle.std.proofs.Common.{true, [], ◌∷◌, map, ap, ◌∙◌, subst, sym}
 use Rattle.vlm_words.specs.Withdrawals.{resource_after_cancel, resource_after_withdrawals, resource_without}
+use Rattle.vlm_links.specs.Lists.{IsIn}
 use Rattle.vlm_store.specs.Plain.{plain_resource, plain_resources}
-use Rattle.vlm_store.specs.Records.{HasNoSublocks, but_blocks, IsProcessAmong, without_resource}
+use Rattle.vlm_store.specs.Records.{HasNoSublocks, but_blocks, without_resource}
 use Rattle.vlm_locks.specs.Withdrawals.{plain_withdrawal}
 use Rattle.vlm_locks.specs.Withdrawing.{goes, owned_after}
 use Rattle.vlm_locks.proofs.Replaced.{no_sublocks_still}
@@ -21,7 +22,7 @@ cancel-requires-clause-childless c =
     let none : HasNoSublocks f.lock c.end_withdrawn.new.store =
     no_sublocks_still c.args.store.now c.end_withdrawn.new.store c.end_withdrawn.ensures.rest.processes f.lock
     (c.requires.childless (ap (λ b. goes b f.queue) c.if-withdrawal.true ∙ ap (goes true) waits)) in
-    λ p own among here. none p own (subst (IsProcessAmong p) c.leave.ensures.left.own_locks among) here
+    λ p own among here. none p own (subst (IsIn p) c.leave.ensures.left.own_locks among) here
 
 pub remove-requires-clause-childless : goal.remove-requires-clause-childless
 remove-requires-clause-childless c =
@@ -29,7 +30,7 @@ remove-requires-clause-childless c =
     let none : HasNoSublocks f.lock c.end_withdrawn.new.store =
     no_sublocks_still c.args.store.now c.end_withdrawn.new.store c.end_withdrawn.ensures.rest.processes f.lock
     (c.requires.childless (ap (λ b. goes b f.queue) c.if-withdrawal.false)) in
-    λ p own among here. none p own (subst (IsProcessAmong p) c.leave.ensures.left.own_locks among) here
+    λ p own among here. none p own (subst (IsIn p) c.leave.ensures.left.own_locks among) here
 
 -- the lock stays
 pub returns-then-withdrawal-clause-resources : goal.returns-then-withdrawal-clause-resources

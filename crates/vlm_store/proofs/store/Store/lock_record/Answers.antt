@@ -1,8 +1,9 @@
 use Rattle.std.proofs.Common.{◌≡◌, ◌∙◌, sym, ap, subst}
 use Rattle.std.proofs.lemmas.Option.{same_Some}
 use Rattle.vlm_words.specs.declared.locks.Row.{Row}
+use Rattle.vlm_links.specs.Lists.{IsIn}
 use Rattle.vlm_store.specs.Kept.{beside_shown, records_shown}
-use Rattle.vlm_store.specs.Records.{IsAmong, IsProcess, Records, StoredLock, Stores, locks_at}
+use Rattle.vlm_store.specs.Records.{IsProcess, Records, StoredLock, Stores, locks_at}
 use Rattle.vlm_store.specs.Shown.{noted_in, row_in}
 use Rattle.vlm_store.specs.Store.{records_of, tables}
 use Rattle.vlm_store.proofs.Kept.{stored_there, there_stored}
@@ -38,17 +39,17 @@ returns-clause-stands c =
     let s = c.self.inside in
     let stored = returns-clause-row c in
     let lock : StoredLock = record { at = c.args.lock; row = c.index.result.now.row } in
-    let there = subst (λ (x : Records). IsAmong lock (locks_at stored.0 x)) (sym c.self.view_is) stored.1 in
+    let there = subst (λ (x : Records). IsIn lock (locks_at stored.0 x)) (sym c.self.view_is) stored.1 in
     let found = (locks_at-among (tables s.queues s.order (beside_shown s)) stored.0 lock there).0 in
     let is : c.index.result.now.place ≡ stored.0 =
     same_Some c.index.result.now.place stored.0 (sym (ap noted_in (rw c.slot.ensures at c.index.ensures)) ∙ c.self.invariant.placed.listed stored.0 c.args.lock found) in
-    rw (← c.self.view_is) (subst (λ p. IsAmong lock (locks_at p (records_shown s))) (sym is) there)
+    rw (← c.self.view_is) (subst (λ p. IsIn lock (locks_at p (records_shown s))) (sym is) there)
 
 pub returns-clause-there : goal.returns-clause-there
 returns-clause-there c =
     let s = c.self.inside in
     let lock : StoredLock = record { at = c.args.lock; row = c.index.result.now.row } in
-    let stands : IsAmong lock (locks_at c.index.result.now.place c.args.self.now) = returns-clause-stands c in
+    let stands : IsIn lock (locks_at c.index.result.now.place c.args.self.now) = returns-clause-stands c in
     rw (← c.self.view_is) (HasPlace-among (records_shown s) c.index.result.now.place lock (rw (← c.self.view_is) at stands))
 
 pub returns-clause-owner : goal.returns-clause-owner

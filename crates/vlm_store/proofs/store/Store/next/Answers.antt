@@ -1,6 +1,7 @@
 use Rattle.std.proofs.Common.{◌≡◌, ◌∙◌, ap, sym, subst}
 use Rattle.std.proofs.lemmas.Option.{none-some, same_Some}
-use Rattle.vlm_store.specs.Records.{IsAmong, Records, StoredLock, locks_at}
+use Rattle.vlm_links.specs.Lists.{IsIn}
+use Rattle.vlm_store.specs.Records.{Records, StoredLock, locks_at}
 use Rattle.vlm_store.specs.Shown.{keys_at, noted_in, rows}
 use Rattle.vlm_store.specs.Store.{tables}
 use Rattle.vlm_store.proofs.Kept.{stored_there}
@@ -33,7 +34,7 @@ returns c place row among =
     let s = c.self.inside in
     let l = tables s.queues s.order (beside_shown s) in
     let lock : StoredLock = record { at = c.args.lock; row = row } in
-    let there = subst (λ (x : Records). IsAmong lock (locks_at place x)) (sym c.self.view_is) among in
+    let there = subst (λ (x : Records). IsIn lock (locks_at place x)) (sym c.self.view_is) among in
     let found = (locks_at-among l place lock there).0 in
     let is : c.index.result.now.place ≡ place =
     same_Some c.index.result.now.place place (sym (ap noted_in (rw c.slot.ensures at c.index.ensures)) ∙ c.self.invariant.placed.listed place c.args.lock found) in
@@ -45,7 +46,7 @@ returns-in_err-at c place row among =
     let s = c.self.inside in
     let l = tables s.queues s.order (beside_shown s) in
     let lock : StoredLock = record { at = c.args.lock; row = row } in
-    let there = subst (λ (x : Records). IsAmong lock (locks_at place x)) (sym c.self.view_is) among in
+    let there = subst (λ (x : Records). IsIn lock (locks_at place x)) (sym c.self.view_is) among in
     let found = (locks_at-among l place lock there).0 in
     let is : c.index.result.now.place ≡ place =
     same_Some c.index.result.now.place place (sym (ap noted_in (rw c.slot.ensures at c.index.ensures)) ∙ c.self.invariant.placed.listed place c.args.lock found) in
