@@ -1,5 +1,6 @@
 //! What no contract says: worked answers, the order of refusals, sizes of records, memory that is refused.
 
+mod asts;
 mod faults;
 mod lists;
 mod modes;

@@ -372,6 +372,12 @@ fn settings(rt: HostRuntime) {
     );
 }
 
+// NONEXPR.
+#[test]
+fn takes(rt: HostRuntime) {
+    check(&rt, &[(Step::Take(STRANGER), Cond::Nonexpr)]);
+}
+
 // BADPARAM for each kind that is not built, whoever the caller is.
 #[test]
 fn kinds_not_built(rt: HostRuntime) {
@@ -381,7 +387,6 @@ fn kinds_not_built(rt: HostRuntime) {
             (Step::Rundown(STRANGER), Cond::Badparam),
             (Step::Leave(9), Cond::Badparam),
             (Step::Search(0), Cond::Badparam),
-            (Step::Take(STRANGER), Cond::Badparam),
         ],
     );
 }
