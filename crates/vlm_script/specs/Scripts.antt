@@ -13,7 +13,7 @@ use Rattle.vlm_words.specs.declared.steps.Step.{Step}
 use Rattle.vlm_words.specs.State.{State, start}
 use Rattle.vlm_words.specs.StatusBlocks.{status_block_at}
 use Rattle.vlm_words.specs.Stepped.{Outcome}
-use Rattle.vlm_lines.specs.Lines.{is_text, line_read, lines_of}
+use Rattle.vlm_lines.specs.Lines.{is_text, line_read, lines_of, no_process}
 use Rattle.vlm_script.specs.Texts.{answer_line, resources_text, status_block_line}
 
 -- a name of the script, and the process that it is bound to
