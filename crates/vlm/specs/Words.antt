@@ -9,13 +9,13 @@ abbrev pub with_needed_subcommand : App → App
 with_needed_subcommand app = record app { top = record app.top { subcommand_required = true } }
 
 -- the program's commands: `play`, which is needed
-abbrev pub command_line : App
-command_line =
+abbrev pub program_commands : App
+program_commands =
     with_subcommand (with_needed_subcommand (new_app (codes "vlm"))) (new_app (codes "play")).top
 
 -- the kinds of error that the words may get: none where they ask for a run
 abbrev pub word_errors : List Text → Kinds
-word_errors words = fault_of command_line words
+word_errors words = fault_of program_commands words
 
 -- memory ran out over the words, or they get an error of this kind
 abbrev pub IsErrorOf : List Text → ErrorKind → Type 0

@@ -2,7 +2,7 @@
 
 ghost use Rattle.std.specs.Prelude.{◌≡◌, ◌⊎◌, ℕ, List, [], ◌∷◌, Err, IfOk, codes, map};
 ghost use Rattle.clap.specs.Words.{FailsBy, app_of, kind_of};
-ghost use Rattle.vlm.specs.Words.{command_line, word_errors};
+ghost use Rattle.vlm.specs.Words.{program_commands, word_errors};
 ghost use Rattle.vlm.specs.Ends.{EndsByError, EndsByWords, FailsHelp, GivesHelp, PrintsFault, RunsOrWantsMemory, RunsScript, output_of, status_of};
 
 use clap::error::ErrorKind;
@@ -102,13 +102,13 @@ fn run_script<R: Read, W: Write, F: Write>(
 fn chosen<S: AsStr>(alloc: Global, words: &[S]) -> Result<(), Error>
     ensures { FailsBy (word_errors (map S.text words.now)) result }
 {
-    let command = command_line(alloc)?;
+    let command = program_commands(alloc)?;
     command.try_get_matches_from(words)?;
     Ok(())
 }
 
-fn command_line<'a>(alloc: Global) -> Result<Command<'a>, AllocError>
-    ensures { IfOk result (λ command. app_of command ≡ command_line) }
+fn program_commands<'a>(alloc: Global) -> Result<Command<'a>, AllocError>
+    ensures { IfOk result (λ command. app_of command ≡ program_commands) }
 {
     let play = Command::new(alloc, "play")
         .about(PLAY_ABOUT)

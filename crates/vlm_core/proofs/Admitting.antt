@@ -16,7 +16,7 @@ use Rattle.vlm_words.specs.Flags.{cancel, has_flag}
 use Rattle.vlm_words.specs.Rows.{is_lock_of}
 use Rattle.vlm_links.specs.Lists.{IsIn}
 use Rattle.vlm_store.specs.Plain.{plain_resource, plain_resources}
-use Rattle.vlm_store.specs.Records.{IsSound, Records, StoredResource, queued, rows_of}
+use Rattle.vlm_store.specs.Records.{IsSound, Records, StoredResource, queued, rows_of_locks}
 use Rattle.vlm_locks.proofs.Found.{resource_alone, resource_at-at}
 use Rattle.vlm_locks.specs.declared.finding.Standing.{Standing}
 use Rattle.vlm_locks.specs.Converting.{admission_on}
@@ -25,7 +25,7 @@ use Rattle.vlm_locks.proofs.Named.{IsAbsent, any-absent, any-among, find-absent,
 use Rattle.vlm_locks.proofs.Stood.{absent, only, own_among}
 use Rattle.vlm_core.specs.declared.dequeuing.AdmittedDequeue.{AdmittedDequeue}
 use Rattle.vlm_core.specs.Admissions.{IsAdmittedDequeue}
-use Rattle.vlm_core.specs.Machine.{Kept, plain_state}
+use Rattle.vlm_core.specs.Machine.{MachineState, plain_state}
 
 module _ (s : Records) (sound : IsSound s) (f : Standing) (standing : IsStanding f s) where
   -- the resource of the lock
@@ -50,7 +50,7 @@ module _ (s : Records) (sound : IsSound s) (f : Standing) (standing : IsStanding
 
   -- the lock in the granted queue of this resource
   abbrev granted_row : StoredResource → Option Row
-  granted_row r = find (is_lock_of f.row.pid f.row.lkid) (rows_of r.granted)
+  granted_row r = find (is_lock_of f.row.pid f.row.lkid) (rows_of_locks r.granted)
 
   -- the conversion of a granted lock is admitted on its resource
   pub admitted_here : (asked : Request) → f.queue ≡ Granted → admission_among asked f.row.pid f.row.lkid (plain_resources s) ≡ Some (admission_on f asked standing.resource)
@@ -88,7 +88,7 @@ module _ (s : Records) (sound : IsSound s) (f : Standing) (standing : IsStanding
 
   -- the lock is granted on this resource
   abbrev holds : StoredResource → Bool
-  holds r = list_any (is_lock_of f.row.pid f.row.lkid) (rows_of r.granted)
+  holds r = list_any (is_lock_of f.row.pid f.row.lkid) (rows_of_locks r.granted)
 
   -- a lock in the granted queue is granted
   pub granted_here : f.queue ≡ Granted → is_granted f.row.pid f.row.lkid (plain_resources s) ≡ true
@@ -114,7 +114,7 @@ module _ (s : Records) (sound : IsSound s) (f : Standing) (standing : IsStanding
           ap (λ b. b || is_granted f.row.pid f.row.lkid (map plain_resource rest)) (any-absent f.row.pid f.row.lkid r.granted (in_no_granted ungranted r (within r (inl refl))))
           ∙ of_list rest (λ x later. within x (inr later))
 
-module _ (m : Kept) (sound : IsSound m.records) (c : Conversion) (f : Standing) (standing : IsStandingOf c.pid (convert_lkid (plain_state m) c) f m.records) where
+module _ (m : MachineState) (sound : IsSound m.records) (c : Conversion) (f : Standing) (standing : IsStandingOf c.pid (convert_lkid (plain_state m) c) f m.records) where
   -- the conversion by the lock that stands
   by_lock : (asked : Request) → asked ≡ convert_request (plain_state m) c → convert_admission (plain_state m) c ≡ admission_among asked f.row.pid f.row.lkid (plain_resources m.records)
   unfolding convert_admission
@@ -131,7 +131,7 @@ module _ (m : Kept) (sound : IsSound m.records) (c : Conversion) (f : Standing) 
   pub not_admitted : f.queue ≢ Granted → convert_admission (plain_state m) c ≡ None
   not_admitted ungranted = by_lock (convert_request (plain_state m) c) refl ∙ admitted_nowhere m.records sound f standing.standing (convert_request (plain_state m) c) ungranted
 
-module _ (m : Kept) (sound : IsSound m.records) (d : Dequeue) (a : AdmittedDequeue) (admitted : IsAdmittedDequeue m d a) where
+module _ (m : MachineState) (sound : IsSound m.records) (d : Dequeue) (a : AdmittedDequeue) (admitted : IsAdmittedDequeue m d a) where
   -- whether the lock is granted, by the lock that stands
   is_by_lock : is_granted d.pid (dequeue_lkid (plain_state m) d) (plain_resources m.records) ≡ is_granted a.standing.row.pid a.standing.row.lkid (plain_resources m.records)
   is_by_lock =

@@ -1,4 +1,4 @@
--- The process that makes a step, by its key and by its identification.
+-- The process that makes a step, by its handle and by its identification.
 use Rattle.std.proofs.Common.{◌≡◌, ℕ, None, IsSome, refl, sym, ap, ◌∙◌}
 use Rattle.vlm_words.specs.State.{process_of}
 use Rattle.vlm_store.specs.Plain.{plain_processes}

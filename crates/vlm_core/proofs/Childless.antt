@@ -14,15 +14,15 @@ use Rattle.vlm_words.specs.Laws.{HasItsParent, HoldsOn, rows_on}
 use Rattle.vlm_words.specs.State.{Resource}
 use Rattle.vlm_words.proofs.Each.{Any-cases, Any-none, each_weaker}
 use Rattle.vlm_links.specs.Lists.{IsIn}
-use Rattle.vlm_store.specs.declared.keys.Place.{Place}
-use Rattle.vlm_store.specs.declared.keys.Place.TheVariants.{Loose, Queued}
+use Rattle.vlm_store.specs.declared.handles.Place.{Place}
+use Rattle.vlm_store.specs.declared.handles.Place.TheVariants.{Loose, Queued}
 use Rattle.vlm_store.specs.Plain.{plain_resource, plain_resources}
-use Rattle.vlm_store.specs.Records.{HasNoSublocks, IsSound, OwnLock, Records, StoredLock, StoredProcess, StoredResource, Stores, locks_at, queued, resource_at, rows_of}
+use Rattle.vlm_store.specs.Records.{HasNoSublocks, IsSound, OwnLock, Records, StoredLock, StoredProcess, StoredResource, Stores, locks_at, queued, resource_at, rows_of_locks}
 use Rattle.vlm_locks.specs.declared.finding.Standing.{Standing}
 use Rattle.vlm_locks.specs.Standing.{IsStanding}
 use Rattle.vlm_locks.specs.Withdrawing.{goes}
 use Rattle.vlm_locks.proofs.Stood.{one_lock, queued_stored, resource_among, stands, stored}
-use Rattle.vlm_core.specs.Machine.{Kept, plain_state}
+use Rattle.vlm_core.specs.Machine.{MachineState, plain_state}
 use Rattle.vlm_core.proofs.Siting.{each_resource}
 use Rattle.vlm_core.proofs.ToCome.{counted_all, counted_on}
 use Rattle.vlm_store.proofs.Records.{queue_at}
@@ -49,28 +49,28 @@ in_queue s none_loose at row stored = by_place stored.0 stored.1
 -- ---- the sublocks of a lock
 
 -- rows of which none is a sublock
-rows_none : (lkid : ℕ) (locks : List StoredLock) → ((k : StoredLock) → IsIn k locks → k.row.parent ≢ lkid) → has_sublock lkid (rows_of locks) ≡ false
+rows_none : (lkid : ℕ) (locks : List StoredLock) → ((k : StoredLock) → IsIn k locks → k.row.parent ≢ lkid) → has_sublock lkid (rows_of_locks locks) ≡ false
 rows_none lkid [] none = refl
 rows_none lkid (k ∷ rest) none =
     rw (ne_eqb k.row.parent lkid (none k (inl refl))) (rows_none lkid rest (λ x there. none x (inr there)))
 
 -- rows of which one is a sublock
-rows_some : (lkid : ℕ) (locks : List StoredLock) (k : StoredLock) → IsIn k locks → k.row.parent ≡ lkid → has_sublock lkid (rows_of locks) ≡ true
+rows_some : (lkid : ℕ) (locks : List StoredLock) (k : StoredLock) → IsIn k locks → k.row.parent ≡ lkid → has_sublock lkid (rows_of_locks locks) ≡ true
 rows_some lkid [] k among is = absurd among
 rows_some lkid (x ∷ rest) k among is =
     elim among [
       | inl here ↦ rw (eq-eqb x.row.parent lkid (ap (λ (y : StoredLock). y.row.parent) here ∙ is)) refl
-      | inr there ↦ or_right (x.row.parent == lkid) (has_sublock lkid (rows_of rest)) (rows_some lkid rest k there is)
+      | inr there ↦ or_right (x.row.parent == lkid) (has_sublock lkid (rows_of_locks rest)) (rows_some lkid rest k there is)
     ]
 
 -- a sublock stands on a resource, whichever its queue
 on_resource_some : (lkid : ℕ) (r : StoredResource) (queue : Queue) (k : StoredLock) → IsIn k (queued queue r) → k.row.parent ≡ lkid → has_sublock_on lkid (plain_resource r) ≡ true
 on_resource_some lkid r Granted k among is = rw (rows_some lkid r.granted k among is) refl
 on_resource_some lkid r Conversion k among is =
-    ap (λ b. b || has_sublock lkid (rows_of r.waiting))
-    (or_right (has_sublock lkid (rows_of r.granted)) (has_sublock lkid (rows_of r.converting)) (rows_some lkid r.converting k among is))
+    ap (λ b. b || has_sublock lkid (rows_of_locks r.waiting))
+    (or_right (has_sublock lkid (rows_of_locks r.granted)) (has_sublock lkid (rows_of_locks r.converting)) (rows_some lkid r.converting k among is))
 on_resource_some lkid r Waiting k among is =
-    or_right (has_sublock lkid (rows_of r.granted) || has_sublock lkid (rows_of r.converting)) (has_sublock lkid (rows_of r.waiting)) (rows_some lkid r.waiting k among is)
+    or_right (has_sublock lkid (rows_of_locks r.granted) || has_sublock lkid (rows_of_locks r.converting)) (has_sublock lkid (rows_of_locks r.waiting)) (rows_some lkid r.waiting k among is)
 
 -- and among all
 among_all_some : (lkid : ℕ) (rs : List StoredResource) (r : StoredResource) → IsIn r rs → has_sublock_on lkid (plain_resource r) ≡ true
@@ -94,7 +94,7 @@ module _ (s : Records) (sound : IsSound s) (none_loose : s.loose ≡ []) (f : St
           sound.lkids_apart parent.1.at f.lock parent.2 f.row parent.3.3 (stored s f standing) (parent.3.4 ∙ is) in
           subst (IsIn at) (childless parent.0 parent.1 parent.3.0 parent.3.1 same) parent.3.2
 
-      none_on : (r : StoredResource) → IsIn r s.resources → (queue : Queue) → has_sublock f.row.lkid (rows_of (queued queue r)) ≡ false
+      none_on : (r : StoredResource) → IsIn r s.resources → (queue : Queue) → has_sublock f.row.lkid (rows_of_locks (queued queue r)) ≡ false
       none_on r among queue = rows_none f.row.lkid (queued queue r) (λ k here. none_stored k.at k.row (queued_stored s sound r among queue k here))
 
       of_list : (rs : List StoredResource) → ((r : StoredResource) → IsIn r rs → IsIn r s.resources)
@@ -154,21 +154,21 @@ module _ (s : Records) (sound : IsSound s) (none_loose : s.loose ≡ []) (f : St
   held_stands r among lkid pid holds = of_granted r.granted (λ k here. here) holds
     where
       of_converting : (locks : List StoredLock) → ((k : StoredLock) → IsIn k locks → IsIn k r.converting)
-          → Any (λ (row : Row). (row.lkid ≡ lkid) × (row.pid ≡ pid)) (rows_of locks)
+          → Any (λ (row : Row). (row.lkid ≡ lkid) × (row.pid ≡ pid)) (rows_of_locks locks)
           → (k : StoredLock) × (queue : Queue) × (IsIn k (queued queue r) × (queue ≢ Waiting) × (k.row.lkid ≡ lkid))
       of_converting [] within any = absurd (Any-none (λ (row : Row). (row.lkid ≡ lkid) × (row.pid ≡ pid)) any)
       of_converting (k ∷ rest) within any =
-          elim (Any-cases (λ (row : Row). (row.lkid ≡ lkid) × (row.pid ≡ pid)) k.row (rows_of rest) any) [
+          elim (Any-cases (λ (row : Row). (row.lkid ≡ lkid) × (row.pid ≡ pid)) k.row (rows_of_locks rest) any) [
             | inl here ↦ (k, Conversion, (within k (inl refl), (λ e. cc), here.0))
             | inr there ↦ of_converting rest (λ x later. within x (inr later)) there
           ]
 
       of_granted : (locks : List StoredLock) → ((k : StoredLock) → IsIn k locks → IsIn k r.granted)
-          → Any (λ (row : Row). (row.lkid ≡ lkid) × (row.pid ≡ pid)) (rows_of locks ++ rows_of r.converting)
+          → Any (λ (row : Row). (row.lkid ≡ lkid) × (row.pid ≡ pid)) (rows_of_locks locks ++ rows_of_locks r.converting)
           → (k : StoredLock) × (queue : Queue) × (IsIn k (queued queue r) × (queue ≢ Waiting) × (k.row.lkid ≡ lkid))
       of_granted [] within any = of_converting r.converting (λ k here. here) any
       of_granted (k ∷ rest) within any =
-          elim (Any-cases (λ (row : Row). (row.lkid ≡ lkid) × (row.pid ≡ pid)) k.row (rows_of rest ++ rows_of r.converting) any) [
+          elim (Any-cases (λ (row : Row). (row.lkid ≡ lkid) × (row.pid ≡ pid)) k.row (rows_of_locks rest ++ rows_of_locks r.converting) any) [
             | inl here ↦ (k, Granted, (within k (inl refl), (λ e. cc), here.0))
             | inr there ↦ of_granted rest (λ x later. within x (inr later)) there
           ]
@@ -200,7 +200,7 @@ module _ (s : Records) (sound : IsSound s) (none_loose : s.loose ≡ []) (f : St
       → f.queue ≡ Waiting → HasNoSublocks f.lock s
   waiting_childless no_lkid_0 parents waits p own among here same = of_list own.sublocks refl
     where
-      in_rows : (locks : List StoredLock) (k : StoredLock) (P : Row → Type 0) → AllByRecursion P (rows_of locks) → IsIn k locks → P k.row
+      in_rows : (locks : List StoredLock) (k : StoredLock) (P : Row → Type 0) → AllByRecursion P (rows_of_locks locks) → IsIn k locks → P k.row
       in_rows [] k P each is = absurd is
       in_rows (x ∷ rest) k P each is =
           elim is [
@@ -213,12 +213,12 @@ module _ (s : Records) (sound : IsSound s) (none_loose : s.loose ≡ []) (f : St
       parts P (x ∷ xs) ys each = let rest = parts P xs ys each.1 in ((each.0, rest.0), rest.1)
 
       of_queue : (r : StoredResource) (queue : Queue) (k : StoredLock) (P : Row → Type 0)
-          → AllByRecursion P (rows_of r.granted ++ rows_of r.converting ++ rows_of r.waiting) → IsIn k (queued queue r) → P k.row
+          → AllByRecursion P (rows_of_locks r.granted ++ rows_of_locks r.converting ++ rows_of_locks r.waiting) → IsIn k (queued queue r) → P k.row
       of_queue r Granted k P each is =
-          in_rows r.granted k P (parts P (rows_of r.granted) (rows_of r.converting) (parts P (rows_of r.granted ++ rows_of r.converting) (rows_of r.waiting) each).0).0 is
+          in_rows r.granted k P (parts P (rows_of_locks r.granted) (rows_of_locks r.converting) (parts P (rows_of_locks r.granted ++ rows_of_locks r.converting) (rows_of_locks r.waiting) each).0).0 is
       of_queue r Conversion k P each is =
-          in_rows r.converting k P (parts P (rows_of r.granted) (rows_of r.converting) (parts P (rows_of r.granted ++ rows_of r.converting) (rows_of r.waiting) each).0).1 is
-      of_queue r Waiting k P each is = in_rows r.waiting k P (parts P (rows_of r.granted ++ rows_of r.converting) (rows_of r.waiting) each).1 is
+          in_rows r.converting k P (parts P (rows_of_locks r.granted) (rows_of_locks r.converting) (parts P (rows_of_locks r.granted ++ rows_of_locks r.converting) (rows_of_locks r.waiting) each).0).1 is
+      of_queue r Waiting k P each is = in_rows r.waiting k P (parts P (rows_of_locks r.granted ++ rows_of_locks r.converting) (rows_of_locks r.waiting) each).1 is
 
       of_list : (sublocks : List ℕ) → own.sublocks ≡ sublocks → sublocks ≡ []
       of_list [] is = refl
@@ -246,7 +246,7 @@ by_recursion resources all =
 
 -- ---- the check of a dequeue
 
-module _ (m : Kept) (sound : IsSound m.records) (none_loose : m.records.loose ≡ []) (f : Standing) (standing : IsStanding f m.records) (cancels : Bool) where
+module _ (m : MachineState) (sound : IsSound m.records) (none_loose : m.records.loose ≡ []) (f : Standing) (standing : IsStanding f m.records) (cancels : Bool) where
   -- a lock with sublocks is not given up
   pub sublocks_refused : cancels ≡ false → ¬ HasNoSublocks f.lock m.records → Some Sublocks ≡ sublocks_refusal (plain_state m) cancels f.row.lkid
   unfolding sublocks_refusal

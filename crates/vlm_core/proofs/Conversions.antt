@@ -17,9 +17,9 @@ use Rattle.vlm_store.specs.Records.{Records, StoredResource, resource_at}
 use Rattle.vlm_locks.specs.Converting.{IsConverted, admission_on, processes_accepted}
 use Rattle.vlm_core.specs.declared.converting.AdmittedConversion.{AdmittedConversion}
 use Rattle.vlm_core.specs.Admissions.{IsAdmittedConversion}
-use Rattle.vlm_core.specs.Machine.{Kept, plain_state}
+use Rattle.vlm_core.specs.Machine.{MachineState, plain_state}
 
-module _ (old : Kept) (c : Conversion) (a : AdmittedConversion) (admitted : IsAdmittedConversion old c a) where
+module _ (old : MachineState) (c : Conversion) (a : AdmittedConversion) (admitted : IsAdmittedConversion old c a) where
   -- the resource of the lock
   abbrev own : StoredResource
   own = admitted.standing.standing.resource
@@ -64,7 +64,7 @@ module _ (old : Kept) (c : Conversion) (a : AdmittedConversion) (admitted : IsAd
       with_parts ps rs = record (plain_state old) { processes = ps; resources = rs; next_request = old.next_request + 1 }
 
 -- the state once the lock is withdrawn
-pub state_withdrawn : (old : Kept) (d : Dequeue) (w : Withdrawal) (new : Records) → w ≡ withdrawal_of (plain_state old) d
+pub state_withdrawn : (old : MachineState) (d : Dequeue) (w : Withdrawal) (new : Records) → w ≡ withdrawal_of (plain_state old) d
     → plain_resources new ≡ map (resource_after_withdrawals (w ∷ [])) (plain_resources old.records)
     → plain_processes new ≡ processes_after (flat_map (withdrawal_endings w) (plain_resources old.records)) (plain_processes old.records)
     → plain_state (record old { records = new }) ≡ deq_change (plain_state old) d

@@ -17,14 +17,14 @@ use Rattle.vlm_locks.specs.Rest.{IsAtRest}
 use Rattle.vlm_locks.specs.declared.entering.Entry.{Entry}
 use Rattle.vlm_locks.proofs.Keyed.{has_none, has_one}
 use Rattle.vlm_core.specs.Admissions.{IsEntry}
-use Rattle.vlm_core.specs.Machine.{Kept, plain_state}
+use Rattle.vlm_core.specs.Machine.{MachineState, plain_state}
 
 -- a new resource is free for every request
 pub is_at_once-new : (serial : ℕ) (site : Site) (request : Request) → is_at_once request (new_resource serial site) ≡ true
 unfolding is_at_once fits
 is_at_once-new serial site request = grind arith
 
-module _ (m : Kept) (e : NewRequest) (entry : Entry) (is : IsEntry m e entry) where
+module _ (m : MachineState) (e : NewRequest) (entry : Entry) (is : IsEntry m e entry) where
   abbrev s : State
   s = plain_state m
 
@@ -58,7 +58,7 @@ module _ (m : Kept) (e : NewRequest) (entry : Entry) (is : IsEntry m e entry) wh
       written at_once row =
           (blocks_after (cond at_once (grant_endings true row) []) (blocks_with (enq_resource s e).value_block (processes_accepted row.want row s.processes))).processes
 
-  -- a serial is given where no resource stands under the key
+  -- a serial is given where no resource stands under the handle
   pub serial_is : IsAtRest m.records → (last last_serial : ℕ) → last_serial + 1 ≡ m.next_serial → last ≡ cond (is_some entry.res) last_serial entry.serial
       → last + 1 ≡ cond (has_resource (enq_key s e) s.resources) m.next_serial (m.next_serial + 1)
   serial_is rest last last_serial next given = of_found entry.res is.found given

@@ -7,10 +7,10 @@ use Rattle.vlm_words.specs.Runs.{history_after, no_history}
 use Rattle.vlm_words.specs.Runs.RunFrom.{begin, next}
 use Rattle.vlm_words.specs.State.{State}
 use Rattle.vlm_words.specs.Stepped.{Outcome, outcome_endings}
-use Rattle.vlm_core.specs.Running.{Makes}
+use Rattle.vlm_core.specs.Running.{MakesInOrder}
 
 -- no step is made
-pub makes-none : (first : State) (before : List Answer) → Makes first [] before before first
+pub makes-none : (first : State) (before : List Answer) → MakesInOrder first [] before before first
 makes-none first before = record {
   given = [];
   legal = record { history = no_history; run = begin; taken = refl; answered = refl };
@@ -19,8 +19,8 @@ makes-none first before = record {
 
 -- the next step of the list is made
 pub makes-more : (first old new : State) (steps : List Step) (i : ℕ) (step : Step) (before after : List Answer) (answer : Answer)
-    → Makes first (take i steps) before after old → i < length steps → step ≡ get_or steps i step → Outcome old step new answer
-    → Makes first (take (i + 1) steps) before (after ++ answer ∷ []) new
+    → MakesInOrder first (take i steps) before after old → i < length steps → step ≡ get_or steps i step → Outcome old step new answer
+    → MakesInOrder first (take (i + 1) steps) before (after ++ answer ∷ []) new
 makes-more first old new steps i step before after answer made within here outcome =
     let legal = made.legal in
     let more = take_more steps i step within ∙ ap (λ s. take i steps ++ s ∷ []) (sym here) in

@@ -21,7 +21,7 @@ settled_one (x ∷ rs) settled r among =
       | inr there ↦ settled_one rs settled.1 r there
     ]
 
--- a resource of another key stays where one goes
+-- a resource of another handle stays where one goes
 among_without : (res : ℕ) (rs : List StoredResource) (r : StoredResource) → IsIn r rs → r.at ≢ res → IsIn r (without_resource res rs)
 among_without res [] r among differs = absurd among
 among_without res (x ∷ rs) r among differs =

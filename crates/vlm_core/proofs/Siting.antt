@@ -22,9 +22,9 @@ use Rattle.vlm_words.specs.declared.steps.NewRequest.{NewRequest}
 use Rattle.vlm_words.specs.Trees.{depth_refusal, enq_site, parent_refusal, parent_resource, root_domain, site_below, waiting_refusal}
 use Rattle.vlm_words.proofs.Passed.{both_pass, test_passes}
 use Rattle.vlm_links.specs.Lists.{IsIn}
-use Rattle.vlm_store.specs.declared.keys.Place.TheVariants.{Queued}
+use Rattle.vlm_store.specs.declared.handles.Place.TheVariants.{Queued}
 use Rattle.vlm_store.specs.Plain.{plain_resource, plain_resources}
-use Rattle.vlm_store.specs.Records.{IsParentOf, IsSound, Records, StoredResource, queued, resource_at, rows_of}
+use Rattle.vlm_store.specs.Records.{IsParentOf, IsSound, Records, StoredResource, queued, resource_at, rows_of_locks}
 use Rattle.vlm_locks.proofs.Found.{resource_alone, resource_at-at}
 use Rattle.vlm_locks.specs.declared.finding.Standing.{Standing}
 use Rattle.vlm_locks.specs.Standing.{IsStanding, IsStandingOf}
@@ -32,8 +32,8 @@ use Rattle.vlm_locks.proofs.Named.{any-absent, any-among}
 use Rattle.vlm_locks.proofs.Stood.{absent, own_among, stored}
 use Rattle.vlm_core.specs.declared.enqueuing.Form.{Form}
 use Rattle.vlm_core.specs.Admissions.{IsForm}
-use Rattle.vlm_core.specs.Machine.{Kept, plain_state}
-use Rattle.vlm_core.specs.Parents.{IsParent, IsParentStanding, lkid_of}
+use Rattle.vlm_core.specs.Machine.{MachineState, plain_state}
+use Rattle.vlm_core.specs.Parents.{IsParent, IsParentStanding, standing_lkid}
 
 -- what is so of each plain resource is so of each stored one
 pub each_resource : (P : Resource → Type 0) (rs : List StoredResource) → AllByRecursion P (map plain_resource rs) → (r : StoredResource) → IsIn r rs → P (plain_resource r)
@@ -51,7 +51,7 @@ of_some P o x is told = subst (λ q. IfSome q P) is told
 module _ (s : Records) (sound : IsSound s) (f : Standing) (standing : IsStanding f s) where
   -- the lock is in this queue of the resource
   abbrev is_in : Queue → StoredResource → Bool
-  is_in queue r = list_any (is_lock_of f.row.pid f.row.lkid) (rows_of (queued queue r))
+  is_in queue r = list_any (is_lock_of f.row.pid f.row.lkid) (rows_of_locks (queued queue r))
 
   -- it is in no queue but its own
   not_in : (r : StoredResource) → IsIn r s.resources → (queue : Queue) → Queued r.at queue ≢ Queued f.res f.queue → is_in queue r ≡ false
@@ -104,7 +104,7 @@ module _ (s : Records) (sound : IsSound s) (f : Standing) (standing : IsStanding
           ]
 
 -- the resource of a parent that is named is that of its lock
-pub parent_found : (m : Kept) → IsSound m.records → (f : Standing) (standing : IsStanding f m.records) (pid : ℕ) → f.row.pid ≡ pid → f.row.lkid ≢ 0
+pub parent_found : (m : MachineState) → IsSound m.records → (f : Standing) (standing : IsStanding f m.records) (pid : ℕ) → f.row.pid ≡ pid → f.row.lkid ≢ 0
     → parent_resource (plain_state m) pid f.row.lkid ≡ Some (plain_resource standing.resource)
 unfolding parent_resource
 parent_found m sound f standing pid owner named =
@@ -112,7 +112,7 @@ parent_found m sound f standing pid owner named =
     ∙ ap (λ p. find (holds_lock p f.row.lkid) (plain_resources m.records)) (sym owner) ∙ holder_is m.records sound f standing
 
 -- where none is named there is none
-pub parent_none : (m : Kept) (pid : ℕ) → parent_resource (plain_state m) pid 0 ≡ None
+pub parent_none : (m : MachineState) (pid : ℕ) → parent_resource (plain_state m) pid 0 ≡ None
 unfolding parent_resource
 parent_none m pid = refl
 
@@ -164,7 +164,7 @@ above_is r passed =
 second_is : (first later : Option Cond) → or_else first later ≡ None → later ≡ None
 second_is first later passed = (both_pass first later passed).1
 
-module _ (m : Kept) (sound : IsSound m.records) (pid lkid : ℕ) (f : Standing) (stands : IsStandingOf pid lkid f m.records) (named : (lkid == 0) ≡ false) where
+module _ (m : MachineState) (sound : IsSound m.records) (pid lkid : ℕ) (f : Standing) (stands : IsStandingOf pid lkid f m.records) (named : (lkid == 0) ≡ false) where
   -- the lock that is named has an identification
   not_0 : f.row.lkid ≢ 0
   not_0 zero = let no : true ≡ false = sym (eq-eqb lkid 0 (sym stands.named ∙ zero)) ∙ named in cc
@@ -196,7 +196,7 @@ module _ (m : Kept) (sound : IsSound m.records) (pid lkid : ℕ) (f : Standing) 
   }
 
 -- the row that names the parent has it
-pub parent_of_row : (s : Records) → (pid : ℕ) (parent : Option Standing) → IsParent pid parent s → (row : Row) → row.parent ≡ lkid_of parent
+pub parent_of_row : (s : Records) → (pid : ℕ) (parent : Option Standing) → IsParent pid parent s → (row : Row) → row.parent ≡ standing_lkid parent
     → IsParentOf (option_map (λ up. up.lock) parent) row s
 parent_of_row s pid None is row named = named
 parent_of_row s pid (Some f) is row named = (f.row, (stored s f is.standing.standing, sym named))

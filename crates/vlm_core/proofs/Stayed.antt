@@ -10,7 +10,7 @@ use Rattle.vlm_locks.proofs.Found.{process_there}
 use Rattle.vlm_core.specs.declared.processes.Caller.{Caller}
 use Rattle.vlm_core.specs.Admissions.{IsCaller}
 
--- a process under its key and its identification makes steps
+-- a process under its handle and its identification makes steps
 pub caller_of : (caller : Caller) (s : Records) → IsProcess caller.at caller.pid s → IsCaller caller s
 caller_of caller s is = record { lives = is; there = process_there s caller.at caller.pid is }
 

@@ -16,13 +16,13 @@ use Rattle.vlm_words.specs.Laws.{DeclarationsGiveNewIdentifications, rows_on}
 use Rattle.vlm_words.specs.State.{Process}
 use Rattle.vlm_words.specs.Stepped.{refused_or, step_change}
 use Rattle.vlm_links.specs.Lists.{IsIn}
-use Rattle.vlm_store.specs.declared.keys.Place.{Place}
-use Rattle.vlm_store.specs.declared.keys.Place.TheVariants.{Loose, Queued}
+use Rattle.vlm_store.specs.declared.handles.Place.{Place}
+use Rattle.vlm_store.specs.declared.handles.Place.TheVariants.{Loose, Queued}
 use Rattle.vlm_store.specs.Plain.{plain_resource, plain_resources}
-use Rattle.vlm_store.specs.Records.{IsNewLock, IsNewProcess, Records, StoredLock, StoredProcess, StoredResource, locks_at, queued, resource_at, rows_of}
+use Rattle.vlm_store.specs.Records.{IsNewLock, IsNewProcess, Records, StoredLock, StoredProcess, StoredResource, locks_at, queued, resource_at, rows_of_locks}
 use Rattle.vlm_locks.specs.Rising.{IsAboveAll}
 use Rattle.vlm_locks.proofs.Stood.{resource_among}
-use Rattle.vlm_core.specs.Machine.{Kept, plain_state}
+use Rattle.vlm_core.specs.Machine.{MachineState, plain_state}
 
 -- ---- locks
 
@@ -31,14 +31,14 @@ abbrev one_for : ℕ → Row → ℕ
 one_for lkid row = cond (row.lkid == lkid) 1 0
 
 -- a lock in a queue is counted there
-counted : (lkid : ℕ) (locks : List StoredLock) (k : StoredLock) → IsIn k locks → k.row.lkid ≡ lkid → 1 ≤ sum_by (one_for lkid) (rows_of locks)
+counted : (lkid : ℕ) (locks : List StoredLock) (k : StoredLock) → IsIn k locks → k.row.lkid ≡ lkid → 1 ≤ sum_by (one_for lkid) (rows_of_locks locks)
 counted lkid [] k among same = absurd among
 counted lkid (x ∷ rest) k among same =
     elim among [
       | inl here ↦
           let one : one_for lkid x.row ≡ 1 = ap (λ b. cond b 1 0) (eq-eqb x.row.lkid lkid (ap (λ (y : StoredLock). y.row.lkid) here ∙ same)) in
-          omega (arith, one, sum_by-cons (one_for lkid) x.row (rows_of rest))
-      | inr there ↦ omega (arith, counted lkid rest k there same, sum_by-cons (one_for lkid) x.row (rows_of rest))
+          omega (arith, one, sum_by-cons (one_for lkid) x.row (rows_of_locks rest))
+      | inr there ↦ omega (arith, counted lkid rest k there same, sum_by-cons (one_for lkid) x.row (rows_of_locks rest))
     ]
 
 -- and on its resource
@@ -89,7 +89,7 @@ each_stored P (x ∷ rest) all p among =
     ]
 
 -- where a declaration is not refused, no process has the identification that it gives
-pub new_process : (m : Kept) (d : Declaration) → None ≡ declare_refusal (plain_state m) d → DeclarationsGiveNewIdentifications (plain_state m)
+pub new_process : (m : MachineState) (d : Declaration) → None ≡ declare_refusal (plain_state m) d → DeclarationsGiveNewIdentifications (plain_state m)
     → IsNewProcess (next_pid (plain_state m) d.node) m.records
 new_process m d passed new p among same =
     each_stored (λ q. q.pid ≢ next_pid (plain_state m) d.node) m.records.processes

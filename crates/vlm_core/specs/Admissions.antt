@@ -24,10 +24,10 @@ use Rattle.vlm_core.specs.declared.dequeuing.AdmittedDequeue.{AdmittedDequeue}
 use Rattle.vlm_core.specs.declared.enqueuing.AdmittedRequest.{AdmittedRequest}
 use Rattle.vlm_core.specs.declared.enqueuing.Form.{Form}
 use Rattle.vlm_core.specs.declared.processes.Caller.{Caller}
-use Rattle.vlm_core.specs.Machine.{Kept, plain_state}
-use Rattle.vlm_core.specs.Parents.{IsParent, lkid_of}
+use Rattle.vlm_core.specs.Machine.{MachineState, plain_state}
+use Rattle.vlm_core.specs.Parents.{IsParent, standing_lkid}
 
--- the caller is a living process, and this is its key
+-- the caller is a living process, and this is its handle
 pub record IsCaller (caller : Caller) (s : Records) : Type 0 where
   pub lives : IsProcess caller.at caller.pid s
   pub there : HasProcess caller.at s
@@ -39,16 +39,16 @@ pub record IsForm (s : State) (e : NewRequest) (form : Form) : Type 0 where
   pub name : form.name ≡ e.name
 
 -- a new request is asked by this caller, says this of itself, and its parent lock stands so, if it names one
-pub record IsAskedBy (m : Kept) (e : NewRequest) (caller : Caller) (form : Form) (parent : Option Standing) : Type 0 where
+pub record IsAskedBy (m : MachineState) (e : NewRequest) (caller : Caller) (form : Form) (parent : Option Standing) : Type 0 where
   pub living : IsCaller caller m.records
   pub pid : caller.pid ≡ e.pid
   pub says : IsForm (plain_state m) e form
   pub stands : IsParent caller.pid parent m.records
-  pub named : lkid_of parent ≡ form.parent
+  pub named : standing_lkid parent ≡ form.parent
 
 -- the entry of a new request's lock: its row and who owns it, its parent lock, where its resource stands, under which
 -- serial that is made if it is not there, and whether the request is granted at once
-pub record IsEntry (m : Kept) (e : NewRequest) (entry : Entry) : Type 0 where
+pub record IsEntry (m : MachineState) (e : NewRequest) (entry : Entry) : Type 0 where
   pub row : entry.row ≡ enq_row (plain_state m) e
   pub owner : IsProcess entry.owner entry.row.pid m.records
   pub parent : IsParentOf entry.parent entry.row m.records
@@ -59,7 +59,7 @@ pub record IsEntry (m : Kept) (e : NewRequest) (entry : Entry) : Type 0 where
   pub at_once : entry.at_once ≡ enq_at_once (plain_state m) e
 
 -- the new request is admitted so: the entry of its lock, and what it answers; and there are numbers for it
-pub record IsAdmitted (m : Kept) (e : NewRequest) (a : AdmittedRequest) : Type 0 where
+pub record IsAdmitted (m : MachineState) (e : NewRequest) (a : AdmittedRequest) : Type 0 where
   pub entry : IsEntry m e a.entry
   pub answer : a.answer ≡ acceptance e.flags (enq_at_once (plain_state m) e)
   pub lkid : m.next_lkid < 2 ^ 32
@@ -67,7 +67,7 @@ pub record IsAdmitted (m : Kept) (e : NewRequest) (a : AdmittedRequest) : Type 0
 
 -- the conversion is admitted so: its lock as it stands granted, what is asked for, and whether that is
 -- granted at once; and there is a number for it
-pub record IsAdmittedConversion (m : Kept) (c : Conversion) (a : AdmittedConversion) : Type 0 where
+pub record IsAdmittedConversion (m : MachineState) (c : Conversion) (a : AdmittedConversion) : Type 0 where
   pub standing : IsStandingOf c.pid (convert_lkid (plain_state m) c) a.standing m.records
   pub granted : a.standing.queue ≡ Granted
   pub asked : a.asked ≡ convert_request (plain_state m) c
@@ -76,10 +76,10 @@ pub record IsAdmittedConversion (m : Kept) (c : Conversion) (a : AdmittedConvers
   pub number : m.next_request < 2 ^ 64
 
 -- the dequeue is admitted so: its lock as it stands, and what is to become of it
-pub record IsAdmittedDequeue (m : Kept) (d : Dequeue) (a : AdmittedDequeue) : Type 0 where
+pub record IsAdmittedDequeue (m : MachineState) (d : Dequeue) (a : AdmittedDequeue) : Type 0 where
   pub standing : IsStandingOf d.pid (dequeue_lkid (plain_state m) d) a.standing m.records
   pub withdrawal : plain_withdrawal a.withdrawal ≡ withdrawal_of (plain_state m) d
 
 -- a lock that the dequeue gives up has no sublocks
-abbrev pub IsChildless : Kept → AdmittedDequeue → Type 0
+abbrev pub IsChildless : MachineState → AdmittedDequeue → Type 0
 IsChildless m a = goes a.withdrawal.stays a.standing.queue ≡ true → HasNoSublocks a.standing.lock m.records

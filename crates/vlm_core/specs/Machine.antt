@@ -6,8 +6,8 @@ use Rattle.vlm_store.specs.Records.{Records}
 use Rattle.vlm_locks.specs.Rest.{IsAtRest}
 use Rattle.vlm_core.specs.declared.records.Machine.TheInside.{Inside}
 
--- the nodes, the records under their keys, and the numbers that come next
-pub record Kept : Type 0 where
+-- the nodes, the records under their handles, and the numbers that come next
+pub record MachineState : Type 0 where
   pub nodes : List Node
   pub records : Records
   pub next_lkid : ℕ
@@ -15,7 +15,7 @@ pub record Kept : Type 0 where
   pub next_serial : ℕ
 
 -- the numbers that come next are one more than those given last
-abbrev pub kept : Inside → Kept
+abbrev pub kept : Inside → MachineState
 kept m = record {
   nodes = m.nodes;
   records = m.store;
@@ -24,8 +24,8 @@ kept m = record {
   next_serial = m.last_serial + 1;
 }
 
--- the state of the plain machine: the records without their keys
-abbrev pub plain_state : Kept → State
+-- the state of the plain machine: the records without their handles
+abbrev pub plain_state : MachineState → State
 plain_state m = record {
   nodes = m.nodes;
   processes = plain_processes m.records;
@@ -36,5 +36,5 @@ plain_state m = record {
 }
 
 -- the records are as they are to be between two steps, in each part of a step too
-pub record IsSound (m : Inside) : Type 0 where
+pub record HasRecordsAtRest (m : Inside) : Type 0 where
   pub rest : IsAtRest m.store

@@ -5,9 +5,9 @@ use Rattle.vlm_locks.specs.declared.finding.Standing.{Standing}
 use Rattle.vlm_locks.specs.Standing.{IsStandingOf}
 
 -- the identification of the parent lock, 0 where there is none
-abbrev pub lkid_of : Option Standing → ℕ
-lkid_of None = 0
-lkid_of (Some parent) = parent.row.lkid
+abbrev pub standing_lkid : Option Standing → ℕ
+standing_lkid None = 0
+standing_lkid (Some parent) = parent.row.lkid
 
 -- the lock is one of the process, which stands so and not on the lowest level
 pub record IsParentStanding (pid : ℕ) (parent : Standing) (s : Records) : Type 0 where

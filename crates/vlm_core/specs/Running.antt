@@ -7,7 +7,7 @@ use Rattle.vlm_words.specs.State.{State}
 
 -- the steps were made in order, each in the state that the one before it left, and their answers are put
 -- behind those before
-pub record Makes (old : State) (steps : List Step) (before after : List Answer) (new : State) : Type 0 where
+pub record MakesInOrder (old : State) (steps : List Step) (before after : List Answer) (new : State) : Type 0 where
   pub given : List Answer
   pub legal : Legal old steps given new
   pub answered : after ≡ before ++ given

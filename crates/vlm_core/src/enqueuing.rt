@@ -50,7 +50,7 @@ pub(crate) struct Form {
     name: Name,
 }
 
-// Where the resource under a key is, if it is there, and whether a request is granted at once on it, or on a new
+// Where the resource under a handle is, if it is there, and whether a request is granted at once on it, or on a new
 // one.
 #[derive(Clone, Copy)]
 pub(crate) struct Found {

@@ -14,7 +14,7 @@ ghost use Rattle.vlm_locks.specs.Standing.{IsStanding};
 ghost use Rattle.vlm_core.specs.Admissions.{IsCaller};
 ghost use Rattle.vlm_core.specs.Between.{IsBetweenSteps};
 ghost use Rattle.vlm_core.specs.Machine.{plain_state};
-ghost use Rattle.vlm_core.specs.Parents.{IsParent, lkid_of};
+ghost use Rattle.vlm_core.specs.Parents.{IsParent, standing_lkid};
 
 use crate::processes::Caller;
 use crate::records::Machine;
@@ -30,7 +30,7 @@ use vlm_words::resources::{Domain, Key, Queue, Site};
 // The lowest level at which a resource can stand.
 const LAST_LEVEL: u8 = 15;
 
-/// The key of the parent lock, if there is one.
+/// The handle of the parent lock, if there is one.
 pub(crate) fn lock_of(parent: &Option<Standing>) -> Option<LockAt>
     ensures { result ≡ option_map (λ up. up.lock) parent.now }
 {
@@ -53,7 +53,7 @@ impl Machine {
             ≡ site_refusal (plain_state self.now) caller.now.pid (flag_bits flags) lkid }
         ensures parent { IfOk result
             (λ parent. IsParent caller.now.pid parent self.now.records) }
-        ensures named { IfOk result (λ parent. lkid_of parent ≡ lkid) }
+        ensures named { IfOk result (λ parent. standing_lkid parent ≡ lkid) }
     {
         let parent = self.checked_parent(caller, lkid)?;
         self.check_privilege(caller, flags, lkid)?;
@@ -67,7 +67,7 @@ impl Machine {
             ≡ parent_refusal (plain_state self.now) caller.now.pid lkid }
         ensures parent { IfOk result
             (λ parent. IsParent caller.now.pid parent self.now.records) }
-        ensures named { IfOk result (λ parent. lkid_of parent ≡ lkid) }
+        ensures named { IfOk result (λ parent. standing_lkid parent ≡ lkid) }
     {
         law_records_are_sound(&self.store);
         if lkid == 0 {
@@ -135,7 +135,7 @@ impl Machine {
         requires between { IsBetweenSteps (plain_state self.now) }
         ensures site { result
             ≡ site_below (root_domain (plain_state self.now) caller.now.pid (flag_bits flags)) name
-            (parent_resource (plain_state self.now) caller.now.pid (lkid_of parent.now)) }
+            (parent_resource (plain_state self.now) caller.now.pid (standing_lkid parent.now)) }
         ensures keyed { IsKeyed result.domain result.key }
     {
         match parent {

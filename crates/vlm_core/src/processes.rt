@@ -10,7 +10,7 @@ use vlm_store::{ProcAt, Store};
 /// A living process that makes a step.
 #[derive(Clone, Copy)]
 pub(crate) struct Caller {
-    // its key
+    // its handle
     pub(crate) at: ProcAt,
     // its identification
     pub(crate) pid: u32,

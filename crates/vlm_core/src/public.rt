@@ -7,7 +7,7 @@ ghost use Rattle.vlm_words.specs.State.{start};
 ghost use Rattle.vlm_words.specs.Stepped.{Outcome, stepped};
 ghost use Rattle.vlm_links.specs.Lists.{IsIn};
 ghost use Rattle.vlm_store.specs.Plain.{plain_processes, plain_resources};
-ghost use Rattle.vlm_store.specs.Records.{StoredResource, queued, rows_of};
+ghost use Rattle.vlm_store.specs.Records.{StoredResource, queued, rows_of_locks};
 ghost use Rattle.vlm_queue.specs.Walks.{GivesInTurn};
 ghost use Rattle.vlm_core.specs.Between.{IsBetweenSteps};
 
@@ -71,14 +71,14 @@ impl Core {
         let _machine = &self.machine;
     }
 
-    /// The records of the core: its resources and its living processes are theirs without their keys, and
+    /// The records of the core: its resources and its living processes are theirs without their handles, and
     /// each queue of a resource is the locks that `head` and then `next` give there; no other lock is stored. No
     /// two locks of a resource hold incompatible modes, and on none is anything left to grant.
     pub fn store(&self) -> &Store
         ensures resources { plain_resources result.now ≡ self.now.resources }
         ensures processes { plain_processes result.now ≡ self.now.processes }
         ensures queues { (r : StoredResource) → IsIn r result.now.resources
-            → (queue : Queue) → GivesInTurn r.at queue (rows_of (queued queue r)) result.now }
+            → (queue : Queue) → GivesInTurn r.at queue (rows_of_locks (queued queue r)) result.now }
         ensures none_loose { result.now.loose ≡ [] }
         ensures held { HeldModesAreCompatible self.now }
         ensures served { NothingIsLeftToGrant self.now }

@@ -17,7 +17,7 @@ use vlm_store::{ResAt, Store};
 use vlm_words::conditions::Cond;
 use vlm_words::steps::{Answer, Step};
 
-/// The machine, with its records under their keys.
+/// The machine, with its records under their handles.
 #[derive(Drop)]
 pub(crate) struct Machine {
     // node k stands at k - 1
@@ -31,15 +31,15 @@ pub(crate) struct Machine {
 }
 
 impl Model for Machine {
-    ghost use Rattle.vlm_core.specs.Machine.{Kept};
+    ghost use Rattle.vlm_core.specs.Machine.{MachineState};
 
-    ghost Value = { Kept };
+    ghost Value = { MachineState };
 
-    ghost use Rattle.vlm_core.specs.Machine.{IsSound, kept};
+    ghost use Rattle.vlm_core.specs.Machine.{HasRecordsAtRest, kept};
 
     ghost view = { kept };
 
-    ghost invariant = { IsSound };
+    ghost invariant = { HasRecordsAtRest };
 }
 
 impl Machine {

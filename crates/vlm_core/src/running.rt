@@ -1,7 +1,7 @@
 //! Many steps in order.
 
 ghost use Rattle.std.specs.Prelude.{◌<◌, OnOk, IfErr, length, take};
-ghost use Rattle.vlm_core.specs.Running.{Makes};
+ghost use Rattle.vlm_core.specs.Running.{MakesInOrder};
 
 use crate::public::Core;
 use vlm_words::steps::{Answer, Step};
@@ -17,10 +17,10 @@ pub struct Stopped {
 /// made before its step.
 pub fn run_steps(core: &mut Core, steps: &[Step], answers: &mut Vec<Answer>) -> Result<(), Stopped>
     ensures made { OnOk result
-        (Makes core.old steps.now answers.old.items answers.new.items core.new) }
+        (MakesInOrder core.old steps.now answers.old.items answers.new.items core.new) }
     ensures within { IfErr result (λ stopped. stopped.done < length steps.now) }
     ensures stopped { IfErr result (λ stopped.
-        Makes core.old (take stopped.done steps.now) answers.old.items answers.new.items core.new) }
+        MakesInOrder core.old (take stopped.done steps.now) answers.old.items answers.new.items core.new) }
 {
     for (done, step) in steps.iter().enumerate() {
         if answers.reserve(1).is_err() {

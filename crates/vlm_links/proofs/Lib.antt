@@ -1,6 +1,6 @@
 pub mod Chains
 pub mod Images
 pub mod Keeping
-pub mod KeyLists
+pub mod HandleLists
 pub mod Rings
 pub mod Walks

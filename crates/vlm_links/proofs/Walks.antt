@@ -1,74 +1,74 @@
--- Walks over the keys of a list, from the first to the last or back: for callers.
+-- Walks over the handles of a list, from the first to the last or back: for callers.
 use Rattle.std.proofs.Common.{◌≡◌, ℕ, List, [], ◌∷◌, ◌++◌, Some, refl, sym, ap, ◌∙◌, inl, inr, eq-eqb, ne_eqb}
 use Rattle.std.proofs.lemmas.Bool.{cases_eq}
 use Rattle.std.proofs.lemmas.Option.{none-some, same_Some}
-use Rattle.vlm_links.specs.Lists.{IsIn, Place, before_from, first_key, key_after, key_before, last_from, last_key, without}
-use Rattle.vlm_links.proofs.KeyLists.{without_head, without_past}
+use Rattle.vlm_links.specs.Lists.{IsIn, Spot, before_from, first_handle, handle_after, handle_before, last_from, last_handle, without}
+use Rattle.vlm_links.proofs.HandleLists.{without_head, without_past}
 
--- ---- what is told is one of the keys
+-- ---- what is told is one of the handles
 
-pub first_key-in : (keys : List ℕ) (key : ℕ) → Some key ≡ first_key keys → IsIn key keys
-first_key-in [] key is = absurd (none-some key (sym is))
-first_key-in (first ∷ rest) key is = inl (sym (same_Some key first is))
+pub first_handle-in : (handles : List ℕ) (handle : ℕ) → Some handle ≡ first_handle handles → IsIn handle handles
+first_handle-in [] handle is = absurd (none-some handle (sym is))
+first_handle-in (first ∷ rest) handle is = inl (sym (same_Some handle first is))
 
-pub key_after-in : (after : ℕ) (keys : List ℕ) (key : ℕ) → Some key ≡ key_after after keys → IsIn key keys
-key_after-in after [] key is = absurd (none-some key (sym is))
-key_after-in after (first ∷ rest) key is =
+pub handle_after-in : (after : ℕ) (handles : List ℕ) (handle : ℕ) → Some handle ≡ handle_after after handles → IsIn handle handles
+handle_after-in after [] handle is = absurd (none-some handle (sym is))
+handle_after-in after (first ∷ rest) handle is =
     elim (cases_eq first after) [
-      | inl same ↦ inr (first_key-in rest key (is ∙ rw (eq-eqb first after same) refl))
-      | inr differs ↦ inr (key_after-in after rest key (is ∙ rw (ne_eqb first after differs) refl))
+      | inl same ↦ inr (first_handle-in rest handle (is ∙ rw (eq-eqb first after same) refl))
+      | inr differs ↦ inr (handle_after-in after rest handle (is ∙ rw (ne_eqb first after differs) refl))
     ]
 
-last_from-in : (first : ℕ) (keys : List ℕ) (key : ℕ) → Some key ≡ last_from (Some first) keys → IsIn key (first ∷ keys)
-last_from-in first [] key is = inl (sym (same_Some key first is))
-last_from-in first (next ∷ rest) key is = inr (last_from-in next rest key is)
+last_from-in : (first : ℕ) (handles : List ℕ) (handle : ℕ) → Some handle ≡ last_from (Some first) handles → IsIn handle (first ∷ handles)
+last_from-in first [] handle is = inl (sym (same_Some handle first is))
+last_from-in first (next ∷ rest) handle is = inr (last_from-in next rest handle is)
 
-pub last_key-in : (keys : List ℕ) (key : ℕ) → Some key ≡ last_key keys → IsIn key keys
-last_key-in [] key is = absurd (none-some key (sym is))
-last_key-in (first ∷ rest) key is = last_from-in first rest key is
+pub last_handle-in : (handles : List ℕ) (handle : ℕ) → Some handle ≡ last_handle handles → IsIn handle handles
+last_handle-in [] handle is = absurd (none-some handle (sym is))
+last_handle-in (first ∷ rest) handle is = last_from-in first rest handle is
 
-before_from-in : (first before : ℕ) (keys : List ℕ) (key : ℕ) → Some key ≡ before_from (Some first) before keys → IsIn key (first ∷ keys)
-before_from-in first before [] key is = absurd (none-some key (sym is))
-before_from-in first before (next ∷ rest) key is =
+before_from-in : (first before : ℕ) (handles : List ℕ) (handle : ℕ) → Some handle ≡ before_from (Some first) before handles → IsIn handle (first ∷ handles)
+before_from-in first before [] handle is = absurd (none-some handle (sym is))
+before_from-in first before (next ∷ rest) handle is =
     elim (cases_eq next before) [
-      | inl same ↦ inl (sym (same_Some key first (is ∙ rw (eq-eqb next before same) refl)))
-      | inr differs ↦ inr (before_from-in next before rest key (is ∙ rw (ne_eqb next before differs) refl))
+      | inl same ↦ inl (sym (same_Some handle first (is ∙ rw (eq-eqb next before same) refl)))
+      | inr differs ↦ inr (before_from-in next before rest handle (is ∙ rw (ne_eqb next before differs) refl))
     ]
 
-pub key_before-in : (before : ℕ) (keys : List ℕ) (key : ℕ) → Some key ≡ key_before before keys → IsIn key keys
-key_before-in before [] key is = absurd (none-some key (sym is))
-key_before-in before (first ∷ rest) key is =
+pub handle_before-in : (before : ℕ) (handles : List ℕ) (handle : ℕ) → Some handle ≡ handle_before before handles → IsIn handle handles
+handle_before-in before [] handle is = absurd (none-some handle (sym is))
+handle_before-in before (first ∷ rest) handle is =
     elim (cases_eq first before) [
-      | inl same ↦ absurd (none-some key (sym (is ∙ rw (eq-eqb first before same) refl)))
-      | inr differs ↦ before_from-in first before rest key (is ∙ rw (ne_eqb first before differs) refl)
+      | inl same ↦ absurd (none-some handle (sym (is ∙ rw (eq-eqb first before same) refl)))
+      | inr differs ↦ before_from-in first before rest handle (is ∙ rw (ne_eqb first before differs) refl)
     ]
 
--- ---- a key among those before and behind it
+-- ---- a handle among those before and behind it
 
-last_from-push : (from : Place) (before : List ℕ) (key : ℕ) → last_from from (before ++ key ∷ []) ≡ Some key
-last_from-push from [] key = refl
-last_from-push from (first ∷ rest) key = last_from-push (Some first) rest key
+last_from-push : (from : Spot) (before : List ℕ) (handle : ℕ) → last_from from (before ++ handle ∷ []) ≡ Some handle
+last_from-push from [] handle = refl
+last_from-push from (first ∷ rest) handle = last_from-push (Some first) rest handle
 
-before_from-among : (from : Place) (before : List ℕ) (key : ℕ) (rest : List ℕ) → ¬ IsIn key before → before_from from key (before ++ key ∷ rest) ≡ last_from from before
-before_from-among from [] key rest absent = rw (eq-eqb key key refl) refl
-before_from-among from (first ∷ before) key rest absent =
-    rw (ne_eqb first key (λ same. absent (inl same))) (before_from-among (Some first) before key rest (λ there. absent (inr there)))
+before_from-among : (from : Spot) (before : List ℕ) (handle : ℕ) (rest : List ℕ) → ¬ IsIn handle before → before_from from handle (before ++ handle ∷ rest) ≡ last_from from before
+before_from-among from [] handle rest absent = rw (eq-eqb handle handle refl) refl
+before_from-among from (first ∷ before) handle rest absent =
+    rw (ne_eqb first handle (λ same. absent (inl same))) (before_from-among (Some first) before handle rest (λ there. absent (inr there)))
 
--- a walk on goes on with the first of those behind a key
-pub key_after-among : (before : List ℕ) (key : ℕ) (rest : List ℕ) → ¬ IsIn key before → key_after key (before ++ key ∷ rest) ≡ first_key rest
-key_after-among [] key rest absent = rw (eq-eqb key key refl) refl
-key_after-among (first ∷ before) key rest absent =
-    rw (ne_eqb first key (λ same. absent (inl same))) (key_after-among before key rest (λ there. absent (inr there)))
+-- a walk on goes on with the first of those behind a handle
+pub handle_after-among : (before : List ℕ) (handle : ℕ) (rest : List ℕ) → ¬ IsIn handle before → handle_after handle (before ++ handle ∷ rest) ≡ first_handle rest
+handle_after-among [] handle rest absent = rw (eq-eqb handle handle refl) refl
+handle_after-among (first ∷ before) handle rest absent =
+    rw (ne_eqb first handle (λ same. absent (inl same))) (handle_after-among before handle rest (λ there. absent (inr there)))
 
--- where there is a last key, the others stand before it
-pub last_key-split : (keys : List ℕ) (key : ℕ) → Some key ≡ last_key keys → (before : List ℕ) × (keys ≡ before ++ key ∷ [])
-last_key-split [] key is = absurd (none-some key (sym is))
-last_key-split (first ∷ []) key is = ([], ap (λ k. k ∷ []) (sym (same_Some key first is)))
-last_key-split (first ∷ (next ∷ rest)) key is =
-    let behind = last_key-split (next ∷ rest) key is in (first ∷ behind.0, ap (λ ks. first ∷ ks) behind.1)
+-- where there is a last handle, the others stand before it
+pub last_handle-split : (handles : List ℕ) (handle : ℕ) → Some handle ≡ last_handle handles → (before : List ℕ) × (handles ≡ before ++ handle ∷ [])
+last_handle-split [] handle is = absurd (none-some handle (sym is))
+last_handle-split (first ∷ []) handle is = ([], ap (λ k. k ∷ []) (sym (same_Some handle first is)))
+last_handle-split (first ∷ (next ∷ rest)) handle is =
+    let behind = last_handle-split (next ∷ rest) handle is in (first ∷ behind.0, ap (λ ks. first ∷ ks) behind.1)
 
--- without the last key the others are left
-pub without_last : (before : List ℕ) (key : ℕ) → ¬ IsIn key before → without key (before ++ key ∷ []) ≡ before
-without_last [] key absent = without_head key key [] refl
-without_last (first ∷ before) key absent =
-    without_past key first (before ++ key ∷ []) (λ same. absent (inl same)) ∙ ap (λ ks. first ∷ ks) (without_last before key (λ there. absent (inr there)))
+-- without the last handle the others are left
+pub without_last : (before : List ℕ) (handle : ℕ) → ¬ IsIn handle before → without handle (before ++ handle ∷ []) ≡ before
+without_last [] handle absent = without_head handle handle [] refl
+without_last (first ∷ before) handle absent =
+    without_past handle first (before ++ handle ∷ []) (λ same. absent (inl same)) ∙ ap (λ ks. first ∷ ks) (without_last before handle (λ there. absent (inr there)))

@@ -3,18 +3,18 @@ use Rattle.std.specs.Prelude.{◌≡◌, ℕ, ◌==◌, Option, None, Some, if�
 use Rattle.std.proofs.Common.{refl, sym, inl, inr, eq-eqb, ne_eqb}
 use Rattle.std.proofs.lemmas.Bool.{cases_eq}
 
--- the key that is stored so, or none at the greatest number of four bytes
-abbrev pub key_in : ℕ → Option ℕ
-key_in raw = if raw == 4294967295 then None else Some raw
+-- the handle that is stored so, or none at the greatest number of four bytes
+abbrev pub handle_in : ℕ → Option ℕ
+handle_in raw = if raw == 4294967295 then None else Some raw
 
--- how a key, or none, is stored
-abbrev pub raw_key : Option ℕ → ℕ
-raw_key None = 4294967295
-raw_key (Some key) = key
+-- how a handle, or none, is stored
+abbrev pub raw_handle : Option ℕ → ℕ
+raw_handle None = 4294967295
+raw_handle (Some handle) = handle
 
--- a stored key is stored again as it was
-pub raw_key-key_in : (raw : ℕ) → raw_key (key_in raw) ≡ raw
-raw_key-key_in raw =
+-- a stored handle is stored again as it was
+pub raw_handle-handle_in : (raw : ℕ) → raw_handle (handle_in raw) ≡ raw
+raw_handle-handle_in raw =
     elim (cases_eq raw 4294967295) [
       | inl none ↦ rw (eq-eqb raw 4294967295 none) (sym none)
       | inr some ↦ rw (ne_eqb raw 4294967295 some) refl

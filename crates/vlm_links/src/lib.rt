@@ -1,6 +1,6 @@
 //! Doubly linked lists that run through the records of a slab.
 //!
-//! A list is a chain of slab keys. Its links stand in the records themselves, so that a record joins at
+//! A list is a chain of slab handles. Its links stand in the records themselves, so that a record joins at
 //! the end and leaves from anywhere in constant time, and neither wants memory. A record may stand in
 //! several lists at once, one of each kind: `Linked<Kind>` says which of its pairs of links is meant.
 //!
@@ -8,7 +8,7 @@
 //!
 //! A record has a pair of links for each kind of list: the handle of the record before it and that of the
 //! one after, each in four bytes, none included. A list itself is small: its first record, its last, and how
-//! many there are. Where a record has no neighbour, the list's own end stands in the neighbour's place: what
+//! many there are. Where a record has no neighbour, the list's own end stands in the neighbour's spot: what
 //! would lead from the one before leads from the list's start, and what would lead back from the one after
 //! leads back from its end. So a join writes the record's pair, one link of the last record, and the list; a
 //! leave writes a link of each neighbour, or an end of the list, and its length. The pair of a record that
@@ -19,5 +19,5 @@
 mod link;
 mod lists;
 
-pub use link::{LAST_KEY, Links};
+pub use link::{LAST_HANDLE, Links};
 pub use lists::{Linked, LinkedList};

@@ -4,51 +4,51 @@ ghost use Rattle.std.specs.Prelude.{◌≡◌, ◌≤◌, Some, None};
 
 use std::marker::Model;
 
-/// The key of a record, or none, in four bytes.
+/// The handle of a record, or none, in four bytes.
 #[derive(Clone, Copy)]
 pub(crate) struct Link {
-    // the key, or `NONE`
+    // the handle, or `NONE`
     raw: u32,
 }
 
-// How no key is stored.
+// How no handle is stored.
 const NONE: u32 = u32::MAX;
 
-/// The greatest key that a link can lead to.
-pub const LAST_KEY: usize = 4_294_967_294;
+/// The greatest handle that a link can lead to.
+pub const LAST_HANDLE: usize = 4_294_967_294;
 
 impl Model for Link {
     ghost use Rattle.std.specs.Prelude.{ℕ, Option};
     ghost use Rattle.std.proofs.Common.{ap};
-    ghost use Rattle.vlm_links.specs.Links.{key_in, raw_key, raw_key-key_in};
+    ghost use Rattle.vlm_links.specs.Links.{handle_in, raw_handle, raw_handle-handle_in};
 
     ghost Value = { Option ℕ };
 
-    ghost view = { λ l. key_in l.raw };
+    ghost view = { λ l. handle_in l.raw };
 
-    ghost inverse = { λ key. record { raw = raw_key key } };
+    ghost inverse = { λ handle. record { raw = raw_handle handle } };
 
-    ghost inverse_ok = { λ a _. ap (λ raw. record { raw = raw }) (raw_key-key_in a.raw) };
+    ghost inverse_ok = { λ a _. ap (λ raw. record { raw = raw }) (raw_handle-handle_in a.raw) };
 }
 
 impl Link {
-    /// No key.
+    /// No handle.
     pub(crate) fn none() -> Self
         ensures { result ≡ None }
     {
         Link { raw: NONE }
     }
 
-    /// A link to a key.
-    pub(crate) fn to(key: usize) -> Self
-        requires { key ≤ LAST_KEY }
-        ensures { result ≡ Some key }
+    /// A link to a handle.
+    pub(crate) fn to(handle: usize) -> Self
+        requires { handle ≤ LAST_HANDLE }
+        ensures { result ≡ Some handle }
     {
-        Link { raw: key as u32 }
+        Link { raw: handle as u32 }
     }
 
-    /// The key, if there is one.
-    pub(crate) fn key(self) -> Option<usize>
+    /// The handle, if there is one.
+    pub(crate) fn handle(self) -> Option<usize>
         ensures { result ≡ self }
     {
         if self.raw == NONE {

@@ -4,9 +4,9 @@ ghost use Rattle.std.specs.Prelude.{◌≡◌, ◌≢◌, ◌≤◌, ℕ, Some, 
 ghost use Rattle.std.specs.Option.{ForSome};
 ghost use Rattle.slab.specs.Slab.{get, ContainsKey};
 ghost use Rattle.vlm_links.specs.declared.link.Links.{Links};
-ghost use Rattle.vlm_links.specs.Lists.{IsIn, IsLinked, IsNoList, Joins, Relinks, first_key, key_after, key_before, keys_of, last_key, next_of, prev_of, without, written_links};
+ghost use Rattle.vlm_links.specs.Lists.{IsIn, IsLinked, IsNoList, Joins, Relinks, first_handle, handle_after, handle_before, handles_of, last_handle, next_of, prev_of, without, written_links};
 
-use crate::link::{LAST_KEY, Link, Links};
+use crate::link::{LAST_HANDLE, Link, Links};
 use slab::Slab;
 use std::marker::PhantomData;
 
@@ -62,84 +62,84 @@ impl<Kind> LinkedList<Kind> {
     /// How many records stand in the list.
     pub fn len<T: Linked<Kind>>(&self, nodes: &Slab<T>) -> usize
         requires { IsLinked T.links nodes.now self.now }
-        ensures { result ≡ length (keys_of T.links nodes.now self.now) }
+        ensures { result ≡ length (handles_of T.links nodes.now self.now) }
     {
         self.len as usize
     }
 
-    /// The key of the first record, if there is one.
+    /// The handle of the first record, if there is one.
     pub fn first<T: Linked<Kind>>(&self, nodes: &Slab<T>) -> Option<usize>
         requires { IsLinked T.links nodes.now self.now }
-        ensures { result ≡ first_key (keys_of T.links nodes.now self.now) }
+        ensures { result ≡ first_handle (handles_of T.links nodes.now self.now) }
     {
-        self.first.key()
+        self.first.handle()
     }
 
-    /// The key of the record that follows one of the list, if there is one.
-    pub fn next<T: Linked<Kind>>(&self, nodes: &Slab<T>, key: usize) -> Option<usize>
+    /// The handle of the record that follows one of the list, if there is one.
+    pub fn next<T: Linked<Kind>>(&self, nodes: &Slab<T>, handle: usize) -> Option<usize>
         requires linked { IsLinked T.links nodes.now self.now }
-        requires listed { IsIn key (keys_of T.links nodes.now self.now) }
-        ensures { result ≡ key_after key (keys_of T.links nodes.now self.now) }
+        requires listed { IsIn handle (handles_of T.links nodes.now self.now) }
+        ensures { result ≡ handle_after handle (handles_of T.links nodes.now self.now) }
     {
-        nodes[key].links().next.key()
+        nodes[handle].links().next.handle()
     }
 
-    /// The key of the last record, if there is one.
+    /// The handle of the last record, if there is one.
     pub fn last<T: Linked<Kind>>(&self, nodes: &Slab<T>) -> Option<usize>
         requires { IsLinked T.links nodes.now self.now }
-        ensures { result ≡ last_key (keys_of T.links nodes.now self.now) }
+        ensures { result ≡ last_handle (handles_of T.links nodes.now self.now) }
     {
-        self.last.key()
+        self.last.handle()
     }
 
-    /// The key of the record that one of the list follows, if there is one.
-    pub fn previous<T: Linked<Kind>>(&self, nodes: &Slab<T>, key: usize) -> Option<usize>
+    /// The handle of the record that one of the list follows, if there is one.
+    pub fn previous<T: Linked<Kind>>(&self, nodes: &Slab<T>, handle: usize) -> Option<usize>
         requires linked { IsLinked T.links nodes.now self.now }
-        requires listed { IsIn key (keys_of T.links nodes.now self.now) }
-        ensures { result ≡ key_before key (keys_of T.links nodes.now self.now) }
+        requires listed { IsIn handle (handles_of T.links nodes.now self.now) }
+        ensures { result ≡ handle_before handle (handles_of T.links nodes.now self.now) }
     {
-        nodes[key].links().prev.key()
+        nodes[handle].links().prev.handle()
     }
 
     /// Puts a record that is in no list of this kind at the end.
-    pub fn push_back<T: Linked<Kind>>(&mut self, nodes: &mut Slab<T>, key: usize)
+    pub fn push_back<T: Linked<Kind>>(&mut self, nodes: &mut Slab<T>, handle: usize)
         requires linked { IsLinked T.links nodes.old self.old }
-        requires present { ContainsKey nodes.old key }
-        requires within { key ≤ LAST_KEY }
-        requires unlisted { ¬ IsIn key (keys_of T.links nodes.old self.old) }
+        requires present { ContainsKey nodes.old handle }
+        requires within { handle ≤ LAST_HANDLE }
+        requires unlisted { ¬ IsIn handle (handles_of T.links nodes.old self.old) }
         ensures linked { IsLinked T.links nodes.new self.new }
-        ensures keys { keys_of T.links nodes.new self.new
-            ≡ keys_of T.links nodes.old self.old ++ key ∷ [] }
-        ensures others { (other : ℕ) → ¬ IsIn other (keys_of T.links nodes.old self.old)
-            → other ≢ key → get nodes.new other ≡ get nodes.old other }
+        ensures handles { handles_of T.links nodes.new self.new
+            ≡ handles_of T.links nodes.old self.old ++ handle ∷ [] }
+        ensures others { (other : ℕ) → ¬ IsIn other (handles_of T.links nodes.old self.old)
+            → other ≢ handle → get nodes.new other ≡ get nodes.old other }
         ensures relinks { Relinks T.with_links nodes.old nodes.new }
     {
         let last = self.last;
         write_links::<Kind, T>(
             nodes,
-            key,
+            handle,
             Links {
                 prev: last,
                 next: Link::none(),
             },
         );
-        link_forward(nodes, self, last, Link::to(key));
-        self.last = Link::to(key);
+        link_forward(nodes, self, last, Link::to(handle));
+        self.last = Link::to(handle);
         self.len += 1;
     }
 
     /// Takes a record out of the list, wherever in it the record stands.
-    pub fn unlink<T: Linked<Kind>>(&mut self, nodes: &mut Slab<T>, key: usize)
+    pub fn unlink<T: Linked<Kind>>(&mut self, nodes: &mut Slab<T>, handle: usize)
         requires linked { IsLinked T.links nodes.old self.old }
-        requires listed { IsIn key (keys_of T.links nodes.old self.old) }
+        requires listed { IsIn handle (handles_of T.links nodes.old self.old) }
         ensures linked { IsLinked T.links nodes.new self.new }
-        ensures keys { keys_of T.links nodes.new self.new
-            ≡ without key (keys_of T.links nodes.old self.old) }
-        ensures others { (other : ℕ) → ¬ IsIn other (keys_of T.links nodes.old self.old)
+        ensures handles { handles_of T.links nodes.new self.new
+            ≡ without handle (handles_of T.links nodes.old self.old) }
+        ensures others { (other : ℕ) → ¬ IsIn other (handles_of T.links nodes.old self.old)
             → get nodes.new other ≡ get nodes.old other }
         ensures relinks { Relinks T.with_links nodes.old nodes.new }
     {
-        let pair = nodes[key].links();
+        let pair = nodes[handle].links();
         link_forward(nodes, self, pair.prev, pair.next);
         link_back(nodes, self, pair.next, pair.prev);
         self.len -= 1;
@@ -147,62 +147,62 @@ impl<Kind> LinkedList<Kind> {
 }
 
 // Writes the neighbours of a record.
-fn write_links<Kind, T: Linked<Kind>>(nodes: &mut Slab<T>, key: usize, pair: Links)
-    requires { ContainsKey nodes.old key }
-    ensures here { get nodes.new key ≡ written_links T.with_links pair (get nodes.old key) }
-    ensures others { (other : ℕ) → other ≢ key → get nodes.new other ≡ get nodes.old other }
+fn write_links<Kind, T: Linked<Kind>>(nodes: &mut Slab<T>, handle: usize, pair: Links)
+    requires { ContainsKey nodes.old handle }
+    ensures here { get nodes.new handle ≡ written_links T.with_links pair (get nodes.old handle) }
+    ensures others { (other : ℕ) → other ≢ handle → get nodes.new other ≡ get nodes.old other }
     ensures relinks { Relinks T.with_links nodes.old nodes.new }
 {
-    nodes[key].set_links(pair);
+    nodes[handle].set_links(pair);
 }
 
-// Links a place to the one after it.
+// Links a spot to the one after it.
 fn link_forward<Kind, T: Linked<Kind>>(
     nodes: &mut Slab<T>,
     list: &mut LinkedList<Kind>,
     from: Link,
     to: Link,
 )
-    requires { ForSome from (λ key. ContainsKey nodes.old key) }
+    requires { ForSome from (λ handle. ContainsKey nodes.old handle) }
     ensures next { Joins (next_of T.links nodes.old list.old) (next_of T.links nodes.new list.new)
         from to }
     ensures prev { (at : _) → prev_of T.links nodes.new list.new at
         ≡ prev_of T.links nodes.old list.old at }
-    ensures others { (key : ℕ) → Some key ≢ from → get nodes.new key ≡ get nodes.old key }
+    ensures others { (handle : ℕ) → Some handle ≢ from → get nodes.new handle ≡ get nodes.old handle }
     ensures relinks { Relinks T.with_links nodes.old nodes.new }
     ensures last { list.new.last ≡ list.old.last }
     ensures len { list.new.len ≡ list.old.len }
 {
-    match from.key() {
+    match from.handle() {
         None => list.first = to,
-        Some(key) => {
-            let pair = nodes[key].links();
-            write_links::<Kind, T>(nodes, key, Links { next: to, ..pair });
+        Some(handle) => {
+            let pair = nodes[handle].links();
+            write_links::<Kind, T>(nodes, handle, Links { next: to, ..pair });
         }
     }
 }
 
-// Links a place to the one before it.
+// Links a spot to the one before it.
 fn link_back<Kind, T: Linked<Kind>>(
     nodes: &mut Slab<T>,
     list: &mut LinkedList<Kind>,
     from: Link,
     to: Link,
 )
-    requires { ForSome from (λ key. ContainsKey nodes.old key) }
+    requires { ForSome from (λ handle. ContainsKey nodes.old handle) }
     ensures prev { Joins (prev_of T.links nodes.old list.old) (prev_of T.links nodes.new list.new)
         from to }
     ensures next { (at : _) → next_of T.links nodes.new list.new at
         ≡ next_of T.links nodes.old list.old at }
-    ensures others { (key : ℕ) → Some key ≢ from → get nodes.new key ≡ get nodes.old key }
+    ensures others { (handle : ℕ) → Some handle ≢ from → get nodes.new handle ≡ get nodes.old handle }
     ensures relinks { Relinks T.with_links nodes.old nodes.new }
     ensures len { list.new.len ≡ list.old.len }
 {
-    match from.key() {
+    match from.handle() {
         None => list.last = to,
-        Some(key) => {
-            let pair = nodes[key].links();
-            write_links::<Kind, T>(nodes, key, Links { prev: to, ..pair });
+        Some(handle) => {
+            let pair = nodes[handle].links();
+            write_links::<Kind, T>(nodes, handle, Links { prev: to, ..pair });
         }
     }
 }

@@ -5,13 +5,13 @@ use Rattle.vlm_words.specs.declared.resources.ValueBlock.{ValueBlock}
 use Rattle.vlm_words.specs.Convert.{conversion_blocks, resource_after_conversion}
 use Rattle.vlm_words.specs.State.{Resource}
 use Rattle.vlm_store.specs.Plain.{plain_processes, plain_resource, plain_resources}
-use Rattle.vlm_store.specs.Records.{Records, SameButBlocks, StoredResource, resource_at}
+use Rattle.vlm_store.specs.Records.{Records, SameButNotices, StoredResource, resource_at}
 use Rattle.vlm_locks.specs.declared.finding.Standing.{Standing}
 use Rattle.vlm_locks.specs.Converting.{IsConverted, admission_on, processes_accepted}
 use Rattle.vlm_locks.specs.Standing.{IsStanding}
 
 -- the lock stands where it stood
-pub stands_accepted : (f : Standing) (s t : Records) → SameButBlocks s t → IsStanding f s → IsStanding f t
+pub stands_accepted : (f : Standing) (s t : Records) → SameButNotices s t → IsStanding f s → IsStanding f t
 stands_accepted f s t same standing = record {
   resource = standing.resource;
   found = ap (resource_at f.res) same.resources ∙ standing.found;
@@ -23,7 +23,7 @@ abbrev made : Standing → Request → StoredResource → ValueBlock → List Re
 made f asked r block rs = map (resource_after_conversion asked (admission_on f asked r).at_once f.row.pid f.row.lkid block) rs
 
 -- its conversion
-pub converted_accepted : (f : Standing) (asked : Request) (s t new : Records) → SameButBlocks s t → plain_processes t ≡ processes_accepted f asked s
+pub converted_accepted : (f : Standing) (asked : Request) (s t new : Records) → SameButNotices s t → plain_processes t ≡ processes_accepted f asked s
     → IfSome (resource_at f.res t.resources) (λ r. IsConverted f asked (plain_processes t) r t new)
     → IfSome (resource_at f.res s.resources) (λ r. IsConverted f asked (processes_accepted f asked s) r s new)
 converted_accepted f asked s t new same accepted converted =

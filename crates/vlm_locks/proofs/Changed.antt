@@ -6,9 +6,9 @@ use Rattle.vlm_words.specs.State.{Resource}
 use Rattle.vlm_words.specs.declared.resources.Queue.{Queue}
 use Rattle.vlm_words.specs.declared.resources.Queue.TheVariants.{Granted, Conversion, Waiting}
 use Rattle.vlm_links.specs.Lists.{IsIn}
-use Rattle.vlm_store.specs.declared.keys.Place.TheVariants.{Loose, Queued}
+use Rattle.vlm_store.specs.declared.handles.Place.TheVariants.{Loose, Queued}
 use Rattle.vlm_store.specs.Plain.{plain_processes, plain_resource}
-use Rattle.vlm_store.specs.Records.{IsSound, Records, Rooms, SameButBlocks, StoredProcess, StoredResource, leaving, process_without_lock, queued, resource_at, resource_with, without_lock, without_stored_lock}
+use Rattle.vlm_store.specs.Records.{IsSound, Records, Rooms, SameButNotices, StoredProcess, StoredResource, leaving, process_without_lock, queued, resource_at, resource_with, without_lock, without_stored_lock}
 use Rattle.vlm_store.proofs.Records.{map_on, queue_at, unmoved}
 use Rattle.vlm_locks.proofs.Found.{resource_alone}
 use Rattle.vlm_locks.specs.declared.finding.Standing.{Standing}
@@ -65,7 +65,7 @@ changed_alike res f g old new same change = record {
     each (x ∷ rs) same = ap (λ y. y ∷ map f (map plain_resource rs)) (same x (inl refl)) ∙ ap (λ ys. g (plain_resource x) ∷ ys) (each rs (λ y there. same y (inr there)))
 
 -- what held between two steps holds where status blocks alone are written
-pub rests_still : (old new : Records) → SameButBlocks old new → IsAtRest old → IsAtRest new
+pub rests_still : (old new : Records) → SameButNotices old new → IsAtRest old → IsAtRest new
 rests_still old new same rest = record {
   none_loose = same.loose ∙ rest.none_loose;
   keyed = λ r among. rest.keyed r (subst (IsIn r) same.resources among);

@@ -11,16 +11,16 @@ use Rattle.vlm_words.specs.Effects.{Blocks, blocks_after, blocks_with}
 use Rattle.vlm_words.specs.Grants.{fits, grant_endings, granted_row}
 use Rattle.vlm_words.specs.Rows.{is_lock_of, rows_without}
 use Rattle.vlm_links.specs.Lists.{IsIn}
-use Rattle.vlm_store.specs.declared.keys.Place.TheVariants.{Queued}
+use Rattle.vlm_store.specs.declared.handles.Place.TheVariants.{Queued}
 use Rattle.vlm_store.specs.Plain.{plain_processes, plain_resource, plain_resources}
-use Rattle.vlm_store.specs.Records.{IsSound, Records, SameButBlocks, StoredLock, StoredResource, but_blocks, fits_beside, moving, on_resource, queued, resource_at, rows_of, with_lists, without_lock}
+use Rattle.vlm_store.specs.Records.{IsSound, Records, SameButNotices, StoredLock, StoredResource, but_notices, fits_beside, moving, on_resource, queued, resource_at, rows_of_locks, with_lists, without_lock}
 use Rattle.vlm_locks.proofs.Found.{on_resource-put, resource_at-at}
 use Rattle.vlm_locks.specs.declared.finding.Standing.{Standing}
-use Rattle.vlm_locks.specs.Converting.{IsConverted, IsGrantedAtOnce, admission_on, blocks_granted, moved_in}
+use Rattle.vlm_locks.specs.Converting.{IsConverted, IsConvertedAtOnce, admission_on, blocks_granted, moved_in}
 use Rattle.vlm_locks.specs.Rest.{IsReplaced}
 use Rattle.vlm_locks.specs.Standing.{IsStanding}
 use Rattle.vlm_locks.proofs.Moved.{joins, leaves, moved_replaced, not_in}
-use Rattle.vlm_locks.proofs.Named.{find-absent, find-only, without-key}
+use Rattle.vlm_locks.proofs.Named.{find-absent, find-only, without-handle}
 use Rattle.vlm_locks.proofs.Replaced.{plain_replaced}
 use Rattle.vlm_locks.proofs.Stood.{absent, only, own_among}
 
@@ -31,10 +31,10 @@ module _ (s : Records) (sound : IsSound s) (f : Standing) (standing : IsStanding
       → record {
         value_block : block ≡ (blocks_after (grant_endings true row) (blocks_with old_block (plain_processes moved))).value_block;
         statuses : plain_processes ended ≡ (blocks_after (grant_endings true row) (blocks_with old_block (plain_processes moved))).processes;
-        rest : SameButBlocks moved ended;
+        only_notices : SameButNotices moved ended;
       }
       → new ≡ record ended { resources = on_resource f.res (λ r. record r { value_block = block }) ended.resources }
-      → IsGrantedAtOnce f row standing.resource s new
+      → IsConvertedAtOnce f row standing.resource s new
   granted_at_once row moved ended new old_block block told is ends wrote =
       let first = moved_replaced s sound f standing (granted_row row) Granted moved is in
       let was : old_block ≡ standing.resource.value_block = subst (λ o. IfSome o (λ r. old_block ≡ r.value_block)) standing.found told in
@@ -47,12 +47,12 @@ module _ (s : Records) (sound : IsSound s) (f : Standing) (standing : IsStanding
           same = refl;
           resources =
               ap (λ (x : Records). x.resources) wrote
-              ∙ ap (on_resource f.res (λ r. record r { value_block = block })) (ends.rest.resources ∙ first.resources)
+              ∙ ap (on_resource f.res (λ r. record r { value_block = block })) (ends.only_notices.resources ∙ first.resources)
               ∙ on_resource-put f.res (moved_in f (granted_row row) Granted standing.resource) (λ r. record r { value_block = block }) s.resources
               (resource_at-at f.res s.resources standing.resource standing.found)
               ∙ ap (λ b. on_resource f.res (λ r. record (moved_in f (granted_row row) Granted standing.resource) { value_block = b }) s.resources) block_is;
-          loose = ap (λ (x : Records). x.loose) wrote ∙ ends.rest.loose ∙ first.loose;
-          processes = ap (λ (x : Records). map but_blocks x.processes) wrote ∙ ends.rest.processes ∙ first.processes;
+          loose = ap (λ (x : Records). x.loose) wrote ∙ ends.only_notices.loose ∙ first.loose;
+          processes = ap (λ (x : Records). map but_notices x.processes) wrote ∙ ends.only_notices.processes ∙ first.processes;
         };
         statuses =
             ap plain_processes wrote ∙ ends.statuses ∙ ap (λ b. (blocks_after (grant_endings true row) b).processes) blocks_are;
@@ -71,7 +71,7 @@ module _ (s : Records) (sound : IsSound s) (f : Standing) (standing : IsStanding
       (find-absent f.row.pid f.row.lkid x.granted (absent s sound f standing x among Granted (λ e. differs (cc))))
 
   -- the lock is found in its queue
-  found_here : f.queue ≡ Granted → find (is_lock_of f.row.pid f.row.lkid) (rows_of standing.resource.granted) ≡ Some f.row
+  found_here : f.queue ≡ Granted → find (is_lock_of f.row.pid f.row.lkid) (rows_of_locks standing.resource.granted) ≡ Some f.row
   found_here granted =
       find-only (record { at = f.lock; row = f.row }) standing.resource.granted (only s sound f standing standing.resource (own_among s sound f standing) Granted)
       (subst (λ q. IsIn (record { at = f.lock; row = f.row }) (queued q standing.resource)) granted standing.among)
@@ -80,19 +80,19 @@ module _ (s : Records) (sound : IsSound s) (f : Standing) (standing : IsStanding
   elsewhere : f.queue ≡ Granted → (queue : Queue) → queue ≢ Granted → queue ≢ f.queue
   elsewhere granted queue differs same = differs (same ∙ granted)
 
-  -- what fits beside the other locks by their keys fits beside them by their identifications
+  -- what fits beside the other locks by their handles fits beside them by their identifications
   pub fits_are : (mode : Mode) → f.queue ≡ Granted
-      → fits_beside mode (Some f.lock) standing.resource ≡ fits mode (rows_without f.row.lkid (rows_of standing.resource.granted)) (rows_of standing.resource.converting)
+      → fits_beside mode (Some f.lock) standing.resource ≡ fits mode (rows_without f.row.lkid (rows_of_locks standing.resource.granted)) (rows_of_locks standing.resource.converting)
   fits_are mode granted =
       let own = own_among s sound f standing in
       let lock : StoredLock = record { at = f.lock; row = f.row } in
-      ap (λ rows. fits mode rows (rows_of (without_lock f.lock standing.resource.converting))) (without-key lock standing.resource.granted (only s sound f standing standing.resource own Granted))
-      ∙ ap (λ rows. fits mode (rows_without f.row.lkid (rows_of standing.resource.granted)) rows)
-      (without-key lock standing.resource.converting (only s sound f standing standing.resource own Conversion) ∙ not_in s sound f standing Conversion (elsewhere granted Conversion (λ e. cc)))
+      ap (λ rows. fits mode rows (rows_of_locks (without_lock f.lock standing.resource.converting))) (without-handle lock standing.resource.granted (only s sound f standing standing.resource own Granted))
+      ∙ ap (λ rows. fits mode (rows_without f.row.lkid (rows_of_locks standing.resource.granted)) rows)
+      (without-handle lock standing.resource.converting (only s sound f standing standing.resource own Conversion) ∙ not_in s sound f standing Conversion (elsewhere granted Conversion (λ e. cc)))
 
   -- the conversion is granted
   pub converted_now : (asked : Request) (new : Records) → f.queue ≡ Granted → converts_at_once asked f.row.lkid (plain_resource standing.resource) ≡ true
-      → IsGrantedAtOnce f (wanting_row f.row asked) standing.resource s new → IsConverted f asked (plain_processes s) standing.resource s new
+      → IsConvertedAtOnce f (wanting_row f.row asked) standing.resource s new → IsConverted f asked (plain_processes s) standing.resource s new
   unfolding resource_after_conversion
   converted_now asked new granted at_once done =
       let r = standing.resource in
@@ -105,7 +105,7 @@ module _ (s : Records) (sound : IsSound s) (f : Standing) (standing : IsStanding
       ap (resource_after_conversion_of asked (now asked) f.row.lkid block (plain_resource r)) (found_here granted)
       ∙ rw at_once
       (ap (λ rows. record (plain_resource r) { value_block = block; granted = rows }) (sym (joins s sound f standing (granted_row row) Granted))
-      ∙ ap (λ rows. record (plain_resource left) { converting = rows; waiting = rows_of r.waiting })
+      ∙ ap (λ rows. record (plain_resource left) { converting = rows; waiting = rows_of_locks r.waiting })
       (sym (leaves s sound f standing (granted_row row) Granted Conversion (λ e. cc) ∙ not_in s sound f standing Conversion (elsewhere granted Conversion (λ e. cc))))
       ∙ ap (λ rows. record (plain_resource left) { waiting = rows })
       (sym (leaves s sound f standing (granted_row row) Granted Waiting (λ e. cc) ∙ not_in s sound f standing Waiting (elsewhere granted Waiting (λ e. cc)))))
@@ -131,9 +131,9 @@ module _ (s : Records) (sound : IsSound s) (f : Standing) (standing : IsStanding
       let here : resource_after_conversion asked (now asked) f.row.pid f.row.lkid r.value_block (plain_resource r) ≡ plain_resource left =
       ap (resource_after_conversion_of asked (now asked) f.row.lkid r.value_block (plain_resource r)) (found_here granted)
       ∙ rw later
-      (ap (λ rows. record (plain_resource r) { granted = rows; converting = rows_of r.converting ++ row ∷ [] }) (sym (leaves s sound f standing row Conversion Granted (λ e. cc)))
-      ∙ ap (λ rows. record (plain_resource left) { converting = rows ++ row ∷ []; waiting = rows_of r.waiting }) (sym (not_in s sound f standing Conversion (elsewhere granted Conversion (λ e. cc))))
-      ∙ ap (λ rows. record (plain_resource left) { converting = rows; waiting = rows_of r.waiting }) (sym (joins s sound f standing row Conversion))
+      (ap (λ rows. record (plain_resource r) { granted = rows; converting = rows_of_locks r.converting ++ row ∷ [] }) (sym (leaves s sound f standing row Conversion Granted (λ e. cc)))
+      ∙ ap (λ rows. record (plain_resource left) { converting = rows ++ row ∷ []; waiting = rows_of_locks r.waiting }) (sym (not_in s sound f standing Conversion (elsewhere granted Conversion (λ e. cc))))
+      ∙ ap (λ rows. record (plain_resource left) { converting = rows; waiting = rows_of_locks r.waiting }) (sym (joins s sound f standing row Conversion))
       ∙ ap (λ rows. record (plain_resource left) { waiting = rows })
       (sym (leaves s sound f standing row Conversion Waiting (λ e. cc) ∙ not_in s sound f standing Waiting (elsewhere granted Waiting (λ e. cc)))))
       in

@@ -8,9 +8,9 @@ use Rattle.vlm_words.specs.Effects.{Blocks, blocks_after, blocks_with, with_valu
 use Rattle.vlm_words.specs.Grants.{Service, is_empty, no_service, service, service_of_conversions, service_of_new_requests, service_of_waiting, service_then}
 use Rattle.vlm_words.specs.State.{Resource}
 use Rattle.vlm_words.specs.Sweeps.{blocks_after_service, resource_after_service}
-use Rattle.vlm_store.specs.declared.keys.Place.TheVariants.{Queued}
+use Rattle.vlm_store.specs.declared.handles.Place.TheVariants.{Queued}
 use Rattle.vlm_store.specs.Plain.{plain_processes, plain_resource}
-use Rattle.vlm_store.specs.Records.{HasResource, IsSound, Records, StoredLock, StoredResource, but_blocks, first_at, locks_at, on_resource, resource_at, rows_of}
+use Rattle.vlm_store.specs.Records.{HasResource, IsSound, Records, StoredLock, StoredResource, but_notices, first_at, locks_at, on_resource, resource_at, rows_of_locks}
 use Rattle.vlm_locks.specs.Serving.{IsLeft, IsServed, IsServiceOf, service_from}
 use Rattle.vlm_locks.proofs.Found.{on_resource-put, resource_at-at, resource_at-put}
 use Rattle.vlm_locks.specs.Staying.{LocksStay}
@@ -62,7 +62,7 @@ module _ (res : ℕ) (old_block : ValueBlock) (old : Records) (block : ValueBloc
       let r : Resource = plain_resource first.had in
       let left : Resource = plain_resource first.left in
       let empty : is_empty left.converting ≡ true =
-      ap (λ xs. is_empty (rows_of xs)) (none_queued s res first.left Conversion first.change.now (sym none)) in
+      ap (λ xs. is_empty (rows_of_locks xs)) (none_queued s res first.left Conversion first.change.now (sym none)) in
       let is : service r ≡ service_then (service_of_conversions r r.converting) (service_of_waiting left left.waiting) = service_is r left first.resource empty in
       record {
         had = first.had;
@@ -96,7 +96,7 @@ module _ (res : ℕ) (old_block : ValueBlock) (old : Records) (block : ValueBloc
         effect = first.effect ∙ sym (ap (λ (d : Service). blocks_after d.endings (blocks_with old_block (plain_processes old))) is);
       }
     where
-      of_list : (locks : List StoredLock) → first_at locks ≡ Some at → is_empty (rows_of locks) ≡ false
+      of_list : (locks : List StoredLock) → first_at locks ≡ Some at → is_empty (rows_of_locks locks) ≡ false
       of_list [] none = cc
       of_list (k ∷ rest) some = refl
 
@@ -141,7 +141,7 @@ module _ (res : ℕ) (old s new : Records) (old_block block : ValueBlock) (sound
       same = done.change.replaced.same;
       resources = resources_are;
       loose = ap (λ (x : Records). x.loose) wrote ∙ done.change.replaced.loose;
-      processes = ap (λ (x : Records). map but_blocks x.processes) wrote ∙ done.change.replaced.processes;
+      processes = ap (λ (x : Records). map but_notices x.processes) wrote ∙ done.change.replaced.processes;
     };
     stay = stays_under_block done.had done.left block done.stay;
     none_join = none_joins_under_block done.had done.left block done.none_join;

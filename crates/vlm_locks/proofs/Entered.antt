@@ -10,10 +10,10 @@ use Rattle.vlm_words.specs.Enqueue.{resource_after_entry, resources_after_entry}
 use Rattle.vlm_words.specs.Grants.{granted_row}
 use Rattle.vlm_words.specs.Resources.{new_resource}
 use Rattle.vlm_links.specs.Lists.{IsIn}
-use Rattle.vlm_store.specs.declared.keys.Place.{Place}
-use Rattle.vlm_store.specs.declared.keys.Place.TheVariants.{Loose, Queued}
+use Rattle.vlm_store.specs.declared.handles.Place.{Place}
+use Rattle.vlm_store.specs.declared.handles.Place.TheVariants.{Loose, Queued}
 use Rattle.vlm_store.specs.Plain.{plain_resource, plain_resources}
-use Rattle.vlm_store.specs.Records.{AreResourcesApart, FindsResource, HasResource, IsProcess, IsSameLock, IsSound, IsStored, Records, Room, Stores, StoredLock, StoredProcess, StoredResource, but_blocks, is_queue, joined_by, locks_at, moving, on_resource, process_with_lock, queued, resource_at, resource_with, with_lists, with_lock_room, with_new_lock, without_lock}
+use Rattle.vlm_store.specs.Records.{AreResourcesApart, FindsResource, HasResource, IsProcess, IsSameLock, IsSound, IsStored, Records, Room, Stores, StoredLock, StoredProcess, StoredResource, but_notices, is_queue, joined_by, locks_at, moving, on_resource, process_with_lock, queued, resource_at, resource_with, with_lists, with_lock_room, with_new_lock, without_lock}
 use Rattle.vlm_store.proofs.Records.{loose_joins, map_on, resource_is}
 use Rattle.vlm_locks.specs.Rest.{but_service}
 use Rattle.vlm_locks.proofs.Found.{resource_alone, resource_at-put}
@@ -167,7 +167,7 @@ module _ (s : Records) (sound : IsSound s) (rest : IsAtRest s) (e : Entry) (keye
       same = joined-rest to (record { at = at; row = row }) found.0;
       resources = new_resources;
       loose = new_loose;
-      processes = ap (map but_blocks) new_processes;
+      processes = ap (map but_notices) new_processes;
     }
 
     -- a lock that is stored is the new one, or was stored
@@ -251,7 +251,7 @@ module _ (s : Records) (sound : IsSound s) (rest : IsAtRest s) (e : Entry) (keye
       row = row;
       stands = stands;
       same = same;
-      own_locks = ap (map but_blocks) new_processes;
+      own_locks = ap (map but_notices) new_processes;
       others =
           locks_stay_over at s mid new (subst (OtherLocksStay at s) (sym added) (added_alone at e.row e.owner e.parent room s))
           (subst (OtherLocksStay at mid) (sym moved) (moved_alone (Queued res to) (record { at = at; row = row }) mid));

@@ -1,10 +1,10 @@
--- Records that are found by their keys.
+-- Records that are found by their handles.
 use Rattle.std.proofs.Common.{◌≡◌, ℕ, List, [], ◌∷◌, map, cond, Some, IsSome, refl, sym, ap, ◌∙◌, inl, inr, eq-eqb, ne_eqb}
 use Rattle.std.specs.Prelude.{◌==◌}
 use Rattle.std.proofs.lemmas.Bool.{cases_eq}
 use Rattle.std.proofs.lemmas.Option.{none-some, same_Some}
 use Rattle.vlm_links.specs.Lists.{IsIn}
-use Rattle.vlm_store.specs.Records.{AreResourcesApart, HasProcess, IsProcess, Records, StoredProcess, StoredResource, on_resource, process_at, resource_at, SameButBlocks, but_blocks}
+use Rattle.vlm_store.specs.Records.{AreResourcesApart, HasProcess, IsProcess, Records, StoredProcess, StoredResource, on_resource, process_at, resource_at, SameButNotices, but_notices}
 use Rattle.vlm_store.proofs.Records.{map_on, resource_is}
 
 process_found : (at : ℕ) (p : StoredProcess) (ps : List StoredProcess) → IsIn p ps → p.at ≡ at → IsSome (process_at at ps)
@@ -20,7 +20,7 @@ process_found at p (x ∷ ps) among is =
           ])
     ]
 
--- a process of this key and this identification is one of this key
+-- a process of this handle and this identification is one of this handle
 pub process_there : (s : Records) (at pid : ℕ) → IsProcess at pid s → HasProcess at s
 process_there s at pid is = process_found at is.0 s.processes is.1.0 is.1.1
 
@@ -73,18 +73,18 @@ on_resource-put res left change (x ∷ rs) keyed =
     ]
 
 -- a process of the old list is in the new one, but for its status blocks
-process_kept : (old new : List StoredProcess) → map but_blocks new ≡ map but_blocks old → (p : StoredProcess) → IsIn p old
-    → (q : StoredProcess) × (IsIn q new × (but_blocks q ≡ but_blocks p))
+process_kept : (old new : List StoredProcess) → map but_notices new ≡ map but_notices old → (p : StoredProcess) → IsIn p old
+    → (q : StoredProcess) × (IsIn q new × (but_notices q ≡ but_notices p))
 process_kept [] new same p among = absurd among
 process_kept (x ∷ old) [] same p among = cc
 process_kept (x ∷ old) (y ∷ new) same p among =
     elim among [
-      | inl here ↦ (let first : but_blocks y ≡ but_blocks x = cc in (y, (inl refl, first ∙ ap (λ (z : StoredProcess). but_blocks z) here)))
+      | inl here ↦ (let first : but_notices y ≡ but_notices x = cc in (y, (inl refl, first ∙ ap (λ (z : StoredProcess). but_notices z) here)))
       | inr there ↦ let later = process_kept old new (cc) p there in (later.0, (inr later.1.0, later.1.1))
     ]
 
 -- a living process lives on where status blocks are written
-pub process_still : (s t : Records) (at pid : ℕ) → SameButBlocks s t → IsProcess at pid s → IsProcess at pid t
+pub process_still : (s t : Records) (at pid : ℕ) → SameButNotices s t → IsProcess at pid s → IsProcess at pid t
 process_still s t at pid same is =
     let kept = process_kept s.processes t.processes same.processes is.0 is.1.0 in
     (kept.0, (kept.1.0, ap (λ (p : StoredProcess). p.at) kept.1.1 ∙ is.1.1, ap (λ (p : StoredProcess). p.process.pid) kept.1.1 ∙ is.1.2))

@@ -9,9 +9,9 @@ use Rattle.vlm_words.specs.declared.resources.ValueBlock.{ValueBlock}
 use Rattle.vlm_words.specs.Effects.{Blocks, blocks_after, blocks_after_ending, blocks_with}
 use Rattle.vlm_words.specs.Endings.{Ending}
 use Rattle.vlm_words.specs.Grants.{Service, grant_endings, granted_row, no_service, service_after_grant, wanted_fits}
-use Rattle.vlm_store.specs.declared.keys.Place.TheVariants.{Queued}
+use Rattle.vlm_store.specs.declared.handles.Place.TheVariants.{Queued}
 use Rattle.vlm_store.specs.Plain.{plain_processes, plain_resource}
-use Rattle.vlm_store.specs.Records.{HasResource, IsSound, Records, SameButBlocks, StoredLock, StoredResource, Stores, first_at, locks_at, moving, queued, resource_at, rows_of, with_lists}
+use Rattle.vlm_store.specs.Records.{HasResource, IsSound, Records, SameButNotices, StoredLock, StoredResource, Stores, first_at, locks_at, moving, queued, resource_at, rows_of_locks, with_lists}
 use Rattle.vlm_locks.specs.Serving.{IsLeft, IsServiceOf, service_from, wanted_fits_beside}
 use Rattle.vlm_locks.specs.Staying.{LocksStay}
 use Rattle.vlm_locks.proofs.Found.{on_resource-own}
@@ -27,20 +27,20 @@ blocks_after_append (ending ∷ first) later b =
 -- what the first of a queue wants fits beside the others
 abbrev fits_first : Queue → Row → List StoredLock → StoredResource → Bool
 fits_first Granted row rest r = false
-fits_first Conversion row rest r = wanted_fits row.want (rows_of r.granted) (rows_of rest)
-fits_first Waiting row rest r = wanted_fits row.want (rows_of r.granted) (rows_of r.converting)
+fits_first Conversion row rest r = wanted_fits row.want (rows_of_locks r.granted) (rows_of_locks rest)
+fits_first Waiting row rest r = wanted_fits row.want (rows_of_locks r.granted) (rows_of_locks r.converting)
 
 fits_are : (s : Records) (sound : IsSound s) (res : ℕ) (r : StoredResource) (queue : Queue) (at : ℕ) (row : Row) (found : resource_at res s.resources ≡ Some r) (head : IsHead queue r at row)
     → Granted ≢ queue → wanted_fits_beside row.want at r ≡ fits_first queue row head.rest r
 fits_are s sound res r Granted at row found head differs = absurd (differs refl)
 fits_are s sound res r Conversion at row found head differs = of_want row.want
   where
-    of_want : (want : Option Request) → wanted_fits_beside want at r ≡ wanted_fits want (rows_of r.granted) (rows_of head.rest)
+    of_want : (want : Option Request) → wanted_fits_beside want at r ≡ wanted_fits want (rows_of_locks r.granted) (rows_of_locks head.rest)
     of_want None = refl
     of_want (Some request) = rw (alone_here s sound res r Conversion at row found head Granted (λ e. cc), behind s sound res r Conversion at row found head) refl
 fits_are s sound res r Waiting at row found head differs = of_want row.want
   where
-    of_want : (want : Option Request) → wanted_fits_beside want at r ≡ wanted_fits want (rows_of r.granted) (rows_of r.converting)
+    of_want : (want : Option Request) → wanted_fits_beside want at r ≡ wanted_fits want (rows_of_locks r.granted) (rows_of_locks r.converting)
     of_want None = refl
     of_want (Some request) =
         rw (alone_here s sound res r Waiting at row found head Granted (λ e. cc), alone_here s sound res r Waiting at row found head Conversion (λ e. cc)) refl
@@ -138,7 +138,7 @@ module _ (queue : Queue) (res : ℕ) (old_block : ValueBlock) (old : Records) (b
 
     module _ (new_block : ValueBlock) (new : Records)
         (told : IfSome (resource_at res s.resources) (λ r. true ≡ wanted_fits_beside row.want at r))
-        (moved : SameButBlocks (with_lists (moving (Queued res Granted) (record { at = at; row = granted_row row })) s) new)
+        (moved : SameButNotices (with_lists (moving (Queued res Granted) (record { at = at; row = granted_row row })) s) new)
         (wrote : blocks_with new_block (plain_processes new) ≡ blocks_after (grant_endings false row) (blocks_with block (plain_processes s))) where
       -- one more is granted
       pub serving_next : IsServing queue res old_block old new_block new

@@ -9,9 +9,9 @@ use Rattle.vlm_words.specs.declared.resources.Queue.TheVariants.{Granted, Conver
 use Rattle.vlm_words.specs.Checks.{holds_lock}
 use Rattle.vlm_words.specs.Rows.{is_lock_of}
 use Rattle.vlm_links.specs.Lists.{IsIn}
-use Rattle.vlm_store.specs.declared.keys.Place.TheVariants.{Queued}
+use Rattle.vlm_store.specs.declared.handles.Place.TheVariants.{Queued}
 use Rattle.vlm_store.specs.Plain.{plain_resource, plain_resources}
-use Rattle.vlm_store.specs.Records.{IsSound, Records, StoredResource, Stores, locks_at, queued, resource_at, rows_of}
+use Rattle.vlm_store.specs.Records.{IsSound, Records, StoredResource, Stores, locks_at, queued, resource_at, rows_of_locks}
 use Rattle.vlm_locks.specs.declared.finding.Standing.{Standing}
 use Rattle.vlm_locks.specs.Standing.{IsStanding}
 use Rattle.vlm_locks.proofs.Named.{any-among, any-not}
@@ -22,7 +22,7 @@ pub none_held : (s : Records) → IsSound s → (pid lkid : ℕ) → ((at : ℕ)
     → list_any (holds_lock pid lkid) (plain_resources s) ≡ false
 none_held s sound pid lkid other = of_list s.resources (λ r here. here)
   where
-    not_in : (r : StoredResource) → IsIn r s.resources → (queue : Queue) → list_any (is_lock_of pid lkid) (rows_of (queued queue r)) ≡ false
+    not_in : (r : StoredResource) → IsIn r s.resources → (queue : Queue) → list_any (is_lock_of pid lkid) (rows_of_locks (queued queue r)) ≡ false
     not_in r among queue = any-not pid lkid (queued queue r) (λ k here same. other k.at k.row (queued_stored s sound r among queue k here) same)
 
     not_on : (r : StoredResource) → IsIn r s.resources → holds_lock pid lkid (plain_resource r) ≡ false
@@ -36,7 +36,7 @@ none_held s sound pid lkid other = of_list s.resources (λ r here. here)
 
 -- a queue has this lock of this process
 abbrev has_lock : Row → Queue → StoredResource → Bool
-has_lock row queue r = list_any (is_lock_of row.pid row.lkid) (rows_of (queued queue r))
+has_lock row queue r = list_any (is_lock_of row.pid row.lkid) (rows_of_locks (queued queue r))
 
 -- a lock that stands in a queue is held by its process
 pub some_held : (s : Records) → IsSound s → (f : Standing) → IsStanding f s → list_any (holds_lock f.row.pid f.row.lkid) (plain_resources s) ≡ true

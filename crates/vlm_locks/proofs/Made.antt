@@ -8,10 +8,10 @@ use Rattle.vlm_words.specs.declared.resources.Queue.TheVariants.{Granted, Conver
 use Rattle.vlm_words.specs.Enqueue.{resources_after_entry}
 use Rattle.vlm_words.specs.Resources as plain
 use Rattle.vlm_links.specs.Lists.{IsIn}
-use Rattle.vlm_store.specs.declared.keys.Place.{Place}
-use Rattle.vlm_store.specs.declared.keys.Place.TheVariants.{Loose, Queued}
+use Rattle.vlm_store.specs.declared.handles.Place.{Place}
+use Rattle.vlm_store.specs.declared.handles.Place.TheVariants.{Loose, Queued}
 use Rattle.vlm_store.specs.Plain.{plain_resource, plain_resources}
-use Rattle.vlm_store.specs.Records.{FindsResource, IsNewKey, IsParentOf, Records, Rooms, StoredResource, Stores, locks_at, new_resource, queued, resource_at, with_resource_room, without_lock, without_resource}
+use Rattle.vlm_store.specs.Records.{FindsResource, IsNewKey, IsParentOf, Records, Rooms, StoredResource, Stores, locks_at, new_stored_resource, queued, resource_at, with_resource_room, without_lock, without_resource}
 use Rattle.vlm_words.specs.declared.locks.Row.{Row}
 use Rattle.vlm_locks.specs.declared.entering.Entry.{Entry}
 use Rattle.vlm_locks.specs.Entering.{IsEntered, resource_for}
@@ -24,7 +24,7 @@ use Rattle.vlm_locks.proofs.Keyed.{AreKeyed, IsKeyFree, find-free, find-key, key
 
 -- the resource at its making
 abbrev pub made : Entry → ℕ → StoredResource
-made e res = new_resource res e.serial e.site
+made e res = new_stored_resource res e.serial e.site
 
 -- the records with the resource, the last
 abbrev pub with_made : Entry → ℕ → Rooms → Records → Records
@@ -115,7 +115,7 @@ module _ (e : Entry) (res : ℕ) (room : Rooms) (s : Records) where
     rising = all_rise_still s (with_made e res room s) (λ at row stored. (row, (was_stored at row stored, same_lock row))) refl rest.rising;
   }
 
-  -- the new resource stands under its key
+  -- the new resource stands under its handle
   pub made_found : FindsResource (with_made e res room s) e.site.key (Some res)
   made_found = (made e res, (made_last (made e res) s.resources, refl, refl))
 

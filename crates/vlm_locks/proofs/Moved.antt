@@ -8,9 +8,9 @@ use Rattle.vlm_words.specs.declared.resources.Queue.{Queue}
 use Rattle.vlm_words.specs.declared.resources.Queue.TheVariants.{Granted, Conversion, Waiting}
 use Rattle.vlm_words.specs.Rows.{rows_without}
 use Rattle.vlm_links.specs.Lists.{IsIn}
-use Rattle.vlm_store.specs.declared.keys.Place.{Place}
-use Rattle.vlm_store.specs.declared.keys.Place.TheVariants.{Loose, Queued}
-use Rattle.vlm_store.specs.Records.{IsSameLock, IsSound, Records, StoredLock, StoredResource, but_blocks, is_place, moving, on_resource, queued, rows_of, with_lists, without_lock}
+use Rattle.vlm_store.specs.declared.handles.Place.{Place}
+use Rattle.vlm_store.specs.declared.handles.Place.TheVariants.{Loose, Queued}
+use Rattle.vlm_store.specs.Records.{IsSameLock, IsSound, Records, StoredLock, StoredResource, but_notices, is_place, moving, on_resource, queued, rows_of_locks, with_lists, without_lock}
 use Rattle.vlm_store.proofs.Records.{is_place-other, is_place-same}
 use Rattle.vlm_store.proofs.Records.{map_on, queue_at, unmoved}
 use Rattle.vlm_locks.specs.declared.finding.Standing.{Standing}
@@ -19,7 +19,7 @@ use Rattle.vlm_locks.specs.Rest.{IsReplaced}
 use Rattle.vlm_locks.specs.Standing.{IsStanding}
 use Rattle.vlm_locks.specs.Staying.{LocksStay, StandsStill}
 use Rattle.vlm_locks.proofs.Staying.{among_without, of_joined, same_back, stands_in}
-use Rattle.vlm_locks.proofs.Named.{without-absent, without-key}
+use Rattle.vlm_locks.proofs.Named.{without-absent, without-handle}
 use Rattle.vlm_locks.proofs.Stood.{absent, only, own_among, stands}
 use Rattle.vlm_locks.proofs.Found.{resource_alone, resource_at-at}
 
@@ -56,21 +56,21 @@ module _ (s : Records) (sound : IsSound s) (f : Standing) (standing : IsStanding
   own_at = resource_at-at f.res s.resources standing.resource standing.found
 
   -- the queue that it joins
-  pub joins : rows_of (moving (Queued f.res to) (record { at = f.lock; row = row }) (Queued standing.resource.at to) (queued to standing.resource))
-      ≡ rows_without f.row.lkid (rows_of (queued to standing.resource)) ++ row ∷ []
+  pub joins : rows_of_locks (moving (Queued f.res to) (record { at = f.lock; row = row }) (Queued standing.resource.at to) (queued to standing.resource))
+      ≡ rows_without f.row.lkid (rows_of_locks (queued to standing.resource)) ++ row ∷ []
   joins =
-      ap (λ b. rows_of (cond b (without_lock f.lock (queued to standing.resource) ++ record { at = f.lock; row = row } ∷ []) (without_lock f.lock (queued to standing.resource))))
+      ap (λ b. rows_of_locks (cond b (without_lock f.lock (queued to standing.resource) ++ record { at = f.lock; row = row } ∷ []) (without_lock f.lock (queued to standing.resource))))
       (ap (λ x. is_place (Queued x to) (Queued f.res to)) own_at ∙ is_place-same (Queued f.res to))
       ∙ map-append (λ (k : StoredLock). k.row) (without_lock f.lock (queued to standing.resource)) (record { at = f.lock; row = row } ∷ [])
-      ∙ ap (λ rows. rows ++ row ∷ []) (without-key (record { at = f.lock; row = f.row }) (queued to standing.resource) (only s sound f standing standing.resource (own_among s sound f standing) to))
+      ∙ ap (λ rows. rows ++ row ∷ []) (without-handle (record { at = f.lock; row = f.row }) (queued to standing.resource) (only s sound f standing standing.resource (own_among s sound f standing) to))
 
   -- a queue that it does not join
-  pub leaves : (queue : Queue) → queue ≢ to → rows_of (moving (Queued f.res to) (record { at = f.lock; row = row }) (Queued standing.resource.at queue) (queued queue standing.resource))
-      ≡ rows_without f.row.lkid (rows_of (queued queue standing.resource))
+  pub leaves : (queue : Queue) → queue ≢ to → rows_of_locks (moving (Queued f.res to) (record { at = f.lock; row = row }) (Queued standing.resource.at queue) (queued queue standing.resource))
+      ≡ rows_without f.row.lkid (rows_of_locks (queued queue standing.resource))
   leaves queue differs =
-      ap (λ b. rows_of (cond b (without_lock f.lock (queued queue standing.resource) ++ record { at = f.lock; row = row } ∷ []) (without_lock f.lock (queued queue standing.resource))))
+      ap (λ b. rows_of_locks (cond b (without_lock f.lock (queued queue standing.resource) ++ record { at = f.lock; row = row } ∷ []) (without_lock f.lock (queued queue standing.resource))))
       (is_place-other (Queued standing.resource.at queue) (Queued f.res to) (λ e. differs (cc)))
-      ∙ without-key (record { at = f.lock; row = f.row }) (queued queue standing.resource) (only s sound f standing standing.resource (own_among s sound f standing) queue)
+      ∙ without-handle (record { at = f.lock; row = f.row }) (queued queue standing.resource) (only s sound f standing standing.resource (own_among s sound f standing) queue)
 
 -- a lock of a list after a move is the moved one, or was there
 among_moved : (to : Place) (moved : StoredLock) (place : Place) (locks : List StoredLock) (k : StoredLock) → IsIn k (moving to moved place locks) → (moved ≡ k) ⊎ IsIn k locks
@@ -97,7 +97,7 @@ none_joins_by_moving s f standing row to same queue k among =
 
 -- a queue of the resource in which the lock does not stand
 pub not_in : (s : Records) (sound : IsSound s) (f : Standing) (standing : IsStanding f s) (queue : Queue) → queue ≢ f.queue
-    → rows_without f.row.lkid (rows_of (queued queue standing.resource)) ≡ rows_of (queued queue standing.resource)
+    → rows_without f.row.lkid (rows_of_locks (queued queue standing.resource)) ≡ rows_of_locks (queued queue standing.resource)
 not_in s sound f standing queue differs =
     without-absent f.row.lkid (queued queue standing.resource) (absent s sound f standing standing.resource (own_among s sound f standing) queue (λ e. differs (cc)))
 
@@ -111,5 +111,5 @@ moved_replaced s sound f standing row to new is =
       same = refl;
       resources = ap (λ (x : Records). x.resources) moved;
       loose = ap (λ (x : Records). x.loose) moved;
-      processes = ap (λ (x : Records). map but_blocks x.processes) moved;
+      processes = ap (λ (x : Records). map but_notices x.processes) moved;
     }

@@ -8,15 +8,15 @@ use Rattle.vlm_words.specs.declared.locks.Row.{Row}
 use Rattle.vlm_words.specs.declared.resources.Queue.{Queue}
 use Rattle.vlm_words.specs.declared.resources.Queue.TheVariants.{Granted, Conversion, Waiting}
 use Rattle.vlm_links.specs.Lists.{IsIn}
-use Rattle.vlm_store.specs.declared.keys.Place.TheVariants.{Loose, Queued}
-use Rattle.vlm_store.specs.Records.{AreApart, IsSound, Records, SameButBlocks, StoredLock, StoredResource, Stores, first_at, is_place, locks_at, moving, on_resource, queued, resource_at, resource_with, with_lists, without_lock}
+use Rattle.vlm_store.specs.declared.handles.Place.TheVariants.{Loose, Queued}
+use Rattle.vlm_store.specs.Records.{AreApart, IsSound, Records, SameButNotices, StoredLock, StoredResource, Stores, first_at, is_place, locks_at, moving, on_resource, queued, resource_at, resource_with, with_lists, without_lock}
 use Rattle.vlm_store.proofs.Records.{is_place-other, is_place-same}
 use Rattle.vlm_store.proofs.Records.{map_on, resource_is, unmoved, without_absent}
 use Rattle.vlm_locks.specs.Rest.{but_service}
-use Rattle.vlm_locks.specs.Serving.{IsLeft, but_queues}
+use Rattle.vlm_locks.specs.Serving.{IsLeft, but_stored_queues}
 use Rattle.vlm_locks.proofs.Found.{on_resource-put, resource_alone, resource_at-at, resource_at-put}
 
--- the lock of this key and this row is the first of the queue, and these are behind it
+-- the lock of this handle and this row is the first of the queue, and these are behind it
 pub record IsHead (queue : Queue) (r : StoredResource) (at : ℕ) (row : Row) : Type 0 where
   pub rest : List StoredLock
   pub is : queued queue r ≡ record { at = at; row = row } ∷ rest
@@ -27,7 +27,7 @@ granted_first Granted lock rest r = r
 granted_first Conversion lock rest r = record r { granted = r.granted ++ lock ∷ []; converting = rest }
 granted_first Waiting lock rest r = record r { granted = r.granted ++ lock ∷ []; waiting = rest }
 
-pub granted_first-rest : (queue : Queue) (lock : StoredLock) (rest : List StoredLock) (r : StoredResource) → but_queues (granted_first queue lock rest r) ≡ but_queues r
+pub granted_first-rest : (queue : Queue) (lock : StoredLock) (rest : List StoredLock) (r : StoredResource) → but_stored_queues (granted_first queue lock rest r) ≡ but_stored_queues r
 granted_first-rest Granted lock rest r = refl
 granted_first-rest Conversion lock rest r = refl
 granted_first-rest Waiting lock rest r = refl
@@ -158,7 +158,7 @@ first_moved s sound res r queue at row found head granted differs =
 
 -- so the queues of the resource are left like this
 pub left_next : (old s new : Records) (sound : IsSound s) (res : ℕ) (had r : StoredResource) (queue : Queue) (at : ℕ) (row : Row) (change : IsLeft res had r old s) (head : IsHead queue r at row)
-    (granted : Row) → Granted ≢ queue → SameButBlocks (with_lists (moving (Queued res Granted) (record { at = at; row = granted })) s) new
+    (granted : Row) → Granted ≢ queue → SameButNotices (with_lists (moving (Queued res Granted) (record { at = at; row = granted })) s) new
     → IsLeft res had (granted_first queue (record { at = at; row = granted }) head.rest r) old new
 left_next old s new sound res had r queue at row change head granted differs same =
     let next : StoredResource = granted_first queue (record { at = at; row = granted }) head.rest r in

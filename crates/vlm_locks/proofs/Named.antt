@@ -1,4 +1,4 @@
--- The rows of a lock in a list: found by its key, and by its identification.
+-- The rows of a lock in a list: found by its handle, and by its identification.
 use Rattle.std.proofs.Common.{◌≡◌, ◌≢◌, ℕ, List, [], ◌∷◌, true, false, find, None, Some, refl, sym, ap, ◌∙◌, subst, inl, inr, eq-eqb, ne_eqb}
 use Rattle.std.specs.List.{list_any}
 use Rattle.std.proofs.lemmas.Bool.{cases_eq}
@@ -6,33 +6,33 @@ use Rattle.std.proofs.lemmas.Bool.{or_right}
 use Rattle.vlm_words.specs.Rows.{is_lock_of, rows_without}
 use Rattle.vlm_words.specs.Rows as plain
 use Rattle.vlm_links.specs.Lists.{IsIn}
-use Rattle.vlm_store.specs.Records.{AreApart, StoredLock, rows_of, without_lock}
+use Rattle.vlm_store.specs.Records.{AreApart, StoredLock, rows_of_locks, without_lock}
 
 -- no lock of the list has this identification
 abbrev pub IsAbsent : ℕ → List StoredLock → Type 0
 IsAbsent lkid locks = (k : StoredLock) → IsIn k locks → k.row.lkid ≢ lkid
 
--- the lock of this key is the only one of the list with the identification of this row, and has this row
+-- the lock of this handle is the only one of the list with the identification of this row, and has this row
 abbrev pub IsOnly : StoredLock → List StoredLock → Type 0
 IsOnly lock locks = (k : StoredLock) → IsIn k locks → (k.row.lkid ≡ lock.row.lkid → k ≡ lock) × (k.at ≡ lock.at → k ≡ lock)
 
 -- ---- a lock that is not there
 
-pub without-absent : (lkid : ℕ) (locks : List StoredLock) → IsAbsent lkid locks → rows_without lkid (rows_of locks) ≡ rows_of locks
+pub without-absent : (lkid : ℕ) (locks : List StoredLock) → IsAbsent lkid locks → rows_without lkid (rows_of_locks locks) ≡ rows_of_locks locks
 without-absent lkid [] absent = refl
 without-absent lkid (k ∷ rest) absent =
     rw (ne_eqb k.row.lkid lkid (absent k (inl refl))) (ap (λ xs. k.row ∷ xs) (without-absent lkid rest (λ x there. absent x (inr there))))
 
-pub rows-absent : (lkid : ℕ) (locks : List StoredLock) → IsAbsent lkid locks → plain.rows_of lkid (rows_of locks) ≡ []
+pub rows-absent : (lkid : ℕ) (locks : List StoredLock) → IsAbsent lkid locks → plain.rows_of lkid (rows_of_locks locks) ≡ []
 rows-absent lkid [] absent = refl
 rows-absent lkid (k ∷ rest) absent = rw (ne_eqb k.row.lkid lkid (absent k (inl refl))) (rows-absent lkid rest (λ x there. absent x (inr there)))
 
-pub find-absent : (pid lkid : ℕ) (locks : List StoredLock) → IsAbsent lkid locks → find (is_lock_of pid lkid) (rows_of locks) ≡ None
+pub find-absent : (pid lkid : ℕ) (locks : List StoredLock) → IsAbsent lkid locks → find (is_lock_of pid lkid) (rows_of_locks locks) ≡ None
 find-absent pid lkid [] absent = refl
 find-absent pid lkid (k ∷ rest) absent = rw (ne_eqb k.row.lkid lkid (absent k (inl refl))) (find-absent pid lkid rest (λ x there. absent x (inr there)))
 
 -- no lock of the list is that of the process
-pub any-not : (pid lkid : ℕ) (locks : List StoredLock) → ((k : StoredLock) → IsIn k locks → k.row.lkid ≡ lkid → k.row.pid ≢ pid) → list_any (is_lock_of pid lkid) (rows_of locks) ≡ false
+pub any-not : (pid lkid : ℕ) (locks : List StoredLock) → ((k : StoredLock) → IsIn k locks → k.row.lkid ≡ lkid → k.row.pid ≢ pid) → list_any (is_lock_of pid lkid) (rows_of_locks locks) ≡ false
 any-not pid lkid [] other = refl
 any-not pid lkid (k ∷ rest) other =
     elim (cases_eq k.row.lkid lkid) [
@@ -40,22 +40,22 @@ any-not pid lkid (k ∷ rest) other =
       | inr differs ↦ rw (ne_eqb k.row.lkid lkid differs) (any-not pid lkid rest (λ x there. other x (inr there)))
     ]
 
-pub any-absent : (pid lkid : ℕ) (locks : List StoredLock) → IsAbsent lkid locks → list_any (is_lock_of pid lkid) (rows_of locks) ≡ false
+pub any-absent : (pid lkid : ℕ) (locks : List StoredLock) → IsAbsent lkid locks → list_any (is_lock_of pid lkid) (rows_of_locks locks) ≡ false
 any-absent pid lkid locks absent = any-not pid lkid locks (λ k among same. absurd (absent k among same))
 
 -- ---- a lock that is there
 
-pub any-among : (lock : StoredLock) (locks : List StoredLock) → IsIn lock locks → list_any (is_lock_of lock.row.pid lock.row.lkid) (rows_of locks) ≡ true
+pub any-among : (lock : StoredLock) (locks : List StoredLock) → IsIn lock locks → list_any (is_lock_of lock.row.pid lock.row.lkid) (rows_of_locks locks) ≡ true
 any-among lock [] among = absurd among
 any-among lock (k ∷ rest) among =
     elim among [
       | inl here ↦
           rw (eq-eqb k.row.lkid lock.row.lkid (ap (λ (x : StoredLock). x.row.lkid) here), eq-eqb k.row.pid lock.row.pid (ap (λ (x : StoredLock). x.row.pid) here)) refl
       | inr there ↦
-          or_right (is_lock_of lock.row.pid lock.row.lkid k.row) (list_any (is_lock_of lock.row.pid lock.row.lkid) (rows_of rest)) (any-among lock rest there)
+          or_right (is_lock_of lock.row.pid lock.row.lkid k.row) (list_any (is_lock_of lock.row.pid lock.row.lkid) (rows_of_locks rest)) (any-among lock rest there)
     ]
 
-pub find-only : (lock : StoredLock) (locks : List StoredLock) → IsOnly lock locks → IsIn lock locks → find (is_lock_of lock.row.pid lock.row.lkid) (rows_of locks) ≡ Some lock.row
+pub find-only : (lock : StoredLock) (locks : List StoredLock) → IsOnly lock locks → IsIn lock locks → find (is_lock_of lock.row.pid lock.row.lkid) (rows_of_locks locks) ≡ Some lock.row
 find-only lock [] only among = absurd among
 find-only lock (k ∷ rest) only among =
     elim (cases_eq k.row.lkid lock.row.lkid) [
@@ -70,21 +70,21 @@ find-only lock (k ∷ rest) only among =
           ])
     ]
 
--- the list without the lock of a key is that without the lock of its identification
-pub without-key : (lock : StoredLock) (locks : List StoredLock) → IsOnly lock locks → rows_of (without_lock lock.at locks) ≡ rows_without lock.row.lkid (rows_of locks)
-without-key lock [] only = refl
-without-key lock (k ∷ rest) only =
+-- the list without the lock of a handle is that without the lock of its identification
+pub without-handle : (lock : StoredLock) (locks : List StoredLock) → IsOnly lock locks → rows_of_locks (without_lock lock.at locks) ≡ rows_without lock.row.lkid (rows_of_locks locks)
+without-handle lock [] only = refl
+without-handle lock (k ∷ rest) only =
     elim (cases_eq k.at lock.at) [
       | inl same ↦
           rw (eq-eqb k.at lock.at same, eq-eqb k.row.lkid lock.row.lkid (ap (λ (x : StoredLock). x.row.lkid) ((only k (inl refl)).1 same)))
-          (without-key lock rest (λ x there. only x (inr there)))
+          (without-handle lock rest (λ x there. only x (inr there)))
       | inr differs ↦
           rw (ne_eqb k.at lock.at differs, ne_eqb k.row.lkid lock.row.lkid (λ e. differs (ap (λ (x : StoredLock). x.at) ((only k (inl refl)).0 e))))
-          (ap (λ xs. k.row ∷ xs) (without-key lock rest (λ x there. only x (inr there))))
+          (ap (λ xs. k.row ∷ xs) (without-handle lock rest (λ x there. only x (inr there))))
     ]
 
 -- the rows of the identification are its one row
-pub rows-only : (lock : StoredLock) (locks : List StoredLock) → AreApart locks → IsOnly lock locks → IsIn lock locks → plain.rows_of lock.row.lkid (rows_of locks) ≡ lock.row ∷ []
+pub rows-only : (lock : StoredLock) (locks : List StoredLock) → AreApart locks → IsOnly lock locks → IsIn lock locks → plain.rows_of lock.row.lkid (rows_of_locks locks) ≡ lock.row ∷ []
 rows-only lock [] apart only among = absurd among
 rows-only lock (k ∷ rest) apart only among =
     elim (cases_eq k.row.lkid lock.row.lkid) [

@@ -7,9 +7,9 @@ use Rattle.vlm_words.specs.declared.locks.Row.{Row}
 use Rattle.vlm_words.specs.declared.resources.Queue.{Queue}
 use Rattle.vlm_words.specs.declared.resources.Queue.TheVariants.{Granted, Conversion, Waiting}
 use Rattle.vlm_words.specs.declared.resources.ValueBlock.{ValueBlock}
-use Rattle.vlm_store.specs.declared.keys.Place.{Place}
-use Rattle.vlm_store.specs.declared.keys.Place.TheVariants.{Loose, Queued}
-use Rattle.vlm_store.specs.Records.{Records, Room, SameButBlocks, StoredLock, StoredProcess, StoredResource, but_blocks, is_place, leaving, locks_at, moving, on_resource, process_without_lock, queued, resource_at, resource_with, with_lists, with_lock_room, with_new_lock, without_lock, without_stored_lock}
+use Rattle.vlm_store.specs.declared.handles.Place.{Place}
+use Rattle.vlm_store.specs.declared.handles.Place.TheVariants.{Loose, Queued}
+use Rattle.vlm_store.specs.Records.{Records, Room, SameButNotices, StoredLock, StoredProcess, StoredResource, but_notices, is_place, leaving, locks_at, moving, on_resource, process_without_lock, queued, resource_at, resource_with, with_lists, with_lock_room, with_new_lock, without_lock, without_stored_lock}
 use Rattle.vlm_locks.specs.Rest.{OtherLocksStay}
 use Rattle.vlm_locks.specs.Withdrawing.{owned_after}
 
@@ -101,7 +101,7 @@ block_alone lock res block s (Queued x queue) = ap (without_lock lock) (of_list 
         ]
 
 -- status blocks are written
-pub statuses_alone : (lock : ℕ) (old new : Records) → SameButBlocks old new → OtherLocksStay lock old new
+pub statuses_alone : (lock : ℕ) (old new : Records) → SameButNotices old new → OtherLocksStay lock old new
 statuses_alone lock old new same Loose = ap (without_lock lock) same.loose
 statuses_alone lock old new same (Queued x queue) = ap (λ rs. without_lock lock (option_map_or (queued queue) (resource_at x rs) [])) same.resources
 
@@ -110,11 +110,11 @@ pub locks_stay_over : (lock : ℕ) (old between new : Records) → OtherLocksSta
 locks_stay_over lock old between new first second place = second place ∙ first place
 
 -- a lock that goes or stays leaves the same of processes that are the same but for status blocks
-pub owned_alike : (going : Bool) (lock : ℕ) (a b : List StoredProcess) → map but_blocks a ≡ map but_blocks b
-    → map but_blocks (owned_after going lock a) ≡ map but_blocks (owned_after going lock b)
+pub owned_alike : (going : Bool) (lock : ℕ) (a b : List StoredProcess) → map but_notices a ≡ map but_notices b
+    → map but_notices (owned_after going lock a) ≡ map but_notices (owned_after going lock b)
 owned_alike false lock a b same = same
 owned_alike true lock a b same = shown a ∙ ap (map (process_without_lock lock)) same ∙ sym (shown b)
   where
-    shown : (ps : List StoredProcess) → map but_blocks (map (process_without_lock lock) ps) ≡ map (process_without_lock lock) (map but_blocks ps)
+    shown : (ps : List StoredProcess) → map but_notices (map (process_without_lock lock) ps) ≡ map (process_without_lock lock) (map but_notices ps)
     shown [] = refl
-    shown (p ∷ ps) = ap (λ qs. but_blocks (process_without_lock lock p) ∷ qs) (shown ps)
+    shown (p ∷ ps) = ap (λ qs. but_notices (process_without_lock lock p) ∷ qs) (shown ps)

@@ -8,7 +8,7 @@ use Rattle.vlm_store.specs.Plain.{plain_resource}
 use Rattle.vlm_store.specs.Records.{AreResourcesApart, HasResource, Records, StoredResource, resource_at}
 use Rattle.vlm_locks.specs.Sweeping.{AreSettledBut, Parted, StandInOrder}
 
--- the resource of a key has some before and some after it
+-- the resource of a handle has some before and some after it
 parted_at : (res : ℕ) (rs : List StoredResource) → IsSome (resource_at res rs) → Parted res rs
 parted_at res [] there = cc
 parted_at res (x ∷ rs) there =
@@ -44,7 +44,7 @@ pub among_after : (xs ys : List StoredResource) (x : StoredResource) → IsIn x 
 among_after [] ys x among = among
 among_after (y ∷ xs) ys x among = inr (among_after xs ys x among)
 
--- those behind others have other keys than these
+-- those behind others have other handles than these
 apart_behind : (xs ys : List StoredResource) → AreResourcesApart (xs ++ ys) → AreResourcesApart ys
 apart_behind [] ys apart = apart
 apart_behind (x ∷ xs) ys apart = apart_behind xs ys apart.1

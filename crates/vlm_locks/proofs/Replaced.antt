@@ -1,4 +1,4 @@
--- One resource is put in the place of another of its key: what stays.
+-- One resource is put in the place of another of its handle: what stays.
 use Rattle.std.proofs.Common.{◌≡◌, ◌≢◌, ◌⊎◌, ℕ, List, [], ◌∷◌, map, cond, Some, IsSome, refl, sym, ap, ◌∙◌, subst, inl, inr, eq-eqb, ne_eqb}
 use Rattle.std.specs.Prelude.{◌==◌}
 use Rattle.std.proofs.lemmas.Bool.{cases_eq}
@@ -7,10 +7,10 @@ use Rattle.vlm_words.specs.State.{Resource}
 use Rattle.vlm_words.specs.declared.locks.Row.{Row}
 use Rattle.vlm_words.specs.declared.resources.Queue.{Queue}
 use Rattle.vlm_links.specs.Lists.{IsIn}
-use Rattle.vlm_store.specs.declared.keys.Place.{Place}
-use Rattle.vlm_store.specs.declared.keys.Place.TheVariants.{Loose, Queued}
+use Rattle.vlm_store.specs.declared.handles.Place.{Place}
+use Rattle.vlm_store.specs.declared.handles.Place.TheVariants.{Loose, Queued}
 use Rattle.vlm_store.specs.Plain.{plain_resource, plain_resources}
-use Rattle.vlm_store.specs.Records.{HasNoSublocks, HasResource, IsRowOf, IsSound, Records, StoredLock, StoredResource, Stores, but_blocks, locks_at, on_resource, queued, resource_at, without_resource}
+use Rattle.vlm_store.specs.Records.{HasNoSublocks, HasResource, IsRowOf, IsSound, Records, StoredLock, StoredResource, Stores, but_notices, locks_at, on_resource, queued, resource_at, without_resource}
 use Rattle.vlm_words.specs.Resources.{IsKeyed}
 use Rattle.vlm_locks.specs.Rest.{IsAtRest, IsReplaced, OthersStay}
 use Rattle.vlm_locks.specs.Staying.{LocksStay}
@@ -19,7 +19,7 @@ use Rattle.vlm_locks.proofs.Staying.{same_back, same_lock}
 use Rattle.vlm_locks.proofs.Stood.{resource_among}
 use Rattle.vlm_locks.proofs.Found.{resource_alone, resource_at-at, resource_at-put}
 
--- a resource of the list after is the new one, or it was there and has another key
+-- a resource of the list after is the new one, or it was there and has another handle
 replaced_cases : (res : ℕ) (left : StoredResource) (rs : List StoredResource) (x : StoredResource) → IsIn x (on_resource res (λ r. left) rs)
     → (x ≡ left) ⊎ IsIn x rs
 replaced_cases res left [] x among = absurd among
@@ -33,7 +33,7 @@ replaced_cases res left (r ∷ rest) x among =
     ]
 
 -- where status blocks alone are written no lock gets one below it
-pub no_sublocks_still : (old new : Records) → map but_blocks new.processes ≡ map but_blocks old.processes → (at : ℕ) → HasNoSublocks at old → HasNoSublocks at new
+pub no_sublocks_still : (old new : Records) → map but_notices new.processes ≡ map but_notices old.processes → (at : ℕ) → HasNoSublocks at old → HasNoSublocks at new
 no_sublocks_still old new same at childless p own among here =
     let was = same_own old.processes new.processes same p among in
     childless was.0 own was.1.0 (subst (IsIn own) (sym was.1.1) here)

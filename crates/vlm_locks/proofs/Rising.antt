@@ -6,12 +6,12 @@ use Rattle.std.proofs.lemmas.List.{append-nil, map-append}
 use Rattle.std.specs.Option.{option_map_or}
 use Rattle.vlm_words.specs.declared.locks.Row.{Row}
 use Rattle.vlm_links.specs.Lists.{IsIn, without}
-use Rattle.vlm_links.proofs.KeyLists.{IsIn-push, IsIn-without}
-use Rattle.vlm_store.specs.declared.keys.Place.{Place}
-use Rattle.vlm_store.specs.declared.keys.Place.TheVariants.{Loose, Queued}
-use Rattle.vlm_store.specs.Records.{IsNewLock, IsRowOf, IsSound, IsStored, OwnLock, Records, StoredProcess, StoredResource, Stores, but_blocks, locks_at, new_own, process_with_lock, process_without_lock, queued, resource_at, with_sublock, without_sublock}
+use Rattle.vlm_links.proofs.HandleLists.{IsIn-push, IsIn-without}
+use Rattle.vlm_store.specs.declared.handles.Place.{Place}
+use Rattle.vlm_store.specs.declared.handles.Place.TheVariants.{Loose, Queued}
+use Rattle.vlm_store.specs.Records.{IsNewLock, IsRowOf, IsSound, IsStored, OwnLock, Records, StoredProcess, StoredResource, Stores, but_notices, locks_at, new_own, process_with_lock, process_without_lock, queued, resource_at, with_sublock, without_sublock}
 use Rattle.vlm_locks.specs.Staying.{LocksStayAmong}
-use Rattle.vlm_locks.specs.Rising.{ComesBefore, HasRisingLocks, IsAboveAll, StandByIdentification, own_keys}
+use Rattle.vlm_locks.specs.Rising.{ComesBefore, HasRisingLocks, IsAboveAll, StandByIdentification, own_handles}
 use Rattle.vlm_locks.proofs.Staying.{same_back, same_lock}
 use Rattle.vlm_locks.proofs.Stood.{queued_stored, resource_among}
 
@@ -19,15 +19,15 @@ use Rattle.vlm_locks.proofs.Stood.{queued_stored, resource_among}
 abbrev pub AllRise : Records → List StoredProcess → Type 0
 AllRise s ps = (p : StoredProcess) → IsIn p ps → HasRisingLocks s p
 
--- each lock that is stored was stored under its key, as the same lock
+-- each lock that is stored was stored under its handle, as the same lock
 abbrev pub WereStored : Records → Records → Type 0
 WereStored old new = (at : ℕ) (row : Row) → Stores new at row → IsRowOf at row old
 
--- ---- keys
+-- ---- handles
 
--- keys of which each two keep their order stand by it still
-stand_still : (s t : Records) (keys : List ℕ) → ((a b : ℕ) → IsIn a keys → IsIn b keys → ComesBefore s a b → ComesBefore t a b)
-    → StandByIdentification s keys → StandByIdentification t keys
+-- handles of which each two keep their order stand by it still
+stand_still : (s t : Records) (handles : List ℕ) → ((a b : ℕ) → IsIn a handles → IsIn b handles → ComesBefore s a b → ComesBefore t a b)
+    → StandByIdentification s handles → StandByIdentification t handles
 stand_still s t [] kept stand = tt
 stand_still s t (at ∷ rest) kept stand = (
   λ later there. kept at later (inl refl) (inr there) (stand.0 later there),
@@ -35,7 +35,7 @@ stand_still s t (at ∷ rest) kept stand = (
 )
 
 -- so do those that are left of them
-stand_without : (s : Records) (lock : ℕ) (keys : List ℕ) → StandByIdentification s keys → StandByIdentification s (without lock keys)
+stand_without : (s : Records) (lock : ℕ) (handles : List ℕ) → StandByIdentification s handles → StandByIdentification s (without lock handles)
 stand_without s lock [] stand = tt
 stand_without s lock (at ∷ rest) stand =
     elim (cases_eq at lock) [
@@ -44,8 +44,8 @@ stand_without s lock (at ∷ rest) stand =
     ]
 
 -- and with a last one that each of them comes before
-stand_with : (s : Records) (keys : List ℕ) (last : ℕ) → ((at : ℕ) → IsIn at keys → ComesBefore s at last) → StandByIdentification s keys
-    → StandByIdentification s (keys ++ last ∷ [])
+stand_with : (s : Records) (handles : List ℕ) (last : ℕ) → ((at : ℕ) → IsIn at handles → ComesBefore s at last) → StandByIdentification s handles
+    → StandByIdentification s (handles ++ last ∷ [])
 stand_with s [] last before stand = (λ later there. absurd there, tt)
 stand_with s (at ∷ rest) last before stand = (
   λ later there. elim (IsIn-push last later rest there) [
@@ -92,7 +92,7 @@ none_joined old new sound loose none_join at row stored = by_place stored.0 stor
             )
 
 -- a process has the locks of one that was there
-pub same_own : (old new : List StoredProcess) → map but_blocks new ≡ map but_blocks old → (p : StoredProcess) → IsIn p new → (q : StoredProcess) × (IsIn q old × (q.own ≡ p.own))
+pub same_own : (old new : List StoredProcess) → map but_notices new ≡ map but_notices old → (p : StoredProcess) → IsIn p new → (q : StoredProcess) × (IsIn q old × (q.own ≡ p.own))
 same_own [] [] same p among = absurd among
 same_own [] (x ∷ new) same p among = cc
 same_own (y ∷ old) [] same p among = absurd among
@@ -113,12 +113,12 @@ same_own (y ∷ old) (x ∷ new) same p among =
 -- a process has rising locks where its locks were those of one that had
 pub rises_still : (old new : Records) (q p : StoredProcess) → WereStored old new → q.own ≡ p.own → HasRisingLocks old q → HasRisingLocks new p
 rises_still old new q p were same rises = record {
-  own = subst (λ owns. StandByIdentification new (own_keys owns)) same (stand_still old new (own_keys q.own) (λ a b in_a in_b. before_still old new were a b) rises.own);
+  own = subst (λ owns. StandByIdentification new (own_handles owns)) same (stand_still old new (own_handles q.own) (λ a b in_a in_b. before_still old new were a b) rises.own);
   sublocks = λ own among. stand_still old new own.sublocks (λ a b in_a in_b. before_still old new were a b) (rises.sublocks own (subst (IsIn own) (sym same) among));
 }
 
 -- so all have where none gets another lock
-pub all_rise_still : (old new : Records) → WereStored old new → map but_blocks new.processes ≡ map but_blocks old.processes → AllRise old old.processes → AllRise new new.processes
+pub all_rise_still : (old new : Records) → WereStored old new → map but_notices new.processes ≡ map but_notices old.processes → AllRise old old.processes → AllRise new new.processes
 all_rise_still old new were same rising p among =
     let was = same_own old.processes new.processes same p among in
     rises_still old new was.0 p were was.1.1 (rising was.0 was.1.0)
@@ -148,18 +148,18 @@ was_own lock (x ∷ owns) own among =
       ]
     ]
 
--- of the keys just its own goes
-keys_without : (lock : ℕ) (owns : List OwnLock) → own_keys (map (without_sublock lock) (filter (λ (o : OwnLock). not (o.at == lock)) owns)) ≡ without lock (own_keys owns)
-keys_without lock [] = refl
-keys_without lock (x ∷ owns) =
+-- of the handles just its own goes
+handles_without : (lock : ℕ) (owns : List OwnLock) → own_handles (map (without_sublock lock) (filter (λ (o : OwnLock). not (o.at == lock)) owns)) ≡ without lock (own_handles owns)
+handles_without lock [] = refl
+handles_without lock (x ∷ owns) =
     elim (cases_eq x.at lock) [
-      | inl same ↦ rw (eq-eqb x.at lock same) (keys_without lock owns)
-      | inr differs ↦ rw (ne_eqb x.at lock differs) (ap (λ keys. x.at ∷ keys) (keys_without lock owns))
+      | inl same ↦ rw (eq-eqb x.at lock same) (handles_without lock owns)
+      | inr differs ↦ rw (ne_eqb x.at lock differs) (ap (λ handles. x.at ∷ handles) (handles_without lock owns))
     ]
 
 rises_without : (s : Records) (lock : ℕ) (q : StoredProcess) → HasRisingLocks s q → HasRisingLocks s (process_without_lock lock q)
 rises_without s lock q rises = record {
-  own = subst (StandByIdentification s) (sym (keys_without lock q.own)) (stand_without s lock (own_keys q.own) rises.own);
+  own = subst (StandByIdentification s) (sym (handles_without lock q.own)) (stand_without s lock (own_handles q.own) rises.own);
   sublocks = λ own among.
       let was = was_own lock q.own own among in
       subst (λ (o : OwnLock). StandByIdentification s o.sublocks) was.1.1 (stand_without s lock was.0.sublocks (rises.sublocks was.0 was.1.0));
@@ -177,7 +177,7 @@ all_rise_without s lock ps rising p among =
 pub new_above : (lkid : ℕ) (s : Records) → IsAboveAll lkid s → IsNewLock lkid s
 new_above lkid s above at row stored same = absurd (omega (arith, above at row stored, same))
 
-own_in : (owns : List OwnLock) (at : ℕ) → IsIn at (own_keys owns) → (o : OwnLock) × (IsIn o owns × (o.at ≡ at))
+own_in : (owns : List OwnLock) (at : ℕ) → IsIn at (own_handles owns) → (o : OwnLock) × (IsIn o owns × (o.at ≡ at))
 own_in [] at there = absurd there
 own_in (x ∷ owns) at there =
     elim there [
@@ -200,18 +200,18 @@ module _ (owner : ℕ) (parent : Option ℕ) (lock : ℕ) where
         ]
       ]
 
-  -- a lock keeps its key
+  -- a lock keeps its handle
   same_at : (up : Option ℕ) (o : OwnLock) → (with_sublock up lock o).at ≡ o.at
   same_at None o = refl
-  same_at (Some key) o = of_test (o.at == key)
+  same_at (Some handle) o = of_test (o.at == handle)
     where
       of_test : (b : Bool) → (cond b (record o { sublocks = o.sublocks ++ lock ∷ [] }) o).at ≡ o.at
       of_test true = refl
       of_test false = refl
 
-  keys_with : (owns : List OwnLock) → own_keys (map (with_sublock parent lock) owns) ≡ own_keys owns
-  keys_with [] = refl
-  keys_with (o ∷ owns) = ap (λ at. at ∷ own_keys (map (with_sublock parent lock) owns)) (same_at parent o) ∙ ap (λ keys. o.at ∷ keys) (keys_with owns)
+  handles_with : (owns : List OwnLock) → own_handles (map (with_sublock parent lock) owns) ≡ own_handles owns
+  handles_with [] = refl
+  handles_with (o ∷ owns) = ap (λ at. at ∷ own_handles (map (with_sublock parent lock) owns)) (same_at parent o) ∙ ap (λ handles. o.at ∷ handles) (handles_with owns)
 
   module _ (s new : Records) (sound : IsSound s) (lkid : ℕ) (fresh : ¬ IsStored lock s) (above : IsAboveAll lkid s)
       (cases : (at : ℕ) (row : Row) → Stores new at row → ((at ≡ lock) × (row.lkid ≡ lkid)) ⊎ Stores s at row) where
@@ -230,12 +230,12 @@ module _ (owner : ℕ) (parent : Option ℕ) (lock : ℕ) where
           | inr there ↦ absurd (fresh (b, there))
         ]
 
-    -- keys of stored locks stand so still, and with the new one as their last
-    stand_kept : (keys : List ℕ) → ((at : ℕ) → IsIn at keys → IsStored at s) → StandByIdentification s keys → StandByIdentification new keys
-    stand_kept keys stored stand = stand_still s new keys (λ a b in_a in_b. before_kept a b (stored a in_a) (stored b in_b)) stand
+    -- handles of stored locks stand so still, and with the new one as their last
+    stand_kept : (handles : List ℕ) → ((at : ℕ) → IsIn at handles → IsStored at s) → StandByIdentification s handles → StandByIdentification new handles
+    stand_kept handles stored stand = stand_still s new handles (λ a b in_a in_b. before_kept a b (stored a in_a) (stored b in_b)) stand
 
-    stand_joined : (keys : List ℕ) → ((at : ℕ) → IsIn at keys → IsStored at s) → StandByIdentification s keys → StandByIdentification new (keys ++ lock ∷ [])
-    stand_joined keys stored stand = stand_with new keys lock (λ at there. before_last at (stored at there)) (stand_kept keys stored stand)
+    stand_joined : (handles : List ℕ) → ((at : ℕ) → IsIn at handles → IsStored at s) → StandByIdentification s handles → StandByIdentification new (handles ++ lock ∷ [])
+    stand_joined handles stored stand = stand_with new handles lock (λ at there. before_last at (stored at there)) (stand_kept handles stored stand)
 
     rises_with : (q : StoredProcess) → IsIn q s.processes → HasRisingLocks s q → HasRisingLocks new (process_with_lock owner parent lock q)
     rises_with q among rises = record {
@@ -246,7 +246,7 @@ module _ (owner : ℕ) (parent : Option ℕ) (lock : ℕ) where
       ];
     }
       where
-        own_stored : (at : ℕ) → IsIn at (own_keys q.own) → IsStored at s
+        own_stored : (at : ℕ) → IsIn at (own_handles q.own) → IsStored at s
         own_stored at there =
             let found = own_in q.own at there in
             let owned = sound.owned.owns q found.0 among found.1.0 in
@@ -255,19 +255,19 @@ module _ (owner : ℕ) (parent : Option ℕ) (lock : ℕ) where
         below_stored : (o : OwnLock) → IsIn o q.own → (at : ℕ) → IsIn at o.sublocks → IsStored at s
         below_stored o own at there = let below = sound.owned.below q o at among own there in (below.1, below.2.1)
 
-        of_owner : (mine : Bool) → StandByIdentification new (own_keys (map (with_sublock parent lock) q.own ++ cond mine (new_own lock) []))
+        of_owner : (mine : Bool) → StandByIdentification new (own_handles (map (with_sublock parent lock) q.own ++ cond mine (new_own lock) []))
         of_owner true =
             subst (StandByIdentification new)
-            (sym (map-append (λ (o : OwnLock). o.at) (map (with_sublock parent lock) q.own) (new_own lock) ∙ ap (λ keys. keys ++ lock ∷ []) (keys_with q.own)))
-            (stand_joined (own_keys q.own) own_stored rises.own)
+            (sym (map-append (λ (o : OwnLock). o.at) (map (with_sublock parent lock) q.own) (new_own lock) ∙ ap (λ handles. handles ++ lock ∷ []) (handles_with q.own)))
+            (stand_joined (own_handles q.own) own_stored rises.own)
         of_owner false =
             subst (StandByIdentification new)
-            (sym (map-append (λ (o : OwnLock). o.at) (map (with_sublock parent lock) q.own) [] ∙ append-nil _ ∙ keys_with q.own))
-            (stand_kept (own_keys q.own) own_stored rises.own)
+            (sym (map-append (λ (o : OwnLock). o.at) (map (with_sublock parent lock) q.own) [] ∙ append-nil _ ∙ handles_with q.own))
+            (stand_kept (own_handles q.own) own_stored rises.own)
 
         of_parent : (up : Option ℕ) (o : OwnLock) → IsIn o q.own → StandByIdentification new (with_sublock up lock o).sublocks
         of_parent None o own = stand_kept o.sublocks (below_stored o own) (rises.sublocks o own)
-        of_parent (Some key) o own = of_test (o.at == key)
+        of_parent (Some handle) o own = of_test (o.at == handle)
           where
             of_test : (b : Bool) → StandByIdentification new (cond b (record o { sublocks = o.sublocks ++ lock ∷ [] }) o).sublocks
             of_test true = stand_joined o.sublocks (below_stored o own) (rises.sublocks o own)

@@ -7,7 +7,7 @@ use Rattle.std.proofs.Common.{eq-eqb, ne_eqb}
 use Rattle.vlm_words.specs.declared.locks.Row.{Row}
 use Rattle.vlm_words.specs.declared.resources.Queue.{Queue}
 use Rattle.vlm_links.specs.Lists.{IsIn}
-use Rattle.vlm_store.specs.declared.keys.Place.TheVariants.{Queued}
+use Rattle.vlm_store.specs.declared.handles.Place.TheVariants.{Queued}
 use Rattle.vlm_store.specs.Records.{AreApart, IsProcess, IsSound, Records, StoredLock, StoredResource, Stores, locks_at, queued, resource_at}
 use Rattle.vlm_store.proofs.Records.{queue_at}
 use Rattle.vlm_locks.specs.declared.finding.Standing.{Standing}
@@ -23,7 +23,7 @@ resource_among res (x ∷ rs) r found =
       | inr differs ↦ inr (resource_among res rs r (rw (ne_eqb x.at res differs) at found))
     ]
 
--- one key stands once in a list
+-- one handle stands once in a list
 one_row : (locks : List StoredLock) → AreApart locks → (a b : StoredLock) → IsIn a locks → IsIn b locks → a.at ≡ b.at → a ≡ b
 one_row [] apart a b in_a in_b same = absurd in_a
 one_row (k ∷ rest) apart a b in_a in_b same =
@@ -56,7 +56,7 @@ module _ (s : Records) (sound : IsSound s) where
   pub queued_stored : (r : StoredResource) → IsIn r s.resources → (queue : Queue) (k : StoredLock) → IsIn k (queued queue r) → Stores s k.at k.row
   queued_stored r among queue k here = (Queued r.at queue, subst (IsIn k) (sym (queue_at s sound r among queue)) here)
 
-  -- one key is that of one lock
+  -- one handle is that of one lock
   pub one_lock : (at : ℕ) (a b : Row) → Stores s at a → Stores s at b → a ≡ b
   one_lock at a b stored_a stored_b =
       let same : stored_a.0 ≡ stored_b.0 = sound.one_place at a b stored_a.0 stored_b.0 stored_a.1 stored_b.1 in
@@ -64,7 +64,7 @@ module _ (s : Records) (sound : IsSound s) where
       ap (λ (x : StoredLock). x.row) (one_row (locks_at stored_b.0 s) (sound.locks_apart stored_b.0) (record { at = at; row = a }) (record { at = at; row = b }) there stored_b.1 refl)
 
   module _ (f : Standing) (standing : IsStanding f s) where
-    -- the lock under its key
+    -- the lock under its handle
     abbrev pub lock : StoredLock
     lock = record { at = f.lock; row = f.row }
 
@@ -75,17 +75,17 @@ module _ (s : Records) (sound : IsSound s) where
     pub own_among : IsIn own s.resources
     own_among = resource_among f.res s.resources own standing.found
 
-    -- no other lock has its key, or its identification
+    -- no other lock has its handle, or its identification
     pub only : (r : StoredResource) → IsIn r s.resources → (queue : Queue) → IsOnly lock (queued queue r)
-    only r among queue k here = (by_lkid, by_key)
+    only r among queue k here = (by_lkid, by_handle)
       where
-        by_key : k.at ≡ f.lock → k ≡ lock
-        by_key same =
+        by_handle : k.at ≡ f.lock → k ≡ lock
+        by_handle same =
             ap (λ (x : Row). record { at = k.at; row = x }) (one_lock k.at k.row f.row (queued_stored r among queue k here) (subst (λ x. Stores s x f.row) (sym same) (stored s f standing)))
             ∙ ap (λ x. record { at = x; row = f.row }) same
 
         by_lkid : k.row.lkid ≡ f.row.lkid → k ≡ lock
-        by_lkid same = by_key (sound.lkids_apart k.at f.lock k.row f.row (queued_stored r among queue k here) (stored s f standing) same)
+        by_lkid same = by_handle (sound.lkids_apart k.at f.lock k.row f.row (queued_stored r among queue k here) (stored s f standing) same)
 
     -- it stands in no other queue
     pub absent : (r : StoredResource) → IsIn r s.resources → (queue : Queue) → Queued r.at queue ≢ Queued f.res f.queue → IsAbsent f.row.lkid (queued queue r)

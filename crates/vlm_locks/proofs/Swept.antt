@@ -10,7 +10,7 @@ use Rattle.vlm_words.specs.State.{Process}
 use Rattle.vlm_words.specs.Sweeps.{blocks_after_service, is_vacant, resource_after_service}
 use Rattle.vlm_links.specs.Lists.{IsIn}
 use Rattle.vlm_store.specs.Plain.{plain_processes, plain_resource}
-use Rattle.vlm_store.specs.Records.{IsIdle, IsSound, Records, Room, StoredResource, but_blocks, on_resource, queued, resource_at, rows_of, with_resource_room, without_resource}
+use Rattle.vlm_store.specs.Records.{IsIdle, IsSound, Records, Room, StoredResource, but_notices, on_resource, queued, resource_at, rows_of_locks, with_resource_room, without_resource}
 use Rattle.vlm_queue.proofs.Idle.{none_shown}
 use Rattle.vlm_locks.specs.Rest.{but_service}
 use Rattle.vlm_locks.specs.Serving.{IsServed}
@@ -22,7 +22,7 @@ use Rattle.vlm_locks.proofs.Parting.{after_differ, before_differ, own_there}
 use Rattle.vlm_locks.proofs.Replaced.{left_at}
 use Rattle.vlm_locks.proofs.Staying.{stay_alone, stay_none}
 
--- resources of other keys stay where one is put in the place of another
+-- resources of other handles stay where one is put in the place of another
 put_apart : (res : ℕ) (left : StoredResource) (rs : List StoredResource) → ((x : StoredResource) → IsIn x rs → x.at ≢ res) → on_resource res (λ r. left) rs ≡ rs
 put_apart res left [] differ = refl
 put_apart res left (r ∷ rs) differ =
@@ -47,18 +47,18 @@ without-append res (x ∷ xs) ys =
 vacant_idle : (s : Records) (res : ℕ) (r : StoredResource) → resource_at res s.resources ≡ Some r → is_vacant (plain_resource r) ≡ true → IsIdle res s
 vacant_idle s res r found vacant queue = locks_found s res r queue found ∙ empty queue
   where
-    parts : ((is_empty (rows_of r.granted) && is_empty (rows_of r.converting)) ≡ true) × (is_empty (rows_of r.waiting) ≡ true)
-    parts = and_parts (is_empty (rows_of r.granted) && is_empty (rows_of r.converting)) (is_empty (rows_of r.waiting)) vacant
+    parts : ((is_empty (rows_of_locks r.granted) && is_empty (rows_of_locks r.converting)) ≡ true) × (is_empty (rows_of_locks r.waiting) ≡ true)
+    parts = and_parts (is_empty (rows_of_locks r.granted) && is_empty (rows_of_locks r.converting)) (is_empty (rows_of_locks r.waiting)) vacant
 
     empty : (queue : Queue) → queued queue r ≡ []
-    empty Granted = none_shown r.granted (and_parts (is_empty (rows_of r.granted)) (is_empty (rows_of r.converting)) parts.0).0
-    empty Conversion = none_shown r.converting (and_parts (is_empty (rows_of r.granted)) (is_empty (rows_of r.converting)) parts.0).1
+    empty Granted = none_shown r.granted (and_parts (is_empty (rows_of_locks r.granted)) (is_empty (rows_of_locks r.converting)) parts.0).0
+    empty Conversion = none_shown r.converting (and_parts (is_empty (rows_of_locks r.granted)) (is_empty (rows_of_locks r.converting)) parts.0).1
     empty Waiting = none_shown r.waiting parts.1
 
 idle_vacant : (s : Records) (res : ℕ) (r : StoredResource) → resource_at res s.resources ≡ Some r → IsIdle res s → is_vacant (plain_resource r) ≡ true
 idle_vacant s res r found idle =
     let empty : (queue : Queue) → queued queue r ≡ [] = λ queue. sym (locks_found s res r queue found) ∙ idle queue in
-    rw (ap (λ xs. is_empty (rows_of xs)) (empty Granted), ap (λ xs. is_empty (rows_of xs)) (empty Conversion), ap (λ xs. is_empty (rows_of xs)) (empty Waiting)) refl
+    rw (ap (λ xs. is_empty (rows_of_locks xs)) (empty Granted), ap (λ xs. is_empty (rows_of_locks xs)) (empty Conversion), ap (λ xs. is_empty (rows_of_locks xs)) (empty Waiting)) refl
 
 not_vacant : (b : Bool) → (b ≡ true → ⊥) → b ≡ false
 not_vacant true not = absurd (not refl)
@@ -71,8 +71,8 @@ module _ (res : ℕ) (old s : Records) (sound : IsSound old) (served : IsServed 
   abbrev processes : List Process
   processes = plain_processes old
 
-  left_key : left.at ≡ res
-  left_key = left_at res served.had left old s served.replaced
+  left_handle : left.at ≡ res
+  left_handle = left_at res served.had left old s served.replaced
 
   own_is : was.own ≡ served.had
   own_is = resource_alone res old.resources served.had was.own sound.resources_apart served.replaced.was (own_there res old.resources sound.resources_apart was) was.keyed
@@ -89,7 +89,7 @@ module _ (res : ℕ) (old s : Records) (sound : IsSound old) (served : IsServed 
       ∙ ap (λ xs. left ∷ xs) (put_apart res left was.after (after_differ res old.resources sound.resources_apart was)))
 
   found : resource_at res s.resources ≡ Some left
-  found = ap (resource_at res) served.replaced.resources ∙ resource_at-put res left old.resources served.had left_key served.replaced.was
+  found = ap (resource_at res) served.replaced.resources ∙ resource_at-put res left old.resources served.had left_handle served.replaced.was
 
   shown : plain_resource left ≡ resource_after_service processes (plain_resource was.own)
   shown = served.resource ∙ ap (λ (r : StoredResource). resource_after_service processes (plain_resource r)) (sym own_is)
@@ -108,8 +108,8 @@ module _ (res : ℕ) (old s : Records) (sound : IsSound old) (served : IsServed 
     served = ap (λ r. r ∷ []) shown
         ∙ sym (ap (λ b. cond b [] (resource_after_service processes (plain_resource was.own) ∷ []))
         (ap is_vacant (sym shown) ∙ not_vacant (is_vacant (plain_resource left)) (λ vacant. busy (vacant_idle s res left found vacant))));
-    stay = stay_alone was.own left (left_key ∙ sym was.keyed) (subst (λ (r : StoredResource). LocksStay r left) (sym own_is) served.stay);
-    none_join = stay_alone left was.own (was.keyed ∙ sym left_key) (subst (LocksStay left) (sym own_is) served.none_join);
+    stay = stay_alone was.own left (left_handle ∙ sym was.keyed) (subst (λ (r : StoredResource). LocksStay r left) (sym own_is) served.stay);
+    none_join = stay_alone left was.own (was.keyed ∙ sym left_handle) (subst (LocksStay left) (sym own_is) served.none_join);
     same = λ r among. elim among [ inl is ↦ subst (λ (x : StoredResource). but_service x ≡ but_service was.own) is same | inr none ↦ absurd none ];
     statuses = statuses;
     loose = served.replaced.loose;
@@ -126,7 +126,7 @@ module _ (res : ℕ) (old s : Records) (sound : IsSound old) (served : IsServed 
         ∙ without-append res was.before (left ∷ was.after)
         ∙ ap (λ xs. xs ++ without_resource res (left ∷ was.after)) (without_apart res was.before (before_differ res old.resources sound.resources_apart was))
         ∙ ap (λ xs. was.before ++ xs)
-        (ap (λ b. cond (not b) (left ∷ without_resource res was.after) (without_resource res was.after)) (eq-eqb left.at res left_key)
+        (ap (λ b. cond (not b) (left ∷ without_resource res was.after) (without_resource res was.after)) (eq-eqb left.at res left_handle)
         ∙ without_apart res was.after (after_differ res old.resources sound.resources_apart was));
     served = sym (ap (λ b. cond b [] (resource_after_service processes (plain_resource was.own) ∷ []))
         (ap is_vacant (sym shown) ∙ idle_vacant s res left found idle));
@@ -137,5 +137,5 @@ module _ (res : ℕ) (old s : Records) (sound : IsSound old) (served : IsServed 
     same = λ r among. absurd among;
     statuses = ap plain_processes is ∙ statuses;
     loose = ap (λ (x : Records). x.loose) is ∙ served.replaced.loose;
-    processes = ap (λ (x : Records). map but_blocks x.processes) is ∙ served.replaced.processes;
+    processes = ap (λ (x : Records). map but_notices x.processes) is ∙ served.replaced.processes;
   }

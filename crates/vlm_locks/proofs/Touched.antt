@@ -10,7 +10,7 @@ use Rattle.vlm_words.specs.State.{Process, Resource}
 use Rattle.vlm_words.specs.Sweeps.{processes_after_service, resource_after_service, resources_after_sweep}
 use Rattle.vlm_links.specs.Lists.{IsIn}
 use Rattle.vlm_store.specs.Plain.{plain_processes, plain_resource, plain_resources}
-use Rattle.vlm_store.specs.Records.{IsSound, Records, StoredResource, but_blocks}
+use Rattle.vlm_store.specs.Records.{IsSound, Records, StoredResource, but_notices}
 use Rattle.vlm_locks.specs.Rest.{IsAtRest}
 use Rattle.vlm_locks.specs.Sweeping.{AreSettledBut, IsSwept, Parted, StandInOrder, but_touched}
 use Rattle.vlm_locks.specs.Staying.{LocksStayAmong}
@@ -36,7 +36,7 @@ pub record IsSweeping (touched later : List ℕ) (old now : Records) : Type 0 wh
   pub others : but_touched touched now.resources ≡ but_touched touched old.resources
   pub stay : LocksStayAmong old.resources now.resources
   pub none_join : LocksStayAmong now.resources old.resources
-  pub processes : map but_blocks now.processes ≡ map but_blocks old.processes
+  pub processes : map but_notices now.processes ≡ map but_notices old.processes
   pub rest : IsAtRest now
 
 pub sweeping_begun : (touched : List ℕ) (s : Records) → IsSound s → StandInOrder touched s.resources → AreSettledBut touched s.resources → IsAtRest s

@@ -12,9 +12,9 @@ use Rattle.vlm_words.specs.Rows.{rows_without}
 use Rattle.vlm_words.specs.Rows as plain
 use Rattle.vlm_words.specs.State.{Resource}
 use Rattle.vlm_links.specs.Lists.{IsIn}
-use Rattle.vlm_store.specs.declared.keys.Place.TheVariants.{Queued}
+use Rattle.vlm_store.specs.declared.handles.Place.TheVariants.{Queued}
 use Rattle.vlm_store.specs.Plain.{plain_processes, plain_resource}
-use Rattle.vlm_store.specs.Records.{AreApart, IsSound, Records, StoredResource, leaving, moving, on_resource, queued, resource_at, resource_with, rows_of, with_lists, without_stored_lock}
+use Rattle.vlm_store.specs.Records.{AreApart, IsSound, Records, StoredResource, leaving, moving, on_resource, queued, resource_at, resource_with, rows_of_locks, with_lists, without_stored_lock}
 use Rattle.vlm_locks.proofs.Found.{on_resource-own, on_resource-put, resource_alone, resource_at-at, resource_at-put}
 use Rattle.vlm_locks.specs.declared.finding.Standing.{Standing}
 use Rattle.vlm_locks.specs.Converting.{moved_in}
@@ -23,7 +23,7 @@ use Rattle.vlm_locks.specs.Standing.{IsStanding}
 use Rattle.vlm_locks.specs.Withdrawing.{IsChange, may_write}
 use Rattle.vlm_locks.proofs.Changed.{changed, changed_alike, removed_changed, unchanged}
 use Rattle.vlm_locks.proofs.Moved.{joins, leaves, moved_replaced, none_joins_by_moving, not_in}
-use Rattle.vlm_locks.proofs.Named.{rows-absent, rows-only, without-absent, without-key}
+use Rattle.vlm_locks.proofs.Named.{rows-absent, rows-only, without-absent, without-handle}
 use Rattle.vlm_locks.proofs.Staying.{all_stay, none_joins_under_block}
 use Rattle.vlm_locks.proofs.Stood.{absent, only, own_among}
 use Rattle.vlm_store.proofs.Records.{queue_at}
@@ -66,7 +66,7 @@ left_staying w lkid named stays rs =
 
 module _ (s : Records) (sound : IsSound s) (f : Standing) (standing : IsStanding f s) where
   -- the rows of the lock in its queue
-  pub rows_here : plain.rows_of f.row.lkid (rows_of (queued f.queue standing.resource)) ≡ f.row ∷ []
+  pub rows_here : plain.rows_of f.row.lkid (rows_of_locks (queued f.queue standing.resource)) ≡ f.row ∷ []
   rows_here =
       let r = standing.resource in
       let among = own_among s sound f standing in
@@ -75,12 +75,12 @@ module _ (s : Records) (sound : IsSound s) (f : Standing) (standing : IsStanding
 
   -- the rows of the lock in another queue
   pub rows_elsewhere : (x : StoredResource) → IsIn x s.resources → (queue : Queue) → Queued x.at queue ≢ Queued f.res f.queue
-      → plain.rows_of f.row.lkid (rows_of (queued queue x)) ≡ []
+      → plain.rows_of f.row.lkid (rows_of_locks (queued queue x)) ≡ []
   rows_elsewhere x among queue differs = rows-absent f.row.lkid (queued queue x) (absent s sound f standing x among queue differs)
 
   -- another queue without the lock
   pub stays_elsewhere : (x : StoredResource) → IsIn x s.resources → (queue : Queue) → Queued x.at queue ≢ Queued f.res f.queue
-      → rows_without f.row.lkid (rows_of (queued queue x)) ≡ rows_of (queued queue x)
+      → rows_without f.row.lkid (rows_of_locks (queued queue x)) ≡ rows_of_locks (queued queue x)
   stays_elsewhere x among queue differs = without-absent f.row.lkid (queued queue x) (absent s sound f standing x among queue differs)
 
   -- ---- the lock goes
@@ -96,8 +96,8 @@ module _ (s : Records) (sound : IsSound s) (f : Standing) (standing : IsStanding
   unfolding resource_without
   own_without =
       let r = standing.resource in
-      let each : (queue : Queue) → rows_without f.row.lkid (rows_of (queued queue r)) ≡ rows_of (leaving f.lock (Queued r.at queue) (queued queue r)) =
-      λ queue. sym (without-key (record { at = f.lock; row = f.row }) (queued queue r) (only s sound f standing r (own_among s sound f standing) queue)) in
+      let each : (queue : Queue) → rows_without f.row.lkid (rows_of_locks (queued queue r)) ≡ rows_of_locks (leaving f.lock (Queued r.at queue) (queued queue r)) =
+      λ queue. sym (without-handle (record { at = f.lock; row = f.row }) (queued queue r) (only s sound f standing r (own_among s sound f standing) queue)) in
       rw (each Granted, each Conversion, each Waiting) refl
 
   -- so its resource changes as it goes, and nothing else
@@ -109,8 +109,8 @@ module _ (s : Records) (sound : IsSound s) (f : Standing) (standing : IsStanding
   -- another resource is not held by the lock
   not_held : (x : StoredResource) → IsIn x s.resources → x.at ≢ f.res → is_held_by_writer f.row.lkid (plain_resource x) ≡ false
   not_held x among differs =
-      let each : (queue : Queue) → has_writer f.row.lkid (rows_of (queued queue x)) ≡ false =
-      λ queue. writer_rows f.row.lkid (rows_of (queued queue x)) ∙ ap (list_any (λ (row : Row). is_writer row.held)) (rows_elsewhere x among queue (λ e. differs (cc))) in
+      let each : (queue : Queue) → has_writer f.row.lkid (rows_of_locks (queued queue x)) ≡ false =
+      λ queue. writer_rows f.row.lkid (rows_of_locks (queued queue x)) ∙ ap (list_any (λ (row : Row). is_writer row.held)) (rows_elsewhere x among queue (λ e. differs (cc))) in
       rw (each Granted, each Conversion) refl
 
   -- its own is, where it may write
@@ -120,14 +120,14 @@ module _ (s : Records) (sound : IsSound s) (f : Standing) (standing : IsStanding
       r : StoredResource
       r = standing.resource
 
-      there : (queue : Queue) → queue ≢ f.queue → has_writer f.row.lkid (rows_of (queued queue r)) ≡ false
+      there : (queue : Queue) → queue ≢ f.queue → has_writer f.row.lkid (rows_of_locks (queued queue r)) ≡ false
       there queue differs =
-          writer_rows f.row.lkid (rows_of (queued queue r)) ∙ ap (list_any (λ (row : Row). is_writer row.held)) (rows_elsewhere r (own_among s sound f standing) queue (λ e. differs (cc)))
+          writer_rows f.row.lkid (rows_of_locks (queued queue r)) ∙ ap (list_any (λ (row : Row). is_writer row.held)) (rows_elsewhere r (own_among s sound f standing) queue (λ e. differs (cc)))
 
-      here : (queue : Queue) → f.queue ≡ queue → has_writer f.row.lkid (rows_of (queued queue r)) ≡ is_writer f.row.held
+      here : (queue : Queue) → f.queue ≡ queue → has_writer f.row.lkid (rows_of_locks (queued queue r)) ≡ is_writer f.row.held
       here queue is =
-          writer_rows f.row.lkid (rows_of (queued queue r))
-          ∙ ap (λ q. list_any (λ (row : Row). is_writer row.held) (plain.rows_of f.row.lkid (rows_of (queued q r)))) (sym is)
+          writer_rows f.row.lkid (rows_of_locks (queued queue r))
+          ∙ ap (λ q. list_any (λ (row : Row). is_writer row.held) (plain.rows_of f.row.lkid (rows_of_locks (queued q r)))) (sym is)
           ∙ ap (list_any (λ (row : Row). is_writer row.held)) rows_here
           ∙ or_false (is_writer f.row.held)
 
@@ -209,16 +209,16 @@ module _ (s : Records) (sound : IsSound s) (f : Standing) (standing : IsStanding
   unfolding resource_after_cancel
   uncancelled x among converts waits =
       ap (λ rows. record (plain_resource x) {
-        granted = rows_of x.granted ++ map row_after_cancel rows;
-        converting = rows_without f.row.lkid (rows_of x.converting);
-        waiting = rows_without f.row.lkid (rows_of x.waiting);
+        granted = rows_of_locks x.granted ++ map row_after_cancel rows;
+        converting = rows_without f.row.lkid (rows_of_locks x.converting);
+        waiting = rows_without f.row.lkid (rows_of_locks x.waiting);
       }) (rows_elsewhere x among Conversion converts)
       ∙ ap (λ rows. record (plain_resource x) {
         granted = rows;
-        converting = rows_without f.row.lkid (rows_of x.converting);
-        waiting = rows_without f.row.lkid (rows_of x.waiting);
-      }) (append-nil (rows_of x.granted))
-      ∙ ap (λ rows. record (plain_resource x) { converting = rows; waiting = rows_without f.row.lkid (rows_of x.waiting) }) (stays_elsewhere x among Conversion converts)
+        converting = rows_without f.row.lkid (rows_of_locks x.converting);
+        waiting = rows_without f.row.lkid (rows_of_locks x.waiting);
+      }) (append-nil (rows_of_locks x.granted))
+      ∙ ap (λ rows. record (plain_resource x) { converting = rows; waiting = rows_without f.row.lkid (rows_of_locks x.waiting) }) (stays_elsewhere x among Conversion converts)
       ∙ ap (λ rows. record (plain_resource x) { waiting = rows }) (stays_elsewhere x among Waiting waits)
 
   -- a granted lock has no request
@@ -233,12 +233,12 @@ module _ (s : Records) (sound : IsSound s) (f : Standing) (standing : IsStanding
   cancelled_alike waits x among =
       ap (λ rows. record (plain_resource x) {
         granted = rows;
-        converting = rows_without f.row.lkid (rows_of x.converting);
-        waiting = rows_without f.row.lkid (rows_of x.waiting);
+        converting = rows_without f.row.lkid (rows_of_locks x.converting);
+        waiting = rows_without f.row.lkid (rows_of_locks x.waiting);
       })
       (stays_elsewhere x among Granted (λ e. cc)
-      ∙ sym (append-nil (rows_of x.granted))
-      ∙ ap (λ rows. rows_of x.granted ++ map row_after_cancel rows) (sym (rows_elsewhere x among Conversion (λ e. cc))))
+      ∙ sym (append-nil (rows_of_locks x.granted))
+      ∙ ap (λ rows. rows_of_locks x.granted ++ map row_after_cancel rows) (sym (rows_elsewhere x among Conversion (λ e. cc))))
 
   -- so the cancel of a lock that waits is its removal
   pub cancelled_waiting : f.queue ≡ Waiting → (new : Records) → IsChange f.res (resource_without f.row.lkid) s new → IsChange f.res (resource_after_cancel f.row.lkid) s new
@@ -250,18 +250,18 @@ module _ (s : Records) (sound : IsSound s) (f : Standing) (standing : IsStanding
   cancelled_own converts =
       let r = standing.resource in
       let left : StoredResource = moved_in f (row_after_cancel f.row) Granted r in
-      let gone : (queue : Queue) → queue ≢ Granted → rows_without f.row.lkid (rows_of (queued queue r)) ≡ rows_of (moving (Queued f.res Granted) (record { at = f.lock; row = row_after_cancel f.row }) (Queued r.at queue) (queued queue r)) =
+      let gone : (queue : Queue) → queue ≢ Granted → rows_without f.row.lkid (rows_of_locks (queued queue r)) ≡ rows_of_locks (moving (Queued f.res Granted) (record { at = f.lock; row = row_after_cancel f.row }) (Queued r.at queue) (queued queue r)) =
       λ queue differs. sym (leaves s sound f standing (row_after_cancel f.row) Granted queue differs) in
       ap (λ rows. record (plain_resource r) {
         granted = rows;
-        converting = rows_without f.row.lkid (rows_of r.converting);
-        waiting = rows_without f.row.lkid (rows_of r.waiting);
+        converting = rows_without f.row.lkid (rows_of_locks r.converting);
+        waiting = rows_without f.row.lkid (rows_of_locks r.waiting);
       })
-      (ap (λ rows. rows_of r.granted ++ map row_after_cancel rows)
-      (ap (λ q. plain.rows_of f.row.lkid (rows_of (queued q r))) (sym converts) ∙ rows_here)
+      (ap (λ rows. rows_of_locks r.granted ++ map row_after_cancel rows)
+      (ap (λ q. plain.rows_of f.row.lkid (rows_of_locks (queued q r))) (sym converts) ∙ rows_here)
       ∙ ap (λ rows. rows ++ row_after_cancel f.row ∷ []) (sym (not_in s sound f standing Granted (λ e. cc)))
       ∙ sym (joins s sound f standing (row_after_cancel f.row) Granted))
-      ∙ ap (λ rows. record (plain_resource left) { converting = rows; waiting = rows_without f.row.lkid (rows_of r.waiting) }) (gone Conversion (λ e. cc))
+      ∙ ap (λ rows. record (plain_resource left) { converting = rows; waiting = rows_without f.row.lkid (rows_of_locks r.waiting) }) (gone Conversion (λ e. cc))
       ∙ ap (λ rows. record (plain_resource left) { waiting = rows }) (gone Waiting (λ e. cc))
 
   -- so its resource changes as its conversion is given up, and nothing else

@@ -13,9 +13,9 @@ use Rattle.vlm_words.specs.Endings.{Ending, How, ending_status, row_endings}
 use Rattle.vlm_words.specs.State.{Process, Resource}
 use Rattle.vlm_words.specs.StatusBlocks.{processes_after_status}
 use Rattle.vlm_links.specs.Lists.{IsIn}
-use Rattle.vlm_store.specs.declared.keys.Place.TheVariants.{Queued}
+use Rattle.vlm_store.specs.declared.handles.Place.TheVariants.{Queued}
 use Rattle.vlm_store.specs.Plain.{plain_resource, plain_resources}
-use Rattle.vlm_store.specs.Records.{AreResourcesApart, IsSound, Records, StoredResource, queued, resource_at, rows_of}
+use Rattle.vlm_store.specs.Records.{AreResourcesApart, IsSound, Records, StoredResource, queued, resource_at, rows_of_locks}
 use Rattle.vlm_locks.specs.declared.withdrawals.End.TheVariants.{Aborted, Cancelled}
 use Rattle.vlm_locks.specs.declared.withdrawals.End.{End}
 use Rattle.vlm_locks.specs.Withdrawals.{how_ended}
@@ -59,31 +59,31 @@ module _ (s : Records) (sound : IsSound s) (f : Standing) (standing : IsStanding
 
   -- the ends in a queue in which it does not stand
   ends_elsewhere : (how : How) (x : StoredResource) → IsIn x s.resources → (queue : Queue) → Queued x.at queue ≢ Queued f.res f.queue
-      → queue_endings how f.row.lkid (rows_of (queued queue x)) ≡ []
+      → queue_endings how f.row.lkid (rows_of_locks (queued queue x)) ≡ []
   ends_elsewhere how x among queue differs = ap (flat_map (row_endings how false)) (rows_elsewhere s sound f standing x among queue differs)
 
   -- the end in its queue
-  ends_here : (how : How) (queue : Queue) → f.queue ≡ queue → queue_endings how f.row.lkid (rows_of (queued queue standing.resource)) ≡ row_endings how false f.row
+  ends_here : (how : How) (queue : Queue) → f.queue ≡ queue → queue_endings how f.row.lkid (rows_of_locks (queued queue standing.resource)) ≡ row_endings how false f.row
   ends_here how queue is =
-      ap (λ q. queue_endings how f.row.lkid (rows_of (queued q standing.resource))) (sym is)
+      ap (λ q. queue_endings how f.row.lkid (rows_of_locks (queued q standing.resource))) (sym is)
       ∙ ap (flat_map (row_endings how false)) (rows_here s sound f standing)
       ∙ append-nil (row_endings how false f.row)
 
   -- in another queue of its resource nothing ends
-  ends_beside : (how : How) (other : Queue) → other ≢ f.queue → queue_endings how f.row.lkid (rows_of (queued other standing.resource)) ≡ []
+  ends_beside : (how : How) (other : Queue) → other ≢ f.queue → queue_endings how f.row.lkid (rows_of_locks (queued other standing.resource)) ≡ []
   ends_beside how other differs = ends_elsewhere how standing.resource (own_among s sound f standing) other (λ e. differs (cc))
 
   -- the ends on its resource, by its queue
   ends_own : (queue : Queue) → f.queue ≡ queue → ends_on (plain_resource standing.resource) ≡ queued_endings w queue f.row
   ends_own Granted is =
-      ap (λ xs. xs ++ queue_endings w.waiting f.row.lkid (rows_of standing.resource.waiting)) (ends_beside w.converting Conversion (λ e. cc))
+      ap (λ xs. xs ++ queue_endings w.waiting f.row.lkid (rows_of_locks standing.resource.waiting)) (ends_beside w.converting Conversion (λ e. cc))
       ∙ ends_beside w.waiting Waiting (λ e. cc)
   ends_own Conversion is =
-      ap (λ xs. queue_endings w.converting f.row.lkid (rows_of standing.resource.converting) ++ xs) (ends_beside w.waiting Waiting (λ e. cc))
-      ∙ append-nil (queue_endings w.converting f.row.lkid (rows_of standing.resource.converting))
+      ap (λ xs. queue_endings w.converting f.row.lkid (rows_of_locks standing.resource.converting) ++ xs) (ends_beside w.waiting Waiting (λ e. cc))
+      ∙ append-nil (queue_endings w.converting f.row.lkid (rows_of_locks standing.resource.converting))
       ∙ ends_here w.converting Conversion is
   ends_own Waiting is =
-      ap (λ xs. xs ++ queue_endings w.waiting f.row.lkid (rows_of standing.resource.waiting)) (ends_beside w.converting Conversion (λ e. cc))
+      ap (λ xs. xs ++ queue_endings w.waiting f.row.lkid (rows_of_locks standing.resource.waiting)) (ends_beside w.converting Conversion (λ e. cc))
       ∙ ends_here w.waiting Waiting is
 
   -- of all resources only that of the lock has an end, and this is it
@@ -91,7 +91,7 @@ module _ (s : Records) (sound : IsSound s) (f : Standing) (standing : IsStanding
   ends_are queue is =
       ends_one ends_on f.res standing.resource s.resources sound.resources_apart standing.found
       (λ x among differs.
-      ap (λ xs. xs ++ queue_endings w.waiting f.row.lkid (rows_of x.waiting)) (ends_elsewhere w.converting x among Conversion (λ e. differs (cc)))
+      ap (λ xs. xs ++ queue_endings w.waiting f.row.lkid (rows_of_locks x.waiting)) (ends_elsewhere w.converting x among Conversion (λ e. differs (cc)))
       ∙ ends_elsewhere w.waiting x among Waiting (λ e. differs (cc)))
       ∙ ends_own queue is
 

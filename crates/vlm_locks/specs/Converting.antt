@@ -9,7 +9,7 @@ use Rattle.vlm_words.specs.Effects.{Blocks, blocks_after, blocks_with}
 use Rattle.vlm_words.specs.Grants.{grant_endings, granted_row}
 use Rattle.vlm_words.specs.State.{Process}
 use Rattle.vlm_words.specs.StatusBlocks.{processes_after_acceptance}
-use Rattle.vlm_store.specs.declared.keys.Place.TheVariants.{Queued}
+use Rattle.vlm_store.specs.declared.handles.Place.TheVariants.{Queued}
 use Rattle.vlm_store.specs.Plain.{plain_processes, plain_resource, plain_resources}
 use Rattle.vlm_store.specs.Records.{Records, StoredResource, moving, resource_with}
 use Rattle.vlm_locks.specs.declared.finding.Standing.{Standing}
@@ -45,6 +45,6 @@ abbrev pub blocks_granted : Row → StoredResource → Records → Blocks
 blocks_granted row r s = blocks_after (grant_endings true row) (blocks_with r.value_block (plain_processes s))
 
 -- what a lock wants is granted on its resource, at once
-pub record IsGrantedAtOnce (f : Standing) (row : Row) (r : StoredResource) (old new : Records) : Type 0 where
+pub record IsConvertedAtOnce (f : Standing) (row : Row) (r : StoredResource) (old new : Records) : Type 0 where
   pub replaced : IsReplaced f.res r (record (moved_in f (granted_row row) Granted r) { value_block = (blocks_granted row r old).value_block }) old new
   pub statuses : plain_processes new ≡ (blocks_granted row r old).processes

@@ -10,7 +10,7 @@ use Rattle.vlm_words.specs.State.{Process, Resource}
 use Rattle.vlm_words.specs.StatusBlocks.{processes_after_acceptance}
 use Rattle.vlm_words.specs.declared.resources.ValueBlock.{ValueBlock}
 use Rattle.vlm_store.specs.Plain.{plain_processes, plain_resources}
-use Rattle.vlm_store.specs.Records.{HasResource, HasRoomForLock, HasRoomForResource, IsParentOf, IsProcess, IsSameLock, IsStored, Records, Stores, but_blocks, process_with_lock, resource_at}
+use Rattle.vlm_store.specs.Records.{HasResource, HasRoomForLock, HasRoomForResource, IsParentOf, IsProcess, IsSameLock, IsStored, Records, Stores, but_notices, process_with_lock, resource_at}
 use Rattle.vlm_locks.specs.declared.entering.Entry.{Entry}
 use Rattle.vlm_locks.specs.Rest.{IsAtRest, OtherLocksStay, OthersStay}
 use Rattle.vlm_locks.specs.Rising.{IsAboveAll}
@@ -20,7 +20,7 @@ abbrev pub resource_for : Entry → List Resource → Resource
 resource_for e resources = unwrap_or (find (is_at e.site.key) resources) (new_resource e.serial e.site)
 
 -- between two steps the lock of the entry may enter: its identification is above all, its process and its parent lock are
--- there, and the key of its resource fits the domain
+-- there, and the handle of its resource fits the domain
 pub record MayEnter (e : Entry) (s : Records) : Type 0 where
   pub rest : IsAtRest s
   pub rising : IsAboveAll e.row.lkid s
@@ -44,7 +44,7 @@ processes_entered e block processes =
     (blocks_after (if e.at_once then grant_endings true e.row else [])
     (blocks_with block (processes_accepted e.row.want e.row processes))).processes
 
--- one lock is added, that of the entry, under a key that no lock had: it is the last of its process, and of those below
+-- one lock is added, that of the entry, under a handle that no lock had: it is the last of its process, and of those below
 -- its parent; each other lock stands where it stood
 pub record IsAdded (e : Entry) (old new : Records) : Type 0 where
   pub lock : ℕ
@@ -52,10 +52,10 @@ pub record IsAdded (e : Entry) (old new : Records) : Type 0 where
   pub row : Row
   pub stands : Stores new lock row
   pub same : IsSameLock e.row row
-  pub own_locks : map but_blocks new.processes ≡ map but_blocks (map (process_with_lock e.owner e.parent lock) old.processes)
+  pub own_locks : map but_notices new.processes ≡ map but_notices (map (process_with_lock e.owner e.parent lock) old.processes)
   pub others : OtherLocksStay lock old new
 
--- the lock has entered the resource of this key, in the queue where its request puts it, and nothing else changed
+-- the lock has entered the resource of this handle, in the queue where its request puts it, and nothing else changed
 pub record IsEntered (e : Entry) (res : ℕ) (old new : Records) : Type 0 where
   pub entered : plain_resources new ≡ resources_after_entry e.serial e.site e.row e.at_once (plain_resources old)
   pub added : IsAdded e old new

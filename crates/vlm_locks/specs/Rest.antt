@@ -3,8 +3,8 @@ use Rattle.std.specs.Prelude.{◌≡◌, ℕ, [], map, Some}
 use Rattle.vlm_words.specs.Resources.{IsKeyed}
 use Rattle.vlm_words.specs.ValueBlocks.{new_value_block}
 use Rattle.vlm_links.specs.Lists.{IsIn}
-use Rattle.vlm_store.specs.declared.keys.Place.{Place}
-use Rattle.vlm_store.specs.Records.{HasResource, Records, StoredProcess, StoredResource, but_blocks, locks_at, on_resource, resource_at, without_lock, without_resource}
+use Rattle.vlm_store.specs.declared.handles.Place.{Place}
+use Rattle.vlm_store.specs.Records.{HasResource, Records, StoredProcess, StoredResource, but_notices, locks_at, on_resource, resource_at, without_lock, without_resource}
 use Rattle.vlm_locks.specs.Rising.{HasRisingLocks}
 
 -- between two steps each lock stands in a queue, each resource is in the domain of its key, and the locks of a process
@@ -14,17 +14,17 @@ pub record IsAtRest (s : Records) : Type 0 where
   pub keyed : (r : StoredResource) → IsIn r s.resources → IsKeyed r.domain r.key
   pub rising : (p : StoredProcess) → IsIn p s.processes → HasRisingLocks s p
 
--- all resources but the one of this key are as they were, each under its key with its locks, and in their order
+-- all resources but the one of this handle are as they were, each under its handle with its locks, and in their order
 abbrev pub OthersStay : ℕ → Records → Records → Type 0
 OthersStay res old new = without_resource res new.resources ≡ without_resource res old.resources
 
--- all other locks are as they were: each place has them, under their keys, with their rows and in their order
+-- all other locks are as they were: each place has them, under their handles, with their rows and in their order
 abbrev pub OtherLocksStay : ℕ → Records → Records → Type 0
 OtherLocksStay lock old new = (place : Place) → without_lock lock (locks_at place new) ≡ without_lock lock (locks_at place old)
 
 -- each process has the own locks that it had, and each of these the locks below it
 abbrev pub OwnLocksStay : Records → Records → Type 0
-OwnLocksStay old new = map but_blocks new.processes ≡ map but_blocks old.processes
+OwnLocksStay old new = map but_notices new.processes ≡ map but_notices old.processes
 
 -- a change of one lock on its resource leaves the others: every other resource and every other lock is as it was, the
 -- resource is there still, and all is as it is between two steps
@@ -43,7 +43,7 @@ but_service r = record r {
   waiting = [];
 }
 
--- the resource of this key was this one, and that one is in its place now, the same but for its value block and its
+-- the resource of this handle was this one, and that one is in its place now, the same but for its value block and its
 -- queues; all else stays, but for status blocks
 pub record IsReplaced (res : ℕ) (had left : StoredResource) (old new : Records) : Type 0 where
   pub was : resource_at res old.resources ≡ Some had

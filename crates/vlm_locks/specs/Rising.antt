@@ -4,22 +4,22 @@ use Rattle.vlm_words.specs.declared.locks.Row.{Row}
 use Rattle.vlm_links.specs.Lists.{IsIn}
 use Rattle.vlm_store.specs.Records.{OwnLock, Records, StoredProcess, Stores}
 
--- the lock of the one key has a lower identification than that of the other
+-- the lock of the one handle has a lower identification than that of the other
 abbrev pub ComesBefore : Records → ℕ → ℕ → Type 0
 ComesBefore s first second = (a b : Row) → Stores s first a → Stores s second b → a.lkid < b.lkid
 
--- the locks of these keys stand by rising identification
+-- the locks of these handles stand by rising identification
 abbrev pub StandByIdentification : Records → List ℕ → Type 0
 StandByIdentification s [] = ⊤
 StandByIdentification s (at ∷ rest) = ((later : ℕ) → IsIn later rest → ComesBefore s at later) × StandByIdentification s rest
 
--- the keys of the locks of a process
-abbrev pub own_keys : List OwnLock → List ℕ
-own_keys locks = map (λ own. own.at) locks
+-- the handles of the locks of a process
+abbrev pub own_handles : List OwnLock → List ℕ
+own_handles locks = map (λ own. own.at) locks
 
 -- the locks of the process stand by rising identification, and so do the locks below each of these
 pub record HasRisingLocks (s : Records) (p : StoredProcess) : Type 0 where
-  pub own : StandByIdentification s (own_keys p.own)
+  pub own : StandByIdentification s (own_handles p.own)
   pub sublocks : (own : OwnLock) → IsIn own p.own → StandByIdentification s own.sublocks
 
 -- each stored lock has a lower identification

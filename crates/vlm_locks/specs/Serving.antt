@@ -14,10 +14,10 @@ use Rattle.vlm_locks.specs.Rest.{IsReplaced}
 use Rattle.vlm_locks.specs.Staying.{LocksStay}
 
 -- a resource but for its queues
-abbrev pub but_queues : StoredResource → StoredResource
-but_queues r = record r { granted = []; converting = []; waiting = [] }
+abbrev pub but_stored_queues : StoredResource → StoredResource
+but_stored_queues r = record r { granted = []; converting = []; waiting = [] }
 
--- the resource of this key is served, and its grants write its value block and their status blocks; all else stays
+-- the resource of this handle is served, and its grants write its value block and their status blocks; all else stays
 pub record IsServed (res : ℕ) (old new : Records) : Type 0 where
   pub had : StoredResource
   pub left : StoredResource
@@ -40,14 +40,14 @@ service_from Granted r = no_service r
 service_from Conversion r = service_of_conversions r r.converting
 service_from Waiting r = service_of_waiting r r.waiting
 
--- the resource of this key was this one, and that one is in its place now, the same but for its queues; all else stays,
+-- the resource of this handle was this one, and that one is in its place now, the same but for its queues; all else stays,
 -- but for status blocks
 pub record IsLeft (res : ℕ) (had left : StoredResource) (old new : Records) : Type 0 where
   pub replaced : IsReplaced res had left old new
   pub now : resource_at res new.resources ≡ Some left
-  pub rest : but_queues left ≡ but_queues had
+  pub rest : but_stored_queues left ≡ but_stored_queues had
 
--- a service of the resource of this key is done, but for its value block, which is kept beside the records: its ends took
+-- a service of the resource of this handle is done, but for its value block, which is kept beside the records: its ends took
 -- effect, from this value block and these records to those
 pub record IsServiceOf (done : Resource → Service) (res : ℕ) (old_block : ValueBlock) (old : Records)
     (new_block : ValueBlock) (new : Records) : Type 0 where

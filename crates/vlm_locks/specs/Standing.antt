@@ -4,7 +4,7 @@ use Rattle.vlm_links.specs.Lists.{IsIn}
 use Rattle.vlm_store.specs.Records.{Records, StoredResource, queued, resource_at}
 use Rattle.vlm_locks.specs.declared.finding.Standing.{Standing}
 
--- the lock stands so: with this row, in this queue of the resource of this key
+-- the lock stands so: with this row, in this queue of the resource of this handle
 pub record IsStanding (f : Standing) (s : Records) : Type 0 where
   pub resource : StoredResource
   pub found : resource_at f.res s.resources ≡ Some resource

@@ -5,7 +5,7 @@ use Rattle.vlm_words.specs.declared.resources.Queue.{Queue}
 use Rattle.vlm_links.specs.Lists.{IsIn}
 use Rattle.vlm_store.specs.Records.{IsSameLock, StoredLock, StoredResource, queued}
 
--- the lock stands on the resource under its key, in whichever queue: that of the same identification, process and
+-- the lock stands on the resource under its handle, in whichever queue: that of the same identification, process and
 -- parent lock
 pub record StandsStill (lock : StoredLock) (r : StoredResource) : Type 0 where
   pub queue : Queue
@@ -17,7 +17,7 @@ pub record StandsStill (lock : StoredLock) (r : StoredResource) : Type 0 where
 abbrev pub LocksStay : StoredResource → StoredResource → Type 0
 LocksStay had left = (queue : Queue) (lock : StoredLock) → IsIn lock (queued queue had) → StandsStill lock left
 
--- each lock of the ones stands on that of the others that has the key of its resource
+-- each lock of the ones stands on that of the others that has the handle of its resource
 abbrev pub LocksStayAmong : List StoredResource → List StoredResource → Type 0
 LocksStayAmong olds news = (r : StoredResource) (queue : Queue) (lock : StoredLock) → IsIn r olds → IsIn lock (queued queue r)
     → (x : StoredResource) × (IsIn x news × (x.at ≡ r.at) × StandsStill lock x)

@@ -9,7 +9,7 @@ use Rattle.vlm_store.specs.Records.{Records, StoredResource}
 use Rattle.vlm_locks.specs.Rest.{OwnLocksStay, but_service}
 use Rattle.vlm_locks.specs.Staying.{LocksStayAmong}
 
--- a resource of this key, with those made before and after it
+-- a resource of this handle, with those made before and after it
 pub record Parted (res : ℕ) (resources : List StoredResource) : Type 0 where
   pub before : List StoredResource
   pub own : StoredResource

@@ -23,7 +23,7 @@ goes true Granted = false
 goes true Conversion = false
 goes true Waiting = true
 
--- a change of the resource of this key: of all resources it makes what the plain machine makes of them, and it writes
+-- a change of the resource of this handle: of all resources it makes what the plain machine makes of them, and it writes
 -- no status block
 pub record IsChange (res : ℕ) (change : Resource → Resource) (old new : Records) : Type 0 where
   pub resources : plain_resources new ≡ map change (plain_resources old)

@@ -6,8 +6,8 @@ ghost use Rattle.vlm_words.specs.Convert.{converts_at_once, wanting_row};
 ghost use Rattle.vlm_words.specs.Grants.{fits};
 ghost use Rattle.vlm_words.specs.Rows.{rows_without};
 ghost use Rattle.vlm_store.specs.Plain.{plain_processes, plain_resource};
-ghost use Rattle.vlm_store.specs.Records.{IsSameLock, StoredResource, resource_at, rows_of};
-ghost use Rattle.vlm_locks.specs.Converting.{IsConverted, IsGrantedAtOnce, moved_in, processes_accepted};
+ghost use Rattle.vlm_store.specs.Records.{IsSameLock, StoredResource, resource_at, rows_of_locks};
+ghost use Rattle.vlm_locks.specs.Converting.{IsConverted, IsConvertedAtOnce, moved_in, processes_accepted};
 ghost use Rattle.vlm_locks.specs.Rest.{IsAtRest, IsReplaced, LeavesOthers, OtherLocksStay, OwnLocksStay};
 ghost use Rattle.vlm_locks.specs.Standing.{IsStanding};
 
@@ -28,8 +28,8 @@ fn fits_others(store: &Store, standing: &Standing, mode: Mode) -> bool
     requires standing { IsStanding standing.now store.now }
     requires granted { standing.now.queue ≡ Queue.Granted }
     ensures { (r : StoredResource) → resource_at standing.now.res store.now.resources ≡ Some r
-        → result ≡ fits mode (rows_without standing.now.row.lkid (rows_of r.granted))
-        (rows_of r.converting) }
+        → result ≡ fits mode (rows_without standing.now.row.lkid (rows_of_locks r.granted))
+        (rows_of_locks r.converting) }
 {
     law_records_are_sound(store);
     can_hold(store, standing.res, mode, Some(standing.lock))
@@ -64,7 +64,7 @@ fn convert_now(store: &mut Store, standing: &Standing, row: &Row)
     requires standing { IsStanding standing.now store.old }
     requires row { IsSameLock standing.now.row row.now }
     ensures granted { IfSome (resource_at standing.now.res store.old.resources)
-        (λ r. IsGrantedAtOnce standing.now row.now r store.old store.new) }
+        (λ r. IsConvertedAtOnce standing.now row.now r store.old store.new) }
     ensures locks { OtherLocksStay standing.now.lock store.old store.new }
 {
     let owner = store.lock_record(standing.lock).owner;

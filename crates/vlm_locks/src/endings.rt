@@ -4,7 +4,7 @@ ghost use Rattle.std.specs.Prelude.{◌≡◌, Some};
 ghost use Rattle.vlm_words.specs.Effects.{blocks_after, blocks_with};
 ghost use Rattle.vlm_words.specs.Grants.{grant_act, grant_endings};
 ghost use Rattle.vlm_store.specs.Plain.{plain_processes};
-ghost use Rattle.vlm_store.specs.Records.{IsProcess, SameButBlocks};
+ghost use Rattle.vlm_store.specs.Records.{IsProcess, SameButNotices};
 
 use vlm_procs::{end, end_with_return, value};
 use vlm_store::{ProcAt, Store};
@@ -45,7 +45,7 @@ pub(crate) fn end_by_grant(
     ensures statuses { let old = blocks_with value_block.old (plain_processes store.old)
         in plain_processes store.new
         ≡ (blocks_after (grant_endings at_once row.now) old).processes }
-    ensures rest { SameButBlocks store.old store.new }
+    ensures only_notices { SameButNotices store.old store.new }
 {
     let Some(request) = row.want else {
         return;

@@ -3,7 +3,7 @@
 ghost use Rattle.std.specs.Prelude.{◌≡◌, Some, IfOk, IfSome, IsOk, OnErr, OnOk};
 ghost use Rattle.vlm_words.specs.Enqueue.{is_at_once, resources_after_entry};
 ghost use Rattle.vlm_store.specs.Plain.{plain_processes, plain_resource, plain_resources};
-ghost use Rattle.vlm_store.specs.Records.{FindsResource, HasResource, HasRoomForLock, HasRoomForResource, IsNewKey, IsProcess, IsUnchanged, SameButBlocks, StoredResource, resource_at};
+ghost use Rattle.vlm_store.specs.Records.{FindsResource, HasResource, HasRoomForLock, HasRoomForResource, IsNewKey, IsProcess, IsUnchanged, SameButNotices, StoredResource, resource_at};
 ghost use Rattle.vlm_locks.specs.Entering.{HasRoomToEnter, IsAdded, IsEntered, MayEnter, processes_accepted, processes_entered, resource_for};
 ghost use Rattle.vlm_locks.specs.Rest.{IsAtRest, OthersStay};
 
@@ -87,7 +87,7 @@ fn enter_new(store: &mut Store, entry: &Entry) -> Result<ResAt, AllocError>
     Ok(res)
 }
 
-// Takes a new lock in on the resource of its key, which is made if it is not there. Where there is no room and memory
+// Takes a new lock in on the resource of its handle, which is made if it is not there. Where there is no room and memory
 // is refused, nothing is changed but that there may be more room.
 fn take_in(store: &mut Store, entry: &Entry) -> Result<ResAt, AllocError>
     requires may_enter { MayEnter entry.now store.old }
@@ -108,7 +108,7 @@ fn accept_want(store: &mut Store, owner: ProcAt, row: &Row)
     requires { IsProcess owner row.now.pid store.old }
     ensures statuses { plain_processes store.new
         ≡ processes_accepted row.now.want row.now (plain_processes store.old) }
-    ensures rest { SameButBlocks store.old store.new }
+    ensures only_notices { SameButNotices store.old store.new }
 {
     if let Some(want) = row.want {
         accept(store, owner, want.block, row.lkid);
@@ -122,7 +122,7 @@ fn accept_entered(store: &mut Store, entry: &Entry, res: ResAt)
     requires there { HasResource res store.old }
     ensures statuses { IfSome (resource_at res store.old.resources) (λ r. plain_processes store.new
         ≡ processes_entered entry.now r.value_block (plain_processes store.old)) }
-    ensures rest { SameButBlocks store.old store.new }
+    ensures only_notices { SameButNotices store.old store.new }
 {
     accept_want(store, entry.owner, &entry.row);
     if entry.at_once {
@@ -131,7 +131,7 @@ fn accept_entered(store: &mut Store, entry: &Entry, res: ResAt)
     }
 }
 
-/// Takes a new lock in on the resource of its key, which is made if it is not there: granted at once, or at the
+/// Takes a new lock in on the resource of its handle, which is made if it is not there: granted at once, or at the
 /// end of the waiting queue. The status block of its request is that of a pending one, or tells of its grant. Where
 /// there is no room and memory is refused, nothing is changed but that there may be more room.
 pub fn enter(store: &mut Store, entry: &Entry) -> Result<ResAt, AllocError>

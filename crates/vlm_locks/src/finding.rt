@@ -18,11 +18,11 @@ use vlm_words::resources::Queue;
 /// A lock in its queue, with what it holds and wants.
 #[derive(Clone, Copy)]
 pub struct Standing {
-    /// The key of the lock.
+    /// The handle of the lock.
     pub lock: LockAt,
     /// What it holds and wants.
     pub row: Row,
-    /// The key of its resource.
+    /// The handle of its resource.
     pub res: ResAt,
     /// The queue in which it stands there.
     pub queue: Queue,

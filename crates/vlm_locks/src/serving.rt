@@ -4,9 +4,9 @@ ghost use Rattle.std.specs.Prelude.{◌≡◌, ◌≢◌, IfSome, false};
 ghost use Rattle.vlm_words.specs.declared.resources.Queue.{Queue};
 ghost use Rattle.vlm_words.specs.Effects.{blocks_after, blocks_with};
 ghost use Rattle.vlm_words.specs.Grants.{grant_endings, granted_row, service};
-ghost use Rattle.vlm_store.specs.declared.keys.Place.{Place};
+ghost use Rattle.vlm_store.specs.declared.handles.Place.{Place};
 ghost use Rattle.vlm_store.specs.Plain.{plain_processes};
-ghost use Rattle.vlm_store.specs.Records.{HasResource, IsStored, SameButBlocks, StoredLock, Stores, moving, resource_at, with_lists};
+ghost use Rattle.vlm_store.specs.Records.{HasResource, IsStored, SameButNotices, StoredLock, Stores, moving, resource_at, with_lists};
 ghost use Rattle.vlm_locks.specs.Serving.{IsServed, IsServiceOf, service_from, wanted_fits_beside};
 
 use crate::endings::end_by_grant;
@@ -36,7 +36,7 @@ fn grant(value_block: &mut ValueBlock, store: &mut Store, res: ResAt, lock: Lock
     requires there { HasResource res store.old }
     requires stored { Stores store.old lock row.now }
     ensures moved { let granted : StoredLock = record { at = lock; row = granted_row row.now }
-        in SameButBlocks
+        in SameButNotices
         (with_lists (moving (Place.Queued res Queue.Granted) granted) store.old) store.new }
     ensures effect { blocks_with value_block.new (plain_processes store.new)
         ≡ blocks_after (grant_endings false row.now)

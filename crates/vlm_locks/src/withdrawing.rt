@@ -5,7 +5,7 @@ ghost use Rattle.vlm_words.specs.Withdrawals.{is_writer, processes_after, resour
 ghost use Rattle.vlm_words.specs.Endings.{row_endings};
 ghost use Rattle.vlm_words.specs.declared.resources.Queue.{Queue};
 ghost use Rattle.vlm_store.specs.Plain.{plain_processes, plain_resources};
-ghost use Rattle.vlm_store.specs.Records.{HasNoSublocks, SameButBlocks, but_blocks};
+ghost use Rattle.vlm_store.specs.Records.{HasNoSublocks, SameButNotices, but_notices};
 ghost use Rattle.vlm_locks.specs.Rest.{IsAtRest, LeavesOthers};
 ghost use Rattle.vlm_locks.specs.Standing.{IsStanding};
 ghost use Rattle.vlm_locks.specs.Withdrawals.{how_ended, plain_withdrawal};
@@ -25,7 +25,7 @@ fn end_request(store: &mut Store, standing: &Standing, ended: End)
     requires { IsStanding standing.now store.old }
     ensures statuses { plain_processes store.new ≡ processes_after
         (row_endings (how_ended ended) false standing.now.row) (plain_processes store.old) }
-    ensures rest { SameButBlocks store.old store.new }
+    ensures only_notices { SameButNotices store.old store.new }
 {
     let Some(request) = standing.row.want else {
         return;
@@ -42,7 +42,7 @@ fn end_withdrawn(store: &mut Store, standing: &Standing, withdrawal: &Withdrawal
         (flat_map (withdrawal_endings (plain_withdrawal withdrawal.now))
         (plain_resources store.old))
         (plain_processes store.old) }
-    ensures rest { SameButBlocks store.old store.new }
+    ensures only_notices { SameButNotices store.old store.new }
 {
     law_records_are_sound(store);
     match standing.queue {
@@ -88,7 +88,7 @@ fn block_after_writer(block: ValueBlock, withdrawal: &Withdrawal) -> ValueBlock
 }
 
 // Only a lock that is held at PW or EX, granted or converting, leaves something in the value block.
-fn leave(store: &mut Store, standing: &Standing, withdrawal: &Withdrawal)
+fn leave_value(store: &mut Store, standing: &Standing, withdrawal: &Withdrawal)
     requires rest { IsAtRest store.old }
     requires standing { IsStanding standing.now store.old }
     requires named { withdrawal.now.lkid ≡ standing.now.row.lkid }
@@ -171,12 +171,12 @@ pub fn withdraw(store: &mut Store, standing: &Standing, withdrawal: &Withdrawal)
         (plain_resources store.old))
         (plain_processes store.old) }
     ensures beside { LeavesOthers standing.now.res standing.now.lock store.old store.new }
-    ensures own_locks { map but_blocks store.new.processes ≡ map but_blocks
+    ensures own_locks { map but_notices store.new.processes ≡ map but_notices
         (owned_after (goes withdrawal.now.stays standing.now.queue) standing.now.lock
         store.old.processes) }
 {
     end_withdrawn(store, standing, withdrawal);
-    leave(store, standing, withdrawal);
+    leave_value(store, standing, withdrawal);
     if withdrawal.stays {
         cancel(store, standing);
     } else {

@@ -1,4 +1,4 @@
--- What a process may do, by its key and by its identification.
+-- What a process may do, by its handle and by its identification.
 use Rattle.std.proofs.Common.{◌≡◌, ℕ, Some, IfSome, sym, ap, ◌∙◌}
 use Rattle.std.specs.Option.{option_map_or}
 use Rattle.vlm_words.specs.State.{Process, process_of}
@@ -7,7 +7,7 @@ use Rattle.vlm_store.specs.Plain.{plain_processes}
 use Rattle.vlm_store.specs.Records.{IsProcess, IsSound, Records, authorization_of, process_at}
 use Rattle.vlm_store.proofs.Plain.{process_at-stored, process_of-stored}
 
--- a part of what the process at a key may do
+-- a part of what the process at a handle may do
 pub told_is : {X : Type 0} (s : Records) (at pid : ℕ) (part : Authorization → X) (none : X) (told : Authorization) → IsSound s → IsProcess at pid s
     → IfSome (process_at at s.processes) (λ p. told ≡ authorization_of p.process) → part told ≡ option_map_or (λ p. part (authorization_of p)) (process_of (plain_processes s) pid) none
 told_is s at pid part none told sound is read =

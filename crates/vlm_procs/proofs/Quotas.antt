@@ -6,17 +6,17 @@ use Rattle.std.proofs.lemmas.List.Sums.{sum_by-cons}
 use Rattle.vlm_words.specs.declared.locks.Row.{Row}
 use Rattle.vlm_words.specs.Quotas.{locks_of, locks_on, rows_owned}
 use Rattle.vlm_store.specs.Plain.{plain_resource, plain_resources}
-use Rattle.vlm_store.specs.Records.{Records, StoredLock, StoredResource, owned_among, owned_by, owned_on, rows_of}
+use Rattle.vlm_store.specs.Records.{Records, StoredLock, StoredResource, owned_among, owned_by, owned_on, rows_of_locks}
 
 -- the locks of a queue and their rows are as many
-among_same : (pid : ℕ) (locks : List StoredLock) → owned_among pid locks ≡ rows_owned pid (rows_of locks)
+among_same : (pid : ℕ) (locks : List StoredLock) → owned_among pid locks ≡ rows_owned pid (rows_of_locks locks)
 among_same pid [] = refl
 among_same pid (k ∷ rest) =
     omega (
       arith,
       among_same pid rest,
       sum_by-cons (λ (x : StoredLock). cond (x.row.pid == pid) 1 0) k rest,
-      sum_by-cons (λ (row : Row). cond (row.pid == pid) 1 0) k.row (rows_of rest),
+      sum_by-cons (λ (row : Row). cond (row.pid == pid) 1 0) k.row (rows_of_locks rest),
     )
 
 -- those on all resources

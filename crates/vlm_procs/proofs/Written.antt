@@ -1,4 +1,4 @@
--- A status block that is written by the key of its process.
+-- A status block that is written by the handle of its process.
 use Rattle.std.proofs.Common.{◌≡◌, ◌-◌, ℕ, Bool, true, false, cond, get_or, List, [], map, Option, None, Some, refl, sym, ap, ◌∙◌}
 use Rattle.std.specs.Prelude.{nat_lt, slice_get, unwrap_or}
 use Rattle.std.proofs.lemmas.Option.{unwrap_or-slice_get}
@@ -9,10 +9,10 @@ use Rattle.vlm_words.specs.Asts.{asts_of, oldest, process_after_take, processes_
 use Rattle.vlm_words.specs.State.{Process}
 use Rattle.vlm_words.specs.StatusBlocks.{new_status_block, process_after_write, process_with_block, processes_after_write, status_block_at, status_block_of, status_blocks_of}
 use Rattle.vlm_store.specs.Plain.{plain_processes}
-use Rattle.vlm_store.specs.Records.{IsProcess, IsSound, Records, SameButBlocks, StoredProcess, on_process, process_at}
-use Rattle.vlm_store.proofs.Plain.{but_blocks-on_process, plain-on_process, process_at-stored, process_of-stored}
+use Rattle.vlm_store.specs.Records.{IsProcess, IsSound, Records, SameButNotices, StoredProcess, on_process, process_at}
+use Rattle.vlm_store.proofs.Plain.{but_notices-on_process, plain-on_process, process_at-stored, process_of-stored}
 
--- the status blocks of the process at the key
+-- the status blocks of the process at the handle
 pub blocks_are : (s : Records) (at pid : ℕ) (blocks : List Block) → IsSound s → IsProcess at pid s → IfSome (process_at at s.processes) (λ p. blocks ≡ p.process.blocks)
     → blocks ≡ status_blocks_of (plain_processes s) pid
 blocks_are s at pid blocks sound is read =
@@ -34,7 +34,7 @@ block_or_new read processes pid n is = ap (λ (o : Option Block). unwrap_or o ne
     of_number true = unwrap_or-slice_get blocks (n - 1) new_status_block
     of_number false = refl
 
--- the ASTs of the process at the key
+-- the ASTs of the process at the handle
 pub asts_are : (s : Records) (at pid : ℕ) (asts : List Ast) → IsSound s → IsProcess at pid s → IfSome (process_at at s.processes) (λ p. asts ≡ p.process.asts)
     → asts ≡ asts_of (plain_processes s) pid
 asts_are s at pid asts sound is read =
@@ -59,12 +59,12 @@ others_left s at pid sound is =
     ∙ plain-on_process is.0 without_oldest_ast s.processes sound.processes_apart is.1.0
     ∙ ap (λ x. processes_after_take x (plain_processes s)) is.1.2
 
-pub asts_alone : (s : Records) (at : ℕ) → SameButBlocks s (record s { processes = on_process at without_oldest_ast s.processes })
+pub asts_alone : (s : Records) (at : ℕ) → SameButNotices s (record s { processes = on_process at without_oldest_ast s.processes })
 asts_alone s at = record {
   resources = refl;
   loose = refl;
   room = refl;
-  processes = but_blocks-on_process at without_oldest_ast (λ p. refl) s.processes;
+  processes = but_notices-on_process at without_oldest_ast (λ p. refl) s.processes;
 }
 
 -- the write of a status block
@@ -76,10 +76,10 @@ written_blocks s at pid n block sound is =
     ∙ plain-on_process is.0 (process_with_block n block) s.processes sound.processes_apart is.1.0
     ∙ ap (λ x. processes_after_write x n block (plain_processes s)) is.1.2
 
-pub blocks_alone : (s : Records) (at n : ℕ) (block : Block) → SameButBlocks s (record s { processes = on_process at (process_with_block n block) s.processes })
+pub blocks_alone : (s : Records) (at n : ℕ) (block : Block) → SameButNotices s (record s { processes = on_process at (process_with_block n block) s.processes })
 blocks_alone s at n block = record {
   resources = refl;
   loose = refl;
   room = refl;
-  processes = but_blocks-on_process at (process_with_block n block) (λ p. refl) s.processes;
+  processes = but_notices-on_process at (process_with_block n block) (λ p. refl) s.processes;
 }

@@ -3,7 +3,7 @@
 ghost use Rattle.std.specs.Prelude.{◌≡◌, ℕ, length};
 ghost use Rattle.vlm_words.specs.Asts.{asts_of, oldest, processes_after_take};
 ghost use Rattle.vlm_store.specs.Plain.{plain_processes};
-ghost use Rattle.vlm_store.specs.Records.{HasProcess, IsProcess, SameButBlocks};
+ghost use Rattle.vlm_store.specs.Records.{HasProcess, IsProcess, SameButNotices};
 
 use vlm_store::laws::law_records_are_sound;
 use vlm_store::{ProcAt, Store};
@@ -25,7 +25,7 @@ pub fn take(store: &mut Store, at: ProcAt) -> Option<Ast>
         ≡ oldest (asts_of (plain_processes store.old) pid) }
     ensures left { (pid : ℕ) → IsProcess at pid store.old → plain_processes store.new
         ≡ processes_after_take pid (plain_processes store.old) }
-    ensures rest { SameButBlocks store.old store.new }
+    ensures only_notices { SameButNotices store.old store.new }
 {
     law_records_are_sound(store);
     store.take_ast(at)

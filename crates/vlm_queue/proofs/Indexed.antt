@@ -6,9 +6,9 @@ use Rattle.vlm_words.specs.declared.locks.Row.{Row}
 use Rattle.vlm_words.specs.declared.resources.Queue.{Queue}
 use Rattle.vlm_words.specs.declared.resources.Queue.TheVariants.{Granted, Conversion, Waiting}
 use Rattle.vlm_links.specs.Lists.{IsIn}
-use Rattle.vlm_store.specs.declared.keys.Place.TheVariants.{Queued}
+use Rattle.vlm_store.specs.declared.handles.Place.TheVariants.{Queued}
 use Rattle.vlm_store.specs.Plain.{plain_resource}
-use Rattle.vlm_store.specs.Records.{AreApart, AreResourcesApart, IsSound, Records, StoredLock, StoredResource, Stores, at_after, first_at, first_resource_at, locks_at, queued, resource_at, resource_at_after, rows_of}
+use Rattle.vlm_store.specs.Records.{AreApart, AreResourcesApart, IsSound, Records, StoredLock, StoredResource, Stores, at_after, first_at, first_resource_at, locks_at, queued, resource_at, resource_at_after, rows_of_locks}
 use Rattle.vlm_store.proofs.Walks.{after-among, lock_among}
 use Rattle.vlm_store.proofs.Records.{resource_is}
 use Rattle.vlm_queue.specs.declared.views.ResourceView.{ResourceView}
@@ -20,8 +20,8 @@ use Rattle.vlm_words.specs.declared.resources.Domain.{Domain}
 use Rattle.vlm_words.specs.declared.resources.ValueBlock.{ValueBlock}
 use Rattle.vlm_words.specs.Resources.{key_name, key_parent}
 
--- what holds of each key that a walk can have come to holds of the key that it has come to
-pub if_some : (key : Option ℕ) (P : ℕ → Type 0) → ForSome key P → IfSome key P
+-- what holds of each handle that a walk can have come to holds of the handle that it has come to
+pub if_some : (at : Option ℕ) (P : ℕ → Type 0) → ForSome at P → IfSome at P
 if_some None P each = tt
 if_some (Some at) P each = each at refl
 
@@ -38,13 +38,13 @@ resource_index-among i [] res is = cc
 resource_index-among zero (x ∷ rs) res is = (x, (inl refl, same_Some x.at res is))
 resource_index-among (suc i) (x ∷ rs) res is = let behind = resource_index-among i rs res is in (behind.0, (inr behind.1.0, behind.1.1))
 
--- a resource before the one at an index has another key
+-- a resource before the one at an index has another handle
 resource_index-differs : (i : ℕ) (x : StoredResource) (rs : List StoredResource) (res : ℕ) → AreResourcesApart (x ∷ rs) → resource_at_index i rs ≡ Some res → ¬ (x.at ≡ res)
 resource_index-differs i x rs res apart is same =
     let behind = resource_index-among i rs res is in
     apart.0 behind.0 behind.1.0 (behind.1.1 ∙ sym same)
 
--- the resource at an index is found by its key
+-- the resource at an index is found by its handle
 pub resource_at-index : (i : ℕ) (rs : List StoredResource) (res : ℕ) → AreResourcesApart rs → resource_at_index i rs ≡ Some res → resource_at res rs ≡ slice_get rs i
 resource_at-index i [] res apart is = refl
 resource_at-index zero (x ∷ rs) res apart is = rw (eq-eqb x.at res (same_Some x.at res is)) refl
@@ -77,12 +77,12 @@ first-index [] = refl
 first-index (k ∷ ks) = refl
 
 -- the lock at an index is one of these, with the row at this index
-pub lock_index-among : (i : ℕ) (ks : List StoredLock) (at : ℕ) → lock_at_index i ks ≡ Some at → (row : Row) × (IsIn (record { at = at; row = row }) ks × (slice_get (rows_of ks) i ≡ Some row))
+pub lock_index-among : (i : ℕ) (ks : List StoredLock) (at : ℕ) → lock_at_index i ks ≡ Some at → (row : Row) × (IsIn (record { at = at; row = row }) ks × (slice_get (rows_of_locks ks) i ≡ Some row))
 lock_index-among i [] at is = cc
 lock_index-among zero (k ∷ ks) at is = (k.row, (inl (ap (λ x. record { at = x; row = k.row }) (same_Some k.at at is)), refl))
 lock_index-among (suc i) (k ∷ ks) at is = let behind = lock_index-among i ks at is in (behind.0, (inr behind.1.0, behind.1.1))
 
--- a lock before the one at an index has another key
+-- a lock before the one at an index has another handle
 lock_index-differs : (i : ℕ) (k : StoredLock) (ks : List StoredLock) (at : ℕ) → AreApart (k ∷ ks) → lock_at_index i ks ≡ Some at → ¬ (k.at ≡ at)
 lock_index-differs i k ks at apart is same =
     let behind = lock_index-among i ks at is in
@@ -102,20 +102,20 @@ lock_index-past (suc i) zero (k ∷ ks) past le = absurd (omega (arith, le))
 lock_index-past (suc i) (suc index) (k ∷ ks) past le = lock_index-past i index ks past (omega (arith, le))
 
 -- from the first of the last locks on a queue gives their rows
-pub given_from : (before rest : List StoredLock) → AreApart (before ++ rest) → IsGivenFrom (before ++ rest) (first_at rest) (rows_of rest)
+pub given_from : (before rest : List StoredLock) → AreApart (before ++ rest) → IsGivenFrom (before ++ rest) (first_at rest) (rows_of_locks rest)
 given_from before [] apart = refl
 given_from before (k ∷ rest) apart =
     let one : before ++ k ∷ [] ++ rest ≡ before ++ k ∷ rest = append_assoc before (k ∷ []) rest in
     let others : AreApart (before ++ k ∷ [] ++ rest) = subst AreApart (sym one) apart in
-    let behind : IsGivenFrom (before ++ k ∷ rest) (first_at rest) (rows_of rest) = subst (λ ks. IsGivenFrom ks (first_at rest) (rows_of rest)) one (given_from (before ++ k ∷ []) rest others) in
-    (k.at, (refl, lock_among k before rest, subst (λ first. IsGivenFrom (before ++ k ∷ rest) first (rows_of rest)) (sym (after-among k before rest apart)) behind))
+    let behind : IsGivenFrom (before ++ k ∷ rest) (first_at rest) (rows_of_locks rest) = subst (λ ks. IsGivenFrom ks (first_at rest) (rows_of_locks rest)) one (given_from (before ++ k ∷ []) rest others) in
+    (k.at, (refl, lock_among k before rest, subst (λ first. IsGivenFrom (before ++ k ∷ rest) first (rows_of_locks rest)) (sym (after-among k before rest apart)) behind))
 
 -- the queue of a stored resource gives its rows in turn
-pub queue_given : (s : Records) (r : StoredResource) (queue : Queue) → IsSound s → IsIn r s.resources → GivesInTurn r.at queue (rows_of (queued queue r)) s
+pub queue_given : (s : Records) (r : StoredResource) (queue : Queue) → IsSound s → IsIn r s.resources → GivesInTurn r.at queue (rows_of_locks (queued queue r)) s
 queue_given s r queue sound among =
     let place = Queued r.at queue in
     let here : locks_at place s ≡ queued queue r = ap (λ o. option_map_or (queued queue) o []) (resource_is r s.resources sound.resources_apart among) in
-    subst (λ ks. IsGivenFrom ks (first_at ks) (rows_of (queued queue r))) (sym here) (given_from [] (queued queue r) (subst AreApart here (sound.locks_apart place)))
+    subst (λ ks. IsGivenFrom ks (first_at ks) (rows_of_locks (queued queue r))) (sym here) (given_from [] (queued queue r) (subst AreApart here (sound.locks_apart place)))
 
 -- ---- what is shown
 
@@ -140,15 +140,15 @@ no_resource_shown i [] is = refl
 no_resource_shown zero (x ∷ rs) is = cc
 no_resource_shown (suc i) (x ∷ rs) is = no_resource_shown i rs is
 
--- a queue without the keys has the rows of its locks
-rows_in-plain : (queue : Queue) (r : StoredResource) → rows_in queue (plain_resource r) ≡ rows_of (queued queue r)
+-- a queue without the handles has the rows of its locks
+rows_in-plain : (queue : Queue) (r : StoredResource) → rows_in queue (plain_resource r) ≡ rows_of_locks (queued queue r)
 rows_in-plain Granted r = refl
 rows_in-plain Conversion r = refl
 rows_in-plain Waiting r = refl
 
--- the lock that is shown stands in the queue of the resource of this key
+-- the lock that is shown stands in the queue of the resource of this handle
 row_shown-index : (i : ℕ) (rs : List StoredResource) (res : ℕ) (queue : Queue) (index : ℕ) → AreResourcesApart rs → resource_at_index i rs ≡ Some res
-    → row_shown (slice_get (map plain_resource rs) i) queue index ≡ option_map row_view (slice_get (rows_of (option_map_or (queued queue) (resource_at res rs) [])) index)
+    → row_shown (slice_get (map plain_resource rs) i) queue index ≡ option_map row_view (slice_get (rows_of_locks (option_map_or (queued queue) (resource_at res rs) [])) index)
 row_shown-index i [] res queue index apart is = cc
 row_shown-index zero (x ∷ rs) res queue index apart is =
     rw (eq-eqb x.at res (same_Some x.at res is)) (ap (λ rows. option_map row_view (slice_get rows index)) (rows_in-plain queue x))
@@ -165,7 +165,7 @@ lock_shown s i res queue index at view sound is stands told =
     ∙ sym (row_shown-index i s.resources res queue index sound.resources_apart is ∙ ap (option_map row_view) there.1.1)
 
 -- no row is at an index past the last lock
-no_row : (index : ℕ) (ks : List StoredLock) → lock_at_index index ks ≡ None → option_map row_view (slice_get (rows_of ks) index) ≡ None
+no_row : (index : ℕ) (ks : List StoredLock) → lock_at_index index ks ≡ None → option_map row_view (slice_get (rows_of_locks ks) index) ≡ None
 no_row index [] is = refl
 no_row zero (k ∷ ks) is = cc
 no_row (suc index) (k ∷ ks) is = no_row index ks is

@@ -6,10 +6,10 @@ use Rattle.vlm_words.specs.declared.locks.Row.{Row}
 use Rattle.vlm_words.specs.declared.resources.Queue.{Queue}
 use Rattle.vlm_words.specs.declared.resources.Queue.TheVariants.{Granted, Conversion, Waiting}
 use Rattle.vlm_links.specs.Lists.{IsIn}
-use Rattle.vlm_store.specs.declared.keys.Place.{Place}
-use Rattle.vlm_store.specs.declared.keys.Place.TheVariants.{Queued}
+use Rattle.vlm_store.specs.declared.handles.Place.{Place}
+use Rattle.vlm_store.specs.declared.handles.Place.TheVariants.{Queued}
 use Rattle.vlm_store.specs.Plain.{plain_resource}
-use Rattle.vlm_store.specs.Records.{HasResource, IsSound, IsStored, Records, StoredLock, StoredResource, Stores, at_after, first_at, first_resource_at, locks_at, queued, resource_at, resource_at_after, rows_of}
+use Rattle.vlm_store.specs.Records.{HasResource, IsSound, IsStored, Records, StoredLock, StoredResource, Stores, at_after, first_at, first_resource_at, locks_at, queued, resource_at, resource_at_after, rows_of_locks}
 use Rattle.vlm_store.proofs.Walks.{at_lock, at_resource, first-there, first_resource-there, locks_from, resources_from as stored_from}
 use Rattle.vlm_queue.specs.Views.{rows_in}
 use Rattle.vlm_queue.specs.Walks.{IsInQueue, resource_of, resources_from, resources_left, rows_from, rows_left, rows_queued}
@@ -61,14 +61,14 @@ is_there res s there = of_some (resource_at res s.resources) there
 pub rows_plain : (res : ℕ) (queue : Queue) (s : Records) → IfSome (resource_of res s) (λ r. rows_queued res queue s ≡ rows_in queue r)
 rows_plain res queue s = of_found (resource_at res s.resources) queue
   where
-    of_found : (o : Option StoredResource) (queue : Queue) → IfSome (option_map plain_resource o) (λ r. rows_of (option_map_or (queued queue) o []) ≡ rows_in queue r)
+    of_found : (o : Option StoredResource) (queue : Queue) → IfSome (option_map plain_resource o) (λ r. rows_of_locks (option_map_or (queued queue) o []) ≡ rows_in queue r)
     of_found None queue = tt
     of_found (Some r) Granted = refl
     of_found (Some r) Conversion = refl
     of_found (Some r) Waiting = refl
 
 -- the rows that are left are those of the locks that are left
-rows_of-from : (next : Option ℕ) (ks : List StoredLock) → rows_from next ks ≡ rows_of (locks_from next ks)
+rows_of-from : (next : Option ℕ) (ks : List StoredLock) → rows_from next ks ≡ rows_of_locks (locks_from next ks)
 rows_of-from None ks = refl
 rows_of-from (Some at) [] = refl
 rows_of-from (Some at) (k ∷ rest) =
@@ -78,7 +78,7 @@ rows_of-from (Some at) (k ∷ rest) =
     ]
 
 -- at the head of a queue all its rows are left
-all_rows : (ks : List StoredLock) → rows_from (first_at ks) ks ≡ rows_of ks
+all_rows : (ks : List StoredLock) → rows_from (first_at ks) ks ≡ rows_of_locks ks
 all_rows [] = refl
 all_rows (k ∷ rest) = rw (eq-eqb k.at k.at refl) refl
 
@@ -110,7 +110,7 @@ passes s res queue lock next sound come follows =
     rw (follows place stands.row stands.among) (record {
       row = stands.row;
       stored = (place, stands.among);
-      left = rows_of-from (Some lock) ks ∙ ap rows_of stands.left ∙ ap (λ rows. stands.row ∷ rows) (sym (rows_of-from (at_after lock ks) ks));
+      left = rows_of-from (Some lock) ks ∙ ap rows_of_locks stands.left ∙ ap (λ rows. stands.row ∷ rows) (sym (rows_of-from (at_after lock ks) ks));
       there = stands.next;
     })
 

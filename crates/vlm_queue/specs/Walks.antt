@@ -5,29 +5,29 @@ use Rattle.vlm_words.specs.declared.locks.Row.{Row}
 use Rattle.vlm_words.specs.declared.resources.Queue.{Queue}
 use Rattle.vlm_words.specs.State.{Resource}
 use Rattle.vlm_links.specs.Lists.{IsIn}
-use Rattle.vlm_store.specs.declared.keys.Place.TheVariants.{Queued}
+use Rattle.vlm_store.specs.declared.handles.Place.TheVariants.{Queued}
 use Rattle.vlm_store.specs.Plain.{plain_resource}
-use Rattle.vlm_store.specs.Records.{Records, StoredLock, StoredResource, at_after, first_at, locks_at, resource_at, rows_of}
+use Rattle.vlm_store.specs.Records.{Records, StoredLock, StoredResource, at_after, first_at, locks_at, resource_at, rows_of_locks}
 -- that a resource is there, for whoever walks and reads no records itself
 pub use Rattle.vlm_store.specs.Records.{HasResource}
 
 -- ---- resources
 
--- the resource of this key as the plain machine has it, if it is there
+-- the resource of this handle as the plain machine has it, if it is there
 abbrev pub resource_of : ℕ → Records → Option Resource
 resource_of res s = option_map plain_resource (resource_at res s.resources)
 
--- the resources from the one of this key on, as the plain machine has them
+-- the resources from the one of this handle on, as the plain machine has them
 abbrev pub resources_from : Option ℕ → List StoredResource → List Resource
 resources_from None rs = []
 resources_from (Some res) [] = []
 resources_from (Some res) (r ∷ rest) = if r.at == res then map plain_resource (r ∷ rest) else resources_from (Some res) rest
 
--- the resources that a walk has left, the one of this key first
+-- the resources that a walk has left, the one of this handle first
 abbrev pub resources_left : Option ℕ → Records → List Resource
 resources_left next s = resources_from next s.resources
 
--- the key of the resource at an index
+-- the handle of the resource at an index
 abbrev pub resource_at_index : ℕ → List StoredResource → Option ℕ
 resource_at_index index resources = option_map (λ r. r.at) (slice_get resources index)
 
@@ -35,15 +35,15 @@ resource_at_index index resources = option_map (λ r. r.at) (slice_get resources
 
 -- the rows of a queue
 abbrev pub rows_queued : ℕ → Queue → Records → List Row
-rows_queued res queue s = rows_of (locks_at (Queued res queue) s)
+rows_queued res queue s = rows_of_locks (locks_at (Queued res queue) s)
 
--- the rows from that of the lock of this key on
+-- the rows from that of the lock of this handle on
 abbrev pub rows_from : Option ℕ → List StoredLock → List Row
 rows_from None locks = []
 rows_from (Some at) [] = []
-rows_from (Some at) (k ∷ rest) = if k.at == at then rows_of (k ∷ rest) else rows_from (Some at) rest
+rows_from (Some at) (k ∷ rest) = if k.at == at then rows_of_locks (k ∷ rest) else rows_from (Some at) rest
 
--- the rows that a walk of a queue has left, that of the lock of this key first
+-- the rows that a walk of a queue has left, that of the lock of this handle first
 abbrev pub rows_left : ℕ → Queue → Option ℕ → Records → List Row
 rows_left res queue next s = rows_from next (locks_at (Queued res queue) s)
 
@@ -51,17 +51,17 @@ rows_left res queue next s = rows_from next (locks_at (Queued res queue) s)
 abbrev pub IsInQueue : ℕ → Queue → Option ℕ → Records → Type 0
 IsInQueue res queue next s = ForSome next (λ at. (row : Row) × IsIn (record { at = at; row = row }) (locks_at (Queued res queue) s))
 
--- the key of the lock at an index of a queue
+-- the handle of the lock at an index of a queue
 abbrev pub lock_at_index : ℕ → List StoredLock → Option ℕ
 lock_at_index index locks = option_map (λ k. k.at) (slice_get locks index)
 
--- from the lock of this key on a queue gives these rows: the lock has the first of them, and the one that follows it
+-- from the lock of this handle on a queue gives these rows: the lock has the first of them, and the one that follows it
 -- gives the others
 abbrev pub IsGivenFrom : List StoredLock → Option ℕ → List Row → Type 0
 IsGivenFrom locks first [] = first ≡ None
 IsGivenFrom locks first (row ∷ rows) =
     (at : ℕ) × ((first ≡ Some at) × IsIn (record { at = at; row = row }) locks × IsGivenFrom locks (at_after at locks) rows)
 
--- the queue of the resource of this key gives these rows: from its head on, one after the other
+-- the queue of the resource of this handle gives these rows: from its head on, one after the other
 abbrev pub GivesInTurn : ℕ → Queue → List Row → Records → Type 0
 GivesInTurn res queue rows s = IsGivenFrom (locks_at (Queued res queue) s) (first_at (locks_at (Queued res queue) s)) rows

@@ -6,8 +6,8 @@ ghost use Rattle.std.specs.Option.{ForSome};
 ghost use Rattle.vlm_words.specs.declared.locks.Row.{Row};
 ghost use Rattle.vlm_words.specs.Grants.{is_empty};
 ghost use Rattle.vlm_links.specs.Lists.{IsIn};
-ghost use Rattle.vlm_store.specs.declared.keys.Place.{Place};
-ghost use Rattle.vlm_store.specs.Records.{HasResource, IsIdle, IsSound, IsStored, Stores, at_after, first_at, fits_beside, locks_at, moving, queued, resource_at, rows_of, with_lists};
+ghost use Rattle.vlm_store.specs.declared.handles.Place.{Place};
+ghost use Rattle.vlm_store.specs.Records.{HasResource, IsIdle, IsSound, IsStored, Stores, at_after, first_at, fits_beside, locks_at, moving, queued, resource_at, rows_of_locks, with_lists};
 
 use vlm_store::{LockAt, Place, ResAt, Store};
 use vlm_words::modes::Mode;
@@ -69,19 +69,19 @@ pub fn pop_front(store: &mut Store, res: ResAt, queue: Queue) -> Option<LockAt>
 
 /// Whether the mode is compatible with the held mode of every other lock of the resource, granted or
 /// converting. The lock that asks is left out.
-pub fn can_hold(store: &Store, res: ResAt, mode: Mode, own: Option<LockAt>) -> bool
+pub fn can_hold(store: &Store, res: ResAt, mode: Mode, asking: Option<LockAt>) -> bool
     requires there { HasResource res store.now }
-    requires own { ForSome own (λ lock. IsStored lock store.now) }
-    ensures { IfSome (resource_at res store.now.resources) (λ r. result ≡ fits_beside mode own r) }
+    requires asking { ForSome asking (λ lock. IsStored lock store.now) }
+    ensures { IfSome (resource_at res store.now.resources) (λ r. result ≡ fits_beside mode asking r) }
 {
-    store.can_hold(res, mode, own)
+    store.can_hold(res, mode, asking)
 }
 
 /// Whether no lock stands in the queue.
 pub fn is_empty(store: &Store, res: ResAt, queue: Queue) -> bool
     requires { HasResource res store.now }
     ensures { IfSome (resource_at res store.now.resources)
-        (λ r. result ≡ is_empty (rows_of (queued queue r))) }
+        (λ r. result ≡ is_empty (rows_of_locks (queued queue r))) }
 {
     head(store, res, queue).is_none()
 }

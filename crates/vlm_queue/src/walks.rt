@@ -2,7 +2,7 @@
 
 ghost use Rattle.std.specs.Prelude.{◌≡◌, ◌∷◌, IfSome, Some, slice_get};
 ghost use Rattle.std.specs.Option.{ForSome, option_map};
-ghost use Rattle.vlm_store.specs.declared.keys.Place.{Place};
+ghost use Rattle.vlm_store.specs.declared.handles.Place.{Place};
 ghost use Rattle.vlm_store.specs.Plain.{plain_resources};
 ghost use Rattle.vlm_store.specs.Records.{HasResource, IsSound, IsStored, locks_at};
 ghost use Rattle.vlm_queue.specs.Views.{resource_view, row_shown};
@@ -33,7 +33,7 @@ pub fn next_resource(store: &Store, res: ResAt) -> Option<ResAt>
     store.next_resource(res)
 }
 
-// The key of the resource at an index, from 0, in order of making. It walks to that index.
+// The handle of the resource at an index, from 0, in order of making. It walks to that index.
 fn nth_resource(store: &Store, index: usize) -> Option<ResAt>
     ensures found { result ≡ resource_at_index index store.now.resources }
     ensures there { IfSome result (λ res. HasResource res store.now) }
@@ -49,7 +49,7 @@ fn nth_resource(store: &Store, index: usize) -> Option<ResAt>
     at
 }
 
-// The key of the lock at an index, from 0, of a queue of the resource. It walks to that index.
+// The handle of the lock at an index, from 0, of a queue of the resource. It walks to that index.
 fn nth_lock(store: &Store, res: ResAt, queue: Queue, index: usize) -> Option<LockAt>
     requires { HasResource res store.now }
     ensures found { result ≡ lock_at_index index (locks_at (Place.Queued res queue) store.now) }

@@ -5,21 +5,21 @@ use Rattle.std.proofs.lemmas.Bool.{cases_eq}
 use Rattle.std.proofs.lemmas.Option.{none-some, same_Some}
 use Rattle.slab.specs.Slab.{Slab, get, ContainsKey, Updates, with_value}
 use Rattle.slab.proofs.SlabLemmas.{Updates-with_value}
-use Rattle.vlm_links.specs.declared.link.TheConstants.{LAST_KEY}
-use Rattle.vlm_links.specs.Lists.{IsIn, IsApart, IsLinked, keys_of, without}
-use Rattle.vlm_links.proofs.Keeping.{updated-keys}
-use Rattle.vlm_links.proofs.KeyLists.{IsIn-without, IsApart-without, IsApart-push, length-below, without_head, without_past, without_absent}
+use Rattle.vlm_links.specs.declared.link.TheConstants.{LAST_HANDLE}
+use Rattle.vlm_links.specs.Lists.{IsIn, IsApart, IsLinked, handles_of, without}
+use Rattle.vlm_links.proofs.Keeping.{updated-handles}
+use Rattle.vlm_links.proofs.HandleLists.{IsIn-without, IsApart-without, IsApart-push, length-below, without_head, without_past, without_absent}
 use Rattle.vlm_words.specs.declared.locks.Row.{Row}
 use Rattle.vlm_words.specs.declared.modes.Mode.{Mode}
 use Rattle.vlm_words.specs.declared.resources.Queue.{Queue}
 use Rattle.vlm_words.specs.declared.resources.Queue.TheVariants.{Granted, Conversion, Waiting}
-use Rattle.vlm_store.specs.declared.keys.Place.{Place}
-use Rattle.vlm_store.specs.declared.keys.Place.TheVariants.{Loose, Queued}
+use Rattle.vlm_store.specs.declared.handles.Place.{Place}
+use Rattle.vlm_store.specs.declared.handles.Place.TheVariants.{Loose, Queued}
 use Rattle.vlm_store.specs.declared.locks.Lock.{Lock}
 use Rattle.vlm_store.specs.declared.queues.Queues.{Queues}
 use Rattle.vlm_store.specs.declared.resources.Resource.{Resource}
 use Rattle.vlm_tallies.specs.declared.tallies.Tally.{Tally}
-use Rattle.vlm_store.specs.Shown.{IsPlaced, IsTallied, SameBut, but_lists, keys_at, keys_but, list_at, noted, noted_in, queue_links, row_in, rows, share_of, shares, tally_in}
+use Rattle.vlm_store.specs.Shown.{IsPlaced, IsTallied, SameBut, but_lists, handles_at, handles_but, list_at, noted, noted_in, queue_links, row_in, rows, share_of, shares, tally_in}
 use Rattle.vlm_tallies.specs.Tallies.{held_of, held_weight, is_mode, one_if, total, wanted_of, wanted_weight}
 use Rattle.vlm_tallies.proofs.Totals.{total-length}
 use Rattle.vlm_store.proofs.Families.{family-added, family-removed}
@@ -57,18 +57,18 @@ IsApart-append (x ∷ xs) ys apart apart' other = (
 )
 
 module _ (q : Queues) (weight : Queue → Row → ℕ) (at : ℕ) (place : Place) (placed : IsPlaced q None) (is : noted q at ≡ Some place) (res : ℕ) where
-  stood : IsIn at (keys_at q place)
+  stood : IsIn at (handles_at q place)
   stood = placed.stands place at (λ same. none-some at (sym same)) is
 
   -- the locks of a queue are those without the lock, and the lock if it stands there
-  stays : (queue : Queue) → place ≢ Queued res queue → total (weight queue) (rows q) (keys_at q (Queued res queue)) ≡ total (weight queue) (rows q) (without at (keys_at q (Queued res queue)))
+  stays : (queue : Queue) → place ≢ Queued res queue → total (weight queue) (rows q) (handles_at q (Queued res queue)) ≡ total (weight queue) (rows q) (without at (handles_at q (Queued res queue)))
   stays queue differs =
       ap (total (weight queue) (rows q)) (sym (without_absent at _ (λ found. differs (one_place q None placed at place (Queued res queue) stood found))))
 
   leaves : (queue : Queue) → place ≡ Queued res queue
-      → total (weight queue) (rows q) (keys_at q (Queued res queue)) ≡ total (weight queue) (rows q) (without at (keys_at q (Queued res queue))) + weight queue (rows q at)
+      → total (weight queue) (rows q) (handles_at q (Queued res queue)) ≡ total (weight queue) (rows q) (without at (handles_at q (Queued res queue))) + weight queue (rows q at)
   leaves queue same =
-      sym (total-without (weight queue) (rows q) (keys_at q (Queued res queue)) at (placed.linked (Queued res queue)).apart (subst (λ p. IsIn at (keys_at q p)) same stood))
+      sym (total-without (weight queue) (rows q) (handles_at q (Queued res queue)) at (placed.linked (Queued res queue)).apart (subst (λ p. IsIn at (handles_at q p)) same stood))
 
 -- the shares of a resource are those of the other locks, and that of the lock
 pub shares-out : (q : Queues) (weight : Queue → Row → ℕ) (at : ℕ) (place : Place) → IsPlaced q None → noted q at ≡ Some place → (res : ℕ)
@@ -113,11 +113,11 @@ shares-out q weight at (Queued r queue) placed is res =
 
 -- the other locks of a resource are fewer than a number of four bytes tells
 pub shares-room : (q : Queues) (weight : Queue → Row → ℕ) → ((queue : Queue) (row : Row) → weight queue row ≤ 1) → (at : ℕ) (place : Place) → IsPlaced q None → noted q at ≡ Some place
-    → (res : ℕ) → shares q weight (Some at) res + 1 ≤ LAST_KEY + 1
+    → (res : ℕ) → shares q weight (Some at) res + 1 ≤ LAST_HANDLE + 1
 shares-room q weight one at place placed is res =
-    let left : Queue → List ℕ = λ queue. without at (keys_at q (Queued res queue)) in
+    let left : Queue → List ℕ = λ queue. without at (handles_at q (Queued res queue)) in
     let apart : (queue : Queue) → IsApart (left queue) = λ queue. IsApart-without at _ (placed.linked (Queued res queue)).apart in
-    let was : (queue : Queue) (k : ℕ) → IsIn k (left queue) → IsIn k (keys_at q (Queued res queue)) = λ queue k found. (IsIn-without at k _ found).0 in
+    let was : (queue : Queue) (k : ℕ) → IsIn k (left queue) → IsIn k (handles_at q (Queued res queue)) = λ queue k found. (IsIn-without at k _ found).0 in
     let differ : (a b : Queue) → Queued res a ≢ Queued res b → (k : ℕ) → IsIn k (left a) → ¬ IsIn k (left b) =
     λ a b differs k here there. differs (one_place q None placed k (Queued res a) (Queued res b) (was a k here) (was b k there)) in
     let later = left Conversion ++ left Waiting in
@@ -129,16 +129,16 @@ shares-room q weight one at place placed is res =
     let absent : ¬ IsIn at all =
     λ found. IsIn-append at (left Granted) later ⊥ (λ h. (IsIn-without at at _ h).1 refl)
     (λ h. IsIn-append at (left Conversion) (left Waiting) ⊥ (λ h'. (IsIn-without at at _ h').1 refl) (λ h'. (IsIn-without at at _ h').1 refl) h) found in
-    let low : (queue : Queue) (k : ℕ) → IsIn k (left queue) → k < LAST_KEY + 1 = λ queue k found. let le = (placed.linked (Queued res queue)).within k (was queue k found) in omega arith in
-    let stood' : IsIn at (keys_at q place) = placed.stands place at (λ same. none-some at (sym same)) is in
-    let low_at : at < LAST_KEY + 1 = let le = (placed.linked place).within at stood' in omega arith in
-    let low_all : (k : ℕ) → IsIn k (all ++ at ∷ []) → k < LAST_KEY + 1 =
-    λ k found. IsIn-append k all (at ∷ []) (k < LAST_KEY + 1)
-    (λ h. IsIn-append k (left Granted) later (k < LAST_KEY + 1) (low Granted k) (λ h'. IsIn-append k (left Conversion) (left Waiting) (k < LAST_KEY + 1) (low Conversion k) (low Waiting k) h') h)
-    (λ h. elim h [ inl here ↦ subst (λ x. x < LAST_KEY + 1) here low_at | inr nowhere ↦ absurd nowhere ]) found in
+    let low : (queue : Queue) (k : ℕ) → IsIn k (left queue) → k < LAST_HANDLE + 1 = λ queue k found. let le = (placed.linked (Queued res queue)).within k (was queue k found) in omega arith in
+    let stood' : IsIn at (handles_at q place) = placed.stands place at (λ same. none-some at (sym same)) is in
+    let low_at : at < LAST_HANDLE + 1 = let le = (placed.linked place).within at stood' in omega arith in
+    let low_all : (k : ℕ) → IsIn k (all ++ at ∷ []) → k < LAST_HANDLE + 1 =
+    λ k found. IsIn-append k all (at ∷ []) (k < LAST_HANDLE + 1)
+    (λ h. IsIn-append k (left Granted) later (k < LAST_HANDLE + 1) (low Granted k) (λ h'. IsIn-append k (left Conversion) (left Waiting) (k < LAST_HANDLE + 1) (low Conversion k) (low Waiting k) h') h)
+    (λ h. elim h [ inl here ↦ subst (λ x. x < LAST_HANDLE + 1) here low_at | inr nowhere ↦ absurd nowhere ]) found in
     omega (
       arith,
-      length-below (LAST_KEY + 1) (all ++ at ∷ []) (IsApart-push at all all_apart absent) low_all,
+      length-below (LAST_HANDLE + 1) (all ++ at ∷ []) (IsApart-push at all all_apart absent) low_all,
       length-append all (at ∷ []),
       length-append (left Granted) later,
       length-append (left Conversion) (left Waiting),
@@ -169,21 +169,21 @@ module _ (count : Tally → ℕ) (s : Slab Resource) (res : ℕ) (was now : Reso
         | inr differs ↦ rw (ne_eqb res r differs) (ap (λ x. count (tally_in x)) (updates.others r (λ e. differs (sym e))) ∙ sym (add-zero _))
       ]
 
--- shares stay where the keys do, and the rows of all locks but the one that is out
-pub shares_same : (q q' : Queues) (weight : Queue → Row → ℕ) (out : Option ℕ) (res : ℕ) → ((p : Place) → keys_at q' p ≡ keys_at q p) → ((k : ℕ) → Some k ≢ out → rows q' k ≡ rows q k)
+-- shares stay where the handles do, and the rows of all locks but the one that is out
+pub shares_same : (q q' : Queues) (weight : Queue → Row → ℕ) (out : Option ℕ) (res : ℕ) → ((p : Place) → handles_at q' p ≡ handles_at q p) → ((k : ℕ) → Some k ≢ out → rows q' k ≡ rows q k)
     → shares q' weight out res ≡ shares q weight out res
-shares_same q q' weight out res keys same = omega (arith, part Granted, part Conversion, part Waiting)
+shares_same q q' weight out res handles same = omega (arith, part Granted, part Conversion, part Waiting)
   where
     part_of : (out : Option ℕ) (queue : Queue) → ((k : ℕ) → Some k ≢ out → rows q' k ≡ rows q k)
-        → total (weight queue) (rows q') (keys_but q' out (Queued res queue)) ≡ total (weight queue) (rows q) (keys_but q out (Queued res queue))
+        → total (weight queue) (rows q') (handles_but q' out (Queued res queue)) ≡ total (weight queue) (rows q) (handles_but q out (Queued res queue))
     part_of None queue same =
-        ap (total (weight queue) (rows q')) (keys (Queued res queue))
-        ∙ total-kept (weight queue) (rows q) (rows q') (keys_at q (Queued res queue)) (λ k _. same k (λ e. none-some k (sym e)))
+        ap (total (weight queue) (rows q')) (handles (Queued res queue))
+        ∙ total-kept (weight queue) (rows q) (rows q') (handles_at q (Queued res queue)) (λ k _. same k (λ e. none-some k (sym e)))
     part_of (Some o) queue same =
-        ap (λ ks. total (weight queue) (rows q') (without o ks)) (keys (Queued res queue))
-        ∙ total-kept (weight queue) (rows q) (rows q') (without o (keys_at q (Queued res queue))) (λ k found. same k (λ e. (IsIn-without o k _ found).1 (same_Some k o e)))
+        ap (λ ks. total (weight queue) (rows q') (without o ks)) (handles (Queued res queue))
+        ∙ total-kept (weight queue) (rows q) (rows q') (without o (handles_at q (Queued res queue))) (λ k found. same k (λ e. (IsIn-without o k _ found).1 (same_Some k o e)))
 
-    part : (queue : Queue) → total (weight queue) (rows q') (keys_but q' out (Queued res queue)) ≡ total (weight queue) (rows q) (keys_but q out (Queued res queue))
+    part : (queue : Queue) → total (weight queue) (rows q') (handles_but q' out (Queued res queue)) ≡ total (weight queue) (rows q) (handles_but q out (Queued res queue))
     part queue = part_of out queue same
 
 -- a lock in a queue is counted out, or in
@@ -192,8 +192,8 @@ module _ (q q' : Queues) (at res : ℕ) (queue : Queue) (l : Lock) (placed : IsP
   notes : noted q at ≡ Some (Queued res queue)
   notes = ap noted_in here ∙ ap Some is
 
-  keys_same : (p : Place) → keys_at q' p ≡ keys_at q p
-  keys_same p = ap (keys_of queue_links q'.locks) (lists p) ∙ ap (λ s. keys_of queue_links s (list_at q p)) locks
+  handles_same : (p : Place) → handles_at q' p ≡ handles_at q p
+  handles_same p = ap (handles_of queue_links q'.locks) (lists p) ∙ ap (λ s. handles_of queue_links s (list_at q p)) locks
 
   rows_same : (k : ℕ) → rows q' k ≡ rows q k
   rows_same k = ap (λ s. row_in (get s k)) locks
@@ -208,10 +208,10 @@ module _ (q q' : Queues) (at res : ℕ) (queue : Queue) (l : Lock) (placed : IsP
 
   module _ (count count' : ℕ → ℕ) where
     pub counted_out : ((r : ℕ) → count' r + (if res == r then weight queue l.row else 0) ≡ count r) → ((r : ℕ) → count r ≡ shares q weight None r) → (r : ℕ) → count' r ≡ shares q' weight (Some at) r
-    counted_out less tallied r = omega (arith, less r, tallied r, weighs r, shares_same q q' weight (Some at) r keys_same (λ k _. rows_same k))
+    counted_out less tallied r = omega (arith, less r, tallied r, weighs r, shares_same q q' weight (Some at) r handles_same (λ k _. rows_same k))
 
     pub counted_in : ((r : ℕ) → count' r ≡ count r + (if res == r then weight queue l.row else 0)) → ((r : ℕ) → count r ≡ shares q weight (Some at) r) → (r : ℕ) → count' r ≡ shares q' weight None r
-    counted_in more tallied r = omega (arith, more r, tallied r, weighs r, shares_same q q' weight None r keys_same (λ k _. rows_same k))
+    counted_in more tallied r = omega (arith, more r, tallied r, weighs r, shares_same q q' weight None r handles_same (λ k _. rows_same k))
 
 -- a loose lock is not counted
 pub loose_weighs : (q : Queues) (at : ℕ) (l : Lock) → IsPlaced q None → get q.locks at ≡ Some l → l.place ≡ Loose → (weight : Queue → Row → ℕ) (r : ℕ)
@@ -243,12 +243,12 @@ without-push at (k ∷ ks) absent =
 
 -- the counts of all but one lock stay as that lock moves
 module _ (q q' : Queues) (at : ℕ) (tallies : (r : ℕ) → tally_in (get q'.resources r) ≡ tally_in (get q.resources r))
-    (keys : (p : Place) → without at (keys_at q' p) ≡ without at (keys_at q p)) (same : (k : ℕ) → k ≢ at → rows q' k ≡ rows q k) where
+    (handles : (p : Place) → without at (handles_at q' p) ≡ without at (handles_at q p)) (same : (k : ℕ) → k ≢ at → rows q' k ≡ rows q k) where
   part_moved : (weight : Queue → Row → ℕ) (r : ℕ) (queue : Queue)
-      → total (weight queue) (rows q') (without at (keys_at q' (Queued r queue))) ≡ total (weight queue) (rows q) (without at (keys_at q (Queued r queue)))
+      → total (weight queue) (rows q') (without at (handles_at q' (Queued r queue))) ≡ total (weight queue) (rows q) (without at (handles_at q (Queued r queue)))
   part_moved weight r queue =
-      ap (total (weight queue) (rows q')) (keys (Queued r queue))
-      ∙ total-kept (weight queue) (rows q) (rows q') (without at (keys_at q (Queued r queue))) (λ k found. same k (IsIn-without at k _ found).1)
+      ap (total (weight queue) (rows q')) (handles (Queued r queue))
+      ∙ total-kept (weight queue) (rows q) (rows q') (without at (handles_at q (Queued r queue))) (λ k found. same k (IsIn-without at k _ found).1)
 
   shares_moved : (weight : Queue → Row → ℕ) (r : ℕ) → shares q' weight (Some at) r ≡ shares q weight (Some at) r
   shares_moved weight r = omega (arith, part_moved weight r Granted, part_moved weight r Conversion, part_moved weight r Waiting)
@@ -259,30 +259,30 @@ module _ (q q' : Queues) (at : ℕ) (tallies : (r : ℕ) → tally_in (get q'.re
     wanted = λ r mode. ap (λ t. wanted_of t mode) (tallies r) ∙ tallied.wanted r mode ∙ sym (shares_moved (wanted_weight mode) r);
   }
 
-pub tallied_taken : (q q' : Queues) (at : ℕ) → ((p : Place) → keys_at q' p ≡ without at (keys_at q p)) → ((k : ℕ) → rows q' k ≡ rows q k) → SameBut but_lists q.resources q'.resources
+pub tallied_taken : (q q' : Queues) (at : ℕ) → ((p : Place) → handles_at q' p ≡ without at (handles_at q p)) → ((k : ℕ) → rows q' k ≡ rows q k) → SameBut but_lists q.resources q'.resources
     → IsTallied q (Some at) → IsTallied q' (Some at)
-tallied_taken q q' at keys same rest =
-    tallied_moved q q' at (tally_but_lists q.resources q'.resources rest) (λ p. ap (without at) (keys p) ∙ without-twice at (keys_at q p)) (λ k _. same k)
+tallied_taken q q' at handles same rest =
+    tallied_moved q q' at (tally_but_lists q.resources q'.resources rest) (λ p. ap (without at) (handles p) ∙ without-twice at (handles_at q p)) (λ k _. same k)
 
-pub tallied_put : (q q' : Queues) (at : ℕ) (place : Place) → IsPlaced q (Some at) → keys_at q' place ≡ keys_at q place ++ at ∷ [] → ((p : Place) → p ≢ place → keys_at q' p ≡ keys_at q p)
+pub tallied_put : (q q' : Queues) (at : ℕ) (place : Place) → IsPlaced q (Some at) → handles_at q' place ≡ handles_at q place ++ at ∷ [] → ((p : Place) → p ≢ place → handles_at q' p ≡ handles_at q p)
     → ((k : ℕ) → rows q' k ≡ rows q k) → SameBut but_lists q.resources q'.resources → IsTallied q (Some at) → IsTallied q' (Some at)
 tallied_put q q' at place placed here elsewhere same rest =
     tallied_moved q q' at (tally_but_lists q.resources q'.resources rest)
     (λ p. elim (place_cases p place) [
-      | inl is ↦ ap (λ x. without at (keys_at q' x)) is ∙ ap (without at) here ∙ without-push at (keys_at q place) (placed.gone place at refl) ∙ ap (λ x. without at (keys_at q x)) (sym is)
+      | inl is ↦ ap (λ x. without at (handles_at q' x)) is ∙ ap (without at) here ∙ without-push at (handles_at q place) (placed.gone place at refl) ∙ ap (λ x. without at (handles_at q x)) (sym is)
       | inr differs ↦ ap (without at) (elsewhere p differs)
     ])
     (λ k _. same k)
 
 -- a record is added, or removed, that stands in no list
 module _ (q q' : Queues) (at : ℕ) (slot : Option Lock) (updates : Updates q.locks q'.locks at slot) (linked : (p : Place) → IsLinked queue_links q.locks (list_at q p))
-    (unlisted : (p : Place) → ¬ IsIn at (keys_at q p)) (lists : (p : Place) → list_at q' p ≡ list_at q p) where
-  pub updated_keys : (p : Place) → keys_at q' p ≡ keys_at q p
-  updated_keys p =
-      ap (keys_of queue_links q'.locks) (lists p) ∙ updated-keys queue_links q.locks q'.locks at slot updates (list_at q p) (linked p) (unlisted p)
+    (unlisted : (p : Place) → ¬ IsIn at (handles_at q p)) (lists : (p : Place) → list_at q' p ≡ list_at q p) where
+  pub updated_handles : (p : Place) → handles_at q' p ≡ handles_at q p
+  updated_handles p =
+      ap (handles_of queue_links q'.locks) (lists p) ∙ updated-handles queue_links q.locks q'.locks at slot updates (list_at q p) (linked p) (unlisted p)
 
-  other_key : (p : Place) (k : ℕ) → IsIn k (keys_at q p) → k ≢ at
-  other_key p k found same = unlisted p (subst (λ x. IsIn x (keys_at q p)) same found)
+  other_handle : (p : Place) (k : ℕ) → IsIn k (handles_at q p) → k ≢ at
+  other_handle p k found same = unlisted p (subst (λ x. IsIn x (handles_at q p)) same found)
 
   -- the record is new
   pub added_placed : IsPlaced q None → IsPlaced q' (Some at)
@@ -295,18 +295,18 @@ module _ (q q' : Queues) (at : ℕ) (slot : Option Lock) (updates : Updates q.lo
 
   module _ (resources : q'.resources ≡ q.resources) where
     part_updated : (weight : Queue → Row → ℕ) (r : ℕ) (queue : Queue)
-        → total (weight queue) (rows q') (keys_at q' (Queued r queue)) ≡ total (weight queue) (rows q) (keys_at q (Queued r queue))
+        → total (weight queue) (rows q') (handles_at q' (Queued r queue)) ≡ total (weight queue) (rows q) (handles_at q (Queued r queue))
     part_updated weight r queue =
-        ap (total (weight queue) (rows q')) (updated_keys (Queued r queue))
-        ∙ total-kept (weight queue) (rows q) (rows q') (keys_at q (Queued r queue)) (λ k found. ap row_in (updates.others k (other_key (Queued r queue) k found)))
+        ap (total (weight queue) (rows q')) (updated_handles (Queued r queue))
+        ∙ total-kept (weight queue) (rows q) (rows q') (handles_at q (Queued r queue)) (λ k found. ap row_in (updates.others k (other_handle (Queued r queue) k found)))
 
     all_or_but : (weight : Queue → Row → ℕ) (r : ℕ) → shares q weight (Some at) r ≡ shares q weight None r
     all_or_but weight r =
         omega (
           arith,
-          ap (total (weight Granted) (rows q)) (without_absent at (keys_at q (Queued r Granted)) (unlisted (Queued r Granted))),
-          ap (total (weight Conversion) (rows q)) (without_absent at (keys_at q (Queued r Conversion)) (unlisted (Queued r Conversion))),
-          ap (total (weight Waiting) (rows q)) (without_absent at (keys_at q (Queued r Waiting)) (unlisted (Queued r Waiting))),
+          ap (total (weight Granted) (rows q)) (without_absent at (handles_at q (Queued r Granted)) (unlisted (Queued r Granted))),
+          ap (total (weight Conversion) (rows q)) (without_absent at (handles_at q (Queued r Conversion)) (unlisted (Queued r Conversion))),
+          ap (total (weight Waiting) (rows q)) (without_absent at (handles_at q (Queued r Waiting)) (unlisted (Queued r Waiting))),
         )
 
     shares_updated : (weight : Queue → Row → ℕ) (r : ℕ) → shares q' weight None r ≡ shares q weight None r
@@ -320,12 +320,12 @@ module _ (q q' : Queues) (at : ℕ) (slot : Option Lock) (updates : Updates q.lo
 
     all_or_but' : (weight : Queue → Row → ℕ) (r : ℕ) → shares q' weight (Some at) r ≡ shares q' weight None r
     all_or_but' weight r =
-        let unlisted' : (p : Place) → ¬ IsIn at (keys_at q' p) = λ p found. unlisted p (subst (IsIn at) (updated_keys p) found) in
+        let unlisted' : (p : Place) → ¬ IsIn at (handles_at q' p) = λ p found. unlisted p (subst (IsIn at) (updated_handles p) found) in
         omega (
           arith,
-          ap (total (weight Granted) (rows q')) (without_absent at (keys_at q' (Queued r Granted)) (unlisted' (Queued r Granted))),
-          ap (total (weight Conversion) (rows q')) (without_absent at (keys_at q' (Queued r Conversion)) (unlisted' (Queued r Conversion))),
-          ap (total (weight Waiting) (rows q')) (without_absent at (keys_at q' (Queued r Waiting)) (unlisted' (Queued r Waiting))),
+          ap (total (weight Granted) (rows q')) (without_absent at (handles_at q' (Queued r Granted)) (unlisted' (Queued r Granted))),
+          ap (total (weight Conversion) (rows q')) (without_absent at (handles_at q' (Queued r Conversion)) (unlisted' (Queued r Conversion))),
+          ap (total (weight Waiting) (rows q')) (without_absent at (handles_at q' (Queued r Waiting)) (unlisted' (Queued r Waiting))),
         )
 
     pub added_tallied : IsTallied q None → IsTallied q' (Some at)

@@ -8,13 +8,13 @@ use Rattle.indexmap.specs.IndexMap.{IndexMap, get as found}
 use Rattle.slab.proofs.SlabLemmas.{Updates-with_value}
 use Rattle.vlm_links.specs.declared.link.Links.{Links}
 use Rattle.vlm_links.specs.declared.lists.LinkedList.{LinkedList}
-use Rattle.vlm_links.specs.Lists.{IsIn, IsLinked, IsNoList, keys_of, next_in, prev_in}
-use Rattle.vlm_links.proofs.Rings.{kept-keys, kept-linked, no_list-linked, same-keys, same-linked}
+use Rattle.vlm_links.specs.Lists.{IsIn, IsLinked, IsNoList, handles_of, next_in, prev_in}
+use Rattle.vlm_links.proofs.Rings.{kept-handles, kept-linked, no_list-linked, same-handles, same-linked}
 use Rattle.vlm_store.specs.declared.locks.Lock.{Lock}
 use Rattle.vlm_store.specs.declared.processes.Process.{Process}
 use Rattle.vlm_store.specs.declared.resources.InOrder.{InOrder}
 use Rattle.vlm_store.specs.Shown.{no_list}
-use Rattle.vlm_store.specs.Holdings.{IsBelow, IsNamed, IsOwned, OwnerFits, ParentFits, below_links, below_list, but_order, holding, own_in, own_keys, own_links, own_list, owner_in, parent_in, pid_at, pid_of, plain_in, plain_process, process_links, process_of, processes_of}
+use Rattle.vlm_store.specs.Holdings.{IsBelow, IsNamed, IsOwned, OwnerFits, ParentFits, below_links, below_list, but_order, holding, own_in, own_handles, own_links, own_list, owner_in, parent_in, pid_at, pid_of, plain_in, plain_process, process_links, process_under, processes_of}
 use Rattle.vlm_store.specs.Kept.{IsKept}
 use Rattle.vlm_store.specs.declared.store.Store.TheInside.{Inside}
 use Rattle.vlm_store.proofs.Indexing.{Indexes-same}
@@ -27,10 +27,10 @@ use Rattle.vlm_store.proofs.OwnLocks.{written_same}
 
 module _ (processes : Slab Process) (locks : Slab Lock) (no_processes : (p : ℕ) → get processes p ≡ None) (no_locks : (k : ℕ) → get locks k ≡ None) where
   pub empty_owned : IsOwned processes locks None
-  empty_owned = family-empty own_links owner_in locks (own_list processes) (λ p. rw (no_processes p) (record { no_first = refl; no_last = refl; no_keys = refl })) no_locks (λ p. none-some p)
+  empty_owned = family-empty own_links owner_in locks (own_list processes) (λ p. rw (no_processes p) (record { no_first = refl; no_last = refl; no_handles = refl })) no_locks (λ p. none-some p)
 
   pub empty_below : IsBelow locks None
-  empty_below = family-empty below_links parent_in locks (below_list locks) (λ k. rw (no_locks k) (record { no_first = refl; no_last = refl; no_keys = refl })) no_locks (λ p. none-some p)
+  empty_below = family-empty below_links parent_in locks (below_list locks) (λ k. rw (no_locks k) (record { no_first = refl; no_last = refl; no_handles = refl })) no_locks (λ p. none-some p)
 
   pub empty_named : IsNamed processes locks
   empty_named = record {
@@ -42,12 +42,12 @@ module _ (processes : Slab Process) (locks : Slab Lock) (no_processes : (p : ℕ
     pub empty_processes_linked : IsLinked process_links processes order
     empty_processes_linked = (no_list-linked process_links processes order none).0
 
-    pub empty_processes_ordered : (p : ℕ) → ContainsKey processes p → IsIn p (keys_of process_links processes order)
+    pub empty_processes_ordered : (p : ℕ) → ContainsKey processes p → IsIn p (handles_of process_links processes order)
     empty_processes_ordered p there = let nothing : IsSome {T = Process} None = rw (no_processes p) at there in absurd (cc)
 
     pub empty_processes : processes_of (holding processes locks order) ≡ []
     unfolding processes_of
-    empty_processes = ap (λ ks. map (process_of (holding processes locks order)) ks) ((no_list-linked process_links processes order none).1)
+    empty_processes = ap (λ ks. map (process_under (holding processes locks order)) ks) ((no_list-linked process_links processes order none).1)
 
 -- ---- the processes change, but for their locks
 
@@ -55,8 +55,8 @@ module _ (processes processes' : Slab Process) (locks : Slab Lock) (owns : (p : 
   pub process_owned : IsOwned processes locks None → IsOwned processes' locks None
   process_owned owned = family-kept own_links owner_in locks (own_list processes) None owned locks (own_list processes') owns (λ i k _. refl) (λ i k _. refl) (λ i k _ here. here) (λ k. refl)
 
-  pub process_own_keys : (p : ℕ) → own_keys processes' locks p ≡ own_keys processes locks p
-  process_own_keys p = ap (keys_of own_links locks) (owns p)
+  pub process_own_handles : (p : ℕ) → own_handles processes' locks p ≡ own_handles processes locks p
+  process_own_handles p = ap (handles_of own_links locks) (owns p)
 
 -- the owners stay
 owner_stays : (processes processes' : Slab Process) (slot : Option Lock) → ((l : Lock) → slot ≡ Some l → option_map pid_of (get processes' l.owner) ≡ option_map pid_of (get processes l.owner))
@@ -115,7 +115,7 @@ module _ (processes processes' : Slab Process) (at : ℕ) (others : (p : ℕ) �
   names_stay locks apart = process_named processes processes' locks (λ k l here. pid_by_order (get processes' l.owner) (get processes l.owner) (others l.owner (apart k l here)))
 
 -- a process without locks
-pub no_own : (processes : Slab Process) (locks : Slab Lock) (at : ℕ) → IsOwned processes locks None → own_keys processes locks at ≡ [] → own_in (get processes at) ≡ no_list
+pub no_own : (processes : Slab Process) (locks : Slab Lock) (at : ℕ) → IsOwned processes locks None → own_handles processes locks at ≡ [] → own_in (get processes at) ≡ no_list
 no_own processes locks at owned none = no_list_has own_links locks (own_list processes at) (owned.linked at) none
 
 -- a process is written, but for its locks, its place in the order and its identification
@@ -161,11 +161,11 @@ module _ (processes : Slab Process) (at : ℕ) (was now : Process) (here : get p
     pub written_linked : IsLinked process_links rewritten list
     written_linked = kept-linked process_links processes rewritten list linked (λ p _. next_same p) (λ p _. prev_same p) (λ p _. still_there p)
 
-    pub written_keys : keys_of process_links rewritten list ≡ keys_of process_links processes list
-    written_keys = kept-keys process_links processes rewritten list linked (λ p _. next_same p) (λ p _. prev_same p) (λ p _. still_there p)
+    pub written_handles : handles_of process_links rewritten list ≡ handles_of process_links processes list
+    written_handles = kept-handles process_links processes rewritten list linked (λ p _. next_same p) (λ p _. prev_same p) (λ p _. still_there p)
 
-    pub written_whole : ((p : ℕ) → ContainsKey processes p → IsIn p (keys_of process_links processes list)) → (p : ℕ) → ContainsKey rewritten p → IsIn p (keys_of process_links rewritten list)
-    written_whole ordered p there = subst (IsIn p) (sym written_keys) (ordered p (was_there p there))
+    pub written_whole : ((p : ℕ) → ContainsKey processes p → IsIn p (handles_of process_links processes list)) → (p : ℕ) → ContainsKey rewritten p → IsIn p (handles_of process_links rewritten list)
+    written_whole ordered p there = subst (IsIn p) (sym written_handles) (ordered p (was_there p there))
 
 -- there is more room for processes
 module _ (s : Inside) (kept : IsKept s) (processes : Slab Process) (process_index : IndexMap ℕ ℕ _) (same : (p : ℕ) → get processes p ≡ get s.processes p)
@@ -182,6 +182,6 @@ module _ (s : Inside) (kept : IsKept s) (processes : Slab Process) (process_inde
     below = kept.below;
     named = process_named s.processes processes s.queues.locks (λ k l _. ap (option_map pid_of) (same l.owner)) kept.named;
     processes_linked = same-linked process_links s.processes processes s.process_order kept.processes_linked (λ p _. same p);
-    processes_ordered = λ p there. rw (same-keys process_links s.processes processes s.process_order kept.processes_linked (λ x _. same x)) (kept.processes_ordered p (rw (same p) at there));
+    processes_ordered = λ p there. rw (same-handles process_links s.processes processes s.process_order kept.processes_linked (λ x _. same x)) (kept.processes_ordered p (rw (same p) at there));
     processes = Indexes-same (found nat_eq s.process_index) (found nat_eq process_index) (pid_at s.processes) (pid_at processes) finds (λ p. ap (option_map pid_of) (same p)) kept.processes;
   }

@@ -4,7 +4,7 @@ use Rattle.std.proofs.lemmas.Bool.{cases_eq}
 use Rattle.std.proofs.lemmas.Option.{none-some, same_Some}
 use Rattle.std.specs.Option.{option_map}
 use Rattle.slab.specs.Slab.{Slab, get, ContainsKey}
-use Rattle.vlm_links.specs.Lists.{IsIn, Relinks, keys_of, next_in, prev_in}
+use Rattle.vlm_links.specs.Lists.{IsIn, Relinks, handles_of, next_in, prev_in}
 use Rattle.vlm_links.proofs.Keeping.{vacant_unlisted}
 use Rattle.vlm_words.specs.declared.locks.Row.{Row}
 use Rattle.vlm_store.specs.declared.locks.Lock.{Lock}
@@ -13,9 +13,9 @@ use Rattle.vlm_store.specs.declared.store.Store.TheInside.{Inside}
 use Rattle.vlm_store.specs.Kept.{IsKept, processes_shown, records_shown}
 use Rattle.vlm_store.specs.Records.{IsParentOf, IsProcess, process_with_lock}
 use Rattle.vlm_store.specs.Shown.{SameBut, but_kin, but_queued, lkid_of, new_lock}
-use Rattle.vlm_store.specs.Holdings.{IsBelow, IsNamed, IsOwned, NamesParent, below_in, below_keys, below_links, below_list, but_below, but_own, holding, named_lock, own_keys, own_links, own_list, owner_in, parent_in, processes_of, with_own_links}
-use Rattle.vlm_store.proofs.Families.{family-grown, family-other_keys}
-use Rattle.vlm_store.proofs.Kinship.{below-queued, below_kin, below_named, below_next-queued, below_own_keys, below_owned, below_prev-queued, by_part, lkid-named, lkid-queued, named-added, named-kept, own_below_keys, own_kin, own_named, own_next-queued, own_pids, own_plain, own_prev-queued, own_process_keys, owner-queued, owner_fits, parent-queued, parent_fits, queued_below, queued_below_keys, queued_own_keys, queued_owned, there_by_part}
+use Rattle.vlm_store.specs.Holdings.{IsBelow, IsNamed, IsOwned, NamesParent, below_in, below_handles, below_links, below_list, but_below, but_own, holding, named_lock, own_handles, own_links, own_list, owner_in, parent_in, processes_of, with_own_links}
+use Rattle.vlm_store.proofs.Families.{family-grown, family-other_handles}
+use Rattle.vlm_store.proofs.Kinship.{below-queued, below_kin, below_named, below_next-queued, below_own_handles, below_owned, below_prev-queued, by_part, lkid-named, lkid-queued, named-added, named-kept, own_below_handles, own_kin, own_named, own_next-queued, own_pids, own_plain, own_prev-queued, own_process_handles, owner-queued, owner_fits, parent-queued, parent_fits, queued_below, queued_below_handles, queued_own_handles, queued_owned, there_by_part}
 use Rattle.vlm_store.proofs.Living.{lock_there, process_named}
 use Rattle.vlm_store.proofs.Members.{lock_joined}
 use Rattle.vlm_store.proofs.Places.{lkid_of_row, named-queued, same_then, there_through}
@@ -50,10 +50,10 @@ module _ (s : Inside) (kept : IsKept s) (locks1 locks2 : Slab Lock) (at : ℕ) (
   pub new_parent : parent_in (get locks2 at) ≡ parent
   new_parent = by_part but_queued parent_in parent-queued (get locks2 at) (Some (new_lock row owner parent)) lock
 
-  unowned : (p : ℕ) → ¬ IsIn at (own_keys s.processes locks1 p)
+  unowned : (p : ℕ) → ¬ IsIn at (own_handles s.processes locks1 p)
   unowned p = vacant_unlisted own_links locks1 (own_list s.processes p) (owned1.linked p) at fresh
 
-  unlisted_below : (k : ℕ) → ¬ IsIn at (below_keys locks1 k)
+  unlisted_below : (k : ℕ) → ¬ IsIn at (below_handles locks1 k)
   unlisted_below k = vacant_unlisted below_links locks1 (below_list locks1 k) (below1.linked k) at fresh
 
   own_nexts : (k : ℕ) → k ≢ at → next_in own_links (get locks2 k) ≡ next_in own_links (get locks1 k)
@@ -86,18 +86,18 @@ module _ (s : Inside) (kept : IsKept s) (locks1 locks2 : Slab Lock) (at : ℕ) (
       family-grown below_links parent_in locks1 (below_list locks1) None below1 locks2 (below_list locks2) heads at unlisted_below below_nexts below_prevs still_there
       (λ k differs. by_part but_queued parent_in parent-queued (get locks2 k) (get locks1 k) (kin k differs)) refl
 
-  pub new_own_keys : (p : ℕ) → own_keys s.processes locks2 p ≡ own_keys s.processes s.queues.locks p
-  new_own_keys p =
-      family-other_keys own_links owner_in locks1 (own_list s.processes) None owned1 locks2 (own_list s.processes) (λ p. refl) at unowned own_nexts own_prevs still_there p
-      ∙ queued_own_keys s.processes s.queues.locks locks1 roomy None kept.owned p
+  pub new_own_handles : (p : ℕ) → own_handles s.processes locks2 p ≡ own_handles s.processes s.queues.locks p
+  new_own_handles p =
+      family-other_handles own_links owner_in locks1 (own_list s.processes) None owned1 locks2 (own_list s.processes) (λ p. refl) at unowned own_nexts own_prevs still_there p
+      ∙ queued_own_handles s.processes s.queues.locks locks1 roomy None kept.owned p
 
-  pub new_below_keys : (k : ℕ) → below_keys locks2 k ≡ below_keys s.queues.locks k
-  new_below_keys k =
-      family-other_keys below_links parent_in locks1 (below_list locks1) None below1 locks2 (below_list locks2) heads at unlisted_below below_nexts below_prevs still_there k
-      ∙ queued_below_keys s.processes s.queues.locks locks1 roomy None kept.below k
+  pub new_below_handles : (k : ℕ) → below_handles locks2 k ≡ below_handles s.queues.locks k
+  new_below_handles k =
+      family-other_handles below_links parent_in locks1 (below_list locks1) None below1 locks2 (below_list locks2) heads at unlisted_below below_nexts below_prevs still_there k
+      ∙ queued_below_handles s.processes s.queues.locks locks1 roomy None kept.below k
 
-  pub childless : below_keys locks2 at ≡ []
-  childless = ap (keys_of below_links locks2) (by_part but_queued below_in below-queued (get locks2 at) (Some (new_lock row owner parent)) lock)
+  pub childless : below_handles locks2 at ≡ []
+  childless = ap (handles_of below_links locks2) (by_part but_queued below_in below-queued (get locks2 at) (Some (new_lock row owner parent)) lock)
 
   -- the parent is there, and is another lock
   pub parent_was_there : (k : ℕ) → parent ≡ Some k → ContainsKey s.queues.locks k
@@ -148,10 +148,10 @@ module _ (s : Inside) (kept : IsKept s) (locks1 locks2 : Slab Lock) (at : ℕ) (
 
   -- it is linked
   module _ (processes3 : Slab Process) (locks3 locks4 : Slab Lock) (owned3 : IsOwned processes3 locks3 None)
-      (here3 : (p : ℕ) → owner_in (get locks2 at) ≡ Some p → own_keys processes3 locks3 p ≡ own_keys s.processes locks2 p ++ at ∷ [])
-      (others3 : (p : ℕ) → owner_in (get locks2 at) ≢ Some p → own_keys processes3 locks3 p ≡ own_keys s.processes locks2 p) (relinks3 : Relinks with_own_links locks2 locks3)
-      (rest3 : SameBut but_own s.processes processes3) (here4 : (k : ℕ) → parent_in (get locks3 at) ≡ Some k → below_keys locks4 k ≡ below_keys locks3 k ++ at ∷ [])
-      (others4 : (k : ℕ) → parent_in (get locks3 at) ≢ Some k → below_keys locks4 k ≡ below_keys locks3 k) (rest4 : SameBut but_below locks3 locks4) where
+      (here3 : (p : ℕ) → owner_in (get locks2 at) ≡ Some p → own_handles processes3 locks3 p ≡ own_handles s.processes locks2 p ++ at ∷ [])
+      (others3 : (p : ℕ) → owner_in (get locks2 at) ≢ Some p → own_handles processes3 locks3 p ≡ own_handles s.processes locks2 p) (relinks3 : Relinks with_own_links locks2 locks3)
+      (rest3 : SameBut but_own s.processes processes3) (here4 : (k : ℕ) → parent_in (get locks3 at) ≡ Some k → below_handles locks4 k ≡ below_handles locks3 k ++ at ∷ [])
+      (others4 : (k : ℕ) → parent_in (get locks3 at) ≢ Some k → below_handles locks4 k ≡ below_handles locks3 k) (rest4 : SameBut but_below locks3 locks4) where
     parent3 : parent_in (get locks3 at) ≡ parent
     parent3 = by_part named_lock parent_in parent-named (get locks3 at) (get locks2 at) (own_named locks2 locks3 relinks3 at) ∙ new_parent
 
@@ -170,15 +170,15 @@ module _ (s : Inside) (kept : IsKept s) (locks1 locks2 : Slab Lock) (at : ℕ) (
     pub joined_lkids : (k : ℕ) → option_map lkid_of (get locks4 k) ≡ option_map lkid_of (get locks2 k)
     joined_lkids k = by_part named_lock (option_map lkid_of) lkid-named (get locks4 k) (get locks2 k) (names34 k)
 
-    below34 : (k : ℕ) → below_keys locks3 k ≡ below_keys s.queues.locks k
-    below34 k = own_below_keys locks2 locks3 relinks3 (Some at) new_below k ∙ new_below_keys k
+    below34 : (k : ℕ) → below_handles locks3 k ≡ below_handles s.queues.locks k
+    below34 k = own_below_handles locks2 locks3 relinks3 (Some at) new_below k ∙ new_below_handles k
 
     -- what a caller sees of processes
     pub joined_processes : processes_of (holding processes3 locks4 s.process_order) ≡ map (process_with_lock owner parent at) (processes_shown s)
     joined_processes =
         lock_joined (holding s.processes s.queues.locks s.process_order) (holding processes3 locks4 s.process_order) owner parent at (own_plain s.processes processes3 rest3)
-        (own_process_keys s.processes processes3 rest3 s.process_order kept.processes_linked)
-        (below_own_keys processes3 locks3 locks4 rest4 None owned3 owner ∙ here3 owner new_owner ∙ ap (λ ks. ks ++ at ∷ []) (new_own_keys owner))
-        (λ p differs. below_own_keys processes3 locks3 locks4 rest4 None owned3 p ∙ others3 p (λ is. differs (sym (same_Some owner p (sym new_owner ∙ is)))) ∙ new_own_keys p)
-        (others4 at (λ is. no_own_parent (sym parent3 ∙ is)) ∙ own_below_keys locks2 locks3 relinks3 (Some at) new_below at ∙ childless)
+        (own_process_handles s.processes processes3 rest3 s.process_order kept.processes_linked)
+        (below_own_handles processes3 locks3 locks4 rest4 None owned3 owner ∙ here3 owner new_owner ∙ ap (λ ks. ks ++ at ∷ []) (new_own_handles owner))
+        (λ p differs. below_own_handles processes3 locks3 locks4 rest4 None owned3 p ∙ others3 p (λ is. differs (sym (same_Some owner p (sym new_owner ∙ is)))) ∙ new_own_handles p)
+        (others4 at (λ is. no_own_parent (sym parent3 ∙ is)) ∙ own_below_handles locks2 locks3 relinks3 (Some at) new_below at ∙ childless)
         (λ k is. here4 k (parent3 ∙ is) ∙ ap (λ ks. ks ++ at ∷ []) (below34 k)) (λ k differs. others4 k (λ is. differs (sym parent3 ∙ is)) ∙ below34 k)

@@ -3,9 +3,9 @@ use Rattle.std.proofs.Common.{◌≡◌, ◌≤◌, ℕ, [], map, replicate, ari
 use Rattle.std.proofs.lemmas.Option.{none-some, same_Some}
 use Rattle.std.specs.Option.{option_map}
 use Rattle.slab.specs.Slab.{Slab, get, ContainsKey}
-use Rattle.vlm_links.specs.declared.link.TheConstants.{LAST_KEY}
+use Rattle.vlm_links.specs.declared.link.TheConstants.{LAST_HANDLE}
 use Rattle.vlm_links.specs.declared.lists.LinkedList.{LinkedList}
-use Rattle.vlm_links.specs.Lists.{IsIn, IsLinked, IsNoList, keys_of, next_in, prev_in}
+use Rattle.vlm_links.specs.Lists.{IsIn, IsLinked, IsNoList, handles_of, next_in, prev_in}
 use Rattle.vlm_links.proofs.Rings.{no_list-linked}
 use Rattle.vlm_words.specs.declared.locks.Row.{Row}
 use Rattle.vlm_words.specs.declared.modes.Mode.{Mode}
@@ -13,31 +13,31 @@ use Rattle.vlm_words.specs.declared.modes.Mode.TheVariants.{Nl, Cr, Cw, Pr, Pw, 
 use Rattle.vlm_words.specs.declared.resources.Queue.{Queue}
 use Rattle.vlm_words.specs.declared.resources.Queue.TheVariants.{Granted, Conversion, Waiting}
 use Rattle.vlm_words.specs.declared.resources.Key.{Key}
-use Rattle.vlm_store.specs.declared.keys.Place.{Place}
-use Rattle.vlm_store.specs.declared.keys.Place.TheVariants.{Loose, Queued}
+use Rattle.vlm_store.specs.declared.handles.Place.{Place}
+use Rattle.vlm_store.specs.declared.handles.Place.TheVariants.{Loose, Queued}
 use Rattle.vlm_store.specs.declared.locks.Lock.{Lock}
 use Rattle.vlm_store.specs.declared.queues.Queues.{Queues}
 use Rattle.vlm_store.specs.declared.resources.InOrder.{InOrder}
 use Rattle.vlm_store.specs.declared.resources.Resource.{Resource}
 use Rattle.vlm_store.specs.Index.{Indexes}
 use Rattle.vlm_store.specs.Records.{FindsLock, FindsResource, HasPlace, HasResource, StoredResource, Stores, nothing}
-use Rattle.vlm_store.specs.Shown.{IsPlaced, IsTallied, IsThere, SameBut, but_queues, face_in, keys_at, list_at, noted_in, order_links, queue_links, row_in, rows, shares, tally_in}
-use Rattle.vlm_store.specs.Store.{Beside, key_at, keyed, lkid_at, records_of, resource_of, tables}
+use Rattle.vlm_store.specs.Shown.{IsPlaced, IsTallied, IsThere, SameBut, but_queues, face_in, handles_at, list_at, noted_in, order_links, queue_links, row_in, rows, shares, tally_in}
+use Rattle.vlm_store.specs.Store.{Beside, key_at, under_handle, lkid_at, records_of, resource_of, tables}
 use Rattle.vlm_store.proofs.Layouts.{HasPlace-seen, IsSeen, Stores-listed, among_resource, listed-Stores, resource_at-found, resource_among}
 use Rattle.vlm_tallies.specs.Tallies.{count_of, held_of, held_weight, total, wanted_of, wanted_weight}
 use Rattle.vlm_store.proofs.Counting.{shares_same}
 use Rattle.vlm_store.proofs.Families.{family-empty}
-use Rattle.vlm_store.proofs.Places.{kept_keys, kept_placed, lists_same, lkid_of_row, lkid_told, noted_there, stands_there, through}
+use Rattle.vlm_store.proofs.Places.{kept_handles, kept_placed, lists_same, lkid_of_row, lkid_told, noted_there, stands_there, through}
 
 module _ (q : Queues) (order : LinkedList InOrder) (beside : Beside) (placed : IsPlaced q None) where
   -- a lock that a caller sees is there
-  pub stored_there : (at : ℕ) (row : Row) → Stores (records_of (tables q order beside)) at row → ContainsKey q.locks at × (at ≤ LAST_KEY) × (rows q at ≡ row)
+  pub stored_there : (at : ℕ) (row : Row) → Stores (records_of (tables q order beside)) at row → ContainsKey q.locks at × (at ≤ LAST_HANDLE) × (rows q at ≡ row)
   stored_there at row stored =
       let listed = Stores-listed (tables q order beside) at row stored in
       let linked = placed.linked listed.0 in
       (linked.present at listed.1.0, linked.within at listed.1.0, listed.1.1)
 
-  module _ (linked : IsLinked order_links q.resources order) (ordered : (r : ℕ) → ContainsKey q.resources r → IsIn r (keys_of order_links q.resources order)) where
+  module _ (linked : IsLinked order_links q.resources order) (ordered : (r : ℕ) → ContainsKey q.resources r → IsIn r (handles_of order_links q.resources order)) where
     -- a lock that is there is seen by a caller
     pub there_stored : (at : ℕ) → ContainsKey q.locks at → Stores (records_of (tables q order beside)) at (rows q at)
     there_stored at there =
@@ -92,11 +92,11 @@ module _ (q : Queues) (order : LinkedList InOrder) (beside : Beside) (placed : I
     key_of_face None there = cc
     key_of_face (Some r) there = refl
 
-    -- the record of a resource that a caller sees has its key
+    -- the record of a resource that a caller sees has its handle
     key_seen : (r : StoredResource) → IsIn r (records_of (tables q order beside)).resources → key_at q r.at ≡ Some r.key
     unfolding records_of
     key_seen r among =
-        let there = resource_among (tables q order beside) (keys_of order_links q.resources order) r among in
+        let there = resource_among (tables q order beside) (handles_of order_links q.resources order) r among in
         key_of_face (get q.resources r.at) (linked.present r.at there.0) ∙ ap (λ (x : StoredResource). Some x.key) there.1
 
     -- no two resources have one key
@@ -110,7 +110,7 @@ module _ (q : Queues) (order : LinkedList InOrder) (beside : Beside) (placed : I
     finds_resource found indexes key None is = λ r among same. none-some r.at (is ∙ indexes.complete key r.at (key_seen r among ∙ ap Some same))
     finds_resource found indexes key (Some at) is =
         let there = key_there (get q.resources at) key (indexes.sound key at (sym is)) in
-        (resource_of (tables q order beside) at, (among_resource (tables q order beside) (keys_of order_links q.resources order) at (ordered at there.0), refl, there.1))
+        (resource_of (tables q order beside) at, (among_resource (tables q order beside) (handles_of order_links q.resources order) at (ordered at there.0), refl, there.1))
 
     pub found_there : (found : Key → Option ℕ) → Indexes found (key_at q) → (key : Key) (result : Option ℕ) → result ≡ found key → IfSome result (λ res. HasResource res (records_of (tables q order beside)))
     found_there found indexes key None is = tt
@@ -131,10 +131,10 @@ module _ (q : Queues) (order : LinkedList InOrder) (beside : Beside) (placed : I
 module _ (q : Queues) (no_locks : (k : ℕ) → get q.locks k ≡ None) (no_resources : (r : ℕ) → get q.resources r ≡ None) (loose : IsNoList q.loose) where
   empty_list : (p : Place) → IsNoList (list_at q p)
   empty_list Loose = loose
-  empty_list (Queued r queue) = rw (no_resources r) (record { no_first = refl; no_last = refl; no_keys = refl })
+  empty_list (Queued r queue) = rw (no_resources r) (record { no_first = refl; no_last = refl; no_handles = refl })
 
-  pub empty_keys : (p : Place) → keys_at q p ≡ []
-  empty_keys p = (no_list-linked queue_links q.locks (list_at q p) (empty_list p)).1
+  pub empty_handles : (p : Place) → handles_at q p ≡ []
+  empty_handles p = (no_list-linked queue_links q.locks (list_at q p) (empty_list p)).1
 
   pub empty_placed : IsPlaced q None
   empty_placed = family-empty queue_links noted_in q.locks (list_at q) empty_list no_locks (λ p. none-some p)
@@ -143,9 +143,9 @@ module _ (q : Queues) (no_locks : (k : ℕ) → get q.locks k ≡ None) (no_reso
   empty_shares weight r =
       omega (
         arith,
-        ap (total (weight Granted) (rows q)) (empty_keys (Queued r Granted)),
-        ap (total (weight Conversion) (rows q)) (empty_keys (Queued r Conversion)),
-        ap (total (weight Waiting) (rows q)) (empty_keys (Queued r Waiting)),
+        ap (total (weight Granted) (rows q)) (empty_handles (Queued r Granted)),
+        ap (total (weight Conversion) (rows q)) (empty_handles (Queued r Conversion)),
+        ap (total (weight Waiting) (rows q)) (empty_handles (Queued r Waiting)),
       )
 
   no_count : (mode : Mode) → count_of (replicate 6 0) mode ≡ 0
@@ -166,15 +166,15 @@ module _ (q : Queues) (no_locks : (k : ℕ) → get q.locks k ≡ None) (no_reso
     pub empty_linked : IsLinked order_links q.resources order
     empty_linked = (no_list-linked order_links q.resources order none).0
 
-    pub empty_ordered : (r : ℕ) → ContainsKey q.resources r → IsIn r (keys_of order_links q.resources order)
+    pub empty_ordered : (r : ℕ) → ContainsKey q.resources r → IsIn r (handles_of order_links q.resources order)
     empty_ordered r there = let nothing : IsSome {T = Resource} None = rw (no_resources r) at there in absurd (cc)
 
     pub empty_records : (beside : Beside) → beside.processes ≡ [] → records_of (tables q order beside) ≡ record nothing { room = (records_of (tables q order beside)).room }
     unfolding records_of
     empty_records beside no_processes =
-        ap (λ rs. record { resources = map (resource_of (tables q order beside)) rs; loose = map (keyed (rows q)) (keys_at q Loose); processes = beside.processes; room = beside.room })
+        ap (λ rs. record { resources = map (resource_of (tables q order beside)) rs; loose = map (under_handle (rows q)) (handles_at q Loose); processes = beside.processes; room = beside.room })
         (no_list-linked order_links q.resources order none).1
-        ∙ ap (λ ks. record { resources = []; loose = map (keyed (rows q)) ks; processes = beside.processes; room = beside.room }) (empty_keys Loose)
+        ∙ ap (λ ks. record { resources = []; loose = map (under_handle (rows q)) ks; processes = beside.processes; room = beside.room }) (empty_handles Loose)
         ∙ ap (λ ps. record { resources = []; loose = []; processes = ps; room = beside.room }) no_processes
 
 pub Indexes-empty : {K : Type 0} (found : K → Option ℕ) (label : ℕ → Option K) → ((k : K) → found k ≡ None) → ((at : ℕ) → label at ≡ None) → Indexes found label
@@ -199,15 +199,15 @@ module _ (q : Queues) (locks : Slab Lock) (same : (k : ℕ) → get locks k ≡ 
       kept_placed q None placed (record q { locks = locks }) (lists_same q (record q { locks = locks }) refl refl) (λ k. ap (next_in queue_links) (same k)) (λ k. ap (prev_in queue_links) (same k))
       (λ k here. rw (same k) here) (λ k. ap noted_in (same k))
 
-  pub reserved_keys : (p : Place) → keys_at (record q { locks = locks }) p ≡ keys_at q p
-  reserved_keys =
-      kept_keys q None placed (record q { locks = locks }) (lists_same q (record q { locks = locks }) refl refl) (λ k. ap (next_in queue_links) (same k)) (λ k. ap (prev_in queue_links) (same k))
+  pub reserved_handles : (p : Place) → handles_at (record q { locks = locks }) p ≡ handles_at q p
+  reserved_handles =
+      kept_handles q None placed (record q { locks = locks }) (lists_same q (record q { locks = locks }) refl refl) (λ k. ap (next_in queue_links) (same k)) (λ k. ap (prev_in queue_links) (same k))
       (λ k here. rw (same k) here)
 
   pub reserved_tallied : IsTallied q None → IsTallied (record q { locks = locks }) None
   reserved_tallied tallied = record {
-    held = λ r mode. tallied.held r mode ∙ sym (shares_same q (record q { locks = locks }) (held_weight mode) None r reserved_keys (λ k _. ap row_in (same k)));
-    wanted = λ r mode. tallied.wanted r mode ∙ sym (shares_same q (record q { locks = locks }) (wanted_weight mode) None r reserved_keys (λ k _. ap row_in (same k)));
+    held = λ r mode. tallied.held r mode ∙ sym (shares_same q (record q { locks = locks }) (held_weight mode) None r reserved_handles (λ k _. ap row_in (same k)));
+    wanted = λ r mode. tallied.wanted r mode ∙ sym (shares_same q (record q { locks = locks }) (wanted_weight mode) None r reserved_handles (λ k _. ap row_in (same k)));
   }
 
 -- what an answer says where it is one of success

@@ -6,24 +6,24 @@ use Rattle.std.proofs.lemmas.Option.{none-some, same_Some}
 use Rattle.std.specs.Option.{option_map}
 use Rattle.slab.specs.Slab.{Slab, get, ContainsKey}
 use Rattle.vlm_links.specs.declared.lists.LinkedList.{LinkedList}
-use Rattle.vlm_links.specs.Lists.{IsIn, IsLinked, Relinks, keys_of, next_in, prev_in}
+use Rattle.vlm_links.specs.Lists.{IsIn, IsLinked, Relinks, handles_of, next_in, prev_in}
 use Rattle.vlm_links.proofs.Keeping.{relinked_same}
-use Rattle.vlm_links.proofs.Rings.{kept-keys, kept-linked}
+use Rattle.vlm_links.proofs.Rings.{kept-handles, kept-linked}
 use Rattle.vlm_words.specs.declared.locks.Row.{Row}
-use Rattle.vlm_store.specs.declared.keys.Place.{Place}
+use Rattle.vlm_store.specs.declared.handles.Place.{Place}
 use Rattle.vlm_store.specs.declared.locks.Lock.{Lock}
 use Rattle.vlm_store.specs.declared.processes.Process.{Process}
 use Rattle.vlm_store.specs.declared.queues.Queues.{Queues}
 use Rattle.vlm_store.specs.declared.resources.InOrder.{InOrder}
 use Rattle.vlm_store.specs.Records.{IsSameLock, StoredProcess}
-use Rattle.vlm_store.specs.Shown.{IsPlaced, IsTallied, SameBut, but_kin, but_queued, keys_at, lkid_of, named_row, noted_in, queue_links, row_in}
-use Rattle.vlm_store.specs.Holdings.{IsBelow, IsNamed, IsOwned, NamesParent, OwnerFits, ParentFits, below_in, below_keys, below_links, below_list, but_below, but_own, holding, named_lock, own_keys, own_links, own_list, owner_in, parent_in, pid_of, plain_in, process_links, processes_of, with_own_links}
+use Rattle.vlm_store.specs.Shown.{IsPlaced, IsTallied, SameBut, but_kin, but_queued, handles_at, lkid_of, named_row, noted_in, queue_links, row_in}
+use Rattle.vlm_store.specs.Holdings.{IsBelow, IsNamed, IsOwned, NamesParent, OwnerFits, ParentFits, below_in, below_handles, below_links, below_list, but_below, but_own, holding, named_lock, own_handles, own_links, own_list, owner_in, parent_in, pid_of, plain_in, process_links, processes_of, with_own_links}
 use Rattle.vlm_store.specs.Store.{Beside, Layout, records_of, tables}
 use Rattle.vlm_tallies.specs.Tallies.{held_weight, wanted_weight}
 use Rattle.vlm_store.proofs.Counting.{shares_same}
-use Rattle.vlm_store.proofs.Families.{family-kept, family-keys}
+use Rattle.vlm_store.proofs.Families.{family-kept, family-handles}
 use Rattle.vlm_store.proofs.Members.{processes_same}
-use Rattle.vlm_store.proofs.Places.{kept_keys, kept_placed, lists_same, lkid_told, named-queued, there_through, through}
+use Rattle.vlm_store.proofs.Places.{kept_handles, kept_placed, lists_same, lkid_told, named-queued, there_through, through}
 
 -- the processes that a caller sees
 pub records_processes : (l : Layout) → (records_of l).processes ≡ l.processes
@@ -175,14 +175,14 @@ module _ (processes : Slab Process) (locks locks' : Slab Lock) (same : SameBut b
         family-kept below_links parent_in locks (below_list locks) out below locks' (below_list locks') below_lists (λ i k _. through but_queued (next_in below_links) below_next-queued locks locks' same k)
         (λ i k _. through but_queued (prev_in below_links) below_prev-queued locks locks' same k) (λ i k _. there_through but_queued locks locks' same k) (through but_queued parent_in parent-queued locks locks' same)
 
-    pub queued_own_keys : IsOwned processes locks out → (p : ℕ) → own_keys processes locks' p ≡ own_keys processes locks p
-    queued_own_keys owned =
-        family-keys own_links owner_in locks (own_list processes) out owned locks' (own_list processes) (λ p. refl) (λ i k _. through but_queued (next_in own_links) own_next-queued locks locks' same k)
+    pub queued_own_handles : IsOwned processes locks out → (p : ℕ) → own_handles processes locks' p ≡ own_handles processes locks p
+    queued_own_handles owned =
+        family-handles own_links owner_in locks (own_list processes) out owned locks' (own_list processes) (λ p. refl) (λ i k _. through but_queued (next_in own_links) own_next-queued locks locks' same k)
         (λ i k _. through but_queued (prev_in own_links) own_prev-queued locks locks' same k) (λ i k _. there_through but_queued locks locks' same k)
 
-    pub queued_below_keys : IsBelow locks out → (k : ℕ) → below_keys locks' k ≡ below_keys locks k
-    queued_below_keys below =
-        family-keys below_links parent_in locks (below_list locks) out below locks' (below_list locks') below_lists (λ i k _. through but_queued (next_in below_links) below_next-queued locks locks' same k)
+    pub queued_below_handles : IsBelow locks out → (k : ℕ) → below_handles locks' k ≡ below_handles locks k
+    queued_below_handles below =
+        family-handles below_links parent_in locks (below_list locks) out below locks' (below_list locks') below_lists (λ i k _. through but_queued (next_in below_links) below_next-queued locks locks' same k)
         (λ i k _. through but_queued (prev_in below_links) below_prev-queued locks locks' same k) (λ i k _. there_through but_queued locks locks' same k)
 
   pub queued_named : IsNamed processes locks → IsNamed processes locks'
@@ -194,7 +194,7 @@ module _ (processes : Slab Process) (locks locks' : Slab Lock) (same : SameBut b
   -- a caller sees the same of processes
   pub queued_processes : (order : LinkedList InOrder) → IsOwned processes locks None → IsBelow locks None → processes_of (holding processes locks' order) ≡ processes_of (holding processes locks order)
   queued_processes order owned below =
-      processes_same (holding processes locks order) (holding processes locks' order) (queued_below_keys None below) (λ p. refl) (queued_own_keys None owned) refl
+      processes_same (holding processes locks order) (holding processes locks' order) (queued_below_handles None below) (λ p. refl) (queued_own_handles None owned) refl
 
 -- ---- the kin changes
 
@@ -219,9 +219,9 @@ module _ (q : Queues) (locks' : Slab Lock) (same : SameBut but_kin q.locks locks
   kin_rows = through but_kin row_in row-kin q.locks locks' same
 
   module _ (placed : IsPlaced q None) where
-    pub kin_keys : (p : Place) → keys_at (record q { locks = locks' }) p ≡ keys_at q p
-    kin_keys =
-        kept_keys q None placed (record q { locks = locks' }) (lists_same q (record q { locks = locks' }) refl refl) (through but_kin (next_in queue_links) next-kin q.locks locks' same)
+    pub kin_handles : (p : Place) → handles_at (record q { locks = locks' }) p ≡ handles_at q p
+    kin_handles =
+        kept_handles q None placed (record q { locks = locks' }) (lists_same q (record q { locks = locks' }) refl refl) (through but_kin (next_in queue_links) next-kin q.locks locks' same)
         (through but_kin (prev_in queue_links) prev-kin q.locks locks' same) (there_through but_kin q.locks locks' same)
 
     pub kin_placed : IsPlaced (record q { locks = locks' }) None
@@ -231,8 +231,8 @@ module _ (q : Queues) (locks' : Slab Lock) (same : SameBut but_kin q.locks locks
 
     pub kin_tallied : IsTallied q None → IsTallied (record q { locks = locks' }) None
     kin_tallied tallied = record {
-      held = λ r mode. tallied.held r mode ∙ sym (shares_same q (record q { locks = locks' }) (held_weight mode) None r kin_keys (λ k _. kin_rows k));
-      wanted = λ r mode. tallied.wanted r mode ∙ sym (shares_same q (record q { locks = locks' }) (wanted_weight mode) None r kin_keys (λ k _. kin_rows k));
+      held = λ r mode. tallied.held r mode ∙ sym (shares_same q (record q { locks = locks' }) (held_weight mode) None r kin_handles (λ k _. kin_rows k));
+      wanted = λ r mode. tallied.wanted r mode ∙ sym (shares_same q (record q { locks = locks' }) (wanted_weight mode) None r kin_handles (λ k _. kin_rows k));
     }
 
 -- the locks of a process are relinked
@@ -258,9 +258,9 @@ module _ (locks locks' : Slab Lock) (relinks : Relinks with_own_links locks lock
         family-kept below_links parent_in locks (below_list locks) out below locks' (below_list locks') below_heads (λ i k _. below_next k) (λ i k _. below_prev k) (λ i k _. there_through but_kin locks locks' own_kin k)
         (relinked_same with_own_links parent_in (λ l pair. refl) locks locks' relinks)
 
-    pub own_below_keys : (k : ℕ) → below_keys locks' k ≡ below_keys locks k
-    own_below_keys =
-        family-keys below_links parent_in locks (below_list locks) out below locks' (below_list locks') below_heads (λ i k _. below_next k) (λ i k _. below_prev k) (λ i k _. there_through but_kin locks locks' own_kin k)
+    pub own_below_handles : (k : ℕ) → below_handles locks' k ≡ below_handles locks k
+    own_below_handles =
+        family-handles below_links parent_in locks (below_list locks) out below locks' (below_list locks') below_heads (λ i k _. below_next k) (λ i k _. below_prev k) (λ i k _. there_through but_kin locks locks' own_kin k)
 
 -- the locks below a parent are relinked
 own_next-below : (slot : Option Lock) → next_in own_links (option_map but_below slot) ≡ next_in own_links slot
@@ -296,9 +296,9 @@ module _ (processes : Slab Process) (locks locks' : Slab Lock) (same : SameBut b
         family-kept own_links owner_in locks (own_list processes) out owned locks' (own_list processes) (λ p. refl) (λ i k _. through but_below (next_in own_links) own_next-below locks locks' same k)
         (λ i k _. through but_below (prev_in own_links) own_prev-below locks locks' same k) (λ i k _. there_through but_below locks locks' same k) (through but_below owner_in owner-below locks locks' same)
 
-    pub below_own_keys : (p : ℕ) → own_keys processes locks' p ≡ own_keys processes locks p
-    below_own_keys =
-        family-keys own_links owner_in locks (own_list processes) out owned locks' (own_list processes) (λ p. refl) (λ i k _. through but_below (next_in own_links) own_next-below locks locks' same k)
+    pub below_own_handles : (p : ℕ) → own_handles processes locks' p ≡ own_handles processes locks p
+    below_own_handles =
+        family-handles own_links owner_in locks (own_list processes) out owned locks' (own_list processes) (λ p. refl) (λ i k _. through but_below (next_in own_links) own_next-below locks locks' same k)
         (λ i k _. through but_below (prev_in own_links) own_prev-below locks locks' same k) (λ i k _. there_through but_below locks locks' same k)
 
 -- processes keep their order where their locks are written
@@ -311,9 +311,9 @@ process_prev-own None = refl
 process_prev-own (Some p) = refl
 
 module _ (processes processes' : Slab Process) (same : SameBut but_own processes processes') (order : LinkedList InOrder) (linked : IsLinked process_links processes order) where
-  pub own_process_keys : keys_of process_links processes' order ≡ keys_of process_links processes order
-  own_process_keys =
-      kept-keys process_links processes processes' order linked (λ p _. through but_own (next_in process_links) process_next-own processes processes' same p)
+  pub own_process_handles : handles_of process_links processes' order ≡ handles_of process_links processes order
+  own_process_handles =
+      kept-handles process_links processes processes' order linked (λ p _. through but_own (next_in process_links) process_next-own processes processes' same p)
       (λ p _. through but_own (prev_in process_links) process_prev-own processes processes' same p) (λ p _. there_through but_own processes processes' same p)
 
   pub own_process_linked : IsLinked process_links processes' order
@@ -321,8 +321,8 @@ module _ (processes processes' : Slab Process) (same : SameBut but_own processes
       kept-linked process_links processes processes' order linked (λ p _. through but_own (next_in process_links) process_next-own processes processes' same p)
       (λ p _. through but_own (prev_in process_links) process_prev-own processes processes' same p) (λ p _. there_through but_own processes processes' same p)
 
-  pub own_process_whole : ((p : ℕ) → ContainsKey processes p → IsIn p (keys_of process_links processes order)) → (p : ℕ) → ContainsKey processes' p → IsIn p (keys_of process_links processes' order)
-  own_process_whole ordered p there = subst (IsIn p) (sym own_process_keys) (ordered p (there_through but_own processes' processes (λ k. sym (same k)) p there))
+  pub own_process_whole : ((p : ℕ) → ContainsKey processes p → IsIn p (handles_of process_links processes order)) → (p : ℕ) → ContainsKey processes' p → IsIn p (handles_of process_links processes' order)
+  own_process_whole ordered p there = subst (IsIn p) (sym own_process_handles) (ordered p (there_through but_own processes' processes (λ k. sym (same k)) p there))
 
 -- what processes tell stays where their locks are written
 plain-own : (slot : Option Process) → plain_in (option_map but_own slot) ≡ plain_in slot

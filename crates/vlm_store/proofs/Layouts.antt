@@ -3,89 +3,89 @@ use Rattle.std.proofs.Common.{◌≡◌, ◌≢◌, ◌⊎◌, ℕ, List, [], �
 use Rattle.std.specs.Prelude.{◌==◌}
 use Rattle.std.specs.Option.{option_map_or}
 use Rattle.std.proofs.lemmas.Bool.{cases_eq}
-use Rattle.vlm_links.specs.Lists.{IsIn, IsApart, first_key, key_after, without}
+use Rattle.vlm_links.specs.Lists.{IsIn, IsApart, first_handle, handle_after, without}
 use Rattle.vlm_links.proofs.Images.{IsIn-image, IsIn-told}
-use Rattle.vlm_links.proofs.KeyLists.{IsIn-without, without_head, without_past}
+use Rattle.vlm_links.proofs.HandleLists.{IsIn-without, without_head, without_past}
 use Rattle.vlm_words.specs.declared.locks.Row.{Row}
 use Rattle.vlm_words.specs.declared.resources.Queue.{Queue}
 use Rattle.vlm_words.specs.declared.resources.Queue.TheVariants.{Granted, Conversion, Waiting}
-use Rattle.vlm_store.specs.declared.keys.Place.{Place}
-use Rattle.vlm_store.specs.declared.keys.Place.TheVariants.{Loose, Queued}
+use Rattle.vlm_store.specs.declared.handles.Place.{Place}
+use Rattle.vlm_store.specs.declared.handles.Place.TheVariants.{Loose, Queued}
 use Rattle.vlm_store.specs.Records.{AreOwnApart, StoredProcess, Records, StoredLock, StoredResource, AreApart, AreOwned, AreProcessesApart, AreResourcesApart, HasPlace, HasResource, IsSound, Stores, at_after, first_at, first_resource_at, resource_at_after, is_place, leaving, locks_at, moving, on_resource, queued, resource_at, resource_with, with_lists, without_lock, without_resource}
-use Rattle.vlm_store.specs.Store.{Layout, keyed, records_of, resource_of}
+use Rattle.vlm_store.specs.Store.{Layout, under_handle, records_of, resource_of}
 use Rattle.vlm_store.proofs.Places.{place_cases}
 use Rattle.vlm_store.proofs.Records.{is_place-other, is_place-same}
 
--- ---- locks under their keys
+-- ---- locks under their handles
 
-pub keyed-append : (rows : ℕ → Row) (ks : List ℕ) (at : ℕ) → map (keyed rows) (ks ++ at ∷ []) ≡ map (keyed rows) ks ++ keyed rows at ∷ []
-keyed-append rows [] at = refl
-keyed-append rows (k ∷ ks) at = ap (λ rest. keyed rows k ∷ rest) (keyed-append rows ks at)
+pub under_handle-append : (rows : ℕ → Row) (ks : List ℕ) (at : ℕ) → map (under_handle rows) (ks ++ at ∷ []) ≡ map (under_handle rows) ks ++ under_handle rows at ∷ []
+under_handle-append rows [] at = refl
+under_handle-append rows (k ∷ ks) at = ap (λ rest. under_handle rows k ∷ rest) (under_handle-append rows ks at)
 
-pub keyed-without : (rows : ℕ → Row) (at : ℕ) (ks : List ℕ) → without_lock at (map (keyed rows) ks) ≡ map (keyed rows) (without at ks)
-keyed-without rows at [] = refl
-keyed-without rows at (k ∷ ks) =
-    elim (k == at) as (λ b. cond (not b) (keyed rows k ∷ without_lock at (map (keyed rows) ks)) (without_lock at (map (keyed rows) ks))
-    ≡ map (keyed rows) (cond (not b) (k ∷ without at ks) (without at ks))) [
-      | true ↦ keyed-without rows at ks
-      | false ↦ ap (λ rest. keyed rows k ∷ rest) (keyed-without rows at ks)
+pub under_handle-without : (rows : ℕ → Row) (at : ℕ) (ks : List ℕ) → without_lock at (map (under_handle rows) ks) ≡ map (under_handle rows) (without at ks)
+under_handle-without rows at [] = refl
+under_handle-without rows at (k ∷ ks) =
+    elim (k == at) as (λ b. cond (not b) (under_handle rows k ∷ without_lock at (map (under_handle rows) ks)) (without_lock at (map (under_handle rows) ks))
+    ≡ map (under_handle rows) (cond (not b) (k ∷ without at ks) (without at ks))) [
+      | true ↦ under_handle-without rows at ks
+      | false ↦ ap (λ rest. under_handle rows k ∷ rest) (under_handle-without rows at ks)
     ]
 
-pub keyed-kept : (rows rows' : ℕ → Row) (ks : List ℕ) → ((k : ℕ) → IsIn k ks → rows' k ≡ rows k) → map (keyed rows') ks ≡ map (keyed rows) ks
-keyed-kept rows rows' [] same = refl
-keyed-kept rows rows' (k ∷ ks) same =
-    ap (λ r. record { at = k; row = r } ∷ map (keyed rows') ks) (same k (inl refl)) ∙ ap (λ rest. keyed rows k ∷ rest) (keyed-kept rows rows' ks (λ x h. same x (inr h)))
+pub under_handle-kept : (rows rows' : ℕ → Row) (ks : List ℕ) → ((k : ℕ) → IsIn k ks → rows' k ≡ rows k) → map (under_handle rows') ks ≡ map (under_handle rows) ks
+under_handle-kept rows rows' [] same = refl
+under_handle-kept rows rows' (k ∷ ks) same =
+    ap (λ r. record { at = k; row = r } ∷ map (under_handle rows') ks) (same k (inl refl)) ∙ ap (λ rest. under_handle rows k ∷ rest) (under_handle-kept rows rows' ks (λ x h. same x (inr h)))
 
 -- a lock that a caller sees is there, with its row
-pub keyed-among : (rows : ℕ → Row) (ks : List ℕ) (lock : StoredLock) → IsIn lock (map (keyed rows) ks) → IsIn lock.at ks × (rows lock.at ≡ lock.row)
-keyed-among rows ks lock found = let of = IsIn-told (keyed rows) (λ (x : StoredLock). x.at) (λ k. refl) ks lock found in (of.0, ap (λ (x : StoredLock). x.row) of.1)
+pub under_handle-among : (rows : ℕ → Row) (ks : List ℕ) (lock : StoredLock) → IsIn lock (map (under_handle rows) ks) → IsIn lock.at ks × (rows lock.at ≡ lock.row)
+under_handle-among rows ks lock found = let of = IsIn-told (under_handle rows) (λ (x : StoredLock). x.at) (λ k. refl) ks lock found in (of.0, ap (λ (x : StoredLock). x.row) of.1)
 
-pub among-keyed : (rows : ℕ → Row) (ks : List ℕ) (at : ℕ) → IsIn at ks → IsIn (record { at = at; row = rows at }) (map (keyed rows) ks)
-among-keyed rows = IsIn-image (keyed rows)
+pub among-under_handle : (rows : ℕ → Row) (ks : List ℕ) (at : ℕ) → IsIn at ks → IsIn (record { at = at; row = rows at }) (map (under_handle rows) ks)
+among-under_handle rows = IsIn-image (under_handle rows)
 
 -- the first lock, and the one that follows another
-pub keyed-first : (rows : ℕ → Row) (ks : List ℕ) → first_at (map (keyed rows) ks) ≡ first_key ks
-keyed-first rows [] = refl
-keyed-first rows (k ∷ ks) = refl
+pub under_handle-first : (rows : ℕ → Row) (ks : List ℕ) → first_at (map (under_handle rows) ks) ≡ first_handle ks
+under_handle-first rows [] = refl
+under_handle-first rows (k ∷ ks) = refl
 
-pub keyed-after : (rows : ℕ → Row) (at : ℕ) (ks : List ℕ) → at_after at (map (keyed rows) ks) ≡ key_after at ks
-keyed-after rows at [] = refl
-keyed-after rows at (k ∷ ks) =
-    elim (k == at) as (λ b. cond b (first_at (map (keyed rows) ks)) (at_after at (map (keyed rows) ks)) ≡ cond b (first_key ks) (key_after at ks)) [
-      | true ↦ keyed-first rows ks
-      | false ↦ keyed-after rows at ks
+pub under_handle-after : (rows : ℕ → Row) (at : ℕ) (ks : List ℕ) → at_after at (map (under_handle rows) ks) ≡ handle_after at ks
+under_handle-after rows at [] = refl
+under_handle-after rows at (k ∷ ks) =
+    elim (k == at) as (λ b. cond b (first_at (map (under_handle rows) ks)) (at_after at (map (under_handle rows) ks)) ≡ cond b (first_handle ks) (handle_after at ks)) [
+      | true ↦ under_handle-first rows ks
+      | false ↦ under_handle-after rows at ks
     ]
 
-keyed-apart : (rows : ℕ → Row) (ks : List ℕ) → IsApart ks → AreApart (map (keyed rows) ks)
-keyed-apart rows [] apart = tt
-keyed-apart rows (k ∷ ks) apart = (λ row found. apart.0 (keyed-among rows ks (record { at = k; row = row }) found).0, keyed-apart rows ks apart.1)
+under_handle-apart : (rows : ℕ → Row) (ks : List ℕ) → IsApart ks → AreApart (map (under_handle rows) ks)
+under_handle-apart rows [] apart = tt
+under_handle-apart rows (k ∷ ks) apart = (λ row found. apart.0 (under_handle-among rows ks (record { at = k; row = row }) found).0, under_handle-apart rows ks apart.1)
 
 -- ---- all lists change
 
 -- what a list becomes
-pub moving-keyed : (rows rows' : ℕ → Row) (keys keys' : Place → List ℕ) (at : ℕ) (row : Row) (to : Place) → rows' at ≡ row → ((k : ℕ) → k ≢ at → rows' k ≡ rows k)
-    → keys' to ≡ without at (keys to) ++ at ∷ [] → ((p : Place) → p ≢ to → keys' p ≡ without at (keys p))
-    → (p : Place) → map (keyed rows') (keys' p) ≡ moving to (record { at = at; row = row }) p (map (keyed rows) (keys p))
-moving-keyed rows rows' keys keys' at row to here others joined left p =
+pub moving-under_handle : (rows rows' : ℕ → Row) (handles handles' : Place → List ℕ) (at : ℕ) (row : Row) (to : Place) → rows' at ≡ row → ((k : ℕ) → k ≢ at → rows' k ≡ rows k)
+    → handles' to ≡ without at (handles to) ++ at ∷ [] → ((p : Place) → p ≢ to → handles' p ≡ without at (handles p))
+    → (p : Place) → map (under_handle rows') (handles' p) ≡ moving to (record { at = at; row = row }) p (map (under_handle rows) (handles p))
+moving-under_handle rows rows' handles handles' at row to here others joined left p =
     elim (place_cases p to) [
       | inl same ↦
           rw (ap (λ x. is_place x to) same ∙ is_place-same to)
-          (ap (λ x. map (keyed rows') (keys' x)) same ∙ ap (map (keyed rows')) joined ∙ keyed-append rows' (without at (keys to)) at
-          ∙ ap (λ xs. xs ++ keyed rows' at ∷ []) (rest to) ∙ ap (λ r. without_lock at (map (keyed rows) (keys to)) ++ record { at = at; row = r } ∷ []) here
-          ∙ ap (λ x. without_lock at (map (keyed rows) (keys x)) ++ record { at = at; row = row } ∷ []) (sym same))
-      | inr differs ↦ rw (is_place-other p to differs) (ap (map (keyed rows')) (left p differs) ∙ rest p)
+          (ap (λ x. map (under_handle rows') (handles' x)) same ∙ ap (map (under_handle rows')) joined ∙ under_handle-append rows' (without at (handles to)) at
+          ∙ ap (λ xs. xs ++ under_handle rows' at ∷ []) (rest to) ∙ ap (λ r. without_lock at (map (under_handle rows) (handles to)) ++ record { at = at; row = r } ∷ []) here
+          ∙ ap (λ x. without_lock at (map (under_handle rows) (handles x)) ++ record { at = at; row = row } ∷ []) (sym same))
+      | inr differs ↦ rw (is_place-other p to differs) (ap (map (under_handle rows')) (left p differs) ∙ rest p)
     ]
   where
-    rest : (p : Place) → map (keyed rows') (without at (keys p)) ≡ without_lock at (map (keyed rows) (keys p))
-    rest p = keyed-kept rows rows' (without at (keys p)) (λ k found. others k (IsIn-without at k (keys p) found).1) ∙ sym (keyed-without rows at (keys p))
+    rest : (p : Place) → map (under_handle rows') (without at (handles p)) ≡ without_lock at (map (under_handle rows) (handles p))
+    rest p = under_handle-kept rows rows' (without at (handles p)) (λ k found. others k (IsIn-without at k (handles p) found).1) ∙ sym (under_handle-without rows at (handles p))
 
-pub leaving-keyed : (rows rows' : ℕ → Row) (keys keys' : Place → List ℕ) (at : ℕ) → ((k : ℕ) → k ≢ at → rows' k ≡ rows k) → ((p : Place) → keys' p ≡ without at (keys p))
-    → (p : Place) → map (keyed rows') (keys' p) ≡ leaving at p (map (keyed rows) (keys p))
-leaving-keyed rows rows' keys keys' at others left p =
-    ap (map (keyed rows')) (left p) ∙ keyed-kept rows rows' (without at (keys p)) (λ k found. others k (IsIn-without at k (keys p) found).1) ∙ sym (keyed-without rows at (keys p))
+pub leaving-under_handle : (rows rows' : ℕ → Row) (handles handles' : Place → List ℕ) (at : ℕ) → ((k : ℕ) → k ≢ at → rows' k ≡ rows k) → ((p : Place) → handles' p ≡ without at (handles p))
+    → (p : Place) → map (under_handle rows') (handles' p) ≡ leaving at p (map (under_handle rows) (handles p))
+leaving-under_handle rows rows' handles handles' at others left p =
+    ap (map (under_handle rows')) (left p) ∙ under_handle-kept rows rows' (without at (handles p)) (λ k found. others k (IsIn-without at k (handles p) found).1) ∙ sym (under_handle-without rows at (handles p))
 
 module _ (old new : Layout) (change : Place → List StoredLock → List StoredLock) (faces : (r : ℕ) → new.faces r ≡ old.faces r)
-    (lists : (p : Place) → map (keyed new.rows) (new.keys p) ≡ change p (map (keyed old.rows) (old.keys p))) where
+    (lists : (p : Place) → map (under_handle new.rows) (new.handles p) ≡ change p (map (under_handle old.rows) (old.handles p))) where
   changed_resource : (r : ℕ) → resource_of new r ≡ resource_with change (resource_of old r)
   changed_resource r = rw (faces r, lists (Queued r Granted), lists (Queued r Conversion), lists (Queued r Waiting)) refl
 
@@ -97,7 +97,7 @@ module _ (old new : Layout) (change : Place → List StoredLock → List StoredL
   pub lists_changed_beside : new.order ≡ old.order → records_of new ≡ record (with_lists change (records_of old)) { processes = new.processes; room = (records_of new).room }
   unfolding records_of
   lists_changed_beside order =
-      ap (λ x. record { resources = x; loose = map (keyed new.rows) (new.keys Loose); processes = new.processes; room = new.room }) (ap (map (resource_of new)) order ∙ changed_resources old.order)
+      ap (λ x. record { resources = x; loose = map (under_handle new.rows) (new.handles Loose); processes = new.processes; room = new.room }) (ap (map (resource_of new)) order ∙ changed_resources old.order)
       ∙ ap (λ x. record { resources = map (resource_with change) (map (resource_of old) old.order); loose = x; processes = new.processes; room = new.room }) (lists Loose)
 
   pub lists_changed : new.order ≡ old.order → new.processes ≡ old.processes → new.room ≡ old.room → records_of new ≡ with_lists change (records_of old)
@@ -109,18 +109,18 @@ module _ (old new : Layout) (change : Place → List StoredLock → List StoredL
 
 -- a lock joins the loose ones
 pub loose_joined : (old new : Layout) (at : ℕ) (row : Row) → ((r : ℕ) → new.faces r ≡ old.faces r) → new.order ≡ old.order → new.rows at ≡ row → ((k : ℕ) → k ≢ at → new.rows k ≡ old.rows k)
-    → ((p : Place) → ¬ IsIn at (old.keys p)) → new.keys Loose ≡ old.keys Loose ++ at ∷ [] → ((p : Place) → p ≢ Loose → new.keys p ≡ old.keys p)
+    → ((p : Place) → ¬ IsIn at (old.handles p)) → new.handles Loose ≡ old.handles Loose ++ at ∷ [] → ((p : Place) → p ≢ Loose → new.handles p ≡ old.handles p)
     → records_of new ≡ record (records_of old) { loose = (records_of old).loose ++ record { at = at; row = row } ∷ []; processes = new.processes; room = (records_of new).room }
 unfolding records_of
 loose_joined old new at row faces order here others unlisted joined stay =
-    ap (λ x. record { resources = x; loose = map (keyed new.rows) (new.keys Loose); processes = new.processes; room = new.room }) (ap (map (resource_of new)) order ∙ resources old.order)
+    ap (λ x. record { resources = x; loose = map (under_handle new.rows) (new.handles Loose); processes = new.processes; room = new.room }) (ap (map (resource_of new)) order ∙ resources old.order)
     ∙ ap (λ x. record { resources = map (resource_of old) old.order; loose = x; processes = new.processes; room = new.room }) loose
   where
-    other : (p : Place) (k : ℕ) → IsIn k (old.keys p) → new.rows k ≡ old.rows k
-    other p k found = others k (λ same. unlisted p (subst (λ x. IsIn x (old.keys p)) same found))
+    other : (p : Place) (k : ℕ) → IsIn k (old.handles p) → new.rows k ≡ old.rows k
+    other p k found = others k (λ same. unlisted p (subst (λ x. IsIn x (old.handles p)) same found))
 
-    list_same : (p : Place) → p ≢ Loose → map (keyed new.rows) (new.keys p) ≡ map (keyed old.rows) (old.keys p)
-    list_same p differs = ap (map (keyed new.rows)) (stay p differs) ∙ keyed-kept old.rows new.rows (old.keys p) (other p)
+    list_same : (p : Place) → p ≢ Loose → map (under_handle new.rows) (new.handles p) ≡ map (under_handle old.rows) (old.handles p)
+    list_same p differs = ap (map (under_handle new.rows)) (stay p differs) ∙ under_handle-kept old.rows new.rows (old.handles p) (other p)
 
     resource_same : (r : ℕ) → resource_of new r ≡ resource_of old r
     resource_same r = rw (faces r, list_same (Queued r Granted) (λ e. cc), list_same (Queued r Conversion) (λ e. cc), list_same (Queued r Waiting) (λ e. cc)) refl
@@ -129,11 +129,11 @@ loose_joined old new at row faces order here others unlisted joined stay =
     resources [] = refl
     resources (r ∷ rs) = ap (λ x. x ∷ map (resource_of new) rs) (resource_same r) ∙ ap (λ rest. resource_of old r ∷ rest) (resources rs)
 
-    loose : map (keyed new.rows) (new.keys Loose) ≡ map (keyed old.rows) (old.keys Loose) ++ record { at = at; row = row } ∷ []
+    loose : map (under_handle new.rows) (new.handles Loose) ≡ map (under_handle old.rows) (old.handles Loose) ++ record { at = at; row = row } ∷ []
     loose =
-        ap (map (keyed new.rows)) joined ∙ keyed-append new.rows (old.keys Loose) at
-        ∙ ap (λ xs. xs ++ keyed new.rows at ∷ []) (keyed-kept old.rows new.rows (old.keys Loose) (other Loose))
-        ∙ ap (λ r. map (keyed old.rows) (old.keys Loose) ++ record { at = at; row = r } ∷ []) here
+        ap (map (under_handle new.rows)) joined ∙ under_handle-append new.rows (old.handles Loose) at
+        ∙ ap (λ xs. xs ++ under_handle new.rows at ∷ []) (under_handle-kept old.rows new.rows (old.handles Loose) (other Loose))
+        ∙ ap (λ r. map (under_handle old.rows) (old.handles Loose) ++ record { at = at; row = r } ∷ []) here
 
 -- ---- resources
 
@@ -171,16 +171,16 @@ pub HasPlace-seen : (l : Layout) (p : Place) → HasPlace p (records_of l) → I
 HasPlace-seen l Loose has = tt
 HasPlace-seen l (Queued res queue) has = HasResource-order l res has
 
-queued-keys : (l : Layout) (queue : Queue) (r : ℕ) → queued queue (resource_of l r) ≡ map (keyed l.rows) (l.keys (Queued r queue))
-queued-keys l Granted r = refl
-queued-keys l Conversion r = refl
-queued-keys l Waiting r = refl
+queued-handles : (l : Layout) (queue : Queue) (r : ℕ) → queued queue (resource_of l r) ≡ map (under_handle l.rows) (l.handles (Queued r queue))
+queued-handles l Granted r = refl
+queued-handles l Conversion r = refl
+queued-handles l Waiting r = refl
 
 -- the locks at a place
-pub locks_at-seen : (l : Layout) (p : Place) → IsSeen l p → locks_at p (records_of l) ≡ map (keyed l.rows) (l.keys p)
+pub locks_at-seen : (l : Layout) (p : Place) → IsSeen l p → locks_at p (records_of l) ≡ map (under_handle l.rows) (l.handles p)
 unfolding records_of
 locks_at-seen l Loose seen = refl
-locks_at-seen l (Queued res queue) seen = ap (λ o. option_map_or (queued queue) o []) (resource_found l res l.order seen) ∙ queued-keys l queue res
+locks_at-seen l (Queued res queue) seen = ap (λ o. option_map_or (queued queue) o []) (resource_found l res l.order seen) ∙ queued-handles l queue res
 
 in_cases : (at : ℕ) (ks : List ℕ) → IsIn at ks ⊎ (¬ IsIn at ks)
 in_cases at [] = inr (λ nowhere. nowhere)
@@ -207,10 +207,10 @@ seen_cases l (Queued res queue) =
     ]
 
 -- a lock that a caller sees stands there, with its row
-pub locks_at-among : (l : Layout) (p : Place) (lock : StoredLock) → IsIn lock (locks_at p (records_of l)) → IsIn lock.at (l.keys p) × (l.rows lock.at ≡ lock.row)
+pub locks_at-among : (l : Layout) (p : Place) (lock : StoredLock) → IsIn lock (locks_at p (records_of l)) → IsIn lock.at (l.handles p) × (l.rows lock.at ≡ lock.row)
 locks_at-among l p lock found =
     elim (seen_cases l p) [
-      | inl seen ↦ keyed-among l.rows (l.keys p) lock (rw (locks_at-seen l p seen) at found)
+      | inl seen ↦ under_handle-among l.rows (l.handles p) lock (rw (locks_at-seen l p seen) at found)
       | inr none ↦ let nothing : IsIn lock [] = rw none at found in absurd nothing
     ]
 
@@ -222,7 +222,7 @@ among-seen l p lock found =
       | inr none ↦ let nothing : IsIn lock [] = rw none at found in absurd nothing
     ]
 
-pub Stores-listed : (l : Layout) (at : ℕ) (row : Row) → Stores (records_of l) at row → (p : Place) × (IsIn at (l.keys p) × (l.rows at ≡ row))
+pub Stores-listed : (l : Layout) (at : ℕ) (row : Row) → Stores (records_of l) at row → (p : Place) × (IsIn at (l.handles p) × (l.rows at ≡ row))
 Stores-listed l at row stored = (stored.0, locks_at-among l stored.0 (record { at = at; row = row }) stored.1)
 
 -- a place where a lock stands is there
@@ -234,8 +234,8 @@ HasPlace-among s (Queued res queue) lock among = of_found (resource_at res s.res
     of_found None among = absurd among
     of_found (Some r) among = refl
 
-pub listed-Stores : (l : Layout) (p : Place) (at : ℕ) → IsSeen l p → IsIn at (l.keys p) → Stores (records_of l) at (l.rows at)
-listed-Stores l p at seen found = (p, rw (locks_at-seen l p seen) (among-keyed l.rows (l.keys p) at found))
+pub listed-Stores : (l : Layout) (p : Place) (at : ℕ) → IsSeen l p → IsIn at (l.handles p) → Stores (records_of l) at (l.rows at)
+listed-Stores l p at seen found = (p, rw (locks_at-seen l p seen) (among-under_handle l.rows (l.handles p) at found))
 
 -- the resources that a caller sees
 pub resource_among : (l : Layout) (rs : List ℕ) (r : StoredResource) → IsIn r (map (resource_of l) rs) → IsIn r.at rs × (resource_of l r.at ≡ r)
@@ -252,7 +252,7 @@ resources_apart l (r ∷ rs) apart = (
 )
 
 -- what a caller sees is sound
-pub IsSound-records_of : (l : Layout) → IsApart l.order → ((p : Place) → IsApart (l.keys p)) → ((at : ℕ) (p q : Place) → IsIn at (l.keys p) → IsIn at (l.keys q) → p ≡ q)
+pub IsSound-records_of : (l : Layout) → IsApart l.order → ((p : Place) → IsApart (l.handles p)) → ((at : ℕ) (p q : Place) → IsIn at (l.handles p) → IsIn at (l.handles q) → p ≡ q)
     → ((a b : ℕ) (x y : Row) → Stores (records_of l) a x → Stores (records_of l) b y → x.lkid ≡ y.lkid → a ≡ b)
     → ((a b : StoredResource) → IsIn a (records_of l).resources → IsIn b (records_of l).resources → a.key ≡ b.key → a.at ≡ b.at)
     → AreProcessesApart l.processes → AreOwned (records_of l) → ((p : StoredProcess) → IsIn p l.processes → AreOwnApart p.own) → IsSound (records_of l)
@@ -260,7 +260,7 @@ unfolding records_of
 IsSound-records_of l order_apart places_apart one_place lkids_apart keys_apart processes_apart owned own_apart = record {
   resources_apart = resources_apart l l.order order_apart;
   locks_apart = λ p. elim (seen_cases l p) [
-    | inl seen ↦ rw (locks_at-seen l p seen) (keyed-apart l.rows (l.keys p) (places_apart p))
+    | inl seen ↦ rw (locks_at-seen l p seen) (under_handle-apart l.rows (l.handles p) (places_apart p))
     | inr none ↦ rw none tt
   ];
   one_place = λ at a b p q here there.
@@ -275,38 +275,38 @@ IsSound-records_of l order_apart places_apart one_place lkids_apart keys_apart p
 -- ---- resources change
 
 -- no lock moves, and no row is written
-module _ (old new : Layout) (rows : (k : ℕ) → new.rows k ≡ old.rows k) (keys : (p : Place) → new.keys p ≡ old.keys p) where
-  list_same : (p : Place) → map (keyed new.rows) (new.keys p) ≡ map (keyed old.rows) (old.keys p)
-  list_same p = ap (map (keyed new.rows)) (keys p) ∙ keyed-kept old.rows new.rows (old.keys p) (λ k _. rows k)
+module _ (old new : Layout) (rows : (k : ℕ) → new.rows k ≡ old.rows k) (handles : (p : Place) → new.handles p ≡ old.handles p) where
+  list_same : (p : Place) → map (under_handle new.rows) (new.handles p) ≡ map (under_handle old.rows) (old.handles p)
+  list_same p = ap (map (under_handle new.rows)) (handles p) ∙ under_handle-kept old.rows new.rows (old.handles p) (λ k _. rows k)
 
   -- the other resources stay
   other : (res : ℕ) → ((r : ℕ) → r ≢ res → new.faces r ≡ old.faces r) → (r : ℕ) → r ≢ res → resource_of new r ≡ resource_of old r
   other res faces r differs = rw (faces r differs, list_same (Queued r Granted), list_same (Queued r Conversion), list_same (Queued r Waiting)) refl
 
 -- a resource is made, with empty queues
-pub resource_made : (old new : Layout) (res : ℕ) (made : StoredResource) → ((k : ℕ) → new.rows k ≡ old.rows k) → ((p : Place) → new.keys p ≡ old.keys p) → ((r : ℕ) → r ≢ res → new.faces r ≡ old.faces r)
+pub resource_made : (old new : Layout) (res : ℕ) (made : StoredResource) → ((k : ℕ) → new.rows k ≡ old.rows k) → ((p : Place) → new.handles p ≡ old.handles p) → ((r : ℕ) → r ≢ res → new.faces r ≡ old.faces r)
     → ¬ IsIn res old.order → new.order ≡ old.order ++ res ∷ [] → resource_of new res ≡ made → new.processes ≡ old.processes
     → records_of new ≡ record (records_of old) { resources = (records_of old).resources ++ made ∷ []; room = (records_of new).room }
 unfolding records_of
-resource_made old new res made rows keys faces absent order is processes =
-    ap (λ x. record { resources = x; loose = map (keyed new.rows) (new.keys Loose); processes = new.processes; room = new.room }) (ap (map (resource_of new)) order ∙ resources old.order absent)
-    ∙ ap (λ x. record { resources = map (resource_of old) old.order ++ made ∷ []; loose = x; processes = new.processes; room = new.room }) (list_same old new rows keys Loose)
-    ∙ ap (λ x. record { resources = map (resource_of old) old.order ++ made ∷ []; loose = map (keyed old.rows) (old.keys Loose); processes = x; room = new.room }) processes
+resource_made old new res made rows handles faces absent order is processes =
+    ap (λ x. record { resources = x; loose = map (under_handle new.rows) (new.handles Loose); processes = new.processes; room = new.room }) (ap (map (resource_of new)) order ∙ resources old.order absent)
+    ∙ ap (λ x. record { resources = map (resource_of old) old.order ++ made ∷ []; loose = x; processes = new.processes; room = new.room }) (list_same old new rows handles Loose)
+    ∙ ap (λ x. record { resources = map (resource_of old) old.order ++ made ∷ []; loose = map (under_handle old.rows) (old.handles Loose); processes = x; room = new.room }) processes
   where
     resources : (rs : List ℕ) → ¬ IsIn res rs → map (resource_of new) (rs ++ res ∷ []) ≡ map (resource_of old) rs ++ made ∷ []
     resources [] absent = ap (λ x. x ∷ []) is
     resources (r ∷ rs) absent =
-        ap (λ x. x ∷ map (resource_of new) (rs ++ res ∷ [])) (other old new rows keys res faces r (λ same. absent (inl same))) ∙ ap (λ rest. resource_of old r ∷ rest) (resources rs (λ there. absent (inr there)))
+        ap (λ x. x ∷ map (resource_of new) (rs ++ res ∷ [])) (other old new rows handles res faces r (λ same. absent (inl same))) ∙ ap (λ rest. resource_of old r ∷ rest) (resources rs (λ there. absent (inr there)))
 
 -- a resource is removed
-pub resource_removed : (old new : Layout) (res : ℕ) → ((k : ℕ) → new.rows k ≡ old.rows k) → ((p : Place) → new.keys p ≡ old.keys p) → ((r : ℕ) → r ≢ res → new.faces r ≡ old.faces r)
+pub resource_removed : (old new : Layout) (res : ℕ) → ((k : ℕ) → new.rows k ≡ old.rows k) → ((p : Place) → new.handles p ≡ old.handles p) → ((r : ℕ) → r ≢ res → new.faces r ≡ old.faces r)
     → new.order ≡ without res old.order → new.processes ≡ old.processes
     → records_of new ≡ record (records_of old) { resources = without_resource res (records_of old).resources; room = (records_of new).room }
 unfolding records_of
-resource_removed old new res rows keys faces order processes =
-    ap (λ x. record { resources = x; loose = map (keyed new.rows) (new.keys Loose); processes = new.processes; room = new.room }) (ap (map (resource_of new)) order ∙ resources old.order)
-    ∙ ap (λ x. record { resources = without_resource res (map (resource_of old) old.order); loose = x; processes = new.processes; room = new.room }) (list_same old new rows keys Loose)
-    ∙ ap (λ x. record { resources = without_resource res (map (resource_of old) old.order); loose = map (keyed old.rows) (old.keys Loose); processes = x; room = new.room }) processes
+resource_removed old new res rows handles faces order processes =
+    ap (λ x. record { resources = x; loose = map (under_handle new.rows) (new.handles Loose); processes = new.processes; room = new.room }) (ap (map (resource_of new)) order ∙ resources old.order)
+    ∙ ap (λ x. record { resources = without_resource res (map (resource_of old) old.order); loose = x; processes = new.processes; room = new.room }) (list_same old new rows handles Loose)
+    ∙ ap (λ x. record { resources = without_resource res (map (resource_of old) old.order); loose = map (under_handle old.rows) (old.handles Loose); processes = x; room = new.room }) processes
   where
     resources : (rs : List ℕ) → map (resource_of new) (without res rs) ≡ without_resource res (map (resource_of old) rs)
     resources [] = refl
@@ -315,49 +315,49 @@ resource_removed old new res rows keys faces order processes =
           | inl same ↦ ap (map (resource_of new)) (without_head res r rs same) ∙ resources rs ∙ rw (eq-eqb r res same) refl
           | inr differs ↦
               ap (map (resource_of new)) (without_past res r rs differs)
-              ∙ rw (ne_eqb r res differs) (ap (λ x. x ∷ map (resource_of new) (without res rs)) (other old new rows keys res faces r differs) ∙ ap (λ rest. resource_of old r ∷ rest) (resources rs))
+              ∙ rw (ne_eqb r res differs) (ap (λ x. x ∷ map (resource_of new) (without res rs)) (other old new rows handles res faces r differs) ∙ ap (λ rest. resource_of old r ∷ rest) (resources rs))
         ]
 
 -- the face of one resource is written
-pub resource_written : (old new : Layout) (res : ℕ) (change : StoredResource → StoredResource) → ((k : ℕ) → new.rows k ≡ old.rows k) → ((p : Place) → new.keys p ≡ old.keys p)
+pub resource_written : (old new : Layout) (res : ℕ) (change : StoredResource → StoredResource) → ((k : ℕ) → new.rows k ≡ old.rows k) → ((p : Place) → new.handles p ≡ old.handles p)
     → ((r : ℕ) → r ≢ res → new.faces r ≡ old.faces r) → new.order ≡ old.order
-    → (((p : Place) → map (keyed new.rows) (new.keys p) ≡ map (keyed old.rows) (old.keys p)) → resource_of new res ≡ change (resource_of old res)) → new.processes ≡ old.processes → new.room ≡ old.room
+    → (((p : Place) → map (under_handle new.rows) (new.handles p) ≡ map (under_handle old.rows) (old.handles p)) → resource_of new res ≡ change (resource_of old res)) → new.processes ≡ old.processes → new.room ≡ old.room
     → records_of new ≡ record (records_of old) { resources = on_resource res change (records_of old).resources }
 unfolding records_of
-resource_written old new res change rows keys faces order is processes room =
-    ap (λ x. record { resources = x; loose = map (keyed new.rows) (new.keys Loose); processes = new.processes; room = new.room }) (ap (map (resource_of new)) order ∙ resources old.order)
-    ∙ ap (λ x. record { resources = on_resource res change (map (resource_of old) old.order); loose = x; processes = new.processes; room = new.room }) (list_same old new rows keys Loose)
-    ∙ ap (λ x. record { resources = on_resource res change (map (resource_of old) old.order); loose = map (keyed old.rows) (old.keys Loose); processes = x; room = new.room }) processes
-    ∙ ap (λ x. record { resources = on_resource res change (map (resource_of old) old.order); loose = map (keyed old.rows) (old.keys Loose); processes = old.processes; room = x }) room
+resource_written old new res change rows handles faces order is processes room =
+    ap (λ x. record { resources = x; loose = map (under_handle new.rows) (new.handles Loose); processes = new.processes; room = new.room }) (ap (map (resource_of new)) order ∙ resources old.order)
+    ∙ ap (λ x. record { resources = on_resource res change (map (resource_of old) old.order); loose = x; processes = new.processes; room = new.room }) (list_same old new rows handles Loose)
+    ∙ ap (λ x. record { resources = on_resource res change (map (resource_of old) old.order); loose = map (under_handle old.rows) (old.handles Loose); processes = x; room = new.room }) processes
+    ∙ ap (λ x. record { resources = on_resource res change (map (resource_of old) old.order); loose = map (under_handle old.rows) (old.handles Loose); processes = old.processes; room = x }) room
   where
     resources : (rs : List ℕ) → map (resource_of new) rs ≡ on_resource res change (map (resource_of old) rs)
     resources [] = refl
     resources (r ∷ rs) =
         elim (cases_eq r res) [
           | inl same ↦
-              let head : resource_of new r ≡ change (resource_of old r) = subst (λ x. resource_of new x ≡ change (resource_of old x)) (sym same) (is (list_same old new rows keys)) in
+              let head : resource_of new r ≡ change (resource_of old r) = subst (λ x. resource_of new x ≡ change (resource_of old x)) (sym same) (is (list_same old new rows handles)) in
               rw (eq-eqb r res same) (ap (λ x. x ∷ map (resource_of new) rs) head ∙ ap (λ rest. change (resource_of old r) ∷ rest) (resources rs))
           | inr differs ↦
-              rw (ne_eqb r res differs) (ap (λ x. x ∷ map (resource_of new) rs) (other old new rows keys res faces r differs) ∙ ap (λ rest. resource_of old r ∷ rest) (resources rs))
+              rw (ne_eqb r res differs) (ap (λ x. x ∷ map (resource_of new) rs) (other old new rows handles res faces r differs) ∙ ap (λ rest. resource_of old r ∷ rest) (resources rs))
         ]
 
 -- the first resource, and the one made after another
-first_resource-order : (l : Layout) (rs : List ℕ) → first_resource_at (map (resource_of l) rs) ≡ first_key rs
+first_resource-order : (l : Layout) (rs : List ℕ) → first_resource_at (map (resource_of l) rs) ≡ first_handle rs
 first_resource-order l [] = refl
 first_resource-order l (r ∷ rs) = refl
 
-resource_after-order : (l : Layout) (res : ℕ) (rs : List ℕ) → resource_at_after res (map (resource_of l) rs) ≡ key_after res rs
+resource_after-order : (l : Layout) (res : ℕ) (rs : List ℕ) → resource_at_after res (map (resource_of l) rs) ≡ handle_after res rs
 resource_after-order l res [] = refl
 resource_after-order l res (r ∷ rs) =
-    elim (r == res) as (λ b. cond b (first_resource_at (map (resource_of l) rs)) (resource_at_after res (map (resource_of l) rs)) ≡ cond b (first_key rs) (key_after res rs)) [
+    elim (r == res) as (λ b. cond b (first_resource_at (map (resource_of l) rs)) (resource_at_after res (map (resource_of l) rs)) ≡ cond b (first_handle rs) (handle_after res rs)) [
       | true ↦ first_resource-order l rs
       | false ↦ resource_after-order l res rs
     ]
 
-pub first_resource-is : (l : Layout) → first_resource_at (records_of l).resources ≡ first_key l.order
+pub first_resource-is : (l : Layout) → first_resource_at (records_of l).resources ≡ first_handle l.order
 unfolding records_of
 first_resource-is l = first_resource-order l l.order
 
-pub resource_after-is : (l : Layout) (res : ℕ) → resource_at_after res (records_of l).resources ≡ key_after res l.order
+pub resource_after-is : (l : Layout) (res : ℕ) → resource_at_after res (records_of l).resources ≡ handle_after res l.order
 unfolding records_of
 resource_after-is l res = resource_after-order l res l.order

@@ -11,16 +11,16 @@ use Rattle.vlm_store.specs.declared.store.Store.TheInside.{Inside}
 use Rattle.vlm_store.specs.Kept.{IsKept, processes_shown}
 use Rattle.vlm_store.specs.Records.{process_without_lock}
 use Rattle.vlm_store.specs.Shown.{SameBut, but_kin, but_queued, lkid_of}
-use Rattle.vlm_store.specs.Holdings.{IsBelow, IsNamed, IsOwned, below_in, below_keys, below_links, below_list, but_below, but_own, holding, named_lock, own_keys, own_links, own_list, owner_in, parent_in, processes_of, with_own_links}
-use Rattle.vlm_store.proofs.Families.{family-other_keys, family-shrunk}
-use Rattle.vlm_store.proofs.Kinship.{below-queued, below_kin, below_named, below_next-queued, below_own_keys, below_prev-queued, by_part, lkid-named, named-removed, own_below, own_below_keys, own_kin, own_named, own_next-queued, own_pids, own_plain, own_prev-queued, own_process_keys, owner-queued, parent-queued, there_by_part}
+use Rattle.vlm_store.specs.Holdings.{IsBelow, IsNamed, IsOwned, below_in, below_handles, below_links, below_list, but_below, but_own, holding, named_lock, own_handles, own_links, own_list, owner_in, parent_in, processes_of, with_own_links}
+use Rattle.vlm_store.proofs.Families.{family-other_handles, family-shrunk}
+use Rattle.vlm_store.proofs.Kinship.{below-queued, below_kin, below_named, below_next-queued, below_own_handles, below_prev-queued, by_part, lkid-named, named-removed, own_below, own_below_handles, own_kin, own_named, own_next-queued, own_pids, own_plain, own_prev-queued, own_process_handles, owner-queued, parent-queued, there_by_part}
 use Rattle.vlm_store.proofs.Making.{no_list_has}
 use Rattle.vlm_store.proofs.Members.{lock_left}
 use Rattle.vlm_store.proofs.Places.{named-queued, same_then}
 
-module _ (s : Inside) (kept : IsKept s) (at : ℕ) (childless : below_keys s.queues.locks at ≡ []) (locks1 locks2 locks3 : Slab Lock) (processes2 : Slab Process)
-    (below1 : IsBelow locks1 (Some at)) (left1 : (p : ℕ) → below_keys locks1 p ≡ without at (below_keys s.queues.locks p)) (rest1 : SameBut but_below s.queues.locks locks1)
-    (owned2 : IsOwned processes2 locks2 (Some at)) (left2 : (p : ℕ) → own_keys processes2 locks2 p ≡ without at (own_keys s.processes locks1 p)) (relinks2 : Relinks with_own_links locks1 locks2)
+module _ (s : Inside) (kept : IsKept s) (at : ℕ) (childless : below_handles s.queues.locks at ≡ []) (locks1 locks2 locks3 : Slab Lock) (processes2 : Slab Process)
+    (below1 : IsBelow locks1 (Some at)) (left1 : (p : ℕ) → below_handles locks1 p ≡ without at (below_handles s.queues.locks p)) (rest1 : SameBut but_below s.queues.locks locks1)
+    (owned2 : IsOwned processes2 locks2 (Some at)) (left2 : (p : ℕ) → own_handles processes2 locks2 p ≡ without at (own_handles s.processes locks1 p)) (relinks2 : Relinks with_own_links locks1 locks2)
     (rest2 : SameBut but_own s.processes processes2) (gone3 : get locks3 at ≡ None) (kin3 : (k : ℕ) → k ≢ at → option_map but_queued (get locks3 k) ≡ option_map but_queued (get locks2 k)) where
   -- the queues see nothing of the first two
   pub left_kin : SameBut but_kin s.queues.locks locks2
@@ -49,15 +49,15 @@ module _ (s : Inside) (kept : IsKept s) (at : ℕ) (childless : below_keys s.que
   below2 : IsBelow locks2 (Some at)
   below2 = own_below locks1 locks2 relinks2 (Some at) below1
 
-  below_keys2 : (p : ℕ) → below_keys locks2 p ≡ without at (below_keys s.queues.locks p)
-  below_keys2 p = own_below_keys locks1 locks2 relinks2 (Some at) below1 p ∙ left1 p
+  below_handles2 : (p : ℕ) → below_handles locks2 p ≡ without at (below_handles s.queues.locks p)
+  below_handles2 p = own_below_handles locks1 locks2 relinks2 (Some at) below1 p ∙ left1 p
 
   heads : (k : ℕ) → below_list locks3 k ≡ below_list locks2 k
   heads k =
       elim (cases_eq k at) [
         | inl same ↦
             ap (below_list locks3) same ∙ ap below_in gone3
-            ∙ sym (ap (below_list locks2) same ∙ no_list_has below_links locks2 (below_list locks2 at) (below2.linked at) (below_keys2 at ∙ ap (without at) childless))
+            ∙ sym (ap (below_list locks2) same ∙ no_list_has below_links locks2 (below_list locks2 at) (below2.linked at) (below_handles2 at ∙ ap (without at) childless))
         | inr differs ↦ by_part but_queued below_in below-queued (get locks3 k) (get locks2 k) (kin3 k differs)
       ]
 
@@ -82,10 +82,10 @@ module _ (s : Inside) (kept : IsKept s) (at : ℕ) (childless : below_keys s.que
   pub left_processes : processes_of (holding processes2 locks3 s.process_order) ≡ map (process_without_lock at) (processes_shown s)
   left_processes =
       lock_left (holding s.processes s.queues.locks s.process_order) (holding processes2 locks3 s.process_order) at (own_plain s.processes processes2 rest2)
-      (own_process_keys s.processes processes2 rest2 s.process_order kept.processes_linked)
+      (own_process_handles s.processes processes2 rest2 s.process_order kept.processes_linked)
       (λ p.
-      family-other_keys own_links owner_in locks2 (own_list processes2) (Some at) owned2 locks3 (own_list processes2) (λ p. refl) at (λ p. owned2.gone p at refl) own_nexts own_prevs there3 p
-      ∙ left2 p ∙ ap (without at) (below_own_keys s.processes s.queues.locks locks1 rest1 None kept.owned p))
+      family-other_handles own_links owner_in locks2 (own_list processes2) (Some at) owned2 locks3 (own_list processes2) (λ p. refl) at (λ p. owned2.gone p at refl) own_nexts own_prevs there3 p
+      ∙ left2 p ∙ ap (without at) (below_own_handles s.processes s.queues.locks locks1 rest1 None kept.owned p))
       (λ k _.
-      family-other_keys below_links parent_in locks2 (below_list locks2) (Some at) below2 locks3 (below_list locks3) heads at (λ p. below2.gone p at refl) below_nexts below_prevs there3 k
-      ∙ below_keys2 k)
+      family-other_handles below_links parent_in locks2 (below_list locks2) (Some at) below2 locks3 (below_list locks3) heads at (λ p. below2.gone p at refl) below_nexts below_prevs there3 k
+      ∙ below_handles2 k)

@@ -6,8 +6,8 @@ use Rattle.std.specs.Bool.{OnFalse, OnTrue}
 use Rattle.std.specs.Option.{option_map, option_map_or}
 use Rattle.slab.specs.Slab.{Slab, get, ContainsKey}
 use Rattle.indexmap.specs.IndexMap.{get as found}
-use Rattle.vlm_links.specs.declared.link.TheConstants.{LAST_KEY}
-use Rattle.vlm_links.specs.Lists.{IsApart, IsIn, keys_of}
+use Rattle.vlm_links.specs.declared.link.TheConstants.{LAST_HANDLE}
+use Rattle.vlm_links.specs.Lists.{IsApart, IsIn, handles_of}
 use Rattle.vlm_words.specs.declared.locks.Row.{Row}
 use Rattle.vlm_store.specs.declared.locks.Lock.{Lock}
 use Rattle.vlm_store.specs.declared.processes.Process.{Process}
@@ -15,7 +15,7 @@ use Rattle.vlm_store.specs.declared.store.Store.TheInside.{Inside}
 use Rattle.vlm_store.specs.Records.{AreOwnApart, AreOwned, AreProcessesApart, FindsProcess, HasNoSublocks, HasProcess, IsProcess, IsSound, OwnLock, StoredProcess, Stores, own_at, process_at}
 use Rattle.vlm_store.specs.Kept.{IsKept, beside_shown, processes_shown, records_shown}
 use Rattle.vlm_store.specs.Shown.{lkid_of, row_in, rows}
-use Rattle.vlm_store.specs.Holdings.{Holding, NamesParent, OwnerFits, ParentFits, below_keys, holding, own_keys, own_of, owner_in, parent_in, pid_at, pid_of, plain_in, process_links, process_of, processes_of}
+use Rattle.vlm_store.specs.Holdings.{Holding, NamesParent, OwnerFits, ParentFits, below_handles, holding, own_handles, own_of, owner_in, parent_in, pid_at, pid_of, plain_in, process_links, process_under, processes_of}
 use Rattle.vlm_store.specs.Store.{tables}
 use Rattle.vlm_words.specs.Keys.{is_same_key}
 use Rattle.vlm_store.proofs.Kept.{keys_apart, lkids_apart, stored_there, there_stored}
@@ -62,25 +62,25 @@ module _ (s : Inside) (kept : IsKept s) where
   shown : (records_shown s).processes ≡ processes_of held
   shown = records_processes (tables s.queues s.order (beside_shown s))
 
-  pub process_listed : (at : ℕ) → HasProcess at (records_shown s) → IsIn at (keys_of process_links s.processes s.process_order)
+  pub process_listed : (at : ℕ) → HasProcess at (records_shown s) → IsIn at (handles_of process_links s.processes s.process_order)
   process_listed at has = HasProcess-order held at (subst (λ ps. IsSome (process_at at ps)) shown has)
 
   pub process_there : (at : ℕ) → HasProcess at (records_shown s) → ContainsKey s.processes at
   process_there at has = kept.processes_linked.present at (process_listed at has)
 
-  pub process_is : (at : ℕ) → HasProcess at (records_shown s) → process_at at (records_shown s).processes ≡ Some (process_of held at)
+  pub process_is : (at : ℕ) → HasProcess at (records_shown s) → process_at at (records_shown s).processes ≡ Some (process_under held at)
   process_is at has = ap (process_at at) shown ∙ process_at-found held at (process_listed at has)
 
-  pub own_is : (at : ℕ) → HasProcess at (records_shown s) → own_at at (records_shown s) ≡ map (own_of held) (own_keys s.processes s.queues.locks at)
+  pub own_is : (at : ℕ) → HasProcess at (records_shown s) → own_at at (records_shown s) ≡ map (own_of held) (own_handles s.processes s.queues.locks at)
   own_is at has = ap (λ o. option_map_or (λ (p : StoredProcess). p.own) o []) (process_is at has)
 
-  pub among_shown : (at : ℕ) → IsIn at (keys_of process_links s.processes s.process_order) → IsIn (process_of held at) (records_shown s).processes
-  among_shown at found = subst (IsIn (process_of held at)) (sym shown) (process_seen held at found)
+  pub among_shown : (at : ℕ) → IsIn at (handles_of process_links s.processes s.process_order) → IsIn (process_under held at) (records_shown s).processes
+  among_shown at found = subst (IsIn (process_under held at)) (sym shown) (process_seen held at found)
 
-  pub shown_among : (p : StoredProcess) → IsIn p (records_shown s).processes → IsIn p.at (keys_of process_links s.processes s.process_order) × (process_of held p.at ≡ p)
+  pub shown_among : (p : StoredProcess) → IsIn p (records_shown s).processes → IsIn p.at (handles_of process_links s.processes s.process_order) × (process_under held p.at ≡ p)
   shown_among p among = seen_process held p (subst (IsIn p) shown among)
 
-  pub lock_there : (at : ℕ) (row : Row) → Stores (records_shown s) at row → ContainsKey s.queues.locks at × (at ≤ LAST_KEY) × (rows s.queues at ≡ row)
+  pub lock_there : (at : ℕ) (row : Row) → Stores (records_shown s) at row → ContainsKey s.queues.locks at × (at ≤ LAST_HANDLE) × (rows s.queues at ≡ row)
   lock_there = stored_there s.queues s.order (beside_shown s) kept.placed
 
   pub lock_stored : (at : ℕ) → ContainsKey s.queues.locks at → Stores (records_shown s) at (rows s.queues at)
@@ -91,14 +91,14 @@ module _ (s : Inside) (kept : IsKept s) where
   owner_is at l here =
       let fits = subst (OwnerFits s.processes) here (kept.named.owners at) in
       let there = pid_there (get s.processes l.owner) l.row.pid fits in
-      (process_of held l.owner, (among_shown l.owner (kept.processes_ordered l.owner there.0), refl, there.1))
+      (process_under held l.owner, (among_shown l.owner (kept.processes_ordered l.owner there.0), refl, there.1))
 
   -- the locks of a process that a caller sees
   pub own_among_shown : (p : StoredProcess) (own : OwnLock) → IsIn p (records_shown s).processes → IsIn own p.own
-      → (IsIn own.at (own_keys s.processes s.queues.locks p.at) × (below_keys s.queues.locks own.at ≡ own.sublocks)) × (p.own ≡ map (own_of held) (own_keys s.processes s.queues.locks p.at))
+      → (IsIn own.at (own_handles s.processes s.queues.locks p.at) × (below_handles s.queues.locks own.at ≡ own.sublocks)) × (p.own ≡ map (own_of held) (own_handles s.processes s.queues.locks p.at))
   own_among_shown p own among has =
-      let is : map (own_of held) (own_keys s.processes s.queues.locks p.at) ≡ p.own = ap (λ (x : StoredProcess). x.own) (shown_among p among).1 in
-      (own_among held (own_keys s.processes s.queues.locks p.at) own (subst (IsIn own) (sym is) has), sym is)
+      let is : map (own_of held) (own_handles s.processes s.queues.locks p.at) ≡ p.own = ap (λ (x : StoredProcess). x.own) (shown_among p among).1 in
+      (own_among held (own_handles s.processes s.queues.locks p.at) own (subst (IsIn own) (sym is) has), sym is)
 
   -- a stored lock is among those of the process that its row names
   is_owned : (at : ℕ) (row : Row) → Stores (records_shown s) at row
@@ -110,19 +110,19 @@ module _ (s : Inside) (kept : IsKept s) where
       let owner = pid_there (get s.processes l.0.owner) l.0.row.pid fits in
       let stands = kept.owned.stands l.0.owner at (λ e. none-some at (sym e)) (ap owner_in l.1) in
       let row_is : l.0.row ≡ row = sym (ap row_in l.1) ∙ there.2 in (
-        process_of held l.0.owner,
+        process_under held l.0.owner,
         own_of held at,
         (
           among_shown l.0.owner (kept.processes_ordered l.0.owner owner.0),
           owner.1 ∙ ap (λ (r : Row). r.pid) row_is,
-          among_own held (own_keys s.processes s.queues.locks l.0.owner) at stands,
+          among_own held (own_handles s.processes s.queues.locks l.0.owner) at stands,
           refl,
         ),
       )
 
   -- a lock whose row names a parent stands below it
   stands_below : (at : ℕ) (row : Row) → Stores (records_shown s) at row → ¬ (row.parent ≡ 0)
-      → (up : ℕ) × (IsIn at (below_keys s.queues.locks up) × ContainsKey s.queues.locks up × ((rows s.queues up).lkid ≡ row.parent))
+      → (up : ℕ) × (IsIn at (below_handles s.queues.locks up) × ContainsKey s.queues.locks up × ((rows s.queues up).lkid ≡ row.parent))
   stands_below at row stored has_parent =
       let there = lock_there at row stored in
       let l = there_is (get s.queues.locks at) there.0 in
@@ -180,20 +180,20 @@ module _ (s : Inside) (kept : IsKept s) where
           (
             found.2.0,
             found.2.2,
-            subst (IsIn at) (ap (below_keys s.queues.locks) (sym found.2.3) ∙ seen.0.1) up.1.0,
+            subst (IsIn at) (ap (below_handles s.queues.locks) (sym found.2.3) ∙ seen.0.1) up.1.0,
             subst (λ x. Stores (records_shown s) x (rows s.queues up.0)) (sym found.2.3) up_stored,
             up.1.2,
           ),
         );
   }
 
-  -- no two of the locks of a process have one key
+  -- no two of the locks of a process have one handle
   pub own_apart : (p : StoredProcess) → IsIn p (processes_shown s) → AreOwnApart p.own
   own_apart p among =
       let seen = seen_process held p among in
-      subst AreOwnApart (ap (λ (x : StoredProcess). x.own) seen.1) (apart (own_keys s.processes s.queues.locks p.at) (kept.owned.linked p.at).apart)
+      subst AreOwnApart (ap (λ (x : StoredProcess). x.own) seen.1) (apart (own_handles s.processes s.queues.locks p.at) (kept.owned.linked p.at).apart)
     where
-      apart : (keys : List ℕ) → IsApart keys → AreOwnApart (map (own_of held) keys)
+      apart : (handles : List ℕ) → IsApart handles → AreOwnApart (map (own_of held) handles)
       apart [] is = tt
       apart (k ∷ rest) is = (
         λ other among same. is.0 (subst (λ x. IsIn x rest) same (own_among held rest other among).0),
@@ -201,22 +201,22 @@ module _ (s : Inside) (kept : IsKept s) where
       )
 
   -- no lock stands below this one
-  pub childless : (at : ℕ) (row : Row) → Stores (records_shown s) at row → HasNoSublocks at (records_shown s) → below_keys s.queues.locks at ≡ []
+  pub childless : (at : ℕ) (row : Row) → Stores (records_shown s) at row → HasNoSublocks at (records_shown s) → below_handles s.queues.locks at ≡ []
   childless at row stored none =
       let found = are_owned.owned at row stored in
       let seen = own_among_shown found.0 found.1 found.2.0 found.2.2 in
-      ap (below_keys s.queues.locks) (sym found.2.3) ∙ seen.0.1 ∙ none found.0 found.1 found.2.0 found.2.2 found.2.3
+      ap (below_handles s.queues.locks) (sym found.2.3) ∙ seen.0.1 ∙ none found.0 found.1 found.2.0 found.2.2 found.2.3
 
   -- whether locks stand below one is told by how many do
-  pub no_sublocks : (at n : ℕ) → n ≡ length (below_keys s.queues.locks at) → OnFalse (nat_lt 0 n) (HasNoSublocks at (records_shown s))
-  no_sublocks at zero is = λ p own among has same. sym (own_among_shown p own among has).0.1 ∙ ap (below_keys s.queues.locks) same ∙ no_length (below_keys s.queues.locks at) (sym is)
+  pub no_sublocks : (at n : ℕ) → n ≡ length (below_handles s.queues.locks at) → OnFalse (nat_lt 0 n) (HasNoSublocks at (records_shown s))
+  no_sublocks at zero is = λ p own among has same. sym (own_among_shown p own among has).0.1 ∙ ap (below_handles s.queues.locks) same ∙ no_length (below_handles s.queues.locks at) (sym is)
     where
-      no_length : (keys : List ℕ) → length keys ≡ 0 → keys ≡ []
+      no_length : (handles : List ℕ) → length handles ≡ 0 → handles ≡ []
       no_length [] none = refl
       no_length (k ∷ rest) none = absurd (omega (arith, none))
   no_sublocks at (suc n) is = rw (is_positive n) tt
 
-  pub are_sublocks : (at : ℕ) (row : Row) → Stores (records_shown s) at row → (n : ℕ) → n ≡ length (below_keys s.queues.locks at) → OnTrue (nat_lt 0 n) (¬ HasNoSublocks at (records_shown s))
+  pub are_sublocks : (at : ℕ) (row : Row) → Stores (records_shown s) at row → (n : ℕ) → n ≡ length (below_handles s.queues.locks at) → OnTrue (nat_lt 0 n) (¬ HasNoSublocks at (records_shown s))
   are_sublocks at row stored zero is = tt
   are_sublocks at row stored (suc n) is = rw (is_positive n) (λ none. let nothing : suc n ≡ 0 = is ∙ ap length (childless at row stored none) in absurd (omega (arith, nothing)))
 
@@ -245,7 +245,7 @@ module _ (s : Inside) (kept : IsKept s) where
       none-some p.at (is ∙ kept.processes.complete pid p.at told)
   finds_process pid (Some at) is =
       let there = pid_there (get s.processes at) pid (kept.processes.sound pid at (sym is)) in
-      (process_of held at, (among_shown at (kept.processes_ordered at there.0), refl, there.1))
+      (process_under held at, (among_shown at (kept.processes_ordered at there.0), refl, there.1))
 
   pub found_there : (pid : ℕ) (result : Option ℕ) → result ≡ found nat_eq s.process_index pid → IfSome result (λ at. HasProcess at (records_shown s))
   found_there pid None is = tt
@@ -262,7 +262,7 @@ module _ (s : Inside) (kept : IsKept s) where
           let there = finds_process pid (Some at) is in
           absurd (absent there.0 there.1.0 there.1.2)
 
-  -- the process at the key, with its identification
+  -- the process at the handle, with its identification
   pub process_named : (at pid : ℕ) → IsProcess at pid (records_shown s) → ContainsKey s.processes at × (option_map pid_of (get s.processes at) ≡ Some pid)
   process_named at pid is =
       let seen = shown_among is.0 is.1.0 in

@@ -7,24 +7,24 @@ use Rattle.slab.specs.Slab.{Slab, get, ContainsKey, Updates, with_value}
 use Rattle.slab.proofs.SlabLemmas.{Updates-with_value}
 use Rattle.vlm_links.specs.declared.link.Links.{Links}
 use Rattle.vlm_links.specs.declared.lists.LinkedList.{LinkedList}
-use Rattle.vlm_links.specs.Lists.{IsIn, IsLinked, IsNoList, Relinks, keys_of, without}
+use Rattle.vlm_links.specs.Lists.{IsIn, IsLinked, IsNoList, Relinks, handles_of, without}
 use Rattle.vlm_links.proofs.Keeping.{relinked_same}
-use Rattle.vlm_links.proofs.KeyLists.{IsIn-push_kept, IsIn-push_last, IsIn-without_kept}
+use Rattle.vlm_links.proofs.HandleLists.{IsIn-push_kept, IsIn-push_last, IsIn-without_kept}
 use Rattle.vlm_words.specs.declared.locks.Row.{Row}
 use Rattle.vlm_words.specs.declared.modes.Mode.{Mode}
 use Rattle.vlm_words.specs.declared.modes.Mode.TheVariants.{Nl, Cr, Cw, Pr, Pw, Ex}
 use Rattle.vlm_words.specs.declared.resources.Queue.{Queue}
 use Rattle.vlm_words.specs.declared.resources.Queue.TheVariants.{Granted, Conversion, Waiting}
-use Rattle.vlm_store.specs.declared.keys.Place.{Place}
-use Rattle.vlm_store.specs.declared.keys.Place.TheVariants.{Loose, Queued}
+use Rattle.vlm_store.specs.declared.handles.Place.{Place}
+use Rattle.vlm_store.specs.declared.handles.Place.TheVariants.{Loose, Queued}
 use Rattle.vlm_words.specs.declared.resources.ValueBlock.{ValueBlock}
 use Rattle.vlm_store.specs.declared.locks.Lock.{Lock}
 use Rattle.vlm_store.specs.declared.queues.Queues.{Queues}
 use Rattle.vlm_store.specs.declared.resources.Resource.{Resource}
-use Rattle.vlm_store.specs.Shown.{Face, IsPlaced, IsTallied, face_in, face_of, keys_at, list_at, list_in, no_list, queue_links, rows, shares, tally_in, with_order_links}
+use Rattle.vlm_store.specs.Shown.{Face, IsPlaced, IsTallied, face_in, face_of, handles_at, list_at, list_in, no_list, queue_links, rows, shares, tally_in, with_order_links}
 use Rattle.vlm_tallies.specs.Tallies.{count_of, held_of, held_weight, no_tally, total, wanted_of, wanted_weight}
 use Rattle.vlm_store.proofs.Counting.{shares_same}
-use Rattle.vlm_store.proofs.Places.{kept_keys, kept_placed, no_list_is}
+use Rattle.vlm_store.proofs.Places.{kept_handles, kept_placed, no_list_is}
 
 -- what is read off each record stays where it stays of the one that comes, goes or is written
 but_one : {T X : Type 0} (read : Option T → X) (old new : Slab T) (at : ℕ) → read (get new at) ≡ read (get old at) → ((k : ℕ) → k ≢ at → read (get new k) ≡ read (get old k))
@@ -41,16 +41,16 @@ ListsStay q resources = (p : Place) → list_at (record q { resources = resource
 
 -- the locks stay where the lists of the resources do
 module _ (q : Queues) (resources : Slab Resource) (placed : IsPlaced q None) (lists : ListsStay q resources) where
-  pub resources_keys : (p : Place) → keys_at (record q { resources = resources }) p ≡ keys_at q p
-  resources_keys = kept_keys q None placed (record q { resources = resources }) lists (λ k. refl) (λ k. refl) (λ k here. here)
+  pub resources_handles : (p : Place) → handles_at (record q { resources = resources }) p ≡ handles_at q p
+  resources_handles = kept_handles q None placed (record q { resources = resources }) lists (λ k. refl) (λ k. refl) (λ k here. here)
 
   pub resources_placed : IsPlaced (record q { resources = resources }) None
   resources_placed = kept_placed q None placed (record q { resources = resources }) lists (λ k. refl) (λ k. refl) (λ k here. here) (λ k. refl)
 
   pub resources_tallied : ((r : ℕ) → tally_in (get resources r) ≡ tally_in (get q.resources r)) → IsTallied q None → IsTallied (record q { resources = resources }) None
   resources_tallied tallies tallied = record {
-    held = λ r mode. ap (λ t. held_of t mode) (tallies r) ∙ tallied.held r mode ∙ sym (shares_same q (record q { resources = resources }) (held_weight mode) None r resources_keys (λ k _. refl));
-    wanted = λ r mode. ap (λ t. wanted_of t mode) (tallies r) ∙ tallied.wanted r mode ∙ sym (shares_same q (record q { resources = resources }) (wanted_weight mode) None r resources_keys (λ k _. refl));
+    held = λ r mode. ap (λ t. held_of t mode) (tallies r) ∙ tallied.held r mode ∙ sym (shares_same q (record q { resources = resources }) (held_weight mode) None r resources_handles (λ k _. refl));
+    wanted = λ r mode. ap (λ t. wanted_of t mode) (tallies r) ∙ tallied.wanted r mode ∙ sym (shares_same q (record q { resources = resources }) (wanted_weight mode) None r resources_handles (λ k _. refl));
   }
 
 -- the queues of a resource stay where its links in the order of making are written
@@ -86,8 +86,8 @@ module _ (q : Queues) (resources : Slab Resource) (same : (r : ℕ) → get reso
   reserved_lists (Queued r queue) = ap (list_in queue) (same r)
 
 -- no lock stands in a queue of a resource that is not there
-pub none_keys : (q : Queues) (res : ℕ) (queue : Queue) → get q.resources res ≡ None → keys_at q (Queued res queue) ≡ []
-none_keys q res queue none = ap (λ slot. keys_of queue_links q.locks (list_in queue slot)) none
+pub none_handles : (q : Queues) (res : ℕ) (queue : Queue) → get q.resources res ≡ None → handles_at q (Queued res queue) ≡ []
+none_handles q res queue none = ap (λ slot. handles_of queue_links q.locks (list_in queue slot)) none
 
 -- what is read off the face of a resource
 pub key_by_face : (slot : Option Resource) → option_map (λ (r : Resource). r.key) slot ≡ option_map (λ (f : Face). f.key) (option_map face_of slot)
@@ -110,24 +110,24 @@ there_by_face (Some r) None same there = cc
 there_by_face (Some r) (Some r') same there = refl
 
 -- a new record stands in the order, and so does each other
-pub whole_grown : {T Kind : Type 0} (links : T → Links) (old new : Slab T) (order order' : LinkedList Kind) (at : ℕ) → ((r : ℕ) → ContainsKey old r → IsIn r (keys_of links old order))
-    → keys_of links new order' ≡ keys_of links old order ++ at ∷ [] → ((r : ℕ) → r ≢ at → ContainsKey new r → ContainsKey old r) → (r : ℕ) → ContainsKey new r → IsIn r (keys_of links new order')
+pub whole_grown : {T Kind : Type 0} (links : T → Links) (old new : Slab T) (order order' : LinkedList Kind) (at : ℕ) → ((r : ℕ) → ContainsKey old r → IsIn r (handles_of links old order))
+    → handles_of links new order' ≡ handles_of links old order ++ at ∷ [] → ((r : ℕ) → r ≢ at → ContainsKey new r → ContainsKey old r) → (r : ℕ) → ContainsKey new r → IsIn r (handles_of links new order')
 whole_grown links old new order order' at ordered joined was r there =
     subst (IsIn r) (sym joined)
     (elim (cases_eq r at) [
-      | inl same ↦ subst (λ x. IsIn x (keys_of links old order ++ at ∷ [])) (sym same) (IsIn-push_last at (keys_of links old order))
-      | inr differs ↦ IsIn-push_kept at r (keys_of links old order) (ordered r (was r differs there))
+      | inl same ↦ subst (λ x. IsIn x (handles_of links old order ++ at ∷ [])) (sym same) (IsIn-push_last at (handles_of links old order))
+      | inr differs ↦ IsIn-push_kept at r (handles_of links old order) (ordered r (was r differs there))
     ])
 
 -- each record but the one that is gone stands in the order
-pub whole_left : {T Kind : Type 0} (links : T → Links) (old new : Slab T) (order order' : LinkedList Kind) (at : ℕ) → ((r : ℕ) → ContainsKey old r → IsIn r (keys_of links old order))
-    → keys_of links new order' ≡ without at (keys_of links old order) → get new at ≡ None → ((r : ℕ) → r ≢ at → ContainsKey new r → ContainsKey old r)
-    → (r : ℕ) → ContainsKey new r → IsIn r (keys_of links new order')
+pub whole_left : {T Kind : Type 0} (links : T → Links) (old new : Slab T) (order order' : LinkedList Kind) (at : ℕ) → ((r : ℕ) → ContainsKey old r → IsIn r (handles_of links old order))
+    → handles_of links new order' ≡ without at (handles_of links old order) → get new at ≡ None → ((r : ℕ) → r ≢ at → ContainsKey new r → ContainsKey old r)
+    → (r : ℕ) → ContainsKey new r → IsIn r (handles_of links new order')
 whole_left {T} links old new order order' at ordered left gone was r there =
     subst (IsIn r) (sym left)
     (elim (cases_eq r at) [
       | inl same ↦ let nothing : IsSome {T = T} None = rw (ap (get new) same ∙ gone) at there in absurd (cc)
-      | inr differs ↦ IsIn-without_kept at r (keys_of links old order) (ordered r (was r differs there)) differs
+      | inr differs ↦ IsIn-without_kept at r (handles_of links old order) (ordered r (was r differs there)) differs
     ])
 
 -- what stands besides lists and counts is written in one resource
@@ -150,11 +150,11 @@ block_list r value_block Granted = refl
 block_list r value_block Conversion = refl
 block_list r value_block Waiting = refl
 
--- a linked list without keys is an empty one
-pub no_list_has : {Kind : Type 0} (links : Lock → Links) (locks : Slab Lock) (list : LinkedList Kind) → IsLinked links locks list → keys_of links locks list ≡ [] → list ≡ no_list
+-- a linked list without handles is an empty one
+pub no_list_has : {Kind : Type 0} (links : Lock → Links) (locks : Slab Lock) (list : LinkedList Kind) → IsLinked links locks list → handles_of links locks list ≡ [] → list ≡ no_list
 no_list_has links locks list linked none =
     let chain = rw none at linked.chained in
-    no_list_is list (record { no_first = chain.0; no_last = chain.1; no_keys = sym linked.counted ∙ ap length none })
+    no_list_is list (record { no_first = chain.0; no_last = chain.1; no_handles = sym linked.counted ∙ ap length none })
 
 no_count : (mode : Mode) → count_of (replicate 6 0) mode ≡ 0
 no_count Nl = refl
@@ -166,7 +166,7 @@ no_count Ex = refl
 
 -- an idle resource goes
 module _ (q : Queues) (r1 r2 : Slab Resource) (at : ℕ) (relinks : Relinks with_order_links q.resources r1) (updates : Updates r1 r2 at None) (placed : IsPlaced q None)
-    (idle : (queue : Queue) → keys_at q (Queued at queue) ≡ []) where
+    (idle : (queue : Queue) → handles_at q (Queued at queue) ≡ []) where
   pub removed_lists : ListsStay q r2
   removed_lists Loose = refl
   removed_lists (Queued r queue) =
@@ -181,7 +181,7 @@ module _ (q : Queues) (r1 r2 : Slab Resource) (at : ℕ) (relinks : Relinks with
   removed_tally tallied =
       let q' : Queues = record q { resources = r2 } in
       let kept : (weight : Queue → Row → ℕ) (r : ℕ) → shares q' weight None r ≡ shares q weight None r =
-      λ weight r. shares_same q q' weight None r (resources_keys q r2 placed removed_lists) (λ k _. refl) in
+      λ weight r. shares_same q q' weight None r (resources_handles q r2 placed removed_lists) (λ k _. refl) in
       record {
         held = λ r mode. elim (cases_eq r at) [
           | inl same ↦ ap (λ x. held_of (tally_in (get r2 x)) mode) same ∙ ap (λ slot. held_of (tally_in slot) mode) updates.changed ∙ no_count mode ∙ sym (ap (shares q' (held_weight mode) None) same ∙ kept (held_weight mode) at ∙ no_share (held_weight mode))

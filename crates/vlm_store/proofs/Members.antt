@@ -5,23 +5,23 @@ use Rattle.std.proofs.lemmas.Bool.{cases_eq}
 use Rattle.std.proofs.lemmas.Option.{same_Some}
 use Rattle.vlm_links.specs.Lists.{IsApart, IsIn, without}
 use Rattle.vlm_links.proofs.Images.{IsIn-image, IsIn-told}
-use Rattle.vlm_links.proofs.KeyLists.{without_head, without_past}
+use Rattle.vlm_links.proofs.HandleLists.{without_head, without_past}
 use Rattle.vlm_words.specs.State.{Process}
 use Rattle.vlm_store.specs.Records.{AreProcessesApart, OwnLock, StoredProcess, changed_process, new_own, on_process, process_at, process_with_lock, process_without_lock, with_sublock, without_process, without_sublock}
-use Rattle.vlm_store.specs.Holdings.{Holding, own_of, process_of, processes_of}
+use Rattle.vlm_store.specs.Holdings.{Holding, own_of, process_under, processes_of}
 
 -- ---- what is seen
 
 -- a process that is in the order is found
-process_found : (h : Holding) (at : ℕ) (ps : List ℕ) → IsIn at ps → process_at at (map (process_of h) ps) ≡ Some (process_of h at)
+process_found : (h : Holding) (at : ℕ) (ps : List ℕ) → IsIn at ps → process_at at (map (process_under h) ps) ≡ Some (process_under h at)
 process_found h at [] found = absurd found
 process_found h at (p ∷ ps) found =
     elim (cases_eq p at) [
-      | inl same ↦ rw (eq-eqb p at same) (ap (λ x. Some (process_of h x)) same)
+      | inl same ↦ rw (eq-eqb p at same) (ap (λ x. Some (process_under h x)) same)
       | inr differs ↦ rw (ne_eqb p at differs) (process_found h at ps (elim found [ inl here ↦ absurd (differs here) | inr there ↦ there ]))
     ]
 
-process_there : (h : Holding) (at : ℕ) (ps : List ℕ) → IsSome (process_at at (map (process_of h) ps)) → IsIn at ps
+process_there : (h : Holding) (at : ℕ) (ps : List ℕ) → IsSome (process_at at (map (process_under h) ps)) → IsIn at ps
 process_there h at [] found = cc
 process_there h at (p ∷ ps) found =
     elim (cases_eq p at) [
@@ -29,7 +29,7 @@ process_there h at (p ∷ ps) found =
       | inr differs ↦ inr (process_there h at ps (rw (ne_eqb p at differs) at found))
     ]
 
-pub process_at-found : (h : Holding) (at : ℕ) → IsIn at h.order → process_at at (processes_of h) ≡ Some (process_of h at)
+pub process_at-found : (h : Holding) (at : ℕ) → IsIn at h.order → process_at at (processes_of h) ≡ Some (process_under h at)
 unfolding processes_of
 process_at-found h at found = process_found h at h.order found
 
@@ -38,17 +38,17 @@ unfolding processes_of
 HasProcess-order h at found = process_there h at h.order found
 
 -- the processes that a caller sees
-process_among : (h : Holding) (ps : List ℕ) (p : StoredProcess) → IsIn p (map (process_of h) ps) → IsIn p.at ps × (process_of h p.at ≡ p)
-process_among h = IsIn-told (process_of h) (λ (x : StoredProcess). x.at) (λ p. refl)
+process_among : (h : Holding) (ps : List ℕ) (p : StoredProcess) → IsIn p (map (process_under h) ps) → IsIn p.at ps × (process_under h p.at ≡ p)
+process_among h = IsIn-told (process_under h) (λ (x : StoredProcess). x.at) (λ p. refl)
 
-among_process : (h : Holding) (ps : List ℕ) (at : ℕ) → IsIn at ps → IsIn (process_of h at) (map (process_of h) ps)
-among_process h = IsIn-image (process_of h)
+among_process : (h : Holding) (ps : List ℕ) (at : ℕ) → IsIn at ps → IsIn (process_under h at) (map (process_under h) ps)
+among_process h = IsIn-image (process_under h)
 
-pub seen_process : (h : Holding) (p : StoredProcess) → IsIn p (processes_of h) → IsIn p.at h.order × (process_of h p.at ≡ p)
+pub seen_process : (h : Holding) (p : StoredProcess) → IsIn p (processes_of h) → IsIn p.at h.order × (process_under h p.at ≡ p)
 unfolding processes_of
 seen_process h p found = process_among h h.order p found
 
-pub process_seen : (h : Holding) (at : ℕ) → IsIn at h.order → IsIn (process_of h at) (processes_of h)
+pub process_seen : (h : Holding) (at : ℕ) → IsIn at h.order → IsIn (process_under h at) (processes_of h)
 unfolding processes_of
 process_seen h at found = among_process h h.order at found
 
@@ -59,8 +59,8 @@ own_among h ks own found = let of = IsIn-told (own_of h) (λ (x : OwnLock). x.at
 pub among_own : (h : Holding) (ks : List ℕ) (at : ℕ) → IsIn at ks → IsIn (own_of h at) (map (own_of h) ks)
 among_own h = IsIn-image (own_of h)
 
--- keys and identifications are apart
-processes_apart : (h : Holding) (ps : List ℕ) → IsApart ps → ((a b : ℕ) → IsIn a ps → IsIn b ps → (h.plain a).pid ≡ (h.plain b).pid → a ≡ b) → AreProcessesApart (map (process_of h) ps)
+-- handles and identifications are apart
+processes_apart : (h : Holding) (ps : List ℕ) → IsApart ps → ((a b : ℕ) → IsIn a ps → IsIn b ps → (h.plain a).pid ≡ (h.plain b).pid → a ≡ b) → AreProcessesApart (map (process_under h) ps)
 processes_apart h [] apart pids = tt
 processes_apart h (x ∷ ps) apart pids = (
   λ other found.
@@ -81,7 +81,7 @@ own_map old new below [] = refl
 own_map old new below (k ∷ ks) = ap (λ b. record { at = k; sublocks = b } ∷ map (own_of new) ks) (below k) ∙ ap (λ rest. own_of old k ∷ rest) (own_map old new below ks)
 
 module _ (old new : Holding) (below : (k : ℕ) → new.below k ≡ old.below k) where
-  process_same : (p : ℕ) → new.plain p ≡ old.plain p → new.own p ≡ old.own p → process_of new p ≡ process_of old p
+  process_same : (p : ℕ) → new.plain p ≡ old.plain p → new.own p ≡ old.own p → process_under new p ≡ process_under old p
   process_same p plain own =
       ap (λ x. record { at = p; process = x; own = map (own_of new) (new.own p) }) plain
       ∙ ap (λ x. record { at = p; process = old.plain p; own = x }) (ap (map (own_of new)) own ∙ own_map old new below (old.own p))
@@ -89,60 +89,60 @@ module _ (old new : Holding) (below : (k : ℕ) → new.below k ≡ old.below k)
   -- all is the same
   pub processes_same : ((p : ℕ) → new.plain p ≡ old.plain p) → ((p : ℕ) → new.own p ≡ old.own p) → new.order ≡ old.order → processes_of new ≡ processes_of old
   unfolding processes_of
-  processes_same plain own order = ap (map (process_of new)) order ∙ each old.order
+  processes_same plain own order = ap (map (process_under new)) order ∙ each old.order
     where
-      each : (ps : List ℕ) → map (process_of new) ps ≡ map (process_of old) ps
+      each : (ps : List ℕ) → map (process_under new) ps ≡ map (process_under old) ps
       each [] = refl
-      each (p ∷ ps) = ap (λ x. x ∷ map (process_of new) ps) (process_same p (plain p) (own p)) ∙ ap (λ rest. process_of old p ∷ rest) (each ps)
+      each (p ∷ ps) = ap (λ x. x ∷ map (process_under new) ps) (process_same p (plain p) (own p)) ∙ ap (λ rest. process_under old p ∷ rest) (each ps)
 
   -- a process is made
   pub process_made : (at : ℕ) (made : StoredProcess) → ((p : ℕ) → p ≢ at → new.plain p ≡ old.plain p) → ((p : ℕ) → p ≢ at → new.own p ≡ old.own p) → ¬ IsIn at old.order
-      → new.order ≡ old.order ++ at ∷ [] → process_of new at ≡ made → processes_of new ≡ processes_of old ++ made ∷ []
+      → new.order ≡ old.order ++ at ∷ [] → process_under new at ≡ made → processes_of new ≡ processes_of old ++ made ∷ []
   unfolding processes_of
-  process_made at made plain own absent order is = ap (map (process_of new)) order ∙ each old.order absent
+  process_made at made plain own absent order is = ap (map (process_under new)) order ∙ each old.order absent
     where
-      each : (ps : List ℕ) → ¬ IsIn at ps → map (process_of new) (ps ++ at ∷ []) ≡ map (process_of old) ps ++ made ∷ []
+      each : (ps : List ℕ) → ¬ IsIn at ps → map (process_under new) (ps ++ at ∷ []) ≡ map (process_under old) ps ++ made ∷ []
       each [] absent = ap (λ x. x ∷ []) is
       each (p ∷ ps) absent =
           let differs : p ≢ at = λ same. absent (inl same) in
-          ap (λ x. x ∷ map (process_of new) (ps ++ at ∷ [])) (process_same p (plain p differs) (own p differs)) ∙ ap (λ rest. process_of old p ∷ rest) (each ps (λ there. absent (inr there)))
+          ap (λ x. x ∷ map (process_under new) (ps ++ at ∷ [])) (process_same p (plain p differs) (own p differs)) ∙ ap (λ rest. process_under old p ∷ rest) (each ps (λ there. absent (inr there)))
 
   -- a process is removed
   pub process_removed : (at : ℕ) → ((p : ℕ) → p ≢ at → new.plain p ≡ old.plain p) → ((p : ℕ) → p ≢ at → new.own p ≡ old.own p) → new.order ≡ without at old.order
       → processes_of new ≡ without_process at (processes_of old)
   unfolding processes_of
-  process_removed at plain own order = ap (map (process_of new)) order ∙ each old.order
+  process_removed at plain own order = ap (map (process_under new)) order ∙ each old.order
     where
-      each : (ps : List ℕ) → map (process_of new) (without at ps) ≡ without_process at (map (process_of old) ps)
+      each : (ps : List ℕ) → map (process_under new) (without at ps) ≡ without_process at (map (process_under old) ps)
       each [] = refl
       each (p ∷ ps) =
           elim (cases_eq p at) [
-            | inl same ↦ ap (map (process_of new)) (without_head at p ps same) ∙ each ps ∙ rw (eq-eqb p at same) refl
+            | inl same ↦ ap (map (process_under new)) (without_head at p ps same) ∙ each ps ∙ rw (eq-eqb p at same) refl
             | inr differs ↦
-                ap (map (process_of new)) (without_past at p ps differs)
+                ap (map (process_under new)) (without_past at p ps differs)
                 ∙ rw (ne_eqb p at differs)
-                (ap (λ x. x ∷ map (process_of new) (without at ps)) (process_same p (plain p differs) (own p differs)) ∙ ap (λ rest. process_of old p ∷ rest) (each ps))
+                (ap (λ x. x ∷ map (process_under new) (without at ps)) (process_same p (plain p differs) (own p differs)) ∙ ap (λ rest. process_under old p ∷ rest) (each ps))
           ]
 
   -- what a process tells is written
   pub process_written : (at : ℕ) (change : Process → Process) → new.plain at ≡ change (old.plain at) → ((p : ℕ) → p ≢ at → new.plain p ≡ old.plain p) → ((p : ℕ) → new.own p ≡ old.own p)
       → new.order ≡ old.order → processes_of new ≡ on_process at change (processes_of old)
   unfolding processes_of
-  process_written at change here others own order = ap (map (process_of new)) order ∙ each old.order
+  process_written at change here others own order = ap (map (process_under new)) order ∙ each old.order
     where
-      written : (p : ℕ) → p ≡ at → process_of new p ≡ changed_process change (process_of old p)
+      written : (p : ℕ) → p ≡ at → process_under new p ≡ changed_process change (process_under old p)
       written p same =
           ap (λ x. record { at = p; process = x; own = map (own_of new) (new.own p) }) (subst (λ x. new.plain x ≡ change (old.plain x)) (sym same) here)
           ∙ ap (λ x. record { at = p; process = change (old.plain p); own = x }) (ap (map (own_of new)) (own p) ∙ own_map old new below (old.own p))
 
-      each : (ps : List ℕ) → map (process_of new) ps ≡ on_process at change (map (process_of old) ps)
+      each : (ps : List ℕ) → map (process_under new) ps ≡ on_process at change (map (process_under old) ps)
       each [] = refl
       each (p ∷ ps) =
           elim (cases_eq p at) [
             | inl same ↦
-                rw (eq-eqb p at same) (ap (λ x. x ∷ map (process_of new) ps) (written p same) ∙ ap (λ rest. changed_process change (process_of old p) ∷ rest) (each ps))
+                rw (eq-eqb p at same) (ap (λ x. x ∷ map (process_under new) ps) (written p same) ∙ ap (λ rest. changed_process change (process_under old p) ∷ rest) (each ps))
             | inr differs ↦
-                rw (ne_eqb p at differs) (ap (λ x. x ∷ map (process_of new) ps) (process_same p (others p differs) (own p)) ∙ ap (λ rest. process_of old p ∷ rest) (each ps))
+                rw (ne_eqb p at differs) (ap (λ x. x ∷ map (process_under new) ps) (process_same p (others p differs) (own p)) ∙ ap (λ rest. process_under old p ∷ rest) (each ps))
           ]
 
 map_append_one : (h : Holding) (ks : List ℕ) (at : ℕ) → map (own_of h) (ks ++ at ∷ []) ≡ map (own_of h) ks ++ own_of h at ∷ []
@@ -183,15 +183,15 @@ module _ (old new : Holding) (owner : ℕ) (parent : Option ℕ) (at : ℕ) (pla
 
   pub lock_joined : processes_of new ≡ map (process_with_lock owner parent at) (processes_of old)
   unfolding processes_of
-  lock_joined = ap (map (process_of new)) order ∙ each old.order
+  lock_joined = ap (map (process_under new)) order ∙ each old.order
     where
-      one : (p : ℕ) → process_of new p ≡ process_with_lock owner parent at (process_of old p)
+      one : (p : ℕ) → process_under new p ≡ process_with_lock owner parent at (process_under old p)
       one p =
           ap (λ x. record { at = p; process = x; own = map (own_of new) (new.own p) }) (plain p) ∙ ap (λ x. record { at = p; process = old.plain p; own = x }) (with_owner p)
 
-      each : (ps : List ℕ) → map (process_of new) ps ≡ map (process_with_lock owner parent at) (map (process_of old) ps)
+      each : (ps : List ℕ) → map (process_under new) ps ≡ map (process_with_lock owner parent at) (map (process_under old) ps)
       each [] = refl
-      each (p ∷ ps) = ap (λ x. x ∷ map (process_of new) ps) (one p) ∙ ap (λ rest. process_with_lock owner parent at (process_of old p) ∷ rest) (each ps)
+      each (p ∷ ps) = ap (λ x. x ∷ map (process_under new) ps) (one p) ∙ ap (λ rest. process_with_lock owner parent at (process_under old p) ∷ rest) (each ps)
 
 -- a lock is gone
 module _ (old new : Holding) (at : ℕ) (plain : (p : ℕ) → new.plain p ≡ old.plain p) (order : new.order ≡ old.order) (own : (p : ℕ) → new.own p ≡ without at (old.own p))
@@ -209,13 +209,13 @@ module _ (old new : Holding) (at : ℕ) (plain : (p : ℕ) → new.plain p ≡ o
 
   pub lock_left : processes_of new ≡ map (process_without_lock at) (processes_of old)
   unfolding processes_of
-  lock_left = ap (map (process_of new)) order ∙ each old.order
+  lock_left = ap (map (process_under new)) order ∙ each old.order
     where
-      one : (p : ℕ) → process_of new p ≡ process_without_lock at (process_of old p)
+      one : (p : ℕ) → process_under new p ≡ process_without_lock at (process_under old p)
       one p =
           ap (λ x. record { at = p; process = x; own = map (own_of new) (new.own p) }) (plain p)
           ∙ ap (λ x. record { at = p; process = old.plain p; own = x }) (ap (map (own_of new)) (own p) ∙ each_left (old.own p))
 
-      each : (ps : List ℕ) → map (process_of new) ps ≡ map (process_without_lock at) (map (process_of old) ps)
+      each : (ps : List ℕ) → map (process_under new) ps ≡ map (process_without_lock at) (map (process_under old) ps)
       each [] = refl
-      each (p ∷ ps) = ap (λ x. x ∷ map (process_of new) ps) (one p) ∙ ap (λ rest. process_without_lock at (process_of old p) ∷ rest) (each ps)
+      each (p ∷ ps) = ap (λ x. x ∷ map (process_under new) ps) (one p) ∙ ap (λ rest. process_without_lock at (process_under old p) ∷ rest) (each ps)

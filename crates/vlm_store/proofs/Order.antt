@@ -4,8 +4,8 @@ use Rattle.std.specs.Option.{option_map}
 use Rattle.slab.specs.Slab.{Slab, get, ContainsKey}
 use Rattle.vlm_links.specs.declared.link.Links.{Links}
 use Rattle.vlm_links.specs.declared.lists.LinkedList.{LinkedList}
-use Rattle.vlm_links.specs.Lists.{IsIn, IsLinked, keys_of, next_in, prev_in}
-use Rattle.vlm_links.proofs.Rings.{kept-keys, kept-linked}
+use Rattle.vlm_links.specs.Lists.{IsIn, IsLinked, handles_of, next_in, prev_in}
+use Rattle.vlm_links.proofs.Rings.{kept-handles, kept-linked}
 use Rattle.vlm_store.specs.declared.resources.InOrder.{InOrder}
 use Rattle.vlm_store.specs.declared.resources.Resource.{Resource}
 use Rattle.vlm_store.specs.Shown.{SameBut, order_links}
@@ -26,21 +26,21 @@ module _ (part : Resource → Resource) (links : (r : Resource) → order_links 
       apart None = refl
       apart (Some r) = ap (λ (pair : Links). pair.prev) (links r)
 
-  pub order_keys : (order : LinkedList InOrder) → IsLinked order_links old order → keys_of order_links new order ≡ keys_of order_links old order
-  order_keys order linked = kept-keys order_links old new order linked (λ k _. next_same k) (λ k _. prev_same k) (λ k _. there_through part old new rest k)
+  pub order_handles : (order : LinkedList InOrder) → IsLinked order_links old order → handles_of order_links new order ≡ handles_of order_links old order
+  order_handles order linked = kept-handles order_links old new order linked (λ k _. next_same k) (λ k _. prev_same k) (λ k _. there_through part old new rest k)
 
   pub order_linked : (order : LinkedList InOrder) → IsLinked order_links old order → IsLinked order_links new order
   order_linked order linked = kept-linked order_links old new order linked (λ k _. next_same k) (λ k _. prev_same k) (λ k _. there_through part old new rest k)
 
-  pub order_whole : (order : LinkedList InOrder) → IsLinked order_links old order → ((r : ℕ) → ContainsKey old r → IsIn r (keys_of order_links old order))
-      → (r : ℕ) → ContainsKey new r → IsIn r (keys_of order_links new order)
-  order_whole order linked ordered r there = subst (IsIn r) (sym (order_keys order linked)) (ordered r (there_through part new old (λ k. sym (rest k)) r there))
+  pub order_whole : (order : LinkedList InOrder) → IsLinked order_links old order → ((r : ℕ) → ContainsKey old r → IsIn r (handles_of order_links old order))
+      → (r : ℕ) → ContainsKey new r → IsIn r (handles_of order_links new order)
+  order_whole order linked ordered r there = subst (IsIn r) (sym (order_handles order linked)) (ordered r (there_through part new old (λ k. sym (rest k)) r there))
 
 -- what a resource is found by stays
 pub keys_same : (part : Resource → Resource) → ((r : Resource) → (part r).key ≡ r.key) → (old new : Slab Resource) → SameBut part old new
     → (k : ℕ) → option_map (λ (r : Resource). r.key) (get new k) ≡ option_map (λ (r : Resource). r.key) (get old k)
-keys_same part keyed old new rest = through part (option_map (λ (r : Resource). r.key)) apart old new rest
+keys_same part under_handle old new rest = through part (option_map (λ (r : Resource). r.key)) apart old new rest
   where
     apart : (slot : Option Resource) → option_map (λ (r : Resource). r.key) (option_map part slot) ≡ option_map (λ (r : Resource). r.key) slot
     apart None = refl
-    apart (Some r) = ap Some (keyed r)
+    apart (Some r) = ap Some (under_handle r)

@@ -6,15 +6,15 @@ use Rattle.std.specs.Option.{option_map}
 use Rattle.slab.specs.Slab.{Slab, get, ContainsKey, with_value}
 use Rattle.slab.proofs.SlabLemmas.{Updates-with_value}
 use Rattle.vlm_links.specs.declared.lists.LinkedList.{LinkedList}
-use Rattle.vlm_links.specs.Lists.{IsIn, IsLinked, Relinks, keys_of, next_in, prev_in, without}
+use Rattle.vlm_links.specs.Lists.{IsIn, IsLinked, Relinks, handles_of, next_in, prev_in, without}
 use Rattle.vlm_links.proofs.Keeping.{relinked_same}
 use Rattle.vlm_store.specs.declared.locks.Lock.{Lock}
 use Rattle.vlm_store.specs.declared.locks.OfParent.{OfParent}
 use Rattle.vlm_store.specs.declared.locks.OfProcess.{OfProcess}
 use Rattle.vlm_store.specs.declared.processes.Process.{Process}
 use Rattle.vlm_store.specs.Shown.{SameBut}
-use Rattle.vlm_store.specs.Holdings.{IsBelow, IsOwned, below_in, below_keys, below_links, below_list, but_below, own_in, own_keys, own_links, own_list, owner_in, parent_in, with_below_links, with_own_links}
-use Rattle.vlm_store.proofs.Families.{family-put, family-put_here, family-put_others, family-taken, family-taken_keys, family-unnoted}
+use Rattle.vlm_store.specs.Holdings.{IsBelow, IsOwned, below_in, below_handles, below_links, below_list, but_below, own_in, own_handles, own_links, own_list, owner_in, parent_in, with_below_links, with_own_links}
+use Rattle.vlm_store.proofs.Families.{family-put, family-put_here, family-put_others, family-taken, family-taken_handles, family-unnoted}
 use Rattle.vlm_store.proofs.Places.{there_through}
 
 -- a record that is written shows what it showed
@@ -34,7 +34,7 @@ written_same {T} s at was now shown here same k =
 pub owner_there : (processes : Slab Process) (locks : Slab Lock) → IsOwned processes locks None → (at owner : ℕ) → owner_in (get locks at) ≡ Some owner → ContainsKey processes owner
 owner_there processes locks owned at owner is = by_slot (get processes owner) refl (owned.stands owner at (λ e. none-some at (sym e)) is)
   where
-    by_slot : (slot : Option Process) → get processes owner ≡ slot → IsIn at (keys_of own_links locks (own_in slot)) → ContainsKey processes owner
+    by_slot : (slot : Option Process) → get processes owner ≡ slot → IsIn at (handles_of own_links locks (own_in slot)) → ContainsKey processes owner
     by_slot None is found = absurd found
     by_slot (Some p) is found = rw is refl
 
@@ -60,41 +60,41 @@ module _ (processes : Slab Process) (locks locks1 : Slab Lock) (at owner : ℕ) 
   owners : (k : ℕ) → owner_in (get locks1 k) ≡ owner_in (get locks k)
   owners = relinked_same with_own_links owner_in (λ l pair. refl) locks locks1 relinks
 
-  module _ (owned : IsOwned processes locks None) (is : owner_in (get locks at) ≡ Some owner) (keys1 : keys_of own_links locks1 own1 ≡ without at (keys_of own_links locks first.own))
-      (others1 : (other : ℕ) → ¬ IsIn other (keys_of own_links locks first.own) → get locks1 other ≡ get locks other) where
-    left_keys1 : keys_of own_links locks1 own1 ≡ without at (own_keys processes locks owner)
-    left_keys1 = keys1 ∙ ap (λ l. without at (keys_of own_links locks l)) head
+  module _ (owned : IsOwned processes locks None) (is : owner_in (get locks at) ≡ Some owner) (handles1 : handles_of own_links locks1 own1 ≡ without at (handles_of own_links locks first.own))
+      (others1 : (other : ℕ) → ¬ IsIn other (handles_of own_links locks first.own) → get locks1 other ≡ get locks other) where
+    left_handles1 : handles_of own_links locks1 own1 ≡ without at (own_handles processes locks owner)
+    left_handles1 = handles1 ∙ ap (λ l. without at (handles_of own_links locks l)) head
 
-    left_others1 : (other : ℕ) → ¬ IsIn other (own_keys processes locks owner) → get locks1 other ≡ get locks other
-    left_others1 other absent = others1 other (λ found. absent (subst (λ l. IsIn other (keys_of own_links locks l)) head found))
+    left_others1 : (other : ℕ) → ¬ IsIn other (own_handles processes locks owner) → get locks1 other ≡ get locks other
+    left_others1 other absent = others1 other (λ found. absent (subst (λ l. IsIn other (handles_of own_links locks l)) head found))
 
-    pub process_left_keys : (p : ℕ) → own_keys left_processes locks1 p ≡ without at (own_keys processes locks p)
-    process_left_keys =
-        family-taken_keys own_links owner_in cases_eq locks locks1 locks1 (own_list processes) (own_list left_processes) own1 at owner (λ k. refl) (λ k. refl) (λ k h. h) linked1 head_here head_elsewhere
-        owned is left_keys1 left_others1
+    pub process_left_handles : (p : ℕ) → own_handles left_processes locks1 p ≡ without at (own_handles processes locks p)
+    process_left_handles =
+        family-taken_handles own_links owner_in cases_eq locks locks1 locks1 (own_list processes) (own_list left_processes) own1 at owner (λ k. refl) (λ k. refl) (λ k h. h) linked1 head_here head_elsewhere
+        owned is left_handles1 left_others1
 
     pub process_left : IsOwned left_processes locks1 (Some at)
     process_left =
         family-taken own_links owner_in cases_eq locks locks1 locks1 (own_list processes) (own_list left_processes) own1 at owner (λ k. refl) (λ k. refl) (λ k h. h) linked1 head_here head_elsewhere
-        owned is left_keys1 left_others1 owners
+        owned is left_handles1 left_others1 owners
 
-  module _ (owned : IsOwned processes locks (Some at)) (is : owner_in (get locks at) ≡ Some owner) (keys1 : keys_of own_links locks1 own1 ≡ keys_of own_links locks first.own ++ at ∷ [])
-      (others1 : (other : ℕ) → ¬ IsIn other (keys_of own_links locks first.own) → other ≢ at → get locks1 other ≡ get locks other) where
-    joined_keys1 : keys_of own_links locks1 own1 ≡ own_keys processes locks owner ++ at ∷ []
-    joined_keys1 = keys1 ∙ ap (λ l. keys_of own_links locks l ++ at ∷ []) head
+  module _ (owned : IsOwned processes locks (Some at)) (is : owner_in (get locks at) ≡ Some owner) (handles1 : handles_of own_links locks1 own1 ≡ handles_of own_links locks first.own ++ at ∷ [])
+      (others1 : (other : ℕ) → ¬ IsIn other (handles_of own_links locks first.own) → other ≢ at → get locks1 other ≡ get locks other) where
+    joined_handles1 : handles_of own_links locks1 own1 ≡ own_handles processes locks owner ++ at ∷ []
+    joined_handles1 = handles1 ∙ ap (λ l. handles_of own_links locks l ++ at ∷ []) head
 
-    joined_others1 : (other : ℕ) → ¬ IsIn other (own_keys processes locks owner) → other ≢ at → get locks1 other ≡ get locks other
-    joined_others1 other absent = others1 other (λ found. absent (subst (λ l. IsIn other (keys_of own_links locks l)) head found))
+    joined_others1 : (other : ℕ) → ¬ IsIn other (own_handles processes locks owner) → other ≢ at → get locks1 other ≡ get locks other
+    joined_others1 other absent = others1 other (λ found. absent (subst (λ l. IsIn other (handles_of own_links locks l)) head found))
 
-    pub process_joined_others : (p : ℕ) → p ≢ owner → own_keys left_processes locks1 p ≡ own_keys processes locks p
+    pub process_joined_others : (p : ℕ) → p ≢ owner → own_handles left_processes locks1 p ≡ own_handles processes locks p
     process_joined_others =
         family-put_others own_links owner_in cases_eq locks locks1 locks1 (own_list processes) (own_list left_processes) own1 at owner (λ k. refl) (λ k. refl) (λ k h. h) linked1 head_here head_elsewhere
-        owned joined_keys1 joined_others1
+        owned joined_handles1 joined_others1
 
     pub process_joined : IsOwned left_processes locks1 None
     process_joined =
         family-put own_links owner_in cases_eq locks locks1 locks1 (own_list processes) (own_list left_processes) own1 at owner (λ k. refl) (λ k. refl) (λ k h. h) linked1 head_here head_elsewhere
-        owned joined_keys1 joined_others1 (owners at ∙ is) (λ k _. owners k)
+        owned joined_handles1 joined_others1 (owners at ∙ is) (λ k _. owners k)
 
 -- ---- the locks below a parent
 
@@ -102,7 +102,7 @@ module _ (processes : Slab Process) (locks locks1 : Slab Lock) (at owner : ℕ) 
 pub parent_there : (locks : Slab Lock) → IsBelow locks None → (at parent : ℕ) → parent_in (get locks at) ≡ Some parent → ContainsKey locks parent
 parent_there locks below at parent is = by_slot (get locks parent) refl (below.stands parent at (λ e. none-some at (sym e)) is)
   where
-    by_slot : (slot : Option Lock) → get locks parent ≡ slot → IsIn at (keys_of below_links locks (below_in slot)) → ContainsKey locks parent
+    by_slot : (slot : Option Lock) → get locks parent ≡ slot → IsIn at (handles_of below_links locks (below_in slot)) → ContainsKey locks parent
     by_slot None is found = absurd found
     by_slot (Some l) is found = rw is refl
 
@@ -148,43 +148,43 @@ module _ (locks locks1 : Slab Lock) (at parent : ℕ) (first was : Lock) (subloc
   parents : (k : ℕ) → parent_in (get left_locks k) ≡ parent_in (get locks k)
   parents k = written parent_in (λ l list. refl) k ∙ relinked_same with_below_links parent_in (λ l pair. refl) locks locks1 relinks k
 
-  module _ (below : IsBelow locks None) (is : parent_in (get locks at) ≡ Some parent) (keys1 : keys_of below_links locks1 sublocks1 ≡ without at (keys_of below_links locks first.sublocks))
-      (others1 : (other : ℕ) → ¬ IsIn other (keys_of below_links locks first.sublocks) → get locks1 other ≡ get locks other) where
-    down_keys1 : keys_of below_links locks1 sublocks1 ≡ without at (below_keys locks parent)
-    down_keys1 = keys1 ∙ ap (λ l. without at (keys_of below_links locks l)) below_head
+  module _ (below : IsBelow locks None) (is : parent_in (get locks at) ≡ Some parent) (handles1 : handles_of below_links locks1 sublocks1 ≡ without at (handles_of below_links locks first.sublocks))
+      (others1 : (other : ℕ) → ¬ IsIn other (handles_of below_links locks first.sublocks) → get locks1 other ≡ get locks other) where
+    down_handles1 : handles_of below_links locks1 sublocks1 ≡ without at (below_handles locks parent)
+    down_handles1 = handles1 ∙ ap (λ l. without at (handles_of below_links locks l)) below_head
 
-    down_others1 : (other : ℕ) → ¬ IsIn other (below_keys locks parent) → get locks1 other ≡ get locks other
-    down_others1 other absent = others1 other (λ found. absent (subst (λ l. IsIn other (keys_of below_links locks l)) below_head found))
+    down_others1 : (other : ℕ) → ¬ IsIn other (below_handles locks parent) → get locks1 other ≡ get locks other
+    down_others1 other absent = others1 other (λ found. absent (subst (λ l. IsIn other (handles_of below_links locks l)) below_head found))
 
-    pub parent_left_keys : (p : ℕ) → below_keys left_locks p ≡ without at (below_keys locks p)
-    parent_left_keys =
-        family-taken_keys below_links parent_in cases_eq locks locks1 left_locks (below_list locks) (below_list left_locks) sublocks1 at parent nexts prevs there linked1 below_here below_elsewhere
-        below is down_keys1 down_others1
+    pub parent_left_handles : (p : ℕ) → below_handles left_locks p ≡ without at (below_handles locks p)
+    parent_left_handles =
+        family-taken_handles below_links parent_in cases_eq locks locks1 left_locks (below_list locks) (below_list left_locks) sublocks1 at parent nexts prevs there linked1 below_here below_elsewhere
+        below is down_handles1 down_others1
 
     pub parent_left : IsBelow left_locks (Some at)
     parent_left =
         family-taken below_links parent_in cases_eq locks locks1 left_locks (below_list locks) (below_list left_locks) sublocks1 at parent nexts prevs there linked1 below_here below_elsewhere
-        below is down_keys1 down_others1 parents
+        below is down_handles1 down_others1 parents
 
-  module _ (below : IsBelow locks (Some at)) (is : parent_in (get locks at) ≡ Some parent) (keys1 : keys_of below_links locks1 sublocks1 ≡ keys_of below_links locks first.sublocks ++ at ∷ [])
-      (others1 : (other : ℕ) → ¬ IsIn other (keys_of below_links locks first.sublocks) → other ≢ at → get locks1 other ≡ get locks other) where
-    up_keys1 : keys_of below_links locks1 sublocks1 ≡ below_keys locks parent ++ at ∷ []
-    up_keys1 = keys1 ∙ ap (λ l. keys_of below_links locks l ++ at ∷ []) below_head
+  module _ (below : IsBelow locks (Some at)) (is : parent_in (get locks at) ≡ Some parent) (handles1 : handles_of below_links locks1 sublocks1 ≡ handles_of below_links locks first.sublocks ++ at ∷ [])
+      (others1 : (other : ℕ) → ¬ IsIn other (handles_of below_links locks first.sublocks) → other ≢ at → get locks1 other ≡ get locks other) where
+    up_handles1 : handles_of below_links locks1 sublocks1 ≡ below_handles locks parent ++ at ∷ []
+    up_handles1 = handles1 ∙ ap (λ l. handles_of below_links locks l ++ at ∷ []) below_head
 
-    up_others1 : (other : ℕ) → ¬ IsIn other (below_keys locks parent) → other ≢ at → get locks1 other ≡ get locks other
-    up_others1 other absent = others1 other (λ found. absent (subst (λ l. IsIn other (keys_of below_links locks l)) below_head found))
+    up_others1 : (other : ℕ) → ¬ IsIn other (below_handles locks parent) → other ≢ at → get locks1 other ≡ get locks other
+    up_others1 other absent = others1 other (λ found. absent (subst (λ l. IsIn other (handles_of below_links locks l)) below_head found))
 
-    pub parent_joined_here : below_keys left_locks parent ≡ below_keys locks parent ++ at ∷ []
+    pub parent_joined_here : below_handles left_locks parent ≡ below_handles locks parent ++ at ∷ []
     parent_joined_here =
         family-put_here below_links parent_in cases_eq locks locks1 left_locks (below_list locks) (below_list left_locks) sublocks1 at parent nexts prevs there linked1 below_here below_elsewhere
-        below up_keys1 up_others1
+        below up_handles1 up_others1
 
-    pub parent_joined_others : (p : ℕ) → p ≢ parent → below_keys left_locks p ≡ below_keys locks p
+    pub parent_joined_others : (p : ℕ) → p ≢ parent → below_handles left_locks p ≡ below_handles locks p
     parent_joined_others =
         family-put_others below_links parent_in cases_eq locks locks1 left_locks (below_list locks) (below_list left_locks) sublocks1 at parent nexts prevs there linked1 below_here below_elsewhere
-        below up_keys1 up_others1
+        below up_handles1 up_others1
 
     pub parent_joined : IsBelow left_locks None
     parent_joined =
         family-put below_links parent_in cases_eq locks locks1 left_locks (below_list locks) (below_list left_locks) sublocks1 at parent nexts prevs there linked1 below_here below_elsewhere
-        below up_keys1 up_others1 (parents at ∙ is) (λ k _. parents k)
+        below up_handles1 up_others1 (parents at ∙ is) (λ k _. parents k)

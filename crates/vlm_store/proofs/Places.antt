@@ -5,19 +5,19 @@ use Rattle.std.proofs.lemmas.Option.{none-some, same_Some}
 use Rattle.std.specs.Option.{option_map}
 use Rattle.slab.specs.Slab.{Slab, get, ContainsKey}
 use Rattle.vlm_links.specs.declared.lists.LinkedList.{LinkedList}
-use Rattle.vlm_links.specs.Lists.{IsIn, IsLinked, IsNoList, Relinks, keys_of, next_in, prev_in, without}
+use Rattle.vlm_links.specs.Lists.{IsIn, IsLinked, IsNoList, Relinks, handles_of, next_in, prev_in, without}
 use Rattle.vlm_links.proofs.Keeping.{relinked_same}
 use Rattle.vlm_words.specs.declared.resources.Queue.{Queue}
 use Rattle.vlm_words.specs.declared.resources.Queue.TheVariants.{Granted, Conversion, Waiting}
-use Rattle.vlm_store.specs.declared.keys.Place.{Place}
-use Rattle.vlm_store.specs.declared.keys.Place.TheVariants.{Loose, Queued}
+use Rattle.vlm_store.specs.declared.handles.Place.{Place}
+use Rattle.vlm_store.specs.declared.handles.Place.TheVariants.{Loose, Queued}
 use Rattle.vlm_store.specs.declared.locks.InQueue.{InQueue}
 use Rattle.vlm_store.specs.declared.locks.Lock.{Lock}
 use Rattle.vlm_store.specs.declared.queues.Queues.{Queues}
 use Rattle.vlm_store.specs.declared.resources.Resource.{Resource}
-use Rattle.vlm_store.proofs.Families.{family-keys, family-kept, family-put, family-put_here, family-put_others, family-taken, family-taken_keys, one_list}
+use Rattle.vlm_store.proofs.Families.{family-handles, family-kept, family-put, family-put_here, family-put_others, family-taken, family-taken_handles, one_list}
 use Rattle.vlm_store.specs.Holdings.{named_lock}
-use Rattle.vlm_store.specs.Shown.{IsPlaced, IsThere, SameBut, but_lists, but_place, but_queued, but_row, but_tally, keys_at, list_at, list_in, lkid_of, noted, noted_in, no_list, queue_links, row_in, tally_in, with_queue_links}
+use Rattle.vlm_store.specs.Shown.{IsPlaced, IsThere, SameBut, but_lists, but_place, but_queued, but_row, but_tally, handles_at, list_at, list_in, lkid_of, noted, noted_in, no_list, queue_links, row_in, tally_in, with_queue_links}
 
 pub queue_cases : (p q : Queue) → (p ≡ q) ⊎ (p ≢ q)
 queue_cases Granted Granted = inl refl
@@ -42,21 +42,21 @@ place_cases (Queued a p) (Queued b q) =
 
 -- what a record shows that is not of the part that changed
 pub through : {T X : Type 0} (part : T → T) (shown : Option T → X) → ((slot : Option T) → shown (option_map part slot) ≡ shown slot)
-    → (old new : Slab T) → SameBut part old new → (key : ℕ) → shown (get new key) ≡ shown (get old key)
-through part shown apart old new same key = sym (apart (get new key)) ∙ ap shown (same key) ∙ apart (get old key)
+    → (old new : Slab T) → SameBut part old new → (handle : ℕ) → shown (get new handle) ≡ shown (get old handle)
+through part shown apart old new same handle = sym (apart (get new handle)) ∙ ap shown (same handle) ∙ apart (get old handle)
 
-pub there_through : {T X : Type 0} (part : T → X) → (old new : Slab T) → SameBut part old new → (key : ℕ) → ContainsKey old key → ContainsKey new key
-there_through {T} {X} part old new same key here = sym (is_apart (get new key)) ∙ ap is_some (same key) ∙ is_apart (get old key) ∙ here
+pub there_through : {T X : Type 0} (part : T → X) → (old new : Slab T) → SameBut part old new → (handle : ℕ) → ContainsKey old handle → ContainsKey new handle
+there_through {T} {X} part old new same handle here = sym (is_apart (get new handle)) ∙ ap is_some (same handle) ∙ is_apart (get old handle) ∙ here
   where
     is_apart : (slot : Option T) → is_some (option_map part slot) ≡ is_some slot
     is_apart None = refl
     is_apart (Some r) = refl
 
 pub same_then : {T X : Type 0} (part : T → X) → (a b c : Slab T) → SameBut part a b → SameBut part b c → SameBut part a c
-same_then part a b c first second key = second key ∙ first key
+same_then part a b c first second handle = second handle ∙ first handle
 
 pub same_eq : {T X : Type 0} (part : T → X) → (a b : Slab T) → b ≡ a → SameBut part a b
-same_eq part a b is key = ap (λ s. option_map part (get s key)) is
+same_eq part a b is handle = ap (λ s. option_map part (get s handle)) is
 
 -- a lock that is there notes its place
 pub noted_there : (slot : Option Lock) → IsSome slot → (place : Place) × (noted_in slot ≡ Some place)
@@ -69,25 +69,25 @@ there_noted None place is = cc
 there_noted (Some l) place is = refl
 
 -- no lock stands in the queues of a resource that is not there
-pub stands_there : (q : Queues) (place : Place) (at : ℕ) → IsIn at (keys_at q place) → IsThere q.resources place
+pub stands_there : (q : Queues) (place : Place) (at : ℕ) → IsIn at (handles_at q place) → IsThere q.resources place
 stands_there q Loose at found = tt
 stands_there q (Queued res queue) at found = by_slot (get q.resources res) refl found
   where
-    by_slot : (slot : Option Resource) → get q.resources res ≡ slot → IsIn at (keys_of queue_links q.locks (list_in queue slot)) → ContainsKey q.resources res
+    by_slot : (slot : Option Resource) → get q.resources res ≡ slot → IsIn at (handles_of queue_links q.locks (list_in queue slot)) → ContainsKey q.resources res
     by_slot None is found = absurd found
     by_slot (Some r) is found = rw is refl
 
 module _ (q : Queues) (out : Option ℕ) (placed : IsPlaced q out) where
   -- a lock stands at one place
-  pub one_place : (at : ℕ) (p p' : Place) → IsIn at (keys_at q p) → IsIn at (keys_at q p') → p ≡ p'
+  pub one_place : (at : ℕ) (p p' : Place) → IsIn at (handles_at q p) → IsIn at (handles_at q p') → p ≡ p'
   one_place = one_list queue_links noted_in q.locks (list_at q) out placed
 
   -- lists stay where heads, links and noted places do
   module _ (q' : Queues) (lists : (p : Place) → list_at q' p ≡ list_at q p)
       (nexts : (k : ℕ) → next_in queue_links (get q'.locks k) ≡ next_in queue_links (get q.locks k)) (prevs : (k : ℕ) → prev_in queue_links (get q'.locks k) ≡ prev_in queue_links (get q.locks k))
       (there : (k : ℕ) → ContainsKey q.locks k → ContainsKey q'.locks k) where
-    pub kept_keys : (p : Place) → keys_at q' p ≡ keys_at q p
-    kept_keys = family-keys queue_links noted_in q.locks (list_at q) out placed q'.locks (list_at q') lists (λ i k _. nexts k) (λ i k _. prevs k) (λ i k _. there k)
+    pub kept_handles : (p : Place) → handles_at q' p ≡ handles_at q p
+    kept_handles = family-handles queue_links noted_in q.locks (list_at q) out placed q'.locks (list_at q') lists (λ i k _. nexts k) (λ i k _. prevs k) (λ i k _. there k)
 
     pub kept_placed : ((k : ℕ) → noted q' k ≡ noted q k) → IsPlaced q' out
     kept_placed = family-kept queue_links noted_in q.locks (list_at q) out placed q'.locks (list_at q') lists (λ i k _. nexts k) (λ i k _. prevs k) (λ i k _. there k)
@@ -109,18 +109,18 @@ noted_relinked old new relinks k = noted_by (get new k) (get old k) (relinked_sa
 
 -- a lock is taken off
 module _ (q q' : Queues) (locks1 : Slab Lock) (list1 : LinkedList InQueue) (at : ℕ) (place : Place) (placed : IsPlaced q None) (is : noted q at ≡ Some place)
-    (linked1 : IsLinked queue_links locks1 list1) (keys1 : keys_of queue_links locks1 list1 ≡ without at (keys_at q place))
-    (others1 : (other : ℕ) → ¬ IsIn other (keys_at q place) → get locks1 other ≡ get q.locks other) (relinks1 : Relinks with_queue_links q.locks locks1)
+    (linked1 : IsLinked queue_links locks1 list1) (handles1 : handles_of queue_links locks1 list1 ≡ without at (handles_at q place))
+    (others1 : (other : ℕ) → ¬ IsIn other (handles_at q place) → get locks1 other ≡ get q.locks other) (relinks1 : Relinks with_queue_links q.locks locks1)
     (here : list_at q' place ≡ list1) (elsewhere : (other : Place) → other ≢ place → list_at q' other ≡ list_at q other) (locks : q'.locks ≡ locks1) where
-  pub taken-keys : (p : Place) → keys_at q' p ≡ without at (keys_at q p)
-  taken-keys =
-      family-taken_keys queue_links noted_in place_cases q.locks locks1 q'.locks (list_at q) (list_at q') list1 at place (λ k. ap (λ s. next_in queue_links (get s k)) locks)
-      (λ k. ap (λ s. prev_in queue_links (get s k)) locks) (λ k. subst (λ s. ContainsKey s k) (sym locks)) linked1 here elsewhere placed is keys1 others1
+  pub taken-handles : (p : Place) → handles_at q' p ≡ without at (handles_at q p)
+  taken-handles =
+      family-taken_handles queue_links noted_in place_cases q.locks locks1 q'.locks (list_at q) (list_at q') list1 at place (λ k. ap (λ s. next_in queue_links (get s k)) locks)
+      (λ k. ap (λ s. prev_in queue_links (get s k)) locks) (λ k. subst (λ s. ContainsKey s k) (sym locks)) linked1 here elsewhere placed is handles1 others1
 
   pub taken-placed : IsPlaced q' (Some at)
   taken-placed =
       family-taken queue_links noted_in place_cases q.locks locks1 q'.locks (list_at q) (list_at q') list1 at place (λ k. ap (λ s. next_in queue_links (get s k)) locks)
-      (λ k. ap (λ s. prev_in queue_links (get s k)) locks) (λ k. subst (λ s. ContainsKey s k) (sym locks)) linked1 here elsewhere placed is keys1 others1
+      (λ k. ap (λ s. prev_in queue_links (get s k)) locks) (λ k. subst (λ s. ContainsKey s k) (sym locks)) linked1 here elsewhere placed is handles1 others1
       (λ k. ap (λ s. noted_in (get s k)) locks ∙ noted_relinked q.locks locks1 relinks1 k)
 
 next_but_place : (slot : Option Lock) → next_in queue_links (option_map but_place slot) ≡ next_in queue_links slot
@@ -133,8 +133,8 @@ prev_but_place (Some l) = refl
 
 -- a lock is put at the end
 module _ (q q1 q' : Queues) (locks1 : Slab Lock) (list1 : LinkedList InQueue) (at : ℕ) (place : Place) (placed : IsPlaced q (Some at))
-    (linked1 : IsLinked queue_links locks1 list1) (keys1 : keys_of queue_links locks1 list1 ≡ keys_at q place ++ at ∷ [])
-    (others1 : (other : ℕ) → ¬ IsIn other (keys_at q place) → other ≢ at → get locks1 other ≡ get q.locks other) (relinks1 : Relinks with_queue_links q.locks locks1)
+    (linked1 : IsLinked queue_links locks1 list1) (handles1 : handles_of queue_links locks1 list1 ≡ handles_at q place ++ at ∷ [])
+    (others1 : (other : ℕ) → ¬ IsIn other (handles_at q place) → other ≢ at → get locks1 other ≡ get q.locks other) (relinks1 : Relinks with_queue_links q.locks locks1)
     (here : list_at q1 place ≡ list1) (elsewhere : (other : Place) → other ≢ place → list_at q1 other ≡ list_at q other) (locks : q1.locks ≡ locks1)
     (note : noted q' at ≡ Some place) (others2 : (other : ℕ) → other ≢ at → get q'.locks other ≡ get q1.locks other) (rest2 : SameBut but_place q1.locks q'.locks)
     (lists2 : (p : Place) → list_at q' p ≡ list_at q1 p) where
@@ -150,17 +150,17 @@ module _ (q q1 q' : Queues) (locks1 : Slab Lock) (list1 : LinkedList InQueue) (a
   elsewhere2 : (other : Place) → other ≢ place → list_at q' other ≡ list_at q other
   elsewhere2 other differs = lists2 other ∙ elsewhere other differs
 
-  pub put-here : keys_at q' place ≡ keys_at q place ++ at ∷ []
+  pub put-here : handles_at q' place ≡ handles_at q place ++ at ∷ []
   put-here =
-      family-put_here queue_links noted_in place_cases q.locks locks1 q'.locks (list_at q) (list_at q') list1 at place next2 prev2 there2 linked1 (lists2 place ∙ here) elsewhere2 placed keys1 others1
+      family-put_here queue_links noted_in place_cases q.locks locks1 q'.locks (list_at q) (list_at q') list1 at place next2 prev2 there2 linked1 (lists2 place ∙ here) elsewhere2 placed handles1 others1
 
-  pub put-others : (p : Place) → p ≢ place → keys_at q' p ≡ keys_at q p
+  pub put-others : (p : Place) → p ≢ place → handles_at q' p ≡ handles_at q p
   put-others =
-      family-put_others queue_links noted_in place_cases q.locks locks1 q'.locks (list_at q) (list_at q') list1 at place next2 prev2 there2 linked1 (lists2 place ∙ here) elsewhere2 placed keys1 others1
+      family-put_others queue_links noted_in place_cases q.locks locks1 q'.locks (list_at q) (list_at q') list1 at place next2 prev2 there2 linked1 (lists2 place ∙ here) elsewhere2 placed handles1 others1
 
   pub put-placed : IsPlaced q' None
   put-placed =
-      family-put queue_links noted_in place_cases q.locks locks1 q'.locks (list_at q) (list_at q') list1 at place next2 prev2 there2 linked1 (lists2 place ∙ here) elsewhere2 placed keys1 others1 note
+      family-put queue_links noted_in place_cases q.locks locks1 q'.locks (list_at q) (list_at q') list1 at place next2 prev2 there2 linked1 (lists2 place ∙ here) elsewhere2 placed handles1 others1 note
       (λ k differs. ap noted_in (others2 k differs) ∙ ap (λ s. noted_in (get s k)) locks ∙ noted_relinked q.locks locks1 relinks1 k)
 
 -- counts say nothing of the lists
@@ -211,9 +211,9 @@ prev_but_row None = refl
 prev_but_row (Some l) = refl
 
 module _ (q q' : Queues) (out : Option ℕ) (placed : IsPlaced q out) (rest : SameBut but_row q.locks q'.locks) (resources : q'.resources ≡ q.resources) (loose : q'.loose ≡ q.loose) where
-  pub written_keys : (p : Place) → keys_at q' p ≡ keys_at q p
-  written_keys =
-      kept_keys q out placed q' (lists_same q q' resources loose) (through but_row (next_in queue_links) next_but_row q.locks q'.locks rest)
+  pub written_handles : (p : Place) → handles_at q' p ≡ handles_at q p
+  written_handles =
+      kept_handles q out placed q' (lists_same q q' resources loose) (through but_row (next_in queue_links) next_but_row q.locks q'.locks rest)
       (through but_row (prev_in queue_links) prev_but_row q.locks q'.locks rest) (there_through but_row q.locks q'.locks rest)
 
   pub written_placed : IsPlaced q' out
@@ -223,9 +223,9 @@ module _ (q q' : Queues) (out : Option ℕ) (placed : IsPlaced q out) (rest : Sa
 
 -- all stays in its place where counts are written
 module _ (q q' : Queues) (out : Option ℕ) (placed : IsPlaced q out) (rest : SameBut but_tally q.resources q'.resources) (loose : q'.loose ≡ q.loose) (locks : q'.locks ≡ q.locks) where
-  pub counted_keys : (p : Place) → keys_at q' p ≡ keys_at q p
-  counted_keys =
-      kept_keys q out placed q' (lists_but_tally q q' rest loose) (λ k. ap (λ s. next_in queue_links (get s k)) locks) (λ k. ap (λ s. prev_in queue_links (get s k)) locks) (λ k. subst (λ s. ContainsKey s k) (sym locks))
+  pub counted_handles : (p : Place) → handles_at q' p ≡ handles_at q p
+  counted_handles =
+      kept_handles q out placed q' (lists_but_tally q q' rest loose) (λ k. ap (λ s. next_in queue_links (get s k)) locks) (λ k. ap (λ s. prev_in queue_links (get s k)) locks) (λ k. subst (λ s. ContainsKey s k) (sym locks))
 
   pub counted_placed : IsPlaced q' out
   counted_placed =
@@ -234,7 +234,7 @@ module _ (q q' : Queues) (out : Option ℕ) (placed : IsPlaced q out) (rest : Sa
 
 -- an empty list has nothing in it
 pub no_list_is : {Kind : Type 0} (list : LinkedList Kind) → IsNoList list → list ≡ no_list
-no_list_is list none = λ i. record { first = none.no_first i; last = none.no_last i; len = none.no_keys i; kind = list.kind }
+no_list_is list none = λ i. record { first = none.no_first i; last = none.no_last i; len = none.no_handles i; kind = list.kind }
 
 -- a record that is there has the identification of its row
 pub lkid_of_row : (slot : Option Lock) → IsSome slot → option_map lkid_of slot ≡ Some (row_in slot).lkid

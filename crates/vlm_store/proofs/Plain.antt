@@ -1,10 +1,10 @@
--- The processes without their keys: for callers.
+-- The processes without their handles: for callers.
 use Rattle.std.proofs.Common.{◌≡◌, ◌≢◌, ℕ, List, [], ◌∷◌, map, None, Some, refl, sym, ap, ◌∙◌, inl, inr, eq-eqb, ne_eqb}
 use Rattle.std.specs.Prelude.{◌==◌, if◌then◌else◌}
 use Rattle.std.proofs.lemmas.Bool.{cases_eq}
 use Rattle.vlm_words.specs.State.{Process, process_of}
 use Rattle.vlm_links.specs.Lists.{IsIn}
-use Rattle.vlm_store.specs.Records.{AreProcessesApart, StoredProcess, but_blocks, on_process, process_at}
+use Rattle.vlm_store.specs.Records.{AreProcessesApart, StoredProcess, but_notices, on_process, process_at}
 
 -- the process of an identification
 module _ (p : StoredProcess) where
@@ -16,7 +16,7 @@ module _ (p : StoredProcess) where
         | inr there ↦ rw (ne_eqb x.process.pid p.process.pid (λ same. (apart.0 p there).1 (sym same))) (process_of-stored ps apart.1 there)
       ]
 
-  -- the process of a key
+  -- the process of a handle
   pub process_at-stored : (ps : List StoredProcess) → AreProcessesApart ps → IsIn p ps → process_at p.at ps ≡ Some p
   process_at-stored [] apart found = absurd found
   process_at-stored (x ∷ ps) apart found =
@@ -25,7 +25,7 @@ module _ (p : StoredProcess) where
         | inr there ↦ rw (ne_eqb x.at p.at (λ same. (apart.0 p there).0 (sym same))) (process_at-stored ps apart.1 there)
       ]
 
-  -- a change by the key is one by the identification
+  -- a change by the handle is one by the identification
   on_others : (change : Process → Process) (ps : List StoredProcess) → ((x : StoredProcess) → IsIn x ps → (x.at ≢ p.at) × (x.process.pid ≢ p.process.pid))
       → map (λ (x : StoredProcess). x.process) (on_process p.at change ps) ≡ map (λ (x : Process). if x.pid == p.process.pid then change x else x) (map (λ (x : StoredProcess). x.process) ps)
   on_others change [] others = refl
@@ -56,13 +56,13 @@ process_of-none pid [] absent = refl
 process_of-none pid (x ∷ ps) absent = rw (ne_eqb x.process.pid pid (absent x (inl refl))) (process_of-none pid ps (λ p there. absent p (inr there)))
 
 -- a change of status blocks and ASTs alone
-pub but_blocks-on_process : (at : ℕ) (change : Process → Process) → ((p : Process) → record (change p) { blocks = []; asts = [] } ≡ record p { blocks = []; asts = [] }) → (ps : List StoredProcess)
-    → map but_blocks (on_process at change ps) ≡ map but_blocks ps
-but_blocks-on_process at change same [] = refl
-but_blocks-on_process at change same (x ∷ ps) =
+pub but_notices-on_process : (at : ℕ) (change : Process → Process) → ((p : Process) → record (change p) { blocks = []; asts = [] } ≡ record p { blocks = []; asts = [] }) → (ps : List StoredProcess)
+    → map but_notices (on_process at change ps) ≡ map but_notices ps
+but_notices-on_process at change same [] = refl
+but_notices-on_process at change same (x ∷ ps) =
     elim (cases_eq x.at at) [
       | inl is ↦
           rw (eq-eqb x.at at is)
-          (ap (λ q. record { at = x.at; process = q; own = x.own } ∷ map but_blocks (on_process at change ps)) (same x.process) ∙ ap (λ rest. but_blocks x ∷ rest) (but_blocks-on_process at change same ps))
-      | inr differs ↦ rw (ne_eqb x.at at differs) (ap (λ rest. but_blocks x ∷ rest) (but_blocks-on_process at change same ps))
+          (ap (λ q. record { at = x.at; process = q; own = x.own } ∷ map but_notices (on_process at change ps)) (same x.process) ∙ ap (λ rest. but_notices x ∷ rest) (but_notices-on_process at change same ps))
+      | inr differs ↦ rw (ne_eqb x.at at differs) (ap (λ rest. but_notices x ∷ rest) (but_notices-on_process at change same ps))
     ]

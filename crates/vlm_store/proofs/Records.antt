@@ -1,4 +1,4 @@
--- General facts on records: what is found under a key, what stands nowhere else, and what a move leaves alone.
+-- General facts on records: what is found under a handle, what stands nowhere else, and what a move leaves alone.
 use Rattle.std.proofs.Common.{◌≡◌, ◌≢◌, ℕ, Bool, List, [], ◌∷◌, ◌++◌, map, true, false, ◌&&◌, cond, Some, refl, sym, ap, ◌∙◌, subst, inl, inr, eq-eqb, ne_eqb}
 use Rattle.std.specs.Prelude.{◌==◌}
 use Rattle.std.specs.Option.{option_map_or}
@@ -7,8 +7,8 @@ use Rattle.vlm_words.specs.declared.locks.Row.{Row}
 use Rattle.vlm_words.specs.declared.resources.Queue.{Queue}
 use Rattle.vlm_words.specs.declared.resources.Queue.TheVariants.{Granted, Conversion, Waiting}
 use Rattle.vlm_links.specs.Lists.{IsIn}
-use Rattle.vlm_store.specs.declared.keys.Place.{Place}
-use Rattle.vlm_store.specs.declared.keys.Place.TheVariants.{Loose, Queued}
+use Rattle.vlm_store.specs.declared.handles.Place.{Place}
+use Rattle.vlm_store.specs.declared.handles.Place.TheVariants.{Loose, Queued}
 use Rattle.vlm_store.specs.Records.{AreResourcesApart, IsSound, Records, StoredLock, StoredResource, is_place, is_queue, joined_by, locks_at, moving, on_resource, queued, resource_at, resource_with, with_lists, without_lock}
 
 -- ---- places
@@ -59,7 +59,7 @@ pub map_on : {B : Type 0} (f g : StoredResource → B) (rs : List StoredResource
 map_on f g [] same = refl
 map_on f g (r ∷ rs) same = ap (λ x. x ∷ map f rs) (same r (inl refl)) ∙ ap (λ xs. g r ∷ xs) (map_on f g rs (λ x there. same x (inr there)))
 
--- a resource is found by its key
+-- a resource is found by its handle
 pub resource_is : (r : StoredResource) (rs : List StoredResource) → AreResourcesApart rs → IsIn r rs → resource_at r.at rs ≡ Some r
 resource_is r [] apart found = absurd found
 resource_is r (x ∷ rs) apart found =

@@ -9,7 +9,7 @@ use Rattle.vlm_store.specs.Holdings.{holding, pid_at, plain_in, plain_process}
 use Rattle.vlm_store.specs.Kept.{IsKept, beside_shown, records_shown, rooms_shown}
 use Rattle.vlm_store.specs.Records.{on_process}
 use Rattle.vlm_store.specs.Store.{tables}
-use Rattle.vlm_store.proofs.Declaring.{process_named, process_own_keys, process_owned, rewritten, written_keys, written_linked, written_others, written_owns, written_pids, written_plain, written_whole}
+use Rattle.vlm_store.proofs.Declaring.{process_named, process_own_handles, process_owned, rewritten, written_handles, written_linked, written_others, written_owns, written_pids, written_plain, written_whole}
 use Rattle.vlm_store.proofs.Indexing.{Indexes-same}
 use Rattle.vlm_store.proofs.Kinship.{processes_changed}
 use Rattle.vlm_store.proofs.Members.{process_written}
@@ -50,8 +50,8 @@ module _ (s : Inside) (kept : IsKept s) (at : ℕ) (was now : Process) (here : g
       written_plain s.processes at was now here own order pid ∙ is ∙ ap (λ slot. change (plain_in slot)) (sym here) in
       processes_changed s.queues s.order (beside_shown s) (beside_shown (record s { processes = processes })) (on_process at change)
       (process_written (holding s.processes s.queues.locks s.process_order) (holding processes s.queues.locks s.process_order) (λ k. refl) at change plain
-      (written_others s.processes at was now here own order pid) (process_own_keys s.processes processes s.queues.locks owns)
-      (written_keys s.processes at was now here own order pid s.process_order kept.processes_linked))
+      (written_others s.processes at was now here own order pid) (process_own_handles s.processes processes s.queues.locks owns)
+      (written_handles s.processes at was now here own order pid s.process_order kept.processes_linked))
       ∙ ap (λ r. record (records_shown s) { processes = on_process at change (records_shown s).processes; room = r })
       (room_shown (λ a b. b ≡ a) (tables s.queues s.order (beside_shown s)) (tables s.queues s.order (beside_shown (record s { processes = processes })))
       (ap (λ p. record (rooms_shown s) { processes = p })

@@ -4,7 +4,7 @@ use Rattle.std.specs.Map.{lookup}
 use Rattle.std.specs.Option.{option_map}
 use Rattle.slab.specs.Slab.{Slab, get, HasRoomFor}
 use Rattle.indexmap.specs.IndexMap.{IndexMap, get as found, spare}
-use Rattle.vlm_links.specs.declared.link.TheConstants.{LAST_KEY}
+use Rattle.vlm_links.specs.declared.link.TheConstants.{LAST_HANDLE}
 use Rattle.vlm_store.specs.declared.locks.Lock.{Lock}
 use Rattle.vlm_store.specs.declared.processes.Process.{Process}
 use Rattle.vlm_store.specs.declared.queues.Queues.{Queues}
@@ -12,7 +12,7 @@ use Rattle.vlm_store.specs.declared.resources.Resource.{Resource}
 use Rattle.vlm_store.specs.declared.store.Store.TheInside.{Inside}
 use Rattle.vlm_store.specs.Records.{HasRoom, IsGivenBack, IsNoLess, IsTaken, IsUnchanged, Records, Room, Rooms}
 use Rattle.vlm_store.specs.Shown.{but_queued, lkid_of, room_in}
-use Rattle.vlm_store.proofs.Rooms.{room_has, room_key, room_place, room_reserved}
+use Rattle.vlm_store.proofs.Rooms.{room_has, room_handle, room_slot, room_reserved}
 use Rattle.vlm_store.specs.Store.{Layout, lkid_at, records_of, room_of, tables}
 use Rattle.vlm_store.specs.Holdings.{holding, processes_of}
 use Rattle.vlm_store.specs.Kept.{IsKept, processes_shown, records_shown, rooms_shown}
@@ -27,16 +27,16 @@ rooms locks resources processes = record { locks = locks; resources = resources;
 module _ {T : Type 0} where
   -- what a caller sees of the room of a slab
   pub room_of_same : (old new : Slab T) (finds : ℕ) → room_in new ≡ room_in old → room_of new finds ≡ room_of old finds
-  room_of_same old new finds same = ap (λ (p : ℕ × ℕ). record { places = p.0; next_key = p.1; finds = finds }) same
+  room_of_same old new finds same = ap (λ (p : ℕ × ℕ). record { slots = p.0; next_handle = p.1; finds = finds }) same
 
   pub room_of_less : (old new : Slab T) (had finds : ℕ) → new ≡ record old { capacity = new.capacity } → old.capacity ≤ new.capacity → had ≤ finds → IsNoLess (room_of old had) (room_of new finds)
   room_of_less old new had finds is more finds_more =
       let made = room_reserved old new is more in
-      record { places = made.0; next_key = made.1; finds = finds_more }
+      record { slots = made.0; next_handle = made.1; finds = finds_more }
 
 -- no less than itself
 pub no_less : (room : Room) → IsNoLess room room
-no_less room = record { places = omega arith; next_key = refl; finds = omega arith }
+no_less room = record { slots = omega arith; next_handle = refl; finds = omega arith }
 
 -- each kind has its room
 pub rooms_are : (a b c a' b' c' : Room) → a' ≡ a → b' ≡ b → c' ≡ c → rooms a' b' c' ≡ rooms a b c
@@ -104,17 +104,17 @@ pub is_taken : {T : Type 0} (old roomy new : Slab T) (had has left : ℕ) → ro
     → had ≤ has → has ≤ left + 1 → IsTaken (room_of old had) (room_of new left)
 is_taken old roomy new had has left is more taken finds used =
     let made = room_reserved old roomy is more in
-    let places = made.0 in
-    record { places = omega arith; finds = omega arith }
+    let slots = made.0 in
+    record { slots = omega arith; finds = omega arith }
 
 -- a record is removed
-pub is_given_back : {T : Type 0} (old new : Slab T) (key had has : ℕ) → room_in new ≡ ((room_in old).0 + 1, key) → key ≤ LAST_KEY → had ≤ has → IsGivenBack (room_of old had) (room_of new has)
-is_given_back old new key had has back low finds =
-    record { places = ap (λ (p : ℕ × ℕ). p.0) back; next_key = subst (λ k. k ≤ LAST_KEY) (sym (ap (λ (p : ℕ × ℕ). p.1) back)) low; finds = finds }
+pub is_given_back : {T : Type 0} (old new : Slab T) (handle had has : ℕ) → room_in new ≡ ((room_in old).0 + 1, handle) → handle ≤ LAST_HANDLE → had ≤ has → IsGivenBack (room_of old had) (room_of new has)
+is_given_back old new handle had has back low finds =
+    record { slots = ap (λ (p : ℕ × ℕ). p.0) back; next_handle = subst (λ k. k ≤ LAST_HANDLE) (sym (ap (λ (p : ℕ × ℕ). p.1) back)) low; finds = finds }
 
 -- there is room in a slab for which a caller sees it
-pub has_room : {T : Type 0} (nodes : Slab T) (finds : ℕ) → HasRoom (room_of nodes finds) → HasRoomFor nodes 1 × (nodes.vacant_key ≤ LAST_KEY) × (0 < finds)
-has_room nodes finds room = (room_has nodes room.place, subst (λ k. k ≤ LAST_KEY) (room_key nodes) room.key, room.find)
+pub has_room : {T : Type 0} (nodes : Slab T) (finds : ℕ) → HasRoom (room_of nodes finds) → HasRoomFor nodes 1 × (nodes.vacant_key ≤ LAST_HANDLE) × (0 < finds)
+has_room nodes finds room = (room_has nodes room.slot, subst (λ k. k ≤ LAST_HANDLE) (room_handle nodes) room.handle, room.find)
 
 -- more room for locks leaves all that the fields keep
 pub lock_room_kept : (s : Inside) → IsKept s → (locks : Slab Lock) (index : IndexMap ℕ ℕ _) → locks ≡ record s.queues.locks { capacity = locks.capacity } → index.entries ≡ s.lock_index.entries
@@ -138,9 +138,9 @@ lock_room_kept s kept locks index is entries =
     }
 
 -- a caller sees the room that was made
-pub lock_reserved : {T E : Type 0} (r : Result T E) (l : Layout) (nodes : Slab Lock) (finds : ℕ) → l.room.locks ≡ room_of nodes finds → OnOk r (HasRoomFor nodes 1) → OnOk r (nodes.vacant_key ≤ LAST_KEY)
+pub lock_reserved : {T E : Type 0} (r : Result T E) (l : Layout) (nodes : Slab Lock) (finds : ℕ) → l.room.locks ≡ room_of nodes finds → OnOk r (HasRoomFor nodes 1) → OnOk r (nodes.vacant_key ≤ LAST_HANDLE)
     → OnOk r (0 < finds) → OnOk r (HasRoom (records_of l).room.locks)
 unfolding records_of
-lock_reserved (Ok x) l nodes finds is place key find =
-    subst HasRoom (sym is) (record { place = room_place nodes place; key = subst (λ k. k ≤ LAST_KEY) (sym (room_key nodes)) key; find = find })
-lock_reserved (Err e) l nodes finds is place key find = tt
+lock_reserved (Ok x) l nodes finds is slot handle find =
+    subst HasRoom (sym is) (record { slot = room_slot nodes slot; handle = subst (λ k. k ≤ LAST_HANDLE) (sym (room_handle nodes)) handle; find = find })
+lock_reserved (Err e) l nodes finds is slot handle find = tt

@@ -10,7 +10,7 @@ use Rattle.vlm_links.specs.Lists.{IsRelinked, Relinks}
 use Rattle.vlm_store.specs.Shown.{room_in}
 
 module _ {T : Type 0} where
-  -- the same places have a value
+  -- the same slots have a value
   same_slots : (xs ys : List (Option T)) → ((k : ℕ) → is_some (slice_index_or xs k None) ≡ is_some (slice_index_or ys k None)) → length (filter is_some xs) ≡ length (filter is_some ys)
   same_slots [] [] same = refl
   same_slots [] (None ∷ ys) same = same_slots [] ys (λ k. same (suc k))
@@ -30,7 +30,7 @@ module _ {T : Type 0} where
   unfolding room_in
   room_is nodes = refl
 
-  -- the room stays where the same keys have a record
+  -- the room stays where the same handles have a record
   pub room_same : (old new : Slab T) → ((k : ℕ) → is_some (get new k) ≡ is_some (get old k)) → new.capacity ≡ old.capacity → new.vacant_key ≡ old.vacant_key → room_in new ≡ room_in old
   room_same old new same capacity next =
       room_is new
@@ -43,12 +43,12 @@ module _ {T : Type 0} where
   is_there (Some x) there = refl
 
   -- the room stays where a record is written
-  pub room_written : (nodes : Slab T) (key : ℕ) (value : T) → ContainsKey nodes key → room_in (with_value nodes key value) ≡ room_in nodes
-  room_written nodes key value there =
-      let updates = Updates-with_value nodes key value there in
-      room_same nodes (with_value nodes key value)
-      (λ k. elim (cases_eq k key) [
-        | inl same ↦ ap (λ x. is_some (get (with_value nodes key value) x)) same ∙ ap is_some updates.changed ∙ sym (ap (λ x. is_some (get nodes x)) same ∙ is_there (get nodes key) there)
+  pub room_written : (nodes : Slab T) (handle : ℕ) (value : T) → ContainsKey nodes handle → room_in (with_value nodes handle value) ≡ room_in nodes
+  room_written nodes handle value there =
+      let updates = Updates-with_value nodes handle value there in
+      room_same nodes (with_value nodes handle value)
+      (λ k. elim (cases_eq k handle) [
+        | inl same ↦ ap (λ x. is_some (get (with_value nodes handle value) x)) same ∙ ap is_some updates.changed ∙ sym (ap (λ x. is_some (get nodes x)) same ∙ is_there (get nodes handle) there)
         | inr differs ↦ ap is_some (updates.others k differs)
       ]) refl refl
 
@@ -68,11 +68,11 @@ module _ {T : Type 0} where
       omega arith
 
   -- a record is removed
-  pub room_given_back : (old new : Slab T) (key : ℕ) → HasRoomFor new 1 → slab_len new + 1 ≡ slab_len old → new.capacity ≡ old.capacity → new.vacant_key ≡ key → room_in new ≡ ((room_in old).0 + 1, key)
-  room_given_back old new key room len capacity next =
+  pub room_given_back : (old new : Slab T) (handle : ℕ) → HasRoomFor new 1 → slab_len new + 1 ≡ slab_len old → new.capacity ≡ old.capacity → new.vacant_key ≡ handle → room_in new ≡ ((room_in old).0 + 1, handle)
+  room_given_back old new handle room len capacity next =
       let is : (room_in old).0 ≡ old.capacity - slab_len old = ap (λ (p : ℕ × ℕ). p.0) (room_is old) in
-      let places : new.capacity - slab_len new ≡ (room_in old).0 + 1 = omega arith in
-      room_is new ∙ ap (λ n. (n, new.vacant_key)) places ∙ ap (λ k. ((room_in old).0 + 1, k)) next
+      let slots : new.capacity - slab_len new ≡ (room_in old).0 + 1 = omega arith in
+      room_is new ∙ ap (λ n. (n, new.vacant_key)) slots ∙ ap (λ k. ((room_in old).0 + 1, k)) next
 
   -- room is made
   pub room_reserved : (old new : Slab T) → new ≡ record old { capacity = new.capacity } → old.capacity ≤ new.capacity → ((room_in old).0 ≤ (room_in new).0) × ((room_in new).1 ≡ (room_in old).1)
@@ -88,10 +88,10 @@ module _ {T : Type 0} where
       let is : (room_in nodes).0 ≡ nodes.capacity - slab_len nodes = ap (λ (p : ℕ × ℕ). p.0) (room_is nodes) in
       omega arith
 
-  pub room_key : (nodes : Slab T) → (room_in nodes).1 ≡ nodes.vacant_key
-  room_key nodes = ap (λ (p : ℕ × ℕ). p.1) (room_is nodes)
+  pub room_handle : (nodes : Slab T) → (room_in nodes).1 ≡ nodes.vacant_key
+  room_handle nodes = ap (λ (p : ℕ × ℕ). p.1) (room_is nodes)
 
-  pub room_place : (nodes : Slab T) → HasRoomFor nodes 1 → 0 < (room_in nodes).0
-  room_place nodes room =
+  pub room_slot : (nodes : Slab T) → HasRoomFor nodes 1 → 0 < (room_in nodes).0
+  room_slot nodes room =
       let is : (room_in nodes).0 ≡ nodes.capacity - slab_len nodes = ap (λ (p : ℕ × ℕ). p.0) (room_is nodes) in
       omega arith

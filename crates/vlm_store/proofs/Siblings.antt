@@ -5,14 +5,14 @@ use Rattle.std.specs.Option.{option_map_or}
 use Rattle.std.proofs.lemmas.Bool.{cases_eq}
 use Rattle.std.proofs.lemmas.Option.{none-some, same_Some}
 use Rattle.slab.specs.Slab.{get}
-use Rattle.vlm_links.specs.Lists.{IsIn, keys_of}
+use Rattle.vlm_links.specs.Lists.{IsIn, handles_of}
 use Rattle.vlm_store.specs.declared.locks.Lock.{Lock}
 use Rattle.vlm_store.specs.declared.processes.Process.{Process}
 use Rattle.vlm_store.specs.declared.store.Store.TheInside.{Inside}
-use Rattle.vlm_store.specs.Records.{HasProcess, HasNoParent, IsStored, OwnLock, StoredProcess, own_keys_at, own_of_key, process_at, sublocks_at}
+use Rattle.vlm_store.specs.Records.{HasProcess, HasNoParent, IsStored, OwnLock, StoredProcess, own_handles_at, own_of_handle, process_at, sublocks_at}
 use Rattle.vlm_store.specs.Kept.{IsKept, records_shown}
 use Rattle.vlm_store.specs.Shown.{rows}
-use Rattle.vlm_store.specs.Holdings.{Holding, below_in, below_keys, below_links, own_in, own_keys, own_links, own_of, owner_in, parent_in}
+use Rattle.vlm_store.specs.Holdings.{Holding, below_in, below_handles, below_links, own_in, own_handles, own_links, own_of, owner_in, parent_in}
 use Rattle.vlm_store.proofs.Living.{are_owned, held, lock_stored, own_among_shown, own_is}
 use Rattle.vlm_store.proofs.OwnLocks.{parent_there}
 
@@ -52,9 +52,9 @@ all_of_own own (q ∷ ps) among =
       | inr there ↦ let more = all_of_own own ps there in (more.0, (inr more.1.0, more.1.1))
     ]
 
--- a lock is found by its key, or none of these has it
+-- a lock is found by its handle, or none of these has it
 pub own_found : (at : ℕ) (owns : List OwnLock)
-    → ((own : OwnLock) × ((own_of_key at owns ≡ Some own) × IsIn own owns × (own.at ≡ at))) ⊎ ((own_of_key at owns ≡ None) × ((own : OwnLock) → IsIn own owns → ¬ (own.at ≡ at)))
+    → ((own : OwnLock) × ((own_of_handle at owns ≡ Some own) × IsIn own owns × (own.at ≡ at))) ⊎ ((own_of_handle at owns ≡ None) × ((own : OwnLock) → IsIn own owns → ¬ (own.at ≡ at)))
 own_found at [] = inr (refl, λ own among. absurd among)
 own_found at (x ∷ owns) =
     elim (cases_eq x.at at) [
@@ -75,45 +75,45 @@ own_found at (x ∷ owns) =
 
 -- ---- as the fields show them
 
-keys_told : (h : Holding) (ks : List ℕ) → map (λ (own : OwnLock). own.at) (map (own_of h) ks) ≡ ks
-keys_told h [] = refl
-keys_told h (k ∷ ks) = ap (λ rest. k ∷ rest) (keys_told h ks)
+handles_told : (h : Holding) (ks : List ℕ) → map (λ (own : OwnLock). own.at) (map (own_of h) ks) ≡ ks
+handles_told h [] = refl
+handles_told h (k ∷ ks) = ap (λ rest. k ∷ rest) (handles_told h ks)
 
 owner_there : (o : Option StoredProcess) (k : ℕ) → IsIn k (map (λ (own : OwnLock). own.at) (option_map_or (λ (p : StoredProcess). p.own) o [])) → IsSome o
 owner_there None k found = absurd found
 owner_there (Some p) k found = refl
 
 module _ (s : Inside) (kept : IsKept s) where
-  pub own_keys_is : (at : ℕ) → HasProcess at (records_shown s) → own_keys_at at (records_shown s) ≡ own_keys s.processes s.queues.locks at
-  own_keys_is at has = ap (map (λ (own : OwnLock). own.at)) (own_is s kept at has) ∙ keys_told (held s kept) (own_keys s.processes s.queues.locks at)
+  pub own_handles_is : (at : ℕ) → HasProcess at (records_shown s) → own_handles_at at (records_shown s) ≡ own_handles s.processes s.queues.locks at
+  own_handles_is at has = ap (map (λ (own : OwnLock). own.at)) (own_is s kept at has) ∙ handles_told (held s kept) (own_handles s.processes s.queues.locks at)
 
   -- a lock is of the process among whose locks a caller sees it
-  pub own_keys_here : (at k : ℕ) → IsIn k (own_keys_at at (records_shown s))
-      → (own_keys_at at (records_shown s) ≡ own_keys s.processes s.queues.locks at) × (owner_in (get s.queues.locks k) ≡ Some at)
-  own_keys_here at k found =
-      let is = own_keys_is at (owner_there (process_at at (records_shown s).processes) k found) in
+  pub own_handles_here : (at k : ℕ) → IsIn k (own_handles_at at (records_shown s))
+      → (own_handles_at at (records_shown s) ≡ own_handles s.processes s.queues.locks at) × (owner_in (get s.queues.locks k) ≡ Some at)
+  own_handles_here at k found =
+      let is = own_handles_is at (owner_there (process_at at (records_shown s).processes) k found) in
       (is, kept.owned.listed at k (subst (IsIn k) is found))
 
   -- the locks of the process that a lock notes are those among which a caller sees it
-  pub own_of_lock : (k owner process : ℕ) → owner_in (get s.queues.locks k) ≡ Some owner → IsIn k (own_keys_at process (records_shown s))
-      → own_keys s.processes s.queues.locks owner ≡ own_keys_at process (records_shown s)
+  pub own_of_lock : (k owner process : ℕ) → owner_in (get s.queues.locks k) ≡ Some owner → IsIn k (own_handles_at process (records_shown s))
+      → own_handles s.processes s.queues.locks owner ≡ own_handles_at process (records_shown s)
   own_of_lock k owner process notes found =
-      let here = own_keys_here process k found in
-      ap (own_keys s.processes s.queues.locks) (same_Some owner process (sym notes ∙ here.1)) ∙ sym here.0
+      let here = own_handles_here process k found in
+      ap (own_handles s.processes s.queues.locks) (same_Some owner process (sym notes ∙ here.1)) ∙ sym here.0
 
   -- and they are read off the record of the process
-  pub own_listed : (at : ℕ) (p : Process) → get s.processes at ≡ Some p → keys_of own_links s.queues.locks p.own ≡ own_keys s.processes s.queues.locks at
-  own_listed at p is = ap (λ slot. keys_of own_links s.queues.locks (own_in slot)) (sym is)
+  pub own_listed : (at : ℕ) (p : Process) → get s.processes at ≡ Some p → handles_of own_links s.queues.locks p.own ≡ own_handles s.processes s.queues.locks at
+  own_listed at p is = ap (λ slot. handles_of own_links s.queues.locks (own_in slot)) (sym is)
 
   -- the locks below a lock that is found
-  sublocks_found : (at : ℕ) (own : OwnLock) → own_of_key at (flat_map (λ (q : StoredProcess). q.own) (records_shown s).processes) ≡ Some own
-      → IsIn own (flat_map (λ (q : StoredProcess). q.own) (records_shown s).processes) → own.at ≡ at → sublocks_at at (records_shown s) ≡ below_keys s.queues.locks at
+  sublocks_found : (at : ℕ) (own : OwnLock) → own_of_handle at (flat_map (λ (q : StoredProcess). q.own) (records_shown s).processes) ≡ Some own
+      → IsIn own (flat_map (λ (q : StoredProcess). q.own) (records_shown s).processes) → own.at ≡ at → sublocks_at at (records_shown s) ≡ below_handles s.queues.locks at
   sublocks_found at own is among same =
       let of = all_of_own own (records_shown s).processes among in
-      ap (λ o. option_map_or (λ (x : OwnLock). x.sublocks) o []) is ∙ sym (own_among_shown s kept of.0 own of.1.0 of.1.1).0.1 ∙ ap (below_keys s.queues.locks) same
+      ap (λ o. option_map_or (λ (x : OwnLock). x.sublocks) o []) is ∙ sym (own_among_shown s kept of.0 own of.1.0 of.1.1).0.1 ∙ ap (below_handles s.queues.locks) same
 
   -- the locks below a lock
-  pub sublocks_is : (at : ℕ) → IsStored at (records_shown s) → sublocks_at at (records_shown s) ≡ below_keys s.queues.locks at
+  pub sublocks_is : (at : ℕ) → IsStored at (records_shown s) → sublocks_at at (records_shown s) ≡ below_handles s.queues.locks at
   sublocks_is at stored =
       let owned = (are_owned s kept).owned at stored.0 stored.1 in
       elim (own_found at (flat_map (λ (q : StoredProcess). q.own) (records_shown s).processes)) [
@@ -122,21 +122,21 @@ module _ (s : Inside) (kept : IsKept s) where
       ]
 
   -- a lock notes the parent among whose locks a caller sees it
-  sublocks_here : (at k : ℕ) → IsIn k (sublocks_at at (records_shown s)) → sublocks_at at (records_shown s) ≡ below_keys s.queues.locks at
+  sublocks_here : (at k : ℕ) → IsIn k (sublocks_at at (records_shown s)) → sublocks_at at (records_shown s) ≡ below_handles s.queues.locks at
   sublocks_here at k found =
       elim (own_found at (flat_map (λ (q : StoredProcess). q.own) (records_shown s).processes)) [
         | inl own ↦ sublocks_found at own.0 own.1.0 own.1.1 own.1.2
         | inr none ↦ absurd (subst (IsIn k) (ap (λ o. option_map_or (λ (x : OwnLock). x.sublocks) o []) none.0) found)
       ]
 
-  pub below_of_lock : (k up parent : ℕ) → parent_in (get s.queues.locks k) ≡ Some up → IsIn k (sublocks_at parent (records_shown s)) → below_keys s.queues.locks up ≡ sublocks_at parent (records_shown s)
+  pub below_of_lock : (k up parent : ℕ) → parent_in (get s.queues.locks k) ≡ Some up → IsIn k (sublocks_at parent (records_shown s)) → below_handles s.queues.locks up ≡ sublocks_at parent (records_shown s)
   below_of_lock k up parent notes found =
       let is = sublocks_here parent k found in
       let noted = kept.below.listed parent k (subst (IsIn k) is found) in
-      ap (below_keys s.queues.locks) (same_Some up parent (sym notes ∙ noted)) ∙ sym is
+      ap (below_handles s.queues.locks) (same_Some up parent (sym notes ∙ noted)) ∙ sym is
 
-  pub below_listed : (at : ℕ) (l : Lock) → get s.queues.locks at ≡ Some l → keys_of below_links s.queues.locks l.sublocks ≡ below_keys s.queues.locks at
-  below_listed at l is = ap (λ slot. keys_of below_links s.queues.locks (below_in slot)) (sym is)
+  pub below_listed : (at : ℕ) (l : Lock) → get s.queues.locks at ≡ Some l → handles_of below_links s.queues.locks l.sublocks ≡ below_handles s.queues.locks at
+  below_listed at l is = ap (λ slot. handles_of below_links s.queues.locks (below_in slot)) (sym is)
 
   -- a lock that notes a parent is seen below it
   pub seen_below : (k up : ℕ) → parent_in (get s.queues.locks k) ≡ Some up → ¬ HasNoParent k (records_shown s)

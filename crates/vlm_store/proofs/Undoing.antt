@@ -3,13 +3,13 @@ use Rattle.std.proofs.Common.{◌≡◌, ◌≢◌, ℕ, List, [], ◌∷◌, �
 use Rattle.std.specs.Prelude.{◌==◌}
 use Rattle.std.proofs.lemmas.Bool.{cases_eq}
 use Rattle.vlm_links.specs.Lists.{IsIn, without}
-use Rattle.vlm_links.proofs.KeyLists.{without_absent as key_absent, without_head, without_past}
+use Rattle.vlm_links.proofs.HandleLists.{without_absent as handle_absent, without_head, without_past}
 use Rattle.vlm_words.specs.declared.locks.Row.{Row}
 use Rattle.vlm_words.specs.declared.steps.Declaration.{Declaration}
 use Rattle.vlm_words.specs.declared.resources.Queue.TheVariants.{Granted, Conversion, Waiting}
 use Rattle.vlm_words.specs.declared.resources.Site.{Site}
-use Rattle.vlm_store.specs.declared.keys.Place.TheVariants.{Loose, Queued}
-use Rattle.vlm_store.specs.Records.{HasProcess, HasResource, OwnLock, StoredProcess, Stores, new_own, new_stored_process, process_at, process_with_lock, process_without_lock, with_new_lock, with_sublock, without_process, without_stored_lock, without_sublock, IsSound, IsStored, Records, StoredLock, StoredResource, leaving, new_resource, resource_at, resource_with, without_lock, without_resource}
+use Rattle.vlm_store.specs.declared.handles.Place.TheVariants.{Loose, Queued}
+use Rattle.vlm_store.specs.Records.{HasProcess, HasResource, OwnLock, StoredProcess, Stores, new_own, new_stored_process, process_at, process_with_lock, process_without_lock, with_new_lock, with_sublock, without_process, without_stored_lock, without_sublock, IsSound, IsStored, Records, StoredLock, StoredResource, leaving, new_stored_resource, resource_at, resource_with, without_lock, without_resource}
 use Rattle.vlm_store.proofs.Records.{map_on, queue_without, without_absent}
 
 without_last : (at : ℕ) (row : Row) (locks : List StoredLock) → without_lock at (locks ++ record { at = at; row = row } ∷ []) ≡ without_lock at locks
@@ -21,10 +21,10 @@ without_last at row (k ∷ rest) =
       | false ↦ ap (λ xs. k ∷ xs) (without_last at row rest)
     ]
 
-keys_last : (at : ℕ) (keys : List ℕ) → ¬ IsIn at keys → without at (keys ++ at ∷ []) ≡ keys
-keys_last at [] absent = without_head at at [] refl
-keys_last at (k ∷ rest) absent =
-    without_past at k (rest ++ at ∷ []) (λ same. absent (inl same)) ∙ ap (λ xs. k ∷ xs) (keys_last at rest (λ there. absent (inr there)))
+handles_last : (at : ℕ) (handles : List ℕ) → ¬ IsIn at handles → without at (handles ++ at ∷ []) ≡ handles
+handles_last at [] absent = without_head at at [] refl
+handles_last at (k ∷ rest) absent =
+    without_past at k (rest ++ at ∷ []) (λ same. absent (inl same)) ∙ ap (λ xs. k ∷ xs) (handles_last at rest (λ there. absent (inr there)))
 
 own_last : (at : ℕ) (own : List OwnLock) → filter (λ (o : OwnLock). not (o.at == at)) (own ++ new_own at) ≡ filter (λ (o : OwnLock). not (o.at == at)) own
 own_last at [] = rw (eq-eqb at at refl) refl
@@ -70,11 +70,11 @@ module _ (s : Records) (at : ℕ) (sound : IsSound s) (absent : ¬ IsStored at s
       at_same (Some up) o = elim (o.at == up) as (λ b. (cond b (record o { sublocks = o.sublocks ++ at ∷ [] }) o).at ≡ o.at) [ true ↦ refl | false ↦ refl ]
 
       sublocks_same : (parent : Option ℕ) (o : OwnLock) → ¬ IsIn at o.sublocks → without_sublock at (with_sublock parent at o) ≡ o
-      sublocks_same None o none = ap (λ x. record { at = o.at; sublocks = x }) (key_absent at o.sublocks none)
+      sublocks_same None o none = ap (λ x. record { at = o.at; sublocks = x }) (handle_absent at o.sublocks none)
       sublocks_same (Some up) o none =
           elim (o.at == up) as (λ b. without_sublock at (cond b (record o { sublocks = o.sublocks ++ at ∷ [] }) o) ≡ o) [
-            | true ↦ ap (λ x. record { at = o.at; sublocks = x }) (keys_last at o.sublocks none)
-            | false ↦ ap (λ x. record { at = o.at; sublocks = x }) (key_absent at o.sublocks none)
+            | true ↦ ap (λ x. record { at = o.at; sublocks = x }) (handles_last at o.sublocks none)
+            | false ↦ ap (λ x. record { at = o.at; sublocks = x }) (handle_absent at o.sublocks none)
           ]
 
   process_same : (p : StoredProcess) → IsIn p s.processes → (owner : ℕ) (parent : Option ℕ) → process_without_lock at (process_with_lock owner parent at p) ≡ p
@@ -98,10 +98,10 @@ module _ (s : Records) (at : ℕ) (sound : IsSound s) (absent : ¬ IsStored at s
           ap (λ x. x ∷ map (process_without_lock at) (map (process_with_lock owner parent at) rest)) (process_same p (within p (inl refl)) owner parent)
           ∙ ap (λ xs. p ∷ xs) (each rest (λ x there. within x (inr there)))
 
-pub resource_undone : (s : Records) (res serial : ℕ) (site : Site) → ¬ HasResource res s → record s { resources = without_resource res (s.resources ++ new_resource res serial site ∷ []) } ≡ s
+pub resource_undone : (s : Records) (res serial : ℕ) (site : Site) → ¬ HasResource res s → record s { resources = without_resource res (s.resources ++ new_stored_resource res serial site ∷ []) } ≡ s
 resource_undone s res serial site absent = ap (λ x. record s { resources = x }) (each s.resources absent)
   where
-    each : (rs : List StoredResource) → ¬ IsSome (resource_at res rs) → without_resource res (rs ++ new_resource res serial site ∷ []) ≡ rs
+    each : (rs : List StoredResource) → ¬ IsSome (resource_at res rs) → without_resource res (rs ++ new_stored_resource res serial site ∷ []) ≡ rs
     each [] absent = rw (eq-eqb res res refl) refl
     each (r ∷ rs) absent =
         elim (cases_eq r.at res) [

@@ -10,7 +10,7 @@ use Rattle.vlm_store.specs.Records.{AreApart, AreResourcesApart, StoredLock, Sto
 
 -- ---- resources
 
--- the resources that a walk has left, the one of this key first
+-- the resources that a walk has left, the one of this handle first
 abbrev pub resources_from : Option ℕ → List StoredResource → List StoredResource
 resources_from None rs = []
 resources_from (Some res) [] = []
@@ -21,11 +21,11 @@ pub resource_among : (r : StoredResource) (before rest : List StoredResource) �
 resource_among r [] rest = inl refl
 resource_among r (x ∷ before) rest = inr (resource_among r before rest)
 
--- a resource before another has another key
+-- a resource before another has another handle
 resource_differs : (x r : StoredResource) (before rest : List StoredResource) → AreResourcesApart (x ∷ before ++ r ∷ rest) → ¬ (x.at ≡ r.at)
 resource_differs x r before rest apart same = apart.0 r (resource_among r before rest) (sym same)
 
--- a resource is found by its key, wherever it stands
+-- a resource is found by its handle, wherever it stands
 pub resource_at-among : (r : StoredResource) (before rest : List StoredResource) → AreResourcesApart (before ++ r ∷ rest) → resource_at r.at (before ++ r ∷ rest) ≡ Some r
 resource_at-among r [] rest apart = rw (eq-eqb r.at r.at refl) refl
 resource_at-among r (x ∷ before) rest apart = rw (ne_eqb x.at r.at (resource_differs x r before rest apart)) (resource_at-among r before rest apart.1)
@@ -65,7 +65,7 @@ record Split (res : ℕ) (rs : List StoredResource) : Type 0 where
   r : StoredResource
   before : List StoredResource
   rest : List StoredResource
-  keyed : r.at ≡ res
+  under_handle : r.at ≡ res
   split : before ++ r ∷ rest ≡ rs
 
 -- a resource that is found stands among the others
@@ -73,10 +73,10 @@ split_at : (res : ℕ) (rs : List StoredResource) → IsSome (resource_at res rs
 split_at res [] there = cc
 split_at res (x ∷ rs) there =
     elim (cases_eq x.at res) [
-      | inl same ↦ record { r = x; before = []; rest = rs; keyed = same; split = refl }
+      | inl same ↦ record { r = x; before = []; rest = rs; under_handle = same; split = refl }
       | inr differs ↦
           let behind = split_at res rs (rw (ne_eqb x.at res differs) at there) in
-          record { r = behind.r; before = x ∷ behind.before; rest = behind.rest; keyed = behind.keyed; split = ap (λ xs. x ∷ xs) behind.split }
+          record { r = behind.r; before = x ∷ behind.before; rest = behind.rest; under_handle = behind.under_handle; split = ap (λ xs. x ∷ xs) behind.split }
     ]
 
 -- a walk stands at a resource among others
@@ -95,11 +95,11 @@ at_among r before rest apart =
           (subst (λ xs. ForSome (first_resource_at rest) (λ res. IsSome (resource_at res xs))) one (first_resource-there (before ++ r ∷ []) rest others));
     }
 
--- a walk that has come to a key of a resource stands at this resource
+-- a walk that has come to a handle of a resource stands at this resource
 pub at_resource : (res : ℕ) (rs : List StoredResource) → AreResourcesApart rs → IsSome (resource_at res rs) → IsAtResource res rs
 at_resource res rs apart there =
     let split = split_at res rs there in
-    subst (λ k. IsAtResource k rs) split.keyed
+    subst (λ k. IsAtResource k rs) split.under_handle
     (subst (λ xs. IsAtResource split.r.at xs) split.split (at_among split.r split.before split.rest (subst AreResourcesApart (sym split.split) apart)))
 
 -- fewer resources are left behind one than from it on
@@ -108,7 +108,7 @@ resources_left-fewer res rs at = rw at.left (omega arith)
 
 -- ---- locks
 
--- the locks that a walk has left, the one of this key first
+-- the locks that a walk has left, the one of this handle first
 abbrev pub locks_from : Option ℕ → List StoredLock → List StoredLock
 locks_from None ks = []
 locks_from (Some at) [] = []
@@ -119,7 +119,7 @@ pub lock_among : (k : StoredLock) (before rest : List StoredLock) → IsIn k (be
 lock_among k [] rest = inl refl
 lock_among k (x ∷ before) rest = inr (lock_among k before rest)
 
--- a lock before another has another key
+-- a lock before another has another handle
 lock_differs : (x k : StoredLock) (before rest : List StoredLock) → AreApart (x ∷ before ++ k ∷ rest) → ¬ (x.at ≡ k.at)
 lock_differs x k before rest apart same =
     apart.0 k.row (subst (λ at. IsIn (record { at = at; row = k.row }) (before ++ k ∷ rest)) (sym same) (lock_among k before rest))
@@ -139,7 +139,7 @@ pub locks_from-first : (before rest : List StoredLock) → AreApart (before ++ r
 locks_from-first before [] apart = refl
 locks_from-first before (k ∷ rest) apart = locks_from-among k before rest apart
 
--- a lock of this key is one of these
+-- a lock of this handle is one of these
 abbrev pub HasLock : ℕ → List StoredLock → Type 0
 HasLock at ks = (row : Row) × IsIn (record { at = at; row = row }) ks
 
@@ -186,7 +186,7 @@ lock_at-among k before rest apart =
           (subst (λ xs. ForSome (first_at rest) (λ at. HasLock at xs)) one (first-there (before ++ k ∷ []) rest));
     }
 
--- a walk that has come to a key of a lock stands at this lock
+-- a walk that has come to a handle of a lock stands at this lock
 pub at_lock : (at : ℕ) (ks : List StoredLock) → AreApart ks → HasLock at ks → IsAtLock at ks
 at_lock at ks apart there =
     let k : StoredLock = record { at = at; row = there.0 } in

@@ -4,7 +4,7 @@ use Rattle.std.specs.Option.{option_map}
 use Rattle.slab.specs.Slab.{Slab, get}
 use Rattle.vlm_links.specs.declared.link.Links.{Links}
 use Rattle.vlm_links.specs.declared.lists.LinkedList.{LinkedList}
-use Rattle.vlm_links.specs.Lists.{keys_of}
+use Rattle.vlm_links.specs.Lists.{handles_of}
 use Rattle.vlm_words.specs.State.{Process as PlainProcess}
 use Rattle.vlm_store.specs.declared.locks.Lock.{Lock}
 use Rattle.vlm_store.specs.declared.locks.OfParent.{OfParent}
@@ -83,7 +83,7 @@ plain_process p = record { pid = p.pid; group = p.authorization.group; syslck = 
 abbrev pub no_process : PlainProcess
 no_process = record { pid = 0; group = 0; syslck = false; quota = 0; blocks = []; asts = [] }
 
--- what stands under a key, or what is told of nothing
+-- what stands under a handle, or what is told of nothing
 abbrev pub plain_in : Option Process → PlainProcess
 plain_in None = no_process
 plain_in (Some p) = plain_process p
@@ -100,13 +100,13 @@ own_list processes at = own_in (get processes at)
 abbrev pub below_list : Slab Lock → ℕ → LinkedList OfParent
 below_list locks at = below_in (get locks at)
 
--- the keys of the locks of a process, in order of making
-abbrev pub own_keys : Slab Process → Slab Lock → ℕ → List ℕ
-own_keys processes locks at = keys_of own_links locks (own_list processes at)
+-- the handles of the locks of a process, in order of making
+abbrev pub own_handles : Slab Process → Slab Lock → ℕ → List ℕ
+own_handles processes locks at = handles_of own_links locks (own_list processes at)
 
--- the keys of the locks below a lock, in order of making
-abbrev pub below_keys : Slab Lock → ℕ → List ℕ
-below_keys locks at = keys_of below_links locks (below_list locks at)
+-- the handles of the locks below a lock, in order of making
+abbrev pub below_handles : Slab Lock → ℕ → List ℕ
+below_handles locks at = handles_of below_links locks (below_list locks at)
 
 -- each process has just those locks that note it, but for one that is taken out
 abbrev pub IsOwned : Slab Process → Slab Lock → Option ℕ → Type 0
@@ -116,27 +116,27 @@ IsOwned processes locks out = IsFamily own_links owner_in locks (own_list proces
 abbrev pub IsBelow : Slab Lock → Option ℕ → Type 0
 IsBelow locks out = IsFamily below_links parent_in locks (below_list locks) out
 
--- the key is that of the lock with this identification; 0 stands for none
+-- the handle is that of the lock with this identification; 0 stands for none
 abbrev pub NamesParent : Slab Lock → Option ℕ → ℕ → Type 0
 NamesParent locks None lkid = lkid ≡ 0
 NamesParent locks (Some at) lkid = option_map lkid_of (get locks at) ≡ Some lkid
 
--- the key of a lock's owner leads to the process that its row names
+-- the handle of a lock's owner leads to the process that its row names
 abbrev pub OwnerFits : Slab Process → Option Lock → Type 0
 OwnerFits processes None = Unit {0}
 OwnerFits processes (Some l) = option_map pid_of (get processes l.owner) ≡ Some l.row.pid
 
--- the key of a lock's parent leads to the lock that its row names
+-- the handle of a lock's parent leads to the lock that its row names
 abbrev pub ParentFits : Slab Lock → Option Lock → Type 0
 ParentFits locks None = Unit {0}
 ParentFits locks (Some l) = NamesParent locks l.parent l.row.parent
 
--- the keys in each lock's record lead to the process and the parent that its row names
+-- the handles in each lock's record lead to the process and the parent that its row names
 pub record IsNamed (processes : Slab Process) (locks : Slab Lock) : Type 0 where
   pub owners : (at : ℕ) → OwnerFits processes (get locks at)
   pub parents : (at : ℕ) → ParentFits locks (get locks at)
 
--- what stands under each key of a process, its locks, the locks below each, and the order of making
+-- what stands under each handle of a process, its locks, the locks below each, and the order of making
 pub record Holding : Type 0 where
   pub plain : ℕ → PlainProcess
   pub own : ℕ → List ℕ
@@ -147,23 +147,23 @@ pub record Holding : Type 0 where
 abbrev pub own_of : Holding → ℕ → OwnLock
 own_of h at = record { at = at; sublocks = h.below at }
 
--- a process under its key
-abbrev pub process_of : Holding → ℕ → StoredProcess
-process_of h at = record { at = at; process = h.plain at; own = map (own_of h) (h.own at) }
+-- a process under its handle
+abbrev pub process_under : Holding → ℕ → StoredProcess
+process_under h at = record { at = at; process = h.plain at; own = map (own_of h) (h.own at) }
 
 -- what a caller sees of the processes
 unfoldable pub processes_of : Holding → List StoredProcess
-processes_of h = map (process_of h) h.order
+processes_of h = map (process_under h) h.order
 
 -- the slabs as tables
 abbrev pub holding : Slab Process → Slab Lock → LinkedList InOrder → Holding
 holding processes locks order = record {
   plain = λ at. plain_in (get processes at);
-  own = own_keys processes locks;
-  below = below_keys locks;
-  order = keys_of process_links processes order;
+  own = own_handles processes locks;
+  below = below_handles locks;
+  order = handles_of process_links processes order;
 }
 
--- the identification of the process under a key
+-- the identification of the process under a handle
 abbrev pub pid_at : Slab Process → ℕ → Option ℕ
 pid_at processes at = option_map pid_of (get processes at)

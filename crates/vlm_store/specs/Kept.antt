@@ -2,7 +2,7 @@
 use Rattle.std.specs.Prelude.{ℕ, nat_eq, List, None}
 use Rattle.slab.specs.Slab.{ContainsKey}
 use Rattle.indexmap.specs.IndexMap.{get, spare}
-use Rattle.vlm_links.specs.Lists.{IsIn, IsLinked, keys_of}
+use Rattle.vlm_links.specs.Lists.{IsIn, IsLinked, handles_of}
 use Rattle.vlm_store.specs.declared.store.Store.TheInside.{Inside}
 use Rattle.vlm_store.specs.Index.{Indexes}
 use Rattle.vlm_words.specs.Keys.{is_same_key}
@@ -37,12 +37,12 @@ pub record IsKept (s : Inside) : Type 0 where
   pub placed : IsPlaced s.queues None
   pub tallied : IsTallied s.queues None
   pub linked : IsLinked order_links s.queues.resources s.order
-  pub ordered : (res : ℕ) → ContainsKey s.queues.resources res → IsIn res (keys_of order_links s.queues.resources s.order)
+  pub ordered : (res : ℕ) → ContainsKey s.queues.resources res → IsIn res (handles_of order_links s.queues.resources s.order)
   pub locks : Indexes (get nat_eq s.lock_index) (lkid_at s.queues)
   pub resources : Indexes (get is_same_key s.resource_index) (key_at s.queues)
   pub owned : IsOwned s.processes s.queues.locks None
   pub below : IsBelow s.queues.locks None
   pub named : IsNamed s.processes s.queues.locks
   pub processes_linked : IsLinked process_links s.processes s.process_order
-  pub processes_ordered : (at : ℕ) → ContainsKey s.processes at → IsIn at (keys_of process_links s.processes s.process_order)
+  pub processes_ordered : (at : ℕ) → ContainsKey s.processes at → IsIn at (handles_of process_links s.processes s.process_order)
   pub processes : Indexes (get nat_eq s.process_index) (pid_at s.processes)

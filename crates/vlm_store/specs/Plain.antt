@@ -2,9 +2,9 @@
 use Rattle.std.specs.Prelude.{List, map}
 use Rattle.vlm_words.specs.Resources.{key_name, key_parent}
 use Rattle.vlm_words.specs.State.{Process, Resource}
-use Rattle.vlm_store.specs.Records.{Records, StoredResource, rows_of}
+use Rattle.vlm_store.specs.Records.{Records, StoredResource, rows_of_locks}
 
--- the resource without its key, and its locks without theirs
+-- the resource without its handle, and its locks without theirs
 abbrev pub plain_resource : StoredResource → Resource
 plain_resource r = record {
   serial = r.serial;
@@ -13,15 +13,15 @@ plain_resource r = record {
   name = key_name r.key;
   level = r.level;
   value_block = r.value_block;
-  granted = rows_of r.granted;
-  converting = rows_of r.converting;
-  waiting = rows_of r.waiting;
+  granted = rows_of_locks r.granted;
+  converting = rows_of_locks r.converting;
+  waiting = rows_of_locks r.waiting;
 }
 
--- the resources without their keys, in order of making
+-- the resources without their handles, in order of making
 abbrev pub plain_resources : Records → List Resource
 plain_resources s = map plain_resource s.resources
 
--- the processes without their keys and locks, in order of making
+-- the processes without their handles and locks, in order of making
 abbrev pub plain_processes : Records → List Process
 plain_processes s = map (λ p. p.process) s.processes

@@ -1,5 +1,5 @@
 -- What the store shows: resources with their queues, locks, and processes with their own locks, each under
--- its key.
+-- its handle.
 use Rattle.std.specs.Prelude.{◌≡◌, ◌<◌, ◌≤◌, ℕ, Bool, true, false, not, ◌==◌, ◌&&◌, ◌+◌, count_by, sum_by, List, [], ◌∷◌, ◌++◌, map, filter, find, flat_map, Option, None, Some, IsSome, if◌then◌else◌}
 use Rattle.std.specs.Option.{option_map_or}
 use Rattle.vlm_words.specs.declared.locks.Row.{Row}
@@ -8,7 +8,7 @@ use Rattle.vlm_words.specs.declared.resources.Domain.{Domain}
 use Rattle.vlm_words.specs.declared.resources.Queue.{Queue}
 use Rattle.vlm_words.specs.declared.resources.Queue.TheVariants.{Granted, Conversion, Waiting}
 use Rattle.vlm_words.specs.declared.steps.Declaration.{Declaration}
-use Rattle.vlm_links.specs.declared.link.TheConstants.{LAST_KEY}
+use Rattle.vlm_links.specs.declared.link.TheConstants.{LAST_HANDLE}
 use Rattle.vlm_links.specs.Lists.{IsIn, without}
 use Rattle.vlm_words.specs.Declare.{new_process}
 use Rattle.vlm_words.specs.Grants.{fits}
@@ -16,17 +16,17 @@ use Rattle.vlm_words.specs.State.{Process}
 use Rattle.vlm_words.specs.ValueBlocks.{new_value_block}
 use Rattle.vlm_words.specs.declared.resources.Key.{Key}
 use Rattle.vlm_words.specs.declared.resources.Site.{Site}
-use Rattle.vlm_store.specs.declared.keys.Place.{Place}
-use Rattle.vlm_store.specs.declared.keys.Place.TheVariants.{Loose, Queued}
+use Rattle.vlm_store.specs.declared.handles.Place.{Place}
+use Rattle.vlm_store.specs.declared.handles.Place.TheVariants.{Loose, Queued}
 use Rattle.vlm_store.specs.declared.processes.Authorization.{Authorization}
 use Rattle.vlm_words.specs.declared.resources.ValueBlock.{ValueBlock}
 
--- a lock under its key
+-- a lock under its handle
 pub record StoredLock : Type 0 where
   pub at : ℕ
   pub row : Row
 
--- a resource under its key, with its three queues
+-- a resource under its handle, with its three queues
 pub record StoredResource : Type 0 where
   pub at : ℕ
   pub serial : ℕ
@@ -38,22 +38,22 @@ pub record StoredResource : Type 0 where
   pub converting : List StoredLock
   pub waiting : List StoredLock
 
--- a lock among those of its process, with the keys of the locks that were made under it
+-- a lock among those of its process, with the handles of the locks that were made under it
 pub record OwnLock : Type 0 where
   pub at : ℕ
   pub sublocks : List ℕ
 
--- a process under its key, with its own locks in order of making
+-- a process under its handle, with its own locks in order of making
 pub record StoredProcess : Type 0 where
   pub at : ℕ
   pub process : Process
   pub own : List OwnLock
 
--- the room for records of one kind: how many more their table takes with no allocation, the key that the next
+-- the room for records of one kind: how many more their table takes with no allocation, the handle that the next
 -- one gets, and how many more the index takes with no allocation
 pub record Room : Type 0 where
-  pub places : ℕ
-  pub next_key : ℕ
+  pub slots : ℕ
+  pub next_handle : ℕ
   pub finds : ℕ
 
 -- the room for locks, for resources and for processes
@@ -72,15 +72,15 @@ pub record Records : Type 0 where
 
 -- no room at all
 abbrev pub no_room : Room
-no_room = record { places = 0; next_key = 0; finds = 0 }
+no_room = record { slots = 0; next_handle = 0; finds = 0 }
 
 -- nothing is stored
 abbrev pub nothing : Records
 nothing = record { resources = []; loose = []; processes = []; room = record { locks = no_room; resources = no_room; processes = no_room } }
 
 -- a resource at its making
-abbrev pub new_resource : ℕ → ℕ → Site → StoredResource
-new_resource at serial site = record {
+abbrev pub new_stored_resource : ℕ → ℕ → Site → StoredResource
+new_stored_resource at serial site = record {
   at = at;
   serial = serial;
   domain = site.domain;
@@ -98,11 +98,11 @@ queued Granted r = r.granted
 queued Conversion r = r.converting
 queued Waiting r = r.waiting
 
--- the resource of this key, if there is one
+-- the resource of this handle, if there is one
 abbrev pub resource_at : ℕ → List StoredResource → Option StoredResource
 resource_at res resources = find (λ r. r.at == res) resources
 
--- there is a resource of this key
+-- there is a resource of this handle
 abbrev pub HasResource : ℕ → Records → Type 0
 HasResource res s = IsSome (resource_at res s.resources)
 
@@ -116,11 +116,11 @@ abbrev pub locks_at : Place → Records → List StoredLock
 locks_at Loose s = s.loose
 locks_at (Queued res queue) s = option_map_or (queued queue) (resource_at res s.resources) []
 
--- a lock with this key and row stands somewhere
+-- a lock with this handle and row stands somewhere
 abbrev pub Stores : Records → ℕ → Row → Type 0
 Stores s at row = (place : Place) × IsIn (record { at = at; row = row }) (locks_at place s)
 
--- a lock of this key stands somewhere
+-- a lock of this handle stands somewhere
 abbrev pub IsStored : ℕ → Records → Type 0
 IsStored at s = (row : Row) × Stores s at row
 
@@ -130,11 +130,11 @@ pub record IsSameLock (a b : Row) : Type 0 where
   pub pid : a.pid ≡ b.pid
   pub parent : a.parent ≡ b.parent
 
--- the key is that of a stored lock, which the row fits
+-- the handle is that of a stored lock, which the row fits
 abbrev pub IsRowOf : ℕ → Row → Records → Type 0
 IsRowOf at row s = (was : Row) × (Stores s at was × IsSameLock was row)
 
--- the key of the lock with this identification, or none where no lock has it
+-- the handle of the lock with this identification, or none where no lock has it
 abbrev pub FindsLock : Records → ℕ → Option ℕ → Type 0
 FindsLock s lkid None = (at : ℕ) (row : Row) → Stores s at row → ¬ (row.lkid ≡ lkid)
 FindsLock s lkid (Some at) = (row : Row) × (Stores s at row × (row.lkid ≡ lkid))
@@ -171,7 +171,7 @@ is_place Loose (Queued b q) = false
 is_place (Queued a p) Loose = false
 is_place (Queued a p) (Queued b q) = (a == b) && is_queue p q
 
--- the list but for the lock of this key
+-- the list but for the lock of this handle
 abbrev pub without_lock : ℕ → List StoredLock → List StoredLock
 without_lock at locks = filter (λ k. not (k.at == at)) locks
 
@@ -187,7 +187,7 @@ resource_with change r = record r {
 abbrev pub with_lists : (Place → List StoredLock → List StoredLock) → Records → Records
 with_lists change s = record s { resources = map (resource_with change) s.resources; loose = change Loose s.loose }
 
--- a change of lists: the lock of this key leaves its own
+-- a change of lists: the lock of this handle leaves its own
 abbrev pub leaving : ℕ → Place → List StoredLock → List StoredLock
 leaving at place locks = without_lock at locks
 
@@ -196,11 +196,11 @@ abbrev pub moving : Place → StoredLock → Place → List StoredLock → List 
 moving to lock place locks =
     if is_place place to then without_lock lock.at locks ++ lock ∷ [] else without_lock lock.at locks
 
--- a change of the resource of this key alone
+-- a change of the resource of this handle alone
 abbrev pub on_resource : ℕ → (StoredResource → StoredResource) → List StoredResource → List StoredResource
 on_resource res change resources = map (λ r. if r.at == res then change r else r) resources
 
--- the resources but for the one of this key
+-- the resources but for the one of this handle
 abbrev pub without_resource : ℕ → List StoredResource → List StoredResource
 without_resource res resources = filter (λ r. not (r.at == res)) resources
 
@@ -208,35 +208,35 @@ without_resource res resources = filter (λ r. not (r.at == res)) resources
 abbrev pub IsIdle : ℕ → Records → Type 0
 IsIdle res s = (queue : Queue) → locks_at (Queued res queue) s ≡ []
 
--- the key of the first lock, if there is one
+-- the handle of the first lock, if there is one
 abbrev pub first_at : List StoredLock → Option ℕ
 first_at [] = None
 first_at (k ∷ rest) = Some k.at
 
--- the key of the lock that follows the one of this key, if there is one
+-- the handle of the lock that follows the one of this handle, if there is one
 abbrev pub at_after : ℕ → List StoredLock → Option ℕ
 at_after at [] = None
 at_after at (k ∷ rest) = if k.at == at then first_at rest else at_after at rest
 
 -- the rows of locks
-abbrev pub rows_of : List StoredLock → List Row
-rows_of locks = map (λ k. k.row) locks
+abbrev pub rows_of_locks : List StoredLock → List Row
+rows_of_locks locks = map (λ k. k.row) locks
 
 -- the locks but for the one that asks
-abbrev pub but_own : Option ℕ → List StoredLock → List StoredLock
-but_own None locks = locks
-but_own (Some own) locks = without_lock own locks
+abbrev pub but_asking : Option ℕ → List StoredLock → List StoredLock
+but_asking None locks = locks
+but_asking (Some asking) locks = without_lock asking locks
 
 -- the mode fits beside the locks that hold one here, but for the one that asks
 abbrev pub fits_beside : Mode → Option ℕ → StoredResource → Bool
-fits_beside mode own r = fits mode (rows_of (but_own own r.granted)) (rows_of (but_own own r.converting))
+fits_beside mode asking r = fits mode (rows_of_locks (but_asking asking r.granted)) (rows_of_locks (but_asking asking r.converting))
 
--- the key of the first resource, if there is one
+-- the handle of the first resource, if there is one
 abbrev pub first_resource_at : List StoredResource → Option ℕ
 first_resource_at [] = None
 first_resource_at (r ∷ rest) = Some r.at
 
--- the key of the resource made after the one of this key, if there is one
+-- the handle of the resource made after the one of this handle, if there is one
 abbrev pub resource_at_after : ℕ → List StoredResource → Option ℕ
 resource_at_after res [] = None
 resource_at_after res (r ∷ rest) = if r.at == res then first_resource_at rest else resource_at_after res rest
@@ -249,11 +249,11 @@ joined_by Waiting lock r = record r { waiting = r.waiting ++ lock ∷ [] }
 
 -- ---- processes
 
--- the process of this key, if there is one
+-- the process of this handle, if there is one
 abbrev pub process_at : ℕ → List StoredProcess → Option StoredProcess
 process_at at processes = find (λ p. p.at == at) processes
 
--- there is a process of this key
+-- there is a process of this handle
 abbrev pub HasProcess : ℕ → Records → Type 0
 HasProcess at s = IsSome (process_at at s.processes)
 
@@ -261,11 +261,11 @@ HasProcess at s = IsSome (process_at at s.processes)
 abbrev pub authorization_of : Process → Authorization
 authorization_of p = record { group = p.group; quota = p.quota; syslck = p.syslck }
 
--- the key is that of the living process with this identification
+-- the handle is that of the living process with this identification
 abbrev pub IsProcess : ℕ → ℕ → Records → Type 0
 IsProcess at pid s = (p : StoredProcess) × (IsIn p s.processes × (p.at ≡ at) × (p.process.pid ≡ pid))
 
--- the key of the living process with this identification, or none where there is none
+-- the handle of the living process with this identification, or none where there is none
 abbrev pub FindsProcess : Records → ℕ → Option ℕ → Type 0
 FindsProcess s pid None = (p : StoredProcess) → IsIn p s.processes → ¬ (p.process.pid ≡ pid)
 FindsProcess s pid (Some at) = IsProcess at pid s
@@ -282,11 +282,11 @@ new_stored_process at pid d = record { at = at; process = new_process pid d; own
 abbrev pub changed_process : (Process → Process) → StoredProcess → StoredProcess
 changed_process change p = record p { process = change p.process }
 
--- a change of the process of this key alone; its locks stay
+-- a change of the process of this handle alone; its locks stay
 abbrev pub on_process : ℕ → (Process → Process) → List StoredProcess → List StoredProcess
 on_process at change processes = map (λ p. if p.at == at then changed_process change p else p) processes
 
--- the processes but for the one of this key
+-- the processes but for the one of this handle
 abbrev pub without_process : ℕ → List StoredProcess → List StoredProcess
 without_process at processes = filter (λ p. not (p.at == at)) processes
 
@@ -331,12 +331,12 @@ without_stored_lock at s = record s {
   processes = map (process_without_lock at) s.processes;
 }
 
--- no lock stands below the one of this key
+-- no lock stands below the one of this handle
 abbrev pub HasNoSublocks : ℕ → Records → Type 0
 HasNoSublocks at s = (p : StoredProcess) (own : OwnLock) → IsIn p s.processes → IsIn own p.own
     → own.at ≡ at → own.sublocks ≡ []
 
--- the parent that the row of a new lock names is stored under this key; 0 names none
+-- the parent that the row of a new lock names is stored under this handle; 0 names none
 abbrev pub IsParentOf : Option ℕ → Row → Records → Type 0
 IsParentOf None row s = row.parent ≡ 0
 IsParentOf (Some parent) row s = (up : Row) × (Stores s parent up × (up.lkid ≡ row.parent))
@@ -345,19 +345,19 @@ IsParentOf (Some parent) row s = (up : Row) × (Stores s parent up × (up.lkid �
 abbrev pub own_at : ℕ → Records → List OwnLock
 own_at at s = option_map_or (λ p. p.own) (process_at at s.processes) []
 
--- the keys of the locks of a process, in order of making
-abbrev pub own_keys_at : ℕ → Records → List ℕ
-own_keys_at at s = map (λ own. own.at) (own_at at s)
+-- the handles of the locks of a process, in order of making
+abbrev pub own_handles_at : ℕ → Records → List ℕ
+own_handles_at at s = map (λ own. own.at) (own_at at s)
 
--- the lock of this key among those of its process, if there is one
-abbrev pub own_of_key : ℕ → List OwnLock → Option OwnLock
-own_of_key at locks = find (λ own. own.at == at) locks
+-- the lock of this handle among those of its process, if there is one
+abbrev pub own_of_handle : ℕ → List OwnLock → Option OwnLock
+own_of_handle at locks = find (λ own. own.at == at) locks
 
--- the keys of the locks that stand below the one of this key, in order of making
+-- the handles of the locks that stand below the one of this handle, in order of making
 abbrev pub sublocks_at : ℕ → Records → List ℕ
-sublocks_at at s = option_map_or (λ own. own.sublocks) (own_of_key at (flat_map (λ p. p.own) s.processes)) []
+sublocks_at at s = option_map_or (λ own. own.sublocks) (own_of_handle at (flat_map (λ p. p.own) s.processes)) []
 
--- the lock of this key stands below no other
+-- the lock of this handle stands below no other
 abbrev pub HasNoParent : ℕ → Records → Type 0
 HasNoParent at s = (parent : ℕ) → ¬ IsIn at (sublocks_at parent s)
 
@@ -373,27 +373,27 @@ owned_on pid r = owned_among pid r.granted + owned_among pid r.converting + owne
 abbrev pub owned_by : ℕ → Records → ℕ
 owned_by pid s = sum_by (owned_on pid) s.resources + owned_among pid s.loose
 
--- the process of this key has no lock
+-- the process of this handle has no lock
 abbrev pub HasNoLocks : ℕ → Records → Type 0
 HasNoLocks at s = own_at at s ≡ []
 
--- a process but for what it is told in: its status blocks and its ASTs
-abbrev pub but_blocks : StoredProcess → StoredProcess
-but_blocks p = record p { process = record p.process { blocks = []; asts = [] } }
+-- a process but for its notices, which tell it of its requests: its status blocks and its ASTs
+abbrev pub but_notices : StoredProcess → StoredProcess
+but_notices p = record p { process = record p.process { blocks = []; asts = [] } }
 
 -- status blocks are written, ASTs are queued or taken, and nothing else
-pub record SameButBlocks (old new : Records) : Type 0 where
+pub record SameButNotices (old new : Records) : Type 0 where
   pub resources : new.resources ≡ old.resources
   pub loose : new.loose ≡ old.loose
-  pub processes : map but_blocks new.processes ≡ map but_blocks old.processes
+  pub processes : map but_notices new.processes ≡ map but_notices old.processes
   pub room : new.room ≡ old.room
 
 -- ---- room
 
--- one more record needs no allocation, and a key is left for it
+-- one more record needs no allocation, and a handle is left for it
 pub record HasRoom (room : Room) : Type 0 where
-  pub place : 0 < room.places
-  pub key : room.next_key ≤ LAST_KEY
+  pub slot : 0 < room.slots
+  pub handle : room.next_handle ≤ LAST_HANDLE
   pub find : 0 < room.finds
 
 -- there is room for one more lock
@@ -410,19 +410,19 @@ HasRoomForProcess s = HasRoom s.room.processes
 
 -- there is as much room as there was, or more
 pub record IsNoLess (old new : Room) : Type 0 where
-  pub places : old.places ≤ new.places
-  pub next_key : new.next_key ≡ old.next_key
+  pub slots : old.slots ≤ new.slots
+  pub next_handle : new.next_handle ≡ old.next_handle
   pub finds : old.finds ≤ new.finds
 
--- one more record uses up one place at most
+-- one more record uses up one slot at most
 pub record IsTaken (old new : Room) : Type 0 where
-  pub places : old.places ≤ new.places + 1
+  pub slots : old.slots ≤ new.slots + 1
   pub finds : old.finds ≤ new.finds + 1
 
--- a removed record leaves its place and its key. Of the index no more is known than that it keeps its room
+-- a removed record leaves its slot, and so its handle. Of the index no more is known than that it keeps its room
 pub record IsGivenBack (old new : Room) : Type 0 where
-  pub places : new.places ≡ old.places + 1
-  pub next_key : new.next_key ≤ LAST_KEY
+  pub slots : new.slots ≡ old.slots + 1
+  pub next_handle : new.next_handle ≤ LAST_HANDLE
   pub finds : old.finds ≤ new.finds
 
 -- nothing is changed, but that there may be more room
@@ -446,24 +446,24 @@ with_process_room room s = record s { room = record s.room { processes = room } 
 
 -- ---- what holds between the calls
 
--- no two of the keys are the same
+-- no two of the handles are the same
 abbrev pub AreApart : List StoredLock → Type 0
 AreApart [] = Unit {0}
 AreApart (k ∷ rest) = ((row : Row) → ¬ IsIn (record { at = k.at; row = row }) rest) × AreApart rest
 
--- no two of the resources have one key
+-- no two of the resources have one handle
 abbrev pub AreResourcesApart : List StoredResource → Type 0
 AreResourcesApart [] = Unit {0}
 AreResourcesApart (r ∷ rest) = ((other : StoredResource) → IsIn other rest → ¬ (other.at ≡ r.at)) × AreResourcesApart rest
 
--- no two of the processes have one key, or one identification
+-- no two of the processes have one handle, or one identification
 abbrev pub AreProcessesApart : List StoredProcess → Type 0
 AreProcessesApart [] = Unit {0}
 AreProcessesApart (p ∷ rest) =
     ((other : StoredProcess) → IsIn other rest → ¬ (other.at ≡ p.at) × ¬ (other.process.pid ≡ p.process.pid))
     × AreProcessesApart rest
 
--- no two of the locks of a process have one key
+-- no two of the locks of a process have one handle
 abbrev pub AreOwnApart : List OwnLock → Type 0
 AreOwnApart [] = Unit {0}
 AreOwnApart (own ∷ rest) = ((other : OwnLock) → IsIn other rest → ¬ (other.at ≡ own.at)) × AreOwnApart rest
@@ -480,7 +480,7 @@ pub record AreOwned (s : Records) : Type 0 where
   pub named : (at : ℕ) (row : Row) → Stores s at row → ¬ (row.parent ≡ 0)
       → (p : StoredProcess) × (own : OwnLock) × (up : Row) × (IsIn p s.processes × IsIn own p.own × IsIn at own.sublocks × Stores s own.at up × (up.lkid ≡ row.parent))
 
--- each key is that of one record, no lock stands at two places, no two locks have one identification and no two
+-- each handle is that of one record, no lock stands at two places, no two locks have one identification and no two
 -- resources one key, and the locks of a process are those whose rows name it, each once
 pub record IsSound (s : Records) : Type 0 where
   pub resources_apart : AreResourcesApart s.resources

@@ -5,7 +5,7 @@ use Rattle.std.specs.Option.{option_map}
 use Rattle.slab.specs.Slab.{Slab, get, slab_len, ContainsKey}
 use Rattle.vlm_links.specs.declared.link.Links.{Links}
 use Rattle.vlm_links.specs.declared.lists.LinkedList.{LinkedList}
-use Rattle.vlm_links.specs.Lists.{keys_of, without}
+use Rattle.vlm_links.specs.Lists.{handles_of, without}
 use Rattle.vlm_words.specs.declared.locks.Row.{Row}
 use Rattle.vlm_words.specs.declared.modes.Mode.{Mode}
 use Rattle.vlm_words.specs.declared.resources.Domain.{Domain}
@@ -18,8 +18,8 @@ use Rattle.vlm_words.specs.declared.resources.Key.{Key}
 use Rattle.vlm_words.specs.declared.resources.Site.{Site}
 use Rattle.vlm_words.specs.declared.resources.Key.TheVariants.{Below}
 use Rattle.vlm_words.specs.declared.resources.ValueBlock.{ValueBlock}
-use Rattle.vlm_store.specs.declared.keys.Place.{Place}
-use Rattle.vlm_store.specs.declared.keys.Place.TheVariants.{Loose, Queued}
+use Rattle.vlm_store.specs.declared.handles.Place.{Place}
+use Rattle.vlm_store.specs.declared.handles.Place.TheVariants.{Loose, Queued}
 use Rattle.vlm_store.specs.declared.locks.InQueue.{InQueue}
 use Rattle.vlm_store.specs.declared.locks.Lock.{Lock}
 use Rattle.vlm_store.specs.declared.queues.Queues.{Queues}
@@ -48,7 +48,7 @@ with_queue_list Waiting list r = record r { waiting = list }
 abbrev pub no_row : Row
 no_row = record { lkid = 0; pid = 0; parent = 0; held = None; want = None; armed = false }
 
--- what stands under a key, read off the record if there is one
+-- what stands under a handle, read off the record if there is one
 abbrev pub row_in : Option Lock → Row
 row_in None = no_row
 row_in (Some l) = l.row
@@ -141,13 +141,13 @@ new_lock row owner parent = record {
   sublocks = no_list;
 }
 
--- how many more records a slab takes with no allocation, and the key that the next one gets
+-- how many more records a slab takes with no allocation, and the handle that the next one gets
 unfoldable pub room_in : {T : Type 0} → Slab T → ℕ × ℕ
 room_in nodes = (nodes.capacity - slab_len nodes, nodes.vacant_key)
 
 -- every record shows what it showed
 abbrev pub SameBut : {T X : Type 0} → (T → X) → Slab T → Slab T → Type 0
-SameBut part old new = (key : ℕ) → option_map part (get new key) ≡ option_map part (get old key)
+SameBut part old new = (handle : ℕ) → option_map part (get new handle) ≡ option_map part (get old handle)
 
 -- the place, if it is a queue, is that of a resource that is there
 abbrev pub IsThere : Slab Resource → Place → Type 0
@@ -168,14 +168,14 @@ module _ (q : Queues) where
   list_at Loose = q.loose
   list_at (Queued res queue) = list_in queue (get q.resources res)
 
-  -- the keys at a place, the first in line first
-  abbrev pub keys_at : Place → List ℕ
-  keys_at place = keys_of queue_links q.locks (list_at place)
+  -- the handles at a place, the first in line first
+  abbrev pub handles_at : Place → List ℕ
+  handles_at place = handles_of queue_links q.locks (list_at place)
 
-  -- the keys at a place, but for the lock that is out
-  abbrev pub keys_but : Option ℕ → Place → List ℕ
-  keys_but None place = keys_at place
-  keys_but (Some out) place = without out (keys_at place)
+  -- the handles at a place, but for the lock that is out
+  abbrev pub handles_but : Option ℕ → Place → List ℕ
+  handles_but None place = handles_at place
+  handles_but (Some out) place = without out (handles_at place)
 
   -- each list is linked, and holds those locks that note its place, but for one that is taken out
   abbrev pub IsPlaced : Option ℕ → Type 0
@@ -184,17 +184,17 @@ module _ (q : Queues) where
   -- what the locks in the queues of a resource weigh together, but for one
   abbrev pub shares : (Queue → Row → ℕ) → Option ℕ → ℕ → ℕ
   shares weight out res =
-      total (weight Granted) rows (keys_but out (Queued res Granted))
-      + (total (weight Conversion) rows (keys_but out (Queued res Conversion)) + total (weight Waiting) rows (keys_but out (Queued res Waiting)))
+      total (weight Granted) rows (handles_but out (Queued res Granted))
+      + (total (weight Conversion) rows (handles_but out (Queued res Conversion)) + total (weight Waiting) rows (handles_but out (Queued res Waiting)))
 
   -- each resource counts the modes that its locks hold and want, but for one lock
   pub record IsTallied (out : Option ℕ) : Type 0 where
     pub held : (res : ℕ) (mode : Mode) → held_of (tally_in (get q.resources res)) mode ≡ shares (held_weight mode) out res
     pub wanted : (res : ℕ) (mode : Mode) → wanted_of (tally_in (get q.resources res)) mode ≡ shares (wanted_weight mode) out res
 
--- the mode is compatible with what each lock under these keys holds
-abbrev pub keys_fit : Mode → (ℕ → Row) → List ℕ → List ℕ → Bool
-keys_fit mode rows granted converting =
+-- the mode is compatible with what each lock under these handles holds
+abbrev pub handles_fit : Mode → (ℕ → Row) → List ℕ → List ℕ → Bool
+handles_fit mode rows granted converting =
     list_all (λ k. is_beside mode (rows k).held) granted && list_all (λ k. is_beside mode (rows k).held) converting
 
 -- what a lock at this place adds to the count of a resource
@@ -218,7 +218,7 @@ face_of r = record { serial = r.serial; domain = r.domain; key = r.key; level = 
 abbrev pub no_face : Face
 no_face = record { serial = 0; domain = System; key = Below 0 (replicate 1 0); level = 0; value_block = record { value = replicate 16 0; valid = false } }
 
--- what stands under a key, or what is told of nothing
+-- what stands under a handle, or what is told of nothing
 abbrev pub face_in : Option Resource → Face
 face_in None = no_face
 face_in (Some r) = face_of r

@@ -3,23 +3,23 @@ use Rattle.std.specs.Prelude.{ℕ, List, map, Option}
 use Rattle.std.specs.Option.{option_map}
 use Rattle.slab.specs.Slab.{Slab, get}
 use Rattle.vlm_links.specs.declared.lists.LinkedList.{LinkedList}
-use Rattle.vlm_links.specs.Lists.{keys_of}
+use Rattle.vlm_links.specs.Lists.{handles_of}
 use Rattle.vlm_words.specs.declared.locks.Row.{Row}
 use Rattle.vlm_words.specs.declared.resources.Queue.TheVariants.{Granted, Conversion, Waiting}
 use Rattle.vlm_words.specs.declared.resources.Key.{Key}
-use Rattle.vlm_store.specs.declared.keys.Place.{Place}
-use Rattle.vlm_store.specs.declared.keys.Place.TheVariants.{Loose, Queued}
+use Rattle.vlm_store.specs.declared.handles.Place.{Place}
+use Rattle.vlm_store.specs.declared.handles.Place.TheVariants.{Loose, Queued}
 use Rattle.vlm_store.specs.declared.queues.Queues.{Queues}
 use Rattle.vlm_store.specs.declared.resources.InOrder.{InOrder}
 use Rattle.vlm_store.specs.Records.{Records, Room, Rooms, StoredLock, StoredProcess, StoredResource}
-use Rattle.vlm_store.specs.Shown.{Face, face_in, keys_at, lkid_of, order_links, room_in, rows}
+use Rattle.vlm_store.specs.Shown.{Face, face_in, handles_at, lkid_of, order_links, room_in, rows}
 
--- what stands under each key, the keys at each place, the resources in order of making, the processes, and what
+-- what stands under each handle, the handles at each place, the resources in order of making, the processes, and what
 -- room there is
 pub record Layout : Type 0 where
   pub rows : ℕ → Row
   pub faces : ℕ → Face
-  pub keys : Place → List ℕ
+  pub handles : Place → List ℕ
   pub order : List ℕ
   pub processes : List StoredProcess
   pub room : Rooms
@@ -31,13 +31,13 @@ pub record Beside : Type 0 where
 
 -- the room in a slab, and in an index that takes so many more
 abbrev pub room_of : {T : Type 0} → Slab T → ℕ → Room
-room_of nodes finds = record { places = (room_in nodes).0; next_key = (room_in nodes).1; finds = finds }
+room_of nodes finds = record { slots = (room_in nodes).0; next_handle = (room_in nodes).1; finds = finds }
 
--- a lock under its key
-abbrev pub keyed : (ℕ → Row) → ℕ → StoredLock
-keyed rows at = record { at = at; row = rows at }
+-- a lock under its handle
+abbrev pub under_handle : (ℕ → Row) → ℕ → StoredLock
+under_handle rows at = record { at = at; row = rows at }
 
--- a resource under its key
+-- a resource under its handle
 abbrev pub resource_of : Layout → ℕ → StoredResource
 resource_of l r = record {
   at = r;
@@ -46,16 +46,16 @@ resource_of l r = record {
   key = (l.faces r).key;
   level = (l.faces r).level;
   value_block = (l.faces r).value_block;
-  granted = map (keyed l.rows) (l.keys (Queued r Granted));
-  converting = map (keyed l.rows) (l.keys (Queued r Conversion));
-  waiting = map (keyed l.rows) (l.keys (Queued r Waiting));
+  granted = map (under_handle l.rows) (l.handles (Queued r Granted));
+  converting = map (under_handle l.rows) (l.handles (Queued r Conversion));
+  waiting = map (under_handle l.rows) (l.handles (Queued r Waiting));
 }
 
 -- what a caller sees of the tables
 unfoldable pub records_of : Layout → Records
 records_of l = record {
   resources = map (resource_of l) l.order;
-  loose = map (keyed l.rows) (l.keys Loose);
+  loose = map (under_handle l.rows) (l.handles Loose);
   processes = l.processes;
   room = l.room;
 }
@@ -65,16 +65,16 @@ abbrev pub tables : Queues → LinkedList InOrder → Beside → Layout
 tables q order beside = record {
   rows = rows q;
   faces = λ r. face_in (get q.resources r);
-  keys = keys_at q;
-  order = keys_of order_links q.resources order;
+  handles = handles_at q;
+  order = handles_of order_links q.resources order;
   processes = beside.processes;
   room = beside.room;
 }
 
--- the identification of the lock under a key, and the key of the resource
+-- the identification of the lock under a handle
 abbrev pub lkid_at : Queues → ℕ → Option ℕ
 lkid_at q at = option_map lkid_of (get q.locks at)
 
--- the key of the resource under a key of the slab
+-- the key of the resource under a handle
 abbrev pub key_at : Queues → ℕ → Option Key
 key_at q res = option_map (λ r. r.key) (get q.resources res)

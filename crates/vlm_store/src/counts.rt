@@ -4,11 +4,11 @@ ghost use Rattle.std.specs.Prelude.{◌≡◌, ◌≤◌, ◌<◌, ◌+◌, ◌^
 ghost use Rattle.std.specs.Option.{ForSome};
 ghost use Rattle.slab.specs.Slab.{get, ContainsKey};
 ghost use Rattle.vlm_words.specs.declared.resources.Queue.{Queue};
-ghost use Rattle.vlm_store.specs.declared.keys.Place.{Place};
+ghost use Rattle.vlm_store.specs.declared.handles.Place.{Place};
 ghost use Rattle.vlm_tallies.specs.Tallies.{held_of, held_weight, wanted_of, wanted_weight};
-ghost use Rattle.vlm_store.specs.Shown.{IsPlaced, IsTallied, SameBut, but_tally, keys_but, keys_fit, room_in, rows, share_of, shares, tally_in};
+ghost use Rattle.vlm_store.specs.Shown.{IsPlaced, IsTallied, SameBut, but_tally, handles_but, handles_fit, room_in, rows, share_of, shares, tally_in};
 
-use crate::keys::{LockAt, Place, ResAt};
+use crate::handles::{LockAt, Place, ResAt};
 use crate::locks::Lock;
 use crate::queues::Queues;
 use vlm_tallies::Tally;
@@ -115,18 +115,18 @@ impl Queues {
     }
 
     // The counts of a resource, without the lock that asks.
-    fn tally_without(&self, res: ResAt, own: Option<LockAt>) -> Tally
+    fn tally_without(&self, res: ResAt, asking: Option<LockAt>) -> Tally
         requires placed { IsPlaced self.now None }
         requires tallied { IsTallied self.now None }
         requires there { ContainsKey self.now.resources res }
-        requires own { ForSome own (λ at. ContainsKey self.now.locks at) }
-        ensures { (mode : Mode) → held_of result mode ≡ shares self.now (held_weight mode) own res }
+        requires asking { ForSome asking (λ at. ContainsKey self.now.locks at) }
+        ensures { (mode : Mode) → held_of result mode ≡ shares self.now (held_weight mode) asking res }
     {
         let tally = self.resources[res.slot()].tally;
-        match own {
+        match asking {
             None => tally,
-            Some(own) => {
-                let Lock { row, place, .. } = self.locks[own.slot()];
+            Some(asking) => {
+                let Lock { row, place, .. } = self.locks[asking.slot()];
                 counted_out(tally, res, place, &row)
             }
         }
@@ -134,15 +134,15 @@ impl Queues {
 
     /// Whether the mode is compatible with what each lock of a resource holds, but for the lock that
     /// asks.
-    pub(crate) fn fits(&self, res: ResAt, mode: Mode, own: Option<LockAt>) -> bool
+    pub(crate) fn fits(&self, res: ResAt, mode: Mode, asking: Option<LockAt>) -> bool
         requires placed { IsPlaced self.now None }
         requires tallied { IsTallied self.now None }
         requires there { ContainsKey self.now.resources res }
-        requires own { ForSome own (λ at. ContainsKey self.now.locks at) }
+        requires asking { ForSome asking (λ at. ContainsKey self.now.locks at) }
         ensures { result
-            ≡ keys_fit mode (rows self.now) (keys_but self.now own (Place.Queued res Queue.Granted))
-            (keys_but self.now own (Place.Queued res Queue.Conversion)) }
+            ≡ handles_fit mode (rows self.now) (handles_but self.now asking (Place.Queued res Queue.Granted))
+            (handles_but self.now asking (Place.Queued res Queue.Conversion)) }
     {
-        self.tally_without(res, own).fits(mode)
+        self.tally_without(res, asking).fits(mode)
     }
 }

@@ -8,10 +8,10 @@ use indexmap::IndexMap;
 use slab::Slab;
 use std::alloc::AllocError;
 use std::hash::Hash;
-use vlm_links::LAST_KEY;
+use vlm_links::LAST_HANDLE;
 
 /// Makes room for one more record, and for its key in the index, where there is none. It is refused where memory
-/// is, and where the slab has given out the last key that a link can lead to.
+/// is, and where the slab has given out the last handle that a link can lead to.
 pub(crate) fn reserve_one<T, K: Eq + Hash, V>(
     records: &mut Slab<T>,
     index: &mut IndexMap<K, V>,
@@ -20,13 +20,13 @@ pub(crate) fn reserve_one<T, K: Eq + Hash, V>(
     ensures capacity { records.old.capacity ≤ records.new.capacity }
     ensures index { IsUnchanged index.old index.new }
     ensures finds { spare index.old ≤ spare index.new }
-    ensures place { OnOk result (HasRoomFor records.new 1) }
-    ensures key { OnOk result (records.new.vacant_key ≤ LAST_KEY) }
+    ensures slot { OnOk result (HasRoomFor records.new 1) }
+    ensures handle { OnOk result (records.new.vacant_key ≤ LAST_HANDLE) }
     ensures find { OnOk result (0 < spare index.new) }
-    ensures succeeds { HasRoomFor records.old 1 → records.old.vacant_key ≤ LAST_KEY
+    ensures succeeds { HasRoomFor records.old 1 → records.old.vacant_key ≤ LAST_HANDLE
         → 0 < spare index.old → IsOk result }
 {
-    if records.vacant_key() > LAST_KEY {
+    if records.vacant_key() > LAST_HANDLE {
         return Err(AllocError);
     }
     records.reserve(1)?;

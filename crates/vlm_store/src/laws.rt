@@ -7,8 +7,8 @@ ghost use Rattle.vlm_words.specs.declared.resources.Queue.{Queue};
 ghost use Rattle.vlm_words.specs.declared.resources.Site.{Site};
 ghost use Rattle.vlm_words.specs.declared.steps.Declaration.{Declaration};
 ghost use Rattle.vlm_links.specs.Lists.{IsIn};
-ghost use Rattle.vlm_store.specs.declared.keys.Place.{Place};
-ghost use Rattle.vlm_store.specs.Records.{Records, HasProcess, HasResource, IsSound, IsStored, joined_by, moving, new_resource, new_stored_process, on_resource, with_lists, with_new_lock, without_lock, without_process, without_resource, without_stored_lock};
+ghost use Rattle.vlm_store.specs.declared.handles.Place.{Place};
+ghost use Rattle.vlm_store.specs.Records.{Records, HasProcess, HasResource, IsSound, IsStored, joined_by, moving, new_stored_resource, new_stored_process, on_resource, with_lists, with_new_lock, without_lock, without_process, without_resource, without_stored_lock};
 
 use crate::store::Store;
 
@@ -27,7 +27,7 @@ pub fn law_removal_undoes_an_addition()
         → ¬ IsStored at s → without_stored_lock at (with_new_lock at row owner parent s) ≡ s }
     ensures resource { (s : Records) (res serial : ℕ) (site : Site) → ¬ HasResource res s
         → record s {
-          resources = without_resource res (s.resources ++ new_resource res serial site ∷ []);
+          resources = without_resource res (s.resources ++ new_stored_resource res serial site ∷ []);
         } ≡ s }
     ensures process { (s : Records) (at pid : ℕ) (d : Declaration) → ¬ HasProcess at s
         → record s {

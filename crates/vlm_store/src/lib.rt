@@ -1,10 +1,10 @@
-//! The records of the lock machine, each found by its identification or its key.
+//! The records of the lock machine, each found by its identification or its handle.
 //!
 //! # Implementation
 //!
 //! Three slabs have the records of locks, resources and processes. A handle is a record's place in its slab,
 //! in four bytes (`At`): it is good until the record is removed, and may then be given to another. Three
-//! indexes lead to the handles, by identification or by the key of a resource.
+//! indexes lead to the handles, by identification or by the handle of a resource.
 //!
 //! A lock notes where it stands: its queue (`place`), its process (`owner`) and its parent, if it has one. In
 //! the list of each it is linked by a pair of links of its own; what is in no queue is in the list of the
@@ -19,7 +19,7 @@
 
 mod counts;
 mod growth;
-mod keys;
+mod handles;
 mod kin;
 pub mod laws;
 mod locks;
@@ -30,7 +30,7 @@ mod queues;
 mod resources;
 mod store;
 
-pub use keys::{At, LockAt, LockKind, Place, ProcAt, ProcessKind, ResAt, ResourceKind};
+pub use handles::{At, LockAt, LockKind, Place, ProcAt, ProcessKind, ResAt, ResourceKind};
 pub use locks::Lock;
 pub use processes::{Authorization, Process};
 pub use resources::Resource;

@@ -2,7 +2,7 @@
 
 ghost use Rattle.std.specs.Prelude.{refl};
 
-use crate::keys::{LockAt, Place, ProcAt};
+use crate::handles::{LockAt, Place, ProcAt};
 use vlm_links::{Linked, LinkedList, Links};
 use vlm_words::locks::Row;
 

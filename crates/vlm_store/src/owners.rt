@@ -8,8 +8,8 @@ ghost use Rattle.vlm_words.specs.StatusBlocks.{new_status_block, process_with_bl
 ghost use Rattle.vlm_store.specs.Records.{FindsProcess, HasNoLocks, HasNoSublocks, HasProcess, HasRoomForProcess, IsGivenBack, IsNewProcess, IsProcess, IsSound, IsStored, IsTaken, IsUnchanged, authorization_of, new_stored_process, on_process, own_at, owned_by, process_at, with_process_room, without_process};
 
 use crate::growth::reserve_one;
-use crate::keys::{LockAt, ProcAt};
-use crate::processes::{Process, enter, leave};
+use crate::handles::{LockAt, ProcAt};
+use crate::processes::{Process, put_in, take_out};
 use crate::store::Store;
 use std::alloc::AllocError;
 use vlm_words::asts::Ast;
@@ -34,7 +34,7 @@ impl Store {
     }
 
     /// Adds a process with these new status blocks and without locks, the last in order of making. Where memory
-    /// is refused, or no key is left, nothing is changed but that there may be more room.
+    /// is refused, or no handle is left, nothing is changed but that there may be more room.
     pub fn add_process(
         &mut self,
         pid: u32,
@@ -54,13 +54,12 @@ impl Store {
     {
         reserve_one(&mut self.processes, &mut self.process_index)?;
         let process = Process::new(pid, declaration, blocks);
-        let at = ProcAt::of(enter(&mut self.processes, &mut self.process_order, process));
+        let at = ProcAt::of(put_in(&mut self.processes, &mut self.process_order, process));
         let _ = self.process_index.insert(pid, at);
         Ok(at)
     }
 
-    /// Removes a process that has no locks, with its status blocks. The others keep their order. Its place and
-    /// its key are free again; the index may have to grow for the next one.
+    /// Removes a process that has no locks, with its status blocks. The others keep their order. Its slot is free again; the index may have to grow for the next one.
     pub fn remove_process(&mut self, at: ProcAt)
         requires there { HasProcess at self.old }
         requires idle { HasNoLocks at self.old }
@@ -69,7 +68,7 @@ impl Store {
         ensures given_back { IsGivenBack self.old.room.processes self.new.room.processes }
     {
         let pid = self.processes[at.slot()].pid;
-        leave(&mut self.processes, &mut self.process_order, at.slot());
+        take_out(&mut self.processes, &mut self.process_order, at.slot());
         self.process_index.swap_remove(&pid);
     }
 

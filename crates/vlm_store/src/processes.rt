@@ -3,7 +3,7 @@
 ghost use Rattle.std.specs.Prelude.{◌≡◌, ◌≢◌, ◌≤◌, ◌+◌, ℕ, None, Some, [], ◌∷◌, ◌++◌, refl};
 ghost use Rattle.std.specs.Option.{option_map};
 ghost use Rattle.slab.specs.Slab.{get, HasRoomFor};
-ghost use Rattle.vlm_links.specs.Lists.{IsIn, IsLinked, IsNoList, keys_of, without};
+ghost use Rattle.vlm_links.specs.Lists.{IsIn, IsLinked, IsNoList, handles_of, without};
 ghost use Rattle.vlm_words.specs.Asts.{oldest, without_oldest_ast};
 ghost use Rattle.vlm_words.specs.Declare.{new_process};
 ghost use Rattle.vlm_words.specs.StatusBlocks.{process_with_block};
@@ -14,7 +14,7 @@ use crate::locks::OfProcess;
 use crate::resources::InOrder;
 use slab::Slab;
 use vlm_asts::AstQueue;
-use vlm_links::{LAST_KEY, Linked, LinkedList, Links};
+use vlm_links::{LAST_HANDLE, Linked, LinkedList, Links};
 use vlm_words::asts::Ast;
 use vlm_words::blocks::Block;
 use vlm_words::steps::Declaration;
@@ -94,19 +94,19 @@ impl Process {
 }
 
 /// Takes a new process in, the last in the order of making. There is room for it.
-pub(crate) fn enter(
+pub(crate) fn put_in(
     processes: &mut Slab<Process>,
     order: &mut LinkedList<InOrder>,
     process: Process,
 ) -> usize
     requires linked { IsLinked process_links processes.old order.old }
     requires room { HasRoomFor processes.old 1 }
-    requires last { processes.old.vacant_key ≤ LAST_KEY }
-    ensures within { result ≤ LAST_KEY }
+    requires last { processes.old.vacant_key ≤ LAST_HANDLE }
+    ensures within { result ≤ LAST_HANDLE }
     ensures fresh { get processes.old result ≡ None }
     ensures linked { IsLinked process_links processes.new order.new }
-    ensures order { keys_of process_links processes.new order.new
-        ≡ keys_of process_links processes.old order.old ++ result ∷ [] }
+    ensures order { handles_of process_links processes.new order.new
+        ≡ handles_of process_links processes.old order.old ++ result ∷ [] }
     ensures here { option_map but_order (get processes.new result) ≡ Some (but_order process) }
     ensures others { (other : ℕ) → other ≢ result
         → option_map but_order (get processes.new other)
@@ -119,12 +119,12 @@ pub(crate) fn enter(
 }
 
 /// Removes a process, and takes it out of the order of making.
-pub(crate) fn leave(processes: &mut Slab<Process>, order: &mut LinkedList<InOrder>, at: usize)
+pub(crate) fn take_out(processes: &mut Slab<Process>, order: &mut LinkedList<InOrder>, at: usize)
     requires linked { IsLinked process_links processes.old order.old }
-    requires listed { IsIn at (keys_of process_links processes.old order.old) }
+    requires listed { IsIn at (handles_of process_links processes.old order.old) }
     ensures linked { IsLinked process_links processes.new order.new }
-    ensures order { keys_of process_links processes.new order.new
-        ≡ without at (keys_of process_links processes.old order.old) }
+    ensures order { handles_of process_links processes.new order.new
+        ≡ without at (handles_of process_links processes.old order.old) }
     ensures gone { get processes.new at ≡ None }
     ensures others { (other : ℕ) → other ≢ at → option_map but_order (get processes.new other)
         ≡ option_map but_order (get processes.old other) }

@@ -4,14 +4,14 @@ ghost use Rattle.std.specs.Prelude.{◌≡◌, ◌≢◌, ◌≤◌, ◌+◌, �
 ghost use Rattle.std.specs.Option.{option_map};
 ghost use Rattle.slab.specs.Slab.{get, ContainsKey, HasRoomFor};
 ghost use Rattle.vlm_links.specs.Lists.{Relinks, without};
-ghost use Rattle.vlm_store.specs.declared.keys.Place.{Place};
-ghost use Rattle.vlm_store.specs.Shown.{IsPlaced, IsTallied, IsThere, SameBut, but_lists, but_place, but_queued, but_queues, but_row, keys_at, list_at, named_row, new_lock, noted, room_in, rows, with_queue_links};
+ghost use Rattle.vlm_store.specs.declared.handles.Place.{Place};
+ghost use Rattle.vlm_store.specs.Shown.{IsPlaced, IsTallied, IsThere, SameBut, but_lists, but_place, but_queued, but_queues, but_row, handles_at, list_at, named_row, new_lock, noted, room_in, rows, with_queue_links};
 
-use crate::keys::{LockAt, Place, ProcAt};
+use crate::handles::{LockAt, Place, ProcAt};
 use crate::locks::{InQueue, Lock};
 use crate::resources::Resource;
 use slab::Slab;
-use vlm_links::{LAST_KEY, LinkedList, Links};
+use vlm_links::{LAST_HANDLE, LinkedList, Links};
 use vlm_words::locks::Row;
 
 /// The locks, each in one list: a queue of a resource, or that of the loose locks.
@@ -60,8 +60,8 @@ impl Queues {
         requires placed { IsPlaced self.old None }
         requires present { ContainsKey self.old.locks at }
         ensures placed { IsPlaced self.new (Some at) }
-        ensures keys { (place : Place) → keys_at self.new place
-            ≡ without at (keys_at self.old place) }
+        ensures handles { (place : Place) → handles_at self.new place
+            ≡ without at (handles_at self.old place) }
         ensures relinks { Relinks with_queue_links self.old.locks self.new.locks }
         ensures kin { SameBut but_queued self.old.locks self.new.locks }
         ensures rest { SameBut but_lists self.old.resources self.new.resources }
@@ -78,12 +78,12 @@ impl Queues {
     fn put_at(&mut self, at: usize, place: Place)
         requires placed { IsPlaced self.old (Some at) }
         requires present { ContainsKey self.old.locks at }
-        requires within { at ≤ LAST_KEY }
+        requires within { at ≤ LAST_HANDLE }
         requires there { IsThere self.old.resources place }
         ensures placed { IsPlaced self.new None }
-        ensures here { keys_at self.new place ≡ keys_at self.old place ++ at ∷ [] }
+        ensures here { handles_at self.new place ≡ handles_at self.old place ++ at ∷ [] }
         ensures elsewhere { (other : Place) → other ≢ place
-            → keys_at self.new other ≡ keys_at self.old other }
+            → handles_at self.new other ≡ handles_at self.old other }
         ensures rows { (other : ℕ) → rows self.new other ≡ rows self.old other }
         ensures kin { SameBut but_queued self.old.locks self.new.locks }
         ensures rest { SameBut but_lists self.old.resources self.new.resources }
@@ -132,14 +132,14 @@ impl Queues {
         requires placed { IsPlaced self.old None }
         requires tallied { IsTallied self.old None }
         requires present { ContainsKey self.old.locks at }
-        requires within { at ≤ LAST_KEY }
+        requires within { at ≤ LAST_HANDLE }
         requires there { IsThere self.old.resources to }
         requires named { named_row (rows self.old at) ≡ named_row row.now }
         ensures placed { IsPlaced self.new None }
         ensures tallied { IsTallied self.new None }
-        ensures here { keys_at self.new to ≡ without at (keys_at self.old to) ++ at ∷ [] }
+        ensures here { handles_at self.new to ≡ without at (handles_at self.old to) ++ at ∷ [] }
         ensures elsewhere { (other : Place) → other ≢ to
-            → keys_at self.new other ≡ without at (keys_at self.old other) }
+            → handles_at self.new other ≡ without at (handles_at self.old other) }
         ensures row { rows self.new at ≡ row.now }
         ensures rows { (other : ℕ) → other ≢ at → rows self.new other ≡ rows self.old other }
         ensures kin { SameBut but_queued self.old.locks self.new.locks }
@@ -160,14 +160,14 @@ impl Queues {
         requires placed { IsPlaced self.old None }
         requires tallied { IsTallied self.old None }
         requires room { HasRoomFor self.old.locks 1 }
-        requires within { self.old.locks.vacant_key ≤ LAST_KEY }
-        ensures within { result ≤ LAST_KEY }
+        requires within { self.old.locks.vacant_key ≤ LAST_HANDLE }
+        ensures within { result ≤ LAST_HANDLE }
         ensures fresh { get self.old.locks result ≡ None }
         ensures placed { IsPlaced self.new None }
         ensures tallied { IsTallied self.new None }
-        ensures here { keys_at self.new Place.Loose ≡ keys_at self.old Place.Loose ++ result ∷ [] }
+        ensures here { handles_at self.new Place.Loose ≡ handles_at self.old Place.Loose ++ result ∷ [] }
         ensures elsewhere { (other : Place) → other ≢ Place.Loose
-            → keys_at self.new other ≡ keys_at self.old other }
+            → handles_at self.new other ≡ handles_at self.old other }
         ensures row { rows self.new result ≡ row.now }
         ensures rows { (other : ℕ) → other ≢ result → rows self.new other ≡ rows self.old other }
         ensures lock { option_map but_queued (get self.new.locks result)
@@ -200,8 +200,8 @@ impl Queues {
         requires present { ContainsKey self.old.locks at }
         ensures placed { IsPlaced self.new None }
         ensures tallied { IsTallied self.new None }
-        ensures keys { (place : Place) → keys_at self.new place
-            ≡ without at (keys_at self.old place) }
+        ensures handles { (place : Place) → handles_at self.new place
+            ≡ without at (handles_at self.old place) }
         ensures gone { get self.new.locks at ≡ None }
         ensures rows { (other : ℕ) → other ≢ at → rows self.new other ≡ rows self.old other }
         ensures kin { (other : ℕ) → other ≢ at → option_map but_queued (get self.new.locks other)

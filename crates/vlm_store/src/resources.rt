@@ -3,14 +3,14 @@
 ghost use Rattle.std.specs.Prelude.{◌≡◌, ◌≢◌, ◌≤◌, ◌+◌, ℕ, None, Some, [], ◌∷◌, ◌++◌, refl};
 ghost use Rattle.std.specs.Option.{option_map};
 ghost use Rattle.slab.specs.Slab.{get, ContainsKey, HasRoomFor};
-ghost use Rattle.vlm_links.specs.Lists.{IsIn, IsLinked, keys_of, without};
+ghost use Rattle.vlm_links.specs.Lists.{IsIn, IsLinked, handles_of, without};
 ghost use Rattle.vlm_words.specs.declared.resources.Queue.{Queue};
-ghost use Rattle.vlm_store.specs.declared.keys.Place.{Place};
-ghost use Rattle.vlm_store.specs.Shown.{IsPlaced, IsTallied, SameBut, but_value_block, face_in, face_of, keys_at, new_face, order_links, room_in};
+ghost use Rattle.vlm_store.specs.declared.handles.Place.{Place};
+ghost use Rattle.vlm_store.specs.Shown.{IsPlaced, IsTallied, SameBut, but_value_block, face_in, face_of, handles_at, new_face, order_links, room_in};
 
 use crate::locks::InQueue;
 use crate::queues::Queues;
-use vlm_links::{LAST_KEY, Linked, LinkedList, Links};
+use vlm_links::{LAST_HANDLE, Linked, LinkedList, Links};
 use vlm_tallies::Tally;
 use vlm_words::resources::{Domain, Key, Queue, Site, ValueBlock};
 
@@ -100,16 +100,16 @@ impl Queues {
         requires tallied { IsTallied self.old None }
         requires linked { IsLinked order_links self.old.resources order.old }
         requires room { HasRoomFor self.old.resources 1 }
-        requires within { self.old.resources.vacant_key ≤ LAST_KEY }
-        ensures within { result ≤ LAST_KEY }
+        requires within { self.old.resources.vacant_key ≤ LAST_HANDLE }
+        ensures within { result ≤ LAST_HANDLE }
         ensures fresh { get self.old.resources result ≡ None }
         ensures placed { IsPlaced self.new None }
         ensures tallied { IsTallied self.new None }
-        ensures keys { (place : Place) → keys_at self.new place ≡ keys_at self.old place }
+        ensures handles { (place : Place) → handles_at self.new place ≡ handles_at self.old place }
         ensures locks { self.new.locks ≡ self.old.locks }
         ensures linked { IsLinked order_links self.new.resources order.new }
-        ensures order { keys_of order_links self.new.resources order.new
-            ≡ keys_of order_links self.old.resources order.old ++ result ∷ [] }
+        ensures order { handles_of order_links self.new.resources order.new
+            ≡ handles_of order_links self.old.resources order.old ++ result ∷ [] }
         ensures face { option_map face_of (get self.new.resources result)
             ≡ Some (new_face serial site.now) }
         ensures faces { (res : ℕ) → res ≢ result → option_map face_of (get self.new.resources res)
@@ -137,15 +137,15 @@ impl Queues {
         requires placed { IsPlaced self.old None }
         requires tallied { IsTallied self.old None }
         requires linked { IsLinked order_links self.old.resources order.old }
-        requires listed { IsIn res (keys_of order_links self.old.resources order.old) }
-        requires idle { (queue : Queue) → keys_at self.old (Place.Queued res queue) ≡ [] }
+        requires listed { IsIn res (handles_of order_links self.old.resources order.old) }
+        requires idle { (queue : Queue) → handles_at self.old (Place.Queued res queue) ≡ [] }
         ensures placed { IsPlaced self.new None }
         ensures tallied { IsTallied self.new None }
-        ensures keys { (place : Place) → keys_at self.new place ≡ keys_at self.old place }
+        ensures handles { (place : Place) → handles_at self.new place ≡ handles_at self.old place }
         ensures locks { self.new.locks ≡ self.old.locks }
         ensures linked { IsLinked order_links self.new.resources order.new }
-        ensures order { keys_of order_links self.new.resources order.new
-            ≡ without res (keys_of order_links self.old.resources order.old) }
+        ensures order { handles_of order_links self.new.resources order.new
+            ≡ without res (handles_of order_links self.old.resources order.old) }
         ensures gone { get self.new.resources res ≡ None }
         ensures faces { (other : ℕ) → other ≢ res
             → option_map face_of (get self.new.resources other)
@@ -164,7 +164,7 @@ impl Queues {
         requires there { ContainsKey self.old.resources res }
         ensures placed { IsPlaced self.new None }
         ensures tallied { IsTallied self.new None }
-        ensures keys { (place : Place) → keys_at self.new place ≡ keys_at self.old place }
+        ensures handles { (place : Place) → handles_at self.new place ≡ handles_at self.old place }
         ensures locks { self.new.locks ≡ self.old.locks }
         ensures rest { SameBut but_value_block self.old.resources self.new.resources }
         ensures face { face_in (get self.new.resources res)

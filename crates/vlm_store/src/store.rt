@@ -4,11 +4,11 @@ ghost use Rattle.std.specs.Prelude.{◌≡◌, [], ◌∷◌, ◌++◌, length, 
 ghost use Rattle.std.specs.Option.{ForSome};
 ghost use Rattle.vlm_words.specs.declared.locks.Row.{Row};
 ghost use Rattle.vlm_links.specs.Lists.{IsIn};
-ghost use Rattle.vlm_store.specs.declared.keys.Place.{Place};
-ghost use Rattle.vlm_store.specs.Records.{FindsLock, FindsResource, HasNoSublocks, HasPlace, HasResource, HasRoomForLock, HasRoomForResource, IsGivenBack, IsTaken, IsUnchanged, IsParentOf, IsProcess, at_after, first_at, first_resource_at, fits_beside, resource_at_after, resource_at, IsIdle, IsNewKey, IsNewLock, IsRowOf, IsSound, IsStored, Stores, locks_at, moving, new_resource, nothing, on_resource, with_lists, with_lock_room, with_new_lock, with_resource_room, without_resource, without_stored_lock};
+ghost use Rattle.vlm_store.specs.declared.handles.Place.{Place};
+ghost use Rattle.vlm_store.specs.Records.{FindsLock, FindsResource, HasNoSublocks, HasPlace, HasResource, HasRoomForLock, HasRoomForResource, IsGivenBack, IsTaken, IsUnchanged, IsParentOf, IsProcess, at_after, first_at, first_resource_at, fits_beside, resource_at_after, resource_at, IsIdle, IsNewKey, IsNewLock, IsRowOf, IsSound, IsStored, Stores, locks_at, moving, new_stored_resource, nothing, on_resource, with_lists, with_lock_room, with_new_lock, with_resource_room, without_resource, without_stored_lock};
 
 use crate::growth::reserve_one;
-use crate::keys::{LockAt, Place, ProcAt, ResAt};
+use crate::handles::{LockAt, Place, ProcAt, ResAt};
 use crate::kin::{join_parent, join_process, leave_parent, leave_process};
 use crate::locks::Lock;
 use crate::processes::Process;
@@ -133,7 +133,7 @@ impl Store {
     }
 
     /// Adds a lock that stands in no queue, the last of these, of its process's locks, and of those below
-    /// its parent. Where there is no room and memory is refused, or no key is left, nothing is changed but that
+    /// its parent. Where there is no room and memory is refused, or no handle is left, nothing is changed but that
     /// there may be more room.
     pub fn add_lock(
         &mut self,
@@ -171,7 +171,7 @@ impl Store {
     }
 
     /// Removes a lock below which no other stands: from its queue, from the locks of its process, and from
-    /// those below its parent. Its place and its key are free again; the index may have to grow for the next
+    /// those below its parent. Its slot is free again; the index may have to grow for the next
     /// one.
     pub fn remove_lock(&mut self, lock: LockAt)
         requires stored { IsStored lock self.old }
@@ -188,13 +188,13 @@ impl Store {
     }
 
     /// Adds a resource without locks, the last in order of making, with a valid value block of zeros. Where
-    /// there is no room and memory is refused, or no key is left, nothing is changed but that there may be
+    /// there is no room and memory is refused, or no handle is left, nothing is changed but that there may be
     /// more room.
     pub fn add_resource(&mut self, serial: u32, site: &Site) -> Result<ResAt, AllocError>
         requires { IsNewKey site.now.key self.old }
         ensures added { IfOk result (λ res. self.new
             ≡ with_resource_room self.new.room.resources (record self.old {
-              resources = self.old.resources ++ new_resource res serial site.now ∷ [];
+              resources = self.old.resources ++ new_stored_resource res serial site.now ∷ [];
             })) }
         ensures fresh { IfOk result (λ res. ¬ HasResource res self.old) }
         ensures taken { OnOk result (IsTaken self.old.room.resources self.new.room.resources) }
@@ -207,7 +207,7 @@ impl Store {
         Ok(res)
     }
 
-    /// The key of the first lock at a place, if there is one.
+    /// The handle of the first lock at a place, if there is one.
     pub fn first(&self, place: Place) -> Option<LockAt>
         requires { HasPlace place self.now }
         ensures first { result ≡ first_at (locks_at place self.now) }
@@ -217,7 +217,7 @@ impl Store {
         Some(LockAt::of(at))
     }
 
-    /// The key of the lock that follows one where it stands, if there is one.
+    /// The handle of the lock that follows one where it stands, if there is one.
     pub fn next(&self, lock: LockAt) -> Option<LockAt>
         requires { IsStored lock self.now }
         ensures { (place : Place) (row : Row)
@@ -236,7 +236,7 @@ impl Store {
         self.order.len(&self.queues.resources)
     }
 
-    /// The key of the first resource in order of making, if there is one.
+    /// The handle of the first resource in order of making, if there is one.
     pub fn first_resource(&self) -> Option<ResAt>
         ensures first { result ≡ first_resource_at self.now.resources }
         ensures sound { IsSound self.now }
@@ -245,7 +245,7 @@ impl Store {
         Some(ResAt::of(at))
     }
 
-    /// The key of the resource made after one, if there is one.
+    /// The handle of the resource made after one, if there is one.
     pub fn next_resource(&self, res: ResAt) -> Option<ResAt>
         requires { HasResource res self.now }
         ensures { result ≡ resource_at_after res self.now.resources }
@@ -282,8 +282,7 @@ impl Store {
         self.queues.set_value_block(res.slot(), value_block);
     }
 
-    /// Removes a resource in whose queues no lock stands. The others keep their order. Its place and its key
-    /// are free again; the index may have to grow for the next one.
+    /// Removes a resource in whose queues no lock stands. The others keep their order. Its slot is free again; the index may have to grow for the next one.
     pub fn remove_resource(&mut self, res: ResAt)
         requires there { HasResource res self.old }
         requires idle { IsIdle res self.old }
@@ -298,12 +297,12 @@ impl Store {
 
     /// Whether the mode is compatible with what every lock of the resource holds, granted or converting,
     /// but for the lock that asks.
-    pub fn can_hold(&self, res: ResAt, mode: Mode, own: Option<LockAt>) -> bool
+    pub fn can_hold(&self, res: ResAt, mode: Mode, asking: Option<LockAt>) -> bool
         requires there { HasResource res self.now }
-        requires own { ForSome own (λ lock. IsStored lock self.now) }
+        requires asking { ForSome asking (λ lock. IsStored lock self.now) }
         ensures { IfSome (resource_at res self.now.resources) (λ r. result
-            ≡ fits_beside mode own r) }
+            ≡ fits_beside mode asking r) }
     {
-        self.queues.fits(res, mode, own)
+        self.queues.fits(res, mode, asking)
     }
 }

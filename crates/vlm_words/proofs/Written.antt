@@ -37,7 +37,7 @@ use Rattle.vlm_words.specs.Dequeue.{deq_change, deq_endings}
 use Rattle.vlm_words.specs.Runs.{History, Run}
 use Rattle.vlm_words.specs.Stepped.{IsChoice, Stepped, conversion_change, refused, refused_or, step_change, step_refusal, stepped, stepped_after_sweep}
 use Rattle.vlm_words.specs.Settled.{IsSettled}
-use Rattle.vlm_words.specs.Written.{BlocksAfter, IsLeftByEnds, ProcessesAfter, WritesNamedBlocks, block_named, names_block, without_blocks}
+use Rattle.vlm_words.specs.Written.{BlocksAfter, IsLeftByEnds, ProcessesAfter, WritesNamedBlocks, block_named, names_block, without_notices}
 use Rattle.vlm_words.proofs.Always.{admission_of}
 use Rattle.vlm_words.proofs.Passed.{test_passes}
 use Rattle.vlm_words.proofs.Processes.{kept_converted, kept_ended, kept_entered, kept_set, kept_swept, kept_taken}
@@ -225,7 +225,7 @@ setting_writes : (s : State) (v : ValueSetting) (choice : Option Row)
 unfolding set_change processes_after_setting
 setting_writes s v choice =
     swept_writes s (SetValue v) (step_change s (SetValue v) choice)
-    (kept_swept without_blocks (λ _ _. refl) (set_change s v).processes s.resources ∙ kept_set without_blocks (λ _ _. refl) v.pid v.block v.value s.processes)
+    (kept_swept without_notices (λ _ _. refl) (set_change s v).processes s.resources ∙ kept_set without_notices (λ _ _. refl) v.pid v.block v.value s.processes)
     (set_change s v).processes
     (one_named (SetValue v) (Plain Normal) s v.pid v.block (λ block. record block { value = v.value }) (λ _ _. refl) (λ _. refl))
     (all_left_by_none (set_change s v).processes)
@@ -236,7 +236,7 @@ request_writes : (s : State) (e : NewRequest) (choice : Option Row)
 unfolding enq_change processes_after_acceptance
 request_writes s e choice =
     swept_writes s (Enq e) (step_change s (Enq e) choice)
-    (kept_swept without_blocks (λ _ _. refl) (enq_change s e).processes (enq_change s e).resources ∙ kept_entered without_blocks (λ _ _. refl) s e)
+    (kept_swept without_notices (λ _ _. refl) (enq_change s e).processes (enq_change s e).resources ∙ kept_entered without_notices (λ _ _. refl) s e)
     (processes_after_acceptance e.pid e.block s.next_lkid s.processes)
     (one_named (Enq e) (step_change s (Enq e) choice).answer s e.pid e.block (λ block. record block { status = 0; lkid = s.next_lkid })
     (λ _ _. refl) (λ _. refl))
@@ -248,7 +248,7 @@ unfolding convert_change convert_blocks processes_after_acceptance
 conversion_writes s c a =
     let lkid : ℕ = convert_lkid s c in
     swept_writes s (Convert c) (conversion_change s c (Some a))
-    (kept_swept without_blocks (λ _ _. refl) (convert_change s c a).processes (convert_change s c a).resources ∙ kept_converted without_blocks (λ _ _. refl) s c a)
+    (kept_swept without_notices (λ _ _. refl) (convert_change s c a).processes (convert_change s c a).resources ∙ kept_converted without_notices (λ _ _. refl) s c a)
     (processes_after_acceptance c.pid c.block lkid s.processes)
     (one_named (Convert c) (conversion_change s c (Some a)).answer s c.pid c.block (λ block. record block { status = 0; lkid = lkid })
     (λ _ _. refl) (λ _. refl))
@@ -259,8 +259,8 @@ dequeue_writes : (s : State) (d : Dequeue) (choice : Option Row) → Writes s (D
 unfolding deq_change
 dequeue_writes s d choice =
     swept_writes s (Deq d) (step_change s (Deq d) choice)
-    (kept_swept without_blocks (λ _ _. refl) (deq_change s d).processes (deq_change s d).resources
-    ∙ kept_ended without_blocks (λ _ _. refl) (deq_endings s d) (blocks_with new_value_block s.processes))
+    (kept_swept without_notices (λ _ _. refl) (deq_change s d).processes (deq_change s d).resources
+    ∙ kept_ended without_notices (λ _ _. refl) (deq_endings s d) (blocks_with new_value_block s.processes))
     s.processes (unmade (Deq d) (Plain Normal) s (λ _. refl))
     (all_left (deq_endings s d) (blocks_with new_value_block s.processes))
 
@@ -287,7 +287,7 @@ taking_writes : (s : State) (taker : ℕ) (choice : Option Row) → Writes s (Ta
 unfolding take_change
 taking_writes s taker choice =
     swept_writes s (Take taker) (step_change s (Take taker) choice)
-    (kept_swept without_blocks (λ _ _. refl) (take_change s taker).processes s.resources ∙ kept_taken without_blocks (λ _ _. refl) taker s.processes)
+    (kept_swept without_notices (λ _ _. refl) (take_change s taker).processes s.resources ∙ kept_taken without_notices (λ _ _. refl) taker s.processes)
     (take_change s taker).processes
     (λ pid before is.
     let blocks : status_blocks_of (take_change s taker).processes pid ≡ before.blocks =

@@ -30,16 +30,16 @@ process_asked_for pid d = record {
   asts = [];
 }
 
--- the process but for its status blocks and its ASTs
-abbrev pub without_blocks : Process → Process
-without_blocks p = record p { blocks = []; asts = [] }
+-- the process but for its notices: its status blocks and its ASTs
+abbrev pub without_notices : Process → Process
+without_notices p = record p { blocks = []; asts = [] }
 
 -- an accepted declaration adds its process behind the others, and changes none; any other step leaves the processes
 -- as they are, in their order, but for their status blocks and their ASTs
 abbrev pub ProcessesAfter : Step → Answer → List Process → List Process → Type 0
 ProcessesAfter (Declare d) (process_answer pid) before after =
     after ≡ before ++ process_asked_for pid d ∷ []
-ProcessesAfter step answer before after = map without_blocks after ≡ map without_blocks before
+ProcessesAfter step answer before after = map without_notices after ≡ map without_notices before
 
 -- the step names the status block of this number of this process
 abbrev pub names_block : Step → ℕ → ℕ → Bool

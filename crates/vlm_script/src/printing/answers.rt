@@ -3,7 +3,7 @@
 ghost use Rattle.std.specs.Prelude.{◌≡◌, ◌++◌, codes, decimal, OnOk};
 ghost use Rattle.vlm_script.specs.Texts.{answer_line, answer_text, ast_text};
 
-use super::texts::{number, text};
+use super::texts::{decimal, text};
 use std::alloc::AllocError;
 use vlm_words::asts::{Ast, AstKind};
 use vlm_words::steps::Answer;
@@ -26,17 +26,17 @@ fn answer_text(out: &mut Vec<u8>, answer: Answer) -> Result<(), AllocError>
     match answer {
         Answer::Process(pid) => {
             text(out, b"process ")?;
-            number(out, pid)
+            decimal(out, pid)
         }
         Answer::Lock(cond, lkid) => {
             text(out, cond.text().as_bytes())?;
             text(out, b" lock ")?;
-            number(out, lkid)
+            decimal(out, lkid)
         }
         Answer::Victim(None) => text(out, b"victim none"),
         Answer::Victim(Some(lkid)) => {
             text(out, b"victim ")?;
-            number(out, lkid)
+            decimal(out, lkid)
         }
         Answer::Taken(None) => text(out, b"none"),
         Answer::Taken(Some(ast)) => ast_text(out, ast),
@@ -60,9 +60,9 @@ fn ast_numbers(out: &mut Vec<u8>, kind: &[u8], ast: Ast) -> Result<(), AllocErro
         ++ codes " lock " ++ decimal ast.lkid)) }
 {
     text(out, kind)?;
-    number(out, ast.routine)?;
+    decimal(out, ast.routine)?;
     text(out, b" param ")?;
-    number(out, ast.param)?;
+    decimal(out, ast.param)?;
     text(out, b" lock ")?;
-    number(out, ast.lkid)
+    decimal(out, ast.lkid)
 }

@@ -3,7 +3,7 @@
 ghost use Rattle.std.specs.Prelude.{◌≡◌, ◌++◌, OnOk};
 ghost use Rattle.vlm_script.specs.Texts.{lock_text, granted_line, converting_line, waiting_line, mode_text, mode_name};
 
-use super::texts::{number, text};
+use super::texts::{decimal, text};
 use std::alloc::AllocError;
 use vlm_core::RowView;
 use vlm_words::modes::Mode;
@@ -48,9 +48,9 @@ fn lock_text(out: &mut Vec<u8>, queue: &[u8], row: &RowView) -> Result<(), Alloc
     text(out, b"  ")?;
     text(out, queue)?;
     text(out, b" ")?;
-    number(out, row.lkid)?;
+    decimal(out, row.lkid)?;
     text(out, b" process ")?;
-    number(out, row.pid)?;
+    decimal(out, row.pid)?;
     text(out, b" ")
 }
 

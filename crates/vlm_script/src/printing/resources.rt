@@ -4,7 +4,7 @@ ghost use Rattle.std.specs.Prelude.{◌≡◌, ◌++◌, ◌&&◌, nat_le, [], O
 ghost use Rattle.std.specs.List.{list_all};
 ghost use Rattle.vlm_script.specs.Texts.{resource_line, resources_text, domain_text, name_text, is_readable, validity};
 
-use super::texts::{hexadecimal, number, text};
+use super::texts::{decimal, hexadecimal, text};
 use std::alloc::AllocError;
 use vlm_core::ResourceView;
 use vlm_words::resources::Domain;
@@ -15,9 +15,9 @@ pub(crate) fn resource_line(out: &mut Vec<u8>, view: &ResourceView) -> Result<()
     ensures { OnOk result (out.new.items ≡ out.old.items ++ resource_line view.now) }
 {
     text(out, b"resource ")?;
-    number(out, view.serial)?;
+    decimal(out, view.serial)?;
     text(out, b" in ")?;
-    number(out, view.parent)?;
+    decimal(out, view.parent)?;
     text(out, b" ")?;
     domain_text(out, view.domain)?;
     text(out, b" name ")?;
@@ -43,7 +43,7 @@ fn domain_text(out: &mut Vec<u8>, domain: Domain) -> Result<(), AllocError>
     match domain {
         Domain::Group(group) => {
             text(out, b"group ")?;
-            number(out, u32::from(group))
+            decimal(out, u32::from(group))
         }
         Domain::System => text(out, b"system"),
     }

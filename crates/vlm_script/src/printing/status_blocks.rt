@@ -3,7 +3,7 @@
 ghost use Rattle.std.specs.Prelude.{◌≡◌, ◌++◌, codes, decimal, OnOk};
 ghost use Rattle.vlm_script.specs.Texts.{status_block_line, hex_text, line_feed};
 
-use super::texts::{hexadecimal, number, text};
+use super::texts::{decimal, hexadecimal, text};
 use std::alloc::AllocError;
 use vlm_words::blocks::Block;
 
@@ -21,7 +21,7 @@ pub(crate) fn status_block_line(
 {
     text(out, name)?;
     text(out, b": block ")?;
-    number(out, u32::from(block_number))?;
+    decimal(out, u32::from(block_number))?;
     match block {
         Some(block) => contents(out, &block),
         None => text(out, b" none\n"),
@@ -35,9 +35,9 @@ fn contents(out: &mut Vec<u8>, block: &Block) -> Result<(), AllocError>
         ++ codes " value " ++ hex_text block.now.value ++ line_feed) }
 {
     text(out, b" status ")?;
-    number(out, u32::from(block.status))?;
+    decimal(out, u32::from(block.status))?;
     text(out, b" lock ")?;
-    number(out, block.lkid)?;
+    decimal(out, block.lkid)?;
     text(out, b" value ")?;
     hexadecimal(out, &block.value)?;
     text(out, b"\n")

@@ -14,7 +14,7 @@ pub(crate) fn text(out: &mut Vec<u8>, text: &[u8]) -> Result<(), AllocError>
 }
 
 /// A number in decimal digits.
-pub(crate) fn number(out: &mut Vec<u8>, n: u32) -> Result<(), AllocError>
+pub(crate) fn decimal(out: &mut Vec<u8>, n: u32) -> Result<(), AllocError>
     ensures { OnOk result (out.new.items ≡ out.old.items ++ decimal n) }
 {
     let mut buffer = Buffer::new();

@@ -11,7 +11,7 @@ use vlm_words::names::Name;
 use vlm_words::resources::{Domain, Key, Site};
 use vlm_words::steps::Declaration;
 
-/// The key of a root in the system's domain.
+/// The handle of a root in the system's domain.
 pub fn key(name: &[u8]) -> Result<Key, Fail> {
     let name = Name::new(name).ok().ok_or("a name")?;
     Ok(Key::Root(Domain::System, name))

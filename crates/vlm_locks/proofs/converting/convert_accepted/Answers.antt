@@ -5,7 +5,7 @@ use Rattle.vlm_words.specs.declared.resources.Queue.TheVariants.{Conversion, Gra
 use Rattle.vlm_words.specs.declared.locks.Row.{Row}
 use Rattle.vlm_words.specs.Convert.{converts_at_once}
 use Rattle.vlm_words.specs.Grants.{granted_row}
-use Rattle.vlm_locks.specs.Converting.{IsConverted, IsGrantedAtOnce, blocks_granted, moved_in}
+use Rattle.vlm_locks.specs.Converting.{IsConverted, IsConvertedAtOnce, blocks_granted, moved_in}
 use Rattle.vlm_locks.specs.Rest.{IsReplaced}
 use Rattle.vlm_locks.proofs.Converted.{converted_later, converted_now}
 use Rattle.vlm_locks.proofs.Moved.{none_joins_by_moving}
@@ -20,8 +20,8 @@ returns-then-at_once-clause-converted c =
     let standing = c.requires.standing in
     let asked = c.args.asked.now in
     let new = c.convert_now.new.store in
-    let done = subst (λ (row : Row). IsGrantedAtOnce f row standing.resource s new) c.wanting_row-row.ensures
-    (subst (λ o. IfSome o (λ r. IsGrantedAtOnce f c.wanting_row-row.result r s new)) standing.found c.convert_now.ensures.granted) in
+    let done = subst (λ (row : Row). IsConvertedAtOnce f row standing.resource s new) c.wanting_row-row.ensures
+    (subst (λ o. IfSome o (λ r. IsConvertedAtOnce f c.wanting_row-row.result r s new)) standing.found c.convert_now.ensures.granted) in
     let at_once = subst (λ o. IfSome o (λ r. c.args.at_once ≡ converts_at_once asked f.row.lkid (plain_resource r))) standing.found c.requires.at_once in
     subst (λ o. IfSome o (λ r. IsConverted f asked (plain_processes s) r s new)) (sym standing.found)
     (converted_now s c.law_records_are_sound.ensures f standing asked new c.requires.granted (sym at_once ∙ c.if-at_once.true) done)
@@ -49,7 +49,7 @@ returns-then-at_once-clause-beside c =
     let block = (blocks_granted c.wanting_row-row.result standing.resource s).value_block in
     let left : StoredResource = record moved { value_block = block } in
     let new = c.convert_now.new.store in
-    let replaced = (subst (λ o. IfSome o (λ r. IsGrantedAtOnce f c.wanting_row-row.result r s new)) standing.found c.convert_now.ensures.granted).replaced in
+    let replaced = (subst (λ o. IfSome o (λ r. IsConvertedAtOnce f c.wanting_row-row.result r s new)) standing.found c.convert_now.ensures.granted).replaced in
     let same = subst (λ (r : Row). IsSameLock f.row (granted_row r)) (sym c.wanting_row-row.ensures) (record { lkid = refl; pid = refl; parent = refl }) in
     record {
       others = others_stay f.res standing.resource left s new replaced;

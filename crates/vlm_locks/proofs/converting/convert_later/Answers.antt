@@ -1,4 +1,4 @@
-use Rattle.vlm_store.specs.declared.keys.Place.TheVariants.{Queued}
+use Rattle.vlm_store.specs.declared.handles.Place.TheVariants.{Queued}
 use Rattle.vlm_locks.proofs.OtherLocks.{moved_alone}
 use Rattle.std.proofs.Common.{IfSome, sym, subst}
 use Rattle.vlm_words.specs.declared.resources.Queue.TheVariants.{Conversion}

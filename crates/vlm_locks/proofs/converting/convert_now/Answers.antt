@@ -3,10 +3,10 @@ use Rattle.vlm_locks.proofs.OtherLocks.{block_alone, locks_stay_over, moved_alon
 use Rattle.std.proofs.Common.{IfSome, IsSome, sym, ap, ◌∙◌, subst}
 use Rattle.vlm_words.specs.declared.resources.Queue.TheVariants.{Granted}
 use Rattle.vlm_words.specs.declared.locks.Row.{Row}
-use Rattle.vlm_store.specs.declared.keys.Place.TheVariants.{Queued}
+use Rattle.vlm_store.specs.declared.handles.Place.TheVariants.{Queued}
 use Rattle.vlm_words.specs.Grants.{granted_row}
 use Rattle.vlm_store.specs.Records.{IsProcess, IsSameLock, moving, resource_at, with_lists}
-use Rattle.vlm_locks.specs.Converting.{IsGrantedAtOnce, moved_in}
+use Rattle.vlm_locks.specs.Converting.{IsConvertedAtOnce, moved_in}
 use Rattle.vlm_locks.proofs.Converted.{granted_at_once}
 use Rattle.vlm_locks.proofs.Moved.{moved_replaced}
 use Rattle.vlm_locks.proofs.Replaced.{still_there}
@@ -41,7 +41,7 @@ set_value_block-requires c =
     let standing = c.requires.standing in
     let moved = moved_replaced s c.lock_record.ensures.sound f standing c.granted_row.result Granted c.move_lock.new.self c.move_lock.ensures in
     let there = still_there f.res standing.resource (moved_in f c.granted_row.result Granted standing.resource) s c.move_lock.new.self moved in
-    subst (λ rs. IsSome (resource_at f.res rs)) (sym c.end_by_grant.ensures.rest.resources) there
+    subst (λ rs. IsSome (resource_at f.res rs)) (sym c.end_by_grant.ensures.only_notices.resources) there
 
 pub returns-clause-granted : goal.returns-clause-granted
 returns-clause-granted c =
@@ -49,7 +49,7 @@ returns-clause-granted c =
     let f = c.args.standing.now in
     let standing = c.requires.standing in
     let row = c.args.row.now in
-    subst (λ o. IfSome o (λ r. IsGrantedAtOnce f row r s c.set_value_block.new.self)) (sym standing.found)
+    subst (λ o. IfSome o (λ r. IsConvertedAtOnce f row r s c.set_value_block.new.self)) (sym standing.found)
     (granted_at_once s c.lock_record.ensures.sound f standing row c.move_lock.new.self c.end_by_grant.new.store c.set_value_block.new.self c.resource_record.result.now.value_block c.end_by_grant.new.value_block
     c.resource_record.ensures.value_block (c.move_lock.ensures ∙ ap (λ (x : Row). with_lists (moving (Queued f.res Granted) (record { at = f.lock; row = x })) s) c.granted_row.ensures) c.end_by_grant.ensures c.set_value_block.ensures)
 
@@ -61,5 +61,5 @@ returns-clause-locks c =
     subst (OtherLocksStay f.lock c.args.store.now) (sym c.move_lock.ensures)
     (moved_alone (Queued f.res Granted) (record { at = f.lock; row = c.granted_row.result }) c.args.store.now) in
     locks_stay_over f.lock c.args.store.now c.end_by_grant.new.store c.set_value_block.new.self
-    (locks_stay_over f.lock c.args.store.now c.move_lock.new.self c.end_by_grant.new.store moved (statuses_alone f.lock c.move_lock.new.self c.end_by_grant.new.store c.end_by_grant.ensures.rest))
+    (locks_stay_over f.lock c.args.store.now c.move_lock.new.self c.end_by_grant.new.store moved (statuses_alone f.lock c.move_lock.new.self c.end_by_grant.new.store c.end_by_grant.ensures.only_notices))
     (subst (OtherLocksStay f.lock c.end_by_grant.new.store) (sym c.set_value_block.ensures) (block_alone f.lock f.res c.end_by_grant.new.value_block c.end_by_grant.new.store))

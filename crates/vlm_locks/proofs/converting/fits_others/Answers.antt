@@ -2,13 +2,13 @@ use Rattle.std.proofs.Common.{◌≡◌, IfSome, Some, sym, ap, ◌∙◌, subst
 use Rattle.std.proofs.lemmas.Option.{same_Some}
 use Rattle.vlm_words.specs.Grants.{fits}
 use Rattle.vlm_words.specs.Rows.{rows_without}
-use Rattle.vlm_store.specs.Records.{IsStored, StoredResource, fits_beside, rows_of}
+use Rattle.vlm_store.specs.Records.{IsStored, StoredResource, fits_beside, rows_of_locks}
 use Rattle.vlm_locks.proofs.Converted.{fits_are}
 use Rattle.vlm_locks.proofs.Stood.{stored}
 use Rattle.vlm_locks.proofs.converting.fits_others.Goals as goal
 
-pub can_hold-requires-clause-own : goal.can_hold-requires-clause-own
-can_hold-requires-clause-own c own same =
+pub can_hold-requires-clause-asking : goal.can_hold-requires-clause-asking
+can_hold-requires-clause-asking c own same =
     let f = c.args.standing.now in
     subst (λ k. IsStored k c.args.store.now) (same_Some f.lock own same) (f.row, stored c.args.store.now f c.requires.standing)
 
@@ -20,4 +20,4 @@ returns c r found =
     let told = subst (λ o. IfSome o (λ x. c.can_hold.result ≡ fits_beside c.args.mode (Some f.lock) x)) standing.found c.can_hold.ensures in
     let same : standing.resource ≡ r = same_Some standing.resource r (sym standing.found ∙ found) in
     told ∙ fits_are s c.law_records_are_sound.ensures f standing c.args.mode c.requires.granted
-    ∙ ap (λ (x : StoredResource). fits c.args.mode (rows_without f.row.lkid (rows_of x.granted)) (rows_of x.converting)) same
+    ∙ ap (λ (x : StoredResource). fits c.args.mode (rows_without f.row.lkid (rows_of_locks x.granted)) (rows_of_locks x.converting)) same

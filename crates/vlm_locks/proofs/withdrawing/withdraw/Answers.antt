@@ -3,7 +3,7 @@ use Rattle.std.proofs.Common.{true, [], ◌∷◌, map, ap, ◌∙◌, subst, sy
 use Rattle.vlm_words.specs.Withdrawals.{resource_after_cancel, resource_after_withdrawals, resource_without}
 use Rattle.vlm_links.specs.Lists.{IsIn}
 use Rattle.vlm_store.specs.Plain.{plain_resource, plain_resources}
-use Rattle.vlm_store.specs.Records.{HasNoSublocks, but_blocks, without_resource}
+use Rattle.vlm_store.specs.Records.{HasNoSublocks, but_notices, without_resource}
 use Rattle.vlm_locks.specs.Withdrawals.{plain_withdrawal}
 use Rattle.vlm_locks.specs.Withdrawing.{goes, owned_after}
 use Rattle.vlm_locks.proofs.Replaced.{no_sublocks_still}
@@ -11,8 +11,8 @@ use Rattle.vlm_locks.proofs.Changed.{rests_still, stay_over}
 use Rattle.vlm_locks.proofs.Withdrawn.{left_staying, left_without}
 use Rattle.vlm_locks.proofs.withdrawing.withdraw.Goals as goal
 
-pub leave-requires-clause-rest : goal.leave-requires-clause-rest
-leave-requires-clause-rest c = rests_still c.args.store.now c.end_withdrawn.new.store c.end_withdrawn.ensures.rest c.requires.rest
+pub leave_value-requires-clause-rest : goal.leave_value-requires-clause-rest
+leave_value-requires-clause-rest c = rests_still c.args.store.now c.end_withdrawn.new.store c.end_withdrawn.ensures.only_notices c.requires.rest
 
 -- the lock that goes had no sublocks, and has none once its request has ended
 pub cancel-requires-clause-childless : goal.cancel-requires-clause-childless
@@ -20,17 +20,17 @@ cancel-requires-clause-childless c =
     let f = c.args.standing.now in
     λ waits.
     let none : HasNoSublocks f.lock c.end_withdrawn.new.store =
-    no_sublocks_still c.args.store.now c.end_withdrawn.new.store c.end_withdrawn.ensures.rest.processes f.lock
+    no_sublocks_still c.args.store.now c.end_withdrawn.new.store c.end_withdrawn.ensures.only_notices.processes f.lock
     (c.requires.childless (ap (λ b. goes b f.queue) c.if-withdrawal.true ∙ ap (goes true) waits)) in
-    λ p own among here. none p own (subst (IsIn p) c.leave.ensures.left.own_locks among) here
+    λ p own among here. none p own (subst (IsIn p) c.leave_value.ensures.left.own_locks among) here
 
 pub remove-requires-clause-childless : goal.remove-requires-clause-childless
 remove-requires-clause-childless c =
     let f = c.args.standing.now in
     let none : HasNoSublocks f.lock c.end_withdrawn.new.store =
-    no_sublocks_still c.args.store.now c.end_withdrawn.new.store c.end_withdrawn.ensures.rest.processes f.lock
+    no_sublocks_still c.args.store.now c.end_withdrawn.new.store c.end_withdrawn.ensures.only_notices.processes f.lock
     (c.requires.childless (ap (λ b. goes b f.queue) c.if-withdrawal.false)) in
-    λ p own among here. none p own (subst (IsIn p) c.leave.ensures.left.own_locks among) here
+    λ p own among here. none p own (subst (IsIn p) c.leave_value.ensures.left.own_locks among) here
 
 -- the lock stays
 pub returns-then-withdrawal-clause-resources : goal.returns-then-withdrawal-clause-resources
@@ -38,21 +38,21 @@ returns-then-withdrawal-clause-resources c =
     let w = plain_withdrawal c.args.withdrawal.now in
     let lkid = c.args.standing.now.row.lkid in
     c.cancel.ensures.made.resources
-    ∙ ap (map (resource_after_cancel lkid)) c.leave.ensures.left.made.resources
+    ∙ ap (map (resource_after_cancel lkid)) c.leave_value.ensures.left.made.resources
     ∙ left_staying w lkid c.requires.named c.if-withdrawal.true (plain_resources c.end_withdrawn.new.store)
-    ∙ ap (λ rs. map (resource_after_withdrawals (w ∷ [])) (map plain_resource rs)) c.end_withdrawn.ensures.rest.resources
+    ∙ ap (λ rs. map (resource_after_withdrawals (w ∷ [])) (map plain_resource rs)) c.end_withdrawn.ensures.only_notices.resources
 
 pub returns-then-withdrawal-clause-beside : goal.returns-then-withdrawal-clause-beside
 returns-then-withdrawal-clause-beside c =
     let s = c.args.store.now in
     let ended = c.end_withdrawn.new.store in
-    let left = c.leave.new.store in
+    let left = c.leave_value.new.store in
     let new = c.cancel.new.store in
     let f = c.args.standing.now in
     let made = c.cancel.ensures.made in
     record {
-      others = stay_over f.res ended left new c.leave.ensures.left.made.others made.others ∙ ap (without_resource f.res) c.end_withdrawn.ensures.rest.resources;
-      locks = locks_stay_over f.lock s ended new (statuses_alone f.lock s ended c.end_withdrawn.ensures.rest) (locks_stay_over f.lock ended left new c.leave.ensures.left.locks c.cancel.ensures.locks);
+      others = stay_over f.res ended left new c.leave_value.ensures.left.made.others made.others ∙ ap (without_resource f.res) c.end_withdrawn.ensures.only_notices.resources;
+      locks = locks_stay_over f.lock s ended new (statuses_alone f.lock s ended c.end_withdrawn.ensures.only_notices) (locks_stay_over f.lock ended left new c.leave_value.ensures.left.locks c.cancel.ensures.locks);
       there = made.there;
       rest = made.rest;
     }
@@ -63,21 +63,21 @@ returns-else-withdrawal-clause-resources c =
     let w = plain_withdrawal c.args.withdrawal.now in
     let lkid = c.args.standing.now.row.lkid in
     c.remove.ensures.made.resources
-    ∙ ap (map (resource_without lkid)) c.leave.ensures.left.made.resources
+    ∙ ap (map (resource_without lkid)) c.leave_value.ensures.left.made.resources
     ∙ left_without w lkid c.requires.named c.if-withdrawal.false (plain_resources c.end_withdrawn.new.store)
-    ∙ ap (λ rs. map (resource_after_withdrawals (w ∷ [])) (map plain_resource rs)) c.end_withdrawn.ensures.rest.resources
+    ∙ ap (λ rs. map (resource_after_withdrawals (w ∷ [])) (map plain_resource rs)) c.end_withdrawn.ensures.only_notices.resources
 
 pub returns-else-withdrawal-clause-beside : goal.returns-else-withdrawal-clause-beside
 returns-else-withdrawal-clause-beside c =
     let s = c.args.store.now in
     let ended = c.end_withdrawn.new.store in
-    let left = c.leave.new.store in
+    let left = c.leave_value.new.store in
     let new = c.remove.new.store in
     let f = c.args.standing.now in
     let made = c.remove.ensures.made in
     record {
-      others = stay_over f.res ended left new c.leave.ensures.left.made.others made.others ∙ ap (without_resource f.res) c.end_withdrawn.ensures.rest.resources;
-      locks = locks_stay_over f.lock s ended new (statuses_alone f.lock s ended c.end_withdrawn.ensures.rest) (locks_stay_over f.lock ended left new c.leave.ensures.left.locks c.remove.ensures.locks);
+      others = stay_over f.res ended left new c.leave_value.ensures.left.made.others made.others ∙ ap (without_resource f.res) c.end_withdrawn.ensures.only_notices.resources;
+      locks = locks_stay_over f.lock s ended new (statuses_alone f.lock s ended c.end_withdrawn.ensures.only_notices) (locks_stay_over f.lock ended left new c.leave_value.ensures.left.locks c.remove.ensures.locks);
       there = made.there;
       rest = made.rest;
     }
@@ -86,13 +86,13 @@ returns-else-withdrawal-clause-beside c =
 pub returns-then-withdrawal-clause-own_locks : goal.returns-then-withdrawal-clause-own_locks
 returns-then-withdrawal-clause-own_locks c =
     let f = c.args.standing.now in
-    ap (map but_blocks) (c.cancel.ensures.own_locks ∙ ap (owned_after (goes true f.queue) f.lock) c.leave.ensures.left.own_locks)
-    ∙ owned_alike (goes true f.queue) f.lock c.end_withdrawn.new.store.processes c.args.store.now.processes c.end_withdrawn.ensures.rest.processes
-    ∙ ap (λ stays. map but_blocks (owned_after (goes stays f.queue) f.lock c.args.store.now.processes)) (sym c.if-withdrawal.true)
+    ap (map but_notices) (c.cancel.ensures.own_locks ∙ ap (owned_after (goes true f.queue) f.lock) c.leave_value.ensures.left.own_locks)
+    ∙ owned_alike (goes true f.queue) f.lock c.end_withdrawn.new.store.processes c.args.store.now.processes c.end_withdrawn.ensures.only_notices.processes
+    ∙ ap (λ stays. map but_notices (owned_after (goes stays f.queue) f.lock c.args.store.now.processes)) (sym c.if-withdrawal.true)
 
 pub returns-else-withdrawal-clause-own_locks : goal.returns-else-withdrawal-clause-own_locks
 returns-else-withdrawal-clause-own_locks c =
     let f = c.args.standing.now in
-    ap (map but_blocks) (c.remove.ensures.own_locks ∙ ap (owned_after true f.lock) c.leave.ensures.left.own_locks)
-    ∙ owned_alike true f.lock c.end_withdrawn.new.store.processes c.args.store.now.processes c.end_withdrawn.ensures.rest.processes
-    ∙ ap (λ stays. map but_blocks (owned_after (goes stays f.queue) f.lock c.args.store.now.processes)) (sym c.if-withdrawal.false)
+    ap (map but_notices) (c.remove.ensures.own_locks ∙ ap (owned_after true f.lock) c.leave_value.ensures.left.own_locks)
+    ∙ owned_alike true f.lock c.end_withdrawn.new.store.processes c.args.store.now.processes c.end_withdrawn.ensures.only_notices.processes
+    ∙ ap (λ stays. map but_notices (owned_after (goes stays f.queue) f.lock c.args.store.now.processes)) (sym c.if-withdrawal.false)

@@ -8,5 +8,5 @@ returns-clause-taken c pid is =
 pub returns-clause-left : goal.returns-clause-left
 returns-clause-left c pid is = rw c.take_ast.ensures.left (others_left c.args.store.now c.args.at pid c.law_records_are_sound.ensures is)
 
-pub returns-clause-rest : goal.returns-clause-rest
-returns-clause-rest c = rw c.take_ast.ensures.left (asts_alone c.args.store.now c.args.at)
+pub returns-clause-only_notices : goal.returns-clause-only_notices
+returns-clause-only_notices c = rw c.take_ast.ensures.left (asts_alone c.args.store.now c.args.at)

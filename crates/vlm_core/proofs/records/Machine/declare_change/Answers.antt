@@ -1,12 +1,12 @@
 use Rattle.std.proofs.Common.{◌∙◌, subst}
 use Rattle.vlm_links.specs.Lists.{IsIn}
-use Rattle.vlm_core.specs.Machine.{Kept}
+use Rattle.vlm_core.specs.Machine.{MachineState}
 use Rattle.vlm_core.proofs.Stayed.{rests_declared, rests_refused}
 use Rattle.vlm_core.proofs.records.Machine.declare_change.Goals as goal
 
 pub add_process-requires-clause-new : goal.add_process-requires-clause-new
 add_process-requires-clause-new c p among same =
-    c.requires.new p (subst (λ (m : Kept). IsIn p m.records.processes) c.self.view_is among) (same ∙ c.next_pid-pid.ensures)
+    c.requires.new p (subst (λ (m : MachineState). IsIn p m.records.processes) c.self.view_is among) (same ∙ c.next_pid-pid.ensures)
 
 -- where memory is refused it is as it was
 pub invariant_of-self : goal.invariant_of-self

@@ -1,18 +1,18 @@
 use Rattle.std.proofs.Common.{sym, ap, ◌∙◌, subst}
 use Rattle.vlm_locks.specs.Withdrawals.{plain_withdrawal}
 use Rattle.vlm_core.specs.Admissions.{IsChildless}
-use Rattle.vlm_core.specs.Machine.{Kept, plain_state}
+use Rattle.vlm_core.specs.Machine.{MachineState, plain_state}
 use Rattle.vlm_core.proofs.Conversions.{state_withdrawn}
 use Rattle.vlm_core.proofs.records.Machine.deq_change.Goals as goal
 
 -- a lock that goes has no sublocks
 pub withdraw-requires-clause-childless : goal.withdraw-requires-clause-childless
-withdraw-requires-clause-childless c = subst (λ (m : Kept). IsChildless m c.args.admitted.now) (sym c.self.view_is) c.requires.childless
+withdraw-requires-clause-childless c = subst (λ (m : MachineState). IsChildless m c.args.admitted.now) (sym c.self.view_is) c.requires.childless
 
 -- the state is that of the plain machine
 pub returns-clause-change : goal.returns-clause-change
 returns-clause-change c =
-    ap (λ (m : Kept). plain_state (record m { records = c.withdraw.new.store })) c.self.view_is
+    ap (λ (m : MachineState). plain_state (record m { records = c.withdraw.new.store })) c.self.view_is
     ∙ state_withdrawn c.args.self.now c.args.dequeue.now (plain_withdrawal c.args.admitted.now.withdrawal) c.withdraw.new.store c.requires.admitted.withdrawal (rw (← c.self.view_is) c.withdraw.ensures.resources)
     (rw (← c.self.view_is) c.withdraw.ensures.statuses)
 

@@ -3,7 +3,7 @@ use Rattle.vlm_words.specs.declared.locks.Row.{Row}
 use Rattle.vlm_store.specs.Records.{without_resource}
 use Rattle.vlm_core.specs.Admissions.{IsAdmitted}
 use Rattle.vlm_core.specs.Between.{IsBetweenSteps}
-use Rattle.vlm_core.specs.Machine.{Kept, kept, plain_state}
+use Rattle.vlm_core.specs.Machine.{MachineState, kept, plain_state}
 use Rattle.vlm_core.proofs.Entries.{entered_state, processes_are, resources_are, serial_is}
 use Rattle.vlm_core.proofs.Stayed.{rests_refused}
 use Rattle.vlm_core.proofs.ToCome.{above_all}
@@ -12,8 +12,8 @@ use Rattle.vlm_core.proofs.records.Machine.enq_change.Goals as goal
 -- the identification is to come, and the rest was looked up
 pub enter-requires-clause-may_enter : goal.enter-requires-clause-may_enter
 enter-requires-clause-may_enter c =
-    let between = subst (λ (m : Kept). IsBetweenSteps (plain_state m)) (sym c.self.view_is) c.requires.between in
-    let admitted = subst (λ (m : Kept). IsAdmitted m c.args.request.now c.args.admitted.now) (sym c.self.view_is) c.requires.admitted in
+    let between = subst (λ (m : MachineState). IsBetweenSteps (plain_state m)) (sym c.self.view_is) c.requires.between in
+    let admitted = subst (λ (m : MachineState). IsAdmitted m c.args.request.now c.args.admitted.now) (sym c.self.view_is) c.requires.admitted in
     let row = c.args.admitted.now.entry.row in
     let lkid : row.lkid ≡ c.self.inside.last_lkid + 1 = ap (λ (r : Row). r.lkid) admitted.entry.row in
     record {
@@ -34,7 +34,7 @@ returns-clause-change c =
     let m = kept c.self.inside in
     let e = c.args.request.now in
     let entry = c.args.admitted.now.entry in
-    let is = (subst (λ (m : Kept). IsAdmitted m e c.args.admitted.now) (sym c.self.view_is) c.requires.admitted).entry in
+    let is = (subst (λ (m : MachineState). IsAdmitted m e c.args.admitted.now) (sym c.self.view_is) c.requires.admitted).entry in
     rw (← c.self.view_is)
     (entered_state m e entry is c.enter.new.store (c.self.inside.last_lkid + 1 + 1) (c.self.inside.last_request + 1 + 1) (c.last_given-self-inside.result + 1)
     (resources_are m e entry is c.enter.new.store c.in_ok-res.ensures.entered)
@@ -44,4 +44,4 @@ returns-clause-change c =
 
 pub returns-clause-others : goal.returns-clause-others
 returns-clause-others c =
-    subst (λ (m : Kept). without_resource c.in_ok-res.res c.enter.new.store.resources ≡ without_resource c.in_ok-res.res m.records.resources) c.self.view_is c.in_ok-res.ensures.others
+    subst (λ (m : MachineState). without_resource c.in_ok-res.res c.enter.new.store.resources ≡ without_resource c.in_ok-res.res m.records.resources) c.self.view_is c.in_ok-res.ensures.others

@@ -10,8 +10,8 @@ use Rattle.vlm_words.specs.Trees.{enq_site, parent_resource, root_domain, site_b
 use Rattle.vlm_store.specs.Plain.{plain_resources}
 use Rattle.vlm_store.specs.Records.{IsParentOf, IsProcess}
 use Rattle.vlm_core.specs.Admissions.{IsAskedBy}
-use Rattle.vlm_core.specs.Machine.{Kept, kept, plain_state}
-use Rattle.vlm_core.specs.Parents.{lkid_of}
+use Rattle.vlm_core.specs.Machine.{MachineState, kept, plain_state}
+use Rattle.vlm_core.specs.Parents.{standing_lkid}
 use Rattle.vlm_core.proofs.Siting.{parent_of_row, site_is}
 use Rattle.vlm_core.proofs.records.Machine.entry.Goals as goal
 
@@ -21,19 +21,19 @@ returns c =
     let e = c.args.request.now in
     let m = kept c.self.inside in
     let site = c.site_of-site.result in
-    let said = subst (λ (k : Kept). IsAskedBy k e c.args.caller.now c.args.form.now c.args.parent.now) (sym c.self.view_is) c.requires.asked in
+    let said = subst (λ (k : MachineState). IsAskedBy k e c.args.caller.now c.args.form.now c.args.parent.now) (sym c.self.view_is) c.requires.asked in
     let form = said.says in
     let found : Site → Resource = λ x. unwrap_or (find (is_at x.key) (plain_resources c.self.inside.store)) (new_resource m.next_serial x) in
     let site_told = subst
-    (λ (k : Kept). site ≡ site_below (root_domain (plain_state k) c.args.caller.now.pid (flag_bits c.args.form.now.flags)) c.args.form.now.name
-    (parent_resource (plain_state k) c.args.caller.now.pid (lkid_of c.args.parent.now))) (sym c.self.view_is) c.site_of-site.ensures.site in
-    let site_same : site ≡ enq_site (plain_state m) e = site_told ∙ site_is (plain_state m) e c.args.form.now c.args.caller.now.pid (lkid_of c.args.parent.now) form said.pid said.named in
+    (λ (k : MachineState). site ≡ site_below (root_domain (plain_state k) c.args.caller.now.pid (flag_bits c.args.form.now.flags)) c.args.form.now.name
+    (parent_resource (plain_state k) c.args.caller.now.pid (standing_lkid c.args.parent.now))) (sym c.self.view_is) c.site_of-site.ensures.site in
+    let site_same : site ≡ enq_site (plain_state m) e = site_told ∙ site_is (plain_state m) e c.args.form.now c.args.caller.now.pid (standing_lkid c.args.parent.now) form said.pid said.named in
     let asked : c.request_of-asked.result ≡ enq_request (plain_state m) e = search rules in
     let caller = said.living in
     let parent = said.stands in
     let row = c.row_of.result in
     let owner : row.pid ≡ c.args.caller.now.pid = ap (λ (r : Row). r.pid) c.row_of.ensures in
-    let named : row.parent ≡ lkid_of c.args.parent.now = ap (λ (r : Row). r.parent) c.row_of.ensures ∙ sym said.named in
+    let named : row.parent ≡ standing_lkid c.args.parent.now = ap (λ (r : Row). r.parent) c.row_of.ensures ∙ sym said.named in
     rw (← c.self.view_is)
     (record {
       row =

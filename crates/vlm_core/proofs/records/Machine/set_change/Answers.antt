@@ -4,7 +4,7 @@ use Rattle.vlm_locks.proofs.Changed.{rests_still}
 use Rattle.vlm_core.proofs.records.Machine.set_change.Goals as goal
 
 pub invariant_of-self : goal.invariant_of-self
-invariant_of-self c = record { rest = rests_still c.self.inside.store c.set_value.new.store c.set_value.ensures.rest c.self.invariant.rest }
+invariant_of-self c = record { rest = rests_still c.self.inside.store c.set_value.new.store c.set_value.ensures.only_notices c.self.invariant.rest }
 
 pub returns : goal.returns
 unfolding set_change

@@ -5,8 +5,8 @@ use Rattle.vlm_words.specs.Trees.{parent_resource, root_domain, site_below}
 use Rattle.vlm_store.specs.Plain.{plain_resource}
 use Rattle.vlm_store.specs.Records.{StoredResource, resource_at}
 use Rattle.vlm_locks.proofs.Stood.{resource_among}
-use Rattle.vlm_core.specs.Machine.{Kept, kept, plain_state}
-use Rattle.vlm_core.specs.Parents.{IsParent, IsParentStanding, lkid_of}
+use Rattle.vlm_core.specs.Machine.{MachineState, kept, plain_state}
+use Rattle.vlm_core.specs.Parents.{IsParent, IsParentStanding, standing_lkid}
 use Rattle.vlm_core.specs.Between.{IsBetweenSteps}
 use Rattle.vlm_core.proofs.Siting.{of_some, parent_found, parent_none, serial_from_1, site_record}
 use Rattle.vlm_core.proofs.records.Machine.site_of.Goals as goal
@@ -17,11 +17,11 @@ returns-in-Some-clause-site c =
     let pid = c.args.caller.now.pid in
     let f = c.in-Some.parent in
     let is : IsParentStanding pid f m.records =
-    subst (λ o. IsParent pid o m.records) c.in-Some.is (subst (λ (k : Kept). IsParent pid c.args.parent.now k.records) (sym c.self.view_is) c.requires.parent) in
+    subst (λ o. IsParent pid o m.records) c.in-Some.is (subst (λ (k : MachineState). IsParent pid c.args.parent.now k.records) (sym c.self.view_is) c.requires.parent) in
     let r = is.standing.standing.resource in
     let found = is.standing.standing.found in
-    let up : parent_resource (plain_state m) pid (lkid_of c.args.parent.now) ≡ Some (plain_resource r) =
-    ap (λ o. parent_resource (plain_state m) pid (lkid_of o)) c.in-Some.is ∙ parent_found m c.resource_record-above.ensures.sound f is.standing.standing pid is.standing.owned is.named in
+    let up : parent_resource (plain_state m) pid (standing_lkid c.args.parent.now) ≡ Some (plain_resource r) =
+    ap (λ o. parent_resource (plain_state m) pid (standing_lkid o)) c.in-Some.is ∙ parent_found m c.resource_record-above.ensures.sound f is.standing.standing pid is.standing.owned is.named in
     rw (← c.self.view_is)
     (site_record (root_domain (plain_state m) pid (flag_bits c.args.flags)) c.args.name c.resource_record-above.result.now.serial c.resource_record-above.result.now.domain c.resource_record-above.result.now.level r
     (of_some (λ (x : StoredResource). c.resource_record-above.result.now.serial ≡ x.serial) (resource_at f.res m.records.resources) r found c.resource_record-above.ensures.serial)
@@ -36,10 +36,10 @@ returns-in-Some-clause-keyed c =
     let pid = c.args.caller.now.pid in
     let f = c.in-Some.parent in
     let is : IsParentStanding pid f m.records =
-    subst (λ o. IsParent pid o m.records) c.in-Some.is (subst (λ (k : Kept). IsParent pid c.args.parent.now k.records) (sym c.self.view_is) c.requires.parent) in
+    subst (λ o. IsParent pid o m.records) c.in-Some.is (subst (λ (k : MachineState). IsParent pid c.args.parent.now k.records) (sym c.self.view_is) c.requires.parent) in
     let r = is.standing.standing.resource in
     let found = is.standing.standing.found in
-    let between = subst (λ (k : Kept). IsBetweenSteps (plain_state k)) (sym c.self.view_is) c.requires.between in
+    let between = subst (λ (k : MachineState). IsBetweenSteps (plain_state k)) (sym c.self.view_is) c.requires.between in
     let serial : c.resource_record-above.result.now.serial ≡ r.serial = of_some (λ (x : StoredResource). c.resource_record-above.result.now.serial ≡ x.serial) (resource_at f.res m.records.resources) r found c.resource_record-above.ensures.serial in
     subst (λ n. 0 < n) (sym serial) (serial_from_1 m.records between.serials_from_1 r (resource_among f.res m.records.resources r found))
 
@@ -47,7 +47,7 @@ pub returns-in-None-clause-site : goal.returns-in-None-clause-site
 returns-in-None-clause-site c =
     let m = c.args.self.now in
     let pid = c.args.caller.now.pid in
-    let none : parent_resource (plain_state m) pid (lkid_of c.args.parent.now) ≡ None =
-    ap (λ o. parent_resource (plain_state m) pid (lkid_of o)) c.in-None.is ∙ parent_none m pid in
+    let none : parent_resource (plain_state m) pid (standing_lkid c.args.parent.now) ≡ None =
+    ap (λ o. parent_resource (plain_state m) pid (standing_lkid o)) c.in-None.is ∙ parent_none m pid in
     ap (λ (d : Domain). site_below d c.args.name None) c.root_domain-domain.ensures
     ∙ sym (ap (site_below (root_domain (plain_state m) pid (flag_bits c.args.flags)) c.args.name) none)

@@ -3,4 +3,4 @@ use Rattle.vlm_links.proofs.Rings.{first_is}
 use Rattle.vlm_links.proofs.lists.LinkedList.first.Goals as goal
 
 pub returns : goal.returns
-returns g c = c.key.ensures ∙ first_is g.T.Linked.links c.args.nodes.now c.args.self.now c.requires
+returns g c = c.handle.ensures ∙ first_is g.T.Linked.links c.args.nodes.now c.args.self.now c.requires

@@ -5,6 +5,6 @@ use Rattle.vlm_links.proofs.lists.LinkedList.next.Goals as goal
 
 pub returns : goal.returns
 returns g c =
-    c.key.ensures
-    ∙ sym (told_next g.T.Linked.links (get c.args.nodes.now c.args.key) c.index.result.now c.links.result c.index.ensures c.links.ensures)
-    ∙ after_is g.T.Linked.links c.args.nodes.now c.args.self.now c.requires.linked c.args.key c.requires.listed
+    c.handle.ensures
+    ∙ sym (told_next g.T.Linked.links (get c.args.nodes.now c.args.handle) c.index.result.now c.links.result c.index.ensures c.links.ensures)
+    ∙ after_is g.T.Linked.links c.args.nodes.now c.args.self.now c.requires.linked c.args.handle c.requires.listed

@@ -2,10 +2,10 @@ use Rattle.vlm_store.proofs.Rooms.{room_taken}
 use Rattle.std.proofs.Common.{refl, sym, subst, ap, ◌∙◌, ◌+◌, ℕ}
 use Rattle.vlm_links.specs.Lists.{IsIn}
 use Rattle.vlm_links.proofs.Keeping.{vacant_unlisted}
-use Rattle.vlm_links.proofs.KeyLists.{IsIn-push_last}
-use Rattle.vlm_store.specs.declared.keys.Place.{Place}
-use Rattle.vlm_store.specs.declared.keys.Place.TheVariants.{Loose}
-use Rattle.vlm_store.specs.Shown.{keys_at, list_at, queue_links}
+use Rattle.vlm_links.proofs.HandleLists.{IsIn-push_last}
+use Rattle.vlm_store.specs.declared.handles.Place.{Place}
+use Rattle.vlm_store.specs.declared.handles.Place.TheVariants.{Loose}
+use Rattle.vlm_store.specs.Shown.{handles_at, list_at, queue_links}
 use Rattle.vlm_store.proofs.Counting.{added_placed, added_tallied, tallied_loose, tallied_put}
 use Rattle.vlm_store.proofs.Places.{lists_same}
 use Rattle.vlm_store.proofs.queues.Queues.add.Goals as goal
@@ -22,13 +22,13 @@ pub returns-clause-tallied : goal.returns-clause-tallied
 returns-clause-tallied c =
     let q = c.args.self.now in
     let q1 = record q { locks = c.insert_reserved-at.new.self } in
-    let unlisted : (p : Place) → ¬ IsIn c.insert_reserved-at.result (keys_at q p) = λ p. vacant_unlisted queue_links q.locks (list_at q p) (c.requires.placed.linked p) c.insert_reserved-at.result c.insert_reserved-at.ensures.was_vacant in
+    let unlisted : (p : Place) → ¬ IsIn c.insert_reserved-at.result (handles_at q p) = λ p. vacant_unlisted queue_links q.locks (list_at q p) (c.requires.placed.linked p) c.insert_reserved-at.result c.insert_reserved-at.ensures.was_vacant in
     let placed1 = added_placed q q1 c.insert_reserved-at.result _ c.insert_reserved-at.ensures.updates c.requires.placed.linked unlisted (lists_same q q1 refl refl) c.requires.placed in
     let tallied1 = added_tallied q q1 c.insert_reserved-at.result _ c.insert_reserved-at.ensures.updates c.requires.placed.linked unlisted (lists_same q q1 refl refl) refl c.requires.tallied in
     let tallied2 = tallied_put q1 c.put_at.new.self c.insert_reserved-at.result Loose placed1 c.put_at.ensures.here c.put_at.ensures.elsewhere c.put_at.ensures.rows c.put_at.ensures.rest tallied1 in
     tallied_loose c.put_at.new.self c.insert_reserved-at.result c.put_at.ensures.placed
     (c.put_at.ensures.placed.listed Loose c.insert_reserved-at.result
-    (subst (IsIn c.insert_reserved-at.result) (sym c.put_at.ensures.here) (IsIn-push_last c.insert_reserved-at.result (keys_at q1 Loose)))) tallied2
+    (subst (IsIn c.insert_reserved-at.result) (sym c.put_at.ensures.here) (IsIn-push_last c.insert_reserved-at.result (handles_at q1 Loose)))) tallied2
 
 pub returns-clause-taken : goal.returns-clause-taken
 returns-clause-taken c =

@@ -7,21 +7,21 @@ use Rattle.vlm_store.proofs.queues.Queues.put_at.Goals as goal
 pub returns-clause-placed : goal.returns-clause-placed
 returns-clause-placed c =
     put-placed c.args.self.now c.set_list.new.self c.set_place.new.self c.push_back.new.nodes c.push_back.new.self c.args.at c.args.place c.requires.placed
-    c.push_back.ensures.linked (rw c.list-list.ensures at c.push_back.ensures.keys) (rw c.list-list.ensures at c.push_back.ensures.others) c.push_back.ensures.relinks
+    c.push_back.ensures.linked (rw c.list-list.ensures at c.push_back.ensures.handles) (rw c.list-list.ensures at c.push_back.ensures.others) c.push_back.ensures.relinks
     c.set_list.ensures.here c.set_list.ensures.elsewhere c.set_list.ensures.locks
     c.set_place.ensures.here c.set_place.ensures.others c.set_place.ensures.rest (lists_same c.set_list.new.self c.set_place.new.self c.set_place.ensures.resources c.set_place.ensures.loose)
 
 pub returns-clause-here : goal.returns-clause-here
 returns-clause-here c =
     put-here c.args.self.now c.set_list.new.self c.set_place.new.self c.push_back.new.nodes c.push_back.new.self c.args.at c.args.place c.requires.placed
-    c.push_back.ensures.linked (rw c.list-list.ensures at c.push_back.ensures.keys) (rw c.list-list.ensures at c.push_back.ensures.others) c.push_back.ensures.relinks
+    c.push_back.ensures.linked (rw c.list-list.ensures at c.push_back.ensures.handles) (rw c.list-list.ensures at c.push_back.ensures.others) c.push_back.ensures.relinks
     c.set_list.ensures.here c.set_list.ensures.elsewhere c.set_list.ensures.locks
     c.set_place.ensures.here c.set_place.ensures.others c.set_place.ensures.rest (lists_same c.set_list.new.self c.set_place.new.self c.set_place.ensures.resources c.set_place.ensures.loose)
 
 pub returns-clause-elsewhere : goal.returns-clause-elsewhere
 returns-clause-elsewhere c =
     put-others c.args.self.now c.set_list.new.self c.set_place.new.self c.push_back.new.nodes c.push_back.new.self c.args.at c.args.place c.requires.placed
-    c.push_back.ensures.linked (rw c.list-list.ensures at c.push_back.ensures.keys) (rw c.list-list.ensures at c.push_back.ensures.others) c.push_back.ensures.relinks
+    c.push_back.ensures.linked (rw c.list-list.ensures at c.push_back.ensures.handles) (rw c.list-list.ensures at c.push_back.ensures.others) c.push_back.ensures.relinks
     c.set_list.ensures.here c.set_list.ensures.elsewhere c.set_list.ensures.locks
     c.set_place.ensures.here c.set_place.ensures.others c.set_place.ensures.rest (lists_same c.set_list.new.self c.set_place.new.self c.set_place.ensures.resources c.set_place.ensures.loose)
 

@@ -1,10 +1,10 @@
 use Rattle.vlm_store.proofs.Rooms.{room_relinked, room_given_back}
 use Rattle.std.proofs.Common.{◌∙◌, refl, subst, ap, ◌+◌, ℕ}
 use Rattle.vlm_links.specs.Lists.{IsIn}
-use Rattle.vlm_links.proofs.Keeping.{updated-keys, updated-linked}
-use Rattle.vlm_links.proofs.KeyLists.{IsIn-without}
+use Rattle.vlm_links.proofs.Keeping.{updated-handles, updated-linked}
+use Rattle.vlm_links.proofs.HandleLists.{IsIn-without}
 use Rattle.vlm_store.specs.Shown.{order_links, with_order_links}
-use Rattle.vlm_store.proofs.Making.{removed_lists, removed_tally, resources_keys, resources_placed}
+use Rattle.vlm_store.proofs.Making.{removed_lists, removed_tally, resources_handles, resources_placed}
 use Rattle.vlm_store.proofs.queues.Queues.remove_resource.Goals as goal
 
 pub returns-clause-placed : goal.returns-clause-placed
@@ -16,21 +16,21 @@ pub returns-clause-tallied : goal.returns-clause-tallied
 returns-clause-tallied c =
     removed_tally c.args.self.now c.unlink.new.nodes c.remove.new.self c.args.res c.unlink.ensures.relinks c.remove.ensures.updates c.requires.placed c.requires.idle c.requires.tallied
 
-pub returns-clause-keys : goal.returns-clause-keys
-returns-clause-keys c =
-    resources_keys c.args.self.now c.remove.new.self c.requires.placed
+pub returns-clause-handles : goal.returns-clause-handles
+returns-clause-handles c =
+    resources_handles c.args.self.now c.remove.new.self c.requires.placed
     (removed_lists c.args.self.now c.unlink.new.nodes c.remove.new.self c.args.res c.unlink.ensures.relinks c.remove.ensures.updates c.requires.placed c.requires.idle)
 
 pub returns-clause-linked : goal.returns-clause-linked
 returns-clause-linked c =
     updated-linked order_links c.unlink.new.nodes c.remove.new.self c.args.res _ c.remove.ensures.updates c.unlink.new.self c.unlink.ensures.linked
-    (λ found. (IsIn-without c.args.res c.args.res _ (subst (IsIn c.args.res) c.unlink.ensures.keys found)).1 refl)
+    (λ found. (IsIn-without c.args.res c.args.res _ (subst (IsIn c.args.res) c.unlink.ensures.handles found)).1 refl)
 
 pub returns-clause-order : goal.returns-clause-order
 returns-clause-order c =
-    updated-keys order_links c.unlink.new.nodes c.remove.new.self c.args.res _ c.remove.ensures.updates c.unlink.new.self c.unlink.ensures.linked
-    (λ found. (IsIn-without c.args.res c.args.res _ (subst (IsIn c.args.res) c.unlink.ensures.keys found)).1 refl)
-    ∙ c.unlink.ensures.keys
+    updated-handles order_links c.unlink.new.nodes c.remove.new.self c.args.res _ c.remove.ensures.updates c.unlink.new.self c.unlink.ensures.linked
+    (λ found. (IsIn-without c.args.res c.args.res _ (subst (IsIn c.args.res) c.unlink.ensures.handles found)).1 refl)
+    ∙ c.unlink.ensures.handles
 
 pub returns-clause-given_back : goal.returns-clause-given_back
 returns-clause-given_back c =

@@ -2,7 +2,7 @@ use Rattle.vlm_store.proofs.Rooms.{room_relinked}
 use Rattle.std.proofs.Common.{ap, sym, ◌∙◌}
 use Rattle.std.proofs.lemmas.Option.{none-some}
 use Rattle.vlm_store.specs.Shown.{noted_in, room_in, with_queue_links}
-use Rattle.vlm_store.proofs.Places.{stands_there, taken-keys, taken-placed}
+use Rattle.vlm_store.proofs.Places.{stands_there, taken-handles, taken-placed}
 use Rattle.vlm_store.proofs.queues.Queues.take_off.Goals as goal
 
 pub unlink-requires-clause-linked : goal.unlink-requires-clause-linked
@@ -20,13 +20,13 @@ set_list-requires c =
 pub returns-clause-placed : goal.returns-clause-placed
 returns-clause-placed c =
     taken-placed c.args.self.now c.set_list.new.self c.unlink.new.nodes c.unlink.new.self c.args.at c.index.result.now.place c.requires.placed (ap noted_in c.index.ensures)
-    c.unlink.ensures.linked (rw c.list-list.ensures at c.unlink.ensures.keys) (rw c.list-list.ensures at c.unlink.ensures.others) c.unlink.ensures.relinks
+    c.unlink.ensures.linked (rw c.list-list.ensures at c.unlink.ensures.handles) (rw c.list-list.ensures at c.unlink.ensures.others) c.unlink.ensures.relinks
     c.set_list.ensures.here c.set_list.ensures.elsewhere c.set_list.ensures.locks
 
-pub returns-clause-keys : goal.returns-clause-keys
-returns-clause-keys c =
-    taken-keys c.args.self.now c.set_list.new.self c.unlink.new.nodes c.unlink.new.self c.args.at c.index.result.now.place c.requires.placed (ap noted_in c.index.ensures)
-    c.unlink.ensures.linked (rw c.list-list.ensures at c.unlink.ensures.keys) (rw c.list-list.ensures at c.unlink.ensures.others) c.unlink.ensures.relinks
+pub returns-clause-handles : goal.returns-clause-handles
+returns-clause-handles c =
+    taken-handles c.args.self.now c.set_list.new.self c.unlink.new.nodes c.unlink.new.self c.args.at c.index.result.now.place c.requires.placed (ap noted_in c.index.ensures)
+    c.unlink.ensures.linked (rw c.list-list.ensures at c.unlink.ensures.handles) (rw c.list-list.ensures at c.unlink.ensures.others) c.unlink.ensures.relinks
     c.set_list.ensures.here c.set_list.ensures.elsewhere c.set_list.ensures.locks
 
 pub returns-clause-locks_room : goal.returns-clause-locks_room

@@ -10,7 +10,7 @@ counted_out-requires-clause-held c mode =
       arith,
       ap (λ slot. held_of (tally_in slot) mode) (rw c.slot.ensures at c.index.ensures),
       c.requires.tallied.held c.args.res mode,
-      own_weighs c.args.self.now (held_weight mode) c.in-Some.own c.index-in-Some.result.now c.requires.placed (rw c.slot-in-Some.ensures at c.index-in-Some.ensures) c.args.res,
+      own_weighs c.args.self.now (held_weight mode) c.in-Some.asking c.index-in-Some.result.now c.requires.placed (rw c.slot-in-Some.ensures at c.index-in-Some.ensures) c.args.res,
     )
 
 pub counted_out-requires-clause-wanted : goal.counted_out-requires-clause-wanted
@@ -19,7 +19,7 @@ counted_out-requires-clause-wanted c mode =
       arith,
       ap (λ slot. wanted_of (tally_in slot) mode) (rw c.slot.ensures at c.index.ensures),
       c.requires.tallied.wanted c.args.res mode,
-      own_weighs c.args.self.now (wanted_weight mode) c.in-Some.own c.index-in-Some.result.now c.requires.placed (rw c.slot-in-Some.ensures at c.index-in-Some.ensures) c.args.res,
+      own_weighs c.args.self.now (wanted_weight mode) c.in-Some.asking c.index-in-Some.result.now c.requires.placed (rw c.slot-in-Some.ensures at c.index-in-Some.ensures) c.args.res,
     )
 
 pub returns-in-None : goal.returns-in-None
@@ -35,5 +35,5 @@ returns-in-Some c mode =
       ap (λ slot. held_of (tally_in slot) mode) (rw c.slot.ensures at c.index.ensures),
       c.requires.tallied.held c.args.res mode,
       c.counted_out.ensures mode,
-      own_weighs c.args.self.now (held_weight mode) c.in-Some.own c.index-in-Some.result.now c.requires.placed (rw c.slot-in-Some.ensures at c.index-in-Some.ensures) c.args.res,
+      own_weighs c.args.self.now (held_weight mode) c.in-Some.asking c.index-in-Some.result.now c.requires.placed (rw c.slot-in-Some.ensures at c.index-in-Some.ensures) c.args.res,
     ))

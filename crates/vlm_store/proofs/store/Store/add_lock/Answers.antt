@@ -8,21 +8,21 @@ use Rattle.indexmap.specs.IndexMap.{get, spare}
 use Rattle.vlm_links.proofs.Keeping.{vacant_unlisted}
 use Rattle.vlm_links.specs.Lists.{IsIn}
 use Rattle.vlm_words.specs.Keys.{is_same_key}
-use Rattle.vlm_store.specs.declared.keys.Place.{Place}
-use Rattle.vlm_store.specs.declared.keys.Place.TheVariants.{Loose}
+use Rattle.vlm_store.specs.declared.handles.Place.{Place}
+use Rattle.vlm_store.specs.declared.handles.Place.TheVariants.{Loose}
 use Rattle.vlm_store.specs.declared.locks.Lock.{Lock}
 use Rattle.vlm_store.specs.Holdings.{pid_at}
 use Rattle.vlm_store.specs.Kept.{beside_shown}
 use Rattle.vlm_store.specs.Records.{process_with_lock, HasRoom, IsTaken, with_new_lock}
-use Rattle.vlm_store.specs.Shown.{but_queues, keys_at, list_at, lkid_of, queue_links, row_in}
+use Rattle.vlm_store.specs.Shown.{but_queues, handles_at, list_at, lkid_of, queue_links, row_in}
 use Rattle.vlm_store.specs.Store.{key_at, lkid_at, records_of, tables}
 use Rattle.vlm_store.proofs.Indexing.{Indexes-added, Indexes-same}
 use Rattle.vlm_store.proofs.Joining.{new_lkid, other_lkids, joined_kin, joined_lkids, joined_named, joined_owned, joined_processes, linked_parent_there, new_below, new_owned, owner_was_there}
-use Rattle.vlm_store.proofs.Kept.{faces_same, no_lock, on_err, on_ok, reserved_keys, reserved_placed, stored_there}
-use Rattle.vlm_store.proofs.Kinship.{kin_keys, kin_placed, kin_rows, kin_tallied, own_below, own_pids, own_process_linked, own_process_whole, records_processes}
+use Rattle.vlm_store.proofs.Kept.{faces_same, no_lock, on_err, on_ok, reserved_handles, reserved_placed, stored_there}
+use Rattle.vlm_store.proofs.Kinship.{kin_handles, kin_placed, kin_rows, kin_tallied, own_below, own_pids, own_process_linked, own_process_whole, records_processes}
 use Rattle.vlm_store.proofs.Layouts.{loose_joined}
 use Rattle.vlm_store.proofs.store.Store.add_lock.Goals as goal
-use Rattle.vlm_store.proofs.Order.{keys_same, order_keys, order_linked, order_whole}
+use Rattle.vlm_store.proofs.Order.{keys_same, order_handles, order_linked, order_whole}
 
 pub invariant_of-self : goal.invariant_of-self
 invariant_of-self c = lock_room_kept c.self.inside c.self.invariant c.reserve_one.new.records c.reserve_one.new.index c.reserve_one.ensures.records c.reserve_one.ensures.index
@@ -133,9 +133,9 @@ returns-clause-added c =
     let rest = added.rest in
     let q'' = record q' { locks = c.join_parent.new.locks } in
     let kin = joined_kin s kept c.reserve_one.new.records q'.locks at c.args.row c.args.owner c.args.parent same added.fresh added.lock added.kin owner parent c.join_process.new.processes c.join_process.new.locks c.join_parent.new.locks process.owned process.here process.elsewhere process.relinks process.rest below.here below.elsewhere below.rest in
-    let keys1 = reserved_keys s.queues c.reserve_one.new.records same kept.placed in
-    let keys2 = kin_keys q' c.join_parent.new.locks kin added.placed in
-    let unlisted : (p : Place) → ¬ IsIn at (keys_at s.queues p) =
+    let handles1 = reserved_handles s.queues c.reserve_one.new.records same kept.placed in
+    let handles2 = kin_handles q' c.join_parent.new.locks kin added.placed in
+    let unlisted : (p : Place) → ¬ IsIn at (handles_at s.queues p) =
     λ p. vacant_unlisted queue_links s.queues.locks (list_at s.queues p) (kept.placed.linked p) at (sym (same at) ∙ added.fresh) in
     let old = tables s.queues s.order (beside_shown s) in
     let s' = record s { queues = q''; processes = c.join_process.new.processes; lock_index = c.insert.new.self } in
@@ -143,8 +143,8 @@ returns-clause-added c =
     let rows : (k : ℕ) → row_in (slot_of c.join_parent.new.locks k) ≡ row_in (slot_of q'.locks k) = kin_rows q' c.join_parent.new.locks kin in
     rw (← c.self.view_is, c.of-at.ensures)
     (loose_joined old new at c.args.row (faces_same s.queues.resources q'.resources rest)
-    (order_keys but_queues (λ r. refl) s.queues.resources q'.resources rest s.order kept.linked) (rows at ∙ added.row) (λ k differs. rows k ∙ added.rows k differs ∙ ap row_in (same k)) unlisted
-    (keys2 Loose ∙ added.here ∙ ap (λ ks. ks ++ at ∷ []) (keys1 Loose)) (λ p differs. keys2 p ∙ added.elsewhere p differs ∙ keys1 p)
+    (order_handles but_queues (λ r. refl) s.queues.resources q'.resources rest s.order kept.linked) (rows at ∙ added.row) (λ k differs. rows k ∙ added.rows k differs ∙ ap row_in (same k)) unlisted
+    (handles2 Loose ∙ added.here ∙ ap (λ ks. ks ++ at ∷ []) (handles1 Loose)) (λ p differs. handles2 p ∙ added.elsewhere p differs ∙ handles1 p)
     ∙ ap (λ ps. record (records_of old) { loose = (records_of old).loose ++ record { at = at; row = c.args.row } ∷ []; processes = ps; room = (records_of new).room })
     (joined_processes s kept c.reserve_one.new.records q'.locks at c.args.row c.args.owner c.args.parent same added.fresh added.lock added.kin owner parent c.join_process.new.processes c.join_process.new.locks c.join_parent.new.locks process.owned process.here process.elsewhere process.relinks process.rest below.here below.elsewhere below.rest ∙ ap (map (process_with_lock c.args.owner c.args.parent at)) (sym (records_processes old)))
     ∙ ap (λ r. record (with_new_lock at c.args.row c.args.owner c.args.parent (records_of old)) { room = r })

@@ -6,17 +6,17 @@ use Rattle.std.specs.Map.{lookup}
 use Rattle.std.specs.Option.{option_map}
 use Rattle.slab.specs.Slab.{get}
 use Rattle.indexmap.specs.IndexMap.{get as found, spare}
-use Rattle.vlm_links.specs.Lists.{keys_of}
+use Rattle.vlm_links.specs.Lists.{handles_of}
 use Rattle.vlm_links.proofs.Keeping.{vacant_unlisted}
-use Rattle.vlm_links.proofs.Rings.{same-keys, same-linked}
+use Rattle.vlm_links.proofs.Rings.{same-handles, same-linked}
 use Rattle.vlm_words.specs.Declare.{new_process}
 use Rattle.vlm_words.specs.State.{Process as PlainProcess}
 use Rattle.vlm_store.specs.declared.locks.Lock.{Lock}
 use Rattle.vlm_store.specs.declared.processes.Process.{Process}
-use Rattle.vlm_store.specs.Holdings.{but_order, holding, own_in, own_links, own_of, pid_at, pid_of, process_links, process_of}
+use Rattle.vlm_store.specs.Holdings.{but_order, holding, own_in, own_links, own_of, pid_at, pid_of, process_links, process_under}
 use Rattle.vlm_store.specs.Kept.{beside_shown}
 use Rattle.vlm_store.specs.Records.{HasRoom, StoredProcess, new_stored_process, IsTaken}
-use Rattle.vlm_store.proofs.Declaring.{names_stay, owner_is_there, owns_stay, own_by_order, pid_by_order, plain_by_order, process_own_keys, process_owned, roomier}
+use Rattle.vlm_store.proofs.Declaring.{names_stay, owner_is_there, owns_stay, own_by_order, pid_by_order, plain_by_order, process_own_handles, process_owned, roomier}
 use Rattle.vlm_store.proofs.Indexing.{Indexes-added, Indexes-same}
 use Rattle.vlm_store.proofs.Kept.{on_ok, on_err}
 use Rattle.vlm_store.proofs.Kinship.{processes_changed, there_by_part}
@@ -30,8 +30,8 @@ pub invariant_of-self : goal.invariant_of-self
 invariant_of-self c =
     roomier c.self.inside c.self.invariant c.reserve_one.new.records c.reserve_one.new.index (λ p. ap (λ x. get x p) c.reserve_one.ensures.records) (λ k. ap (λ es. lookup (nat_eq k) es) c.reserve_one.ensures.index)
 
-pub enter-requires-clause-linked : goal.enter-requires-clause-linked
-enter-requires-clause-linked c =
+pub put_in-requires-clause-linked : goal.put_in-requires-clause-linked
+put_in-requires-clause-linked c =
     let s = c.self.inside in
     same-linked process_links s.processes c.reserve_one.new.records s.process_order c.self.invariant.processes_linked (λ p _. ap (λ x. get x p) c.reserve_one.ensures.records)
 
@@ -40,9 +40,9 @@ invariant_of-self-2 c =
     let s = c.self.inside in
     let kept = c.self.invariant in
     let roomy = c.reserve_one.new.records in
-    let new = c.enter.new.processes in
-    let at = c.enter.result in
-    let entered = c.enter.ensures in
+    let new = c.put_in.new.processes in
+    let at = c.put_in.result in
+    let entered = c.put_in.ensures in
     let process = c.new-process.result in
     let same : (p : ℕ) → get roomy p ≡ get s.processes p = λ p. ap (λ x. get x p) c.reserve_one.ensures.records in
     let others : (p : ℕ) → p ≢ at → option_map but_order (get new p) ≡ option_map but_order (get s.processes p) = λ p differs. entered.others p differs ∙ ap (option_map but_order) (same p) in
@@ -51,7 +51,7 @@ invariant_of-self-2 c =
     let after = own_by_order (get new at) (Some process) entered.here ∙ no_list_is process.own c.new-process.ensures.own in
     let apart : (k : ℕ) (l : Lock) → get s.queues.locks k ≡ Some l → l.owner ≢ at =
     λ k l here is. let nothing : IsSome {T = Process} None = rw (ap (get s.processes) is ∙ vacant) at (owner_is_there s.processes s.queues.locks kept.named k l here) in absurd (cc) in
-    let keys1 = same-keys process_links s.processes roomy s.process_order kept.processes_linked (λ p _. same p) in
+    let handles1 = same-handles process_links s.processes roomy s.process_order kept.processes_linked (λ p _. same p) in
     let indexes1 = Indexes-same (found nat_eq s.process_index) (found nat_eq c.reserve_one.new.index) (pid_at s.processes) (pid_at roomy) (λ k. ap (λ es. lookup (nat_eq k) es) c.reserve_one.ensures.index)
     (λ p. ap (option_map pid_of) (same p)) kept.processes in
     let fresh : found nat_eq c.reserve_one.new.index c.args.pid ≡ None =
@@ -67,7 +67,7 @@ invariant_of-self-2 c =
       below = kept.below;
       named = names_stay s.processes new at others before after s.queues.locks apart kept.named;
       processes_linked = entered.linked;
-      processes_ordered = whole_grown process_links roomy new s.process_order c.enter.new.order at (λ p there. rw keys1 (kept.processes_ordered p (rw (same p) at there))) entered.order
+      processes_ordered = whole_grown process_links roomy new s.process_order c.put_in.new.order at (λ p there. rw handles1 (kept.processes_ordered p (rw (same p) at there))) entered.order
           (λ p differs. there_by_part but_order (get roomy p) (get new p) (sym (entered.others p differs)));
       processes = Indexes-added nat_eq unsigned_Decides c.reserve_one.new.index c.insert.new.self c.args.pid (pid_at roomy) (pid_at new) at
           (rw c.of-at.ensures at (on_ok c.insert.result _ (c.insert.ensures.succeeds (omega (arith, c.in_ok-reserve_one.ensures.find))) c.insert.ensures.updates))
@@ -80,43 +80,43 @@ unfolding records_of
 returns-clause-added c =
     let s = c.self.inside in
     let kept = c.self.invariant in
-    let new = c.enter.new.processes in
-    let at = c.enter.result in
-    let entered = c.enter.ensures in
+    let new = c.put_in.new.processes in
+    let at = c.put_in.result in
+    let entered = c.put_in.ensures in
     let process = c.new-process.result in
     let same : (p : ℕ) → get c.reserve_one.new.records p ≡ get s.processes p = λ p. ap (λ x. get x p) c.reserve_one.ensures.records in
     let others : (p : ℕ) → p ≢ at → option_map but_order (get new p) ≡ option_map but_order (get s.processes p) = λ p differs. entered.others p differs ∙ ap (option_map but_order) (same p) in
     let vacant : get s.processes at ≡ None = sym (same at) ∙ entered.fresh in
     let after = own_by_order (get new at) (Some process) entered.here ∙ no_list_is process.own c.new-process.ensures.own in
     let owns = owns_stay s.processes new at others (ap own_in vacant) after in
-    let keys1 = same-keys process_links s.processes c.reserve_one.new.records s.process_order kept.processes_linked (λ p _. same p) in
+    let handles1 = same-handles process_links s.processes c.reserve_one.new.records s.process_order kept.processes_linked (λ p _. same p) in
     let h = holding s.processes s.queues.locks s.process_order in
-    let h' = holding new s.queues.locks c.enter.new.order in
-    let made : process_of h' at ≡ new_stored_process at c.args.pid c.args.declaration.now =
+    let h' = holding new s.queues.locks c.put_in.new.order in
+    let made : process_under h' at ≡ new_stored_process at c.args.pid c.args.declaration.now =
     ap (λ x. record { at = at; process = x; own = map (own_of h') (h'.own at) }) (plain_by_order (get new at) (Some process) entered.here ∙ c.new-process.ensures.plain)
-    ∙ ap (λ l. record { at = at; process = new_process c.args.pid c.args.declaration.now; own = map (own_of h') (keys_of own_links s.queues.locks l) }) after in
+    ∙ ap (λ l. record { at = at; process = new_process c.args.pid c.args.declaration.now; own = map (own_of h') (handles_of own_links s.queues.locks l) }) after in
     rw (← c.self.view_is, c.of-at.ensures)
-    (processes_changed s.queues s.order (beside_shown s) (beside_shown (record s { processes = new; process_order = c.enter.new.order; process_index = c.insert.new.self })) (λ (ps : List StoredProcess). ps ++ new_stored_process at c.args.pid c.args.declaration.now ∷ [])
+    (processes_changed s.queues s.order (beside_shown s) (beside_shown (record s { processes = new; process_order = c.put_in.new.order; process_index = c.insert.new.self })) (λ (ps : List StoredProcess). ps ++ new_stored_process at c.args.pid c.args.declaration.now ∷ [])
     (process_made h h' (λ k. refl) at (new_stored_process at c.args.pid c.args.declaration.now) (λ p differs. plain_by_order (get new p) (get s.processes p) (others p differs))
-    (λ p _. process_own_keys s.processes new s.queues.locks owns p) (vacant_unlisted process_links s.processes s.process_order kept.processes_linked at vacant)
-    (entered.order ∙ ap (λ ks. ks ++ at ∷ []) keys1) made))
+    (λ p _. process_own_handles s.processes new s.queues.locks owns p) (vacant_unlisted process_links s.processes s.process_order kept.processes_linked at vacant)
+    (entered.order ∙ ap (λ ks. ks ++ at ∷ []) handles1) made))
 
 pub returns-clause-fresh : goal.returns-clause-fresh
 returns-clause-fresh c has =
     let s = c.self.inside in
-    let there = process_there s c.self.invariant c.enter.result (rw (c.of-at.ensures, ← c.self.view_is) at has) in
-    let vacant : get s.processes c.enter.result ≡ None = sym (ap (λ x. get x c.enter.result) c.reserve_one.ensures.records) ∙ c.enter.ensures.fresh in
+    let there = process_there s c.self.invariant c.put_in.result (rw (c.of-at.ensures, ← c.self.view_is) at has) in
+    let vacant : get s.processes c.put_in.result ≡ None = sym (ap (λ x. get x c.put_in.result) c.reserve_one.ensures.records) ∙ c.put_in.ensures.fresh in
     let nothing : IsSome {T = Process} None = rw vacant at there in
     absurd (cc)
 
 pub returns-clause-taken : goal.returns-clause-taken
 returns-clause-taken c =
     let s = c.self.inside in
-    let s' = record s { processes = c.enter.new.processes; process_order = c.enter.new.order; process_index = c.insert.new.self } in
+    let s' = record s { processes = c.put_in.new.processes; process_order = c.put_in.new.order; process_index = c.insert.new.self } in
     rw (← c.self.view_is)
     (room_shown (λ a b. IsTaken a.processes b.processes) (tables s.queues s.order (beside_shown s)) (tables s.queues s.order (beside_shown s'))
-    (is_taken s.processes c.reserve_one.new.records c.enter.new.processes (spare s.process_index) (spare c.reserve_one.new.index) (spare c.insert.new.self) c.reserve_one.ensures.records c.reserve_one.ensures.capacity
-    c.enter.ensures.taken c.reserve_one.ensures.finds c.insert.ensures.spare))
+    (is_taken s.processes c.reserve_one.new.records c.put_in.new.processes (spare s.process_index) (spare c.reserve_one.new.index) (spare c.insert.new.self) c.reserve_one.ensures.records c.reserve_one.ensures.capacity
+    c.put_in.ensures.taken c.reserve_one.ensures.finds c.insert.ensures.spare))
 
 pub returns-in_err-reserve_one-clause-err : goal.returns-in_err-reserve_one-clause-err
 returns-in_err-reserve_one-clause-err c =

@@ -5,18 +5,18 @@ use Rattle.std.specs.Option.{option_map}
 use Rattle.slab.specs.Slab.{get as slot_of}
 use Rattle.indexmap.specs.IndexMap.{get, spare}
 use Rattle.vlm_links.proofs.Keeping.{vacant_unlisted}
-use Rattle.vlm_links.proofs.Rings.{same-keys, same-linked}
+use Rattle.vlm_links.proofs.Rings.{same-handles, same-linked}
 use Rattle.vlm_words.specs.declared.resources.Queue.TheVariants.{Granted, Conversion, Waiting}
-use Rattle.vlm_store.specs.declared.keys.Place.TheVariants.{Queued}
+use Rattle.vlm_store.specs.declared.handles.Place.TheVariants.{Queued}
 use Rattle.vlm_store.specs.declared.resources.Resource.{Resource}
 use Rattle.vlm_words.specs.Keys.{is_same_key, is_same_key-Decides}
-use Rattle.vlm_store.specs.Records.{new_resource, HasRoom, IsTaken}
+use Rattle.vlm_store.specs.Records.{new_stored_resource, HasRoom, IsTaken}
 use Rattle.vlm_store.specs.Shown.{Face, face_in, lkid_of, new_face, order_links, row_in, tally_in, room_in}
 use Rattle.vlm_store.specs.Store.{key_at, lkid_at, resource_of, tables, records_of}
 use Rattle.vlm_store.proofs.Indexing.{Indexes-added, Indexes-same}
 use Rattle.vlm_store.proofs.Kept.{no_resource, on_ok}
 use Rattle.vlm_store.proofs.Layouts.{HasResource-order, resource_made}
-use Rattle.vlm_store.proofs.Making.{face_by_face, face_is, key_by_face, none_keys, there_by_face, whole_grown, reserved_lists, resources_keys, resources_placed, resources_tallied}
+use Rattle.vlm_store.proofs.Making.{face_by_face, face_is, key_by_face, none_handles, there_by_face, whole_grown, reserved_lists, resources_handles, resources_placed, resources_tallied}
 use Rattle.vlm_store.specs.Kept.{beside_shown}
 use Rattle.vlm_store.specs.Shown.{but_queued}
 use Rattle.vlm_store.proofs.Kinship.{queued_below, queued_named, queued_owned, queued_processes}
@@ -34,7 +34,7 @@ invariant_of-self c =
       placed = resources_placed s.queues c.reserve_one.new.records kept.placed lists;
       tallied = resources_tallied s.queues c.reserve_one.new.records kept.placed lists (λ r. ap tally_in (same r)) kept.tallied;
       linked = same-linked order_links s.queues.resources c.reserve_one.new.records s.order kept.linked (λ r _. same r);
-      ordered = λ r there. rw (same-keys order_links s.queues.resources c.reserve_one.new.records s.order kept.linked (λ x _. same x)) (kept.ordered r (rw (same r) at there));
+      ordered = λ r there. rw (same-handles order_links s.queues.resources c.reserve_one.new.records s.order kept.linked (λ x _. same x)) (kept.ordered r (rw (same r) at there));
       locks = kept.locks;
       resources = Indexes-same (get is_same_key s.resource_index) (get is_same_key c.reserve_one.new.index) (key_at s.queues) (key_at (record s.queues { resources = c.reserve_one.new.records }))
           (λ k. ap (λ es. lookup (is_same_key k) es) c.reserve_one.ensures.index) (λ r. ap (option_map (λ (x : Resource). x.key)) (same r)) kept.resources;
@@ -65,7 +65,7 @@ invariant_of-self-2 c =
     let q' = c.add_resource.new.self in
     let at = c.add_resource.result in
     let added = c.add_resource.ensures in
-    let keys1 = same-keys order_links s.queues.resources c.reserve_one.new.records s.order kept.linked (λ x _. same x) in
+    let handles1 = same-handles order_links s.queues.resources c.reserve_one.new.records s.order kept.linked (λ x _. same x) in
     let indexes1 = Indexes-same (get is_same_key s.resource_index) (get is_same_key c.reserve_one.new.index) (key_at s.queues) (key_at q1)
     (λ k. ap (λ es. lookup (is_same_key k) es) c.reserve_one.ensures.index) (λ r. ap (option_map (λ (x : Resource). x.key)) (same r)) kept.resources in
     let fresh : get is_same_key c.reserve_one.new.index c.args.site.now.key ≡ None =
@@ -75,7 +75,7 @@ invariant_of-self-2 c =
       placed = added.placed;
       tallied = added.tallied;
       linked = added.linked;
-      ordered = whole_grown order_links c.reserve_one.new.records q'.resources s.order c.add_resource.new.order at (λ r there. rw keys1 (kept.ordered r (rw (same r) at there))) added.order
+      ordered = whole_grown order_links c.reserve_one.new.records q'.resources s.order c.add_resource.new.order at (λ r there. rw handles1 (kept.ordered r (rw (same r) at there))) added.order
           (λ r differs. there_by_face (slot_of q'.resources r) (slot_of c.reserve_one.new.records r) (added.faces r differs));
       locks = Indexes-same (get nat_eq s.lock_index) (get nat_eq s.lock_index) (lkid_at s.queues) (lkid_at q') (λ k. refl) (λ x. ap (λ l. option_map lkid_of (slot_of l x)) added.locks) kept.locks;
       resources = Indexes-added is_same_key is_same_key-Decides c.reserve_one.new.index c.insert.new.self c.args.site.now.key (key_at q1) (key_at q') at
@@ -100,24 +100,24 @@ returns-clause-added c =
     let at = c.add_resource.result in
     let added = c.add_resource.ensures in
     let vacant : slot_of s.queues.resources at ≡ None = sym (same at) ∙ added.fresh in
-    let keys1 = same-keys order_links s.queues.resources c.reserve_one.new.records s.order kept.linked (λ x _. same x) in
-    let lists1 = resources_keys s.queues c.reserve_one.new.records kept.placed (reserved_lists s.queues c.reserve_one.new.records same) in
+    let handles1 = same-handles order_links s.queues.resources c.reserve_one.new.records s.order kept.linked (λ x _. same x) in
+    let lists1 = resources_handles s.queues c.reserve_one.new.records kept.placed (reserved_lists s.queues c.reserve_one.new.records same) in
     let s' = record s { queues = q'; order = c.add_resource.new.order; resource_index = c.insert.new.self } in
     let old = tables s.queues s.order (beside_shown s) in
     let l' = tables q' s'.order (beside_shown s') in
-    let made : resource_of l' at ≡ new_resource at c.args.serial c.args.site.now =
+    let made : resource_of l' at ≡ new_stored_resource at c.args.serial c.args.site.now =
     rw (
       face_is (slot_of q'.resources at) (new_face c.args.serial c.args.site.now) added.face,
-      added.keys (Queued at Granted) ∙ lists1 (Queued at Granted) ∙ none_keys s.queues at Granted vacant,
-      added.keys (Queued at Conversion) ∙ lists1 (Queued at Conversion) ∙ none_keys s.queues at Conversion vacant,
-      added.keys (Queued at Waiting) ∙ lists1 (Queued at Waiting) ∙ none_keys s.queues at Waiting vacant,
+      added.handles (Queued at Granted) ∙ lists1 (Queued at Granted) ∙ none_handles s.queues at Granted vacant,
+      added.handles (Queued at Conversion) ∙ lists1 (Queued at Conversion) ∙ none_handles s.queues at Conversion vacant,
+      added.handles (Queued at Waiting) ∙ lists1 (Queued at Waiting) ∙ none_handles s.queues at Waiting vacant,
     ) refl in
     rw (← c.self.view_is, c.of-res.ensures)
-    (resource_made (tables s.queues s.order (beside_shown s)) l' at (new_resource at c.args.serial c.args.site.now) (λ k. ap (λ l. row_in (slot_of l k)) added.locks) (λ p. added.keys p ∙ lists1 p)
+    (resource_made (tables s.queues s.order (beside_shown s)) l' at (new_stored_resource at c.args.serial c.args.site.now) (λ k. ap (λ l. row_in (slot_of l k)) added.locks) (λ p. added.handles p ∙ lists1 p)
     (λ r differs. face_by_face (slot_of q'.resources r) (slot_of c.reserve_one.new.records r) (added.faces r differs) ∙ ap face_in (same r))
-    (vacant_unlisted order_links s.queues.resources s.order kept.linked at vacant) (added.order ∙ ap (λ ks. ks ++ at ∷ []) keys1) made
+    (vacant_unlisted order_links s.queues.resources s.order kept.linked at vacant) (added.order ∙ ap (λ ks. ks ++ at ∷ []) handles1) made
     (queued_processes s.processes s.queues.locks q'.locks (same_eq but_queued s.queues.locks q'.locks added.locks) s.process_order kept.owned kept.below)
-    ∙ ap (λ r. record (records_of old) { resources = (records_of old).resources ++ new_resource at c.args.serial c.args.site.now ∷ []; room = r })
+    ∙ ap (λ r. record (records_of old) { resources = (records_of old).resources ++ new_stored_resource at c.args.serial c.args.site.now ∷ []; room = r })
     (room_shown (λ a b. b ≡ record a { resources = b.resources }) old l'
     (rooms_are _ _ _ _ _ _ (room_of_same s.queues.locks q'.locks (spare s.lock_index) (ap room_in added.locks)) refl refl)))
 

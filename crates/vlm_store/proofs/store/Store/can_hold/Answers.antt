@@ -1,6 +1,6 @@
 use Rattle.std.proofs.Common.{◌∙◌, refl}
 use Rattle.vlm_store.specs.Store.{tables}
-use Rattle.vlm_store.proofs.Fitting.{fits_beside-keys}
+use Rattle.vlm_store.proofs.Fitting.{fits_beside-handles}
 use Rattle.vlm_store.proofs.Kept.{stored_there}
 use Rattle.vlm_store.proofs.Layouts.{HasResource-order, resource_at-found}
 use Rattle.vlm_store.specs.Kept.{beside_shown}
@@ -11,14 +11,14 @@ fits-requires-clause-there c =
     let s = c.self.inside in
     c.self.invariant.linked.present c.args.res (HasResource-order (tables s.queues s.order (beside_shown s)) c.args.res (rw (← c.self.view_is) at c.requires.there))
 
-pub fits-requires-clause-own : goal.fits-requires-clause-own
-fits-requires-clause-own c lock is =
+pub fits-requires-clause-asking : goal.fits-requires-clause-asking
+fits-requires-clause-asking c lock is =
     let s = c.self.inside in
-    let stored = rw (← c.self.view_is) at (c.requires.own lock is) in
+    let stored = rw (← c.self.view_is) at (c.requires.asking lock is) in
     (stored_there s.queues s.order (beside_shown s) c.self.invariant.placed lock stored.0 stored.1).0
 
 pub returns : goal.returns
 returns c =
     let s = c.self.inside in
     let found = resource_at-found (tables s.queues s.order (beside_shown s)) c.args.res (HasResource-order (tables s.queues s.order (beside_shown s)) c.args.res (rw (← c.self.view_is) at c.requires.there)) in
-    rw (← c.self.view_is, found) (c.fits.ensures ∙ fits_beside-keys s.queues (tables s.queues s.order (beside_shown s)) c.args.res c.args.mode c.args.own refl refl)
+    rw (← c.self.view_is, found) (c.fits.ensures ∙ fits_beside-handles s.queues (tables s.queues s.order (beside_shown s)) c.args.res c.args.mode c.args.asking refl refl)

@@ -1,9 +1,9 @@
 use Rattle.vlm_store.proofs.Living.{is_sound}
 use Rattle.std.proofs.Common.{◌∙◌, sym}
-use Rattle.vlm_links.specs.Lists.{keys_of}
+use Rattle.vlm_links.specs.Lists.{handles_of}
 use Rattle.vlm_store.specs.Shown.{order_links}
 use Rattle.vlm_store.specs.Store.{tables}
-use Rattle.vlm_links.proofs.Walks.{first_key-in}
+use Rattle.vlm_links.proofs.Walks.{first_handle-in}
 use Rattle.vlm_store.proofs.Layouts.{first_resource-is}
 use Rattle.vlm_store.specs.Kept.{beside_shown}
 use Rattle.vlm_store.proofs.store.Store.first_resource.Goals as goal
@@ -11,7 +11,7 @@ use Rattle.vlm_store.proofs.store.Store.first_resource.Goals as goal
 pub of-requires : goal.of-requires
 of-requires c =
     let s = c.self.inside in
-    c.self.invariant.linked.within c.in_ok-at.at (first_key-in (keys_of order_links s.queues.resources s.order) c.in_ok-at.at c.in_ok-at.ensures)
+    c.self.invariant.linked.within c.in_ok-at.at (first_handle-in (handles_of order_links s.queues.resources s.order) c.in_ok-at.at c.in_ok-at.ensures)
 
 pub returns-clause-first : goal.returns-clause-first
 returns-clause-first c =

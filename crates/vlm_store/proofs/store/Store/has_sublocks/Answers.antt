@@ -1,5 +1,5 @@
 use Rattle.std.proofs.Common.{◌∙◌, length, sym, ap}
-use Rattle.vlm_links.specs.Lists.{keys_of}
+use Rattle.vlm_links.specs.Lists.{handles_of}
 use Rattle.vlm_store.specs.Holdings.{below_in, below_links}
 use Rattle.vlm_store.proofs.Living.{are_sublocks, lock_there, no_sublocks}
 use Rattle.vlm_store.proofs.store.Store.has_sublocks.Goals as goal
@@ -14,7 +14,7 @@ returns-clause-none c =
     let s = c.self.inside in
     rw (← c.self.view_is)
     (no_sublocks s c.self.invariant c.args.lock c.len.result
-    (c.len.ensures ∙ ap (λ l. length (keys_of below_links s.queues.locks l)) (sym (ap below_in (rw c.slot.ensures at c.index.ensures)))))
+    (c.len.ensures ∙ ap (λ l. length (handles_of below_links s.queues.locks l)) (sym (ap below_in (rw c.slot.ensures at c.index.ensures)))))
 
 pub returns-clause-some : goal.returns-clause-some
 returns-clause-some c =
@@ -22,4 +22,4 @@ returns-clause-some c =
     let stored = rw (← c.self.view_is) at c.requires in
     rw (← c.self.view_is)
     (are_sublocks s c.self.invariant c.args.lock stored.0 stored.1 c.len.result
-    (c.len.ensures ∙ ap (λ l. length (keys_of below_links s.queues.locks l)) (sym (ap below_in (rw c.slot.ensures at c.index.ensures)))))
+    (c.len.ensures ∙ ap (λ l. length (handles_of below_links s.queues.locks l)) (sym (ap below_in (rw c.slot.ensures at c.index.ensures)))))

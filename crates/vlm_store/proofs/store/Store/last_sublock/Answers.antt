@@ -1,7 +1,7 @@
 use Rattle.std.proofs.Common.{◌∙◌, ap, sym}
-use Rattle.vlm_links.specs.Lists.{last_key}
-use Rattle.vlm_links.proofs.Walks.{last_key-in}
-use Rattle.vlm_store.specs.Holdings.{below_keys}
+use Rattle.vlm_links.specs.Lists.{last_handle}
+use Rattle.vlm_links.proofs.Walks.{last_handle-in}
+use Rattle.vlm_store.specs.Holdings.{below_handles}
 use Rattle.vlm_store.proofs.Living.{lock_there}
 use Rattle.vlm_store.proofs.Siblings.{below_listed, sublocks_is}
 use Rattle.vlm_store.proofs.store.Store.last_sublock.Goals as goal
@@ -16,18 +16,18 @@ of-requires c =
     let s = c.self.inside in
     let listed = below_listed s c.self.invariant c.args.lock c.index.result.now (rw c.slot.ensures at c.index.ensures) in
     (c.self.invariant.below.linked c.args.lock).within c.in_ok-at.at
-    (last_key-in (below_keys s.queues.locks c.args.lock) c.in_ok-at.at (c.in_ok-at.ensures ∙ ap last_key listed))
+    (last_handle-in (below_handles s.queues.locks c.args.lock) c.in_ok-at.at (c.in_ok-at.ensures ∙ ap last_handle listed))
 
 pub returns : goal.returns
 returns c =
     let s = c.self.inside in
     let listed = below_listed s c.self.invariant c.args.lock c.index.result.now (rw c.slot.ensures at c.index.ensures) in
     let seen = sublocks_is s c.self.invariant c.args.lock (rw (← c.self.view_is) at c.requires) in
-    rw (← c.self.view_is, c.of.ensures) (c.in_ok-at.ensures ∙ ap last_key (listed ∙ sym seen))
+    rw (← c.self.view_is, c.of.ensures) (c.in_ok-at.ensures ∙ ap last_handle (listed ∙ sym seen))
 
 pub returns-in_err-at : goal.returns-in_err-at
 returns-in_err-at c =
     let s = c.self.inside in
     let listed = below_listed s c.self.invariant c.args.lock c.index.result.now (rw c.slot.ensures at c.index.ensures) in
     let seen = sublocks_is s c.self.invariant c.args.lock (rw (← c.self.view_is) at c.requires) in
-    rw (← c.self.view_is) (c.from_residual.ensures ∙ c.in_err-at.ensures ∙ ap last_key (listed ∙ sym seen))
+    rw (← c.self.view_is) (c.from_residual.ensures ∙ c.in_err-at.ensures ∙ ap last_handle (listed ∙ sym seen))

@@ -1,6 +1,6 @@
 use Rattle.std.proofs.Common.{◌∙◌, length, sym, ap, subst}
 use Rattle.std.proofs.lemmas.List.{length-map}
-use Rattle.vlm_links.specs.Lists.{keys_of}
+use Rattle.vlm_links.specs.Lists.{handles_of}
 use Rattle.vlm_store.specs.Holdings.{own_in, own_links}
 use Rattle.vlm_store.specs.Records.{IsSound}
 use Rattle.vlm_store.proofs.Counted.{own_count}
@@ -13,7 +13,7 @@ index-requires c = rw c.slot.ensures (process_there c.self.inside c.self.invaria
 pub returns-clause-own : goal.returns-clause-own
 returns-clause-own c =
     rw (← c.self.view_is, own_is c.self.inside c.self.invariant c.args.at (rw (← c.self.view_is) at c.requires))
-    (c.len.ensures ∙ ap (λ l. length (keys_of own_links c.self.inside.queues.locks l)) (sym (ap own_in (rw c.slot.ensures at c.index.ensures))) ∙ sym (length-map _ _))
+    (c.len.ensures ∙ ap (λ l. length (handles_of own_links c.self.inside.queues.locks l)) (sym (ap own_in (rw c.slot.ensures at c.index.ensures))) ∙ sym (length-map _ _))
 
 pub returns-clause-owned : goal.returns-clause-owned
 returns-clause-owned c pid is = returns-clause-own c ∙ own_count _ c.args.at pid (subst IsSound c.self.view_is (is_sound c.self.inside c.self.invariant)) is

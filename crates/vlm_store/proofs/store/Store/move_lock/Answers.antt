@@ -2,16 +2,16 @@ use Rattle.vlm_store.proofs.RoomShown.{queues_room}
 use Rattle.std.proofs.Common.{None, ◌∙◌, ap, refl, nat_eq}
 use Rattle.indexmap.specs.IndexMap.{get}
 use Rattle.vlm_words.specs.Keys.{is_same_key}
-use Rattle.vlm_store.specs.Shown.{but_queues, keys_at, named_row, rows}
+use Rattle.vlm_store.specs.Shown.{but_queues, handles_at, named_row, rows}
 use Rattle.vlm_store.specs.Store.{key_at, lkid_at, tables}
 use Rattle.vlm_store.specs.Records.{moving}
 use Rattle.vlm_store.proofs.Indexing.{Indexes-same}
 use Rattle.vlm_store.proofs.Kept.{faces_same, place_there, stored_there}
-use Rattle.vlm_store.proofs.Layouts.{lists_changed, moving-keyed}
+use Rattle.vlm_store.proofs.Layouts.{lists_changed, moving-under_handle}
 use Rattle.vlm_store.specs.Kept.{beside_shown}
 use Rattle.vlm_store.proofs.Kinship.{named_same, queued_below, queued_lkids, queued_named, queued_owned, queued_processes}
 use Rattle.vlm_store.proofs.store.Store.move_lock.Goals as goal
-use Rattle.vlm_store.proofs.Order.{keys_same, order_keys, order_linked, order_whole}
+use Rattle.vlm_store.proofs.Order.{keys_same, order_handles, order_linked, order_whole}
 
 pub move_to-requires-clause-present : goal.move_to-requires-clause-present
 move_to-requires-clause-present c =
@@ -65,7 +65,7 @@ returns c =
     let moved = rw c.slot.ensures at c.move_to.ensures in
     rw (← c.self.view_is)
     (lists_changed (tables s.queues s.order (beside_shown s)) (tables q' s.order (beside_shown (record s { queues = q' }))) (moving c.args.to (record { at = c.args.lock; row = c.args.row })) (faces_same s.queues.resources q'.resources rest)
-    (moving-keyed (rows s.queues) (rows q') (keys_at s.queues) (keys_at q') c.args.lock c.args.row c.args.to moved.row moved.rows moved.here moved.elsewhere)
-    (order_keys but_queues (λ r. refl) s.queues.resources q'.resources rest s.order c.self.invariant.linked)
+    (moving-under_handle (rows s.queues) (rows q') (handles_at s.queues) (handles_at q') c.args.lock c.args.row c.args.to moved.row moved.rows moved.here moved.elsewhere)
+    (order_handles but_queues (λ r. refl) s.queues.resources q'.resources rest s.order c.self.invariant.linked)
     (queued_processes s.processes s.queues.locks q'.locks c.move_to.ensures.kin s.process_order c.self.invariant.owned c.self.invariant.below)
     (queues_room s q' c.move_to.ensures.locks_room c.move_to.ensures.resources_room))

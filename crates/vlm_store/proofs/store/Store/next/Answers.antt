@@ -2,11 +2,11 @@ use Rattle.std.proofs.Common.{◌≡◌, ◌∙◌, ap, sym, subst}
 use Rattle.std.proofs.lemmas.Option.{none-some, same_Some}
 use Rattle.vlm_links.specs.Lists.{IsIn}
 use Rattle.vlm_store.specs.Records.{Records, StoredLock, locks_at}
-use Rattle.vlm_store.specs.Shown.{keys_at, noted_in, rows}
+use Rattle.vlm_store.specs.Shown.{handles_at, noted_in, rows}
 use Rattle.vlm_store.specs.Store.{tables}
 use Rattle.vlm_store.proofs.Kept.{stored_there}
-use Rattle.vlm_links.proofs.Walks.{key_after-in}
-use Rattle.vlm_store.proofs.Layouts.{keyed-after, among-seen, locks_at-among, locks_at-seen}
+use Rattle.vlm_links.proofs.Walks.{handle_after-in}
+use Rattle.vlm_store.proofs.Layouts.{under_handle-after, among-seen, locks_at-among, locks_at-seen}
 use Rattle.vlm_store.specs.Kept.{beside_shown}
 use Rattle.vlm_store.proofs.store.Store.next.Goals as goal
 
@@ -27,7 +27,7 @@ pub of-requires : goal.of-requires
 of-requires c =
     let s = c.self.inside in
     let is = rw (c.list-list.ensures, c.slot-2.ensures) at c.in_ok-at.ensures in
-    (c.self.invariant.placed.linked c.index.result.now.place).within c.in_ok-at.at (key_after-in c.args.lock (keys_at s.queues c.index.result.now.place) c.in_ok-at.at is)
+    (c.self.invariant.placed.linked c.index.result.now.place).within c.in_ok-at.at (handle_after-in c.args.lock (handles_at s.queues c.index.result.now.place) c.in_ok-at.at is)
 
 pub returns : goal.returns
 returns c place row among =
@@ -39,7 +39,7 @@ returns c place row among =
     let is : c.index.result.now.place ≡ place =
     same_Some c.index.result.now.place place (sym (ap noted_in (rw c.slot.ensures at c.index.ensures)) ∙ c.self.invariant.placed.listed place c.args.lock found) in
     rw (← c.self.view_is, locks_at-seen l place (among-seen l place lock there), c.of.ensures)
-    ((rw (c.list-list.ensures, c.slot-2.ensures, is) at c.in_ok-at.ensures) ∙ sym (keyed-after (rows s.queues) c.args.lock (keys_at s.queues place)))
+    ((rw (c.list-list.ensures, c.slot-2.ensures, is) at c.in_ok-at.ensures) ∙ sym (under_handle-after (rows s.queues) c.args.lock (handles_at s.queues place)))
 
 pub returns-in_err-at : goal.returns-in_err-at
 returns-in_err-at c place row among =
@@ -51,4 +51,4 @@ returns-in_err-at c place row among =
     let is : c.index.result.now.place ≡ place =
     same_Some c.index.result.now.place place (sym (ap noted_in (rw c.slot.ensures at c.index.ensures)) ∙ c.self.invariant.placed.listed place c.args.lock found) in
     rw (← c.self.view_is, locks_at-seen l place (among-seen l place lock there))
-    (c.from_residual.ensures ∙ (rw (c.list-list.ensures, c.slot-2.ensures, is) at c.in_err-at.ensures) ∙ sym (keyed-after (rows s.queues) c.args.lock (keys_at s.queues place)))
+    (c.from_residual.ensures ∙ (rw (c.list-list.ensures, c.slot-2.ensures, is) at c.in_err-at.ensures) ∙ sym (under_handle-after (rows s.queues) c.args.lock (handles_at s.queues place)))

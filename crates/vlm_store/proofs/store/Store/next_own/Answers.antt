@@ -1,8 +1,8 @@
 use Rattle.std.proofs.Common.{◌∙◌, ap, sym, subst}
 use Rattle.std.proofs.lemmas.Option.{none-some}
-use Rattle.vlm_links.specs.Lists.{IsIn, key_after}
-use Rattle.vlm_links.proofs.Walks.{key_after-in}
-use Rattle.vlm_store.specs.Holdings.{own_keys, owner_in}
+use Rattle.vlm_links.specs.Lists.{IsIn, handle_after}
+use Rattle.vlm_links.proofs.Walks.{handle_after-in}
+use Rattle.vlm_store.specs.Holdings.{own_handles, owner_in}
 use Rattle.vlm_store.proofs.Living.{lock_there}
 use Rattle.vlm_store.proofs.Siblings.{own_listed, own_of_lock}
 use Rattle.vlm_store.proofs.store.Store.next_own.Goals as goal
@@ -25,7 +25,7 @@ of-requires c =
     let owner = c.index.result.now.owner in
     let listed = own_listed s c.self.invariant owner c.index-2.result.now (rw c.slot-2.ensures at c.index-2.ensures) in
     (c.self.invariant.owned.linked owner).within c.in_ok-at.at
-    (key_after-in c.args.lock (own_keys s.processes s.queues.locks owner) c.in_ok-at.at ((rw c.slot-3.ensures at c.in_ok-at.ensures) ∙ ap (key_after c.args.lock) listed))
+    (handle_after-in c.args.lock (own_handles s.processes s.queues.locks owner) c.in_ok-at.at ((rw c.slot-3.ensures at c.in_ok-at.ensures) ∙ ap (handle_after c.args.lock) listed))
 
 pub returns : goal.returns
 returns c process found =
@@ -33,7 +33,7 @@ returns c process found =
     let owner = c.index.result.now.owner in
     let listed = own_listed s c.self.invariant owner c.index-2.result.now (rw c.slot-2.ensures at c.index-2.ensures) in
     let seen = own_of_lock s c.self.invariant c.args.lock owner process (ap owner_in (rw c.slot.ensures at c.index.ensures)) (rw (← c.self.view_is) at found) in
-    rw (← c.self.view_is, c.of.ensures) ((rw c.slot-3.ensures at c.in_ok-at.ensures) ∙ ap (key_after c.args.lock) (listed ∙ seen))
+    rw (← c.self.view_is, c.of.ensures) ((rw c.slot-3.ensures at c.in_ok-at.ensures) ∙ ap (handle_after c.args.lock) (listed ∙ seen))
 
 pub returns-in_err-at : goal.returns-in_err-at
 returns-in_err-at c process found =
@@ -41,4 +41,4 @@ returns-in_err-at c process found =
     let owner = c.index.result.now.owner in
     let listed = own_listed s c.self.invariant owner c.index-2.result.now (rw c.slot-2.ensures at c.index-2.ensures) in
     let seen = own_of_lock s c.self.invariant c.args.lock owner process (ap owner_in (rw c.slot.ensures at c.index.ensures)) (rw (← c.self.view_is) at found) in
-    rw (← c.self.view_is) (c.from_residual.ensures ∙ (rw c.slot-3.ensures at c.in_err-at.ensures) ∙ ap (key_after c.args.lock) (listed ∙ seen))
+    rw (← c.self.view_is) (c.from_residual.ensures ∙ (rw c.slot-3.ensures at c.in_err-at.ensures) ∙ ap (handle_after c.args.lock) (listed ∙ seen))

@@ -1,8 +1,8 @@
 use Rattle.std.proofs.Common.{◌∙◌, sym}
-use Rattle.vlm_links.specs.Lists.{keys_of}
+use Rattle.vlm_links.specs.Lists.{handles_of}
 use Rattle.vlm_store.specs.Shown.{order_links}
 use Rattle.vlm_store.specs.Store.{tables}
-use Rattle.vlm_links.proofs.Walks.{key_after-in}
+use Rattle.vlm_links.proofs.Walks.{handle_after-in}
 use Rattle.vlm_store.proofs.Layouts.{HasResource-order, resource_after-is}
 use Rattle.vlm_store.specs.Kept.{beside_shown}
 use Rattle.vlm_store.proofs.store.Store.next_resource.Goals as goal
@@ -16,7 +16,7 @@ pub of-requires : goal.of-requires
 of-requires c =
     let s = c.self.inside in
     let is = rw c.slot.ensures at c.in_ok-at.ensures in
-    c.self.invariant.linked.within c.in_ok-at.at (key_after-in c.args.res (keys_of order_links s.queues.resources s.order) c.in_ok-at.at is)
+    c.self.invariant.linked.within c.in_ok-at.at (handle_after-in c.args.res (handles_of order_links s.queues.resources s.order) c.in_ok-at.at is)
 
 pub returns : goal.returns
 returns c =

@@ -1,8 +1,8 @@
 use Rattle.std.proofs.Common.{◌∙◌, ap, sym, subst}
 use Rattle.std.proofs.lemmas.Option.{none-some}
-use Rattle.vlm_links.specs.Lists.{IsIn, key_after}
-use Rattle.vlm_links.proofs.Walks.{key_after-in}
-use Rattle.vlm_store.specs.Holdings.{below_keys, parent_in}
+use Rattle.vlm_links.specs.Lists.{IsIn, handle_after}
+use Rattle.vlm_links.proofs.Walks.{handle_after-in}
+use Rattle.vlm_store.specs.Holdings.{below_handles, parent_in}
 use Rattle.vlm_store.proofs.Living.{lock_there}
 use Rattle.vlm_store.proofs.Siblings.{below_listed, below_of_lock, seen_below, unseen_below}
 use Rattle.vlm_store.proofs.store.Store.next_sublock.Goals as goal
@@ -27,7 +27,7 @@ of-requires c =
     let s = c.self.inside in
     let listed = below_listed s c.self.invariant c.in-Some.parent c.index-2.result.now (rw c.slot-2.ensures at c.index-2.ensures) in
     (c.self.invariant.below.linked c.in-Some.parent).within c.in_ok-at.at
-    (key_after-in c.args.lock (below_keys s.queues.locks c.in-Some.parent) c.in_ok-at.at ((rw c.slot-3.ensures at c.in_ok-at.ensures) ∙ ap (key_after c.args.lock) listed))
+    (handle_after-in c.args.lock (below_handles s.queues.locks c.in-Some.parent) c.in_ok-at.at ((rw c.slot-3.ensures at c.in_ok-at.ensures) ∙ ap (handle_after c.args.lock) listed))
 
 pub returns-clause-after : goal.returns-clause-after
 returns-clause-after c parent found =
@@ -35,7 +35,7 @@ returns-clause-after c parent found =
     let notes = ap parent_in (rw c.slot.ensures at c.index.ensures) ∙ c.in-Some.is in
     let listed = below_listed s c.self.invariant c.in-Some.parent c.index-2.result.now (rw c.slot-2.ensures at c.index-2.ensures) in
     let seen = below_of_lock s c.self.invariant c.args.lock c.in-Some.parent parent notes (rw (← c.self.view_is) at found) in
-    rw (← c.self.view_is, c.of.ensures) ((rw c.slot-3.ensures at c.in_ok-at.ensures) ∙ ap (key_after c.args.lock) (listed ∙ seen))
+    rw (← c.self.view_is, c.of.ensures) ((rw c.slot-3.ensures at c.in_ok-at.ensures) ∙ ap (handle_after c.args.lock) (listed ∙ seen))
 
 pub returns-in_err-at-clause-after : goal.returns-in_err-at-clause-after
 returns-in_err-at-clause-after c parent found =
@@ -43,7 +43,7 @@ returns-in_err-at-clause-after c parent found =
     let notes = ap parent_in (rw c.slot.ensures at c.index.ensures) ∙ c.in-Some.is in
     let listed = below_listed s c.self.invariant c.in-Some.parent c.index-2.result.now (rw c.slot-2.ensures at c.index-2.ensures) in
     let seen = below_of_lock s c.self.invariant c.args.lock c.in-Some.parent parent notes (rw (← c.self.view_is) at found) in
-    rw (← c.self.view_is) (c.from_residual.ensures ∙ (rw c.slot-3.ensures at c.in_err-at.ensures) ∙ ap (key_after c.args.lock) (listed ∙ seen))
+    rw (← c.self.view_is) (c.from_residual.ensures ∙ (rw c.slot-3.ensures at c.in_err-at.ensures) ∙ ap (handle_after c.args.lock) (listed ∙ seen))
 
 pub returns-clause-root : goal.returns-clause-root
 returns-clause-root c none =

@@ -5,20 +5,20 @@ use Rattle.std.specs.Option.{option_map}
 use Rattle.indexmap.specs.IndexMap.{get, spare}
 use Rattle.vlm_links.specs.Lists.{without}
 use Rattle.vlm_words.specs.Keys.{is_same_key}
-use Rattle.vlm_store.specs.Holdings.{below_keys, pid_at}
+use Rattle.vlm_store.specs.Holdings.{below_handles, pid_at}
 use Rattle.vlm_store.specs.Kept.{beside_shown}
 use Rattle.vlm_store.specs.Records.{leaving, process_without_lock, with_lists, IsGivenBack, without_stored_lock}
-use Rattle.vlm_store.specs.Shown.{but_kin, but_queues, keys_at, lkid_of, rows}
+use Rattle.vlm_store.specs.Shown.{but_kin, but_queues, handles_at, lkid_of, rows}
 use Rattle.vlm_store.specs.Store.{key_at, lkid_at, records_of, tables}
 use Rattle.vlm_store.proofs.Indexing.{Indexes-removed, Indexes-same}
 use Rattle.vlm_store.proofs.Kept.{faces_same}
-use Rattle.vlm_store.proofs.Kinship.{below_kin, below_owned, kin_keys, kin_placed, kin_rows, kin_tallied, own_kin, own_pids, own_process_linked, own_process_whole, records_processes}
-use Rattle.vlm_store.proofs.Layouts.{leaving-keyed, lists_changed_beside}
+use Rattle.vlm_store.proofs.Kinship.{below_kin, below_owned, kin_handles, kin_placed, kin_rows, kin_tallied, own_kin, own_pids, own_process_linked, own_process_whole, records_processes}
+use Rattle.vlm_store.proofs.Layouts.{leaving-under_handle, lists_changed_beside}
 use Rattle.vlm_store.proofs.Leaving.{left_below, left_kin, left_lkids, left_named, left_owned, left_processes}
 use Rattle.vlm_store.proofs.Living.{childless, lock_there}
 use Rattle.vlm_store.proofs.Places.{same_then}
 use Rattle.vlm_store.proofs.store.Store.remove_lock.Goals as goal
-use Rattle.vlm_store.proofs.Order.{keys_same, order_keys, order_linked, order_whole}
+use Rattle.vlm_store.proofs.Order.{keys_same, order_handles, order_linked, order_whole}
 
 pub index-requires : goal.index-requires
 index-requires c =
@@ -59,7 +59,7 @@ invariant_of-self c =
     let removed = rw c.slot-4.ensures at c.remove.ensures in
     let q' = c.remove.new.self in
     let stored = rw (← c.self.view_is) at c.requires.stored in
-    let none : below_keys s.queues.locks c.args.lock ≡ [] = childless s kept c.args.lock stored.0 stored.1 (rw (← c.self.view_is) at c.requires.childless) in
+    let none : below_handles s.queues.locks c.args.lock ≡ [] = childless s kept c.args.lock stored.0 stored.1 (rw (← c.self.view_is) at c.requires.childless) in
     record {
       placed = removed.placed;
       tallied = removed.tallied;
@@ -68,11 +68,11 @@ invariant_of-self c =
       locks =
           Indexes-removed nat_eq unsigned_Decides s.lock_index c.swap_remove.new.self c.index.result.now.row.lkid (lkid_at s.queues) (lkid_at q') c.args.lock c.swap_remove.ensures.updates
           (ap (option_map lkid_of) (rw c.slot.ensures at c.index.ensures)) (ap (option_map lkid_of) removed.gone)
-          (left_lkids s kept c.args.lock none c.leave_parent.new.locks c.leave_process.new.locks q'.locks c.leave_process.new.processes parent.below parent.keys parent.rest process.owned process.keys process.relinks process.rest removed.gone removed.kin) kept.locks;
+          (left_lkids s kept c.args.lock none c.leave_parent.new.locks c.leave_process.new.locks q'.locks c.leave_process.new.processes parent.below parent.handles parent.rest process.owned process.handles process.relinks process.rest removed.gone removed.kin) kept.locks;
       resources = Indexes-same (get is_same_key s.resource_index) (get is_same_key s.resource_index) (key_at s.queues) (key_at q') (λ k. refl) (keys_same but_queues (λ r. refl) s.queues.resources q'.resources removed.rest) kept.resources;
-      owned = left_owned s kept c.args.lock none c.leave_parent.new.locks c.leave_process.new.locks q'.locks c.leave_process.new.processes parent.below parent.keys parent.rest process.owned process.keys process.relinks process.rest removed.gone removed.kin;
-      below = left_below s kept c.args.lock none c.leave_parent.new.locks c.leave_process.new.locks q'.locks c.leave_process.new.processes parent.below parent.keys parent.rest process.owned process.keys process.relinks process.rest removed.gone removed.kin;
-      named = left_named s kept c.args.lock none c.leave_parent.new.locks c.leave_process.new.locks q'.locks c.leave_process.new.processes parent.below parent.keys parent.rest process.owned process.keys process.relinks process.rest removed.gone removed.kin;
+      owned = left_owned s kept c.args.lock none c.leave_parent.new.locks c.leave_process.new.locks q'.locks c.leave_process.new.processes parent.below parent.handles parent.rest process.owned process.handles process.relinks process.rest removed.gone removed.kin;
+      below = left_below s kept c.args.lock none c.leave_parent.new.locks c.leave_process.new.locks q'.locks c.leave_process.new.processes parent.below parent.handles parent.rest process.owned process.handles process.relinks process.rest removed.gone removed.kin;
+      named = left_named s kept c.args.lock none c.leave_parent.new.locks c.leave_process.new.locks q'.locks c.leave_process.new.processes parent.below parent.handles parent.rest process.owned process.handles process.relinks process.rest removed.gone removed.kin;
       processes_linked = own_process_linked s.processes c.leave_process.new.processes process.rest s.process_order kept.processes_linked;
       processes_ordered = own_process_whole s.processes c.leave_process.new.processes process.rest s.process_order kept.processes_linked kept.processes_ordered;
       processes = Indexes-same (get nat_eq s.process_index) (get nat_eq s.process_index) (pid_at s.processes) (pid_at c.leave_process.new.processes) (λ k. refl) (own_pids s.processes c.leave_process.new.processes process.rest) kept.processes;
@@ -87,19 +87,19 @@ returns-clause-removed c =
     let removed = rw c.slot-4.ensures at c.remove.ensures in
     let q' = c.remove.new.self in
     let stored = rw (← c.self.view_is) at c.requires.stored in
-    let none : below_keys s.queues.locks c.args.lock ≡ [] = childless s kept c.args.lock stored.0 stored.1 (rw (← c.self.view_is) at c.requires.childless) in
+    let none : below_handles s.queues.locks c.args.lock ≡ [] = childless s kept c.args.lock stored.0 stored.1 (rw (← c.self.view_is) at c.requires.childless) in
     let q2 = record s.queues { locks = c.leave_process.new.locks } in
-    let kin = left_kin s kept c.args.lock none c.leave_parent.new.locks c.leave_process.new.locks q'.locks c.leave_process.new.processes parent.below parent.keys parent.rest process.owned process.keys process.relinks process.rest removed.gone removed.kin in
+    let kin = left_kin s kept c.args.lock none c.leave_parent.new.locks c.leave_process.new.locks q'.locks c.leave_process.new.processes parent.below parent.handles parent.rest process.owned process.handles process.relinks process.rest removed.gone removed.kin in
     let old = tables s.queues s.order (beside_shown s) in
     let s' = record s { queues = q'; processes = c.leave_process.new.processes; lock_index = c.swap_remove.new.self } in
     let new = tables q' s.order (beside_shown s') in
     rw (← c.self.view_is)
     (lists_changed_beside old new (leaving c.args.lock) (faces_same s.queues.resources q'.resources removed.rest)
-    (leaving-keyed (rows s.queues) (rows q') (keys_at s.queues) (keys_at q') c.args.lock (λ k differs. removed.rows k differs ∙ kin_rows s.queues q2.locks kin k)
-    (λ p. removed.keys p ∙ ap (without c.args.lock) (kin_keys s.queues q2.locks kin kept.placed p)))
-    (order_keys but_queues (λ r. refl) s.queues.resources q'.resources removed.rest s.order kept.linked)
+    (leaving-under_handle (rows s.queues) (rows q') (handles_at s.queues) (handles_at q') c.args.lock (λ k differs. removed.rows k differs ∙ kin_rows s.queues q2.locks kin k)
+    (λ p. removed.handles p ∙ ap (without c.args.lock) (kin_handles s.queues q2.locks kin kept.placed p)))
+    (order_handles but_queues (λ r. refl) s.queues.resources q'.resources removed.rest s.order kept.linked)
     ∙ ap (λ ps. record (with_lists (leaving c.args.lock) (records_of old)) { processes = ps; room = (records_of new).room })
-    (left_processes s kept c.args.lock none c.leave_parent.new.locks c.leave_process.new.locks q'.locks c.leave_process.new.processes parent.below parent.keys parent.rest process.owned process.keys process.relinks process.rest removed.gone removed.kin ∙ ap (map (process_without_lock c.args.lock)) (sym (records_processes old)))
+    (left_processes s kept c.args.lock none c.leave_parent.new.locks c.leave_process.new.locks q'.locks c.leave_process.new.processes parent.below parent.handles parent.rest process.owned process.handles process.relinks process.rest removed.gone removed.kin ∙ ap (map (process_without_lock c.args.lock)) (sym (records_processes old)))
     ∙ ap (λ r. record (without_stored_lock c.args.lock (records_of old)) { room = r })
     (room_shown (λ a b. b ≡ record a { locks = b.locks }) old new
     (rooms_are _ _ _ _ _ _ refl (room_of_same s.queues.resources q'.resources (spare s.resource_index) removed.resources_room) (room_of_same s.processes c.leave_process.new.processes (spare s.process_index) process.processes_room))))

@@ -8,10 +8,10 @@ use Rattle.std.specs.Option.{option_map}
 use Rattle.slab.specs.Slab.{get}
 use Rattle.vlm_links.specs.Lists.{IsIn}
 use Rattle.vlm_store.specs.declared.locks.Lock.{Lock}
-use Rattle.vlm_store.specs.Holdings.{but_order, holding, own_in, own_keys, own_of, owner_in, pid_at, pid_of, process_links}
+use Rattle.vlm_store.specs.Holdings.{but_order, holding, own_in, own_handles, own_of, owner_in, pid_at, pid_of, process_links}
 use Rattle.vlm_store.specs.Kept.{beside_shown}
 use Rattle.vlm_store.specs.Records.{without_process, IsGivenBack}
-use Rattle.vlm_store.proofs.Declaring.{names_stay, no_own, owns_stay, pid_by_order, plain_by_order, process_own_keys, process_owned}
+use Rattle.vlm_store.proofs.Declaring.{names_stay, no_own, owns_stay, pid_by_order, plain_by_order, process_own_handles, process_owned}
 use Rattle.vlm_store.proofs.Indexing.{Indexes-removed}
 use Rattle.vlm_store.proofs.Kinship.{processes_changed, there_by_part}
 use Rattle.vlm_store.proofs.Living.{held, own_is, process_listed, process_there}
@@ -22,17 +22,17 @@ use Rattle.vlm_store.proofs.store.Store.remove_process.Goals as goal
 pub index-requires : goal.index-requires
 index-requires c = rw c.slot.ensures (process_there c.self.inside c.self.invariant c.args.at (rw (← c.self.view_is) at c.requires.there))
 
-pub leave-requires-clause-listed : goal.leave-requires-clause-listed
-leave-requires-clause-listed c = rw c.slot-2.ensures (process_listed c.self.inside c.self.invariant c.args.at (rw (← c.self.view_is) at c.requires.there))
+pub take_out-requires-clause-listed : goal.take_out-requires-clause-listed
+take_out-requires-clause-listed c = rw c.slot-2.ensures (process_listed c.self.inside c.self.invariant c.args.at (rw (← c.self.view_is) at c.requires.there))
 
 pub invariant_of-self : goal.invariant_of-self
 invariant_of-self c =
     let s = c.self.inside in
     let kept = c.self.invariant in
-    let left = rw c.slot-2.ensures at c.leave.ensures in
-    let new = c.leave.new.processes in
-    let none : own_keys s.processes s.queues.locks c.args.at ≡ [] =
-    map-nil (own_of (held s kept)) (own_keys s.processes s.queues.locks c.args.at)
+    let left = rw c.slot-2.ensures at c.take_out.ensures in
+    let new = c.take_out.new.processes in
+    let none : own_handles s.processes s.queues.locks c.args.at ≡ [] =
+    map-nil (own_of (held s kept)) (own_handles s.processes s.queues.locks c.args.at)
     (sym (own_is s kept c.args.at (rw (← c.self.view_is) at c.requires.there)) ∙ (rw (← c.self.view_is) at c.requires.idle)) in
     let before = no_own s.processes s.queues.locks c.args.at kept.owned none in
     let after = ap own_in left.gone in
@@ -49,7 +49,7 @@ invariant_of-self c =
       below = kept.below;
       named = names_stay s.processes new c.args.at left.others before after s.queues.locks apart kept.named;
       processes_linked = left.linked;
-      processes_ordered = whole_left process_links s.processes new s.process_order c.leave.new.order c.args.at kept.processes_ordered left.order left.gone
+      processes_ordered = whole_left process_links s.processes new s.process_order c.take_out.new.order c.args.at kept.processes_ordered left.order left.gone
           (λ p differs. there_by_part but_order (get s.processes p) (get new p) (sym (left.others p differs)));
       processes = Indexes-removed nat_eq unsigned_Decides s.process_index c.swap_remove.new.self c.index.result.now.pid (pid_at s.processes) (pid_at new) c.args.at c.swap_remove.ensures.updates
           (ap (option_map pid_of) (rw c.slot.ensures at c.index.ensures)) (ap (option_map pid_of) left.gone) (λ p differs. pid_by_order (get new p) (get s.processes p) (left.others p differs)) kept.processes;
@@ -60,25 +60,25 @@ unfolding records_of
 returns-clause-removed c =
     let s = c.self.inside in
     let kept = c.self.invariant in
-    let left = rw c.slot-2.ensures at c.leave.ensures in
-    let new = c.leave.new.processes in
-    let none : own_keys s.processes s.queues.locks c.args.at ≡ [] =
-    map-nil (own_of (held s kept)) (own_keys s.processes s.queues.locks c.args.at)
+    let left = rw c.slot-2.ensures at c.take_out.ensures in
+    let new = c.take_out.new.processes in
+    let none : own_handles s.processes s.queues.locks c.args.at ≡ [] =
+    map-nil (own_of (held s kept)) (own_handles s.processes s.queues.locks c.args.at)
     (sym (own_is s kept c.args.at (rw (← c.self.view_is) at c.requires.there)) ∙ (rw (← c.self.view_is) at c.requires.idle)) in
     let before = no_own s.processes s.queues.locks c.args.at kept.owned none in
     let after = ap own_in left.gone in
     let owns = owns_stay s.processes new c.args.at left.others before after in
     rw (← c.self.view_is)
-    (processes_changed s.queues s.order (beside_shown s) (beside_shown (record s { processes = new; process_order = c.leave.new.order; process_index = c.swap_remove.new.self })) (without_process c.args.at)
-    (process_removed (holding s.processes s.queues.locks s.process_order) (holding new s.queues.locks c.leave.new.order) (λ k. refl) c.args.at
-    (λ p differs. plain_by_order (get new p) (get s.processes p) (left.others p differs)) (λ p _. process_own_keys s.processes new s.queues.locks owns p) left.order))
+    (processes_changed s.queues s.order (beside_shown s) (beside_shown (record s { processes = new; process_order = c.take_out.new.order; process_index = c.swap_remove.new.self })) (without_process c.args.at)
+    (process_removed (holding s.processes s.queues.locks s.process_order) (holding new s.queues.locks c.take_out.new.order) (λ k. refl) c.args.at
+    (λ p differs. plain_by_order (get new p) (get s.processes p) (left.others p differs)) (λ p _. process_own_handles s.processes new s.queues.locks owns p) left.order))
 
 pub returns-clause-given_back : goal.returns-clause-given_back
 returns-clause-given_back c =
     let s = c.self.inside in
-    let left = rw c.slot-2.ensures at c.leave.ensures in
-    let s' = record s { processes = c.leave.new.processes; process_order = c.leave.new.order; process_index = c.swap_remove.new.self } in
+    let left = rw c.slot-2.ensures at c.take_out.ensures in
+    let s' = record s { processes = c.take_out.new.processes; process_order = c.take_out.new.order; process_index = c.swap_remove.new.self } in
     rw (← c.self.view_is)
     (room_shown (λ a b. IsGivenBack a.processes b.processes) (tables s.queues s.order (beside_shown s)) (tables s.queues s.order (beside_shown s'))
-    (is_given_back s.processes c.leave.new.processes c.args.at (spare s.process_index) (spare c.swap_remove.new.self) left.given_back
+    (is_given_back s.processes c.take_out.new.processes c.args.at (spare s.process_index) (spare c.swap_remove.new.self) left.given_back
     (c.self.invariant.processes_linked.within c.args.at (process_listed s c.self.invariant c.args.at (rw (← c.self.view_is) at c.requires.there))) c.swap_remove.ensures.room.0))

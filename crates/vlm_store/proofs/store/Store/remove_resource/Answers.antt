@@ -4,11 +4,11 @@ use Rattle.std.proofs.Common.{None, ◌∙◌, ap, sym, refl, nat_eq, ◌≡◌}
 use Rattle.std.specs.Option.{option_map}
 use Rattle.slab.specs.Slab.{get as slot_of}
 use Rattle.indexmap.specs.IndexMap.{get, spare}
-use Rattle.vlm_store.specs.declared.keys.Place.TheVariants.{Queued}
+use Rattle.vlm_store.specs.declared.handles.Place.TheVariants.{Queued}
 use Rattle.vlm_store.specs.declared.resources.Resource.{Resource}
 use Rattle.vlm_words.specs.Keys.{is_same_key, is_same_key-Decides}
-use Rattle.vlm_store.specs.Shown.{Face, keys_at, lkid_of, order_links, row_in, rows, room_in}
-use Rattle.vlm_store.specs.Store.{key_at, keyed, lkid_at, tables}
+use Rattle.vlm_store.specs.Shown.{Face, handles_at, lkid_of, order_links, row_in, rows, room_in}
+use Rattle.vlm_store.specs.Store.{key_at, under_handle, lkid_at, tables}
 use Rattle.vlm_store.proofs.Indexing.{Indexes-removed, Indexes-same}
 use Rattle.vlm_store.proofs.Layouts.{HasResource-order, locks_at-seen, resource_removed}
 use Rattle.vlm_store.proofs.Making.{face_by_face, key_by_face, map-nil, there_by_face, whole_left}
@@ -29,7 +29,7 @@ remove_resource-requires-clause-idle c queue =
     let l = tables s.queues s.order (beside_shown s) in
     let seen = HasResource-order l c.args.res (rw (← c.self.view_is) at c.requires.there) in
     rw c.slot-2.ensures
-    (map-nil (keyed (rows s.queues)) (keys_at s.queues (Queued c.args.res queue)) (sym (locks_at-seen l (Queued c.args.res queue) seen) ∙ (rw (← c.self.view_is) at (c.requires.idle queue))))
+    (map-nil (under_handle (rows s.queues)) (handles_at s.queues (Queued c.args.res queue)) (sym (locks_at-seen l (Queued c.args.res queue) seen) ∙ (rw (← c.self.view_is) at (c.requires.idle queue))))
 
 pub invariant_of-self : goal.invariant_of-self
 invariant_of-self c =
@@ -62,7 +62,7 @@ returns-clause-removed c =
     let gone = rw c.slot-2.ensures at c.remove_resource.ensures in
     let s' = record s { queues = q'; order = c.remove_resource.new.order; resource_index = c.swap_remove.new.self } in
     rw (← c.self.view_is)
-    (resource_removed (tables s.queues s.order (beside_shown s)) (tables q' s'.order (beside_shown s')) c.args.res (λ k. ap (λ l. row_in (slot_of l k)) gone.locks) gone.keys
+    (resource_removed (tables s.queues s.order (beside_shown s)) (tables q' s'.order (beside_shown s')) c.args.res (λ k. ap (λ l. row_in (slot_of l k)) gone.locks) gone.handles
     (λ r differs. face_by_face (slot_of q'.resources r) (slot_of s.queues.resources r) (gone.faces r differs)) gone.order
     (queued_processes s.processes s.queues.locks q'.locks (same_eq but_queued s.queues.locks q'.locks gone.locks) s.process_order c.self.invariant.owned c.self.invariant.below)
     ∙ ap (λ r. record (records_shown s) { resources = without_resource c.args.res (records_shown s).resources; room = r })

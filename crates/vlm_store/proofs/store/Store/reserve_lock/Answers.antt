@@ -24,4 +24,4 @@ pub returns-clause-room : goal.returns-clause-room
 returns-clause-room c =
     let s = c.self.inside in
     let s' = record s { queues = record s.queues { locks = c.reserve_one.new.records }; lock_index = c.reserve_one.new.index } in
-    lock_reserved c.reserve_one.result (tables s'.queues s'.order (beside_shown s')) c.reserve_one.new.records (spare c.reserve_one.new.index) refl c.reserve_one.ensures.place c.reserve_one.ensures.key c.reserve_one.ensures.find
+    lock_reserved c.reserve_one.result (tables s'.queues s'.order (beside_shown s')) c.reserve_one.new.records (spare c.reserve_one.new.index) refl c.reserve_one.ensures.slot c.reserve_one.ensures.handle c.reserve_one.ensures.find

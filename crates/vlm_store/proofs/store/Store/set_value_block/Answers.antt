@@ -4,14 +4,14 @@ use Rattle.std.specs.Option.{option_map}
 use Rattle.slab.specs.Slab.{get as slot_of}
 use Rattle.indexmap.specs.IndexMap.{get}
 use Rattle.vlm_words.specs.declared.resources.Queue.TheVariants.{Granted, Conversion, Waiting}
-use Rattle.vlm_store.specs.declared.keys.Place.TheVariants.{Queued}
+use Rattle.vlm_store.specs.declared.handles.Place.TheVariants.{Queued}
 use Rattle.vlm_words.specs.Keys.{is_same_key}
 use Rattle.vlm_store.specs.Records.{StoredResource}
 use Rattle.vlm_store.specs.Shown.{but_value_block, face_in, lkid_of, room_in, row_in}
 use Rattle.vlm_store.specs.Store.{key_at, lkid_at, tables}
 use Rattle.vlm_store.proofs.Indexing.{Indexes-same}
 use Rattle.vlm_store.proofs.Layouts.{HasResource-order, resource_written}
-use Rattle.vlm_store.proofs.Order.{keys_same, order_keys, order_linked, order_whole}
+use Rattle.vlm_store.proofs.Order.{keys_same, order_handles, order_linked, order_whole}
 use Rattle.vlm_store.specs.Kept.{beside_shown}
 use Rattle.vlm_store.specs.Shown.{but_queued}
 use Rattle.vlm_store.proofs.Kinship.{queued_below, queued_named, queued_owned, queued_processes}
@@ -50,8 +50,8 @@ returns c =
     let q' = c.set_value_block.new.self in
     let set = rw c.slot.ensures at c.set_value_block.ensures in
     rw (← c.self.view_is)
-    (resource_written (tables s.queues s.order (beside_shown s)) (tables q' s.order (beside_shown (record s { queues = q' }))) c.args.res (λ (r : StoredResource). record r { value_block = c.args.value_block }) (λ k. ap (λ l. row_in (slot_of l k)) set.locks) set.keys
-    (λ r differs. ap face_in (set.faces r differs)) (order_keys but_value_block (λ r. refl) s.queues.resources q'.resources set.rest s.order c.self.invariant.linked)
+    (resource_written (tables s.queues s.order (beside_shown s)) (tables q' s.order (beside_shown (record s { queues = q' }))) c.args.res (λ (r : StoredResource). record r { value_block = c.args.value_block }) (λ k. ap (λ l. row_in (slot_of l k)) set.locks) set.handles
+    (λ r differs. ap face_in (set.faces r differs)) (order_handles but_value_block (λ r. refl) s.queues.resources q'.resources set.rest s.order c.self.invariant.linked)
     (λ lists. rw (set.face, lists (Queued c.args.res Granted), lists (Queued c.args.res Conversion), lists (Queued c.args.res Waiting)) refl)
     (queued_processes s.processes s.queues.locks q'.locks (same_eq but_queued s.queues.locks q'.locks set.locks) s.process_order c.self.invariant.owned c.self.invariant.below)
     (queues_room s q' (ap room_in set.locks) set.resources_room))

@@ -1,21 +1,21 @@
 use Rattle.vlm_store.proofs.Rooms.{room_relinked, room_given_back}
 use Rattle.std.proofs.Common.{◌∙◌, refl, subst, ap, ◌+◌, ℕ}
 use Rattle.vlm_links.specs.Lists.{IsIn}
-use Rattle.vlm_links.proofs.Keeping.{updated-keys, updated-linked}
-use Rattle.vlm_links.proofs.KeyLists.{IsIn-without}
+use Rattle.vlm_links.proofs.Keeping.{updated-handles, updated-linked}
+use Rattle.vlm_links.proofs.HandleLists.{IsIn-without}
 use Rattle.vlm_store.specs.Holdings.{process_links, with_process_links}
-use Rattle.vlm_store.proofs.processes.leave.Goals as goal
+use Rattle.vlm_store.proofs.processes.take_out.Goals as goal
 
 pub returns-clause-linked : goal.returns-clause-linked
 returns-clause-linked c =
     updated-linked process_links c.unlink.new.nodes c.remove.new.self c.args.at _ c.remove.ensures.updates c.unlink.new.self c.unlink.ensures.linked
-    (λ found. (IsIn-without c.args.at c.args.at _ (subst (IsIn c.args.at) c.unlink.ensures.keys found)).1 refl)
+    (λ found. (IsIn-without c.args.at c.args.at _ (subst (IsIn c.args.at) c.unlink.ensures.handles found)).1 refl)
 
 pub returns-clause-order : goal.returns-clause-order
 returns-clause-order c =
-    updated-keys process_links c.unlink.new.nodes c.remove.new.self c.args.at _ c.remove.ensures.updates c.unlink.new.self c.unlink.ensures.linked
-    (λ found. (IsIn-without c.args.at c.args.at _ (subst (IsIn c.args.at) c.unlink.ensures.keys found)).1 refl)
-    ∙ c.unlink.ensures.keys
+    updated-handles process_links c.unlink.new.nodes c.remove.new.self c.args.at _ c.remove.ensures.updates c.unlink.new.self c.unlink.ensures.linked
+    (λ found. (IsIn-without c.args.at c.args.at _ (subst (IsIn c.args.at) c.unlink.ensures.handles found)).1 refl)
+    ∙ c.unlink.ensures.handles
 
 pub returns-clause-given_back : goal.returns-clause-given_back
 returns-clause-given_back c =

@@ -2,7 +2,7 @@ use Rattle.std.proofs.Common.{rules, ap, ap₂, ◌≡◌, ◌∙◌, codes}
 use Rattle.std.proofs.lemmas.Result.{IfOk-weaker}
 use Rattle.clap.specs.Words.{App, app_of, new_app, with_subcommand}
 use Rattle.vlm.specs.Words.{with_needed_subcommand}
-use Rattle.vlm.proofs.run.command_line.Goals as goal
+use Rattle.vlm.proofs.run.program_commands.Goals as goal
 
 -- each command as it stands before the one is put below the other
 pub returns : goal.returns

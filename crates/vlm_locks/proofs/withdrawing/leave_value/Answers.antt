@@ -7,7 +7,7 @@ use Rattle.vlm_locks.specs.Standing.{IsStanding}
 use Rattle.vlm_locks.specs.Withdrawals.{plain_withdrawal}
 use Rattle.vlm_locks.specs.Withdrawing.{IsChange}
 use Rattle.vlm_locks.proofs.Withdrawn.{left_block, left_nothing, stands_left}
-use Rattle.vlm_locks.proofs.withdrawing.leave.Goals as goal
+use Rattle.vlm_locks.proofs.withdrawing.leave_value.Goals as goal
 
 -- what may write leaves its value block
 pub returns-then-may_write-clause-left : goal.returns-then-may_write-clause-left

@@ -3,10 +3,10 @@
 ghost use Rattle.std.specs.Prelude.{◌≡◌, ◌≤◌};
 
 use std::marker::{Model, PhantomData};
-use vlm_links::LAST_KEY;
+use vlm_links::LAST_HANDLE;
 use vlm_words::resources::Queue;
 
-/// The handle of a record of one kind: its place in the slab of these. It is good until its record is
+/// The handle of a record of one kind: its slot in the slab of these. It is good until its record is
 /// removed; then it may be given to another.
 #[derive_where(Clone, Copy, Debug, PartialEq, Eq)]
 pub struct At<Kind> {
@@ -46,7 +46,7 @@ impl<Kind> Model for At<Kind> {
 
 impl<Kind> At<Kind> {
     pub(crate) fn of(slot: usize) -> Self
-        requires { slot ≤ LAST_KEY }
+        requires { slot ≤ LAST_HANDLE }
         ensures { result ≡ slot }
     {
         At {
