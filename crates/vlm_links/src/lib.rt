@@ -1,6 +1,6 @@
 //! Doubly linked lists that run through the records of a slab.
 //!
-//! A list is a chain of slab handles. Its links stand in the records themselves, so that a record joins at
+//! A list is a chain of handles, the keys of a slab. Its links stand in the records themselves, so that a record joins at
 //! the end and leaves from anywhere in constant time, and neither wants memory. A record may stand in
 //! several lists at once, one of each kind: `Linked<Kind>` says which of its pairs of links is meant.
 //!

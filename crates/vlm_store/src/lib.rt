@@ -1,10 +1,10 @@
-//! The records of the lock machine, each found by its identification or its handle.
+//! The records of the lock machine, each found by its identification or its key.
 //!
 //! # Implementation
 //!
-//! Three slabs have the records of locks, resources and processes. A handle is a record's place in its slab,
+//! Three slabs have the records of locks, resources and processes. A handle is a record's slot in its slab,
 //! in four bytes (`At`): it is good until the record is removed, and may then be given to another. Three
-//! indexes lead to the handles, by identification or by the handle of a resource.
+//! indexes lead to the handles, by identification or by the key of a resource.
 //!
 //! A lock notes where it stands: its queue (`place`), its process (`owner`) and its parent, if it has one. In
 //! the list of each it is linked by a pair of links of its own; what is in no queue is in the list of the

@@ -41,6 +41,7 @@ pub struct Process {
     pub blocks: Vec<Block>,
     /// The ASTs that are queued to it and not yet taken.
     pub asts: AstQueue,
+    // its locks in order of making, those that wait too
     pub(crate) own: LinkedList<OfProcess>,
     // the processes declared before and after it
     pub(crate) in_order: Links,
