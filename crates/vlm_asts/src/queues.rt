@@ -138,7 +138,8 @@ impl AstQueue {
         ensures taken { result ≡ slice_get self.old.pending 0 }
         ensures pending { self.new.pending ≡ drop 1 self.old.pending }
         ensures due { self.new.due ≡ self.old.due }
-        ensures free { length self.new.pending + self.new.free ≡ length self.old.pending + self.old.free }
+        ensures free { length self.new.pending + self.new.free
+            ≡ length self.old.pending + self.old.free }
     {
         match &mut self.ring {
             Some(ring) => ring.pop_front(),

@@ -20,7 +20,8 @@ pub fn run_steps(core: &mut Core, steps: &[Step], answers: &mut Vec<Answer>) -> 
         (MakesInOrder core.old steps.now answers.old.items answers.new.items core.new) }
     ensures within { IfErr result (λ stopped. stopped.done < length steps.now) }
     ensures stopped { IfErr result (λ stopped.
-        MakesInOrder core.old (take stopped.done steps.now) answers.old.items answers.new.items core.new) }
+        MakesInOrder core.old (take stopped.done steps.now)
+        answers.old.items answers.new.items core.new) }
 {
     for (done, step) in steps.iter().enumerate() {
         if answers.reserve(1).is_err() {

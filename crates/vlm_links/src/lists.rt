@@ -168,7 +168,8 @@ fn link_forward<Kind, T: Linked<Kind>>(
         from to }
     ensures prev { (at : _) → prev_of T.links nodes.new list.new at
         ≡ prev_of T.links nodes.old list.old at }
-    ensures others { (handle : ℕ) → Some handle ≢ from → get nodes.new handle ≡ get nodes.old handle }
+    ensures others { (handle : ℕ) → Some handle ≢ from
+        → get nodes.new handle ≡ get nodes.old handle }
     ensures relinks { Relinks T.with_links nodes.old nodes.new }
     ensures last { list.new.last ≡ list.old.last }
     ensures len { list.new.len ≡ list.old.len }
@@ -194,7 +195,8 @@ fn link_back<Kind, T: Linked<Kind>>(
         from to }
     ensures next { (at : _) → next_of T.links nodes.new list.new at
         ≡ next_of T.links nodes.old list.old at }
-    ensures others { (handle : ℕ) → Some handle ≢ from → get nodes.new handle ≡ get nodes.old handle }
+    ensures others { (handle : ℕ) → Some handle ≢ from
+        → get nodes.new handle ≡ get nodes.old handle }
     ensures relinks { Relinks T.with_links nodes.old nodes.new }
     ensures len { list.new.len ≡ list.old.len }
 {

@@ -72,7 +72,8 @@ pub fn pop_front(store: &mut Store, res: ResAt, queue: Queue) -> Option<LockAt>
 pub fn can_hold(store: &Store, res: ResAt, mode: Mode, asking: Option<LockAt>) -> bool
     requires there { HasResource res store.now }
     requires asking { ForSome asking (λ lock. IsStored lock store.now) }
-    ensures { IfSome (resource_at res store.now.resources) (λ r. result ≡ fits_beside mode asking r) }
+    ensures { IfSome (resource_at res store.now.resources)
+        (λ r. result ≡ fits_beside mode asking r) }
 {
     store.can_hold(res, mode, asking)
 }

@@ -120,7 +120,8 @@ impl Queues {
         requires tallied { IsTallied self.now None }
         requires there { ContainsKey self.now.resources res }
         requires asking { ForSome asking (λ at. ContainsKey self.now.locks at) }
-        ensures { (mode : Mode) → held_of result mode ≡ shares self.now (held_weight mode) asking res }
+        ensures { (mode : Mode) → held_of result mode
+            ≡ shares self.now (held_weight mode) asking res }
     {
         let tally = self.resources[res.slot()].tally;
         match asking {
@@ -140,7 +141,8 @@ impl Queues {
         requires there { ContainsKey self.now.resources res }
         requires asking { ForSome asking (λ at. ContainsKey self.now.locks at) }
         ensures { result
-            ≡ handles_fit mode (rows self.now) (handles_but self.now asking (Place.Queued res Queue.Granted))
+            ≡ handles_fit mode (rows self.now)
+            (handles_but self.now asking (Place.Queued res Queue.Granted))
             (handles_but self.now asking (Place.Queued res Queue.Conversion)) }
     {
         self.tally_without(res, asking).fits(mode)

@@ -27,7 +27,8 @@ pub fn law_removal_undoes_an_addition()
         → ¬ IsStored at s → without_stored_lock at (with_new_lock at row owner parent s) ≡ s }
     ensures resource { (s : Records) (res serial : ℕ) (site : Site) → ¬ HasResource res s
         → record s {
-          resources = without_resource res (s.resources ++ new_stored_resource res serial site ∷ []);
+          resources = without_resource res
+              (s.resources ++ new_stored_resource res serial site ∷ []);
         } ≡ s }
     ensures process { (s : Records) (at pid : ℕ) (d : Declaration) → ¬ HasProcess at s
         → record s {

@@ -165,7 +165,8 @@ impl Queues {
         ensures fresh { get self.old.locks result ≡ None }
         ensures placed { IsPlaced self.new None }
         ensures tallied { IsTallied self.new None }
-        ensures here { handles_at self.new Place.Loose ≡ handles_at self.old Place.Loose ++ result ∷ [] }
+        ensures here { handles_at self.new Place.Loose
+            ≡ handles_at self.old Place.Loose ++ result ∷ [] }
         ensures elsewhere { (other : Place) → other ≢ Place.Loose
             → handles_at self.new other ≡ handles_at self.old other }
         ensures row { rows self.new result ≡ row.now }
