@@ -141,7 +141,7 @@ all_withdrawn_count number w processes resources fit =
     let changes : List Resource = map (resource_after_withdrawals (w ∷ [])) resources in
     omega (
       arith,
-      swept_weighs (wants number) (ends number) (wants_kept number) processes changes,
+      swept_weighs (wants number) (ends number) (wants_kept number) (λ row armed. refl) processes changes,
       ap (sum_by (ends number)) (one_ends w resources),
       sum_by-append (ends number) (withdrawn_endings (w ∷ []) resources) (sweep_endings changes),
       sum_changed (wanting_on number) (resource_after_withdrawals (w ∷ [])) (ends number) (withdrawal_endings w) resources

@@ -59,7 +59,7 @@ same_given s t nodes processes given = record {
 
 -- a sweep keeps what is given
 swept_given : (s : State) → AllGiven s → AllGiven (state_after_sweep s)
-swept_given s given = same_given s (state_after_sweep s) refl (kept_swept (λ p. p.pid) (λ _ _. refl) s.processes s.resources) given
+swept_given s given = same_given s (state_after_sweep s) refl (kept_swept (λ p. p.pid) (λ _ _ _. refl) s.processes s.resources) given
 
 -- where one node has declared more, no node has declared less
 none_less : (nodes : List Node) (place at : ℕ) (node : Node) → (get_or nodes place new_node).declared ≤ node.declared
@@ -134,11 +134,11 @@ given_always =
     (λ d passed. swept_given (declare_change s d) (declared_given s d (ordinal_left s d passed) given))
     (λ v _. swept_given (set_change s v) (same_given s (set_change s v) refl (kept_set (λ p. p.pid) (λ _ _. refl) v.pid v.block v.value s.processes) given))
     (λ taker _. swept_given (take_change s taker) (same_given s (take_change s taker) refl (kept_taken (λ p. p.pid) (λ _ _. refl) taker s.processes) given))
-    (λ e _. swept_given (enq_change s e) (same_given s (enq_change s e) refl (kept_entered (λ p. p.pid) (λ _ _. refl) s e) given))
-    (λ c a _ _. swept_given (convert_change s c a) (same_given s (convert_change s c a) refl (kept_converted (λ p. p.pid) (λ _ _. refl) s c a) given))
+    (λ e _. swept_given (enq_change s e) (same_given s (enq_change s e) refl (kept_entered (λ p. p.pid) (λ _ _ _. refl) s e) given))
+    (λ c a _ _. swept_given (convert_change s c a) (same_given s (convert_change s c a) refl (kept_converted (λ p. p.pid) (λ _ _ _. refl) s c a) given))
     (λ d _.
     swept_given (deq_change s d)
-    (same_given s (deq_change s d) refl (kept_ended (λ p. p.pid) (λ _ _. refl) (deq_endings s d) (blocks_with new_value_block s.processes)) given)))
+    (same_given s (deq_change s d) refl (kept_ended (λ p. p.pid) (λ _ _ _. refl) (deq_endings s d) (blocks_with new_value_block s.processes)) given)))
 
 -- no living process has the next identification of a node
 each_new : (nodes : List Node) (node pid : ℕ) → node * 65536 + ((node_at nodes node).declared + 1) ≡ pid

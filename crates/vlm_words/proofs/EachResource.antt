@@ -9,9 +9,7 @@ use Rattle.vlm_words.specs.declared.resources.Site.{Site}
 use Rattle.vlm_words.specs.declared.resources.ValueBlock.{ValueBlock}
 use Rattle.vlm_words.specs.declared.steps.NewRequest.{NewRequest}
 use Rattle.vlm_words.specs.State.{Process, Resource, State}
-use Rattle.vlm_words.specs.Effects.{with_value_block}
-use Rattle.vlm_words.specs.Grants.{service}
-use Rattle.vlm_words.specs.Sweeps.{blocks_after_service, is_vacant, resources_after_service, resources_after_sweep}
+use Rattle.vlm_words.specs.Sweeps.{blocks_after_service, is_vacant, resources_after_service, resources_after_sweep, served_with}
 use Rattle.vlm_words.specs.Resources.{is_at, new_resource}
 use Rattle.vlm_words.specs.Declare.{declare_change}
 use Rattle.vlm_words.specs.SetValue.{set_change}
@@ -27,14 +25,14 @@ use Rattle.vlm_words.proofs.Always.{always, kept_by_stepped}
 use Rattle.vlm_words.proofs.Withdrawing.{kept_withdrawn}
 
 -- what serving makes of each resource, whatever its value block is then, holds of each once all are served
-pub each_served : (P Q : Resource → Type 0) → ((block : ValueBlock) (r : Resource) → P r → Q (with_value_block block (service r).resource))
+pub each_served : (P Q : Resource → Type 0) → ((block : ValueBlock) (r : Resource) → P r → Q (served_with block r))
     → (processes : List Process) (resources : List Resource) → AllByRecursion P resources → AllByRecursion Q (resources_after_service processes resources)
 each_served P Q serving processes [] each = each
 each_served P Q serving processes (r ∷ rest) each =
     (serving (blocks_after_service processes r).value_block r each.0, each_served P Q serving (blocks_after_service processes r).processes rest each.1)
 
 -- and holds of each after a sweep
-pub each_swept : (P Q : Resource → Type 0) → ((block : ValueBlock) (r : Resource) → P r → Q (with_value_block block (service r).resource))
+pub each_swept : (P Q : Resource → Type 0) → ((block : ValueBlock) (r : Resource) → P r → Q (served_with block r))
     → (processes : List Process) (resources : List Resource) → AllByRecursion P resources → AllByRecursion Q (resources_after_sweep processes resources)
 unfolding resources_after_sweep
 each_swept P Q serving processes resources each =
@@ -90,7 +88,7 @@ pub record KeptByChanges (P : Resource → Type 0) : Type 0 where
 
 -- the changes of the steps keep P, and serving makes Q of it: then Q holds of each resource after every run
 pub each_always : (P Q : Resource → Type 0) → ((r : Resource) → Q r → P r)
-    → ((block : ValueBlock) (r : Resource) → P r → Q (with_value_block block (service r).resource)) → KeptByChanges P
+    → ((block : ValueBlock) (r : Resource) → P r → Q (served_with block r)) → KeptByChanges P
     → (history : History) (last : State) → Run history last
     → AllByRecursion Q last.resources
 unfolding declare_change set_change take_change enq_change enq_resource convert_change deq_change convert_admission

@@ -18,6 +18,8 @@ use Rattle.vlm_words.specs.Effects.{Blocks, blocks_after_end, blocks_after_endin
 use Rattle.vlm_words.specs.Grants.{service}
 use Rattle.vlm_words.specs.Sweeps.{blocks_after_service, processes_after_service, sweep_endings}
 use Rattle.vlm_words.specs.Written.{is_end_for}
+use Rattle.vlm_words.specs.Asts.{Queued, completions, processes_after_asts}
+use Rattle.vlm_words.proofs.Processes.{blocks_queued}
 
 -- ---- one write
 
@@ -148,20 +150,31 @@ module _ (Leaves : ℕ → ℕ → List Ending → Block → Block → Type 0) w
   pub left_by_none : ((pid number : ℕ) (block : Block) → Leaves pid number [] block block) → (processes : List Process) → AreLeft [] processes processes
   left_by_none none processes = record { many = λ _. refl; each = λ pid k _. none pid (k + 1) (block_at processes pid k) }
 
+  -- ASTs that are queued leave all that
+  pub left_with_asts : (queued : List Queued) (endings : List Ending) (before after : List Process) → AreLeft endings before after
+      → AreLeft endings before (processes_after_asts queued after)
+  left_with_asts queued endings before after left = record {
+    many = λ pid. ap (λ (blocks : List Block). length blocks) (blocks_queued queued after pid) ∙ left.many pid;
+    each = λ pid k within.
+        subst (λ (blocks : List Block). Leaves pid (k + 1) endings (block_at before pid k) (get_or blocks k new_status_block)) (sym (blocks_queued queued after pid))
+        (left.each pid k within);
+  }
+
   -- where one request ends
   pub left_by_one : (ending : Ending) (b : Blocks)
       → ((pid number : ℕ) (block : Block)
       → Leaves pid number (ending ∷ []) block (cond (is_end_for pid number ending) (block_after_how ending.how b.value_block block) block))
       → AreLeft (ending ∷ []) b.processes (blocks_after_ending ending b).processes
   left_by_one ending b one =
-      subst (λ (after : List Process). AreLeft (ending ∷ []) b.processes after) (sym (end_writes ending.how ending b))
+      left_with_asts (completions ending) (ending ∷ []) b.processes (blocks_after_end ending.how ending b).processes
+      (subst (λ (after : List Process). AreLeft (ending ∷ []) b.processes after) (sym (end_writes ending.how ending b))
       (record {
         many = λ pid. many_written ending.pid ending.request.block pid _ b.processes;
         each = λ pid k within.
             subst (λ (after : Block). Leaves pid (k + 1) (ending ∷ []) (block_at b.processes pid k) after)
             (sym (block_written ending.pid ending.request.block (block_after_how ending.how b.value_block) b.processes pid k within))
             (one pid (k + 1) (block_at b.processes pid k));
-      })
+      }))
 
   -- what first ends and then others make of a status block is what all of them make of it
   abbrev pub FollowOn : Type 0

@@ -95,7 +95,7 @@ all_converted_count number request pid lkid block a (r ∷ rest) fit one at =
 
 -- a sweep alone counts what was counted
 sweep_counts : (number : ℕ) (s : State) → wanting number (state_after_sweep s) + times_ended number (sweep_endings s.resources) ≡ wanting number s
-sweep_counts number s = swept_weighs (wants number) (ends number) (wants_kept number) s.processes s.resources
+sweep_counts number s = swept_weighs (wants number) (ends number) (wants_kept number) (λ row armed. refl) s.processes s.resources
 
 -- a new request is wanted or ends, and what the sweep grants ends
 enqueued_counts : (number : ℕ) (s : State) (e : NewRequest)

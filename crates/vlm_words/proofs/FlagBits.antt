@@ -1,11 +1,11 @@
 -- Which flags are built, bit by bit.
-use Rattle.std.proofs.Common.{◌≡◌, ◌≤◌, ◌<◌, ◌^◌, ◌⊎◌, ◌&&◌, ℕ, zero, suc, Bool, true, false, Option, None, Some, inl, inr, refl, sym, ap, subst, ◌∙◌, arith}
-use Rattle.std.specs.Prelude.{◌==◌, IsSome, is_none, min, nat_lt}
+use Rattle.std.proofs.Common.{◌≡◌, ◌≤◌, ◌<◌, ◌^◌, ◌⊎◌, ℕ, zero, suc, Bool, true, false, inl, inr, refl, sym, ap, subst, ◌∙◌, arith}
+use Rattle.std.specs.Prelude.{◌==◌, min, nat_lt}
 use Rattle.std.specs.Int.{bit_at}
 use Rattle.std.specs.Int.RustNames.{bit_and}
 use Rattle.std.specs.List.{AllByRecursion}
 use Rattle.std.proofs.Math.Nat.{two-pow-succ}
-use Rattle.std.proofs.lemmas.Bool.{and_cases, and_parts, eq-eqb, eqb-true, true≢false}
+use Rattle.std.proofs.lemmas.Bool.{eq-eqb, eqb-true, true≢false}
 use Rattle.std.proofs.lemmas.Bool.Decides.{nat_tests}
 use Rattle.std.proofs.lemmas.List.Elements.{All-from_recursion, recursion_from_All}
 use Rattle.std.proofs.lemmas.Nat.Bits.{bit_at-lt, bit_at_above, bit_at_and, same_from_bits}
@@ -159,39 +159,12 @@ dequeue_known bits known bit =
       unknown = no_dequeue_place bit.place (recursion_from_All (λ flag. bit_at flag bit.place ≡ 0) dequeue_flags bit.unknown);
     })
 
--- ---- flags and routines of requests
+-- ---- flags of requests
 
--- the test that the flags are known, and no routine is named
-abbrev pub are_built : ℕ → Option ℕ → Option ℕ → Bool
-are_built bits ast bast = is_known enq_bits bits && is_none ast && is_none bast
+-- where some flag is unknown
+pub request_flag_unknown : (bits : ℕ) → is_known enq_bits bits ≡ false → HasUnknownBit request_flags bits
+request_flag_unknown bits is = some_flag bits (unknown_bits enq_bits bits is)
 
--- some routine is named
-some_named : (routine : Option ℕ) → is_none routine ≡ false → IsSome routine
-some_named None is = cc
-some_named (Some n) is = refl
-
--- none is
-none_named : (routine : Option ℕ) → is_none routine ≡ true → IsSome routine → ⊥
-none_named None is some = cc
-none_named (Some n) is some = cc
-
--- where some flag is not, or some routine is named
-pub not_built : (bits : ℕ) (ast bast : Option ℕ) → are_built bits ast bast ≡ false → HasUnknownBit request_flags bits ⊎ IsSome ast ⊎ IsSome bast
-not_built bits ast bast is =
-    elim (and_cases (is_known enq_bits bits && is_none ast) (is_none bast) is) [
-      | inl first ↦ elim (and_cases (is_known enq_bits bits) (is_none ast) first) [
-        | inl unknown ↦ inl (some_flag bits (unknown_bits enq_bits bits unknown))
-        | inr named ↦ inr (inl (some_named ast named))
-      ]
-      | inr named ↦ inr (inr (some_named bast named))
-    ]
-
--- and where not
-pub all_built : (bits : ℕ) (ast bast : Option ℕ) → are_built bits ast bast ≡ true → HasUnknownBit request_flags bits ⊎ IsSome ast ⊎ IsSome bast → ⊥
-all_built bits ast bast is broken =
-    let parts = and_parts (is_known enq_bits bits && is_none ast) (is_none bast) is in
-    let first = and_parts (is_known enq_bits bits) (is_none ast) parts.0 in
-    elim broken [
-      | inl unknown ↦ known_bits enq_bits bits first.0 (no_flag bits unknown)
-      | inr named ↦ elim named [ inl at_end ↦ none_named ast first.1 at_end | inr blocks ↦ none_named bast parts.1 blocks ]
-    ]
+-- and where none is
+pub request_flags_known : (bits : ℕ) → is_known enq_bits bits ≡ true → HasUnknownBit request_flags bits → ⊥
+request_flags_known bits is unknown = known_bits enq_bits bits is (no_flag bits unknown)

@@ -39,6 +39,8 @@ use Rattle.vlm_words.proofs.Apart.{Apart, apart_always}
 use Rattle.vlm_words.proofs.AtOnce.{admitted_at_once, admitted_stands, only_there}
 use Rattle.vlm_words.proofs.EachResource.{each_entered_on, each_swept, found_has}
 use Rattle.vlm_words.proofs.Withdrawing.{kept_withdrawn}
+use Rattle.vlm_words.specs.Asts.{resource_after_warning, row_after_warning}
+use Rattle.vlm_words.proofs.Warned.{blind_warned}
 
 -- a pair has two modes in either order
 is_pair_of-comm : (a b : Mode) (pair : Mode × Mode) → is_pair_of a b pair ≡ is_pair_of b a pair
@@ -272,6 +274,36 @@ gone_agrees w r agree =
     cond_both w.stays (resource_after_cancel w.lkid r) (resource_without w.lkid r) HoldersAgree
     (λ _. cancelled_agrees w.lkid r agree) (λ _. without_agrees w.lkid r agree)
 
+-- warnings do not touch the held modes
+warned_agrees : (r : Resource) → HoldersAgree r → HoldersAgree (resource_after_warning r)
+unfolding resource_after_warning
+warned_agrees r agree = of_rows r.granted agree
+  where
+    warned : Row → Row
+    warned = row_after_warning r.converting r.waiting
+
+    compatible : (a row : Row) → AreCompatible a.held row.held → AreCompatible (warned a).held (warned row).held
+    compatible a row so =
+        subst (λ (held : Option Request). AreCompatible held (warned row).held)
+        (sym (blind_warned (λ x. x.held) (λ x armed. refl) r.converting r.waiting a))
+        (subst (AreCompatible a.held) (sym (blind_warned (λ x. x.held) (λ x armed. refl) r.converting r.waiting row)) so)
+
+    -- those that convert are not warned
+    others : (a : Row) (rows : List Row) → AllByRecursion (HoldCompatible a) rows → AllByRecursion (HoldCompatible (warned a)) rows
+    others a rows each =
+        each_weaker (HoldCompatible a) (HoldCompatible (warned a))
+        (λ row so. subst (λ (held : Option Request). AreCompatible held row.held)
+        (sym (blind_warned (λ x. x.held) (λ x armed. refl) r.converting r.waiting a)) so) rows each
+
+    first : (a : Row) (rows : List Row) → AllByRecursion (HoldCompatible a) (rows ++ r.converting)
+        → AllByRecursion (HoldCompatible (warned a)) (map warned rows ++ r.converting)
+    first a [] each = others a r.converting each
+    first a (row ∷ rows) each = (compatible a row each.0, first a rows each.1)
+
+    of_rows : (rows : List Row) → EachPair HoldCompatible (rows ++ r.converting) → EachPair HoldCompatible (map warned rows ++ r.converting)
+    of_rows [] pairs = pairs
+    of_rows (row ∷ rows) pairs = (first row rows pairs.0, of_rows rows pairs.1)
+
 -- after every run the held modes of each resource are compatible, by recursion
 pub holders_agree_always : (history : History) (last : State)
     → Run history last → AllByRecursion HoldersAgree last.resources
@@ -297,7 +329,7 @@ holders_agree_always =
   where
     swept_agree : (processes : List Process) (resources : List Resource) → AllByRecursion HoldersAgree resources
         → AllByRecursion HoldersAgree (resources_after_sweep processes resources)
-    swept_agree processes resources each = each_swept HoldersAgree HoldersAgree (λ _ r agree. served_agrees r agree) processes resources each
+    swept_agree processes resources each = each_swept HoldersAgree HoldersAgree (λ block r agree. warned_agrees (with_value_block block (service r).resource) (served_agrees r agree)) processes resources each
 
 -- after every run the held modes are compatible
 pub held_modes_always : (history : History) (last : State)

@@ -24,6 +24,9 @@ use Rattle.vlm_words.proofs.Weights.{served_weighs, weigh}
 use Rattle.vlm_words.proofs.Moves.{IsByName, grant_keeps}
 use Rattle.vlm_words.proofs.Apart.{stands}
 use Rattle.vlm_words.proofs.InOrder.{service_in_order}
+use Rattle.vlm_words.specs.Asts.{resource_after_warning}
+use Rattle.vlm_words.proofs.Warned.{sum_warned}
+use Rattle.vlm_words.specs.Sweeps.{served_with}
 
 -- 1 for a row of this lock of this process
 abbrev pub locks : ℕ → ℕ → Row → ℕ
@@ -75,14 +78,18 @@ others_go pid lkid other differs rows =
     not_not false is = cc
 
 -- service takes no held mode away
-pub served_held : (pid lkid : ℕ) (block : ValueBlock) (r : Resource) → held_by pid lkid r ≤ held_by pid lkid (with_value_block block (service r).resource)
+pub served_held : (pid lkid : ℕ) (block : ValueBlock) (r : Resource) → held_by pid lkid r ≤ held_by pid lkid (served_with block r)
+unfolding resource_after_warning
 served_held pid lkid block r =
     let first : GrantsFirst r (service r).resource (service r).endings = service_in_order r in
     let same : weigh (locks pid lkid) (service r).resource + sum_by (λ ending. 0) (service r).endings ≡ weigh (locks pid lkid) r =
     served_weighs (locks pid lkid) (λ ending. 0) (grant_keeps (locks pid lkid) (locks_named pid lkid)) r in
+    let warned : sum_by (locks pid lkid) (served_with block r).granted ≡ sum_by (locks pid lkid) (service r).resource.granted =
+    sum_warned (locks pid lkid) (λ row armed. refl) (service r).resource.converting (service r).resource.waiting (service r).resource.granted in
     omega (
       arith,
       same,
+      warned,
       sum_of_zero (service r).endings,
       ap (sum_by (locks pid lkid)) first.waiting,
       fewer_left first.new_requests r.waiting,

@@ -1,9 +1,9 @@
 -- Service grants from the heads of the queues, resource by resource.
-use Rattle.std.proofs.Common.{◌≡◌, ◌<◌, ℕ, suc, true, false, not, ◌&&◌, List, [], ◌∷◌, ◌++◌, take, drop, cond, Option, None, Some, append_assoc, refl, sym, subst, ap, ◌∙◌, arith}
+use Rattle.std.proofs.Common.{◌≡◌, ◌<◌, ℕ, suc, true, false, not, ◌&&◌, List, [], ◌∷◌, ◌++◌, take, drop, cond, Option, None, Some, append_assoc, refl, sym, subst, ap, ◌∙◌, arith, map}
 use Rattle.std.specs.Prelude.{IsSome}
 use Rattle.std.specs.List.{AllZip}
 use Rattle.std.proofs.lemmas.Bool.{and_parts, cond_both}
-use Rattle.std.proofs.lemmas.List.{append-nil}
+use Rattle.std.proofs.lemmas.List.{append-nil, map-append}
 use Rattle.vlm_words.specs.declared.locks.Request.{Request}
 use Rattle.vlm_words.specs.declared.locks.Row.{Row}
 use Rattle.vlm_words.specs.declared.resources.ValueBlock.{ValueBlock}
@@ -13,8 +13,10 @@ use Rattle.vlm_words.specs.Endings.How.{by_grant}
 use Rattle.vlm_words.specs.Effects.{with_value_block}
 use Rattle.vlm_words.specs.Grants.{Service, grant_act, grant_endings, granted_row, is_empty, no_service, resource_after_grant, service, service_after_grant, service_of_conversions, service_of_new_requests, service_of_waiting, wanted_fits}
 use Rattle.vlm_words.specs.Sweeps.{blocks_after_service, is_vacant, resource_after_service, resources_after_sweep, sweep_endings}
-use Rattle.vlm_words.specs.Laws.{GrantsFirst, IsGrantOf, IsGranted, IsSameButArmed, IsSameResource, IsVacant, SweptInOrder, goes, none, stays}
+use Rattle.vlm_words.specs.Laws.{GrantsFirst, IsGrantOf, IsGranted, IsSameButArmed, IsSameResource, IsVacant, SweptInOrder, goes, none, stays, first_rows}
 use Rattle.vlm_words.proofs.NothingLeft.{is_empty-true}
+use Rattle.vlm_words.specs.Asts.{resource_after_warning, row_after_warning}
+use Rattle.vlm_words.proofs.Warned.{blind_warned, stay_warned}
 
 -- of the rows in a queue the first are granted in their order, and these are left
 record Serves (rows before after left : List Row) (endings : List Ending) : Type 0 where
@@ -226,6 +228,43 @@ with_any_value_block block before after endings first = record {
   conversions_before = first.conversions_before;
 }
 
+-- granted rows that are warned are granted ones still
+given_warned : (converting waiting rows given : List Row) → AllZip IsGranted rows given
+    → AllZip IsGranted rows (map (row_after_warning converting waiting) given)
+given_warned converting waiting [] [] granted = tt
+given_warned converting waiting [] (row ∷ given) granted = absurd granted
+given_warned converting waiting (old ∷ rows) [] granted = absurd granted
+given_warned converting waiting (old ∷ rows) (row ∷ given) granted = (
+  record {
+    lkid = blind_warned (λ x. x.lkid) (λ x armed. refl) converting waiting row ∙ granted.0.lkid;
+    pid = blind_warned (λ x. x.pid) (λ x armed. refl) converting waiting row ∙ granted.0.pid;
+    parent = blind_warned (λ x. x.parent) (λ x armed. refl) converting waiting row ∙ granted.0.parent;
+    wanted = granted.0.wanted;
+    holds = blind_warned (λ x. x.held) (λ x armed. refl) converting waiting row ∙ granted.0.holds;
+    wants_nothing = blind_warned (λ x. x.want) (λ x armed. refl) converting waiting row ∙ granted.0.wants_nothing;
+  },
+  given_warned converting waiting rows given granted.1,
+)
+
+-- warnings disarm rows alone
+with_warnings : (before after : Resource) (endings : List Ending) → GrantsFirst before after endings
+    → GrantsFirst before (resource_after_warning after) endings
+unfolding resource_after_warning
+with_warnings before after endings first = record {
+  conversions = first.conversions;
+  new_requests = first.new_requests;
+  kept = map (row_after_warning after.converting after.waiting) first.kept;
+  given = map (row_after_warning after.converting after.waiting) first.given;
+  stay = stay_warned after.converting after.waiting before.granted first.kept first.stay;
+  same = record { serial = first.same.serial; parent = first.same.parent; domain = first.same.domain; name = first.same.name; level = first.same.level };
+  converting = first.converting;
+  waiting = first.waiting;
+  granted = ap (map (row_after_warning after.converting after.waiting)) first.granted ∙ map-append (row_after_warning after.converting after.waiting) first.kept first.given;
+  rows = given_warned after.converting after.waiting (first_rows first.conversions first.new_requests before) first.given first.rows;
+  ends = first.ends;
+  conversions_before = first.conversions_before;
+}
+
 -- a resource without rows is vacant
 vacant : (r : Resource) → is_vacant r ≡ true → IsVacant r
 vacant r empty =
@@ -246,7 +285,9 @@ sweep_in_order processes (r ∷ rest) =
     let after : Resource = resource_after_service processes r in
     let left : List Resource = resources_after_sweep (blocks_after_service processes r).processes rest in
     let first : GrantsFirst r after (service r).endings =
-    with_any_value_block (blocks_after_service processes r).value_block r (service r).resource (service r).endings (service_in_order r) in
+    let block : ValueBlock = (blocks_after_service processes r).value_block in
+    with_warnings r (with_value_block block (service r).resource) (service r).endings
+    (with_any_value_block block r (service r).resource (service r).endings (service_in_order r)) in
     let behind : SweptInOrder rest left (sweep_endings rest) = sweep_in_order (blocks_after_service processes r).processes rest in
     elim (is_vacant after) as (λ b. is_vacant after ≡ b
     → SweptInOrder (r ∷ rest) (cond (not b) (after ∷ left) left) ((service r).endings ++ sweep_endings rest)) [

@@ -18,7 +18,7 @@ use Rattle.vlm_words.specs.declared.steps.NewRequest.{NewRequest}
 use Rattle.vlm_words.specs.State.{Process, Resource, State}
 use Rattle.vlm_words.specs.Effects.{with_value_block}
 use Rattle.vlm_words.specs.Grants.{resource_after_grant, service}
-use Rattle.vlm_words.specs.Sweeps.{blocks_after_service, is_vacant, resource_after_service, resources_after_service, resources_after_sweep, state_after_sweep}
+use Rattle.vlm_words.specs.Sweeps.{blocks_after_service, is_vacant, resource_after_service, resources_after_service, resources_after_sweep, state_after_sweep, served_with}
 use Rattle.vlm_words.specs.Rows.{is_lock_of}
 use Rattle.vlm_words.specs.Resources.{IsKeyed, is_at, is_domain, key_name, key_parent, new_resource}
 use Rattle.vlm_words.specs.Checks.{holds_lock}
@@ -38,6 +38,7 @@ use Rattle.vlm_words.proofs.Pairs.{EachPair, AllPairs-from_recursion, each_pair_
 use Rattle.vlm_words.proofs.InOrder.{same_resource, same_then, service_in_order}
 use Rattle.vlm_words.proofs.Always.{always, kept_by_stepped}
 use Rattle.vlm_words.proofs.Withdrawing.{kept_withdrawn}
+use Rattle.vlm_words.proofs.Warned.{warned_same}
 
 -- the fact depends on where resources stand alone
 abbrev pub StandsOnPlaces : (Resource → Resource → Type 0) → Type 0
@@ -89,11 +90,13 @@ withdrawals_keep_place withdrawals r =
     kept_withdrawn (IsSameResource r) (λ w left same. same_then r left (resource_after_writer w left) same (left_keeps_place w left))
     (λ w left same. same_then r left (resource_after_going w left) same (gone_keeps_place w left)) withdrawals r (same_resource r)
 
--- service, whatever value block is left
-pub service_keeps_place : (block : ValueBlock) (r : Resource) → IsSameResource r (with_value_block block (service r).resource)
+-- service with its warnings, whatever value block is left
+pub service_keeps_place : (block : ValueBlock) (r : Resource) → IsSameResource r (served_with block r)
 service_keeps_place block r =
     let same : IsSameResource r (service r).resource = (service_in_order r).same in
-    record { serial = same.serial; parent = same.parent; domain = same.domain; name = same.name; level = same.level }
+    same_then r (with_value_block block (service r).resource) (served_with block r)
+    (record { serial = same.serial; parent = same.parent; domain = same.domain; name = same.name; level = same.level })
+    (warned_same (with_value_block block (service r).resource))
 
 -- what holds of each pair holds of each pair of changed resources
 pairs_after_map : (R : Resource → Resource → Type 0) → StandsOnPlaces R → (f : Resource → Resource) → KeepsPlace f → (resources : List Resource)
@@ -112,7 +115,7 @@ pairs_after_service R stands processes (r ∷ rest) pairs =
     let after : Resource = resource_after_service processes r in
     let left : List Process = (blocks_after_service processes r).processes in (
       each_served (R r) (R after)
-          (λ block other to. stands r other after (with_value_block block (service other).resource)
+          (λ block other to. stands r other after (served_with block other)
           (service_keeps_place (blocks_after_service processes r).value_block r) (service_keeps_place block other) to) left rest pairs.0,
       pairs_after_service R stands left rest pairs.1,
     )

@@ -1,5 +1,6 @@
 pub mod Each
 pub mod Pairs
+pub mod Warned
 pub mod Passed
 pub mod Always
 pub mod EachResource
@@ -43,6 +44,7 @@ pub mod Queued
 pub mod EndWrites
 pub mod Writing
 pub mod Written
+pub mod Queueing
 mod Taking
 pub mod Standing
 pub mod SweptValues

@@ -23,6 +23,7 @@ use Rattle.vlm_words.proofs.Each.{Found, found_at}
 use Rattle.vlm_words.proofs.Sums.{sum_of_zero, sum_filter-le, sum_filter_but-le, sum_changed-le, sum_same}
 use Rattle.vlm_words.proofs.Weights.{weigh, GrantKeeps, swept_weighs, entered_among_weighs}
 use Rattle.vlm_words.proofs.Withdrawing.{kept_withdrawn}
+use Rattle.vlm_words.proofs.Warned.{IsArmedBlind}
 
 -- what a row weighs does not depend on what it holds and wants
 abbrev pub IsByName : (Row → ℕ) → Type 0
@@ -32,11 +33,15 @@ IsByName f = (row : Row) (held want : Option Request) (armed : Bool) → f (reco
 pub grant_keeps : (f : Row → ℕ) → IsByName f → GrantKeeps f (λ ending. 0)
 grant_keeps f named at_once row = omega (arith, named row row.want None (is_arming row.want), sum_of_zero (grant_endings at_once row))
 
+-- nor on whether it is armed
+pub armed_blind : (f : Row → ℕ) → IsByName f → IsArmedBlind f
+armed_blind f named row armed = named row row.held row.want armed
+
 -- a sweep keeps what all weigh
 pub swept_named : (f : Row → ℕ) → IsByName f → (processes : List Process) (resources : List Resource)
     → sum_by (weigh f) (resources_after_sweep processes resources) ≡ sum_by (weigh f) resources
 swept_named f named processes resources =
-    omega (arith, swept_weighs f (λ ending. 0) (grant_keeps f named) processes resources, sum_of_zero (sweep_endings resources))
+    omega (arith, swept_weighs f (λ ending. 0) (grant_keeps f named) (armed_blind f named) processes resources, sum_of_zero (sweep_endings resources))
 
 -- a new request adds what its row weighs
 pub entered_named : (f : Row → ℕ) → IsByName f → (s : State) (e : NewRequest)

@@ -1,5 +1,5 @@
 -- After every step nothing is left to grant.
-use Rattle.std.proofs.Common.{◌≡◌, ◌&&◌, Bool, true, false, List, [], ◌∷◌, ◌++◌, Option, None, Some, refl, sym, subst, ◌∙◌}
+use Rattle.std.proofs.Common.{◌≡◌, ◌&&◌, Bool, true, false, List, [], ◌∷◌, ◌++◌, Option, None, Some, refl, sym, subst, ◌∙◌, map}
 use Rattle.std.specs.Prelude.{⊤, Any}
 use Rattle.std.specs.List.{AllByRecursion, list_all}
 use Rattle.std.proofs.lemmas.List.{append-nil}
@@ -15,6 +15,9 @@ use Rattle.vlm_words.specs.Runs.{History, Run}
 use Rattle.vlm_words.specs.Laws.{Conflicts, HeadsDoNotFit, IsBeside, NothingIsLeftToGrant}
 use Rattle.vlm_words.proofs.Each.{each_weaker, Any-here, Any-there}
 use Rattle.vlm_words.proofs.EachResource.{KeptByChanges, each_always}
+use Rattle.vlm_words.specs.Asts.{resource_after_warning, row_after_warning}
+use Rattle.vlm_words.specs.Effects.{with_value_block}
+use Rattle.vlm_words.proofs.Warned.{fits_warned}
 
 -- the first conversion, if there is one, does not fit
 abbrev pub FirstConversionWaits : List Row → List Row → Type 0
@@ -78,6 +81,23 @@ served_stops r = new_requests (service_of_conversions r r.converting).resource (
         (λ empty. serve_waiting_stops left left.waiting (is_empty-true left.converting empty) refl)
         (λ some. waiting_behind left.granted left.converting left.waiting some waits)
 
+-- and warnings make nothing fit
+pub warned_stops : (r : Resource) → NothingFits r → NothingFits (resource_after_warning r)
+unfolding resource_after_warning
+warned_stops r waits = of_queues r.converting r.waiting waits
+  where
+    warned : List Row
+    warned = map (row_after_warning r.converting r.waiting) r.granted
+
+    wanted : (want : Option Request) (others : List Row) → wanted_fits want warned others ≡ wanted_fits want r.granted others
+    wanted None others = refl
+    wanted (Some request) others = fits_warned request.mode r.converting r.waiting r.granted others
+
+    of_queues : (converting waiting : List Row) → HeadsWait r.granted converting waiting → HeadsWait warned converting waiting
+    of_queues [] [] waits = tt
+    of_queues [] (row ∷ rows) waits = wanted row.want [] ∙ waits
+    of_queues (row ∷ rows) waiting waits = wanted row.want rows ∙ waits
+
 -- a test that not all rows pass, some row does not pass
 some_fails : (test : Row → Bool) (P : Row → Type 0) → ((row : Row) → test row ≡ false → P row) → (rows : List Row)
     → list_all test rows ≡ false → Any P rows
@@ -115,7 +135,7 @@ heads_conflict r = heads r.granted r.converting r.waiting
     heads granted (row ∷ rows) waiting waits = conflicts row.want granted rows waits
 
 -- every change keeps what says nothing
-kept_by_all : KeptByChanges (λ _. ⊤)
+pub kept_by_all : KeptByChanges (λ _. ⊤)
 kept_by_all = record {
   fresh = λ _ _. tt;
   entry = λ _ _ _ _. tt;
@@ -128,7 +148,7 @@ kept_by_all = record {
 pub nothing_fits_always : (history : History) (last : State)
     → Run history last → AllByRecursion NothingFits last.resources
 nothing_fits_always history last run =
-    each_always (λ _. ⊤) NothingFits (λ _ _. tt) (λ _ r _. served_stops r) kept_by_all history last run
+    each_always (λ _. ⊤) NothingFits (λ _ _. tt) (λ block r _. warned_stops (with_value_block block (service r).resource) (served_stops r)) kept_by_all history last run
 
 -- after every run nothing is left to grant
 pub nothing_left_always : (history : History) (last : State)

@@ -14,7 +14,7 @@ use Rattle.vlm_words.specs.declared.steps.NewRequest.{NewRequest}
 use Rattle.vlm_words.specs.declared.steps.Step.TheVariants.{Declare, SetValue, Enq, Convert, Deq, Rundown, Leave, Search, Take}
 use Rattle.vlm_words.specs.declared.steps.Step.{Step}
 use Rattle.vlm_words.specs.State.{Process, Resource, State}
-use Rattle.vlm_words.specs.Sweeps.{blocks_after_service, is_vacant, resource_after_service, resources_after_service, resources_after_sweep, state_after_sweep}
+use Rattle.vlm_words.specs.Sweeps.{blocks_after_service, is_vacant, resource_after_service, resources_after_service, resources_after_sweep, state_after_sweep, served_with}
 use Rattle.vlm_words.specs.Effects.{with_value_block}
 use Rattle.vlm_words.specs.Grants.{grant_endings, service}
 use Rattle.vlm_words.specs.Resources.{is_at, new_resource}
@@ -31,7 +31,7 @@ use Rattle.vlm_words.specs.Numbers.{HasSerial, NumbersAreGivenOnce, TakesNumbers
 use Rattle.vlm_words.proofs.Each.{each_weaker, no_Any}
 use Rattle.vlm_words.proofs.Always.{admission_of}
 use Rattle.vlm_words.proofs.Sums.{sum_of_zero}
-use Rattle.vlm_words.proofs.Weights.{entered_weighs, served_weighs, vacant_weighs_nothing, weigh}
+use Rattle.vlm_words.proofs.Weights.{entered_weighs, served_weighs, vacant_weighs_nothing, weigh, warned_weighs}
 use Rattle.vlm_words.proofs.Moves.{IsByName, entered_named, grant_keeps}
 use Rattle.vlm_words.proofs.Apart.{Apart, apart_always, stands}
 use Rattle.vlm_words.proofs.Keys.{Placed, WasGiven, entry_keeps_place, placed_always, service_keeps_place}
@@ -58,11 +58,16 @@ kept_not_vacant r some = of_test (is_vacant r) refl
 
 -- service keeps it so
 served_kept : (serial : ℕ) (block : ValueBlock) (r : Resource) → is_kept serial r ≡ true
-    → is_kept serial (with_value_block block (service r).resource) ≡ true
+    → is_kept serial (served_with block r) ≡ true
 served_kept serial block r kept =
     let parts = and_parts (r.serial == serial) (nat_lt 0 (weigh one r)) kept in
-    let weight : weigh one (with_value_block block (service r).resource) ≡ weigh one r =
-    omega (arith, served_weighs one (λ ending. 0) (grant_keeps one one_named) r, sum_of_zero (service r).endings) in
+    let weight : weigh one (served_with block r) ≡ weigh one r =
+    omega (
+      arith,
+      warned_weighs one (λ row armed. refl) (with_value_block block (service r).resource),
+      served_weighs one (λ ending. 0) (grant_keeps one one_named) r,
+      sum_of_zero (service r).endings,
+    ) in
     rw ((service_keeps_place block r).serial, weight) (rw parts.0 parts.1)
 
 -- and so it is still there after a sweep

@@ -99,7 +99,7 @@ room_left s e passed =
 -- the processes after a new request and its sweep
 allowances_entered : (s : State) (e : NewRequest) → map allowance (state_after_sweep (enq_change s e)).processes ≡ map allowance s.processes
 allowances_entered s e =
-    kept_swept allowance (λ _ _. refl) (enq_change s e).processes (enq_change s e).resources ∙ kept_entered allowance (λ _ _. refl) s e
+    kept_swept allowance (λ _ _ _. refl) (enq_change s e).processes (enq_change s e).resources ∙ kept_entered allowance (λ _ _ _. refl) s e
 
 -- a new request takes what is left
 entered_within : (s : State) (e : NewRequest) → enq_refusal s e ≡ None → Within s → Within (state_after_sweep (enq_change s e))
@@ -130,29 +130,29 @@ within_always =
     kept_by_stepped (λ _ t. Within t) history.endings s within
     (λ d _.
     still_within (declare_change s d) (state_after_sweep (declare_change s d))
-    (kept_swept allowance (λ _ _. refl) (declare_change s d).processes s.resources)
+    (kept_swept allowance (λ _ _ _. refl) (declare_change s d).processes s.resources)
     (λ pid. omega (arith, swept_named (owned pid) (owned_named pid) (declare_change s d).processes s.resources))
     (λ pid. omega (arith, within pid, more_quota s.processes (declared_process s d) pid)))
     (λ v _.
     still_within s (state_after_sweep (set_change s v))
-    (kept_swept allowance (λ _ _. refl) (set_change s v).processes s.resources ∙ kept_set allowance (λ _ _. refl) v.pid v.block v.value s.processes)
+    (kept_swept allowance (λ _ _ _. refl) (set_change s v).processes s.resources ∙ kept_set allowance (λ _ _. refl) v.pid v.block v.value s.processes)
     (λ pid. omega (arith, swept_named (owned pid) (owned_named pid) (set_change s v).processes s.resources)) within)
     (λ taker _.
     still_within s (state_after_sweep (take_change s taker))
-    (kept_swept allowance (λ _ _. refl) (take_change s taker).processes s.resources ∙ kept_taken allowance (λ _ _. refl) taker s.processes)
+    (kept_swept allowance (λ _ _ _. refl) (take_change s taker).processes s.resources ∙ kept_taken allowance (λ _ _. refl) taker s.processes)
     (λ pid. omega (arith, swept_named (owned pid) (owned_named pid) (take_change s taker).processes s.resources)) within)
     (λ e passed. entered_within s e passed within)
     (λ c a _ _.
     still_within s (state_after_sweep (convert_change s c a))
-    (kept_swept allowance (λ _ _. refl) (convert_change s c a).processes (convert_change s c a).resources ∙ kept_converted allowance (λ _ _. refl) s c a)
+    (kept_swept allowance (λ _ _ _. refl) (convert_change s c a).processes (convert_change s c a).resources ∙ kept_converted allowance (λ _ _ _. refl) s c a)
     (λ pid. changed_named (owned pid) (owned_named pid)
     (resource_after_conversion a.request a.at_once c.pid (convert_lkid s c) (convert_blocks s c a).value_block)
     (converted_named (owned pid) (owned_named pid) a.request a.at_once c.pid (convert_lkid s c) (convert_blocks s c a).value_block)
     (convert_change s c a).processes s.resources) within)
     (λ d _.
     still_within s (state_after_sweep (deq_change s d))
-    (kept_swept allowance (λ _ _. refl) (deq_change s d).processes (deq_change s d).resources
-    ∙ kept_ended allowance (λ _ _. refl) (deq_endings s d) (blocks_with new_value_block s.processes))
+    (kept_swept allowance (λ _ _ _. refl) (deq_change s d).processes (deq_change s d).resources
+    ∙ kept_ended allowance (λ _ _ _. refl) (deq_endings s d) (blocks_with new_value_block s.processes))
     (λ pid. changed_named (owned pid) (owned_named pid) (resource_after_withdrawals (withdrawals_of s d))
     (withdrawn_named (owned pid) (owned_named pid) (withdrawals_of s d)) (deq_change s d).processes s.resources) within))
 

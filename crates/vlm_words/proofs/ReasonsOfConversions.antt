@@ -12,12 +12,12 @@ use Rattle.vlm_words.specs.declared.locks.Request.{Request}
 use Rattle.vlm_words.specs.declared.locks.Row.{Row}
 use Rattle.vlm_words.specs.declared.modes.Mode.{Mode}
 use Rattle.vlm_words.specs.declared.steps.Conversion.{Conversion}
-use Rattle.vlm_words.specs.Flags.{flag_bits, has_flag, noqueue, quecvt}
+use Rattle.vlm_words.specs.Flags.{enq_bits, flag_bits, has_flag, is_known, noqueue, quecvt}
 use Rattle.vlm_words.specs.State.{Resource, State}
 use Rattle.vlm_words.specs.Grants.{fits, is_beside, is_empty}
 use Rattle.vlm_words.specs.Rows.{is_lock_of, rows_without}
 use Rattle.vlm_words.specs.Checks.{caller_refusal, lock_refusal, queue_refusal, request_numbers_refusal, status_block_refusal, which_refusal}
-use Rattle.vlm_words.specs.Convert.{ConversionAdmission, admission_among, admission_or, admission_refusal, convert_admission, convert_argument_refusal, convert_lkid, convert_refusal, convert_request, converts_at_once, is_queued_legally_from, pair_refusal}
+use Rattle.vlm_words.specs.Convert.{ConversionAdmission, admission_among, admission_or, admission_refusal, convert_admission, convert_flags_refusal, convert_lkid, convert_refusal, convert_request, converts_at_once, is_queued_legally_from, pair_refusal}
 use Rattle.vlm_words.specs.Laws.{ConvertsInTurn, IsBeside, Stands}
 use Rattle.vlm_words.specs.Reasons.{ConversionBreaks, HasLock, IsAmong, IsGrantedSomewhere, IsNotQueuedFrom, IsNotQueuedLegally}
 use Rattle.vlm_words.proofs.Each.{Any-cases, Any-here, Any-none, Any-there, Any-weaker, found_at}
@@ -28,7 +28,7 @@ use Rattle.vlm_words.proofs.Weights.{weigh}
 use Rattle.vlm_words.proofs.Apart.{Apart, standing, stands}
 use Rattle.vlm_words.proofs.Counts.{found_stands}
 use Rattle.vlm_words.proofs.AtOnce.{admitted_at_once, admitted_stands, converts_in_turn, only_there, stands_counted}
-use Rattle.vlm_words.proofs.FlagBits.{all_built, are_built, not_built}
+use Rattle.vlm_words.proofs.FlagBits.{request_flag_unknown, request_flags_known}
 use Rattle.vlm_words.proofs.Refusals.{Any_found, IsCaller, Says, among_found, block_passes, caller_passes, is_somebody, lock_is, lock_passes, none_found, says_block, says_caller, says_either, says_lock, says_some, says_unless, says_where, says_which, which_passes}
 
 -- ---- the lock that is granted
@@ -255,12 +255,12 @@ admission_breaks s c a apart is =
         let here : Any (λ x. ((x.lkid ≡ lkid) × (x.pid ≡ c.pid)) × IsNotQueuedFrom x.held c.mode) a.resource.granted =
         Any_found (λ x. ((x.lkid ≡ lkid) × (x.pid ≡ c.pid)) × IsNotQueuedFrom x.held c.mode) (is_lock_of c.pid lkid) a.resource.granted a.row row.found
         (row_is s c a is, not_legally a.row.held c.mode (not-true (is_queued_legally_from a.row.held c.mode) parts.1)) in
-        inr (inr (inr (
+        inr (
           parts.0,
           Any-weaker (λ r. r ≡ a.resource) (λ r. Any (λ x. ((x.lkid ≡ lkid) × (x.pid ≡ c.pid)) × IsNotQueuedFrom x.held c.mode) r.granted)
               (λ r same. subst (λ (x : Resource). Any (λ y. ((y.lkid ≡ lkid) × (y.pid ≡ c.pid)) × IsNotQueuedFrom y.held c.mode) x.granted) (sym same) here)
               s.resources row.there,
-        )))
+        )
 
     few : weigh (stands lkid) a.resource ≤ 1
     few = omega (arith, row.few, apart.one_row lkid)
@@ -283,10 +283,10 @@ admission_breaks s c a apart is =
 
 -- a refused conversion breaks the rule of its condition
 pub conversion_breaks : (s : State) (c : Conversion) → Apart s → Says (ConversionBreaks s c) (convert_refusal s c)
-unfolding convert_refusal convert_argument_refusal convert_admission
+unfolding convert_refusal convert_flags_refusal convert_admission
 conversion_breaks s c apart =
     says_either B (caller_refusal s c.pid) _ (says_caller B s c.pid (λ departed. departed) (λ none. none))
-    (λ called. says_either B (convert_argument_refusal c) _ (says_unless B (are_built c.flags c.ast c.bast) Badparam argument)
+    (λ called. says_either B (convert_flags_refusal c) _ (says_unless B (is_known enq_bits c.flags) Badparam argument)
     (λ _. says_either B (status_block_refusal s c.pid c.block) _ (says_block B s c.pid c.block (caller_passes s c.pid called) (λ broken. inl broken))
     (λ _. says_either B (which_refusal s c.pid c.lock) _ (says_which B s c.pid c.lock (caller_passes s c.pid called) (λ broken. inr broken))
     (λ _. says_either B (lock_refusal s c.pid lkid) _ (says_lock B s c.pid lkid (λ broken. broken))
@@ -298,12 +298,8 @@ conversion_breaks s c apart =
     lkid : ℕ
     lkid = convert_lkid s c
 
-    argument : are_built c.flags c.ast c.bast ≡ false → B Badparam
-    argument is =
-        elim (not_built c.flags c.ast c.bast is) [
-          | inl unknown ↦ inl unknown
-          | inr named ↦ elim named [ inl at_end ↦ inr (inl at_end) | inr blocks ↦ inr (inr (inl blocks)) ]
-        ]
+    argument : is_known enq_bits c.flags ≡ false → B Badparam
+    argument is = inl (request_flag_unknown c.flags is)
 
     of_admission : HasLock s c.pid lkid → (admission : Option ConversionAdmission) → convert_admission s c ≡ admission
         → Says B (admission_refusal s c admission)
@@ -313,17 +309,17 @@ conversion_breaks s c apart =
 -- an accepted conversion breaks none
 pub conversion_keeps : (s : State) (c : Conversion) → Apart s → convert_refusal s c ≡ None
     → (a : ConversionAdmission) → convert_admission s c ≡ Some a → (cond : Cond) → ConversionBreaks s c cond → ⊥
-unfolding convert_refusal convert_argument_refusal pair_refusal request_numbers_refusal
+unfolding convert_refusal convert_flags_refusal pair_refusal request_numbers_refusal
 conversion_keeps s c apart passed a is =
     let first = both_pass (caller_refusal s c.pid) _ passed in
-    let argument = both_pass (convert_argument_refusal c) _ first.1 in
+    let argument = both_pass (convert_flags_refusal c) _ first.1 in
     let block = both_pass (status_block_refusal s c.pid c.block) _ argument.1 in
     let which = both_pass (which_refusal s c.pid c.lock) _ block.1 in
     let lock = both_pass (lock_refusal s c.pid lkid) _ which.1 in
     let admitted : admission_refusal s c (Some a) ≡ None = subst (λ (found : Option ConversionAdmission). admission_refusal s c found ≡ None) is lock.1 in
     let pair = both_pass (pair_refusal c a.row) _ admitted in
     let numbers = both_pass (request_numbers_refusal s) (queue_refusal c.flags a.at_once) pair.1 in
-    of_cond (caller_passes s c.pid first.0) (test_passes (are_built c.flags c.ast c.bast) Badparam argument.0) block.0 which.0
+    of_cond (caller_passes s c.pid first.0) (test_passes (is_known enq_bits c.flags) Badparam argument.0) block.0 which.0
     (lock_passes s c.pid lkid lock.0)
     (test_fails (has_flag c.flags quecvt && not (is_queued_legally_from a.row.held c.mode)) Badparam pair.0)
     (test_passes (nat_lt s.next_request (2 ^ 64)) Nolockid numbers.0)
@@ -365,15 +361,12 @@ conversion_keeps s c apart passed a is =
         (λ r so. Any-weaker (λ x. (x.lkid ≡ lkid) × (x.pid ≡ c.pid)) (λ x. x.lkid ≡ lkid) (λ x same. same.0) r.granted so.0) broken.1 in
         there.1 (converts_in_turn c (convert_request s c) lkid a.resource refl refl (sym (at_once_by_turn s c a is) ∙ at_once))
 
-    of_cond : IsCaller s c.pid → are_built c.flags c.ast c.bast ≡ true → status_block_refusal s c.pid c.block ≡ None
+    of_cond : IsCaller s c.pid → is_known enq_bits c.flags ≡ true → status_block_refusal s c.pid c.block ≡ None
         → which_refusal s c.pid c.lock ≡ None → HasLock s c.pid lkid
         → (has_flag c.flags quecvt && not (is_queued_legally_from a.row.held c.mode)) ≡ false → nat_lt s.next_request (2 ^ 64) ≡ true
         → (has_flag c.flags noqueue && not a.at_once) ≡ false → (cond : Cond) → ConversionBreaks s c cond → ⊥
-    of_cond caller built block which has legal number queue Badparam (inl unknown) = all_built c.flags c.ast c.bast built (inl unknown)
-    of_cond caller built block which has legal number queue Badparam (inr (inl at_end)) = all_built c.flags c.ast c.bast built (inr (inl at_end))
-    of_cond caller built block which has legal number queue Badparam (inr (inr (inl blocks))) =
-        all_built c.flags c.ast c.bast built (inr (inr blocks))
-    of_cond caller built block which has legal number queue Badparam (inr (inr (inr pair))) = pair_keeps legal pair
+    of_cond caller built block which has legal number queue Badparam (inl unknown) = request_flags_known c.flags built unknown
+    of_cond caller built block which has legal number queue Badparam (inr pair) = pair_keeps legal pair
     of_cond caller built block which has legal number queue Accvio (inl none) = block_passes s c.pid c.block block none
     of_cond caller built block which has legal number queue Accvio (inr none) = which_passes s c.pid c.lock which none
     of_cond caller built block which has legal number queue Ivlockid broken = broken has

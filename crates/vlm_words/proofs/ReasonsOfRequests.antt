@@ -16,7 +16,7 @@ use Rattle.vlm_words.specs.declared.resources.Domain.TheVariants.{Group, System}
 use Rattle.vlm_words.specs.declared.steps.NewRequest.{NewRequest}
 use Rattle.vlm_words.specs.Names.{is_name, name_of}
 use Rattle.vlm_words.specs.Modes.{rank}
-use Rattle.vlm_words.specs.Flags.{expedite, has_flag, noqueue, system}
+use Rattle.vlm_words.specs.Flags.{enq_bits, expedite, has_flag, is_known, noqueue, system}
 use Rattle.vlm_words.specs.State.{Process, Resource, State, process_of}
 use Rattle.vlm_words.specs.Grants.{fits, is_beside}
 use Rattle.vlm_words.specs.Rows.{is_lock_of}
@@ -24,7 +24,7 @@ use Rattle.vlm_words.specs.Resources.{is_at, key_name, key_parent, new_resource}
 use Rattle.vlm_words.specs.Checks.{caller_refusal, holds_lock, lock_refusal, numbers_refusal, or_else, queue_refusal, status_block_refusal, which_refusal}
 use Rattle.vlm_words.specs.Quotas.{locks_of, quota_of, quota_refusal}
 use Rattle.vlm_words.specs.Trees.{caller_group, depth_refusal, enq_site, has_syslck, parent_lkid, parent_refusal, parent_resource, privilege_refusal, root_domain, site_below, site_refusal, waiting_refusal}
-use Rattle.vlm_words.specs.Enqueue.{enq_argument_refusal, enq_at_once, enq_form_refusal, enq_key, enq_limit_refusal, enq_refusal, enq_request, enq_resource, expedite_refusal, is_at_once, is_free_for, name_refusal}
+use Rattle.vlm_words.specs.Enqueue.{enq_flags_refusal, enq_at_once, enq_form_refusal, enq_key, enq_limit_refusal, enq_refusal, enq_request, enq_resource, expedite_refusal, is_at_once, is_free_for, name_refusal}
 use Rattle.vlm_words.specs.Laws.{IsAskedFor, IsBeside, IsFreeFor, IsRootDomain, StandsAsAskedFor, StandsOn}
 use Rattle.vlm_words.specs.Reasons.{HasLock, IsAmong, RequestBreaks}
 use Rattle.vlm_words.proofs.Each.{Any-weaker, found_at}
@@ -35,7 +35,7 @@ use Rattle.vlm_words.proofs.Keys.{Placed, enq_keyed, key_at}
 use Rattle.vlm_words.proofs.AtOnce.{enters_in_turn, found_pid, no_zero, parent_by_lkid}
 use Rattle.vlm_words.proofs.Quotas.{all_counted, room_left}
 use Rattle.vlm_words.proofs.NewlyRooted.{any_found}
-use Rattle.vlm_words.proofs.FlagBits.{all_built, are_built, not_built}
+use Rattle.vlm_words.proofs.FlagBits.{request_flag_unknown, request_flags_known}
 use Rattle.vlm_words.proofs.Refusals.{Any_found, IsCaller, Says, all_or_any, among, among_found, block_passes, caller_passes, held_stands, is_somebody, lock_passes, says_block, says_caller, says_either, says_lock, says_none, says_some, says_unless, says_where, says_which, which_passes}
 
 -- ---- the parent lock
@@ -263,10 +263,10 @@ name_keeps s e passed = of_test (is_name e.name) refl passed
 
 -- the group of checks of the request itself
 form_breaks : (s : State) (e : NewRequest) → IsCaller s e.pid → Says (RequestBreaks s e) (enq_form_refusal s e)
-unfolding enq_form_refusal enq_argument_refusal expedite_refusal
+unfolding enq_form_refusal enq_flags_refusal expedite_refusal
 form_breaks s e caller =
-    says_either B (enq_argument_refusal e) _
-    (says_unless B (are_built e.flags e.ast e.bast) Badparam (λ is. not_built e.flags e.ast e.bast is))
+    says_either B (enq_flags_refusal e) _
+    (says_unless B (is_known enq_bits e.flags) Badparam (λ is. request_flag_unknown e.flags is))
     (λ _. says_either B (status_block_refusal s e.pid e.block) _ (says_block B s e.pid e.block caller (λ broken. inl broken))
     (λ _. says_either B (which_refusal s e.pid e.parent) _ (says_which B s e.pid e.parent caller (λ broken. inr broken))
     (λ _. says_either B (name_refusal e.name) (expedite_refusal e.flags e.mode) (name_breaks s e)
@@ -335,17 +335,17 @@ request_breaks s e apart placed =
 
 -- an accepted request breaks none
 pub request_keeps : (s : State) (e : NewRequest) → Apart s → Placed s → enq_refusal s e ≡ None → (c : Cond) → RequestBreaks s e c → ⊥
-unfolding enq_form_refusal enq_argument_refusal expedite_refusal site_refusal privilege_refusal enq_limit_refusal numbers_refusal
+unfolding enq_form_refusal enq_flags_refusal expedite_refusal site_refusal privilege_refusal enq_limit_refusal numbers_refusal
 request_keeps s e apart placed passed =
     let groups = enq_passes s e passed in
-    let argument = both_pass (enq_argument_refusal e) _ groups.1 in
+    let argument = both_pass (enq_flags_refusal e) _ groups.1 in
     let block = both_pass (status_block_refusal s e.pid e.block) _ argument.1 in
     let which = both_pass (which_refusal s e.pid e.parent) _ block.1 in
     let name = both_pass (name_refusal e.name) (expedite_refusal e.flags e.mode) which.1 in
     let site = both_pass (parent_refusal s e.pid (parent_lkid s e)) (privilege_refusal s e.pid e.flags (parent_lkid s e)) groups.2 in
     let quota = both_pass (quota_refusal s e.pid) _ groups.3 in
     let numbers = both_pass (numbers_refusal s) (queue_refusal e.flags (enq_at_once s e)) quota.1 in
-    of_cond (caller_passes s e.pid groups.0) (test_passes (are_built e.flags e.ast e.bast) Badparam argument.0) block.0 which.0 name.0 site.0
+    of_cond (caller_passes s e.pid groups.0) (test_passes (is_known enq_bits e.flags) Badparam argument.0) block.0 which.0 name.0 site.0
     (test_fails ((parent_lkid s e == 0) && has_flag e.flags system && not (has_syslck s e.pid)) Nosyslck site.1)
     (test_passes (nat_lt s.next_lkid (2 ^ 32) && nat_lt s.next_request (2 ^ 64)) Nolockid numbers.0)
     (test_fails (has_flag e.flags noqueue && not (enq_at_once s e)) Notqueued numbers.1)
@@ -353,12 +353,12 @@ request_keeps s e apart placed passed =
     named : parent_lkid s e ≢ 0 → (parent_lkid s e == 0) ≡ false
     named other = ne_eqb (parent_lkid s e) 0 other
 
-    of_cond : IsCaller s e.pid → are_built e.flags e.ast e.bast ≡ true → status_block_refusal s e.pid e.block ≡ None
+    of_cond : IsCaller s e.pid → is_known enq_bits e.flags ≡ true → status_block_refusal s e.pid e.block ≡ None
         → which_refusal s e.pid e.parent ≡ None → name_refusal e.name ≡ None → parent_refusal s e.pid (parent_lkid s e) ≡ None
         → ((parent_lkid s e == 0) && has_flag e.flags system && not (has_syslck s e.pid)) ≡ false
         → (nat_lt s.next_lkid (2 ^ 32) && nat_lt s.next_request (2 ^ 64)) ≡ true
         → (has_flag e.flags noqueue && not (enq_at_once s e)) ≡ false → (c : Cond) → RequestBreaks s e c → ⊥
-    of_cond caller built block which name parent privilege numbers queue Badparam broken = all_built e.flags e.ast e.bast built broken
+    of_cond caller built block which name parent privilege numbers queue Badparam broken = request_flags_known e.flags built broken
     of_cond caller built block which name parent privilege numbers queue Accvio (inl none) = block_passes s e.pid e.block block none
     of_cond caller built block which name parent privilege numbers queue Accvio (inr none) = which_passes s e.pid e.parent which none
     of_cond caller built block which name parent privilege numbers queue Ivbuflen broken = name_keeps s e name broken

@@ -50,11 +50,13 @@ use Rattle.vlm_words.proofs.InOrder.{service_in_order}
 use Rattle.vlm_words.proofs.Refusals.{Any_found}
 use Rattle.vlm_words.proofs.Returning.{AreReturned, Its, Serves, StatusBy, ValueBy, none_returned, one_returned, all_returned, returned_swept}
 use Rattle.vlm_words.proofs.Standing.{admitted_there, any_entered, any_map, granted_stays}
-use Rattle.vlm_words.proofs.SweptValues.{IsHarmless, WritesNothing, conversion_is_harmless, each_member, harmless_always, new_is_harmless, service_each, service_harmless, service_leaves, swept_alone}
+use Rattle.vlm_words.proofs.SweptValues.{IsHarmless, WritesNothing, conversion_is_harmless, each_member, harmless_always, new_is_harmless, service_each, service_harmless, served, served_leaves, swept_alone}
 use Rattle.vlm_words.proofs.Waiting.{EachConverting, Queued, conversion_queued, dequeue_queued, request_queued}
 use Rattle.vlm_words.proofs.Withdrawing.{one_ends}
 use Rattle.vlm_words.proofs.Writers.{kept_value}
 use Rattle.vlm_words.proofs.Written.{blocks_are}
+use Rattle.vlm_words.proofs.Warned.{holds_warned}
+use Rattle.vlm_words.specs.Asts.{resource_after_warning, row_after_warning}
 
 -- ---- what a grant does
 
@@ -162,6 +164,13 @@ service_holds r =
     (λ ending any. subst (Any (IsOf ending)) (sym first.granted) (Any-behind (IsOf ending) first.kept first.given any)) (service r).endings
     (given_hold _ first.given (service r).endings first.rows first.ends)
 
+-- a lock that is warned holds what it held
+held_warned : (ending : Ending) (r : Resource) → HoldsGranted ending r → HoldsGranted ending (resource_after_warning r)
+unfolding resource_after_warning
+held_warned ending r held =
+    any_map (IsOf ending) (IsOf ending) (row_after_warning r.converting r.waiting)
+    (holds_warned (IsOf ending) (λ row armed is. is) r.converting r.waiting) r.granted held
+
 -- what a filter keeps
 any_filter : {X : Type 0} (P : X → Type 0) (test : X → Bool) → ((x : X) → P x → test x ≡ true) → (xs : List X) → Any P xs → Any P (filter test xs)
 any_filter P test keeps [] some = some
@@ -182,20 +191,21 @@ occupied ending block r held = rw (some r.granted held.0) refl
 
 -- so it is there after the sweep
 held_swept : (ending : Ending) (block : ValueBlock) (processes : List Process) (resources : List Resource) → AllByRecursion (Queued IsHarmless) resources
-    → Any (IsHeldOn ending block) (map (λ r. (service r).resource) resources) → Any (IsHeldOn ending block) (resources_after_sweep processes resources)
+    → Any (IsHeldOn ending block) (map served resources) → Any (IsHeldOn ending block) (resources_after_sweep processes resources)
 held_swept ending block processes resources harmless any =
     subst (Any (IsHeldOn ending block)) (sym (swept_alone processes resources harmless))
-    (any_filter (IsHeldOn ending block) (λ r. not (is_vacant r)) (occupied ending block) (map (λ r. (service r).resource) resources) any)
+    (any_filter (IsHeldOn ending block) (λ r. not (is_vacant r)) (occupied ending block) (map served resources) any)
 
 -- one that is granted before the sweep is so after it
 held_stays : (ending : Ending) (block : ValueBlock) (processes : List Process) (resources : List Resource) → AllByRecursion (Queued IsHarmless) resources
     → Any (IsHeldOn ending block) resources → Any (IsHeldOn ending block) (resources_after_sweep processes resources)
 held_stays ending block processes resources harmless any =
     held_swept ending block processes resources harmless
-    (any_map (IsHeldOn ending block) (IsHeldOn ending block) (λ r. (service r).resource)
+    (any_map (IsHeldOn ending block) (IsHeldOn ending block) served
     (λ r held. (
-      granted_stays (IsOf ending) (λ x y same is. (same.lkid ∙ is.0, same.pid ∙ is.1, same.held ∙ is.2)) r (service r).resource (service r).endings (service_in_order r) held.0,
-      held.1 ∙ sym (service_leaves r),
+      held_warned ending (service r).resource
+          (granted_stays (IsOf ending) (λ x y same is. (same.lkid ∙ is.0, same.pid ∙ is.1, same.held ∙ is.2)) r (service r).resource (service r).endings (service_in_order r) held.0),
+      held.1 ∙ sym (served_leaves r),
     )) resources any)
 
 -- ---- a step that is made
@@ -221,8 +231,8 @@ sweep_serves change harmless =
             each_weaker (λ ending. HoldsGranted ending (service r).resource) (Its (IsItsValue (stepped_after_sweep change).state) r.value_block)
             (λ ending held _.
             held_swept ending r.value_block change.state.processes change.state.resources harmless
-            (any_map (λ x. r ≡ x) (IsHeldOn ending r.value_block) (λ x. (service x).resource)
-            (λ x same. subst (λ (t : Resource). IsHeldOn ending r.value_block (service t).resource) same (held, sym (service_leaves r)))
+            (any_map (λ x. r ≡ x) (IsHeldOn ending r.value_block) served
+            (λ x same. subst (λ (t : Resource). IsHeldOn ending r.value_block (served t)) same (held_warned ending (service r).resource held, sym (served_leaves r)))
             change.state.resources there.0)) (service r).endings (service_holds r);
       },
       at_each rest nothing.1 there.1,

@@ -18,8 +18,9 @@ use Rattle.vlm_words.specs.Written.{is_end_for, last_end, later_end}
 use Rattle.vlm_words.specs.Returned.{is_return, last_return}
 use Rattle.vlm_words.proofs.SweptValues.{WritesNothing, end_leaves}
 use Rattle.vlm_words.proofs.Each.{each_weaker}
-use Rattle.vlm_words.proofs.EndWrites.{AreLeft, ServiceLeaves, block_after_how, left_by_both, left_by_none, left_by_one, left_swept}
+use Rattle.vlm_words.proofs.EndWrites.{AreLeft, ServiceLeaves, block_after_how, left_by_both, left_by_none, left_by_one, left_swept, left_with_asts}
 use Rattle.vlm_words.proofs.Writing.{last_of_both, later_end-none, later_end-twice}
+use Rattle.vlm_words.specs.Asts.{warnings}
 
 -- the number of the status that goes with a mark
 abbrev pub mark_number : Bool → ℕ
@@ -148,4 +149,6 @@ module _ (P : Ending → ValueBlock → Type 0) where
       (each_weaker Serves (ServiceLeaves ReturnsTo) served resources serves)
     where
       served : (r : Resource) → Serves r → ServiceLeaves ReturnsTo r
-      served r each processes = all_returned (service r).endings (blocks_with r.value_block processes) each.nothing each.its
+      served r each processes =
+          left_with_asts ReturnsTo (warnings (service r).resource) (service r).endings processes (blocks_after (service r).endings (blocks_with r.value_block processes)).processes
+          (all_returned (service r).endings (blocks_with r.value_block processes) each.nothing each.its)

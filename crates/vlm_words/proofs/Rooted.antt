@@ -11,12 +11,12 @@ use Rattle.vlm_words.specs.declared.resources.ValueBlock.{ValueBlock}
 use Rattle.vlm_words.specs.State.{Process, Resource}
 use Rattle.vlm_words.specs.Effects.{with_value_block}
 use Rattle.vlm_words.specs.Grants.{is_empty, service}
-use Rattle.vlm_words.specs.Sweeps.{blocks_after_service, is_vacant, resource_after_service, resources_after_service, resources_after_sweep}
+use Rattle.vlm_words.specs.Sweeps.{blocks_after_service, is_vacant, resource_after_service, resources_after_service, resources_after_sweep, served_with}
 use Rattle.vlm_words.specs.Resources.{is_domain}
 use Rattle.vlm_words.specs.Laws.{IsSameResource}
 use Rattle.vlm_words.proofs.EachResource.{each_swept}
 use Rattle.vlm_words.proofs.Keys.{KeepsPlace, service_keeps_place}
-use Rattle.vlm_words.proofs.Weights.{served_weighs, weigh}
+use Rattle.vlm_words.proofs.Weights.{served_weighs, weigh, warned_weighs}
 use Rattle.vlm_words.proofs.Moves.{IsByName, grant_keeps}
 use Rattle.vlm_words.proofs.Holdings.{held_by, locks, served_held}
 use Rattle.vlm_words.proofs.Sums.{sum_of_zero}
@@ -153,11 +153,12 @@ rooted_changed all f keeps r less rooted =
     subst (λ (p : Position). weigh (loose all p) (f r) ≡ 0) (sym (same_position r (f r) (keeps r))) (omega (arith, less, rooted))
 
 -- and once it is served
-rooted_served : (all : List Resource) (block : ValueBlock) (r : Resource) → AllRooted all r → AllRooted all (with_value_block block (service r).resource)
+rooted_served : (all : List Resource) (block : ValueBlock) (r : Resource) → AllRooted all r → AllRooted all (served_with block r)
 rooted_served all block r rooted =
-    rooted_changed all (λ x. with_value_block block (service x).resource) (service_keeps_place block) r
+    rooted_changed all (λ x. served_with block x) (service_keeps_place block) r
     (omega (
       arith,
+      warned_weighs (loose all (position r)) (λ row armed. refl) (with_value_block block (service r).resource),
       served_weighs (loose all (position r)) (λ ending. 0) (grant_keeps (loose all (position r)) (loose_named all (position r))) r,
       sum_of_zero (service r).endings,
     ))

@@ -19,6 +19,8 @@ use Rattle.vlm_words.specs.Runs.{History, Run}
 use Rattle.vlm_words.specs.Laws.{IsConverting, IsHeld, IsWaiting, RowsFit, RowsFitTheirQueues}
 use Rattle.vlm_words.proofs.Each.{Found, found_at, each_append, each_at, each_filter, each_map, each_weaker}
 use Rattle.vlm_words.proofs.EachResource.{each_always}
+use Rattle.vlm_words.specs.Asts.{resource_after_warning}
+use Rattle.vlm_words.proofs.Warned.{each_warned}
 
 -- each row fits its queue, by recursion on the queues
 pub record Fit (r : Resource) : Type 0 where
@@ -73,6 +75,15 @@ same_fit r t granted converting waiting fit = record {
   granted = subst (AllByRecursion IsHeld) (sym granted) fit.granted;
   converting = subst (AllByRecursion IsConverting) (sym converting) fit.converting;
   waiting = subst (AllByRecursion IsWaiting) (sym waiting) fit.waiting;
+}
+
+-- nor do warnings
+warned_fit : (r : Resource) → Fit r → Fit (resource_after_warning r)
+unfolding resource_after_warning
+warned_fit r fit = record {
+  granted = each_warned IsHeld (λ row armed held. held) r.converting r.waiting r.granted fit.granted;
+  converting = fit.converting;
+  waiting = fit.waiting;
 }
 
 -- the entry of a lock keeps the rows fit
@@ -151,7 +162,9 @@ gone_fit w r fit =
 pub fit_always : (history : History) (last : State)
     → Run history last → AllByRecursion Fit last.resources
 fit_always history last run =
-    each_always Fit Fit (λ _ fit. fit) (λ block r fit. same_fit (service r).resource (with_value_block block (service r).resource) refl refl refl (served_fit r fit))
+    each_always Fit Fit (λ _ fit. fit) (λ block r fit.
+    warned_fit (with_value_block block (service r).resource)
+    (same_fit (service r).resource (with_value_block block (service r).resource) refl refl refl (served_fit r fit)))
     (record {
       fresh = λ _ _. record { granted = tt; converting = tt; waiting = tt };
       entry = entered_fit;

@@ -1,12 +1,12 @@
 -- A sweep leaves what is settled, and all is settled between the steps.
-use Rattle.std.proofs.Common.{◌≡◌, Bool, true, false, not, cond, List, [], ◌∷◌, ◌++◌, filter, flat_map, refl, sym, ap, ◌∙◌}
-use Rattle.std.specs.List.{AllByRecursion}
+use Rattle.std.proofs.Common.{◌≡◌, Bool, true, false, not, cond, List, [], ◌∷◌, ◌++◌, filter, flat_map, refl, sym, ap, ◌∙◌, map, ◌&&◌}
+use Rattle.std.specs.List.{AllByRecursion, list_any}
 use Rattle.std.proofs.lemmas.List.{append-nil}
 use Rattle.std.proofs.lemmas.List.Elements.{All-from_recursion}
 use Rattle.vlm_words.specs.declared.locks.Row.{Row}
 use Rattle.vlm_words.specs.State.{Process, Resource, State}
 use Rattle.vlm_words.specs.Grants.{is_empty, no_service, service}
-use Rattle.vlm_words.specs.Sweeps.{blocks_after_service, is_vacant, processes_after_service, resource_after_service, resources_after_service, resources_after_sweep, sweep_endings}
+use Rattle.vlm_words.specs.Sweeps.{blocks_after_service, is_vacant, processes_after_service, resource_after_service, resources_after_service, resources_after_sweep, sweep_endings, service_asts, sweep_asts}
 use Rattle.vlm_words.specs.Declare.{declare_change}
 use Rattle.vlm_words.specs.SetValue.{set_change}
 use Rattle.vlm_words.specs.Take.{take_change}
@@ -18,7 +18,12 @@ use Rattle.vlm_words.specs.Laws.{IsVacant, NoResourceIsVacant}
 use Rattle.vlm_words.specs.Settled.{IsSettled, IsSweptNext, IsUnswept, unless_vacant}
 use Rattle.vlm_words.proofs.Always.{always, kept_by_stepped}
 use Rattle.vlm_words.proofs.Each.{each_weaker}
-use Rattle.vlm_words.proofs.NothingLeft.{HeadsWait, NothingFits, nothing_fits_always, served_stops}
+use Rattle.vlm_words.proofs.NothingLeft.{HeadsWait, NothingFits, nothing_fits_always, served_stops, kept_by_all, warned_stops}
+use Rattle.std.proofs.lemmas.Bool.{or_parts, or_from}
+use Rattle.vlm_words.specs.Asts.{is_to_warn, row_after_warning, row_warnings, has_to_warn, resource_after_warning, warnings, is_in_the_way}
+use Rattle.vlm_words.specs.Effects.{with_value_block}
+use Rattle.std.specs.Prelude.{⊤}
+use Rattle.vlm_words.proofs.EachResource.{each_always}
 
 -- ---- some lock is left
 
@@ -64,6 +69,53 @@ occupied_law history last run =
     All-from_recursion (λ r. IsVacant r → ⊥) last.resources
     (each_weaker Occupied (λ r. IsVacant r → ⊥) occupied_not_vacant last.resources (occupied_always history last run))
 
+-- ---- nobody is warned
+
+-- where no row is to be warned, none is
+none_warned : (converting waiting rows : List Row) → list_any (is_to_warn converting waiting) rows ≡ false
+    → (map (row_after_warning converting waiting) rows ≡ rows) × (flat_map (row_warnings converting waiting) rows ≡ [])
+unfolding row_after_warning row_warnings
+none_warned converting waiting [] none = (refl, refl)
+none_warned converting waiting (row ∷ rows) none =
+    let parts = or_parts (is_to_warn converting waiting row) (list_any (is_to_warn converting waiting) rows) none in
+    let behind = none_warned converting waiting rows parts.1 in
+    (rw parts.0 (ap (λ (all : List Row). row ∷ all) behind.0), rw parts.0 behind.1)
+
+-- so the resource stays, and nothing is queued
+unwarned_stays : (r : Resource) → has_to_warn r ≡ false → resource_after_warning r ≡ r
+unfolding has_to_warn resource_after_warning
+unwarned_stays r none = ap (λ (rows : List Row). record r { granted = rows }) (none_warned r.converting r.waiting r.granted none).0
+
+unwarned_says_nothing : (r : Resource) → has_to_warn r ≡ false → warnings r ≡ []
+unfolding has_to_warn warnings
+unwarned_says_nothing r none = (none_warned r.converting r.waiting r.granted none).1
+
+-- who is warned is not to be warned again
+warned_once : (converting waiting rows : List Row) → list_any (is_to_warn converting waiting) (map (row_after_warning converting waiting) rows) ≡ false
+unfolding row_after_warning is_to_warn
+warned_once converting waiting [] = refl
+warned_once converting waiting (row ∷ rows) =
+    or_from (is_to_warn converting waiting (row_after_warning converting waiting row)) _
+    (of_test (row.armed && is_in_the_way row.held converting waiting) refl) (warned_once converting waiting rows)
+  where
+    of_test : (b : Bool) → (row.armed && is_in_the_way row.held converting waiting) ≡ b
+        → is_to_warn converting waiting (cond b (record row { armed = false }) row) ≡ false
+    of_test true is = refl
+    of_test false is = is
+
+-- nobody is left to warn on a resource that is served
+abbrev Unwarned : Resource → Type 0
+Unwarned r = has_to_warn r ≡ false
+
+served_unwarned : (r : Resource) → Unwarned (resource_after_warning r)
+unfolding has_to_warn resource_after_warning
+served_unwarned r = warned_once r.converting r.waiting r.granted
+
+-- after every run
+pub unwarned_always : (history : History) (last : State) → Run history last → AllByRecursion Unwarned last.resources
+unwarned_always history last run =
+    each_always (λ _. ⊤) Unwarned (λ _ _. tt) (λ block r _. served_unwarned (with_value_block block (service r).resource)) kept_by_all history last run
+
 -- ---- nothing is granted
 
 -- where the heads wait, nothing is granted
@@ -77,13 +129,18 @@ served_again base (row ∷ rows) waiting waits = rw waits refl
 nothing_granted : (r : Resource) → NothingFits r → service r ≡ no_service r
 nothing_granted r waits = served_again r r.converting r.waiting waits
 
-both : (resources : List Resource) → AllByRecursion NothingFits resources → AllByRecursion Occupied resources → AllByRecursion IsSettled resources
-both [] waits occupied = tt
-both (r ∷ rest) waits occupied = (record { served = nothing_granted r waits.0; occupied = occupied.0 }, both rest waits.1 occupied.1)
+all_settled : (resources : List Resource) → AllByRecursion NothingFits resources → AllByRecursion Unwarned resources → AllByRecursion Occupied resources
+    → AllByRecursion IsSettled resources
+all_settled [] waits unwarned occupied = tt
+all_settled (r ∷ rest) waits unwarned occupied = (
+  record { served = nothing_granted r waits.0; warned = unwarned.0; occupied = occupied.0 },
+  all_settled rest waits.1 unwarned.1 occupied.1,
+)
 
 -- every resource is settled
 pub settled_law : (history : History) (last : State) → Run history last → AllByRecursion IsSettled last.resources
-settled_law history last run = both last.resources (nothing_fits_always history last run) (occupied_always history last run)
+settled_law history last run =
+    all_settled last.resources (nothing_fits_always history last run) (unwarned_always history last run) (occupied_always history last run)
 
 -- ---- the sweep
 
@@ -91,27 +148,33 @@ settled_law history last run = both last.resources (nothing_fits_always history 
 module _ (processes : List Process) (r : Resource) (settled : IsSettled r) where
   same_statuses : (blocks_after_service processes r).processes ≡ processes
   unfolding blocks_after_service
-  same_statuses = rw settled.served refl
+  same_statuses = rw (settled.served, unwarned_says_nothing r settled.warned) refl
 
   same_resource : resource_after_service processes r ≡ r
   unfolding blocks_after_service
-  same_resource = rw settled.served refl
+  same_resource = rw settled.served (unwarned_stays r settled.warned)
 
   no_ends : (service r).endings ≡ []
   no_ends = rw settled.served refl
+
+  no_asts : service_asts r ≡ []
+  unfolding service_asts
+  no_asts = rw (settled.served, unwarned_says_nothing r settled.warned) refl
 
 -- settled resources at the head are passed
 passed : (processes : List Process) (before rest : List Resource) → AllByRecursion IsSettled before
     → (resources_after_service processes (before ++ rest) ≡ before ++ resources_after_service processes rest)
     × (processes_after_service processes (before ++ rest) ≡ processes_after_service processes rest)
     × (flat_map (λ r. (service r).endings) (before ++ rest) ≡ flat_map (λ r. (service r).endings) rest)
-passed processes [] rest settled = (refl, refl, refl)
+    × (flat_map service_asts (before ++ rest) ≡ flat_map service_asts rest)
+passed processes [] rest settled = (refl, refl, refl, refl)
 passed processes (r ∷ before) rest settled =
     let more = passed processes before rest settled.1 in
     let statuses = same_statuses processes r settled.0 in (
       rw (same_resource processes r settled.0, statuses) (ap (λ rs. r ∷ rs) more.0),
       ap (λ ps. processes_after_service ps (before ++ rest)) statuses ∙ more.1,
       rw (no_ends processes r settled.0) more.2,
+      rw (no_asts processes r settled.0) more.3,
     )
 
 -- and none of them is dropped
@@ -132,6 +195,10 @@ ends_behind : (before rest : List Resource) → AllByRecursion IsSettled before 
 unfolding sweep_endings
 ends_behind before rest settled = (passed [] before rest settled).2
 
+asts_behind : (before rest : List Resource) → AllByRecursion IsSettled before → sweep_asts (before ++ rest) ≡ sweep_asts rest
+unfolding sweep_asts
+asts_behind before rest settled = (passed [] before rest settled).3
+
 -- the first resource is served, and dropped if it has no lock
 swept_first : (processes : List Process) (r : Resource) (after : List Resource)
     → resources_after_sweep processes (r ∷ after)
@@ -146,13 +213,26 @@ ends_first : (r : Resource) (after : List Resource) → sweep_endings (r ∷ aft
 unfolding sweep_endings
 ends_first r after = refl
 
+asts_first : (r : Resource) (after : List Resource) → sweep_asts (r ∷ after) ≡ service_asts r ++ sweep_asts after
+unfolding sweep_asts
+asts_first r after = refl
+
 -- a resource that is served is settled, if a lock is left on it
 served_settled : (processes : List Process) (r : Resource) → AllByRecursion IsSettled (unless_vacant (resource_after_service processes r))
 served_settled processes r = of_test (is_vacant (resource_after_service processes r)) refl
   where
     of_test : (b : Bool) → is_vacant (resource_after_service processes r) ≡ b → AllByRecursion IsSettled (cond b [] (resource_after_service processes r ∷ []))
     of_test true is = tt
-    of_test false is = (record { served = nothing_granted (resource_after_service processes r) (served_stops r); occupied = is }, tt)
+    of_test false is = (
+      record {
+        served =
+            nothing_granted (resource_after_service processes r)
+            (warned_stops (with_value_block (blocks_after_service processes r).value_block (service r).resource) (served_stops r));
+        warned = served_unwarned (with_value_block (blocks_after_service processes r).value_block (service r).resource);
+        occupied = is;
+      },
+      tt,
+    )
 
 -- a sweep goes on with the first resource that is not settled
 pub swept_next : (processes : List Process) (before : List Resource) (r : Resource) (after : List Resource) → AllByRecursion IsSettled before
@@ -172,16 +252,20 @@ swept_next processes before r after first =
       ends =
           ends_behind before (r ∷ after) first ∙ ends_first r after
           ∙ ap (λ es. (service r).endings ++ es) (sym (ends_behind before (left ++ after) first ∙ ends_behind left after settled));
+      asts =
+          asts_behind before (r ∷ after) first ∙ asts_first r after
+          ∙ ap (λ qs. service_asts r ++ qs) (sym (asts_behind before (left ++ after) first ∙ asts_behind left after settled));
       settled = settled;
     }
 
 -- where all are settled it does nothing
 pub unswept : (processes : List Process) (resources : List Resource) → AllByRecursion IsSettled resources → IsUnswept processes resources
-unfolding resources_after_sweep sweep_endings
+unfolding resources_after_sweep sweep_endings sweep_asts
 unswept processes resources settled =
     let all = append-nil resources in
     record {
       resources = ap (resources_after_sweep processes) (sym all) ∙ swept_behind processes resources [] settled ∙ all;
       statuses = ap (processes_after_service processes) (sym all) ∙ (passed processes resources [] settled).1;
       none_ends = ap sweep_endings (sym all) ∙ ends_behind resources [] settled;
+      none_queued = ap sweep_asts (sym all) ∙ asts_behind resources [] settled;
     }

@@ -13,22 +13,24 @@ use Rattle.vlm_words.specs.Flags.{flag_bits, has_flag, valblk}
 use Rattle.vlm_words.specs.State.{Process, Resource, State}
 use Rattle.vlm_words.specs.Endings.{Ending, How, wanted_endings}
 use Rattle.vlm_words.specs.Endings.How.{by_abort, by_cancel, by_grant}
-use Rattle.vlm_words.specs.Effects.{Blocks, blocks_after, blocks_after_end, blocks_after_ending, blocks_after_return, blocks_with, with_value_block}
+use Rattle.vlm_words.specs.Effects.{Blocks, blocks_after, blocks_after_end, blocks_after_ending, blocks_after_return, blocks_with}
 use Rattle.vlm_words.specs.Grants.{grant_act, grant_endings, is_empty, no_service, resource_after_grant, service, service_after_grant, service_of_conversions, service_of_new_requests, service_of_waiting, valblk_act, wanted_fits}
 use Rattle.vlm_words.specs.Rows.{is_lock_of}
-use Rattle.vlm_words.specs.Sweeps.{blocks_after_service, is_vacant, resource_after_service, resources_after_service, resources_after_sweep}
+use Rattle.vlm_words.specs.Sweeps.{blocks_after_service, is_vacant, resource_after_service, resources_after_service, resources_after_sweep, served_with}
 use Rattle.vlm_words.specs.Enqueue.{enq_row}
 use Rattle.vlm_words.specs.Convert.{ConversionAdmission, convert_admission, convert_lkid, convert_refusal, convert_request}
 use Rattle.vlm_words.specs.Runs.{History, Run}
-use Rattle.vlm_words.specs.Laws.{action_from}
+use Rattle.vlm_words.specs.Laws.{action_from, IsSameResource}
 use Rattle.vlm_words.proofs.Admissions.{admitted_request, found_lkid}
 use Rattle.vlm_words.proofs.Apart.{Apart, apart_always}
 use Rattle.vlm_words.proofs.Each.{Any-here, Any-there, Any-weaker, each_append, each_weaker, found_at}
 use Rattle.vlm_words.proofs.HeldModes.{HoldersAgree, holders_agree_always}
-use Rattle.vlm_words.proofs.InOrder.{SameWaiting, conversions_leave_waiting}
+use Rattle.vlm_words.proofs.InOrder.{SameWaiting, conversions_leave_waiting, same_then, service_in_order}
 use Rattle.vlm_words.proofs.Refusals.{Any_found}
 use Rattle.vlm_words.proofs.Waiting.{EachConverting, Queued, queued_always}
 use Rattle.vlm_words.proofs.Writes.{only_row_among, write_at_once}
+use Rattle.vlm_words.specs.Asts.{resource_after_warning}
+use Rattle.vlm_words.proofs.Warned.{warned_same}
 
 -- ---- no queued request writes
 
@@ -193,22 +195,35 @@ service_leaves r =
     (λ _. waiting_leaves first.resource first.resource.waiting ∙ conversions_leave r r.converting)
     (λ _. conversions_leave r r.converting)
 
+-- the resource as its service leaves it where no grant writes the value block
+abbrev pub served : Resource → Resource
+served r = resource_after_warning (service r).resource
+
 -- and so does a service with all that it writes
-pub served_alone : (processes : List Process) (r : Resource) → Queued IsHarmless r → resource_after_service processes r ≡ (service r).resource
+pub served_alone : (processes : List Process) (r : Resource) → Queued IsHarmless r → resource_after_service processes r ≡ served r
 unfolding blocks_after_service
 served_alone processes r harmless =
-    ap (λ (block : ValueBlock). with_value_block block (service r).resource)
+    ap (λ (block : ValueBlock). served_with block r)
     (ends_leave (service r).endings (blocks_with r.value_block processes) (service_harmless r harmless) ∙ sym (service_leaves r))
 
+-- it is the resource that it was
+pub served_same : (r : Resource) → IsSameResource r (served r)
+served_same r = same_then r (service r).resource (served r) (service_in_order r).same (warned_same (service r).resource)
+
+-- the value block stays
+pub served_leaves : (r : Resource) → (served r).value_block ≡ r.value_block
+unfolding resource_after_warning
+served_leaves r = service_leaves r
+
 all_served_alone : (processes : List Process) (resources : List Resource) → AllByRecursion (Queued IsHarmless) resources
-    → resources_after_service processes resources ≡ map (λ r. (service r).resource) resources
+    → resources_after_service processes resources ≡ map served resources
 all_served_alone processes [] harmless = refl
 all_served_alone processes (r ∷ rest) harmless =
     ap (λ (left : Resource). left ∷ resources_after_service (blocks_after_service processes r).processes rest) (served_alone processes r harmless.0)
-    ∙ ap (λ (left : List Resource). (service r).resource ∷ left) (all_served_alone (blocks_after_service processes r).processes rest harmless.1)
+    ∙ ap (λ (left : List Resource). served r ∷ left) (all_served_alone (blocks_after_service processes r).processes rest harmless.1)
 
 -- so a sweep serves each resource alone, and drops those without locks
 pub swept_alone : (processes : List Process) (resources : List Resource) → AllByRecursion (Queued IsHarmless) resources
-    → resources_after_sweep processes resources ≡ filter (λ r. not (is_vacant r)) (map (λ r. (service r).resource) resources)
+    → resources_after_sweep processes resources ≡ filter (λ r. not (is_vacant r)) (map served resources)
 unfolding resources_after_sweep
 swept_alone processes resources harmless = ap (filter (λ r. not (is_vacant r))) (all_served_alone processes resources harmless)

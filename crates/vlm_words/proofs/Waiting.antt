@@ -9,8 +9,8 @@ use Rattle.vlm_words.specs.declared.steps.Dequeue.{Dequeue}
 use Rattle.vlm_words.specs.declared.steps.NewRequest.{NewRequest}
 use Rattle.vlm_words.specs.State.{Resource, State}
 use Rattle.vlm_words.specs.Effects.{with_value_block}
-use Rattle.vlm_words.specs.Grants.{resource_after_grant, service}
-use Rattle.vlm_words.specs.Sweeps.{state_after_sweep}
+use Rattle.vlm_words.specs.Grants.{resource_after_grant}
+use Rattle.vlm_words.specs.Sweeps.{state_after_sweep, served_with}
 use Rattle.vlm_words.specs.Rows.{is_lock_of}
 use Rattle.vlm_words.specs.Trees.{enq_site}
 use Rattle.vlm_words.specs.Declare.{declare_change}
@@ -26,6 +26,7 @@ use Rattle.vlm_words.proofs.Always.{always, kept_by_stepped}
 use Rattle.vlm_words.proofs.EachResource.{each_entered_on, each_swept, found_has}
 use Rattle.vlm_words.proofs.Withdrawing.{kept_withdrawn}
 use Rattle.vlm_words.proofs.InOrder.{service_in_order}
+use Rattle.vlm_words.specs.Asts.{resource_after_warning}
 
 -- each queued row has it
 pub record Queued (P : Row → Type 0) (r : Resource) : Type 0 where
@@ -38,7 +39,8 @@ EachConverting P c lkid a r = (row : Row) → find (is_lock_of c.pid lkid) r.gra
 
 module _ (P : Row → Type 0) where
   -- service leaves queued rows as they were
-  served_queued : (block : ValueBlock) (r : Resource) → Queued P r → Queued P (with_value_block block (service r).resource)
+  served_queued : (block : ValueBlock) (r : Resource) → Queued P r → Queued P (served_with block r)
+  unfolding resource_after_warning
   served_queued block r queued =
       let order = service_in_order r in
       record {

@@ -13,6 +13,9 @@ use Rattle.vlm_words.specs.Resources.{is_at, new_resource}
 use Rattle.vlm_words.specs.Enqueue.{resource_after_entry, resources_after_entry}
 use Rattle.vlm_words.proofs.NothingLeft.{is_empty-true}
 use Rattle.vlm_words.proofs.Sums.{sum_of_one}
+use Rattle.vlm_words.specs.Asts.{resource_after_warning}
+use Rattle.vlm_words.proofs.Warned.{IsArmedBlind, sum_warned}
+use Rattle.vlm_words.specs.Effects.{with_value_block}
 
 -- what the rows of a resource weigh
 abbrev pub weigh : (Row → ℕ) → Resource → ℕ
@@ -103,18 +106,24 @@ dropped_weighs f r rest =
       | false ↦ λ _. sum_by-cons (weigh f) r rest
     ] refl
 
+-- warnings keep the weight of what does not depend on them
+pub warned_weighs : (f : Row → ℕ) → IsArmedBlind f → (r : Resource) → weigh f (resource_after_warning r) ≡ weigh f r
+unfolding resource_after_warning
+warned_weighs f blind r = omega (arith, sum_warned f blind r.converting r.waiting r.granted)
+
 -- a sweep keeps the weight
-pub swept_weighs : (f : Row → ℕ) (g : Ending → ℕ) → GrantKeeps f g → (processes : List Process) (resources : List Resource)
+pub swept_weighs : (f : Row → ℕ) (g : Ending → ℕ) → GrantKeeps f g → IsArmedBlind f → (processes : List Process) (resources : List Resource)
     → sum_by (weigh f) (resources_after_sweep processes resources) + sum_by g (sweep_endings resources) ≡ sum_by (weigh f) resources
 unfolding resources_after_sweep sweep_endings
-swept_weighs f g keeps processes [] = refl
-swept_weighs f g keeps processes (r ∷ rest) =
+swept_weighs f g keeps blind processes [] = refl
+swept_weighs f g keeps blind processes (r ∷ rest) =
     let after : List Process = (blocks_after_service processes r).processes in
-    let behind : sum_by (weigh f) (resources_after_sweep after rest) + sum_by g (sweep_endings rest) ≡ sum_by (weigh f) rest = swept_weighs f g keeps after rest in
+    let behind : sum_by (weigh f) (resources_after_sweep after rest) + sum_by g (sweep_endings rest) ≡ sum_by (weigh f) rest = swept_weighs f g keeps blind after rest in
     omega (
       arith,
       behind,
       served_weighs f g keeps r,
+      warned_weighs f blind (with_value_block (blocks_after_service processes r).value_block (service r).resource),
       dropped_weighs f (resource_after_service processes r) (resources_after_sweep after rest),
       sum_by-append g (service r).endings (sweep_endings rest),
       sum_by-cons (weigh f) r rest,

@@ -27,7 +27,7 @@ use Rattle.vlm_words.specs.StatusBlocks.{new_status_block, processes_after_accep
 use Rattle.vlm_words.specs.Endings.How.{by_grant}
 use Rattle.vlm_words.specs.ValueBlocks.{written_value_block}
 use Rattle.vlm_words.specs.Effects.{blocks_after, blocks_after_grant, blocks_after_writing, blocks_with}
-use Rattle.vlm_words.specs.Grants.{grant_act, grant_endings, resource_after_grant, service}
+use Rattle.vlm_words.specs.Grants.{grant_act, grant_endings, resource_after_grant}
 use Rattle.vlm_words.specs.Rows.{is_lock_of}
 use Rattle.vlm_words.specs.Resources.{is_at, new_resource}
 use Rattle.vlm_words.specs.Sweeps.{is_vacant, resources_after_sweep}
@@ -50,10 +50,10 @@ use Rattle.vlm_words.proofs.AtOnce.{only_there}
 use Rattle.vlm_words.proofs.Each.{Any-behind, Any-cases, Any-none, Any-weaker, any_left, each_filter, each_map, each_weaker, found_at}
 use Rattle.vlm_words.proofs.EachResource.{each_entered_at}
 use Rattle.vlm_words.proofs.HeldModes.{HoldersAgree, holders_agree_always}
-use Rattle.vlm_words.proofs.Keys.{Placed, WasGiven, conversion_keeps_place, entry_keeps_place, placed_always, service_keeps_place, withdrawals_keep_place}
+use Rattle.vlm_words.proofs.Keys.{Placed, WasGiven, conversion_keeps_place, entry_keeps_place, placed_always, withdrawals_keep_place}
 use Rattle.vlm_words.proofs.Refusals.{Any_found}
 use Rattle.vlm_words.proofs.Standing.{admitted_there}
-use Rattle.vlm_words.proofs.SweptValues.{IsHarmless, WritesNothing, conversion_is_harmless, each_member, ends_leave, grant_harmless, harmless_always, new_is_harmless, service_leaves, swept_alone, table_writes, writes_by_table}
+use Rattle.vlm_words.proofs.SweptValues.{IsHarmless, WritesNothing, conversion_is_harmless, each_member, ends_leave, grant_harmless, harmless_always, new_is_harmless, served, served_leaves, served_same, swept_alone, table_writes, writes_by_table}
 use Rattle.vlm_words.proofs.Waiting.{Queued, conversion_queued, dequeue_queued, request_queued}
 use Rattle.vlm_words.proofs.Writes.{only_row_among, write_at_once}
 use Rattle.vlm_words.proofs.Written.{blocks_are, conversion_names}
@@ -86,9 +86,9 @@ swept_has : (s : State) (step : Step) (processes : List Process) (resources : Li
     → AllByRecursion (Has s step) resources → AllByRecursion (Has s step) (resources_after_sweep processes resources)
 swept_has s step processes resources harmless each =
     subst (AllByRecursion (Has s step)) (sym (swept_alone processes resources harmless))
-    (each_filter (Has s step) (λ r. not (is_vacant r)) (map (λ r. (service r).resource) resources)
-    (each_map (Has s step) (Has s step) (λ r. (service r).resource)
-    (λ r has. has_same s step r (service r).resource (service_keeps_place r.value_block r).serial (service_leaves r) has) resources each))
+    (each_filter (Has s step) (λ r. not (is_vacant r)) (map served resources)
+    (each_map (Has s step) (Has s step) served
+    (λ r has. has_same s step r (served r) (served_same r).serial (served_leaves r) has) resources each))
 
 -- a change of each resource that is there
 changed_has : (s : State) (step : Step) (change : Resource → Resource) → ((r : Resource) → Any (λ x. r ≡ x) s.resources → HasItsValue s step r (change r))

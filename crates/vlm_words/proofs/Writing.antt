@@ -15,7 +15,8 @@ use Rattle.vlm_words.specs.Grants.{service}
 use Rattle.vlm_words.specs.Sweeps.{blocks_after_service, processes_after_service, sweep_endings}
 use Rattle.vlm_words.specs.Written.{IsLeftByEnds, TellsHow, TellsLast, is_end_for, last_end, later_end}
 use Rattle.vlm_words.proofs.Each.{Any-behind, Any-here, any_left, each_so}
-use Rattle.vlm_words.proofs.EndWrites.{AreLeft, ServiceLeaves, block_after_how, left_by_both, left_by_none, left_by_one, left_swept}
+use Rattle.vlm_words.proofs.EndWrites.{AreLeft, ServiceLeaves, block_after_how, left_by_both, left_by_none, left_by_one, left_swept, left_with_asts}
+use Rattle.vlm_words.specs.Asts.{warnings}
 
 -- the status that it writes tells how the request ended
 tells : (how : How) (value : ValueBlock) (block : Block) → TellsHow how (block_after_how how value block).status
@@ -121,4 +122,7 @@ pub all_left_swept : (endings : List Ending) (before changed : List Process) (re
 unfolding blocks_after_service
 all_left_swept endings before changed resources left =
     left_swept IsLeftByEnds one_left_by_none one_left_by_both endings before changed resources left
-    (each_so (ServiceLeaves IsLeftByEnds) (λ r processes. all_left (service r).endings (blocks_with r.value_block processes)) resources)
+    (each_so (ServiceLeaves IsLeftByEnds)
+    (λ r processes.
+    left_with_asts IsLeftByEnds (warnings (service r).resource) (service r).endings processes (blocks_after (service r).endings (blocks_with r.value_block processes)).processes
+    (all_left (service r).endings (blocks_with r.value_block processes))) resources)

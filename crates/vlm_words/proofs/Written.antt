@@ -23,14 +23,14 @@ use Rattle.vlm_words.specs.ValueBlocks.{new_value_block}
 use Rattle.vlm_words.specs.StatusBlocks.{new_status_block, processes_after_acceptance, processes_after_setting, processes_after_write, status_block_of, status_blocks_of}
 use Rattle.vlm_words.specs.Endings.{Ending}
 use Rattle.vlm_words.specs.Effects.{blocks_with}
-use Rattle.vlm_words.specs.Sweeps.{blocks_after_service, processes_after_service, sweep_endings}
+use Rattle.vlm_words.specs.Sweeps.{processes_after_service, sweep_endings}
 use Rattle.vlm_words.specs.Checks.{caller_refusal, has_departed, or_else, status_block_refusal, which_refusal}
 use Rattle.vlm_words.specs.Declare.{declare_change, declared_process}
 use Rattle.vlm_words.specs.SetValue.{set_change, set_refusal}
 use Rattle.vlm_words.specs.Take.{take_change}
 use Rattle.vlm_words.specs.Asts.{later, process_after_take, processes_after_take}
 use Rattle.vlm_words.specs.Enqueue.{enq_change, enq_endings, enq_resource}
-use Rattle.vlm_words.specs.Convert.{ConversionAdmission, admission_refusal, conversion_endings, convert_admission, convert_argument_refusal, convert_blocks, convert_change, convert_lkid, convert_refusal}
+use Rattle.vlm_words.specs.Convert.{ConversionAdmission, admission_refusal, conversion_endings, convert_admission, convert_flags_refusal, convert_blocks, convert_change, convert_lkid, convert_refusal}
 use Rattle.vlm_words.specs.Checks.{lock_refusal}
 use Rattle.vlm_words.specs.Steps.{node_of_pid}
 use Rattle.vlm_words.specs.Dequeue.{deq_change, deq_endings}
@@ -41,7 +41,7 @@ use Rattle.vlm_words.specs.Written.{BlocksAfter, IsLeftByEnds, ProcessesAfter, W
 use Rattle.vlm_words.proofs.Always.{admission_of}
 use Rattle.vlm_words.proofs.Passed.{test_passes}
 use Rattle.vlm_words.proofs.Processes.{kept_converted, kept_ended, kept_entered, kept_set, kept_swept, kept_taken}
-use Rattle.vlm_words.proofs.Settled.{settled_law}
+use Rattle.vlm_words.proofs.Settled.{settled_law, unswept}
 use Rattle.vlm_words.proofs.EndWrites.{block_at, block_written, many_written}
 use Rattle.vlm_words.proofs.Writing.{AreLeftByEnds, all_left, all_left_by_none, all_left_swept}
 
@@ -67,7 +67,7 @@ pub conversion_names : (s : State) (c : Conversion) → convert_refusal s c ≡ 
 unfolding convert_refusal
 conversion_names s c passed =
     from_1 s c.pid c.block
-    (third_of (caller_refusal s c.pid) (convert_argument_refusal c) (status_block_refusal s c.pid c.block)
+    (third_of (caller_refusal s c.pid) (convert_flags_refusal c) (status_block_refusal s c.pid c.block)
     (or_else (which_refusal s c.pid c.lock) (or_else (lock_refusal s c.pid (convert_lkid s c)) (admission_refusal s c (convert_admission s c)))) passed)
 
 -- ---- what a step makes of the blocks
@@ -193,9 +193,7 @@ swept_writes s step change kept named first ends = (
 
 -- where all is settled a sweep writes nothing
 nothing_swept : (processes : List Process) (resources : List Resource) → AllByRecursion IsSettled resources → processes_after_service processes resources ≡ processes
-unfolding blocks_after_service
-nothing_swept processes [] settled = refl
-nothing_swept processes (r ∷ rest) settled = rw settled.0.served (nothing_swept processes rest settled.1)
+nothing_swept processes resources settled = (unswept processes resources settled).statuses
 
 -- who is there is found before one who is added
 pub found_first : (processes : List Process) (p : Process) (pid : ℕ) (before : Process) → process_of processes pid ≡ Some before
@@ -225,7 +223,7 @@ setting_writes : (s : State) (v : ValueSetting) (choice : Option Row)
 unfolding set_change processes_after_setting
 setting_writes s v choice =
     swept_writes s (SetValue v) (step_change s (SetValue v) choice)
-    (kept_swept without_notices (λ _ _. refl) (set_change s v).processes s.resources ∙ kept_set without_notices (λ _ _. refl) v.pid v.block v.value s.processes)
+    (kept_swept without_notices (λ _ _ _. refl) (set_change s v).processes s.resources ∙ kept_set without_notices (λ _ _. refl) v.pid v.block v.value s.processes)
     (set_change s v).processes
     (one_named (SetValue v) (Plain Normal) s v.pid v.block (λ block. record block { value = v.value }) (λ _ _. refl) (λ _. refl))
     (all_left_by_none (set_change s v).processes)
@@ -236,7 +234,7 @@ request_writes : (s : State) (e : NewRequest) (choice : Option Row)
 unfolding enq_change processes_after_acceptance
 request_writes s e choice =
     swept_writes s (Enq e) (step_change s (Enq e) choice)
-    (kept_swept without_notices (λ _ _. refl) (enq_change s e).processes (enq_change s e).resources ∙ kept_entered without_notices (λ _ _. refl) s e)
+    (kept_swept without_notices (λ _ _ _. refl) (enq_change s e).processes (enq_change s e).resources ∙ kept_entered without_notices (λ _ _ _. refl) s e)
     (processes_after_acceptance e.pid e.block s.next_lkid s.processes)
     (one_named (Enq e) (step_change s (Enq e) choice).answer s e.pid e.block (λ block. record block { status = 0; lkid = s.next_lkid })
     (λ _ _. refl) (λ _. refl))
@@ -248,7 +246,7 @@ unfolding convert_change convert_blocks processes_after_acceptance
 conversion_writes s c a =
     let lkid : ℕ = convert_lkid s c in
     swept_writes s (Convert c) (conversion_change s c (Some a))
-    (kept_swept without_notices (λ _ _. refl) (convert_change s c a).processes (convert_change s c a).resources ∙ kept_converted without_notices (λ _ _. refl) s c a)
+    (kept_swept without_notices (λ _ _ _. refl) (convert_change s c a).processes (convert_change s c a).resources ∙ kept_converted without_notices (λ _ _ _. refl) s c a)
     (processes_after_acceptance c.pid c.block lkid s.processes)
     (one_named (Convert c) (conversion_change s c (Some a)).answer s c.pid c.block (λ block. record block { status = 0; lkid = lkid })
     (λ _ _. refl) (λ _. refl))
@@ -259,8 +257,8 @@ dequeue_writes : (s : State) (d : Dequeue) (choice : Option Row) → Writes s (D
 unfolding deq_change
 dequeue_writes s d choice =
     swept_writes s (Deq d) (step_change s (Deq d) choice)
-    (kept_swept without_notices (λ _ _. refl) (deq_change s d).processes (deq_change s d).resources
-    ∙ kept_ended without_notices (λ _ _. refl) (deq_endings s d) (blocks_with new_value_block s.processes))
+    (kept_swept without_notices (λ _ _ _. refl) (deq_change s d).processes (deq_change s d).resources
+    ∙ kept_ended without_notices (λ _ _ _. refl) (deq_endings s d) (blocks_with new_value_block s.processes))
     s.processes (unmade (Deq d) (Plain Normal) s (λ _. refl))
     (all_left (deq_endings s d) (blocks_with new_value_block s.processes))
 
@@ -287,7 +285,7 @@ taking_writes : (s : State) (taker : ℕ) (choice : Option Row) → Writes s (Ta
 unfolding take_change
 taking_writes s taker choice =
     swept_writes s (Take taker) (step_change s (Take taker) choice)
-    (kept_swept without_notices (λ _ _. refl) (take_change s taker).processes s.resources ∙ kept_taken without_notices (λ _ _. refl) taker s.processes)
+    (kept_swept without_notices (λ _ _ _. refl) (take_change s taker).processes s.resources ∙ kept_taken without_notices (λ _ _. refl) taker s.processes)
     (take_change s taker).processes
     (λ pid before is.
     let blocks : status_blocks_of (take_change s taker).processes pid ≡ before.blocks =

@@ -1,8 +1,17 @@
 -- The ASTs of processes.
-use Rattle.std.specs.Prelude.{ℕ, List, [], ◌∷◌, ◌++◌, map, drop, ◌==◌, Option, slice_get, if◌then◌else◌}
+use Rattle.std.specs.Prelude.{ℕ, Bool, false, not, List, [], ◌∷◌, ◌++◌, map, drop, ◌==◌, ◌&&◌, ◌||◌, flat_map, Option, None, Some, slice_get, if◌then◌else◌}
+use Rattle.std.specs.List.{list_any}
 use Rattle.std.specs.Option.{option_map_or}
 use Rattle.vlm_words.specs.declared.asts.Ast.{Ast}
-use Rattle.vlm_words.specs.State.{Process, process_of}
+use Rattle.vlm_words.specs.declared.asts.AstKind.{AstKind}
+use Rattle.vlm_words.specs.declared.asts.AstKind.TheVariants.{Completion, Blocking}
+use Rattle.vlm_words.specs.declared.locks.Request.{Request}
+use Rattle.vlm_words.specs.declared.locks.Row.{Row}
+use Rattle.vlm_words.specs.declared.modes.Mode.{Mode}
+use Rattle.vlm_words.specs.Modes.{is_compatible}
+use Rattle.vlm_words.specs.Flags.{flag_bits, has_flag, syncsts}
+use Rattle.vlm_words.specs.State.{Process, Resource, process_of}
+use Rattle.vlm_words.specs.Endings.{Ending}
 
 -- the ASTs that are queued to a living process and not yet taken, the oldest first
 abbrev pub asts_of : List Process → ℕ → List Ast
@@ -50,3 +59,72 @@ abbrev pub processes_after_asts : List Queued → List Process → List Process
 processes_after_asts [] processes = processes
 processes_after_asts (q ∷ queued) processes =
     processes_after_asts queued (processes_after_queueing q.pid q.ast processes)
+
+-- the AST of a lock's request for its process, if a routine is named for it
+abbrev pub asts_for : AstKind → Option ℕ → Request → ℕ → ℕ → List Queued
+asts_for kind None request lkid pid = []
+asts_for kind (Some routine) request lkid pid =
+    record { pid = pid; ast = record { kind = kind; routine = routine; param = request.param; lkid = lkid } }
+    ∷ []
+
+-- ---- completions
+
+-- the request is granted at once, and SYNCSTS lets the answer tell of that alone
+abbrev pub is_synchronous : Ending → Bool
+is_synchronous ending = ending.at_once && has_flag (flag_bits ending.request.flags) syncsts
+
+-- the completion AST of a request that has ended
+unfoldable pub completions : Ending → List Queued
+completions ending =
+    if is_synchronous ending then []
+    else asts_for Completion ending.request.completion ending.request ending.lkid ending.pid
+
+-- those of requests that have ended, in the order of their ends
+abbrev pub completions_of : List Ending → List Queued
+completions_of endings = flat_map completions endings
+
+-- ---- warnings
+
+-- what is held keeps the request from being granted
+abbrev pub keeps_out : Mode → Option Request → Bool
+keeps_out mode None = false
+keeps_out mode (Some want) = not (is_compatible want.mode mode)
+
+-- what is held, if anything is, keeps some queued request from being granted
+abbrev pub is_in_the_way : Option Request → List Row → List Row → Bool
+is_in_the_way None converting waiting = false
+is_in_the_way (Some held) converting waiting =
+    list_any (λ row. keeps_out held.mode row.want) converting
+    || list_any (λ row. keeps_out held.mode row.want) waiting
+
+-- the lock of a granted row is to be warned: it is armed, and in the way of a queued request
+unfoldable pub is_to_warn : List Row → List Row → Row → Bool
+is_to_warn converting waiting row = row.armed && is_in_the_way row.held converting waiting
+
+-- the blocking AST of what is held, if a routine is named for it
+abbrev pub blocking_asts : Option Request → ℕ → ℕ → List Queued
+blocking_asts None lkid pid = []
+blocking_asts (Some held) lkid pid = asts_for Blocking held.blocking held lkid pid
+
+-- the warning of a granted row, if it is to be warned
+unfoldable pub row_warnings : List Row → List Row → Row → List Queued
+row_warnings converting waiting row =
+    if is_to_warn converting waiting row then blocking_asts row.held row.lkid row.pid else []
+
+-- the warnings of a resource, in the order of its granted queue
+unfoldable pub warnings : Resource → List Queued
+warnings r = flat_map (row_warnings r.converting r.waiting) r.granted
+
+-- the row once it is warned: then it is armed no more
+unfoldable pub row_after_warning : List Row → List Row → Row → Row
+row_after_warning converting waiting row =
+    if is_to_warn converting waiting row then record row { armed = false } else row
+
+-- the resource once its granted locks are warned
+unfoldable pub resource_after_warning : Resource → Resource
+resource_after_warning r =
+    record r { granted = map (row_after_warning r.converting r.waiting) r.granted }
+
+-- some granted lock of the resource is to be warned
+unfoldable pub has_to_warn : Resource → Bool
+has_to_warn r = list_any (is_to_warn r.converting r.waiting) r.granted

@@ -1,5 +1,5 @@
 -- The step that converts a lock to another mode.
-use Rattle.std.specs.Prelude.{ℕ, Bool, true, false, not, ◌&&◌, ◌||◌, ◌+◌, List, [], ◌∷◌, ◌++◌, map, find, Option, None, Some, is_none, if◌then◌else◌}
+use Rattle.std.specs.Prelude.{ℕ, Bool, true, false, not, ◌&&◌, ◌||◌, ◌+◌, List, [], ◌∷◌, ◌++◌, map, find, Option, None, Some, if◌then◌else◌}
 use Rattle.vlm_words.specs.declared.conditions.Cond.TheVariants.{Badparam, Cvtungrant}
 use Rattle.vlm_words.specs.declared.conditions.Cond.{Cond}
 use Rattle.vlm_words.specs.declared.locks.Request.{Request}
@@ -17,10 +17,9 @@ use Rattle.vlm_words.specs.Grants.{fits, grant_endings, is_empty, resource_after
 use Rattle.vlm_words.specs.Rows.{is_lock_of, rows_without}
 use Rattle.vlm_words.specs.Checks.{caller_refusal, lock_refusal, named_lkid, or_else, queue_refusal, request_numbers_refusal, status_block_refusal, which_refusal}
 
--- an unknown flag, or an argument that is not built yet: a routine
-unfoldable pub convert_argument_refusal : Conversion → Option Cond
-convert_argument_refusal c =
-    if is_known enq_bits c.flags && is_none c.ast && is_none c.bast then None else Some Badparam
+-- an unknown flag
+unfoldable pub convert_flags_refusal : Conversion → Option Cond
+convert_flags_refusal c = if is_known enq_bits c.flags then None else Some Badparam
 
 -- at once: the mode fits beside all other locks, and with QUECVT no conversion is queued
 unfoldable pub converts_at_once : Request → ℕ → Resource → Bool
@@ -97,7 +96,7 @@ admission_refusal s c (Some a) =
 unfoldable pub convert_refusal : State → Conversion → Option Cond
 convert_refusal s c =
     or_else (caller_refusal s c.pid)
-    (or_else (convert_argument_refusal c)
+    (or_else (convert_flags_refusal c)
     (or_else (status_block_refusal s c.pid c.block)
     (or_else (which_refusal s c.pid c.lock)
     (or_else (lock_refusal s c.pid (convert_lkid s c))

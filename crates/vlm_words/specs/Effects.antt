@@ -1,4 +1,4 @@
--- What the ends of requests write: status blocks, and the value block of their resource.
+-- What the ends of requests do: they write status blocks and the value block of their resource, and queue ASTs.
 use Rattle.std.specs.Prelude.{List, [], ◌∷◌, Option, None, Some}
 use Rattle.vlm_words.specs.declared.conditions.Cond.TheVariants.{Normal}
 use Rattle.vlm_words.specs.declared.conditions.Cond.{Cond}
@@ -9,10 +9,11 @@ use Rattle.vlm_words.specs.ValueBlocks.{written_value_block}
 use Rattle.vlm_words.specs.State.{Process, Resource}
 use Rattle.vlm_words.specs.StatusBlocks.{processes_after_return, processes_after_status, status_block_of}
 use Rattle.vlm_words.specs.Endings.{Ending, How, ending_status}
+use Rattle.vlm_words.specs.Asts.{Queued, completions, processes_after_asts}
 use Rattle.vlm_words.specs.Endings.How.{by_abort, by_cancel, by_grant}
 
--- the blocks that the ends of requests on one resource write: its value block, and the processes' status
--- blocks
+-- what the ends of requests on one resource change: its value block, and the processes' status blocks and
+-- ASTs
 pub record Blocks : Type 0 where
   pub value_block : ValueBlock
   pub processes : List Process
@@ -55,9 +56,14 @@ blocks_after_end (by_grant act) ending b = blocks_after_grant act ending b
 blocks_after_end by_abort ending b = blocks_after_status ending (ending_status by_abort) b
 blocks_after_end by_cancel ending b = blocks_after_status ending (ending_status by_cancel) b
 
--- a request ends
+-- ASTs are queued to processes; they touch no block
+abbrev pub blocks_after_asts : List Queued → Blocks → Blocks
+blocks_after_asts queued b = record b { processes = processes_after_asts queued b.processes }
+
+-- a request ends, and its completion AST is queued
 abbrev pub blocks_after_ending : Ending → Blocks → Blocks
-blocks_after_ending ending b = blocks_after_end ending.how ending b
+blocks_after_ending ending b =
+    blocks_after_asts (completions ending) (blocks_after_end ending.how ending b)
 
 -- requests of one resource end, in their order
 abbrev pub blocks_after : List Ending → Blocks → Blocks

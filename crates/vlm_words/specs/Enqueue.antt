@@ -1,5 +1,5 @@
 -- The step that asks for a new lock.
-use Rattle.std.specs.Prelude.{ℕ, Bool, true, false, not, ◌&&◌, ◌||◌, ◌==◌, ◌+◌, List, [], ◌∷◌, ◌++◌, Option, None, Some, is_none, find, unwrap_or, if◌then◌else◌}
+use Rattle.std.specs.Prelude.{ℕ, Bool, true, false, not, ◌&&◌, ◌||◌, ◌==◌, ◌+◌, List, [], ◌∷◌, ◌++◌, Option, None, Some, find, unwrap_or, if◌then◌else◌}
 use Rattle.std.specs.List.{list_any}
 use Rattle.std.specs.Result.{result_err}
 use Rattle.vlm_words.specs.declared.conditions.Cond.TheVariants.{Badparam, Unsupported}
@@ -23,10 +23,9 @@ use Rattle.vlm_words.specs.Checks.{caller_refusal, numbers_refusal, or_else, que
 use Rattle.vlm_words.specs.Trees.{enq_site, parent_lkid, site_refusal}
 use Rattle.vlm_words.specs.Quotas.{quota_refusal}
 
--- an unknown flag, or an argument that is not built yet: a routine
-unfoldable pub enq_argument_refusal : NewRequest → Option Cond
-enq_argument_refusal e =
-    if is_known enq_bits e.flags && is_none e.ast && is_none e.bast then None else Some Badparam
+-- an unknown flag
+unfoldable pub enq_flags_refusal : NewRequest → Option Cond
+enq_flags_refusal e = if is_known enq_bits e.flags then None else Some Badparam
 
 -- EXPEDITE goes with NL alone
 unfoldable pub expedite_refusal : ℕ → Mode → Option Cond
@@ -113,7 +112,7 @@ enq_processes s e =
 -- what is wrong with the request itself
 unfoldable pub enq_form_refusal : State → NewRequest → Option Cond
 enq_form_refusal s e =
-    or_else (enq_argument_refusal e)
+    or_else (enq_flags_refusal e)
     (or_else (status_block_refusal s e.pid e.block)
     (or_else (which_refusal s e.pid e.parent)
     (or_else (name_refusal e.name) (expedite_refusal e.flags e.mode))))

@@ -6,9 +6,9 @@ pub mod Conditions
 pub mod ValueBlocks
 pub mod State
 pub mod StatusBlocks
-pub mod Asts
 pub mod Steps
 pub mod Endings
+pub mod Asts
 pub mod Effects
 pub mod Grants
 pub mod Sweeps

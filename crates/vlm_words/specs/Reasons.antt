@@ -1,5 +1,5 @@
 -- Why a step is refused: the rule of each condition, in words of its own.
-use Rattle.std.specs.Prelude.{◌≡◌, ◌≢◌, ◌<◌, ◌≤◌, ◌/◌, ◌^◌, ◌⊎◌, ℕ, true, false, List, [], ◌∷◌, ◌++◌, length, sum_by, All, Any, Option, None, Some, IsSome, ⊤}
+use Rattle.std.specs.Prelude.{◌≡◌, ◌≢◌, ◌<◌, ◌≤◌, ◌/◌, ◌^◌, ◌⊎◌, ℕ, true, false, List, [], ◌∷◌, ◌++◌, length, sum_by, All, Any, Option, None, Some, ⊤}
 use Rattle.std.specs.Int.{bit_at}
 use Rattle.vlm_words.specs.declared.conditions.Cond.TheVariants.{Normal, Synch, Notqueued, Cancelgrant, Sublocks, Ivlockid, Cvtungrant, Parnotgrant, Exdepth, Exenqlm, Nolockid, Ivbuflen, Badparam, Unsupported, Nosyslck, Accvio, Nonexpr, Departed}
 use Rattle.vlm_words.specs.declared.conditions.Cond.{Cond}
@@ -96,7 +96,7 @@ named_parent s e = named_lkid s e.pid e.parent
 -- which rules a new request breaks: some of its arguments are bad; its parent lock is none of its caller's, waits,
 -- or stands on the lowest level; its root wants a privilege; or it has no room, no numbers, or not its turn
 abbrev pub RequestBreaks : State → NewRequest → Cond → Type 0
-RequestBreaks s e Badparam = HasUnknownBit request_flags e.flags ⊎ IsSome e.ast ⊎ IsSome e.bast
+RequestBreaks s e Badparam = HasUnknownBit request_flags e.flags
 RequestBreaks s e Accvio = HasNoBlock s e.pid e.block ⊎ IsNamedByNoBlock s e.pid e.parent
 RequestBreaks s e Ivbuflen = (length e.name ≡ 0) ⊎ (31 < length e.name)
 RequestBreaks s e Unsupported = (has_flag e.flags expedite ≡ true) × (e.mode ≢ Nl)
@@ -136,7 +136,7 @@ IsNotQueuedLegally s c =
 -- converts; or it has no number, or not its turn
 abbrev pub ConversionBreaks : State → Conversion → Cond → Type 0
 ConversionBreaks s c Badparam =
-    HasUnknownBit request_flags c.flags ⊎ IsSome c.ast ⊎ IsSome c.bast ⊎ IsNotQueuedLegally s c
+    HasUnknownBit request_flags c.flags ⊎ IsNotQueuedLegally s c
 ConversionBreaks s c Accvio = HasNoBlock s c.pid c.block ⊎ IsNamedByNoBlock s c.pid c.lock
 ConversionBreaks s c Ivlockid = HasLock s c.pid (named_lock s c) → ⊥
 ConversionBreaks s c Cvtungrant =

@@ -3,25 +3,29 @@ use Rattle.std.specs.Prelude.{◌≡◌, List, [], ◌∷◌, ◌++◌}
 use Rattle.vlm_words.specs.declared.steps.Answer.{Answer}
 use Rattle.vlm_words.specs.declared.steps.Step.{Step}
 use Rattle.vlm_words.specs.Endings.{Ending}
+use Rattle.vlm_words.specs.Asts.{Queued}
 use Rattle.vlm_words.specs.State.{State, start}
-use Rattle.vlm_words.specs.Stepped.{Outcome, outcome_endings}
+use Rattle.vlm_words.specs.Stepped.{Outcome, outcome_endings, outcome_queued}
 
--- what happened in a run, in order: the steps, what each was answered, and the requests that ended
+-- what happened in a run, in order: the steps, what each was answered, the requests that ended, and the ASTs that
+-- were queued
 pub record History : Type 0 where
   pub steps : List Step
   pub answers : List Answer
   pub endings : List Ending
+  pub queued : List Queued
 
 -- nothing has happened
 abbrev pub no_history : History
-no_history = record { steps = []; answers = []; endings = [] }
+no_history = record { steps = []; answers = []; endings = []; queued = [] }
 
--- one step more, with its answer and the requests that end in it
-abbrev pub history_after : History → Step → Answer → List Ending → History
-history_after h step answer endings = record {
+-- one step more, with its answer, the requests that end in it, and the ASTs that it queues
+abbrev pub history_after : History → Step → Answer → List Ending → List Queued → History
+history_after h step answer endings queued = record {
   steps = h.steps ++ step ∷ [];
   answers = h.answers ++ answer ∷ [];
   endings = h.endings ++ endings;
+  queued = h.queued ++ queued;
 }
 
 -- from this state the history leads to a state: each of its steps is an outcome in the state before it
@@ -29,7 +33,7 @@ pub data RunFrom (first : State) : History → State → Type 0 where
   begin : RunFrom first no_history first
   next : {history : History} {old new : State} {step : Step} {answer : Answer}
       → RunFrom first history old → (outcome : Outcome old step new answer)
-      → RunFrom first (history_after history step answer (outcome_endings outcome)) new
+      → RunFrom first (history_after history step answer (outcome_endings outcome) (outcome_queued outcome)) new
 
 -- a run of the machine begins at its start
 abbrev pub Run : History → State → Type 0

@@ -2,20 +2,22 @@
 use Rattle.std.specs.Prelude.{◌≡◌, false, List, [], ◌∷◌, ◌++◌, if◌then◌else◌}
 use Rattle.std.specs.List.{AllByRecursion}
 use Rattle.vlm_words.specs.State.{Process, Resource}
+use Rattle.vlm_words.specs.Asts.{has_to_warn}
 use Rattle.vlm_words.specs.Grants.{no_service, service}
-use Rattle.vlm_words.specs.Sweeps.{blocks_after_service, is_vacant, processes_after_service, resource_after_service, resources_after_sweep, sweep_endings}
+use Rattle.vlm_words.specs.Sweeps.{blocks_after_service, is_vacant, processes_after_service, resource_after_service, resources_after_sweep, service_asts, sweep_asts, sweep_endings}
 
--- nothing can be granted on the resource, and a lock is left on it
+-- nothing can be granted on the resource, nobody is to be warned, and a lock is left on it
 pub record IsSettled (r : Resource) : Type 0 where
   pub served : service r ≡ no_service r
+  pub warned : has_to_warn r ≡ false
   pub occupied : is_vacant r ≡ false
 
 -- the resource, unless no lock is left on it
 abbrev pub unless_vacant : Resource → List Resource
 unless_vacant r = if is_vacant r then [] else r ∷ []
 
--- a sweep goes on with this resource, once those before it are settled: it serves it, and drops it if no lock is left
--- on it; with that it is settled, and the sweep of what is left is what is left of the sweep
+-- a sweep goes on with this resource, once those before it are settled: it serves and warns it, and drops it if no lock is
+-- left on it; with that it is settled, and the sweep of what is left is what is left of the sweep
 pub record IsSweptNext (processes : List Process) (before : List Resource) (r : Resource) (after : List Resource) : Type 0 where
   pub resources :
       resources_after_sweep processes (before ++ r ∷ after)
@@ -26,6 +28,9 @@ pub record IsSweptNext (processes : List Process) (before : List Resource) (r : 
   pub ends :
       sweep_endings (before ++ r ∷ after)
       ≡ (service r).endings ++ sweep_endings (before ++ (unless_vacant (resource_after_service processes r) ++ after))
+  pub asts :
+      sweep_asts (before ++ r ∷ after)
+      ≡ service_asts r ++ sweep_asts (before ++ (unless_vacant (resource_after_service processes r) ++ after))
   pub settled : AllByRecursion IsSettled (unless_vacant (resource_after_service processes r))
 
 -- a sweep has nothing to do on these resources
@@ -33,3 +38,4 @@ pub record IsUnswept (processes : List Process) (all : List Resource) : Type 0 w
   pub resources : resources_after_sweep processes all ≡ all
   pub statuses : processes_after_service processes all ≡ processes
   pub none_ends : sweep_endings all ≡ []
+  pub none_queued : sweep_asts all ≡ []

@@ -1,5 +1,5 @@
 -- One step of the plain lock machine, and what else a step may come to.
-use Rattle.std.specs.Prelude.{◌≡◌, ◌⊎◌, ⊤, List, [], ◌++◌, Option, None, Some}
+use Rattle.std.specs.Prelude.{◌≡◌, ◌⊎◌, ⊤, List, [], ◌++◌, Option, None, Some, IsSome}
 use Rattle.std.proofs.Common.{inl, inr}
 use Rattle.vlm_words.specs.declared.conditions.Cond.TheVariants.{Normal, Badparam, Insfmem}
 use Rattle.vlm_words.specs.declared.conditions.Cond.{Cond}
@@ -11,7 +11,8 @@ use Rattle.vlm_words.specs.declared.steps.Step.TheVariants.{Declare, SetValue, E
 use Rattle.vlm_words.specs.declared.steps.Step.{Step}
 use Rattle.vlm_words.specs.State.{State}
 use Rattle.vlm_words.specs.Endings.{Ending}
-use Rattle.vlm_words.specs.Sweeps.{state_after_sweep, sweep_endings}
+use Rattle.vlm_words.specs.Asts.{Queued, completions_of}
+use Rattle.vlm_words.specs.Sweeps.{state_after_sweep, sweep_asts, sweep_endings}
 use Rattle.vlm_words.specs.Checks.{acceptance}
 use Rattle.vlm_words.specs.Declare.{declare_change, declare_refusal, next_pid}
 use Rattle.vlm_words.specs.SetValue.{set_change, set_refusal}
@@ -20,15 +21,17 @@ use Rattle.vlm_words.specs.Enqueue.{enq_at_once, enq_change, enq_endings, enq_re
 use Rattle.vlm_words.specs.Convert.{ConversionAdmission, conversion_endings, convert_admission, convert_change, convert_lkid, convert_refusal}
 use Rattle.vlm_words.specs.Dequeue.{deq_change, deq_endings, deq_refusal}
 
--- what a step comes to: the state that it leaves, its answer, and the requests that end in it
+-- what a step comes to: the state that it leaves, its answer, the requests that end in it, and the ASTs that it
+-- queues
 pub record Stepped : Type 0 where
   pub state : State
   pub answer : Answer
   pub endings : List Ending
+  pub queued : List Queued
 
 -- a refusal leaves everything as it was
 abbrev pub refused : State → Cond → Stepped
-refused s refusal = record { state = s; answer = Plain refusal; endings = [] }
+refused s refusal = record { state = s; answer = Plain refusal; endings = []; queued = [] }
 
 -- the change of a conversion; where its lock is not granted a check has refused it
 abbrev pub conversion_change : State → Conversion → Option ConversionAdmission → Stepped
@@ -37,6 +40,7 @@ conversion_change s c (Some a) = record {
   state = convert_change s c a;
   answer = Lock (acceptance c.flags a.at_once) (convert_lkid s c);
   endings = conversion_endings a;
+  queued = completions_of (conversion_endings a);
 }
 
 -- why the checks of a step refuse it, if they do; a kind that is not built yet is refused
@@ -55,37 +59,51 @@ step_refusal s (Take pid) = take_refusal s pid
 abbrev pub IsChoice : State → Step → Option Row → Type 0
 IsChoice s step choice = choice ≡ None
 
--- the change of a step that no check refuses, before its sweep, with its answer and the requests that it
--- ends itself
+-- the change of a step that no check refuses, before its sweep, with its answer, the requests that it ends itself
+-- and their completions
 abbrev pub step_change : State → Step → Option Row → Stepped
 step_change s (Declare d) choice = record {
   state = declare_change s d;
   answer = process_answer (next_pid s d.node);
   endings = [];
+  queued = [];
 }
-step_change s (SetValue v) choice = record { state = set_change s v; answer = Plain Normal; endings = [] }
+step_change s (SetValue v) choice = record {
+  state = set_change s v;
+  answer = Plain Normal;
+  endings = [];
+  queued = [];
+}
 step_change s (Enq e) choice = record {
   state = enq_change s e;
   answer = Lock (acceptance e.flags (enq_at_once s e)) s.next_lkid;
   endings = enq_endings s e;
+  queued = completions_of (enq_endings s e);
 }
 step_change s (Convert c) choice = conversion_change s c (convert_admission s c)
 step_change s (Deq d) choice = record {
   state = deq_change s d;
   answer = Plain Normal;
   endings = deq_endings s d;
+  queued = completions_of (deq_endings s d);
 }
 step_change s (Rundown pid) choice = refused s Badparam
 step_change s (Leave node) choice = refused s Badparam
 step_change s (Search node) choice = refused s Badparam
-step_change s (Take pid) choice = record { state = take_change s pid; answer = Taken (taken_ast s pid); endings = [] }
+step_change s (Take pid) choice = record {
+  state = take_change s pid;
+  answer = Taken (taken_ast s pid);
+  endings = [];
+  queued = [];
+}
 
--- the sweep after a change: each resource is served, and dropped if it has no lock
+-- the sweep after a change: each resource is served and warned, and dropped if it has no lock
 abbrev pub stepped_after_sweep : Stepped → Stepped
 stepped_after_sweep change = record {
   state = state_after_sweep change.state;
   answer = change.answer;
   endings = change.endings ++ sweep_endings change.state.resources;
+  queued = change.queued ++ sweep_asts change.state.resources;
 }
 
 -- a refusal, or else the change and its sweep
@@ -97,12 +115,16 @@ refused_or (Some refusal) s change = refused s refusal
 abbrev pub stepped : State → Step → Option Row → Stepped
 stepped s step choice = refused_or (step_refusal s step) s (step_change s step choice)
 
+-- a conversion names a routine, for whose AST it may want memory
+abbrev pub NamesRoutine : Conversion → Type 0
+NamesRoutine c = IsSome c.ast ⊎ IsSome c.bast
+
 -- the kinds of step that may want memory
 abbrev pub MayWantMemory : Step → Type 0
 MayWantMemory (Declare d) = ⊤
 MayWantMemory (SetValue v) = ⊥
 MayWantMemory (Enq e) = ⊤
-MayWantMemory (Convert c) = ⊥
+MayWantMemory (Convert c) = NamesRoutine c
 MayWantMemory (Deq d) = ⊥
 MayWantMemory (Rundown pid) = ⊥
 MayWantMemory (Leave node) = ⊥
@@ -131,3 +153,8 @@ Outcome old step new answer = IsMade old step new answer ⊎ IsShortOfMemory old
 abbrev pub outcome_endings : {old : State} {step : Step} {new : State} {answer : Answer} → Outcome old step new answer → List Ending
 outcome_endings {old} {step} (inl made) = (stepped old step made.choice).endings
 outcome_endings (inr short) = []
+
+-- the ASTs that are queued in an outcome: those of the step if it is made
+abbrev pub outcome_queued : {old : State} {step : Step} {new : State} {answer : Answer} → Outcome old step new answer → List Queued
+outcome_queued {old} {step} (inl made) = (stepped old step made.choice).queued
+outcome_queued (inr short) = []

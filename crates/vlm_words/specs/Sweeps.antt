@@ -1,28 +1,35 @@
 -- The sweep that ends a step.
-use Rattle.std.specs.Prelude.{Bool, not, ◌&&◌, List, [], ◌∷◌, filter, flat_map}
+use Rattle.std.specs.Prelude.{Bool, not, ◌&&◌, List, [], ◌∷◌, ◌++◌, filter, flat_map}
+use Rattle.vlm_words.specs.declared.resources.ValueBlock.{ValueBlock}
 use Rattle.vlm_words.specs.State.{Process, Resource, State}
 use Rattle.vlm_words.specs.Endings.{Ending}
-use Rattle.vlm_words.specs.Effects.{Blocks, blocks_after, blocks_with, with_value_block}
+use Rattle.vlm_words.specs.Asts.{Queued, completions_of, resource_after_warning, warnings}
+use Rattle.vlm_words.specs.Effects.{Blocks, blocks_after, blocks_after_asts, blocks_with, with_value_block}
 use Rattle.vlm_words.specs.Grants.{is_empty, service}
 
--- what the service of a resource writes: its value block, and status blocks
+-- what the service of a resource writes: its value block, and status blocks; its grants queue their completions, and
+-- behind them those locks are warned that are in the way of what is queued still
 unfoldable pub blocks_after_service : List Process → Resource → Blocks
 blocks_after_service processes r =
-    blocks_after (service r).endings (blocks_with r.value_block processes)
+    blocks_after_asts (warnings (service r).resource)
+    (blocks_after (service r).endings (blocks_with r.value_block processes))
 
--- the resource once it is served, with the value block that its grants leave
+-- the resource once it is served and its granted locks are warned, with this value block
+abbrev pub served_with : ValueBlock → Resource → Resource
+served_with block r = resource_after_warning (with_value_block block (service r).resource)
+
+-- the resource once it is served and warned, with the value block that its grants leave
 abbrev pub resource_after_service : List Process → Resource → Resource
-resource_after_service processes r =
-    with_value_block (blocks_after_service processes r).value_block (service r).resource
+resource_after_service processes r = served_with (blocks_after_service processes r).value_block r
 
--- every resource is served, in its turn
+-- every resource is served and warned, in its turn
 abbrev pub resources_after_service : List Process → List Resource → List Resource
 resources_after_service processes [] = []
 resources_after_service processes (r ∷ rest) =
     resource_after_service processes r
     ∷ resources_after_service (blocks_after_service processes r).processes rest
 
--- the processes after all grants
+-- the processes after all grants and warnings
 abbrev pub processes_after_service : List Process → List Resource → List Process
 processes_after_service processes [] = processes
 processes_after_service processes (r ∷ rest) =
@@ -32,10 +39,18 @@ processes_after_service processes (r ∷ rest) =
 abbrev pub is_vacant : Resource → Bool
 is_vacant r = is_empty r.granted && is_empty r.converting && is_empty r.waiting
 
--- sweep: every resource is served, and dropped if it has no lock
+-- sweep: every resource is served and warned, and dropped if it has no lock
 unfoldable pub resources_after_sweep : List Process → List Resource → List Resource
 resources_after_sweep processes resources =
     filter (λ r. not (is_vacant r)) (resources_after_service processes resources)
+
+-- the ASTs that the service of a resource queues: the completions of its grants, and then its warnings
+unfoldable pub service_asts : Resource → List Queued
+service_asts r = completions_of (service r).endings ++ warnings (service r).resource
+
+-- the ASTs that are queued in a sweep, resource by resource
+unfoldable pub sweep_asts : List Resource → List Queued
+sweep_asts resources = flat_map service_asts resources
 
 -- the requests that end in a sweep, resource by resource
 unfoldable pub sweep_endings : List Resource → List Ending
