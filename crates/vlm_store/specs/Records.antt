@@ -451,22 +451,23 @@ abbrev pub AreApart : List StoredLock → Type 0
 AreApart [] = Unit {0}
 AreApart (k ∷ rest) = ((row : Row) → ¬ IsIn (record { at = k.at; row = row }) rest) × AreApart rest
 
+-- the relation holds between each one and every one before it
+abbrev pub EachTwo : {A : Type 0} → (A → A → Type 0) → List A → Type 0
+EachTwo R [] = Unit {0}
+EachTwo {A} R (first ∷ rest) = ((other : A) → IsIn other rest → R other first) × EachTwo R rest
+
 -- no two of the resources have one handle
 abbrev pub AreResourcesApart : List StoredResource → Type 0
-AreResourcesApart [] = Unit {0}
-AreResourcesApart (r ∷ rest) = ((other : StoredResource) → IsIn other rest → ¬ (other.at ≡ r.at)) × AreResourcesApart rest
+AreResourcesApart = EachTwo (λ (other r : StoredResource). ¬ (other.at ≡ r.at))
 
 -- no two of the processes have one handle, or one identification
 abbrev pub AreProcessesApart : List StoredProcess → Type 0
-AreProcessesApart [] = Unit {0}
-AreProcessesApart (p ∷ rest) =
-    ((other : StoredProcess) → IsIn other rest → ¬ (other.at ≡ p.at) × ¬ (other.process.pid ≡ p.process.pid))
-    × AreProcessesApart rest
+AreProcessesApart =
+    EachTwo (λ (other p : StoredProcess). ¬ (other.at ≡ p.at) × ¬ (other.process.pid ≡ p.process.pid))
 
 -- no two of the locks of a process have one handle
 abbrev pub AreOwnApart : List OwnLock → Type 0
-AreOwnApart [] = Unit {0}
-AreOwnApart (own ∷ rest) = ((other : OwnLock) → IsIn other rest → ¬ (other.at ≡ own.at)) × AreOwnApart rest
+AreOwnApart = EachTwo (λ (other own : OwnLock). ¬ (other.at ≡ own.at))
 
 -- the locks of a process are those whose rows name it, and the locks below a lock those whose rows name it
 -- as their parent
