@@ -1,16 +1,17 @@
--- A status block that is written by the handle of its process.
-use Rattle.std.proofs.Common.{◌≡◌, ◌-◌, ℕ, Bool, true, false, cond, get_or, List, [], map, Option, None, Some, refl, sym, ap, ◌∙◌}
+-- What is written by the handle of a process: its status blocks, its ASTs, and what it is owed.
+use Rattle.std.proofs.Common.{◌≡◌, ◌-◌, ℕ, Bool, true, false, cond, get_or, List, [], map, Option, None, Some, refl, sym, ap, subst, ◌∙◌}
 use Rattle.std.specs.Prelude.{nat_lt, slice_get, unwrap_or}
 use Rattle.std.proofs.lemmas.Option.{unwrap_or-slice_get}
 use Rattle.std.specs.Option.{IfSome, option_map_or}
 use Rattle.vlm_words.specs.declared.asts.Ast.{Ast}
 use Rattle.vlm_words.specs.declared.blocks.Block.{Block}
-use Rattle.vlm_words.specs.Asts.{asts_of, oldest, process_after_take, processes_after_take, without_oldest_ast}
+use Rattle.vlm_words.specs.Asts.{asts_of, oldest, process_after_queueing, process_after_take, processes_after_queueing, processes_after_take, with_ast, without_oldest_ast}
 use Rattle.vlm_words.specs.State.{Process}
 use Rattle.vlm_words.specs.StatusBlocks.{new_status_block, process_after_write, process_with_block, processes_after_write, status_block_at, status_block_of, status_blocks_of}
 use Rattle.vlm_store.specs.Plain.{plain_processes}
-use Rattle.vlm_store.specs.Records.{IsProcess, IsSound, Records, SameButNotices, StoredProcess, on_process, process_at}
-use Rattle.vlm_store.proofs.Plain.{but_notices-on_process, plain-on_process, process_at-stored, process_of-stored}
+use Rattle.vlm_store.specs.Records.{DueChanges, HasProcess, IsProcess, IsSound, Records, SameButNotices, StoredProcess, but_notices, changed_process, due_of, on_process, on_stored, process_at, with_owed_ast}
+use Rattle.vlm_store.proofs.Plain.{plain-on_stored, process_at-stored, process_of-stored, shown-on_stored}
+use Rattle.vlm_store.proofs.Dues.{due-on_stored, due_is}
 
 -- the status blocks of the process at the handle
 pub blocks_are : (s : Records) (at pid : ℕ) (blocks : List Block) → IsSound s → IsProcess at pid s → IfSome (process_at at s.processes) (λ p. blocks ≡ p.process.blocks)
@@ -56,16 +57,8 @@ pub others_left : (s : Records) (at pid : ℕ) → IsSound s → IsProcess at pi
 unfolding process_after_take
 others_left s at pid sound is =
     ap (λ x. map (λ (p : StoredProcess). p.process) (on_process x without_oldest_ast s.processes)) (sym is.1.1)
-    ∙ plain-on_process is.0 without_oldest_ast s.processes sound.processes_apart is.1.0
+    ∙ plain-on_stored is.0 (changed_process without_oldest_ast) without_oldest_ast (λ x. refl) s.processes sound.processes_apart is.1.0
     ∙ ap (λ x. processes_after_take x (plain_processes s)) is.1.2
-
-pub asts_alone : (s : Records) (at : ℕ) → SameButNotices s (record s { processes = on_process at without_oldest_ast s.processes })
-asts_alone s at = record {
-  resources = refl;
-  loose = refl;
-  room = refl;
-  processes = but_notices-on_process at without_oldest_ast (λ p. refl) s.processes;
-}
 
 -- the write of a status block
 pub written_blocks : (s : Records) (at pid n : ℕ) (block : Block) → IsSound s → IsProcess at pid s
@@ -73,13 +66,44 @@ pub written_blocks : (s : Records) (at pid n : ℕ) (block : Block) → IsSound 
 unfolding process_after_write
 written_blocks s at pid n block sound is =
     ap (λ x. map (λ (p : StoredProcess). p.process) (on_process x (process_with_block n block) s.processes)) (sym is.1.1)
-    ∙ plain-on_process is.0 (process_with_block n block) s.processes sound.processes_apart is.1.0
+    ∙ plain-on_stored is.0 (changed_process (process_with_block n block)) (process_with_block n block) (λ x. refl) s.processes sound.processes_apart is.1.0
     ∙ ap (λ x. processes_after_write x n block (plain_processes s)) is.1.2
 
-pub blocks_alone : (s : Records) (at n : ℕ) (block : Block) → SameButNotices s (record s { processes = on_process at (process_with_block n block) s.processes })
-blocks_alone s at n block = record {
+-- ---- what a process is owed
+
+-- what is known of the number by identification is known of the process at the handle
+pub owed_here : (P : ℕ → Type 0) (s : Records) (at : ℕ) → IsSound s → HasProcess at s → ((pid : ℕ) → IsProcess at pid s → P (due_of pid s)) → IfSome (process_at at s.processes) (λ p. P p.due)
+owed_here P s at sound has known =
+    let found = due_is at s sound.processes_apart has in
+    rw found.1.0 (subst P found.1.2 (known found.0.process.pid (found.0, (found.1.1.0, found.1.1.1, refl))))
+
+-- a change of what the process at the handle is owed
+pub owed_changes : (change : StoredProcess → StoredProcess) (due : ℕ → ℕ) → ((x : StoredProcess) → (change x).process.pid ≡ x.process.pid) → ((x : StoredProcess) → (change x).due ≡ due x.due)
+    → (s : Records) (at pid : ℕ) → IsSound s → IsProcess at pid s → DueChanges pid due s (record s { processes = on_stored at change s.processes })
+owed_changes change due named changes s at pid sound is =
+    subst (λ x. DueChanges x due s (record s { processes = on_stored at change s.processes })) is.1.2
+    (due-on_stored at change named due changes is.0 is.1.1 s sound.processes_apart is.1.0)
+
+-- an AST that is queued by the handle of its process
+pub queued_ast : (s : Records) (at pid : ℕ) (ast : Ast) → IsSound s → IsProcess at pid s
+    → map (λ (p : StoredProcess). p.process) (on_stored at (with_owed_ast ast) s.processes) ≡ processes_after_queueing pid ast (plain_processes s)
+unfolding process_after_queueing
+queued_ast s at pid ast sound is =
+    ap (λ x. map (λ (p : StoredProcess). p.process) (on_stored x (with_owed_ast ast) s.processes)) (sym is.1.1)
+    ∙ plain-on_stored is.0 (with_owed_ast ast) (with_ast ast) (λ x. refl) s.processes sound.processes_apart is.1.0
+    ∙ ap (λ x. processes_after_queueing x ast (plain_processes s)) is.1.2
+
+-- a change of notices alone
+pub notices_alone : (s : Records) (at : ℕ) (change : StoredProcess → StoredProcess) → ((p : StoredProcess) → but_notices (change p) ≡ but_notices p)
+    → SameButNotices s (record s { processes = on_stored at change s.processes })
+notices_alone s at change same = record {
   resources = refl;
   loose = refl;
   room = refl;
-  processes = but_notices-on_process at (process_with_block n block) (λ p. refl) s.processes;
+  processes = shown-on_stored but_notices at change same s.processes;
 }
+
+-- a change that the plain machine does not see
+pub plain_stay : (s : Records) (at : ℕ) (change : StoredProcess → StoredProcess) → ((p : StoredProcess) → (change p).process ≡ p.process)
+    → plain_processes (record s { processes = on_stored at change s.processes }) ≡ plain_processes s
+plain_stay s at change same = shown-on_stored (λ (p : StoredProcess). p.process) at change same s.processes

@@ -1,10 +1,11 @@
 //! The ASTs of processes.
 
-ghost use Rattle.std.specs.Prelude.{◌≡◌, ℕ, length};
-ghost use Rattle.vlm_words.specs.Asts.{asts_of, oldest, processes_after_take};
+ghost use Rattle.std.specs.Prelude.{◌≡◌, ◌<◌, ◌≤◌, ◌+◌, ◌-◌, ℕ, length, OnErr, OnOk};
+ghost use Rattle.vlm_words.specs.Asts.{asts_of, oldest, processes_after_queueing, processes_after_take};
 ghost use Rattle.vlm_store.specs.Plain.{plain_processes};
-ghost use Rattle.vlm_store.specs.Records.{HasProcess, IsProcess, SameButNotices};
+ghost use Rattle.vlm_store.specs.Records.{DueChanges, DuesStay, HasProcess, IsProcess, SameButNotices, due_of};
 
+use std::alloc::AllocError;
 use vlm_store::laws::law_records_are_sound;
 use vlm_store::{ProcAt, Store};
 use vlm_words::asts::Ast;
@@ -25,8 +26,50 @@ pub fn take(store: &mut Store, at: ProcAt) -> Option<Ast>
         ≡ oldest (asts_of (plain_processes store.old) pid) }
     ensures left { (pid : ℕ) → IsProcess at pid store.old → plain_processes store.new
         ≡ processes_after_take pid (plain_processes store.old) }
+    ensures dues { DuesStay store.old store.new }
     ensures only_notices { SameButNotices store.old store.new }
 {
     law_records_are_sound(store);
     store.take_ast(at)
+}
+
+/// Makes room for so many more ASTs of a process than are queued to it and owed, and owes them. Where memory is
+/// refused nothing is changed.
+pub fn owe(store: &mut Store, at: ProcAt, count: usize) -> Result<(), AllocError>
+    requires { HasProcess at store.old }
+    ensures processes { OnOk result (plain_processes store.new ≡ plain_processes store.old) }
+    ensures owed { OnOk result ((pid : ℕ) → IsProcess at pid store.old
+        → DueChanges pid (λ due. due + count) store.old store.new) }
+    ensures only_notices { OnOk result (SameButNotices store.old store.new) }
+    ensures refused { OnErr result (store.new ≡ store.old) }
+{
+    law_records_are_sound(store);
+    store.owe(at, count)
+}
+
+/// Queues an AST that a process is owed, behind those that are queued to it.
+pub fn queue(store: &mut Store, at: ProcAt, ast: Ast)
+    requires there { HasProcess at store.old }
+    requires owed { (pid : ℕ) → IsProcess at pid store.old → 0 < due_of pid store.old }
+    ensures queued { (pid : ℕ) → IsProcess at pid store.old → plain_processes store.new
+        ≡ processes_after_queueing pid ast (plain_processes store.old) }
+    ensures owed { (pid : ℕ) → IsProcess at pid store.old
+        → DueChanges pid (λ due. due - 1) store.old store.new }
+    ensures only_notices { SameButNotices store.old store.new }
+{
+    law_records_are_sound(store);
+    store.queue_ast(at, ast);
+}
+
+/// Of the ASTs that a process is owed so many will not come: their room is free again.
+pub fn forgive(store: &mut Store, at: ProcAt, count: usize)
+    requires there { HasProcess at store.old }
+    requires owed { (pid : ℕ) → IsProcess at pid store.old → count ≤ due_of pid store.old }
+    ensures processes { plain_processes store.new ≡ plain_processes store.old }
+    ensures owed { (pid : ℕ) → IsProcess at pid store.old
+        → DueChanges pid (λ due. due - count) store.old store.new }
+    ensures only_notices { SameButNotices store.old store.new }
+{
+    law_records_are_sound(store);
+    store.forgive(at, count);
 }

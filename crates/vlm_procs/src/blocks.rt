@@ -4,7 +4,7 @@ ghost use Rattle.std.specs.Prelude.{◌≡◌, ℕ};
 ghost use Rattle.vlm_words.specs.StatusBlocks.{processes_after_acceptance, processes_after_write, status_block_at, status_block_of, status_blocks_of, processes_after_status, processes_after_return, processes_after_setting};
 ghost use Rattle.vlm_words.specs.ValueBlocks.{return_status};
 ghost use Rattle.vlm_store.specs.Plain.{plain_processes};
-ghost use Rattle.vlm_store.specs.Records.{HasProcess, IsProcess, SameButNotices};
+ghost use Rattle.vlm_store.specs.Records.{DuesStay, HasProcess, IsProcess, SameButNotices};
 
 use vlm_store::laws::law_records_are_sound;
 use vlm_store::{ProcAt, Store};
@@ -26,6 +26,7 @@ fn write(store: &mut Store, at: ProcAt, number: u8, block: Block)
     requires { HasProcess at store.old }
     ensures written { (pid : ℕ) → IsProcess at pid store.old → plain_processes store.new
         ≡ processes_after_write pid number block (plain_processes store.old) }
+    ensures dues { DuesStay store.old store.new }
     ensures only_notices { SameButNotices store.old store.new }
 {
     law_records_are_sound(store);
@@ -63,6 +64,7 @@ pub fn accept(store: &mut Store, at: ProcAt, number: u8, lkid: u32)
     requires { HasProcess at store.old }
     ensures written { (pid : ℕ) → IsProcess at pid store.old → plain_processes store.new
         ≡ processes_after_acceptance pid number lkid (plain_processes store.old) }
+    ensures dues { DuesStay store.old store.new }
     ensures only_notices { SameButNotices store.old store.new }
 {
     let old = status_block_or_new(store, at, number);
@@ -89,6 +91,7 @@ pub fn set_value(store: &mut Store, at: ProcAt, number: u8, value: [u8; 16])
     requires { HasProcess at store.old }
     ensures written { (pid : ℕ) → IsProcess at pid store.old → plain_processes store.new
         ≡ processes_after_setting pid number value (plain_processes store.old) }
+    ensures dues { DuesStay store.old store.new }
     ensures only_notices { SameButNotices store.old store.new }
 {
     let old = status_block_or_new(store, at, number);
@@ -102,6 +105,7 @@ pub fn end(store: &mut Store, at: ProcAt, number: u8, cond: Cond)
     requires { HasProcess at store.old }
     ensures written { (pid : ℕ) → IsProcess at pid store.old → plain_processes store.new
         ≡ processes_after_status pid number cond (plain_processes store.old) }
+    ensures dues { DuesStay store.old store.new }
     ensures only_notices { SameButNotices store.old store.new }
 {
     let old = status_block_or_new(store, at, number);
@@ -130,6 +134,7 @@ pub fn end_with_return(store: &mut Store, at: ProcAt, number: u8, returned: &Val
     requires { HasProcess at store.old }
     ensures written { (pid : ℕ) → IsProcess at pid store.old → plain_processes store.new
         ≡ processes_after_return pid number returned.now (plain_processes store.old) }
+    ensures dues { DuesStay store.old store.new }
     ensures only_notices { SameButNotices store.old store.new }
 {
     let old = status_block_or_new(store, at, number);

@@ -1,12 +1,12 @@
 //! The processes in the records of the store: their status blocks, their ASTs, and what each may do.
 //!
-//! Nothing here takes memory.
+//! Nothing here takes memory, but for `owe`.
 #![tactic(auto)]
 
 mod asts;
 mod authorizations;
 mod blocks;
 
-pub use asts::{pending, take};
+pub use asts::{forgive, owe, pending, queue, take};
 pub use authorizations::{group_of, has_room, has_syslck};
 pub use blocks::{accept, end, end_with_return, set_value, status_block, value};

@@ -14,7 +14,7 @@ use Rattle.vlm_store.specs.declared.locks.Lock.{Lock}
 use Rattle.vlm_store.specs.declared.processes.Process.{Process}
 use Rattle.vlm_store.specs.declared.resources.InOrder.{InOrder}
 use Rattle.vlm_store.specs.Shown.{no_list}
-use Rattle.vlm_store.specs.Holdings.{IsBelow, IsNamed, IsOwned, OwnerFits, ParentFits, below_links, below_list, but_order, holding, own_in, own_handles, own_links, own_list, owner_in, parent_in, pid_at, pid_of, plain_in, plain_process, process_links, process_under, processes_of}
+use Rattle.vlm_store.specs.Holdings.{IsBelow, IsNamed, IsOwned, OwnerFits, ParentFits, below_links, below_list, but_order, holding, own_in, own_handles, own_links, own_list, owner_in, parent_in, pid_at, pid_of, process_face, process_face_in, process_links, process_under, processes_of}
 use Rattle.vlm_store.specs.Kept.{IsKept}
 use Rattle.vlm_store.specs.declared.store.Store.TheInside.{Inside}
 use Rattle.vlm_store.proofs.Indexing.{Indexes-same}
@@ -84,9 +84,9 @@ own-order : (slot : Option Process) → own_in (option_map but_order slot) ≡ o
 own-order None = refl
 own-order (Some p) = refl
 
-plain-order : (slot : Option Process) → plain_in (option_map but_order slot) ≡ plain_in slot
-plain-order None = refl
-plain-order (Some p) = refl
+face-order : (slot : Option Process) → process_face_in (option_map but_order slot) ≡ process_face_in slot
+face-order None = refl
+face-order (Some p) = refl
 
 pid-order : (slot : Option Process) → option_map pid_of (option_map but_order slot) ≡ option_map pid_of slot
 pid-order None = refl
@@ -95,8 +95,8 @@ pid-order (Some p) = refl
 pub own_by_order : (a b : Option Process) → option_map but_order a ≡ option_map but_order b → own_in a ≡ own_in b
 own_by_order = by_part but_order own_in own-order
 
-pub plain_by_order : (a b : Option Process) → option_map but_order a ≡ option_map but_order b → plain_in a ≡ plain_in b
-plain_by_order = by_part but_order plain_in plain-order
+pub face_by_order : (a b : Option Process) → option_map but_order a ≡ option_map but_order b → process_face_in a ≡ process_face_in b
+face_by_order = by_part but_order process_face_in face-order
 
 pub pid_by_order : (a b : Option Process) → option_map but_order a ≡ option_map but_order b → option_map pid_of a ≡ option_map pid_of b
 pid_by_order = by_part but_order (option_map pid_of) pid-order
@@ -147,15 +147,15 @@ module _ (processes : Slab Process) (at : ℕ) (was now : Process) (here : get p
   was_there : (p : ℕ) → ContainsKey rewritten p → ContainsKey processes p
   was_there p = there_same (get processes p) (get rewritten p) (sym (written_pids p))
 
-  pub written_plain : plain_in (get rewritten at) ≡ plain_process now
-  written_plain =
+  pub written_face : process_face_in (get rewritten at) ≡ process_face now
+  written_face =
       let there : ContainsKey processes at = rw here refl in
-      ap plain_in ((Updates-with_value processes at now there).changed)
+      ap process_face_in ((Updates-with_value processes at now there).changed)
 
-  pub written_others : (p : ℕ) → p ≢ at → plain_in (get rewritten p) ≡ plain_in (get processes p)
+  pub written_others : (p : ℕ) → p ≢ at → process_face_in (get rewritten p) ≡ process_face_in (get processes p)
   written_others p differs =
       let there : ContainsKey processes at = rw here refl in
-      ap plain_in ((Updates-with_value processes at now there).others p differs)
+      ap process_face_in ((Updates-with_value processes at now there).others p differs)
 
   module _ (list : LinkedList InOrder) (linked : IsLinked process_links processes list) where
     pub written_linked : IsLinked process_links rewritten list

@@ -15,7 +15,7 @@ use Rattle.vlm_store.specs.Records.{IsParentOf, IsProcess, process_with_lock}
 use Rattle.vlm_store.specs.Shown.{SameBut, but_kin, but_queued, lkid_of, new_lock}
 use Rattle.vlm_store.specs.Holdings.{IsBelow, IsNamed, IsOwned, NamesParent, below_in, below_handles, below_links, below_list, but_below, but_own, holding, named_lock, own_handles, own_links, own_list, owner_in, parent_in, processes_of, with_own_links}
 use Rattle.vlm_store.proofs.Families.{family-grown, family-other_handles}
-use Rattle.vlm_store.proofs.Kinship.{below-queued, below_kin, below_named, below_next-queued, below_own_handles, below_owned, below_prev-queued, by_part, lkid-named, lkid-queued, named-added, named-kept, own_below_handles, own_kin, own_named, own_next-queued, own_pids, own_plain, own_prev-queued, own_process_handles, owner-queued, owner_fits, parent-queued, parent_fits, queued_below, queued_below_handles, queued_own_handles, queued_owned, there_by_part}
+use Rattle.vlm_store.proofs.Kinship.{below-queued, below_kin, below_named, below_next-queued, below_own_handles, below_owned, below_prev-queued, by_part, lkid-named, lkid-queued, named-added, named-kept, own_below_handles, own_kin, own_named, own_next-queued, own_pids, own_faces, own_prev-queued, own_process_handles, owner-queued, owner_fits, parent-queued, parent_fits, queued_below, queued_below_handles, queued_own_handles, queued_owned, there_by_part}
 use Rattle.vlm_store.proofs.Living.{lock_there, process_named}
 use Rattle.vlm_store.proofs.Members.{lock_joined}
 use Rattle.vlm_store.proofs.Places.{lkid_of_row, named-queued, same_then, there_through}
@@ -176,7 +176,7 @@ module _ (s : Inside) (kept : IsKept s) (locks1 locks2 : Slab Lock) (at : ℕ) (
     -- what a caller sees of processes
     pub joined_processes : processes_of (holding processes3 locks4 s.process_order) ≡ map (process_with_lock owner parent at) (processes_shown s)
     joined_processes =
-        lock_joined (holding s.processes s.queues.locks s.process_order) (holding processes3 locks4 s.process_order) owner parent at (own_plain s.processes processes3 rest3)
+        lock_joined (holding s.processes s.queues.locks s.process_order) (holding processes3 locks4 s.process_order) owner parent at (own_faces s.processes processes3 rest3)
         (own_process_handles s.processes processes3 rest3 s.process_order kept.processes_linked)
         (below_own_handles processes3 locks3 locks4 rest4 None owned3 owner ∙ here3 owner new_owner ∙ ap (λ ks. ks ++ at ∷ []) (new_own_handles owner))
         (λ p differs. below_own_handles processes3 locks3 locks4 rest4 None owned3 p ∙ others3 p (λ is. differs (sym (same_Some owner p (sym new_owner ∙ is)))) ∙ new_own_handles p)

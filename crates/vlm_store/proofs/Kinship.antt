@@ -17,7 +17,7 @@ use Rattle.vlm_store.specs.declared.queues.Queues.{Queues}
 use Rattle.vlm_store.specs.declared.resources.InOrder.{InOrder}
 use Rattle.vlm_store.specs.Records.{IsSameLock, StoredProcess}
 use Rattle.vlm_store.specs.Shown.{IsPlaced, IsTallied, SameBut, but_kin, but_queued, handles_at, lkid_of, named_row, noted_in, queue_links, row_in}
-use Rattle.vlm_store.specs.Holdings.{IsBelow, IsNamed, IsOwned, NamesParent, OwnerFits, ParentFits, below_in, below_handles, below_links, below_list, but_below, but_own, holding, named_lock, own_handles, own_links, own_list, owner_in, parent_in, pid_of, plain_in, process_links, processes_of, with_own_links}
+use Rattle.vlm_store.specs.Holdings.{IsBelow, IsNamed, IsOwned, NamesParent, OwnerFits, ParentFits, below_in, below_handles, below_links, below_list, but_below, but_own, holding, named_lock, own_handles, own_links, own_list, owner_in, parent_in, pid_of, process_face_in, process_links, processes_of, with_own_links}
 use Rattle.vlm_store.specs.Store.{Beside, Layout, records_of, tables}
 use Rattle.vlm_tallies.specs.Tallies.{held_weight, wanted_weight}
 use Rattle.vlm_store.proofs.Counting.{shares_same}
@@ -325,17 +325,17 @@ module _ (processes processes' : Slab Process) (same : SameBut but_own processes
   own_process_whole ordered p there = subst (IsIn p) (sym own_process_handles) (ordered p (there_through but_own processes' processes (λ k. sym (same k)) p there))
 
 -- what processes tell stays where their locks are written
-plain-own : (slot : Option Process) → plain_in (option_map but_own slot) ≡ plain_in slot
-plain-own None = refl
-plain-own (Some p) = refl
+face-own : (slot : Option Process) → process_face_in (option_map but_own slot) ≡ process_face_in slot
+face-own None = refl
+face-own (Some p) = refl
 
 pid-own : (slot : Option Process) → option_map pid_of (option_map but_own slot) ≡ option_map pid_of slot
 pid-own None = refl
 pid-own (Some p) = refl
 
 module _ (processes processes' : Slab Process) (same : SameBut but_own processes processes') where
-  pub own_plain : (p : ℕ) → plain_in (get processes' p) ≡ plain_in (get processes p)
-  own_plain = through but_own plain_in plain-own processes processes' same
+  pub own_faces : (p : ℕ) → process_face_in (get processes' p) ≡ process_face_in (get processes p)
+  own_faces = through but_own process_face_in face-own processes processes' same
 
   pub own_pids : (p : ℕ) → option_map pid_of (get processes' p) ≡ option_map pid_of (get processes p)
   own_pids = through but_own (option_map pid_of) pid-own processes processes' same

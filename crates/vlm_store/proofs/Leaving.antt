@@ -13,7 +13,7 @@ use Rattle.vlm_store.specs.Records.{process_without_lock}
 use Rattle.vlm_store.specs.Shown.{SameBut, but_kin, but_queued, lkid_of}
 use Rattle.vlm_store.specs.Holdings.{IsBelow, IsNamed, IsOwned, below_in, below_handles, below_links, below_list, but_below, but_own, holding, named_lock, own_handles, own_links, own_list, owner_in, parent_in, processes_of, with_own_links}
 use Rattle.vlm_store.proofs.Families.{family-other_handles, family-shrunk}
-use Rattle.vlm_store.proofs.Kinship.{below-queued, below_kin, below_named, below_next-queued, below_own_handles, below_prev-queued, by_part, lkid-named, named-removed, own_below, own_below_handles, own_kin, own_named, own_next-queued, own_pids, own_plain, own_prev-queued, own_process_handles, owner-queued, parent-queued, there_by_part}
+use Rattle.vlm_store.proofs.Kinship.{below-queued, below_kin, below_named, below_next-queued, below_own_handles, below_prev-queued, by_part, lkid-named, named-removed, own_below, own_below_handles, own_kin, own_named, own_next-queued, own_pids, own_faces, own_prev-queued, own_process_handles, owner-queued, parent-queued, there_by_part}
 use Rattle.vlm_store.proofs.Making.{no_list_has}
 use Rattle.vlm_store.proofs.Members.{lock_left}
 use Rattle.vlm_store.proofs.Places.{named-queued, same_then}
@@ -81,7 +81,7 @@ module _ (s : Inside) (kept : IsKept s) (at : ℕ) (childless : below_handles s.
   -- what a caller sees of processes
   pub left_processes : processes_of (holding processes2 locks3 s.process_order) ≡ map (process_without_lock at) (processes_shown s)
   left_processes =
-      lock_left (holding s.processes s.queues.locks s.process_order) (holding processes2 locks3 s.process_order) at (own_plain s.processes processes2 rest2)
+      lock_left (holding s.processes s.queues.locks s.process_order) (holding processes2 locks3 s.process_order) at (own_faces s.processes processes2 rest2)
       (own_process_handles s.processes processes2 rest2 s.process_order kept.processes_linked)
       (λ p.
       family-other_handles own_links owner_in locks2 (own_list processes2) (Some at) owned2 locks3 (own_list processes2) (λ p. refl) at (λ p. owned2.gone p at refl) own_nexts own_prevs there3 p

@@ -1,6 +1,7 @@
 pub mod Counted
 pub mod Counting
 pub mod Declaring
+pub mod Dues
 pub mod Families
 pub mod Fitting
 pub mod Indexing

@@ -15,7 +15,7 @@ use Rattle.vlm_store.specs.declared.store.Store.TheInside.{Inside}
 use Rattle.vlm_store.specs.Records.{AreOwnApart, AreOwned, AreProcessesApart, FindsProcess, HasNoSublocks, HasProcess, IsProcess, IsSound, OwnLock, StoredProcess, Stores, own_at, process_at}
 use Rattle.vlm_store.specs.Kept.{IsKept, beside_shown, processes_shown, records_shown}
 use Rattle.vlm_store.specs.Shown.{lkid_of, row_in, rows}
-use Rattle.vlm_store.specs.Holdings.{Holding, NamesParent, OwnerFits, ParentFits, below_handles, holding, own_handles, own_of, owner_in, parent_in, pid_at, pid_of, plain_in, process_links, process_under, processes_of}
+use Rattle.vlm_store.specs.Holdings.{Holding, NamesParent, OwnerFits, ParentFits, below_handles, holding, own_handles, own_of, owner_in, parent_in, pid_at, pid_of, process_face_in, process_links, process_under, processes_of}
 use Rattle.vlm_store.specs.Store.{tables}
 use Rattle.vlm_words.specs.Keys.{is_same_key}
 use Rattle.vlm_store.proofs.Kept.{keys_apart, lkids_apart, stored_there, there_stored}
@@ -25,11 +25,11 @@ use Rattle.vlm_store.proofs.Kinship.{records_processes}
 use Rattle.vlm_store.proofs.Members.{AreProcessesApart-processes_of, HasProcess-order, among_own, own_among, process_at-found, process_seen, seen_process}
 
 -- what the record of a process tells, where it has an identification
-pid_there : (slot : Option Process) (pid : ℕ) → option_map pid_of slot ≡ Some pid → IsSome slot × ((plain_in slot).pid ≡ pid)
+pid_there : (slot : Option Process) (pid : ℕ) → option_map pid_of slot ≡ Some pid → IsSome slot × ((process_face_in slot).plain.pid ≡ pid)
 pid_there None pid is = absurd (none-some pid is)
 pid_there (Some p) pid is = (refl, same_Some p.pid pid is)
 
-pid_told : (slot : Option Process) → IsSome slot → option_map pid_of slot ≡ Some (plain_in slot).pid
+pid_told : (slot : Option Process) → IsSome slot → option_map pid_of slot ≡ Some (process_face_in slot).plain.pid
 pid_told None there = cc
 pid_told (Some p) there = refl
 
@@ -146,11 +146,11 @@ module _ (s : Inside) (kept : IsKept s) where
         let there : ContainsKey s.queues.locks own.at = (kept.owned.linked p.at).present own.at own_there.0.0 in
         let fits = subst (OwnerFits s.processes) noted.1.0 (kept.named.owners own.at) in
         let pid = pid_there (get s.processes noted.0.owner) noted.0.row.pid fits in
-        let plain : (plain_in (get s.processes p.at)).pid ≡ p.process.pid = ap (λ (x : StoredProcess). x.process.pid) (shown_among p among).1 in (
+        let plain : (process_face_in (get s.processes p.at)).plain.pid ≡ p.process.pid = ap (λ (x : StoredProcess). x.process.pid) (shown_among p among).1 in (
           rows s.queues own.at,
           (
             lock_stored own.at there,
-            ap (λ slot. (row_in slot).pid) noted.1.0 ∙ sym pid.1 ∙ ap (λ x. (plain_in (get s.processes x)).pid) noted.1.1 ∙ plain,
+            ap (λ slot. (row_in slot).pid) noted.1.0 ∙ sym pid.1 ∙ ap (λ x. (process_face_in (get s.processes x)).plain.pid) noted.1.1 ∙ plain,
           ),
         );
     below = λ p own at among has stands.
@@ -227,7 +227,7 @@ module _ (s : Inside) (kept : IsKept s) where
       let told_a = pid_told (get s.processes a) (kept.processes_linked.present a here) in
       let told_b = pid_told (get s.processes b) (kept.processes_linked.present b there) in
       same_Some a b
-      (sym (kept.processes.complete (plain_in (get s.processes a)).pid a told_a) ∙ kept.processes.complete (plain_in (get s.processes a)).pid b (told_b ∙ ap Some (sym same))))
+      (sym (kept.processes.complete (process_face_in (get s.processes a)).plain.pid a told_a) ∙ kept.processes.complete (process_face_in (get s.processes a)).plain.pid b (told_b ∙ ap Some (sym same))))
 
   -- what a caller sees is sound
   pub is_sound : IsSound (records_shown s)
@@ -269,5 +269,5 @@ module _ (s : Inside) (kept : IsKept s) where
       let there : ContainsKey s.processes at = subst (ContainsKey s.processes) is.1.1 (kept.processes_linked.present is.0.at seen.0) in (
         there,
         pid_told (get s.processes at) there
-            ∙ ap Some (ap (λ x. (plain_in (get s.processes x)).pid) (sym is.1.1) ∙ ap (λ (x : StoredProcess). x.process.pid) seen.1 ∙ is.1.2),
+            ∙ ap Some (ap (λ x. (process_face_in (get s.processes x)).plain.pid) (sym is.1.1) ∙ ap (λ (x : StoredProcess). x.process.pid) seen.1 ∙ is.1.2),
       )

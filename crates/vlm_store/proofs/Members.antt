@@ -6,9 +6,8 @@ use Rattle.std.proofs.lemmas.Option.{same_Some}
 use Rattle.vlm_links.specs.Lists.{IsApart, IsIn, without}
 use Rattle.vlm_links.proofs.Images.{IsIn-image, IsIn-told}
 use Rattle.vlm_links.proofs.HandleLists.{without_head, without_past}
-use Rattle.vlm_words.specs.State.{Process}
-use Rattle.vlm_store.specs.Records.{AreProcessesApart, OwnLock, StoredProcess, changed_process, new_own, on_process, process_at, process_with_lock, process_without_lock, with_sublock, without_process, without_sublock}
-use Rattle.vlm_store.specs.Holdings.{Holding, own_of, process_under, processes_of}
+use Rattle.vlm_store.specs.Records.{AreProcessesApart, OwnLock, StoredProcess, new_own, on_stored, process_at, process_with_lock, process_without_lock, with_sublock, without_process, without_sublock}
+use Rattle.vlm_store.specs.Holdings.{Holding, faced, own_of, process_under, processes_of}
 
 -- ---- what is seen
 
@@ -60,7 +59,7 @@ pub among_own : (h : Holding) (ks : List ℕ) (at : ℕ) → IsIn at ks → IsIn
 among_own h = IsIn-image (own_of h)
 
 -- handles and identifications are apart
-processes_apart : (h : Holding) (ps : List ℕ) → IsApart ps → ((a b : ℕ) → IsIn a ps → IsIn b ps → (h.plain a).pid ≡ (h.plain b).pid → a ≡ b) → AreProcessesApart (map (process_under h) ps)
+processes_apart : (h : Holding) (ps : List ℕ) → IsApart ps → ((a b : ℕ) → IsIn a ps → IsIn b ps → (h.faces a).plain.pid ≡ (h.faces b).plain.pid → a ≡ b) → AreProcessesApart (map (process_under h) ps)
 processes_apart h [] apart pids = tt
 processes_apart h (x ∷ ps) apart pids = (
   λ other found.
@@ -70,7 +69,7 @@ processes_apart h (x ∷ ps) apart pids = (
   processes_apart h ps apart.1 (λ a b here there. pids a b (inr here) (inr there)),
 )
 
-pub AreProcessesApart-processes_of : (h : Holding) → IsApart h.order → ((a b : ℕ) → IsIn a h.order → IsIn b h.order → (h.plain a).pid ≡ (h.plain b).pid → a ≡ b) → AreProcessesApart (processes_of h)
+pub AreProcessesApart-processes_of : (h : Holding) → IsApart h.order → ((a b : ℕ) → IsIn a h.order → IsIn b h.order → (h.faces a).plain.pid ≡ (h.faces b).plain.pid → a ≡ b) → AreProcessesApart (processes_of h)
 unfolding processes_of
 AreProcessesApart-processes_of h apart pids = processes_apart h h.order apart pids
 
@@ -81,37 +80,37 @@ own_map old new below [] = refl
 own_map old new below (k ∷ ks) = ap (λ b. record { at = k; sublocks = b } ∷ map (own_of new) ks) (below k) ∙ ap (λ rest. own_of old k ∷ rest) (own_map old new below ks)
 
 module _ (old new : Holding) (below : (k : ℕ) → new.below k ≡ old.below k) where
-  process_same : (p : ℕ) → new.plain p ≡ old.plain p → new.own p ≡ old.own p → process_under new p ≡ process_under old p
-  process_same p plain own =
-      ap (λ x. record { at = p; process = x; own = map (own_of new) (new.own p) }) plain
-      ∙ ap (λ x. record { at = p; process = old.plain p; own = x }) (ap (map (own_of new)) own ∙ own_map old new below (old.own p))
+  process_same : (p : ℕ) → new.faces p ≡ old.faces p → new.own p ≡ old.own p → process_under new p ≡ process_under old p
+  process_same p faces own =
+      ap (λ face. faced p face (map (own_of new) (new.own p))) faces
+      ∙ ap (faced p (old.faces p)) (ap (map (own_of new)) own ∙ own_map old new below (old.own p))
 
   -- all is the same
-  pub processes_same : ((p : ℕ) → new.plain p ≡ old.plain p) → ((p : ℕ) → new.own p ≡ old.own p) → new.order ≡ old.order → processes_of new ≡ processes_of old
+  pub processes_same : ((p : ℕ) → new.faces p ≡ old.faces p) → ((p : ℕ) → new.own p ≡ old.own p) → new.order ≡ old.order → processes_of new ≡ processes_of old
   unfolding processes_of
-  processes_same plain own order = ap (map (process_under new)) order ∙ each old.order
+  processes_same faces own order = ap (map (process_under new)) order ∙ each old.order
     where
       each : (ps : List ℕ) → map (process_under new) ps ≡ map (process_under old) ps
       each [] = refl
-      each (p ∷ ps) = ap (λ x. x ∷ map (process_under new) ps) (process_same p (plain p) (own p)) ∙ ap (λ rest. process_under old p ∷ rest) (each ps)
+      each (p ∷ ps) = ap (λ x. x ∷ map (process_under new) ps) (process_same p (faces p) (own p)) ∙ ap (λ rest. process_under old p ∷ rest) (each ps)
 
   -- a process is made
-  pub process_made : (at : ℕ) (made : StoredProcess) → ((p : ℕ) → p ≢ at → new.plain p ≡ old.plain p) → ((p : ℕ) → p ≢ at → new.own p ≡ old.own p) → ¬ IsIn at old.order
+  pub process_made : (at : ℕ) (made : StoredProcess) → ((p : ℕ) → p ≢ at → new.faces p ≡ old.faces p) → ((p : ℕ) → p ≢ at → new.own p ≡ old.own p) → ¬ IsIn at old.order
       → new.order ≡ old.order ++ at ∷ [] → process_under new at ≡ made → processes_of new ≡ processes_of old ++ made ∷ []
   unfolding processes_of
-  process_made at made plain own absent order is = ap (map (process_under new)) order ∙ each old.order absent
+  process_made at made faces own absent order is = ap (map (process_under new)) order ∙ each old.order absent
     where
       each : (ps : List ℕ) → ¬ IsIn at ps → map (process_under new) (ps ++ at ∷ []) ≡ map (process_under old) ps ++ made ∷ []
       each [] absent = ap (λ x. x ∷ []) is
       each (p ∷ ps) absent =
           let differs : p ≢ at = λ same. absent (inl same) in
-          ap (λ x. x ∷ map (process_under new) (ps ++ at ∷ [])) (process_same p (plain p differs) (own p differs)) ∙ ap (λ rest. process_under old p ∷ rest) (each ps (λ there. absent (inr there)))
+          ap (λ x. x ∷ map (process_under new) (ps ++ at ∷ [])) (process_same p (faces p differs) (own p differs)) ∙ ap (λ rest. process_under old p ∷ rest) (each ps (λ there. absent (inr there)))
 
   -- a process is removed
-  pub process_removed : (at : ℕ) → ((p : ℕ) → p ≢ at → new.plain p ≡ old.plain p) → ((p : ℕ) → p ≢ at → new.own p ≡ old.own p) → new.order ≡ without at old.order
+  pub process_removed : (at : ℕ) → ((p : ℕ) → p ≢ at → new.faces p ≡ old.faces p) → ((p : ℕ) → p ≢ at → new.own p ≡ old.own p) → new.order ≡ without at old.order
       → processes_of new ≡ without_process at (processes_of old)
   unfolding processes_of
-  process_removed at plain own order = ap (map (process_under new)) order ∙ each old.order
+  process_removed at faces own order = ap (map (process_under new)) order ∙ each old.order
     where
       each : (ps : List ℕ) → map (process_under new) (without at ps) ≡ without_process at (map (process_under old) ps)
       each [] = refl
@@ -121,26 +120,26 @@ module _ (old new : Holding) (below : (k : ℕ) → new.below k ≡ old.below k)
             | inr differs ↦
                 ap (map (process_under new)) (without_past at p ps differs)
                 ∙ rw (ne_eqb p at differs)
-                (ap (λ x. x ∷ map (process_under new) (without at ps)) (process_same p (plain p differs) (own p differs)) ∙ ap (λ rest. process_under old p ∷ rest) (each ps))
+                (ap (λ x. x ∷ map (process_under new) (without at ps)) (process_same p (faces p differs) (own p differs)) ∙ ap (λ rest. process_under old p ∷ rest) (each ps))
           ]
 
-  -- what a process tells is written
-  pub process_written : (at : ℕ) (change : Process → Process) → new.plain at ≡ change (old.plain at) → ((p : ℕ) → p ≢ at → new.plain p ≡ old.plain p) → ((p : ℕ) → new.own p ≡ old.own p)
-      → new.order ≡ old.order → processes_of new ≡ on_process at change (processes_of old)
+  -- what a process shows is written
+  pub process_written : (at : ℕ) (change : StoredProcess → StoredProcess) → ((locks : List OwnLock) → faced at (new.faces at) locks ≡ change (faced at (old.faces at) locks))
+      → ((p : ℕ) → p ≢ at → new.faces p ≡ old.faces p) → ((p : ℕ) → new.own p ≡ old.own p) → new.order ≡ old.order → processes_of new ≡ on_stored at change (processes_of old)
   unfolding processes_of
   process_written at change here others own order = ap (map (process_under new)) order ∙ each old.order
     where
-      written : (p : ℕ) → p ≡ at → process_under new p ≡ changed_process change (process_under old p)
+      written : (p : ℕ) → p ≡ at → process_under new p ≡ change (process_under old p)
       written p same =
-          ap (λ x. record { at = p; process = x; own = map (own_of new) (new.own p) }) (subst (λ x. new.plain x ≡ change (old.plain x)) (sym same) here)
-          ∙ ap (λ x. record { at = p; process = change (old.plain p); own = x }) (ap (map (own_of new)) (own p) ∙ own_map old new below (old.own p))
+          ap (faced p (new.faces p)) (ap (map (own_of new)) (own p) ∙ own_map old new below (old.own p))
+          ∙ subst (λ x. faced x (new.faces x) (map (own_of old) (old.own p)) ≡ change (faced x (old.faces x) (map (own_of old) (old.own p)))) (sym same) (here (map (own_of old) (old.own p)))
 
-      each : (ps : List ℕ) → map (process_under new) ps ≡ on_process at change (map (process_under old) ps)
+      each : (ps : List ℕ) → map (process_under new) ps ≡ on_stored at change (map (process_under old) ps)
       each [] = refl
       each (p ∷ ps) =
           elim (cases_eq p at) [
             | inl same ↦
-                rw (eq-eqb p at same) (ap (λ x. x ∷ map (process_under new) ps) (written p same) ∙ ap (λ rest. changed_process change (process_under old p) ∷ rest) (each ps))
+                rw (eq-eqb p at same) (ap (λ x. x ∷ map (process_under new) ps) (written p same) ∙ ap (λ rest. change (process_under old p) ∷ rest) (each ps))
             | inr differs ↦
                 rw (ne_eqb p at differs) (ap (λ x. x ∷ map (process_under new) ps) (process_same p (others p differs) (own p)) ∙ ap (λ rest. process_under old p ∷ rest) (each ps))
           ]
@@ -154,7 +153,7 @@ append_nothing [] = refl
 append_nothing (x ∷ xs) = ap (λ rest. x ∷ rest) (append_nothing xs)
 
 -- a lock is made
-module _ (old new : Holding) (owner : ℕ) (parent : Option ℕ) (at : ℕ) (plain : (p : ℕ) → new.plain p ≡ old.plain p) (order : new.order ≡ old.order)
+module _ (old new : Holding) (owner : ℕ) (parent : Option ℕ) (at : ℕ) (faces : (p : ℕ) → new.faces p ≡ old.faces p) (order : new.order ≡ old.order)
     (own_here : new.own owner ≡ old.own owner ++ at ∷ []) (own_others : (p : ℕ) → p ≢ owner → new.own p ≡ old.own p) (childless : new.below at ≡ [])
     (below_here : (k : ℕ) → parent ≡ Some k → new.below k ≡ old.below k ++ at ∷ []) (below_others : (k : ℕ) → parent ≢ Some k → new.below k ≡ old.below k) where
   sublock_of : (k : ℕ) (up : Option ℕ) → parent ≡ up → own_of new k ≡ with_sublock up at (own_of old k)
@@ -187,14 +186,14 @@ module _ (old new : Holding) (owner : ℕ) (parent : Option ℕ) (at : ℕ) (pla
     where
       one : (p : ℕ) → process_under new p ≡ process_with_lock owner parent at (process_under old p)
       one p =
-          ap (λ x. record { at = p; process = x; own = map (own_of new) (new.own p) }) (plain p) ∙ ap (λ x. record { at = p; process = old.plain p; own = x }) (with_owner p)
+          ap (λ face. faced p face (map (own_of new) (new.own p))) (faces p) ∙ ap (faced p (old.faces p)) (with_owner p)
 
       each : (ps : List ℕ) → map (process_under new) ps ≡ map (process_with_lock owner parent at) (map (process_under old) ps)
       each [] = refl
       each (p ∷ ps) = ap (λ x. x ∷ map (process_under new) ps) (one p) ∙ ap (λ rest. process_with_lock owner parent at (process_under old p) ∷ rest) (each ps)
 
 -- a lock is gone
-module _ (old new : Holding) (at : ℕ) (plain : (p : ℕ) → new.plain p ≡ old.plain p) (order : new.order ≡ old.order) (own : (p : ℕ) → new.own p ≡ without at (old.own p))
+module _ (old new : Holding) (at : ℕ) (faces : (p : ℕ) → new.faces p ≡ old.faces p) (order : new.order ≡ old.order) (own : (p : ℕ) → new.own p ≡ without at (old.own p))
     (below : (k : ℕ) → k ≢ at → new.below k ≡ without at (old.below k)) where
   each_left : (ks : List ℕ) → map (own_of new) (without at ks) ≡ map (without_sublock at) (filter (λ (o : OwnLock). not (o.at == at)) (map (own_of old) ks))
   each_left [] = refl
@@ -213,8 +212,8 @@ module _ (old new : Holding) (at : ℕ) (plain : (p : ℕ) → new.plain p ≡ o
     where
       one : (p : ℕ) → process_under new p ≡ process_without_lock at (process_under old p)
       one p =
-          ap (λ x. record { at = p; process = x; own = map (own_of new) (new.own p) }) (plain p)
-          ∙ ap (λ x. record { at = p; process = old.plain p; own = x }) (ap (map (own_of new)) (own p) ∙ each_left (old.own p))
+          ap (λ face. faced p face (map (own_of new) (new.own p))) (faces p)
+          ∙ ap (faced p (old.faces p)) (ap (map (own_of new)) (own p) ∙ each_left (old.own p))
 
       each : (ps : List ℕ) → map (process_under new) ps ≡ map (process_without_lock at) (map (process_under old) ps)
       each [] = refl

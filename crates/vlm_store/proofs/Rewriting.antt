@@ -1,20 +1,26 @@
 -- A process is rewritten, but for its identification, its locks and its place in the order.
-use Rattle.std.proofs.Common.{◌≡◌, ◌∙◌, ℕ, Some, ap, sym, refl, nat_eq}
+use Rattle.std.proofs.Common.{◌≡◌, ◌∙◌, ℕ, List, Some, ap, sym, refl, nat_eq}
 use Rattle.slab.specs.Slab.{get}
 use Rattle.indexmap.specs.IndexMap.{get as found, spare}
 use Rattle.vlm_words.specs.State.{Process as PlainProcess}
 use Rattle.vlm_store.specs.declared.processes.Process.{Process}
 use Rattle.vlm_store.specs.declared.store.Store.TheInside.{Inside}
-use Rattle.vlm_store.specs.Holdings.{holding, pid_at, plain_in, plain_process}
+use Rattle.vlm_store.specs.Holdings.{faced, holding, pid_at, plain_process, process_face, process_face_in}
 use Rattle.vlm_store.specs.Kept.{IsKept, beside_shown, records_shown, rooms_shown}
-use Rattle.vlm_store.specs.Records.{on_process}
+use Rattle.vlm_store.specs.Records.{OwnLock, StoredProcess, changed_process, on_stored}
 use Rattle.vlm_store.specs.Store.{tables}
-use Rattle.vlm_store.proofs.Declaring.{process_named, process_own_handles, process_owned, rewritten, written_handles, written_linked, written_others, written_owns, written_pids, written_plain, written_whole}
+use Rattle.vlm_store.proofs.Declaring.{process_named, process_own_handles, process_owned, rewritten, written_face, written_handles, written_linked, written_others, written_owns, written_pids, written_whole}
 use Rattle.vlm_store.proofs.Indexing.{Indexes-same}
 use Rattle.vlm_store.proofs.Kinship.{processes_changed}
 use Rattle.vlm_store.proofs.Members.{process_written}
 use Rattle.vlm_store.proofs.Rooms.{room_written}
 use Rattle.vlm_store.proofs.RoomShown.{room_shown, room_of_same}
+
+-- what a process tells is changed, and it is owed what it was
+pub changed_face : (change : PlainProcess → PlainProcess) (was now : Process) → plain_process now ≡ change (plain_process was) → now.asts.due ≡ was.asts.due
+    → (at : ℕ) (locks : List OwnLock) → faced at (process_face now) locks ≡ changed_process change (faced at (process_face was) locks)
+changed_face change was now plain due at locks =
+    ap (λ p. record { at = at; process = p; due = now.asts.due; own = locks }) plain ∙ ap (λ n. record { at = at; process = change (plain_process was); due = n; own = locks }) due
 
 module _ (s : Inside) (kept : IsKept s) (at : ℕ) (was now : Process) (here : get s.processes at ≡ Some was) (own : now.own ≡ was.own) (order : now.in_order ≡ was.in_order)
     (pid : now.pid ≡ was.pid) where
@@ -40,19 +46,20 @@ module _ (s : Inside) (kept : IsKept s) (at : ℕ) (was now : Process) (here : g
       }
 
   -- and shows the process changed
-  pub rewritten_shown : (change : PlainProcess → PlainProcess) → plain_process now ≡ change (plain_process was)
+  pub rewritten_shown : (change : StoredProcess → StoredProcess) → ((locks : List OwnLock) → faced at (process_face now) locks ≡ change (faced at (process_face was) locks))
       → records_shown (record s { processes = rewritten s.processes at was now here own order pid })
-      ≡ record (records_shown s) { processes = on_process at change (records_shown s).processes }
+      ≡ record (records_shown s) { processes = on_stored at change (records_shown s).processes }
   rewritten_shown change is =
       let owns = written_owns s.processes at was now here own order pid in
       let processes = rewritten s.processes at was now here own order pid in
-      let plain : plain_in (get processes at) ≡ change (plain_in (get s.processes at)) =
-      written_plain s.processes at was now here own order pid ∙ is ∙ ap (λ slot. change (plain_in slot)) (sym here) in
-      processes_changed s.queues s.order (beside_shown s) (beside_shown (record s { processes = processes })) (on_process at change)
-      (process_written (holding s.processes s.queues.locks s.process_order) (holding processes s.queues.locks s.process_order) (λ k. refl) at change plain
+      let shown : (locks : List OwnLock) → faced at (process_face_in (get processes at)) locks ≡ change (faced at (process_face_in (get s.processes at)) locks) =
+      λ locks.
+      ap (λ face. faced at face locks) (written_face s.processes at was now here own order pid) ∙ is locks ∙ ap (λ slot. change (faced at (process_face_in slot) locks)) (sym here) in
+      processes_changed s.queues s.order (beside_shown s) (beside_shown (record s { processes = processes })) (on_stored at change)
+      (process_written (holding s.processes s.queues.locks s.process_order) (holding processes s.queues.locks s.process_order) (λ k. refl) at change shown
       (written_others s.processes at was now here own order pid) (process_own_handles s.processes processes s.queues.locks owns)
       (written_handles s.processes at was now here own order pid s.process_order kept.processes_linked))
-      ∙ ap (λ r. record (records_shown s) { processes = on_process at change (records_shown s).processes; room = r })
+      ∙ ap (λ r. record (records_shown s) { processes = on_stored at change (records_shown s).processes; room = r })
       (room_shown (λ a b. b ≡ a) (tables s.queues s.order (beside_shown s)) (tables s.queues s.order (beside_shown (record s { processes = processes })))
       (ap (λ p. record (rooms_shown s) { processes = p })
       (room_of_same s.processes processes (spare s.process_index) (room_written s.processes at now (rw here refl)))))

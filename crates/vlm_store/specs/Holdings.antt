@@ -79,14 +79,23 @@ named_lock l = but_kin (but_queued l)
 abbrev pub plain_process : Process → PlainProcess
 plain_process p = record { pid = p.pid; group = p.authorization.group; syslck = p.authorization.syslck; quota = p.authorization.quota; blocks = p.blocks.items; asts = p.asts.pending }
 
+-- a process without its locks: what its record tells, and how many ASTs it is owed
+pub record ProcessFace : Type 0 where
+  pub plain : PlainProcess
+  pub due : ℕ
+
+-- what a process shows besides its locks
+abbrev pub process_face : Process → ProcessFace
+process_face p = record { plain = plain_process p; due = p.asts.due }
+
 -- what is told of a process that is not there
-abbrev pub no_process : PlainProcess
-no_process = record { pid = 0; group = 0; syslck = false; quota = 0; blocks = []; asts = [] }
+abbrev pub no_process : ProcessFace
+no_process = record { plain = record { pid = 0; group = 0; syslck = false; quota = 0; blocks = []; asts = [] }; due = 0 }
 
 -- what stands under a handle, or what is told of nothing
-abbrev pub plain_in : Option Process → PlainProcess
-plain_in None = no_process
-plain_in (Some p) = plain_process p
+abbrev pub process_face_in : Option Process → ProcessFace
+process_face_in None = no_process
+process_face_in (Some p) = process_face p
 
 -- the identification of a process
 abbrev pub pid_of : Process → ℕ
@@ -138,7 +147,7 @@ pub record IsNamed (processes : Slab Process) (locks : Slab Lock) : Type 0 where
 
 -- what stands under each handle of a process, its locks, the locks below each, and the order of making
 pub record Holding : Type 0 where
-  pub plain : ℕ → PlainProcess
+  pub faces : ℕ → ProcessFace
   pub own : ℕ → List ℕ
   pub below : ℕ → List ℕ
   pub order : List ℕ
@@ -147,9 +156,13 @@ pub record Holding : Type 0 where
 abbrev pub own_of : Holding → ℕ → OwnLock
 own_of h at = record { at = at; sublocks = h.below at }
 
+-- a process under its handle, with these locks of its own
+abbrev pub faced : ℕ → ProcessFace → List OwnLock → StoredProcess
+faced at face own = record { at = at; process = face.plain; due = face.due; own = own }
+
 -- a process under its handle
 abbrev pub process_under : Holding → ℕ → StoredProcess
-process_under h at = record { at = at; process = h.plain at; own = map (own_of h) (h.own at) }
+process_under h at = faced at (h.faces at) (map (own_of h) (h.own at))
 
 -- what a caller sees of the processes
 unfoldable pub processes_of : Holding → List StoredProcess
@@ -158,7 +171,7 @@ processes_of h = map (process_under h) h.order
 -- the slabs as tables
 abbrev pub holding : Slab Process → Slab Lock → LinkedList InOrder → Holding
 holding processes locks order = record {
-  plain = λ at. plain_in (get processes at);
+  faces = λ at. process_face_in (get processes at);
   own = own_handles processes locks;
   below = below_handles locks;
   order = handles_of process_links processes order;

@@ -1,7 +1,8 @@
 -- What the store shows: resources with their queues, locks, and processes with their own locks, each under
 -- its handle.
-use Rattle.std.specs.Prelude.{◌≡◌, ◌<◌, ◌≤◌, ℕ, Bool, true, false, not, ◌==◌, ◌&&◌, ◌+◌, count_by, sum_by, List, [], ◌∷◌, ◌++◌, map, filter, find, flat_map, Option, None, Some, IsSome, if◌then◌else◌}
+use Rattle.std.specs.Prelude.{◌≡◌, ◌<◌, ◌≤◌, ℕ, Bool, true, false, not, ◌==◌, ◌&&◌, ◌+◌, ◌-◌, count_by, sum_by, List, [], ◌∷◌, ◌++◌, map, filter, find, flat_map, Option, None, Some, IsSome, if◌then◌else◌}
 use Rattle.std.specs.Option.{option_map_or}
+use Rattle.vlm_words.specs.declared.asts.Ast.{Ast}
 use Rattle.vlm_words.specs.declared.locks.Row.{Row}
 use Rattle.vlm_words.specs.declared.modes.Mode.{Mode}
 use Rattle.vlm_words.specs.declared.resources.Domain.{Domain}
@@ -10,6 +11,7 @@ use Rattle.vlm_words.specs.declared.resources.Queue.TheVariants.{Granted, Conver
 use Rattle.vlm_words.specs.declared.steps.Declaration.{Declaration}
 use Rattle.vlm_links.specs.declared.link.TheConstants.{LAST_HANDLE}
 use Rattle.vlm_links.specs.Lists.{IsIn, without}
+use Rattle.vlm_words.specs.Asts.{with_ast}
 use Rattle.vlm_words.specs.Declare.{new_process}
 use Rattle.vlm_words.specs.Grants.{fits}
 use Rattle.vlm_words.specs.State.{Process}
@@ -43,10 +45,12 @@ pub record OwnLock : Type 0 where
   pub at : ℕ
   pub sublocks : List ℕ
 
--- a process under its handle, with its own locks in order of making
+-- a process under its handle, with its own locks in order of making; beyond the ASTs that are queued to it, it is owed
+-- so many more
 pub record StoredProcess : Type 0 where
   pub at : ℕ
   pub process : Process
+  pub due : ℕ
   pub own : List OwnLock
 
 -- the room for records of one kind: how many more their table takes with no allocation, the handle that the next
@@ -276,15 +280,31 @@ IsNewProcess pid s = FindsProcess s pid None
 
 -- a process at its making, without locks
 abbrev pub new_stored_process : ℕ → ℕ → Declaration → StoredProcess
-new_stored_process at pid d = record { at = at; process = new_process pid d; own = [] }
+new_stored_process at pid d = record { at = at; process = new_process pid d; due = 0; own = [] }
 
--- a process that is changed; its locks stay
+-- a process that is changed; what it is owed and its locks stay
 abbrev pub changed_process : (Process → Process) → StoredProcess → StoredProcess
 changed_process change p = record p { process = change p.process }
 
--- a change of the process of this handle alone; its locks stay
+-- a change of the record of this handle alone
+abbrev pub on_stored : ℕ → (StoredProcess → StoredProcess) → List StoredProcess → List StoredProcess
+on_stored at change processes = map (λ p. if p.at == at then change p else p) processes
+
+-- a change of the process of this handle alone; what it is owed and its locks stay
 abbrev pub on_process : ℕ → (Process → Process) → List StoredProcess → List StoredProcess
-on_process at change processes = map (λ p. if p.at == at then changed_process change p else p) processes
+on_process at change processes = on_stored at (changed_process change) processes
+
+-- a process that is owed so many ASTs more
+abbrev pub owed_more : ℕ → StoredProcess → StoredProcess
+owed_more count p = record p { due = p.due + count }
+
+-- a process that is owed so many ASTs less
+abbrev pub owed_less : ℕ → StoredProcess → StoredProcess
+owed_less count p = record p { due = p.due - count }
+
+-- a process once an AST that it is owed is queued to it, behind the others
+abbrev pub with_owed_ast : Ast → StoredProcess → StoredProcess
+with_owed_ast ast p = record p { process = with_ast ast p.process; due = p.due - 1 }
 
 -- the processes but for the one of this handle
 abbrev pub without_process : ℕ → List StoredProcess → List StoredProcess
@@ -377,16 +397,29 @@ owned_by pid s = sum_by (owned_on pid) s.resources + owned_among pid s.loose
 abbrev pub HasNoLocks : ℕ → Records → Type 0
 HasNoLocks at s = own_at at s ≡ []
 
--- a process but for its notices, which tell it of its requests: its status blocks and its ASTs
+-- a process but for its notices, which tell it of its requests: its status blocks, its ASTs, and those that it is owed
 abbrev pub but_notices : StoredProcess → StoredProcess
-but_notices p = record p { process = record p.process { blocks = []; asts = [] } }
+but_notices p = record p { process = record p.process { blocks = []; asts = [] }; due = 0 }
 
--- status blocks are written, ASTs are queued or taken, and nothing else
+-- status blocks are written, ASTs are owed, queued, forgiven or taken, and nothing else
 pub record SameButNotices (old new : Records) : Type 0 where
   pub resources : new.resources ≡ old.resources
   pub loose : new.loose ≡ old.loose
   pub processes : map but_notices new.processes ≡ map but_notices old.processes
   pub room : new.room ≡ old.room
+
+-- how many ASTs the living process with this identification is owed, beyond those that are queued to it
+abbrev pub due_of : ℕ → Records → ℕ
+due_of pid s = option_map_or (λ p. p.due) (find (λ p. p.process.pid == pid) s.processes) 0
+
+-- each process is owed as many ASTs as it was
+abbrev pub DuesStay : Records → Records → Type 0
+DuesStay old new = (pid : ℕ) → due_of pid new ≡ due_of pid old
+
+-- what the process with this identification is owed changes so, and what each other is owed stays
+abbrev pub DueChanges : ℕ → (ℕ → ℕ) → Records → Records → Type 0
+DueChanges pid change old new =
+    (other : ℕ) → due_of other new ≡ (if other == pid then change (due_of other old) else due_of other old)
 
 -- ---- room
 
@@ -451,22 +484,23 @@ abbrev pub AreApart : List StoredLock → Type 0
 AreApart [] = Unit {0}
 AreApart (k ∷ rest) = ((row : Row) → ¬ IsIn (record { at = k.at; row = row }) rest) × AreApart rest
 
+-- the relation holds between each one and every one before it
+abbrev pub EachTwo : {A : Type 0} → (A → A → Type 0) → List A → Type 0
+EachTwo R [] = Unit {0}
+EachTwo {A} R (first ∷ rest) = ((other : A) → IsIn other rest → R other first) × EachTwo R rest
+
 -- no two of the resources have one handle
 abbrev pub AreResourcesApart : List StoredResource → Type 0
-AreResourcesApart [] = Unit {0}
-AreResourcesApart (r ∷ rest) = ((other : StoredResource) → IsIn other rest → ¬ (other.at ≡ r.at)) × AreResourcesApart rest
+AreResourcesApart = EachTwo (λ (other r : StoredResource). ¬ (other.at ≡ r.at))
 
 -- no two of the processes have one handle, or one identification
 abbrev pub AreProcessesApart : List StoredProcess → Type 0
-AreProcessesApart [] = Unit {0}
-AreProcessesApart (p ∷ rest) =
-    ((other : StoredProcess) → IsIn other rest → ¬ (other.at ≡ p.at) × ¬ (other.process.pid ≡ p.process.pid))
-    × AreProcessesApart rest
+AreProcessesApart =
+    EachTwo (λ (other p : StoredProcess). ¬ (other.at ≡ p.at) × ¬ (other.process.pid ≡ p.process.pid))
 
 -- no two of the locks of a process have one handle
 abbrev pub AreOwnApart : List OwnLock → Type 0
-AreOwnApart [] = Unit {0}
-AreOwnApart (own ∷ rest) = ((other : OwnLock) → IsIn other rest → ¬ (other.at ≡ own.at)) × AreOwnApart rest
+AreOwnApart = EachTwo (λ (other own : OwnLock). ¬ (other.at ≡ own.at))
 
 -- the locks of a process are those whose rows name it, and the locks below a lock those whose rows name it
 -- as their parent

@@ -1,11 +1,11 @@
 //! The processes of the store, and the locks of each.
 
-ghost use Rattle.std.specs.Prelude.{◌≡◌, ℕ, [], ◌∷◌, ◌++◌, length, replicate, IfOk, IfSome, IsOk, OnErr, OnOk};
+ghost use Rattle.std.specs.Prelude.{◌≡◌, ◌<◌, ◌≤◌, ℕ, [], ◌∷◌, ◌++◌, length, replicate, IfOk, IfSome, IsOk, OnErr, OnOk};
 ghost use Rattle.std.specs.Bool.{OnFalse, OnTrue};
 ghost use Rattle.vlm_words.specs.Asts.{oldest, without_oldest_ast};
 ghost use Rattle.vlm_words.specs.Declare.{new_process};
 ghost use Rattle.vlm_words.specs.StatusBlocks.{new_status_block, process_with_block};
-ghost use Rattle.vlm_store.specs.Records.{FindsProcess, HasNoLocks, HasNoSublocks, HasProcess, HasRoomForProcess, IsGivenBack, IsNewProcess, IsProcess, IsSound, IsStored, IsTaken, IsUnchanged, authorization_of, new_stored_process, on_process, own_at, owned_by, process_at, with_process_room, without_process};
+ghost use Rattle.vlm_store.specs.Records.{FindsProcess, HasNoLocks, HasNoSublocks, HasProcess, HasRoomForProcess, IsGivenBack, IsNewProcess, IsProcess, IsSound, IsStored, IsTaken, IsUnchanged, authorization_of, new_stored_process, on_process, on_stored, owed_less, owed_more, own_at, owned_by, process_at, with_owed_ast, with_process_room, without_process};
 
 use crate::growth::reserve_one;
 use crate::handles::{LockAt, ProcAt};
@@ -106,6 +106,41 @@ impl Store {
         } }
     {
         self.processes[at.slot()].take_ast()
+    }
+
+    /// Makes room for so many more ASTs of a process than are queued to it and owed, and owes them. Where memory is
+    /// refused nothing is changed.
+    pub fn owe(&mut self, at: ProcAt, count: usize) -> Result<(), AllocError>
+        requires { HasProcess at self.old }
+        ensures owed { OnOk result (self.new ≡ record self.old {
+          processes = on_stored at (owed_more count) self.old.processes;
+        }) }
+        ensures refused { OnErr result (self.new ≡ self.old) }
+    {
+        let alloc = self.alloc;
+        self.processes[at.slot()].asts.owe(alloc, count)
+    }
+
+    /// Queues an AST that a process is owed, behind those that are queued to it.
+    pub fn queue_ast(&mut self, at: ProcAt, ast: Ast)
+        requires there { HasProcess at self.old }
+        requires owed { IfSome (process_at at self.old.processes) (λ p. 0 < p.due) }
+        ensures { self.new ≡ record self.old {
+          processes = on_stored at (with_owed_ast ast) self.old.processes;
+        } }
+    {
+        self.processes[at.slot()].asts.queue(ast);
+    }
+
+    /// Of the ASTs that a process is owed so many will not come: their room is free again.
+    pub fn forgive(&mut self, at: ProcAt, count: usize)
+        requires there { HasProcess at self.old }
+        requires owed { IfSome (process_at at self.old.processes) (λ p. count ≤ p.due) }
+        ensures { self.new ≡ record self.old {
+          processes = on_stored at (owed_less count) self.old.processes;
+        } }
+    {
+        self.processes[at.slot()].asts.forgive(count);
     }
 
     /// How many locks a process has, in whichever queue.

@@ -39,7 +39,7 @@ pub struct Process {
     pub authorization: Authorization,
     /// Its status blocks: block n stands at n - 1.
     pub blocks: Vec<Block>,
-    /// The ASTs that are queued to it and not yet taken.
+    /// The ASTs that are queued to it and not yet taken, and room for those that it is owed.
     pub asts: AstQueue,
     // its locks in order of making, those that wait too
     pub(crate) own: LinkedList<OfProcess>,
@@ -52,6 +52,7 @@ impl Process {
     pub(crate) fn new(pid: u32, declaration: &Declaration, blocks: Vec<Block>) -> Self
         requires { blocks.items ≡ (new_process pid declaration.now).blocks }
         ensures plain { plain_process result ≡ new_process pid declaration.now }
+        ensures due { result.asts.due ≡ 0 }
         ensures own { IsNoList result.own }
     {
         Process {
@@ -72,6 +73,7 @@ impl Process {
     pub(crate) fn put_status_block(&mut self, number: u8, block: Block)
         ensures plain { plain_process self.new
             ≡ process_with_block number block (plain_process self.old) }
+        ensures due { self.new.asts.due ≡ self.old.asts.due }
         ensures own { self.new.own ≡ self.old.own }
         ensures order { self.new.in_order ≡ self.old.in_order }
     {
@@ -87,6 +89,7 @@ impl Process {
     pub(crate) fn take_ast(&mut self) -> Option<Ast>
         ensures taken { result ≡ oldest (plain_process self.old).asts }
         ensures plain { plain_process self.new ≡ without_oldest_ast (plain_process self.old) }
+        ensures due { self.new.asts.due ≡ self.old.asts.due }
         ensures own { self.new.own ≡ self.old.own }
         ensures order { self.new.in_order ≡ self.old.in_order }
     {

@@ -1,4 +1,8 @@
-use Rattle.vlm_procs.proofs.Written.{asts_alone, oldest_is, others_left}
+use Rattle.std.proofs.Common.{refl}
+use Rattle.vlm_words.specs.Asts.{without_oldest_ast}
+use Rattle.vlm_store.specs.Records.{changed_process}
+use Rattle.vlm_store.proofs.Dues.{dues-on_stored}
+use Rattle.vlm_procs.proofs.Written.{notices_alone, oldest_is, others_left}
 use Rattle.vlm_procs.proofs.asts.take.Goals as goal
 
 pub returns-clause-taken : goal.returns-clause-taken
@@ -8,5 +12,10 @@ returns-clause-taken c pid is =
 pub returns-clause-left : goal.returns-clause-left
 returns-clause-left c pid is = rw c.take_ast.ensures.left (others_left c.args.store.now c.args.at pid c.law_records_are_sound.ensures is)
 
+pub returns-clause-dues : goal.returns-clause-dues
+returns-clause-dues c =
+    rw c.take_ast.ensures.left (dues-on_stored c.args.at (changed_process without_oldest_ast) (λ x. refl) (λ x. refl) c.args.store.now)
+
 pub returns-clause-only_notices : goal.returns-clause-only_notices
-returns-clause-only_notices c = rw c.take_ast.ensures.left (asts_alone c.args.store.now c.args.at)
+returns-clause-only_notices c =
+    rw c.take_ast.ensures.left (notices_alone c.args.store.now c.args.at (changed_process without_oldest_ast) (λ p. refl))

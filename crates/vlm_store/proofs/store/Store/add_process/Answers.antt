@@ -13,10 +13,10 @@ use Rattle.vlm_words.specs.Declare.{new_process}
 use Rattle.vlm_words.specs.State.{Process as PlainProcess}
 use Rattle.vlm_store.specs.declared.locks.Lock.{Lock}
 use Rattle.vlm_store.specs.declared.processes.Process.{Process}
-use Rattle.vlm_store.specs.Holdings.{but_order, holding, own_in, own_links, own_of, pid_at, pid_of, process_links, process_under}
+use Rattle.vlm_store.specs.Holdings.{but_order, faced, holding, own_in, own_links, own_of, pid_at, pid_of, process_links, process_under}
 use Rattle.vlm_store.specs.Kept.{beside_shown}
 use Rattle.vlm_store.specs.Records.{HasRoom, StoredProcess, new_stored_process, IsTaken}
-use Rattle.vlm_store.proofs.Declaring.{names_stay, owner_is_there, owns_stay, own_by_order, pid_by_order, plain_by_order, process_own_handles, process_owned, roomier}
+use Rattle.vlm_store.proofs.Declaring.{names_stay, owner_is_there, owns_stay, own_by_order, pid_by_order, face_by_order, process_own_handles, process_owned, roomier}
 use Rattle.vlm_store.proofs.Indexing.{Indexes-added, Indexes-same}
 use Rattle.vlm_store.proofs.Kept.{on_ok, on_err}
 use Rattle.vlm_store.proofs.Kinship.{processes_changed, there_by_part}
@@ -93,11 +93,13 @@ returns-clause-added c =
     let h = holding s.processes s.queues.locks s.process_order in
     let h' = holding new s.queues.locks c.put_in.new.order in
     let made : process_under h' at ≡ new_stored_process at c.args.pid c.args.declaration.now =
-    ap (λ x. record { at = at; process = x; own = map (own_of h') (h'.own at) }) (plain_by_order (get new at) (Some process) entered.here ∙ c.new-process.ensures.plain)
-    ∙ ap (λ l. record { at = at; process = new_process c.args.pid c.args.declaration.now; own = map (own_of h') (handles_of own_links s.queues.locks l) }) after in
+    ap (λ face. faced at face (map (own_of h') (h'.own at))) (face_by_order (get new at) (Some process) entered.here)
+    ∙ ap (λ plain. record { at = at; process = plain; due = process.asts.due; own = map (own_of h') (h'.own at) }) c.new-process.ensures.plain
+    ∙ ap (λ due. record { at = at; process = new_process c.args.pid c.args.declaration.now; due = due; own = map (own_of h') (h'.own at) }) c.new-process.ensures.due
+    ∙ ap (λ l. record { at = at; process = new_process c.args.pid c.args.declaration.now; due = 0; own = map (own_of h') (handles_of own_links s.queues.locks l) }) after in
     rw (← c.self.view_is, c.of-at.ensures)
     (processes_changed s.queues s.order (beside_shown s) (beside_shown (record s { processes = new; process_order = c.put_in.new.order; process_index = c.insert.new.self })) (λ (ps : List StoredProcess). ps ++ new_stored_process at c.args.pid c.args.declaration.now ∷ [])
-    (process_made h h' (λ k. refl) at (new_stored_process at c.args.pid c.args.declaration.now) (λ p differs. plain_by_order (get new p) (get s.processes p) (others p differs))
+    (process_made h h' (λ k. refl) at (new_stored_process at c.args.pid c.args.declaration.now) (λ p differs. face_by_order (get new p) (get s.processes p) (others p differs))
     (λ p _. process_own_handles s.processes new s.queues.locks owns p) (vacant_unlisted process_links s.processes s.process_order kept.processes_linked at vacant)
     (entered.order ∙ ap (λ ks. ks ++ at ∷ []) handles1) made))
 

@@ -11,7 +11,7 @@ use Rattle.vlm_store.specs.declared.locks.Lock.{Lock}
 use Rattle.vlm_store.specs.Holdings.{but_order, holding, own_in, own_handles, own_of, owner_in, pid_at, pid_of, process_links}
 use Rattle.vlm_store.specs.Kept.{beside_shown}
 use Rattle.vlm_store.specs.Records.{without_process, IsGivenBack}
-use Rattle.vlm_store.proofs.Declaring.{names_stay, no_own, owns_stay, pid_by_order, plain_by_order, process_own_handles, process_owned}
+use Rattle.vlm_store.proofs.Declaring.{names_stay, no_own, owns_stay, pid_by_order, face_by_order, process_own_handles, process_owned}
 use Rattle.vlm_store.proofs.Indexing.{Indexes-removed}
 use Rattle.vlm_store.proofs.Kinship.{processes_changed, there_by_part}
 use Rattle.vlm_store.proofs.Living.{held, own_is, process_listed, process_there}
@@ -71,7 +71,7 @@ returns-clause-removed c =
     rw (← c.self.view_is)
     (processes_changed s.queues s.order (beside_shown s) (beside_shown (record s { processes = new; process_order = c.take_out.new.order; process_index = c.swap_remove.new.self })) (without_process c.args.at)
     (process_removed (holding s.processes s.queues.locks s.process_order) (holding new s.queues.locks c.take_out.new.order) (λ k. refl) c.args.at
-    (λ p differs. plain_by_order (get new p) (get s.processes p) (left.others p differs)) (λ p _. process_own_handles s.processes new s.queues.locks owns p) left.order))
+    (λ p differs. face_by_order (get new p) (get s.processes p) (left.others p differs)) (λ p _. process_own_handles s.processes new s.queues.locks owns p) left.order))
 
 pub returns-clause-given_back : goal.returns-clause-given_back
 returns-clause-given_back c =

@@ -1,9 +1,10 @@
 use Rattle.std.proofs.Common.{◌∙◌, sym, ap}
 use Rattle.vlm_words.specs.Asts.{oldest, without_oldest_ast}
 use Rattle.vlm_words.specs.State.{Process as PlainProcess}
-use Rattle.vlm_store.specs.Holdings.{plain_in}
+use Rattle.vlm_store.specs.Holdings.{process_face_in}
+use Rattle.vlm_store.specs.Records.{changed_process}
 use Rattle.vlm_store.proofs.Living.{process_is, process_there}
-use Rattle.vlm_store.proofs.Rewriting.{rewritten_kept, rewritten_shown}
+use Rattle.vlm_store.proofs.Rewriting.{changed_face, rewritten_kept, rewritten_shown}
 use Rattle.vlm_store.proofs.store.Store.take_ast.Goals as goal
 
 pub index_mut-requires : goal.index_mut-requires
@@ -19,11 +20,12 @@ invariant_of-self c =
 pub returns-clause-taken : goal.returns-clause-taken
 returns-clause-taken c =
     rw (← c.self.view_is, process_is c.self.inside c.self.invariant c.args.at (rw (← c.self.view_is) at c.requires))
-    (c.take_ast.ensures.taken ∙ sym (ap (λ slot. oldest (plain_in slot).asts) (rw c.slot.ensures at c.index_mut.ensures.value)))
+    (c.take_ast.ensures.taken ∙ sym (ap (λ slot. oldest (process_face_in slot).plain.asts) (rw c.slot.ensures at c.index_mut.ensures.value)))
 
 pub returns-clause-left : goal.returns-clause-left
 returns-clause-left c =
     let put = c.take_ast.ensures in
     rw (← c.self.view_is, c.slot.ensures)
     (rewritten_shown c.self.inside c.self.invariant c.args.at c.index_mut.result.now c.take_ast.new.self (rw c.slot.ensures at c.index_mut.ensures.value)
-    put.own put.order (ap (λ (p : PlainProcess). p.pid) put.plain) without_oldest_ast put.plain)
+    put.own put.order (ap (λ (p : PlainProcess). p.pid) put.plain) (changed_process without_oldest_ast)
+    (changed_face without_oldest_ast c.index_mut.result.now c.take_ast.new.self put.plain put.due c.args.at))

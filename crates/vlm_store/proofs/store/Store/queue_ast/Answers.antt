@@ -1,0 +1,29 @@
+use Rattle.std.proofs.Common.{◌<◌, ap, refl, subst}
+use Rattle.vlm_store.specs.Holdings.{faced, process_face, process_face_in}
+use Rattle.vlm_store.specs.Records.{with_owed_ast}
+use Rattle.vlm_asts.specs.Asts.{Asts}
+use Rattle.vlm_store.proofs.Living.{process_is, process_there}
+use Rattle.vlm_store.proofs.Rewriting.{rewritten_kept, rewritten_shown}
+use Rattle.vlm_store.proofs.store.Store.queue_ast.Goals as goal
+
+pub index_mut-requires : goal.index_mut-requires
+index_mut-requires c = rw c.slot.ensures (process_there c.self.inside c.self.invariant c.args.at (rw (← c.self.view_is) at c.requires.there))
+
+pub queue-requires : goal.queue-requires
+queue-requires c =
+    let there = rw (← c.self.view_is) at c.requires.there in
+    let owed = rw (process_is c.self.inside c.self.invariant c.args.at there) at (rw (← c.self.view_is) at c.requires.owed) in
+    subst (λ slot. 0 < (process_face_in slot).due) (rw c.slot.ensures at c.index_mut.ensures.value) owed
+
+pub invariant_of-self : goal.invariant_of-self
+invariant_of-self c =
+    let was = c.index_mut.result.now in
+    rw c.slot.ensures
+    (rewritten_kept c.self.inside c.self.invariant c.args.at was (record was { asts = c.queue.new.self }) (rw c.slot.ensures at c.index_mut.ensures.value) refl refl refl)
+
+pub returns : goal.returns
+returns c =
+    let was = c.index_mut.result.now in
+    rw (← c.self.view_is, c.slot.ensures)
+    (rewritten_shown c.self.inside c.self.invariant c.args.at was (record was { asts = c.queue.new.self }) (rw c.slot.ensures at c.index_mut.ensures.value) refl refl refl
+    (with_owed_ast c.args.ast) (λ locks. ap (λ (asts : Asts). faced c.args.at (process_face (record was { asts = asts })) locks) c.queue.ensures))
