@@ -20,7 +20,7 @@ use Rattle.vlm_store.specs.declared.queues.Queues.{Queues}
 use Rattle.vlm_store.specs.declared.resources.Resource.{Resource}
 use Rattle.vlm_tallies.specs.declared.tallies.Tally.{Tally}
 use Rattle.vlm_store.specs.Shown.{IsPlaced, IsTallied, SameBut, but_lists, handles_at, handles_but, list_at, noted, noted_in, queue_links, row_in, rows, share_of, shares, tally_in}
-use Rattle.vlm_tallies.specs.Tallies.{held_of, held_weight, is_mode, one_if, total, wanted_of, wanted_weight}
+use Rattle.vlm_tallies.specs.Tallies.{Count, counted_request, how_many, is_mode, one_if, total, weight_of}
 use Rattle.vlm_tallies.proofs.Totals.{total-length}
 use Rattle.vlm_store.proofs.Families.{family-added, family-removed}
 use Rattle.vlm_store.proofs.Places.{one_place, place_cases, tally_but_lists}
@@ -223,15 +223,8 @@ one_if-le : (b : Bool) → one_if b ≤ 1
 one_if-le true = omega arith
 one_if-le false = omega arith
 
-pub held_weight-le : (mode : Mode) (queue : Queue) (row : Row) → held_weight mode queue row ≤ 1
-held_weight-le mode Granted row = one_if-le (is_mode mode row.held)
-held_weight-le mode Conversion row = one_if-le (is_mode mode row.held)
-held_weight-le mode Waiting row = omega arith
-
-pub wanted_weight-le : (mode : Mode) (queue : Queue) (row : Row) → wanted_weight mode queue row ≤ 1
-wanted_weight-le mode Granted row = omega arith
-wanted_weight-le mode Conversion row = one_if-le (is_mode mode row.want)
-wanted_weight-le mode Waiting row = one_if-le (is_mode mode row.want)
+pub weight_of-le : (count : Count) (mode : Mode) (queue : Queue) (row : Row) → weight_of count mode queue row ≤ 1
+weight_of-le count mode queue row = one_if-le (is_mode mode (counted_request count queue row))
 
 without-twice : (at : ℕ) (ks : List ℕ) → without at (without at ks) ≡ without at ks
 without-twice at ks = without_absent at (without at ks) (λ found. (IsIn-without at at ks found).1 refl)
@@ -255,8 +248,7 @@ module _ (q q' : Queues) (at : ℕ) (tallies : (r : ℕ) → tally_in (get q'.re
 
   pub tallied_moved : IsTallied q (Some at) → IsTallied q' (Some at)
   tallied_moved tallied = record {
-    held = λ r mode. ap (λ t. held_of t mode) (tallies r) ∙ tallied.held r mode ∙ sym (shares_moved (held_weight mode) r);
-    wanted = λ r mode. ap (λ t. wanted_of t mode) (tallies r) ∙ tallied.wanted r mode ∙ sym (shares_moved (wanted_weight mode) r);
+    counts = λ count r mode. ap (λ t. how_many count t mode) (tallies r) ∙ tallied.counts count r mode ∙ sym (shares_moved (weight_of count mode) r);
   }
 
 pub tallied_taken : (q q' : Queues) (at : ℕ) → ((p : Place) → handles_at q' p ≡ without at (handles_at q p)) → ((k : ℕ) → rows q' k ≡ rows q k) → SameBut but_lists q.resources q'.resources
@@ -314,8 +306,7 @@ module _ (q q' : Queues) (at : ℕ) (slot : Option Lock) (updates : Updates q.lo
 
     pub removed_tallied : IsTallied q (Some at) → IsTallied q' None
     removed_tallied tallied = record {
-      held = λ r mode. ap (λ s. held_of (tally_in (get s r)) mode) resources ∙ tallied.held r mode ∙ all_or_but (held_weight mode) r ∙ sym (shares_updated (held_weight mode) r);
-      wanted = λ r mode. ap (λ s. wanted_of (tally_in (get s r)) mode) resources ∙ tallied.wanted r mode ∙ all_or_but (wanted_weight mode) r ∙ sym (shares_updated (wanted_weight mode) r);
+      counts = λ count r mode. ap (λ s. how_many count (tally_in (get s r)) mode) resources ∙ tallied.counts count r mode ∙ all_or_but (weight_of count mode) r ∙ sym (shares_updated (weight_of count mode) r);
     }
 
     all_or_but' : (weight : Queue → Row → ℕ) (r : ℕ) → shares q' weight (Some at) r ≡ shares q' weight None r
@@ -330,15 +321,13 @@ module _ (q q' : Queues) (at : ℕ) (slot : Option Lock) (updates : Updates q.lo
 
     pub added_tallied : IsTallied q None → IsTallied q' (Some at)
     added_tallied tallied = record {
-      held = λ r mode. ap (λ s. held_of (tally_in (get s r)) mode) resources ∙ tallied.held r mode ∙ sym (all_or_but' (held_weight mode) r ∙ shares_updated (held_weight mode) r);
-      wanted = λ r mode. ap (λ s. wanted_of (tally_in (get s r)) mode) resources ∙ tallied.wanted r mode ∙ sym (all_or_but' (wanted_weight mode) r ∙ shares_updated (wanted_weight mode) r);
+      counts = λ count r mode. ap (λ s. how_many count (tally_in (get s r)) mode) resources ∙ tallied.counts count r mode ∙ sym (all_or_but' (weight_of count mode) r ∙ shares_updated (weight_of count mode) r);
     }
 
 -- the counts of all but a loose lock are those of all
 pub tallied_loose : (q : Queues) (at : ℕ) → IsPlaced q None → noted q at ≡ Some Loose → IsTallied q (Some at) → IsTallied q None
 tallied_loose q at placed is tallied = record {
-  held = λ r mode. tallied.held r mode ∙ omega (arith, shares-out q (held_weight mode) at Loose placed is r);
-  wanted = λ r mode. tallied.wanted r mode ∙ omega (arith, shares-out q (wanted_weight mode) at Loose placed is r);
+  counts = λ count r mode. tallied.counts count r mode ∙ omega (arith, shares-out q (weight_of count mode) at Loose placed is r);
 }
 
 -- the shares of a resource are those of the other locks, and that of one that is there

@@ -1,5 +1,5 @@
 -- What the store keeps, and what a caller learns of it.
-use Rattle.std.proofs.Common.{◌≡◌, ◌≤◌, ℕ, [], map, replicate, arith, Option, None, Some, IfSome, IsSome, Result, Ok, Err, IsOk, OnErr, OnOk, refl, sym, ap, ◌∙◌}
+use Rattle.std.proofs.Common.{◌≡◌, ◌≤◌, ℕ, [], map, arith, Option, None, Some, IfSome, IsSome, Result, Ok, Err, IsOk, OnErr, OnOk, refl, sym, ap, ◌∙◌}
 use Rattle.std.proofs.lemmas.Option.{none-some, same_Some}
 use Rattle.std.specs.Option.{option_map}
 use Rattle.slab.specs.Slab.{Slab, get, ContainsKey}
@@ -8,8 +8,6 @@ use Rattle.vlm_links.specs.declared.lists.LinkedList.{LinkedList}
 use Rattle.vlm_links.specs.Lists.{IsIn, IsLinked, IsNoList, handles_of, next_in, prev_in}
 use Rattle.vlm_links.proofs.Rings.{no_list-linked}
 use Rattle.vlm_words.specs.declared.locks.Row.{Row}
-use Rattle.vlm_words.specs.declared.modes.Mode.{Mode}
-use Rattle.vlm_words.specs.declared.modes.Mode.TheVariants.{Nl, Cr, Cw, Pr, Pw, Ex}
 use Rattle.vlm_words.specs.declared.resources.Queue.{Queue}
 use Rattle.vlm_words.specs.declared.resources.Queue.TheVariants.{Granted, Conversion, Waiting}
 use Rattle.vlm_words.specs.declared.resources.Key.{Key}
@@ -24,7 +22,8 @@ use Rattle.vlm_store.specs.Records.{FindsLock, FindsResource, HasPlace, HasResou
 use Rattle.vlm_store.specs.Shown.{IsPlaced, IsTallied, IsThere, SameBut, but_queues, face_in, handles_at, list_at, noted_in, order_links, queue_links, row_in, rows, shares, tally_in}
 use Rattle.vlm_store.specs.Store.{Beside, key_at, under_handle, lkid_at, records_of, resource_of, tables}
 use Rattle.vlm_store.proofs.Layouts.{HasPlace-seen, IsSeen, Stores-listed, among_resource, listed-Stores, resource_at-found, resource_among}
-use Rattle.vlm_tallies.specs.Tallies.{count_of, held_of, held_weight, total, wanted_of, wanted_weight}
+use Rattle.vlm_tallies.specs.Tallies.{how_many, total, weight_of}
+use Rattle.vlm_tallies.proofs.Totals.{none_counted}
 use Rattle.vlm_store.proofs.Counting.{shares_same}
 use Rattle.vlm_store.proofs.Families.{family-empty}
 use Rattle.vlm_store.proofs.Places.{kept_handles, kept_placed, lists_same, lkid_of_row, lkid_told, noted_there, stands_there, through}
@@ -148,18 +147,9 @@ module _ (q : Queues) (no_locks : (k : ℕ) → get q.locks k ≡ None) (no_reso
         ap (total (weight Waiting) (rows q)) (empty_handles (Queued r Waiting)),
       )
 
-  no_count : (mode : Mode) → count_of (replicate 6 0) mode ≡ 0
-  no_count Nl = refl
-  no_count Cr = refl
-  no_count Cw = refl
-  no_count Pr = refl
-  no_count Pw = refl
-  no_count Ex = refl
-
   pub empty_tallied : IsTallied q None
   empty_tallied = record {
-    held = λ r mode. ap (λ slot. held_of (tally_in slot) mode) (no_resources r) ∙ no_count mode ∙ sym (empty_shares (held_weight mode) r);
-    wanted = λ r mode. ap (λ slot. wanted_of (tally_in slot) mode) (no_resources r) ∙ no_count mode ∙ sym (empty_shares (wanted_weight mode) r);
+    counts = λ count r mode. ap (λ slot. how_many count (tally_in slot) mode) (no_resources r) ∙ none_counted count mode ∙ sym (empty_shares (weight_of count mode) r);
   }
 
   module _ (order : LinkedList InOrder) (none : IsNoList order) where
@@ -206,8 +196,7 @@ module _ (q : Queues) (locks : Slab Lock) (same : (k : ℕ) → get locks k ≡ 
 
   pub reserved_tallied : IsTallied q None → IsTallied (record q { locks = locks }) None
   reserved_tallied tallied = record {
-    held = λ r mode. tallied.held r mode ∙ sym (shares_same q (record q { locks = locks }) (held_weight mode) None r reserved_handles (λ k _. ap row_in (same k)));
-    wanted = λ r mode. tallied.wanted r mode ∙ sym (shares_same q (record q { locks = locks }) (wanted_weight mode) None r reserved_handles (λ k _. ap row_in (same k)));
+    counts = λ count r mode. tallied.counts count r mode ∙ sym (shares_same q (record q { locks = locks }) (weight_of count mode) None r reserved_handles (λ k _. ap row_in (same k)));
   }
 
 -- what an answer says where it is one of success

@@ -19,7 +19,7 @@ use Rattle.vlm_store.specs.Records.{IsSameLock, StoredProcess}
 use Rattle.vlm_store.specs.Shown.{IsPlaced, IsTallied, SameBut, but_kin, but_queued, handles_at, lkid_of, named_row, noted_in, queue_links, row_in}
 use Rattle.vlm_store.specs.Holdings.{IsBelow, IsNamed, IsOwned, NamesParent, OwnerFits, ParentFits, below_in, below_handles, below_links, below_list, but_below, but_own, holding, named_lock, own_handles, own_links, own_list, owner_in, parent_in, pid_of, process_face_in, process_links, processes_of, with_own_links}
 use Rattle.vlm_store.specs.Store.{Beside, Layout, records_of, tables}
-use Rattle.vlm_tallies.specs.Tallies.{held_weight, wanted_weight}
+use Rattle.vlm_tallies.specs.Tallies.{weight_of}
 use Rattle.vlm_store.proofs.Counting.{shares_same}
 use Rattle.vlm_store.proofs.Families.{family-kept, family-handles}
 use Rattle.vlm_store.proofs.Members.{processes_same}
@@ -231,8 +231,7 @@ module _ (q : Queues) (locks' : Slab Lock) (same : SameBut but_kin q.locks locks
 
     pub kin_tallied : IsTallied q None → IsTallied (record q { locks = locks' }) None
     kin_tallied tallied = record {
-      held = λ r mode. tallied.held r mode ∙ sym (shares_same q (record q { locks = locks' }) (held_weight mode) None r kin_handles (λ k _. kin_rows k));
-      wanted = λ r mode. tallied.wanted r mode ∙ sym (shares_same q (record q { locks = locks' }) (wanted_weight mode) None r kin_handles (λ k _. kin_rows k));
+      counts = λ count r mode. tallied.counts count r mode ∙ sym (shares_same q (record q { locks = locks' }) (weight_of count mode) None r kin_handles (λ k _. kin_rows k));
     }
 
 -- the locks of a process are relinked

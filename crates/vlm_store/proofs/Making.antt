@@ -1,5 +1,5 @@
 -- What stays as resources come, go and are linked.
-use Rattle.std.proofs.Common.{◌≡◌, ◌≢◌, ℕ, List, [], ◌∷◌, ◌++◌, map, length, replicate, Option, None, Some, IsSome, refl, sym, ap, ◌∙◌, subst, inl, inr, arith}
+use Rattle.std.proofs.Common.{◌≡◌, ◌≢◌, ℕ, List, [], ◌∷◌, ◌++◌, map, length, Option, None, Some, IsSome, refl, sym, ap, ◌∙◌, subst, inl, inr, arith}
 use Rattle.std.proofs.lemmas.Bool.{cases_eq}
 use Rattle.std.proofs.lemmas.Option.{same_Some}
 use Rattle.std.specs.Option.{option_map}
@@ -11,8 +11,6 @@ use Rattle.vlm_links.specs.Lists.{IsIn, IsLinked, IsNoList, Relinks, handles_of,
 use Rattle.vlm_links.proofs.Keeping.{relinked_same}
 use Rattle.vlm_links.proofs.HandleLists.{IsIn-push_kept, IsIn-push_last, IsIn-without_kept}
 use Rattle.vlm_words.specs.declared.locks.Row.{Row}
-use Rattle.vlm_words.specs.declared.modes.Mode.{Mode}
-use Rattle.vlm_words.specs.declared.modes.Mode.TheVariants.{Nl, Cr, Cw, Pr, Pw, Ex}
 use Rattle.vlm_words.specs.declared.resources.Queue.{Queue}
 use Rattle.vlm_words.specs.declared.resources.Queue.TheVariants.{Granted, Conversion, Waiting}
 use Rattle.vlm_store.specs.declared.handles.Place.{Place}
@@ -22,7 +20,8 @@ use Rattle.vlm_store.specs.declared.locks.Lock.{Lock}
 use Rattle.vlm_store.specs.declared.queues.Queues.{Queues}
 use Rattle.vlm_store.specs.declared.resources.Resource.{Resource}
 use Rattle.vlm_store.specs.Shown.{Face, IsPlaced, IsTallied, face_in, face_of, handles_at, list_at, list_in, no_list, queue_links, rows, shares, tally_in, with_order_links}
-use Rattle.vlm_tallies.specs.Tallies.{count_of, held_of, held_weight, no_tally, total, wanted_of, wanted_weight}
+use Rattle.vlm_tallies.specs.Tallies.{how_many, no_tally, total, weight_of}
+use Rattle.vlm_tallies.proofs.Totals.{none_counted}
 use Rattle.vlm_store.proofs.Counting.{shares_same}
 use Rattle.vlm_store.proofs.Places.{kept_handles, kept_placed, no_list_is}
 
@@ -49,8 +48,7 @@ module _ (q : Queues) (resources : Slab Resource) (placed : IsPlaced q None) (li
 
   pub resources_tallied : ((r : ℕ) → tally_in (get resources r) ≡ tally_in (get q.resources r)) → IsTallied q None → IsTallied (record q { resources = resources }) None
   resources_tallied tallies tallied = record {
-    held = λ r mode. ap (λ t. held_of t mode) (tallies r) ∙ tallied.held r mode ∙ sym (shares_same q (record q { resources = resources }) (held_weight mode) None r resources_handles (λ k _. refl));
-    wanted = λ r mode. ap (λ t. wanted_of t mode) (tallies r) ∙ tallied.wanted r mode ∙ sym (shares_same q (record q { resources = resources }) (wanted_weight mode) None r resources_handles (λ k _. refl));
+    counts = λ count r mode. ap (λ t. how_many count t mode) (tallies r) ∙ tallied.counts count r mode ∙ sym (shares_same q (record q { resources = resources }) (weight_of count mode) None r resources_handles (λ k _. refl));
   }
 
 -- the queues of a resource stay where its links in the order of making are written
@@ -156,14 +154,6 @@ no_list_has links locks list linked none =
     let chain = rw none at linked.chained in
     no_list_is list (record { no_first = chain.0; no_last = chain.1; no_handles = sym linked.counted ∙ ap length none })
 
-no_count : (mode : Mode) → count_of (replicate 6 0) mode ≡ 0
-no_count Nl = refl
-no_count Cr = refl
-no_count Cw = refl
-no_count Pr = refl
-no_count Pw = refl
-no_count Ex = refl
-
 -- an idle resource goes
 module _ (q : Queues) (r1 r2 : Slab Resource) (at : ℕ) (relinks : Relinks with_order_links q.resources r1) (updates : Updates r1 r2 at None) (placed : IsPlaced q None)
     (idle : (queue : Queue) → handles_at q (Queued at queue) ≡ []) where
@@ -183,17 +173,11 @@ module _ (q : Queues) (r1 r2 : Slab Resource) (at : ℕ) (relinks : Relinks with
       let kept : (weight : Queue → Row → ℕ) (r : ℕ) → shares q' weight None r ≡ shares q weight None r =
       λ weight r. shares_same q q' weight None r (resources_handles q r2 placed removed_lists) (λ k _. refl) in
       record {
-        held = λ r mode. elim (cases_eq r at) [
-          | inl same ↦ ap (λ x. held_of (tally_in (get r2 x)) mode) same ∙ ap (λ slot. held_of (tally_in slot) mode) updates.changed ∙ no_count mode ∙ sym (ap (shares q' (held_weight mode) None) same ∙ kept (held_weight mode) at ∙ no_share (held_weight mode))
+        counts = λ count r mode. elim (cases_eq r at) [
+          | inl same ↦ ap (λ x. how_many count (tally_in (get r2 x)) mode) same ∙ ap (λ slot. how_many count (tally_in slot) mode) updates.changed ∙ none_counted count mode ∙ sym (ap (shares q' (weight_of count mode) None) same ∙ kept (weight_of count mode) at ∙ no_share (weight_of count mode))
           | inr differs ↦
-              ap (λ t. held_of t mode) (ap tally_in (updates.others r differs) ∙ relinked_same with_order_links tally_in (λ x pair. refl) q.resources r1 relinks r) ∙ tallied.held r mode
-              ∙ sym (kept (held_weight mode) r)
-        ];
-        wanted = λ r mode. elim (cases_eq r at) [
-          | inl same ↦ ap (λ x. wanted_of (tally_in (get r2 x)) mode) same ∙ ap (λ slot. wanted_of (tally_in slot) mode) updates.changed ∙ no_count mode ∙ sym (ap (shares q' (wanted_weight mode) None) same ∙ kept (wanted_weight mode) at ∙ no_share (wanted_weight mode))
-          | inr differs ↦
-              ap (λ t. wanted_of t mode) (ap tally_in (updates.others r differs) ∙ relinked_same with_order_links tally_in (λ x pair. refl) q.resources r1 relinks r) ∙ tallied.wanted r mode
-              ∙ sym (kept (wanted_weight mode) r)
+              ap (λ t. how_many count t mode) (ap tally_in (updates.others r differs) ∙ relinked_same with_order_links tally_in (λ x pair. refl) q.resources r1 relinks r) ∙ tallied.counts count r mode
+              ∙ sym (kept (weight_of count mode) r)
         ];
       }
 

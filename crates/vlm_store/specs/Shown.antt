@@ -26,7 +26,7 @@ use Rattle.vlm_store.specs.declared.queues.Queues.{Queues}
 use Rattle.vlm_store.specs.declared.resources.Resource.{Resource}
 use Rattle.vlm_tallies.specs.declared.tallies.Tally.{Tally}
 use Rattle.vlm_store.specs.Families.{IsFamily}
-use Rattle.vlm_tallies.specs.Tallies.{held_of, held_weight, no_tally, total, wanted_of, wanted_weight}
+use Rattle.vlm_tallies.specs.Tallies.{Count, how_many, no_tally, total, weight_of}
 
 -- an empty list
 abbrev pub no_list : {Kind : Type 0} → LinkedList Kind
@@ -187,10 +187,9 @@ module _ (q : Queues) where
       total (weight Granted) rows (handles_but out (Queued res Granted))
       + (total (weight Conversion) rows (handles_but out (Queued res Conversion)) + total (weight Waiting) rows (handles_but out (Queued res Waiting)))
 
-  -- each resource counts the modes that its locks hold and want, but for one lock
+  -- each resource counts its locks, mode by mode, but for one
   pub record IsTallied (out : Option ℕ) : Type 0 where
-    pub held : (res : ℕ) (mode : Mode) → held_of (tally_in (get q.resources res)) mode ≡ shares (held_weight mode) out res
-    pub wanted : (res : ℕ) (mode : Mode) → wanted_of (tally_in (get q.resources res)) mode ≡ shares (wanted_weight mode) out res
+    pub counts : (count : Count) (res : ℕ) (mode : Mode) → how_many count (tally_in (get q.resources res)) mode ≡ shares (weight_of count mode) out res
 
 -- the mode is compatible with what each lock under these handles holds
 abbrev pub handles_fit : Mode → (ℕ → Row) → List ℕ → List ℕ → Bool

@@ -1,11 +1,12 @@
-//! Which modes the locks of each resource hold and want, counted.
+//! The locks of each resource, counted by their modes.
 
 ghost use Rattle.std.specs.Prelude.{◌≡◌, ◌≤◌, ◌<◌, ◌+◌, ◌^◌, ◌==◌, if◌then◌else◌, ℕ, None, Some};
 ghost use Rattle.std.specs.Option.{ForSome};
 ghost use Rattle.slab.specs.Slab.{get, ContainsKey};
 ghost use Rattle.vlm_words.specs.declared.resources.Queue.{Queue};
 ghost use Rattle.vlm_store.specs.declared.handles.Place.{Place};
-ghost use Rattle.vlm_tallies.specs.Tallies.{held_of, held_weight, wanted_of, wanted_weight};
+ghost use Rattle.vlm_tallies.specs.Tallies.{Count, how_many, weight_of};
+ghost use Rattle.vlm_tallies.specs.Tallies.Count.{of_held};
 ghost use Rattle.vlm_store.specs.Shown.{IsPlaced, IsTallied, SameBut, but_tally, handles_but, handles_fit, room_in, rows, share_of, shares, tally_in};
 
 use crate::handles::{LockAt, Place, ResAt};
@@ -18,12 +19,10 @@ use vlm_words::resources::Queue;
 
 // The counts of a resource, without a lock that stands at this place.
 fn counted_out(mut tally: Tally, res: ResAt, place: Place, row: &Row) -> Tally
-    requires held { (mode : Mode) → share_of (held_weight mode) place res row.now
-        ≤ held_of tally mode }
-    requires wanted { (mode : Mode) → share_of (wanted_weight mode) place res row.now
-        ≤ wanted_of tally mode }
-    ensures { (mode : Mode) → held_of result mode + share_of (held_weight mode) place res row.now
-        ≡ held_of tally mode }
+    requires { (count : Count) (mode : Mode) → share_of (weight_of count mode) place res row.now
+        ≤ how_many count tally mode }
+    ensures { (mode : Mode) → how_many of_held result mode
+        + share_of (weight_of of_held mode) place res row.now ≡ how_many of_held tally mode }
 {
     let Place::Queued(at, queue) = place else {
         return tally;
@@ -39,17 +38,12 @@ impl Queues {
     // One lock less is counted in a queue of a resource.
     fn tally_out(&mut self, res: ResAt, queue: Queue, row: &Row)
         requires there { ContainsKey self.old.resources res }
-        requires held { (mode : Mode) → held_weight mode queue row.now
-            ≤ held_of (tally_in (get self.old.resources res)) mode }
-        requires wanted { (mode : Mode) → wanted_weight mode queue row.now
-            ≤ wanted_of (tally_in (get self.old.resources res)) mode }
-        ensures held { (r : ℕ) (mode : Mode) → held_of (tally_in (get self.new.resources r)) mode
-            + (if res == r then held_weight mode queue row.now else 0)
-            ≡ held_of (tally_in (get self.old.resources r)) mode }
-        ensures wanted { (r : ℕ) (mode : Mode)
-            → wanted_of (tally_in (get self.new.resources r)) mode
-            + (if res == r then wanted_weight mode queue row.now else 0)
-            ≡ wanted_of (tally_in (get self.old.resources r)) mode }
+        requires counted { (count : Count) (mode : Mode) → weight_of count mode queue row.now
+            ≤ how_many count (tally_in (get self.old.resources res)) mode }
+        ensures counts { (count : Count) (r : ℕ) (mode : Mode)
+            → how_many count (tally_in (get self.new.resources r)) mode
+            + (if res == r then weight_of count mode queue row.now else 0)
+            ≡ how_many count (tally_in (get self.old.resources r)) mode }
         ensures locks { self.new.locks ≡ self.old.locks }
         ensures loose { self.new.loose ≡ self.old.loose }
         ensures rest { SameBut but_tally self.old.resources self.new.resources }
@@ -61,17 +55,12 @@ impl Queues {
     // One lock more is counted in a queue of a resource.
     fn tally_in(&mut self, res: ResAt, queue: Queue, row: &Row)
         requires there { ContainsKey self.old.resources res }
-        requires held { (mode : Mode)
-            → held_of (tally_in (get self.old.resources res)) mode + 1 < 2 ^ 32 }
-        requires wanted { (mode : Mode)
-            → wanted_of (tally_in (get self.old.resources res)) mode + 1 < 2 ^ 32 }
-        ensures held { (r : ℕ) (mode : Mode) → held_of (tally_in (get self.new.resources r)) mode
-            ≡ held_of (tally_in (get self.old.resources r)) mode
-            + (if res == r then held_weight mode queue row.now else 0) }
-        ensures wanted { (r : ℕ) (mode : Mode)
-            → wanted_of (tally_in (get self.new.resources r)) mode
-            ≡ wanted_of (tally_in (get self.old.resources r)) mode
-            + (if res == r then wanted_weight mode queue row.now else 0) }
+        requires room { (count : Count) (mode : Mode)
+            → how_many count (tally_in (get self.old.resources res)) mode + 1 < 2 ^ 32 }
+        ensures counts { (count : Count) (r : ℕ) (mode : Mode)
+            → how_many count (tally_in (get self.new.resources r)) mode
+            ≡ how_many count (tally_in (get self.old.resources r)) mode
+            + (if res == r then weight_of count mode queue row.now else 0) }
         ensures locks { self.new.locks ≡ self.old.locks }
         ensures loose { self.new.loose ≡ self.old.loose }
         ensures rest { SameBut but_tally self.old.resources self.new.resources }
@@ -120,8 +109,8 @@ impl Queues {
         requires tallied { IsTallied self.now None }
         requires there { ContainsKey self.now.resources res }
         requires asking { ForSome asking (λ at. ContainsKey self.now.locks at) }
-        ensures { (mode : Mode) → held_of result mode
-            ≡ shares self.now (held_weight mode) asking res }
+        ensures { (mode : Mode) → how_many of_held result mode
+            ≡ shares self.now (weight_of of_held mode) asking res }
     {
         let tally = self.resources[res.slot()].tally;
         match asking {

@@ -13,8 +13,8 @@
 //! counts its locks in a tally, so a lock that moves is counted out, linked anew, and counted in.
 //!
 //! A slab and its index grow where one more record is to be added and there is no room, before anything is
-//! changed. Nothing else takes memory, but for the status blocks that a new process is given; and neither
-//! slab nor index shrinks.
+//! changed. Nothing else takes memory, but for the status blocks that a new process is given, and the room for
+//! the ASTs that a process is owed; and neither slab nor index shrinks.
 #![tactic(auto)]
 
 mod counts;

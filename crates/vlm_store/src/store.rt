@@ -5,7 +5,7 @@ ghost use Rattle.std.specs.Option.{ForSome};
 ghost use Rattle.vlm_words.specs.declared.locks.Row.{Row};
 ghost use Rattle.vlm_links.specs.Lists.{IsIn};
 ghost use Rattle.vlm_store.specs.declared.handles.Place.{Place};
-ghost use Rattle.vlm_store.specs.Records.{FindsLock, FindsResource, HasNoSublocks, HasPlace, HasResource, HasRoomForLock, HasRoomForResource, IsGivenBack, IsTaken, IsUnchanged, IsParentOf, IsProcess, at_after, first_at, first_resource_at, fits_beside, resource_at_after, resource_at, IsIdle, IsNewKey, IsNewLock, IsRowOf, IsSound, IsStored, Stores, locks_at, moving, new_stored_resource, nothing, on_resource, with_lists, with_lock_room, with_new_lock, with_resource_room, without_resource, without_stored_lock};
+ghost use Rattle.vlm_store.specs.Records.{FindsLock, FindsResource, HasNoSublocks, HasPlace, HasResource, HasRoomForLock, HasRoomForResource, IsGivenBack, IsTaken, IsUnchanged, IsParentOf, IsProcess, at_after, first_at, first_resource_at, fits_beside, resource_at_after, resource_at, IsIdle, IsNewKey, IsNewLock, IsRowOf, IsSound, IsStored, Stores, locks_at, moving, new_stored_resource, nothing, on_resource, warns, with_lists, with_lock_room, with_new_lock, with_resource_room, without_resource, without_stored_lock};
 
 use crate::growth::reserve_one;
 use crate::handles::{LockAt, Place, ProcAt, ResAt};
@@ -304,5 +304,14 @@ impl Store {
             ≡ fits_beside mode asking r) }
     {
         self.queues.fits(res, mode, asking)
+    }
+
+    /// Whether some granted lock of the resource is armed and in the way of a queued request. It reads counts
+    /// alone.
+    pub fn may_warn(&self, res: ResAt) -> bool
+        requires { HasResource res self.now }
+        ensures { IfSome (resource_at res self.now.resources) (λ r. result ≡ warns r) }
+    {
+        self.queues.resources[res.slot()].tally.may_warn()
     }
 }

@@ -1,7 +1,11 @@
--- What rows weigh together.
+-- What rows weigh together, and what no rows do.
 use Rattle.std.proofs.Common.{◌≡◌, ℕ, ◌+◌, ◌≤◌, List, [], ◌∷◌, ◌++◌, length, refl, arith}
+use Rattle.std.specs.Prelude.{replicate}
 use Rattle.vlm_words.specs.declared.locks.Row.{Row}
-use Rattle.vlm_tallies.specs.Tallies.{total}
+use Rattle.vlm_words.specs.declared.modes.Mode.{Mode}
+use Rattle.vlm_words.specs.declared.modes.Mode.TheVariants.{Nl, Cr, Cw, Pr, Pw, Ex}
+use Rattle.vlm_tallies.specs.Tallies.{Count, count_of, how_many, no_tally, total}
+use Rattle.vlm_tallies.specs.Tallies.Count.{of_armed, of_held, of_wanted}
 
 -- the rows of two lists
 pub total-both : (weight : Row → ℕ) (rows : ℕ → Row) (xs ys : List ℕ) → total weight rows (xs ++ ys) ≡ total weight rows xs + total weight rows ys
@@ -17,3 +21,17 @@ total-nothing rows (x ∷ xs) = omega (arith, total-nothing rows xs)
 pub total-length : (weight : Row → ℕ) (rows : ℕ → Row) → ((row : Row) → weight row ≤ 1) → (xs : List ℕ) → total weight rows xs ≤ length xs
 total-length weight rows one [] = omega arith
 total-length weight rows one (x ∷ xs) = omega (arith, one (rows x), total-length weight rows one xs)
+
+-- where nothing is counted each count is 0
+no_count : (mode : Mode) → count_of (replicate 6 0) mode ≡ 0
+no_count Nl = refl
+no_count Cr = refl
+no_count Cw = refl
+no_count Pr = refl
+no_count Pw = refl
+no_count Ex = refl
+
+pub none_counted : (count : Count) (mode : Mode) → how_many count no_tally mode ≡ 0
+none_counted of_held mode = no_count mode
+none_counted of_wanted mode = no_count mode
+none_counted of_armed mode = no_count mode

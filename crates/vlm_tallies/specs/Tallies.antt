@@ -1,5 +1,5 @@
--- How many locks of a resource hold and want each mode.
-use Rattle.std.specs.Prelude.{ℕ, Bool, false, ◌==◌, ◌+◌, ◌&&◌, ◌||◌, List, [], ◌∷◌, Option, None, Some, cond, replicate, slice_index_or}
+-- Counts of the locks of a resource, mode by mode.
+use Rattle.std.specs.Prelude.{ℕ, Bool, false, not, ◌==◌, ◌+◌, ◌&&◌, ◌||◌, List, [], ◌∷◌, Option, None, Some, cond, if◌then◌else◌, replicate, slice_index_or}
 use Rattle.vlm_words.specs.declared.locks.Request.{Request}
 use Rattle.vlm_words.specs.declared.locks.Row.{Row}
 use Rattle.vlm_words.specs.declared.modes.Mode.{Mode}
@@ -8,6 +8,12 @@ use Rattle.vlm_words.specs.declared.resources.Queue.{Queue}
 use Rattle.vlm_words.specs.declared.resources.Queue.TheVariants.{Granted, Conversion, Waiting}
 use Rattle.vlm_words.specs.Modes.{is_compatible, rank}
 use Rattle.vlm_tallies.specs.declared.tallies.Tally.{Tally}
+
+-- what is counted: the modes that are held, those that are wanted, and those that a granted lock holds that is armed
+pub data Count : Type 0 where
+  of_held : Count
+  of_wanted : Count
+  of_armed : Count
 
 -- the request, if there is one, is for this mode
 abbrev pub is_mode : Mode → Option Request → Bool
@@ -22,40 +28,55 @@ one_if b = cond b 1 0
 abbrev pub count_of : List ℕ → Mode → ℕ
 count_of counts mode = slice_index_or counts (rank mode) 0
 
--- how many locks hold the mode, and how many want it
-abbrev pub held_of : Tally → Mode → ℕ
-held_of tally mode = count_of tally.held mode
+-- how many locks are counted with this mode
+abbrev pub how_many : Count → Tally → Mode → ℕ
+how_many of_held tally mode = count_of tally.held mode
+how_many of_wanted tally mode = count_of tally.wanted mode
+how_many of_armed tally mode = count_of tally.armed mode
 
--- the count of those that want a mode
-abbrev pub wanted_of : Tally → Mode → ℕ
-wanted_of tally mode = count_of tally.wanted mode
+-- what a lock holds while it is armed
+abbrev pub armed_request : Row → Option Request
+armed_request row = if row.armed then row.held else None
 
--- what a lock in a queue adds to the count of those that hold the mode: a waiting lock nothing
-abbrev pub held_weight : Mode → Queue → Row → ℕ
-held_weight mode Granted row = one_if (is_mode mode row.held)
-held_weight mode Conversion row = one_if (is_mode mode row.held)
-held_weight mode Waiting row = 0
+-- the request for which a lock in a queue is counted: a waiting lock holds none, a granted one wants none, and only a
+-- granted one is counted as armed
+abbrev pub counted_request : Count → Queue → Row → Option Request
+counted_request of_held Granted row = row.held
+counted_request of_held Conversion row = row.held
+counted_request of_held Waiting row = None
+counted_request of_wanted Granted row = None
+counted_request of_wanted Conversion row = row.want
+counted_request of_wanted Waiting row = row.want
+counted_request of_armed Granted row = armed_request row
+counted_request of_armed Conversion row = None
+counted_request of_armed Waiting row = None
 
--- what it adds to the count of those that want the mode: a granted lock nothing
-abbrev pub wanted_weight : Mode → Queue → Row → ℕ
-wanted_weight mode Granted row = 0
-wanted_weight mode Conversion row = one_if (is_mode mode row.want)
-wanted_weight mode Waiting row = one_if (is_mode mode row.want)
+-- what a lock in a queue adds to a count of the mode
+abbrev pub weight_of : Count → Mode → Queue → Row → ℕ
+weight_of count mode queue row = one_if (is_mode mode (counted_request count queue row))
 
 -- no locks
 abbrev pub no_tally : Tally
-no_tally = record { held = replicate 6 0; wanted = replicate 6 0 }
+no_tally = record { held = replicate 6 0; wanted = replicate 6 0; armed = replicate 6 0 }
 
 -- what the rows of these numbers weigh together
 abbrev pub total : (Row → ℕ) → (ℕ → Row) → List ℕ → ℕ
 total weight rows [] = 0
 total weight rows (k ∷ ks) = weight (rows k) + total weight rows ks
 
--- no lock holds the mode, or it is compatible
-abbrev pub is_free : Mode → (Mode → ℕ) → Mode → Bool
-is_free mode counts held = (counts held == 0) || is_compatible mode held
+-- no lock is counted with the mode, or it passes the test
+abbrev pub none_or : (Mode → Bool) → (Mode → ℕ) → Mode → Bool
+none_or test counts mode = (counts mode == 0) || test mode
 
--- the mode is compatible with every mode that is held
-abbrev pub counts_fit : Mode → (Mode → ℕ) → Bool
-counts_fit mode counts =
-    is_free mode counts Nl && (is_free mode counts Cr && (is_free mode counts Cw && (is_free mode counts Pr && (is_free mode counts Pw && is_free mode counts Ex))))
+-- each mode with which locks are counted passes the test
+abbrev pub each_counted : (Mode → Bool) → (Mode → ℕ) → Bool
+each_counted test counts =
+    none_or test counts Nl && (none_or test counts Cr && (none_or test counts Cw && (none_or test counts Pr && (none_or test counts Pw && none_or test counts Ex))))
+
+-- the mode is compatible with every mode that is counted
+unfoldable pub counts_fit : Mode → (Mode → ℕ) → Bool
+counts_fit mode counts = each_counted (is_compatible mode) counts
+
+-- some mode that is armed is incompatible with some mode that is wanted
+unfoldable pub counts_warn : (Mode → ℕ) → (Mode → ℕ) → Bool
+counts_warn armed wanted = not (each_counted (λ mode. counts_fit mode wanted) armed)

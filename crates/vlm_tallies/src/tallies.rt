@@ -2,22 +2,26 @@
 
 ghost use Rattle.std.specs.Prelude.{◌≡◌, ◌+◌, ◌<◌, ◌≤◌, ◌^◌};
 ghost use Rattle.vlm_words.specs.declared.modes.Mode.{Mode};
-ghost use Rattle.vlm_tallies.specs.Tallies.{count_of, counts_fit, held_of, held_weight, is_free, is_mode, one_if, wanted_of, wanted_weight};
+ghost use Rattle.vlm_words.specs.Modes.{is_compatible};
+ghost use Rattle.vlm_tallies.specs.Tallies.{Count, armed_request, count_of, counts_fit, counts_warn, how_many, is_mode, none_or, one_if, weight_of};
+ghost use Rattle.vlm_tallies.specs.Tallies.Count.{of_armed, of_held, of_wanted};
 
 use vlm_words::locks::{Request, Row};
 use vlm_words::modes::{Mode, compatible};
 use vlm_words::resources::Queue;
 
-/// How many locks of a resource hold each mode, and how many want it.
+/// How many locks of a resource hold each mode, how many want it, and how many are granted in it and armed.
 #[derive(Clone, Copy)]
 pub struct Tally {
     // how many hold each mode, by its rank: the granted and the converting
     held: [u32; 6],
     // how many want each mode, by its rank: the converting and the waiting
     wanted: [u32; 6],
+    // how many hold each mode, by its rank, and are armed: of the granted alone
+    armed: [u32; 6],
 }
 
-// One more lock holds, or wants, what is asked for.
+// One more lock is counted with what is asked for.
 fn count_in(counts: &mut [u32; 6], request: &Option<Request>)
     requires { (mode : Mode) → count_of counts.old mode + 1 < 2 ^ 32 }
     ensures { (mode : Mode) → count_of counts.new mode
@@ -28,7 +32,7 @@ fn count_in(counts: &mut [u32; 6], request: &Option<Request>)
     }
 }
 
-// One lock less holds, or wants, what is asked for.
+// One lock less is counted with what is asked for.
 fn count_out(counts: &mut [u32; 6], request: &Option<Request>)
     requires { (mode : Mode) → one_if (is_mode mode request.now) ≤ count_of counts.old mode }
     ensures { (mode : Mode) → count_of counts.new mode + one_if (is_mode mode request.now)
@@ -37,6 +41,33 @@ fn count_out(counts: &mut [u32; 6], request: &Option<Request>)
     if let Some(request) = request {
         counts[request.mode.rank()] -= 1;
     }
+}
+
+// What a lock holds while it is armed.
+fn armed_request(row: &Row) -> Option<Request>
+    ensures { result ≡ armed_request row.now }
+{
+    if row.armed { row.held } else { None }
+}
+
+// Whether no lock is counted with this mode, or the one that is asked for is compatible with it.
+fn is_free(counts: &[u32; 6], mode: Mode, counted: Mode) -> bool
+    ensures { result ≡ none_or (is_compatible mode) (count_of counts.now) counted }
+{
+    counts[counted.rank()] == 0 || compatible(mode, counted)
+}
+
+// Whether the mode is compatible with every mode that is counted.
+#[tactic(auto, unfolding(crate::specs::Tallies::counts_fit))]
+fn counts_fit(counts: &[u32; 6], mode: Mode) -> bool
+    ensures { result ≡ counts_fit mode (count_of counts.now) }
+{
+    is_free(counts, mode, Mode::Nl)
+        && is_free(counts, mode, Mode::Cr)
+        && is_free(counts, mode, Mode::Cw)
+        && is_free(counts, mode, Mode::Pr)
+        && is_free(counts, mode, Mode::Pw)
+        && is_free(counts, mode, Mode::Ex)
 }
 
 impl Tally {
@@ -49,23 +80,24 @@ impl Tally {
         Tally {
             held: [0; 6],
             wanted: [0; 6],
+            armed: [0; 6],
         }
     }
 
     /// Counts one more lock, which stands in this queue with this row.
     pub fn add(&mut self, queue: Queue, row: &Row)
-        requires held { (mode : Mode) → held_of self.old mode + 1 < 2 ^ 32 }
-        requires wanted { (mode : Mode) → wanted_of self.old mode + 1 < 2 ^ 32 }
-        ensures held { (mode : Mode) → held_of self.new mode
-            ≡ held_of self.old mode + held_weight mode queue row.now }
-        ensures wanted { (mode : Mode) → wanted_of self.new mode
-            ≡ wanted_of self.old mode + wanted_weight mode queue row.now }
+        requires { (count : Count) (mode : Mode) → how_many count self.old mode + 1 < 2 ^ 32 }
+        ensures { (count : Count) (mode : Mode) → how_many count self.new mode
+            ≡ how_many count self.old mode + weight_of count mode queue row.now }
     {
         match queue {
-            Queue::Granted => count_in(&mut self.held, &row.held),
-            Queue::Conversion => {
+            Queue::Granted => {
                 count_in(&mut self.held, &row.held);
+                count_in(&mut self.armed, &armed_request(row));
+            }
+            Queue::Conversion => {
                 count_in(&mut self.wanted, &row.want);
+                count_in(&mut self.held, &row.held);
             }
             Queue::Waiting => count_in(&mut self.wanted, &row.want),
         }
@@ -73,40 +105,50 @@ impl Tally {
 
     /// Counts out a lock that stood in this queue with this row.
     pub fn remove(&mut self, queue: Queue, row: &Row)
-        requires held { (mode : Mode) → held_weight mode queue row.now ≤ held_of self.old mode }
-        requires wanted { (mode : Mode) → wanted_weight mode queue row.now
-            ≤ wanted_of self.old mode }
-        ensures held { (mode : Mode) → held_of self.new mode + held_weight mode queue row.now
-            ≡ held_of self.old mode }
-        ensures wanted { (mode : Mode) → wanted_of self.new mode + wanted_weight mode queue row.now
-            ≡ wanted_of self.old mode }
+        requires { (count : Count) (mode : Mode) → weight_of count mode queue row.now
+            ≤ how_many count self.old mode }
+        ensures { (count : Count) (mode : Mode) → how_many count self.new mode
+            + weight_of count mode queue row.now ≡ how_many count self.old mode }
     {
         match queue {
-            Queue::Granted => count_out(&mut self.held, &row.held),
-            Queue::Conversion => {
+            Queue::Granted => {
                 count_out(&mut self.held, &row.held);
+                count_out(&mut self.armed, &armed_request(row));
+            }
+            Queue::Conversion => {
                 count_out(&mut self.wanted, &row.want);
+                count_out(&mut self.held, &row.held);
             }
             Queue::Waiting => count_out(&mut self.wanted, &row.want),
         }
     }
 
-    // Whether no lock holds this mode, or the one that is asked for is compatible with it.
-    fn is_free(&self, mode: Mode, held: Mode) -> bool
-        ensures { result ≡ is_free mode (held_of self.now) held }
-    {
-        self.held[held.rank()] == 0 || compatible(mode, held)
-    }
-
     /// Whether the mode is compatible with every mode that is held.
     pub fn fits(&self, mode: Mode) -> bool
-        ensures { result ≡ counts_fit mode (held_of self.now) }
+        ensures { result ≡ counts_fit mode (how_many of_held self.now) }
     {
-        self.is_free(mode, Mode::Nl)
-            && self.is_free(mode, Mode::Cr)
-            && self.is_free(mode, Mode::Cw)
-            && self.is_free(mode, Mode::Pr)
-            && self.is_free(mode, Mode::Pw)
-            && self.is_free(mode, Mode::Ex)
+        counts_fit(&self.held, mode)
+    }
+
+    // Whether no granted lock with this mode is armed, or the mode is compatible with every mode that is wanted.
+    fn warns_none(&self, mode: Mode) -> bool
+        ensures { result
+            ≡ none_or (λ mode. counts_fit mode (how_many of_wanted self.now))
+            (how_many of_armed self.now) mode }
+    {
+        self.armed[mode.rank()] == 0 || counts_fit(&self.wanted, mode)
+    }
+
+    /// Whether some granted lock is armed whose mode is incompatible with some mode that is wanted.
+    #[tactic(auto, unfolding(crate::specs::Tallies::counts_warn))]
+    pub fn may_warn(&self) -> bool
+        ensures { result ≡ counts_warn (how_many of_armed self.now) (how_many of_wanted self.now) }
+    {
+        !(self.warns_none(Mode::Nl)
+            && self.warns_none(Mode::Cr)
+            && self.warns_none(Mode::Cw)
+            && self.warns_none(Mode::Pr)
+            && self.warns_none(Mode::Pw)
+            && self.warns_none(Mode::Ex))
     }
 }

@@ -1,9 +1,7 @@
 -- After every step the held modes of each resource are compatible.
 use Rattle.std.proofs.Common.{◌≡◌, ℕ, Bool, true, not, List, [], ◌∷◌, ◌++◌, map, Option, None, Some, append_assoc, refl, sym, subst, ap, ⊎_elim, ◌∙◌}
-use Rattle.std.proofs.Math.Bool.{or_comm}
-use Rattle.std.proofs.Math.Path.{fun_ext}
-use Rattle.std.specs.Prelude.{AllPairs, ◌==◌, ◌&&◌}
-use Rattle.std.specs.List.{AllByRecursion, find, list_any, list_all}
+use Rattle.std.specs.Prelude.{AllPairs, ◌==◌}
+use Rattle.std.specs.List.{AllByRecursion, find, list_all}
 use Rattle.std.proofs.lemmas.Bool.{cond_both, and_parts, or_cases}
 use Rattle.std.proofs.lemmas.List.Elements.{All-from_recursion, filter-append}
 use Rattle.vlm_words.specs.declared.locks.Request.{Request}
@@ -13,7 +11,7 @@ use Rattle.vlm_words.specs.declared.modes.Mode.{Mode}
 use Rattle.vlm_words.specs.declared.resources.ValueBlock.{ValueBlock}
 use Rattle.vlm_words.specs.declared.steps.Conversion.{Conversion}
 use Rattle.vlm_words.specs.declared.steps.NewRequest.{NewRequest}
-use Rattle.vlm_words.specs.Modes.{compatible_pairs, is_compatible, is_pair_of, rank}
+use Rattle.vlm_words.specs.Modes.{is_compatible}
 use Rattle.vlm_words.specs.Flags.{expedite, has_flag}
 use Rattle.vlm_words.specs.State.{Process, Resource, State}
 use Rattle.vlm_words.specs.Effects.{with_value_block}
@@ -37,20 +35,11 @@ use Rattle.vlm_words.proofs.Admissions.{admitted_request, found_lkid}
 use Rattle.vlm_words.proofs.Always.{always, kept_by_stepped}
 use Rattle.vlm_words.proofs.Apart.{Apart, apart_always}
 use Rattle.vlm_words.proofs.AtOnce.{admitted_at_once, admitted_stands, only_there}
+use Rattle.vlm_words.proofs.Compatible.{is_compatible-comm}
 use Rattle.vlm_words.proofs.EachResource.{each_entered_on, each_swept, found_has}
 use Rattle.vlm_words.proofs.Withdrawing.{kept_withdrawn}
 use Rattle.vlm_words.specs.Asts.{resource_after_warning, row_after_warning}
 use Rattle.vlm_words.proofs.Warned.{blind_warned}
-
--- a pair has two modes in either order
-is_pair_of-comm : (a b : Mode) (pair : Mode × Mode) → is_pair_of a b pair ≡ is_pair_of b a pair
-is_pair_of-comm a b pair =
-    or_comm ((rank pair.0 == rank a) && (rank pair.1 == rank b)) ((rank pair.0 == rank b) && (rank pair.1 == rank a))
-
--- the table has no order
-is_compatible-comm : (a b : Mode) → is_compatible a b ≡ is_compatible b a
-unfolding is_compatible
-is_compatible-comm a b = ap (λ test. list_any test compatible_pairs) (fun_ext (is_pair_of-comm a b))
 
 -- two rows hold compatible modes
 abbrev pub HoldCompatible : Row → Row → Type 0

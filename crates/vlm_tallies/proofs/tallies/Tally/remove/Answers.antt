@@ -1,5 +1,17 @@
-use Rattle.std.proofs.Common.{rules}
+use Rattle.vlm_tallies.specs.Tallies.Count.{of_armed, of_held, of_wanted}
 use Rattle.vlm_tallies.proofs.tallies.Tally.remove.Goals as goal
 
-pub returns-in-Conversion-clause-held : goal.returns-in-Conversion-clause-held
-returns-in-Conversion-clause-held c = search rules
+pub count_out-requires : goal.count_out-requires
+count_out-requires c mode = rw c.in-Granted.is at (c.requires of_held mode)
+
+pub count_out-requires-in-Granted : goal.count_out-requires-in-Granted
+count_out-requires-in-Granted c mode = rw c.armed_request.ensures (rw c.in-Granted.is at (c.requires of_armed mode))
+
+pub count_out-requires-in-Conversion : goal.count_out-requires-in-Conversion
+count_out-requires-in-Conversion c mode = rw c.in-Conversion.is at (c.requires of_wanted mode)
+
+pub count_out-requires-in-Conversion-2 : goal.count_out-requires-in-Conversion-2
+count_out-requires-in-Conversion-2 c mode = rw c.in-Conversion.is at (c.requires of_held mode)
+
+pub count_out-requires-in-Waiting : goal.count_out-requires-in-Waiting
+count_out-requires-in-Waiting c mode = rw c.in-Waiting.is at (c.requires of_wanted mode)
