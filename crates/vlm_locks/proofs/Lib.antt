@@ -17,6 +17,8 @@ pub mod Rising
 pub mod Replaced
 pub mod Stood
 pub mod Parting
+pub mod Weighing
+pub mod Owing
 pub mod Swept
 pub mod Touched
 pub mod Withdrawn

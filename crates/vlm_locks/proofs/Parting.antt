@@ -9,7 +9,7 @@ use Rattle.vlm_store.specs.Records.{AreResourcesApart, HasResource, Records, Sto
 use Rattle.vlm_locks.specs.Sweeping.{AreSettledBut, Parted, StandInOrder}
 
 -- the resource of a handle has some before and some after it
-parted_at : (res : ℕ) (rs : List StoredResource) → IsSome (resource_at res rs) → Parted res rs
+pub parted_at : (res : ℕ) (rs : List StoredResource) → IsSome (resource_at res rs) → Parted res rs
 parted_at res [] there = cc
 parted_at res (x ∷ rs) there =
     elim (cases_eq x.at res) [

@@ -1,5 +1,6 @@
 pub mod Staying
 pub mod Serving
+pub mod Owing
 pub mod Standing
 pub mod Rising
 pub mod Rest

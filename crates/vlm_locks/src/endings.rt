@@ -1,13 +1,19 @@
-//! What the grant of a request writes: its status, and with VALBLK a value block.
+//! What the end of a request does: it writes its status, and with VALBLK a grant returns or writes a value block; and
+//! its completion AST is queued.
 
-ghost use Rattle.std.specs.Prelude.{◌≡◌, Some};
+ghost use Rattle.std.specs.Prelude.{◌≡◌, ◌≤◌, ◌-◌, Some, is_some};
 ghost use Rattle.vlm_words.specs.Effects.{blocks_after, blocks_with};
-ghost use Rattle.vlm_words.specs.Grants.{grant_act, grant_endings};
+ghost use Rattle.vlm_words.specs.Asts.{completion_asts, processes_after_asts};
+ghost use Rattle.vlm_words.specs.Dues.{one_where, row_due};
+ghost use Rattle.vlm_words.specs.Grants.{grant_act, grant_endings, granted_row};
 ghost use Rattle.vlm_store.specs.Plain.{plain_processes};
-ghost use Rattle.vlm_store.specs.Records.{IsProcess, SameButNotices};
+ghost use Rattle.vlm_store.specs.Records.{DueChanges, DuesStay, IsProcess, SameButNotices, due_of};
+ghost use Rattle.vlm_locks.specs.Owing.{OwedMoves, blocks_written, completions_queued, completions_spared};
 
-use vlm_procs::{end, end_with_return, value};
+use vlm_procs::{end, end_with_return, forgive, queue, value};
+use vlm_store::laws::law_records_are_sound;
 use vlm_store::{ProcAt, Store};
+use vlm_words::asts::{Ast, AstKind};
 use vlm_words::conditions::Cond;
 use vlm_words::flags::EnqFlags;
 use vlm_words::locks::{Request, Row};
@@ -28,29 +34,25 @@ fn grant_act(held: Option<Request>, want: &Request) -> Act
     }
 }
 
-/// The request that the lock of a row wanted is granted, at once or from a queue: its status is written to the
-/// status block of the lock's process, and with VALBLK the value block is returned there, or written from
-/// there.
+// The grant of what a lock wanted writes its status to the status block of the lock's process, and with VALBLK the
+// value block is returned there, or written from there.
 #[tactic(auto, unfolding(vlm_words::specs::Effects::blocks_after_return, vlm_words::specs::Effects::blocks_after_writing))]
-pub(crate) fn end_by_grant(
+fn write_grant(
     value_block: &mut ValueBlock,
     store: &mut Store,
     at: ProcAt,
     row: &Row,
-    at_once: bool,
+    request: &Request,
 )
     requires { IsProcess at row.now.pid store.old }
     ensures value_block { let old = blocks_with value_block.old (plain_processes store.old)
-        in value_block.new ≡ (blocks_after (grant_endings at_once row.now) old).value_block }
+        in value_block.new ≡ (blocks_written row.now request.now old).value_block }
     ensures statuses { let old = blocks_with value_block.old (plain_processes store.old)
-        in plain_processes store.new
-        ≡ (blocks_after (grant_endings at_once row.now) old).processes }
+        in plain_processes store.new ≡ (blocks_written row.now request.now old).processes }
+    ensures dues { DuesStay store.old store.new }
     ensures only_notices { SameButNotices store.old store.new }
 {
-    let Some(request) = row.want else {
-        return;
-    };
-    match grant_act(row.held, &request) {
+    match grant_act(row.held, request) {
         Act::Nothing => end(store, at, request.block, Cond::Normal),
         Act::Return => end_with_return(store, at, request.block, value_block),
         Act::Write => {
@@ -61,4 +63,81 @@ pub(crate) fn end_by_grant(
             end(store, at, request.block, Cond::Normal);
         }
     }
+}
+
+/// The request of a lock has ended, at once or later: its completion AST is queued, if it names a routine for one. Of a
+/// grant at once under SYNCSTS the answer alone tells.
+#[tactic(auto, unfolding(vlm_words::specs::Asts::completion_asts))]
+pub(crate) fn complete(store: &mut Store, at: ProcAt, row: &Row, request: &Request, at_once: bool)
+    requires process { IsProcess at row.now.pid store.old }
+    requires owed { one_where (is_some request.now.completion) ≤ due_of row.now.pid store.old }
+    ensures queued { plain_processes store.new ≡ processes_after_asts
+        (completion_asts at_once request.now row.now.lkid row.now.pid)
+        (plain_processes store.old) }
+    ensures owed { DueChanges row.now.pid
+        (λ due. due - completions_queued at_once request.now) store.old store.new }
+    ensures only_notices { SameButNotices store.old store.new }
+{
+    law_records_are_sound(store);
+    if at_once && request.flags.has(EnqFlags::SYNCSTS) {
+        return;
+    }
+    if let Some(routine) = request.completion {
+        let ast = Ast {
+            kind: AstKind::Completion,
+            routine,
+            param: request.param,
+            lkid: row.lkid,
+        };
+        queue(store, at, ast);
+    }
+}
+
+/// One where it is so.
+pub(crate) fn one_where(so: bool) -> usize
+    ensures { result ≡ one_where so }
+{
+    if so { 1 } else { 0 }
+}
+
+// How many completions do not come of a request: that of which SYNCSTS lets the answer tell.
+fn completions_spared(request: &Request, at_once: bool) -> usize
+    ensures { result ≡ completions_spared at_once request.now }
+{
+    if at_once && request.flags.has(EnqFlags::SYNCSTS) {
+        one_where(request.completion.is_some())
+    } else {
+        0
+    }
+}
+
+/// The request that the lock of a row wanted is granted, at once or from a queue: its status is written to the
+/// status block of the lock's process, with VALBLK the value block is returned there, or written from there, and
+/// its completion AST is queued. What is owed for the lock and does not come is forgiven.
+pub(crate) fn end_by_grant(
+    value_block: &mut ValueBlock,
+    store: &mut Store,
+    at: ProcAt,
+    row: &Row,
+    at_once: bool,
+)
+    requires process { IsProcess at row.now.pid store.old }
+    requires owed { row_due row.now ≤ due_of row.now.pid store.old }
+    ensures value_block { let old = blocks_with value_block.old (plain_processes store.old)
+        in value_block.new ≡ (blocks_after (grant_endings at_once row.now) old).value_block }
+    ensures statuses { let old = blocks_with value_block.old (plain_processes store.old)
+        in plain_processes store.new
+        ≡ (blocks_after (grant_endings at_once row.now) old).processes }
+    ensures owed { OwedMoves row.now (granted_row row.now) store.old store.new }
+    ensures only_notices { SameButNotices store.old store.new }
+{
+    law_records_are_sound(store);
+    let Some(request) = row.want else {
+        forgive(store, at, one_where(row.armed));
+        return;
+    };
+    write_grant(value_block, store, at, row, &request);
+    complete(store, at, row, &request, at_once);
+    let spared = one_where(row.armed) + completions_spared(&request, at_once);
+    forgive(store, at, spared);
 }

@@ -70,14 +70,18 @@ asts_for kind (Some routine) request lkid pid =
 -- ---- completions
 
 -- the request is granted at once, and SYNCSTS lets the answer tell of that alone
-abbrev pub is_synchronous : Ending → Bool
-is_synchronous ending = ending.at_once && has_flag (flag_bits ending.request.flags) syncsts
+abbrev pub is_synchronous : Bool → Request → Bool
+is_synchronous at_once request = at_once && has_flag (flag_bits request.flags) syncsts
 
--- the completion AST of a request that has ended
-unfoldable pub completions : Ending → List Queued
-completions ending =
-    if is_synchronous ending then []
-    else asts_for Completion ending.request.completion ending.request ending.lkid ending.pid
+-- the completion AST of a lock's request that has ended, at once or later
+unfoldable pub completion_asts : Bool → Request → ℕ → ℕ → List Queued
+completion_asts at_once request lkid pid =
+    if is_synchronous at_once request then []
+    else asts_for Completion request.completion request lkid pid
+
+-- the completion AST of a request that has ended so
+abbrev pub completions : Ending → List Queued
+completions ending = completion_asts ending.at_once ending.request ending.lkid ending.pid
 
 -- those of requests that have ended, in the order of their ends
 abbrev pub completions_of : List Ending → List Queued

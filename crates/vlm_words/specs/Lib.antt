@@ -25,6 +25,7 @@ pub mod Enqueue
 pub mod Convert
 pub mod Withdrawals
 pub mod Dequeue
+pub mod Dues
 pub mod Stepped
 pub mod Runs
 pub mod Laws

@@ -1,0 +1,151 @@
+-- How what is owed to a process goes with what is due to it.
+use Rattle.std.proofs.Common.{◌≡◌, ◌≢◌, ◌≤◌, ◌<◌, ◌+◌, ◌-◌, ℕ, Bool, true, false, ◌&&◌, List, [], ◌∷◌, map, cond, Option, None, Some, refl, sym, ap, ◌∙◌, subst, inl, inr, arith, eq-eqb, ne_eqb}
+use Rattle.std.specs.Prelude.{◌==◌, is_some}
+use Rattle.std.specs.List.{sum_by}
+use Rattle.std.proofs.lemmas.Bool.{cases_eq}
+use Rattle.std.proofs.lemmas.Option.{same_Some}
+use Rattle.vlm_words.specs.declared.locks.Request.{Request}
+use Rattle.vlm_words.specs.declared.locks.Row.{Row}
+use Rattle.vlm_words.specs.declared.resources.Queue.{Queue}
+use Rattle.vlm_words.specs.declared.modes.Act.{Act}
+use Rattle.vlm_words.specs.declared.modes.Act.TheVariants.{Nothing, Return, Write}
+use Rattle.vlm_words.specs.Asts.{completion_asts, is_synchronous}
+use Rattle.vlm_words.specs.Effects.{Blocks, blocks_after, blocks_after_asts, blocks_after_grant, blocks_after_return, blocks_after_writing}
+use Rattle.vlm_words.specs.Endings.{Ending}
+use Rattle.vlm_words.specs.Endings.How.{by_grant}
+use Rattle.vlm_words.specs.Dues.{due_to, one_where, routines_of, row_due}
+use Rattle.vlm_words.specs.Grants.{grant_act, grant_endings, granted_row, is_arming}
+use Rattle.vlm_store.specs.declared.handles.Place.TheVariants.{Queued}
+use Rattle.vlm_store.specs.Records.{DueChanges, DuesStay, HasResource, IsProcess, IsSound, Records, SameButNotices, StoredLock, Stores, due_of, moving, process_at, with_lists}
+use Rattle.vlm_store.proofs.Plain.{process_at-stored}
+use Rattle.vlm_locks.specs.Owing.{DueMoves, IsPaid, OwedMoves, blocks_written, completions_queued, completions_spared, due_for}
+use Rattle.vlm_locks.proofs.Found.{process_still, process_there}
+use Rattle.vlm_locks.proofs.Weighing.{all, gone_weighs, moved_weighs}
+
+-- a handle is that of one process
+pub one_process : (s : Records) → IsSound s → (at a b : ℕ) → IsProcess at a s → IsProcess at b s → a ≡ b
+one_process s sound at a b one other =
+    let first = process_at-stored one.0 s.processes sound.processes_apart one.1.0 in
+    let second = process_at-stored other.0 s.processes sound.processes_apart other.1.0 in
+    let same : one.0 ≡ other.0 =
+    same_Some one.0 other.0 (sym first ∙ ap (λ k. process_at k s.processes) (one.1.1 ∙ sym other.1.1) ∙ second) in
+    sym one.1.2 ∙ ap (λ p. p.process.pid) same ∙ other.1.2
+
+-- notices alone, twice
+pub notices_twice : (s t u : Records) → SameButNotices s t → SameButNotices t u → SameButNotices s u
+notices_twice s t u first second = record {
+  resources = second.resources ∙ first.resources;
+  loose = second.loose ∙ first.loose;
+  processes = second.processes ∙ first.processes;
+  room = second.room ∙ first.room;
+}
+
+-- and stays so where status blocks are written and ASTs owed and queued
+pub same_process : (s t : Records) → IsSound s → SameButNotices s t → (at a b : ℕ) → IsProcess at a s → IsProcess at b t → a ≡ b
+same_process s t sound same at a b one other =
+    one_process s sound at a b one
+    (process_still t s at b
+    (record { resources = sym same.resources; loose = sym same.loose; processes = sym same.processes; room = sym same.room }) other)
+
+-- what is owed changes so from where it stayed
+pub changes_then : (pid : ℕ) (f : ℕ → ℕ) (s t u : Records) → DuesStay s t → DueChanges pid f t u → DueChanges pid f s u
+changes_then pid f s t u stay changes other =
+    changes other ∙ ap (λ (due : ℕ). cond (other == pid) (f due) due) (stay other)
+
+-- of a named completion the one part is queued and the other spared
+completion_parts : (at_once : Bool) (request : Request) → completions_queued at_once request + completions_spared at_once request ≡ one_where (is_some request.completion)
+completion_parts at_once request = of_test (is_synchronous at_once request)
+  where
+    of_test : (b : Bool) → cond b 0 (one_where (is_some request.completion)) + cond b (one_where (is_some request.completion)) 0 ≡ one_where (is_some request.completion)
+    of_test true = omega arith
+    of_test false = omega arith
+
+-- what is owed to the process of a row, and to others
+module _ (row : Row) (f : ℕ → ℕ) (old new : Records) (changes : DueChanges row.pid f old new) where
+  pub owed_own : due_of row.pid new ≡ f (due_of row.pid old)
+  owed_own = changes row.pid ∙ ap (λ (b : Bool). cond b (f (due_of row.pid old)) (due_of row.pid old)) (eq-eqb row.pid row.pid refl)
+
+  pub owed_other : (pid : ℕ) → row.pid ≢ pid → due_of pid new ≡ due_of pid old
+  owed_other pid differs = changes pid ∙ ap (λ (b : Bool). cond b (f (due_of pid old)) (due_of pid old)) (ne_eqb pid row.pid (λ same. differs (sym same)))
+
+-- what is due to the process of a row for it, and to others
+pub due_own : (row : Row) → due_to row.pid row ≡ row_due row
+due_own row = ap (λ (b : Bool). cond b (row_due row) 0) (eq-eqb row.pid row.pid refl)
+
+pub due_other : (row : Row) (pid : ℕ) → row.pid ≢ pid → due_to pid row ≡ 0
+due_other row pid differs = ap (λ (b : Bool). cond b (row_due row) 0) (ne_eqb row.pid pid differs)
+
+-- what is owed moves from one row of a process to another, where what it is owed changes so
+pub owed_moves : (was now : Row) (old new : Records) → now.pid ≡ was.pid → due_of was.pid new + row_due was ≡ due_of was.pid old + row_due now
+    → ((pid : ℕ) → was.pid ≢ pid → due_of pid new ≡ due_of pid old) → OwedMoves was now old new
+owed_moves was now old new same own others pid =
+    elim (cases_eq was.pid pid) [
+      | inl is ↦
+          subst (λ (p : ℕ). due_of p new + due_to p was ≡ due_of p old + due_to p now) is
+          (omega (arith, own, due_own was, subst (λ (p : ℕ). due_to p now ≡ row_due now) same (due_own now)))
+      | inr differs ↦ omega (arith, others pid differs, due_other was pid differs, due_other now pid (λ e. differs (sym same ∙ e)))
+    ]
+
+-- ---- a request is granted
+
+module _ (row : Row) (request : Request) (want : row.want ≡ Some request) (at_once : Bool) where
+  -- what is due for it before and after
+  due_before : row_due row ≡ one_where (is_some request.completion) + one_where (is_some request.blocking) + one_where row.armed
+  due_before = ap (λ (o : Option Request). routines_of o + one_where row.armed) want
+
+  due_after : row_due (granted_row row) ≡ one_where (is_some request.blocking)
+  due_after = omega (arith, ap (λ (o : Option Request). one_where (is_arming o)) want)
+
+  module _ (old mid : Records) (queued : DueChanges row.pid (λ due. due - completions_queued at_once request) old mid) (enough : row_due row ≤ due_of row.pid old) where
+    -- what is spared is owed still
+    pub spared_fits : one_where row.armed + completions_spared at_once request ≤ due_of row.pid mid
+    spared_fits =
+        omega (arith, owed_own row (λ due. due - completions_queued at_once request) old mid queued, enough, due_before, completion_parts at_once request)
+
+    -- once it is forgiven, what is due for the granted lock is owed
+    pub granted_owed : (new : Records) → DueChanges row.pid (λ due. due - (one_where row.armed + completions_spared at_once request)) mid new → OwedMoves row (granted_row row) old new
+    granted_owed new spared =
+        owed_moves row (granted_row row) old new refl
+        (omega (
+          arith,
+          owed_own row (λ due. due - completions_queued at_once request) old mid queued,
+          owed_own row (λ due. due - (one_where row.armed + completions_spared at_once request)) mid new spared,
+          enough,
+          due_before,
+          due_after,
+          completion_parts at_once request,
+        ))
+        (λ pid differs.
+        owed_other row (λ due. due - (one_where row.armed + completions_spared at_once request)) mid new spared pid differs
+        ∙ owed_other row (λ due. due - completions_queued at_once request) old mid queued pid differs)
+
+-- where a lock wants nothing, its warning alone is forgiven
+pub nothing_granted_owed : (row : Row) → row.want ≡ None → (old new : Records) → row_due row ≤ due_of row.pid old
+    → DueChanges row.pid (λ due. due - one_where row.armed) old new → OwedMoves row (granted_row row) old new
+nothing_granted_owed row none old new enough spared =
+    let before : row_due row ≡ one_where row.armed = omega (arith, ap routines_of none) in
+    let after : row_due (granted_row row) ≡ 0 = omega (arith, ap (λ (o : Option Request). one_where (is_arming o)) none) in
+    owed_moves row (granted_row row) old new refl
+    (omega (arith, owed_own row (λ due. due - one_where row.armed) old new spared, enough, before, after))
+    (λ pid differs. owed_other row (λ due. due - one_where row.armed) old new spared pid differs)
+
+-- ---- what a grant writes and queues
+
+-- whether it is at once changes nothing of what it writes
+same_written : (act : Act) (first second : Ending) (b : Blocks) → second.pid ≡ first.pid → second.request ≡ first.request
+    → blocks_after_grant act second b ≡ blocks_after_grant act first b
+unfolding blocks_after_return blocks_after_writing
+same_written Nothing first second b pid request = rw (pid, request) refl
+same_written Return first second b pid request = rw (pid, request) refl
+same_written Write first second b pid request = rw (pid, request) refl
+
+-- a grant writes, and then its completion is queued
+pub granted_blocks : (row : Row) (request : Request) (at_once : Bool) (b : Blocks) → row.want ≡ Some request
+    → blocks_after (grant_endings at_once row) b ≡ blocks_after_asts (completion_asts at_once request row.lkid row.pid) (blocks_written row request b)
+granted_blocks row request at_once b want =
+    rw want
+    (ap (blocks_after_asts (completion_asts at_once request row.lkid row.pid))
+    (same_written (grant_act row.held (Some request))
+    (record { lkid = row.lkid; pid = row.pid; request = request; how = by_grant (grant_act row.held (Some request)); at_once = false })
+    (record { lkid = row.lkid; pid = row.pid; request = request; how = by_grant (grant_act row.held (Some request)); at_once = at_once })
+    b refl refl))

@@ -1,0 +1,69 @@
+-- What a process is owed, and what is due to it for its locks.
+use Rattle.std.specs.Prelude.{◌≡◌, ◌+◌, ℕ, Bool, false, List, sum_by, Option, None, Some, is_some, if◌then◌else◌}
+use Rattle.vlm_words.specs.declared.locks.Request.{Request}
+use Rattle.vlm_words.specs.declared.locks.Row.{Row}
+use Rattle.vlm_words.specs.Asts.{is_synchronous}
+use Rattle.vlm_words.specs.Dues.{due_to, one_where}
+use Rattle.vlm_words.specs.Effects.{Blocks, blocks_after_grant}
+use Rattle.vlm_words.specs.Endings.How.{by_grant}
+use Rattle.vlm_words.specs.Grants.{grant_act, granted_row}
+use Rattle.vlm_store.specs.Records.{Records, StoredLock, StoredResource, due_of}
+
+-- how many ASTs are due to a process for those of these locks that are its own
+abbrev pub due_among : ℕ → List StoredLock → ℕ
+due_among pid locks = sum_by (λ k. due_to pid k.row) locks
+
+-- how many are due to it for its locks on a resource
+abbrev pub due_on : ℕ → StoredResource → ℕ
+due_on pid r = due_among pid r.granted + due_among pid r.converting + due_among pid r.waiting
+
+-- how many are due to it for all its locks
+abbrev pub due_for : ℕ → Records → ℕ
+due_for pid s = sum_by (due_on pid) s.resources + due_among pid s.loose
+
+-- each process is owed the ASTs that are due to it, and no more
+abbrev pub IsPaid : Records → Type 0
+IsPaid s = (pid : ℕ) → due_of pid s ≡ due_for pid s
+
+-- what is due changes as that of one lock, which had this row and has that one
+abbrev pub DueMoves : Row → Row → Records → Records → Type 0
+DueMoves was now old new = (pid : ℕ) → due_for pid new + due_to pid was ≡ due_for pid old + due_to pid now
+
+-- what is owed changes as what is due for one lock, which had this row and has that one
+abbrev pub OwedMoves : Row → Row → Records → Records → Type 0
+OwedMoves was now old new = (pid : ℕ) → due_of pid new + due_to pid was ≡ due_of pid old + due_to pid now
+
+-- the row once what it wants has ended
+abbrev pub row_after_end : Row → Row
+row_after_end row = record row { want = None }
+
+-- the row of a lock for which nothing is due any more
+abbrev pub row_at_end : Row → Row
+row_at_end row = record row { want = None; armed = false }
+
+-- how many completions a request queues as it ends at once or later
+abbrev pub completions_queued : Bool → Request → ℕ
+completions_queued at_once request =
+    if is_synchronous at_once request then 0 else one_where (is_some request.completion)
+
+-- what the grant of a lock's request writes, its completion apart
+abbrev pub blocks_written : Row → Request → Blocks → Blocks
+blocks_written row request b =
+    blocks_after_grant (grant_act row.held (Some request))
+    (record {
+      lkid = row.lkid;
+      pid = row.pid;
+      request = request;
+      how = by_grant (grant_act row.held (Some request));
+      at_once = false;
+    })
+    b
+
+-- how many completions do not come of a request that ends at once or later: that which SYNCSTS lets the answer tell
+abbrev pub completions_spared : Bool → Request → ℕ
+completions_spared at_once request =
+    if is_synchronous at_once request then one_where (is_some request.completion) else 0
+
+-- the row of a lock as it has entered: granted at once, or as it waits
+abbrev pub entered_row : Bool → Row → Row
+entered_row at_once row = if at_once then granted_row row else row
