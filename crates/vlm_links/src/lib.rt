@@ -1,4 +1,4 @@
-//! Doubly linked lists that run through the records of a slab.
+//! The records of a slab: their handles, doubly linked lists that run through them, and room for one more.
 //!
 //! A list is a chain of handles, the keys of a slab. Its links stand in the records themselves, so that a record joins at
 //! the end and leaves from anywhere in constant time, and neither wants memory. A record may stand in
@@ -12,12 +12,16 @@
 //! would lead from the one before leads from the list's start, and what would lead back from the one after
 //! leads back from its end. So a join writes the record's pair, one link of the last record, and the list; a
 //! leave writes a link of each neighbour, or an end of the list, and its length. The pair of a record that
-//! left stays as it was, and is written when it joins again. Nothing here takes memory: the slab grows when
-//! its owner adds a record, and a list never does.
+//! left stays as it was, and is written when it joins again. No list takes memory: a slab grows before its owner
+//! adds a record (`reserve_one`).
 #![tactic(auto)]
 
+mod growth;
+mod handles;
 mod link;
 mod lists;
 
+pub use growth::reserve_one;
+pub use handles::At;
 pub use link::{LAST_HANDLE, Links};
 pub use lists::{Linked, LinkedList};

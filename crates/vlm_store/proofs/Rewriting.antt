@@ -1,18 +1,21 @@
 -- A process is rewritten, but for its identification, its locks and its place in the order.
-use Rattle.std.proofs.Common.{◌≡◌, ◌∙◌, ℕ, List, Some, ap, sym, refl, nat_eq}
+use Rattle.std.proofs.Common.{◌≡◌, ◌∙◌, ◌+◌, ℕ, List, Some, ap, sym, refl, nat_eq}
 use Rattle.slab.specs.Slab.{get}
 use Rattle.indexmap.specs.IndexMap.{get as found, spare}
+use Rattle.vlm_words.specs.declared.asts.Ast.{Ast}
 use Rattle.vlm_words.specs.State.{Process as PlainProcess}
+use Rattle.vlm_asts.specs.Asts.{Asts}
 use Rattle.vlm_store.specs.declared.processes.Process.{Process}
 use Rattle.vlm_store.specs.declared.store.Store.TheInside.{Inside}
 use Rattle.vlm_store.specs.Holdings.{faced, holding, pid_at, plain_process, process_face, process_face_in}
 use Rattle.vlm_store.specs.Kept.{IsKept, beside_shown, records_shown, rooms_shown}
-use Rattle.vlm_store.specs.Records.{OwnLock, StoredProcess, changed_process, on_stored}
+use Rattle.vlm_store.specs.Records.{OwnLock, StoredProcess, changed_process, on_process, on_stored, owed_more}
 use Rattle.vlm_store.specs.Store.{tables}
 use Rattle.vlm_store.proofs.Declaring.{process_named, process_own_handles, process_owned, rewritten, written_face, written_handles, written_linked, written_others, written_owns, written_pids, written_whole}
 use Rattle.vlm_store.proofs.Indexing.{Indexes-same}
 use Rattle.vlm_store.proofs.Kinship.{processes_changed}
 use Rattle.vlm_store.proofs.Members.{process_written}
+use Rattle.vlm_store.proofs.Plain.{on_stored-same}
 use Rattle.vlm_store.proofs.Rooms.{room_written}
 use Rattle.vlm_store.proofs.RoomShown.{room_shown, room_of_same}
 
@@ -63,3 +66,38 @@ module _ (s : Inside) (kept : IsKept s) (at : ℕ) (was now : Process) (here : g
       (room_shown (λ a b. b ≡ a) (tables s.queues s.order (beside_shown s)) (tables s.queues s.order (beside_shown (record s { processes = processes })))
       (ap (λ p. record (rooms_shown s) { processes = p })
       (room_of_same s.processes processes (spare s.process_index) (room_written s.processes at now (rw here refl)))))
+
+-- the ASTs of the process at a handle are written
+module _ (s : Inside) (kept : IsKept s) (at : ℕ) (was : Process) (asts : Asts) (here : get s.processes at ≡ Some was) where
+  -- the store as it is then
+  abbrev with_asts : Inside
+  with_asts = record s { processes = rewritten s.processes at was (record was { asts = asts }) here refl refl refl }
+
+  pub asts_kept : IsKept with_asts
+  asts_kept = rewritten_kept s kept at was (record was { asts = asts }) here refl refl refl
+
+  pub asts_shown : (change : StoredProcess → StoredProcess) → ((locks : List OwnLock) → faced at (process_face (record was { asts = asts })) locks ≡ change (faced at (process_face was) locks))
+      → records_shown with_asts ≡ record (records_shown s) { processes = on_stored at change (records_shown s).processes }
+  asts_shown = rewritten_shown s kept at was (record was { asts = asts }) here refl refl refl
+
+  -- other ASTs are pending, and as many are owed as were
+  pub pending_shown : (change : PlainProcess → PlainProcess) → record (plain_process was) { asts = asts.pending } ≡ change (plain_process was) → asts.due ≡ was.asts.due
+      → records_shown with_asts ≡ record (records_shown s) { processes = on_process at change (records_shown s).processes }
+  pending_shown change pending due = asts_shown (changed_process change) (changed_face change was (record was { asts = asts }) pending due at)
+
+  -- more are owed
+  pub owed_shown : (count : ℕ) → asts.pending ≡ was.asts.pending → asts.due ≡ was.asts.due + count
+      → records_shown with_asts ≡ record (records_shown s) { processes = on_stored at (owed_more count) (records_shown s).processes }
+  owed_shown count pending due =
+      asts_shown (owed_more count)
+      (λ locks.
+      let told = λ (xs : List Ast) (n : ℕ). faced at (record { plain = record (plain_process was) { asts = xs }; due = n }) locks in
+      let first : told asts.pending asts.due ≡ told was.asts.pending asts.due = ap (λ xs. told xs asts.due) pending in
+      let second : told was.asts.pending asts.due ≡ told was.asts.pending (was.asts.due + count) = ap (told was.asts.pending) due in
+      first ∙ second)
+
+  -- they are what they were
+  pub same_shown : asts ≡ was.asts → records_shown with_asts ≡ records_shown s
+  same_shown same =
+      asts_shown (λ p. p) (λ locks. ap (λ (x : Asts). faced at (process_face (record was { asts = x })) locks) same)
+      ∙ ap (λ ps. record (records_shown s) { processes = ps }) (on_stored-same at (records_shown s).processes)

@@ -1,13 +1,13 @@
 //! The locks of each resource, counted by their modes.
 
-ghost use Rattle.std.specs.Prelude.{◌≡◌, ◌≤◌, ◌<◌, ◌+◌, ◌^◌, ◌==◌, if◌then◌else◌, ℕ, None, Some};
+ghost use Rattle.std.specs.Prelude.{◌≡◌, ◌≤◌, ◌+◌, None, Some};
 ghost use Rattle.std.specs.Option.{ForSome};
-ghost use Rattle.slab.specs.Slab.{get, ContainsKey};
+ghost use Rattle.slab.specs.Slab.{ContainsKey};
 ghost use Rattle.vlm_words.specs.declared.resources.Queue.{Queue};
 ghost use Rattle.vlm_store.specs.declared.handles.Place.{Place};
 ghost use Rattle.vlm_tallies.specs.Tallies.{Count, how_many, weight_of};
 ghost use Rattle.vlm_tallies.specs.Tallies.Count.{of_held};
-ghost use Rattle.vlm_store.specs.Shown.{IsPlaced, IsTallied, SameBut, but_tally, handles_but, handles_fit, room_in, rows, share_of, shares, tally_in};
+ghost use Rattle.vlm_store.specs.Shown.{IsPlaced, IsTallied, SameBut, but_tally, handles_but, handles_fit, room_in, rows, share_of, shares};
 
 use crate::handles::{LockAt, Place, ResAt};
 use crate::locks::Lock;
@@ -35,40 +35,6 @@ fn counted_out(mut tally: Tally, res: ResAt, place: Place, row: &Row) -> Tally
 }
 
 impl Queues {
-    // One lock less is counted in a queue of a resource.
-    fn tally_out(&mut self, res: ResAt, queue: Queue, row: &Row)
-        requires there { ContainsKey self.old.resources res }
-        requires counted { (count : Count) (mode : Mode) → weight_of count mode queue row.now
-            ≤ how_many count (tally_in (get self.old.resources res)) mode }
-        ensures counts { (count : Count) (r : ℕ) (mode : Mode)
-            → how_many count (tally_in (get self.new.resources r)) mode
-            + (if res == r then weight_of count mode queue row.now else 0)
-            ≡ how_many count (tally_in (get self.old.resources r)) mode }
-        ensures locks { self.new.locks ≡ self.old.locks }
-        ensures loose { self.new.loose ≡ self.old.loose }
-        ensures rest { SameBut but_tally self.old.resources self.new.resources }
-        ensures resources_room { room_in self.new.resources ≡ room_in self.old.resources }
-    {
-        self.resources[res.slot()].tally.remove(queue, row);
-    }
-
-    // One lock more is counted in a queue of a resource.
-    fn tally_in(&mut self, res: ResAt, queue: Queue, row: &Row)
-        requires there { ContainsKey self.old.resources res }
-        requires room { (count : Count) (mode : Mode)
-            → how_many count (tally_in (get self.old.resources res)) mode + 1 < 2 ^ 32 }
-        ensures counts { (count : Count) (r : ℕ) (mode : Mode)
-            → how_many count (tally_in (get self.new.resources r)) mode
-            ≡ how_many count (tally_in (get self.old.resources r)) mode
-            + (if res == r then weight_of count mode queue row.now else 0) }
-        ensures locks { self.new.locks ≡ self.old.locks }
-        ensures loose { self.new.loose ≡ self.old.loose }
-        ensures rest { SameBut but_tally self.old.resources self.new.resources }
-        ensures resources_room { room_in self.new.resources ≡ room_in self.old.resources }
-    {
-        self.resources[res.slot()].tally.add(queue, row);
-    }
-
     /// Counts a lock out of the queue in which it stands.
     pub(crate) fn count_out(&mut self, at: usize)
         requires placed { IsPlaced self.old None }
@@ -82,7 +48,7 @@ impl Queues {
     {
         let Lock { row, place, .. } = self.locks[at];
         if let Place::Queued(res, queue) = place {
-            self.tally_out(res, queue, &row);
+            self.resources[res.slot()].tally.remove(queue, &row);
         }
     }
 
@@ -99,7 +65,7 @@ impl Queues {
     {
         let Lock { row, place, .. } = self.locks[at];
         if let Place::Queued(res, queue) = place {
-            self.tally_in(res, queue, &row);
+            self.resources[res.slot()].tally.add(queue, &row);
         }
     }
 

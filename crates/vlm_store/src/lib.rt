@@ -18,7 +18,6 @@
 #![tactic(auto)]
 
 mod counts;
-mod growth;
 mod handles;
 mod kin;
 pub mod laws;
@@ -30,7 +29,7 @@ mod queues;
 mod resources;
 mod store;
 
-pub use handles::{At, LockAt, LockKind, Place, ProcAt, ProcessKind, ResAt, ResourceKind};
+pub use handles::{LockAt, LockKind, Place, ProcAt, ProcessKind, ResAt, ResourceKind};
 pub use locks::Lock;
 pub use processes::{Authorization, Process};
 pub use resources::Resource;

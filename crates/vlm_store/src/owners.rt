@@ -7,11 +7,11 @@ ghost use Rattle.vlm_words.specs.Declare.{new_process};
 ghost use Rattle.vlm_words.specs.StatusBlocks.{new_status_block, process_with_block};
 ghost use Rattle.vlm_store.specs.Records.{FindsProcess, HasNoLocks, HasNoSublocks, HasProcess, HasRoomForProcess, IsGivenBack, IsNewProcess, IsProcess, IsSound, IsStored, IsTaken, IsUnchanged, authorization_of, new_stored_process, on_process, on_stored, owed_less, owed_more, own_at, owned_by, process_at, with_owed_ast, with_process_room, without_process};
 
-use crate::growth::reserve_one;
 use crate::handles::{LockAt, ProcAt};
 use crate::processes::{Process, put_in, take_out};
 use crate::store::Store;
 use std::alloc::AllocError;
+use vlm_links::reserve_one;
 use vlm_words::asts::Ast;
 use vlm_words::blocks::Block;
 use vlm_words::steps::Declaration;
@@ -105,7 +105,7 @@ impl Store {
           processes = on_process at without_oldest_ast self.old.processes;
         } }
     {
-        self.processes[at.slot()].take_ast()
+        self.processes[at.slot()].asts.take()
     }
 
     /// Makes room for so many more ASTs of a process than are queued to it and owed, and owes them. Where memory is

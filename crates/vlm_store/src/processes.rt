@@ -4,7 +4,6 @@ ghost use Rattle.std.specs.Prelude.{◌≡◌, ◌≢◌, ◌≤◌, ◌+◌, �
 ghost use Rattle.std.specs.Option.{option_map};
 ghost use Rattle.slab.specs.Slab.{get, HasRoomFor};
 ghost use Rattle.vlm_links.specs.Lists.{IsIn, IsLinked, IsNoList, handles_of, without};
-ghost use Rattle.vlm_words.specs.Asts.{oldest, without_oldest_ast};
 ghost use Rattle.vlm_words.specs.Declare.{new_process};
 ghost use Rattle.vlm_words.specs.StatusBlocks.{process_with_block};
 ghost use Rattle.vlm_store.specs.Holdings.{but_order, plain_process, process_links};
@@ -15,7 +14,6 @@ use crate::resources::InOrder;
 use slab::Slab;
 use vlm_asts::AstQueue;
 use vlm_links::{LAST_HANDLE, Linked, LinkedList, Links};
-use vlm_words::asts::Ast;
 use vlm_words::blocks::Block;
 use vlm_words::steps::Declaration;
 
@@ -83,17 +81,6 @@ impl Process {
         if let Some(old) = self.blocks.get_mut(index) {
             *old = block;
         }
-    }
-
-    /// Takes its oldest AST, if there is one.
-    pub(crate) fn take_ast(&mut self) -> Option<Ast>
-        ensures taken { result ≡ oldest (plain_process self.old).asts }
-        ensures plain { plain_process self.new ≡ without_oldest_ast (plain_process self.old) }
-        ensures due { self.new.asts.due ≡ self.old.asts.due }
-        ensures own { self.new.own ≡ self.old.own }
-        ensures order { self.new.in_order ≡ self.old.in_order }
-    {
-        self.asts.take()
     }
 }
 

@@ -1,9 +1,9 @@
-use Rattle.std.proofs.Common.{◌<◌, ap, refl, subst}
+use Rattle.std.proofs.Common.{◌<◌, ap, subst}
+use Rattle.vlm_asts.specs.Asts.{Asts}
 use Rattle.vlm_store.specs.Holdings.{faced, process_face, process_face_in}
 use Rattle.vlm_store.specs.Records.{with_owed_ast}
-use Rattle.vlm_asts.specs.Asts.{Asts}
 use Rattle.vlm_store.proofs.Living.{process_is, process_there}
-use Rattle.vlm_store.proofs.Rewriting.{rewritten_kept, rewritten_shown}
+use Rattle.vlm_store.proofs.Rewriting.{asts_kept, asts_shown}
 use Rattle.vlm_store.proofs.store.Store.queue_ast.Goals as goal
 
 pub index_mut-requires : goal.index_mut-requires
@@ -17,13 +17,12 @@ queue-requires c =
 
 pub invariant_of-self : goal.invariant_of-self
 invariant_of-self c =
-    let was = c.index_mut.result.now in
     rw c.slot.ensures
-    (rewritten_kept c.self.inside c.self.invariant c.args.at was (record was { asts = c.queue.new.self }) (rw c.slot.ensures at c.index_mut.ensures.value) refl refl refl)
+    (asts_kept c.self.inside c.self.invariant c.args.at c.index_mut.result.now c.queue.new.self (rw c.slot.ensures at c.index_mut.ensures.value))
 
 pub returns : goal.returns
 returns c =
     let was = c.index_mut.result.now in
     rw (← c.self.view_is, c.slot.ensures)
-    (rewritten_shown c.self.inside c.self.invariant c.args.at was (record was { asts = c.queue.new.self }) (rw c.slot.ensures at c.index_mut.ensures.value) refl refl refl
+    (asts_shown c.self.inside c.self.invariant c.args.at c.index_mut.result.now c.queue.new.self (rw c.slot.ensures at c.index_mut.ensures.value)
     (with_owed_ast c.args.ast) (λ locks. ap (λ (asts : Asts). faced c.args.at (process_face (record was { asts = asts })) locks) c.queue.ensures))

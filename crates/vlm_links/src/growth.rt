@@ -4,15 +4,15 @@ ghost use Rattle.std.specs.Prelude.{◌≡◌, ◌<◌, ◌≤◌, IsOk, OnOk};
 ghost use Rattle.slab.specs.Slab.{HasRoomFor};
 ghost use Rattle.indexmap.specs.IndexMap.{IsUnchanged, spare};
 
+use crate::link::LAST_HANDLE;
 use indexmap::IndexMap;
 use slab::Slab;
 use std::alloc::AllocError;
 use std::hash::Hash;
-use vlm_links::LAST_HANDLE;
 
 /// Makes room for one more record, and for its key in the index, where there is none. It is refused where memory
 /// is, and where the slab has given out the last handle that a link can lead to.
-pub(crate) fn reserve_one<T, K: Eq + Hash, V>(
+pub fn reserve_one<T, K: Eq + Hash, V>(
     records: &mut Slab<T>,
     index: &mut IndexMap<K, V>,
 ) -> Result<(), AllocError>

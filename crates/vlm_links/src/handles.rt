@@ -1,0 +1,46 @@
+//! The handles of records, those of each kind of a type of their own.
+
+ghost use Rattle.std.specs.Prelude.{◌≡◌, ◌≤◌};
+
+use crate::link::LAST_HANDLE;
+use std::marker::{Model, PhantomData};
+
+/// The handle of a record of one kind: its slot in the slab of these. It is good until its record is
+/// removed; then it may be given to another.
+#[derive_where(Clone, Copy, Debug, PartialEq, Eq)]
+pub struct At<Kind> {
+    // the slot of the record in its slab, at most `LAST_HANDLE`
+    at: u32,
+    // names the kind, and takes no room
+    kind: PhantomData<Kind>,
+}
+
+impl<Kind> Model for At<Kind> {
+    ghost use Rattle.std.specs.Prelude.{ℕ};
+
+    ghost Value = { ℕ };
+
+    ghost view = { λ k. k.at };
+
+    ghost inverse = { λ at. record { at = at; kind = record {} } };
+}
+
+impl<Kind> At<Kind> {
+    /// The handle of the record in this slot.
+    pub fn of(slot: usize) -> Self
+        requires { slot ≤ LAST_HANDLE }
+        ensures { result ≡ slot }
+    {
+        At {
+            at: slot as u32,
+            kind: PhantomData,
+        }
+    }
+
+    /// The slot of the record.
+    pub fn slot(self) -> usize
+        ensures { result ≡ self }
+    {
+        self.at as usize
+    }
+}
