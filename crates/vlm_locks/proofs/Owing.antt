@@ -7,6 +7,7 @@ use Rattle.std.proofs.lemmas.Option.{same_Some}
 use Rattle.vlm_words.specs.declared.locks.Request.{Request}
 use Rattle.vlm_words.specs.declared.locks.Row.{Row}
 use Rattle.vlm_words.specs.declared.resources.Queue.{Queue}
+use Rattle.vlm_words.specs.declared.resources.Queue.TheVariants.{Granted}
 use Rattle.vlm_words.specs.declared.modes.Act.{Act}
 use Rattle.vlm_words.specs.declared.modes.Act.TheVariants.{Nothing, Return, Write}
 use Rattle.vlm_words.specs.Asts.{completion_asts, is_synchronous}
@@ -149,3 +150,38 @@ granted_blocks row request at_once b want =
     (record { lkid = row.lkid; pid = row.pid; request = request; how = by_grant (grant_act row.held (Some request)); at_once = false })
     (record { lkid = row.lkid; pid = row.pid; request = request; how = by_grant (grant_act row.held (Some request)); at_once = at_once })
     b refl refl))
+
+-- ---- the locks of the records
+
+-- what each lock weighs here
+abbrev pub weight : ℕ → StoredLock → ℕ
+weight pid k = due_to pid k.row
+
+-- what is due for a lock that is stored is owed, where each process is owed what is due to it
+pub due_fits : (s : Records) → IsSound s → IsPaid s → (at : ℕ) (row : Row) → Stores s at row → row_due row ≤ due_of row.pid s
+due_fits s sound paid at row stored =
+    omega (arith, paid row.pid, gone_weighs (weight row.pid) s sound at row stored, due_own row)
+
+-- both change alike
+pub paid_still : (was now : Row) (old new : Records) → DueMoves was now old new → OwedMoves was now old new → IsPaid old → IsPaid new
+paid_still was now old new due owed paid pid = omega (arith, due pid, owed pid, paid pid)
+
+-- what is due changes as a lock moves to a queue with another row
+pub due_moved : (s : Records) → IsSound s → (at : ℕ) (was now : Row) (res : ℕ) (to : Queue) → Stores s at was → HasResource res s
+    → DueMoves was now s (with_lists (moving (Queued res to) (record { at = at; row = now })) s)
+due_moved s sound at was now res to stored there pid = moved_weighs (weight pid) s sound at was now res to stored there
+
+-- and stays where notices alone change
+pub due_noticed : (s t : Records) → SameButNotices s t → (pid : ℕ) → due_for pid t ≡ due_for pid s
+due_noticed s t same pid = rw (same.resources, same.loose) refl
+
+-- a lock that is granted on its resource
+pub paid_granted : (s t : Records) → IsSound s → (at : ℕ) (row : Row) (res : ℕ) → Stores s at row → HasResource res s
+    → SameButNotices (with_lists (moving (Queued res Granted) (record { at = at; row = granted_row row })) s) t
+    → OwedMoves row (granted_row row) s t → IsPaid s → IsPaid t
+paid_granted s t sound at row res stored there moved owed paid =
+    paid_still row (granted_row row) s t
+    (λ pid.
+    ap (λ (due : ℕ). due + due_to pid row) (due_noticed (with_lists (moving (Queued res Granted) (record { at = at; row = granted_row row })) s) t moved pid)
+    ∙ due_moved s sound at row (granted_row row) res Granted stored there pid)
+    owed paid

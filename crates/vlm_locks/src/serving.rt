@@ -1,12 +1,14 @@
 //! The service of a resource's queues.
 
-ghost use Rattle.std.specs.Prelude.{◌≡◌, ◌≢◌, IfSome, false};
+ghost use Rattle.std.specs.Prelude.{◌≡◌, ◌≢◌, ◌≤◌, IfSome, false};
 ghost use Rattle.vlm_words.specs.declared.resources.Queue.{Queue};
+ghost use Rattle.vlm_words.specs.Dues.{row_due};
 ghost use Rattle.vlm_words.specs.Effects.{blocks_after, blocks_with};
 ghost use Rattle.vlm_words.specs.Grants.{grant_endings, granted_row, service};
 ghost use Rattle.vlm_store.specs.declared.handles.Place.{Place};
 ghost use Rattle.vlm_store.specs.Plain.{plain_processes};
-ghost use Rattle.vlm_store.specs.Records.{HasResource, IsStored, SameButNotices, StoredLock, Stores, moving, resource_at, with_lists};
+ghost use Rattle.vlm_store.specs.Records.{HasResource, IsStored, SameButNotices, StoredLock, Stores, due_of, moving, resource_at, with_lists};
+ghost use Rattle.vlm_locks.specs.Owing.{IsPaid, OwedMoves};
 ghost use Rattle.vlm_locks.specs.Serving.{IsServed, IsServiceOf, service_from, wanted_fits_beside};
 
 use crate::endings::end_by_grant;
@@ -35,12 +37,14 @@ fn wanted_fits(store: &Store, res: ResAt, lock: LockAt, want: Option<Request>) -
 fn grant(value_block: &mut ValueBlock, store: &mut Store, res: ResAt, lock: LockAt, row: &Row)
     requires there { HasResource res store.old }
     requires stored { Stores store.old lock row.now }
+    requires owed { row_due row.now ≤ due_of row.now.pid store.old }
     ensures moved { let granted : StoredLock = record { at = lock; row = granted_row row.now }
         in SameButNotices
         (with_lists (moving (Place.Queued res Queue.Granted) granted) store.old) store.new }
     ensures effect { blocks_with value_block.new (plain_processes store.new)
         ≡ blocks_after (grant_endings false row.now)
         (blocks_with value_block.old (plain_processes store.old)) }
+    ensures owed { OwedMoves row.now (granted_row row.now) store.old store.new }
 {
     let owner = store.lock_record(lock).owner;
     store.move_lock(lock, granted_row(*row), Place::Queued(res, Queue::Granted));
@@ -52,8 +56,10 @@ fn grant(value_block: &mut ValueBlock, store: &mut Store, res: ResAt, lock: Lock
 fn serve_queue(value_block: &mut ValueBlock, store: &mut Store, res: ResAt, queue: Queue)
     requires there { HasResource res store.old }
     requires queued { Queue.Granted ≢ queue }
-    ensures { IsServiceOf (service_from queue) res
+    requires paid { IsPaid store.old }
+    ensures served { IsServiceOf (service_from queue) res
         value_block.old store.old value_block.new store.new }
+    ensures paid { IsPaid store.new }
 {
     law_records_are_sound(store);
     while let Some(lock) = head(store, res, queue) {
@@ -67,8 +73,10 @@ fn serve_queue(value_block: &mut ValueBlock, store: &mut Store, res: ResAt, queu
 
 // Grants from the conversion queue, and once that is empty from the waiting queue.
 fn serve_queues(value_block: &mut ValueBlock, store: &mut Store, res: ResAt)
-    requires { HasResource res store.old }
-    ensures { IsServiceOf service res value_block.old store.old value_block.new store.new }
+    requires there { HasResource res store.old }
+    requires paid { IsPaid store.old }
+    ensures served { IsServiceOf service res value_block.old store.old value_block.new store.new }
+    ensures paid { IsPaid store.new }
 {
     serve_queue(value_block, store, res, Queue::Conversion);
     match head(store, res, Queue::Conversion) {

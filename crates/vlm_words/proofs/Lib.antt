@@ -24,6 +24,7 @@ pub mod Granted
 pub mod Joining
 pub mod Writes
 pub mod Settled
+mod NothingToWarn
 pub mod Processes
 pub mod Declarations
 pub mod Quotas

@@ -58,6 +58,15 @@ HeadsDoNotFit granted (row ∷ rows) waiting = Conflicts row.want (granted ++ ro
 abbrev pub NothingIsLeftToGrant : State → Type 0
 NothingIsLeftToGrant s = All (λ r. HeadsDoNotFit r.granted r.converting r.waiting) s.resources
 
+-- what an armed row holds is compatible with what each of these rows wants
+abbrev pub IsInNobodysWay : List Row → Row → Type 0
+IsInNobodysWay queued row = row.armed ≡ true → All (λ other. AreCompatible other.want row.held) queued
+
+-- in each resource no granted lock that is armed is in the way of a queued request
+abbrev pub NothingIsLeftToWarn : State → Type 0
+NothingIsLeftToWarn s =
+    All (λ r. All (IsInNobodysWay (r.converting ++ r.waiting)) r.granted) s.resources
+
 -- the row wants the request of this number
 abbrev pub wants_number : ℕ → Option Request → Bool
 wants_number number None = false

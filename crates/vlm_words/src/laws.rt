@@ -21,7 +21,7 @@ ghost use Rattle.vlm_words.specs.Written.{WritesNamedBlocks};
 ghost use Rattle.vlm_words.specs.Taking.{AstsAreTakenInOrder};
 ghost use Rattle.vlm_words.specs.Standing.{ConvertedLocksStandAsAskedFor, NewLocksStandAsAskedFor};
 ghost use Rattle.vlm_words.specs.Reasons.{RefusalHasItsReason};
-ghost use Rattle.vlm_words.specs.Laws.{DeclarationsGiveNewIdentifications, EachRequestEndsOnce, GrantsFollowQueueOrder, HeldModesAreCompatible, IdentificationsAreApart, KeysAreApart, NoResourceIsVacant, NothingIsLeftToGrant, ParentsOutliveTheirSublocks, QuotasAreKept, RowsFitTheirQueues, SerialsRise, TreesAreBounded, WritesAreGrantedAtOnce};
+ghost use Rattle.vlm_words.specs.Laws.{DeclarationsGiveNewIdentifications, EachRequestEndsOnce, GrantsFollowQueueOrder, HeldModesAreCompatible, IdentificationsAreApart, KeysAreApart, NoResourceIsVacant, NothingIsLeftToGrant, NothingIsLeftToWarn, ParentsOutliveTheirSublocks, QuotasAreKept, RowsFitTheirQueues, SerialsRise, TreesAreBounded, WritesAreGrantedAtOnce};
 
 /// In each resource the held modes of any two locks are compatible.
 pub fn law_held_modes_are_compatible()
@@ -32,6 +32,12 @@ pub fn law_held_modes_are_compatible()
 /// first new request does not.
 pub fn law_nothing_is_left_to_grant()
     ensures { (history : History) (last : State) → Run history last → NothingIsLeftToGrant last }
+{}
+
+/// After every step no granted lock that is still to be warned is in the way of a queued request: what it holds is
+/// compatible with all that is wanted there.
+pub fn law_nothing_is_left_to_warn()
+    ensures { (history : History) (last : State) → Run history last → NothingIsLeftToWarn last }
 {}
 
 /// Each accepted request is wanted by exactly one lock and has not ended, or is wanted by none and
@@ -133,8 +139,8 @@ pub fn law_no_resource_is_vacant()
     ensures { (history : History) (last : State) → Run history last → NoResourceIsVacant last }
 {}
 
-/// Between the steps a sweep has nothing to do: on no resource can anything be granted, and none is without
-/// locks.
+/// Between the steps a sweep has nothing to do: on no resource can anything be granted, nobody is to be warned, and
+/// none is without locks.
 pub fn law_each_resource_is_settled()
     ensures { (history : History) (last : State) → Run history last
         → AllByRecursion IsSettled last.resources }
@@ -191,7 +197,8 @@ pub fn law_a_step_writes_the_status_blocks_that_are_named()
 {}
 
 /// A take answers the AST of its process that has been pending longest, which is then pending no more, or none where
-/// none is pending. No other step takes an AST, and no AST of another process is taken.
+/// none is pending. No other step takes an AST, and no AST of another process is taken. What a step queues to a process
+/// goes behind what it leaves there.
 pub fn law_asts_are_taken_in_order()
     ensures { (history : History) (old : State) → Run history old
         → (step : Step) (choice : Option Row)

@@ -1,7 +1,17 @@
+use Rattle.std.proofs.Common.{◌≡◌, ◌∙◌, sym, subst, refl}
+use Rattle.vlm_words.specs.Grants.{granted_row}
+use Rattle.vlm_store.specs.Records.{due_of}
 use Rattle.vlm_locks.proofs.Stood.{owner_is}
 use Rattle.vlm_locks.proofs.serving.grant.Goals as goal
 
 -- a lock that moves leaves the processes
-pub end_by_grant-requires : goal.end_by_grant-requires
-end_by_grant-requires c =
+pub end_by_grant-requires-clause-process : goal.end_by_grant-requires-clause-process
+end_by_grant-requires-clause-process c =
     rw c.move_lock.ensures (owner_is c.args.store.now c.lock_record.result.now.owner c.lock_record.result.now.row c.args.row.now (c.lock_record.ensures.only c.args.row.now c.requires.stored) c.lock_record.ensures.owner)
+
+-- and what they are owed
+pub end_by_grant-requires-clause-owed : goal.end_by_grant-requires-clause-owed
+end_by_grant-requires-clause-owed c = rw c.move_lock.ensures c.requires.owed
+
+pub returns-clause-owed : goal.returns-clause-owed
+returns-clause-owed c = rw c.move_lock.ensures at c.end_by_grant.ensures.owed
