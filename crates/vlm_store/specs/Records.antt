@@ -48,8 +48,8 @@ pub record OwnLock : Type 0 where
   pub at : ℕ
   pub sublocks : List ℕ
 
--- a process under its handle, with its own locks in order of making; beyond the ASTs that are queued to it, it is owed
--- so many more
+-- a process under its handle, how many ASTs it is owed beyond those that are queued to it, and its own locks in order
+-- of making
 pub record StoredProcess : Type 0 where
   pub at : ℕ
   pub process : Process
@@ -418,7 +418,8 @@ owned_by pid s = sum_by (owned_on pid) s.resources + owned_among pid s.loose
 abbrev pub HasNoLocks : ℕ → Records → Type 0
 HasNoLocks at s = own_at at s ≡ []
 
--- a process but for its notices, which tell it of its requests: its status blocks, its ASTs, and those that it is owed
+-- a process but for its notices, which tell it of its requests: its status blocks, its ASTs, and how many more it is
+-- owed
 abbrev pub but_notices : StoredProcess → StoredProcess
 but_notices p = record p { process = record p.process { blocks = []; asts = [] }; due = 0 }
 
