@@ -2,6 +2,7 @@
 
 mod asts;
 mod faults;
+mod lines;
 mod lists;
 mod modes;
 mod records;
