@@ -4,6 +4,7 @@ mod asts;
 mod faults;
 mod lines;
 mod lists;
+mod marks;
 mod modes;
 mod records;
 mod refusals;
