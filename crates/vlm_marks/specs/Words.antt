@@ -1,6 +1,5 @@
 -- Bits in words of 64.
-use Rattle.std.specs.Prelude.{◌≡◌, ◌≢◌, ℕ, ◌/◌, ◌%◌, ◌<◌, List, slice_index}
-use Rattle.std.proofs.Common.{min}
+use Rattle.std.specs.Prelude.{◌≡◌, ◌≢◌, ℕ, ◌/◌, ◌%◌, ◌<◌, List, min, slice_index}
 use Rattle.std.specs.Int.{bit_at}
 
 -- a number's bit: that of 64 numbers stands in one word
