@@ -30,8 +30,8 @@ const PLAY_ABOUT: &str =
 const PLAY_HELP: &str = "\
 Commands of a script, one a line:
   declare NAME node=N group=N quota=N blocks=N [syslck]
-  enq NAME MODE name=RES block=N [parent=LOCK] [flags]
-  cvt NAME LOCK MODE block=N [flags]
+  enq NAME MODE name=RES block=N [parent=LOCK] [ast=N] [bast=N] [param=N] [flags]
+  cvt NAME LOCK MODE block=N [ast=N] [bast=N] [param=N] [flags]
   deq NAME LOCK [value=HEX] [cancel] [invvalblk]
   set NAME block=N value=HEX
   ast NAME

@@ -6,15 +6,12 @@ use Rattle.std.specs.Char.{is_ascii_digit, is_ascii_alphabetic, is_ascii_alphanu
 use Rattle.std.specs.Int.RustNames.{bit_or}
 use Rattle.vlm_words.specs.declared.modes.Mode.{Mode}
 use Rattle.vlm_words.specs.declared.modes.Mode.TheVariants.{Nl, Cr, Cw, Pr, Pw, Ex}
-use Rattle.vlm_words.specs.declared.steps.Conversion.{Conversion}
 use Rattle.vlm_words.specs.declared.steps.Declaration.{Declaration}
 use Rattle.vlm_words.specs.declared.steps.Dequeue.{Dequeue}
-use Rattle.vlm_words.specs.declared.steps.NewRequest.{NewRequest}
-use Rattle.vlm_words.specs.declared.steps.ValueSetting.{ValueSetting}
 use Rattle.vlm_words.specs.declared.steps.Which.{Which}
 use Rattle.vlm_words.specs.declared.steps.Which.TheVariants.{Id, Block}
 use Rattle.vlm_lines.specs.declared.keyed.DeclareWords.{DeclareWords}
-use Rattle.vlm_lines.specs.declared.keyed.CvtWords.{CvtWords}
+use Rattle.vlm_lines.specs.declared.keyed.RequestWords.{RequestWords}
 use Rattle.vlm_lines.specs.declared.keyed.EnqWords.{EnqWords}
 use Rattle.vlm_lines.specs.declared.keyed.SetWords.{SetWords}
 use Rattle.vlm_lines.specs.declared.lines.Line.{Line}
@@ -226,26 +223,45 @@ unfoldable pub flag_once : ℕ → Option ℕ → Result ℕ LineFault
 flag_once flags None = Err WrongWord
 flag_once flags (Some flag) = if has_flag flags flag then Err WrongWord else Ok (bit_or flags flag)
 
+-- nothing of the keyed words is read yet that an enq and a cvt line share
+abbrev pub no_request_words : RequestWords
+no_request_words = record { block = None; ast = None; bast = None; param = None; flags = 0 }
+
+-- one more keyed word or flag that an enq and a cvt line share
+unfoldable pub request_word : RequestWords → List ℕ → Result RequestWords LineFault
+request_word r word =
+    if has_key (codes "block=") word then
+    once r.block (number_within 255 (behind (codes "block=") word)) >>= (λ n. Ok (record r { block = n }))
+    else if has_key (codes "ast=") word then
+    once r.ast (number_within 4294967295 (behind (codes "ast=") word)) >>= (λ n. Ok (record r { ast = n }))
+    else if has_key (codes "bast=") word then
+    once r.bast (number_within 4294967295 (behind (codes "bast=") word)) >>= (λ n. Ok (record r { bast = n }))
+    else if has_key (codes "param=") word then
+    once r.param (number_within 4294967295 (behind (codes "param=") word)) >>= (λ n. Ok (record r { param = n }))
+    else flag_once r.flags (enq_flag word) >>= (λ flags. Ok (record r { flags = flags }))
+
+-- without the word the parameter is 0
+abbrev pub param_of : RequestWords → ℕ
+param_of r = unwrap_or r.param 0
+
 -- nothing of an enq line's keyed words is read yet
 abbrev pub no_enq_words : EnqWords
-no_enq_words = record { resource = None; block = None; parent = None; flags = 0 }
+no_enq_words = record { resource = None; parent = None; request = no_request_words }
 
 -- one more keyed word or flag of an enq line
 unfoldable pub enq_word : EnqWords → List ℕ → Result EnqWords LineFault
 enq_word e word =
     if has_key (codes "name=") word then
     once e.resource (resource_name (behind (codes "name=") word)) >>= (λ r. Ok (record e { resource = r }))
-    else if has_key (codes "block=") word then
-    once e.block (number_within 255 (behind (codes "block=") word)) >>= (λ n. Ok (record e { block = n }))
     else if has_key (codes "parent=") word then
     once e.parent (lock_named (behind (codes "parent=") word)) >>= (λ lock. Ok (record e { parent = lock }))
-    else flag_once e.flags (enq_flag word) >>= (λ flags. Ok (record e { flags = flags }))
+    else request_word e.request word >>= (λ r. Ok (record e { request = r }))
 
 -- without the word the identification 0 names no parent
 abbrev pub parent_of : EnqWords → Which
 parent_of e = unwrap_or e.parent (Id 0)
 
--- enq NAME MODE name=RES block=N [parent=LOCK] [flags]
+-- enq NAME MODE name=RES block=N [parent=LOCK] [ast=N] [bast=N] [param=N] [flags]
 unfoldable pub enq_line : List (List ℕ) → Result Line LineFault
 enq_line words =
     next_word words >>= λ first.
@@ -254,31 +270,20 @@ enq_line words =
     mode_of second.0 >>= λ mode.
     all_words enq_word no_enq_words second.1 >>= λ e.
     given e.resource >>= λ resource.
-    given e.block >>= λ block.
+    given e.request.block >>= λ block.
     Ok (Enq name (record {
       pid = no_process;
       mode = mode;
       name = resource;
       block = block;
       parent = parent_of e;
-      flags = e.flags;
-      ast = None;
-      bast = None;
-      param = 0;
+      flags = e.request.flags;
+      ast = e.request.ast;
+      bast = e.request.bast;
+      param = param_of e.request;
     }))
 
--- nothing of a cvt line's keyed words is read yet
-abbrev pub no_cvt_words : CvtWords
-no_cvt_words = record { block = None; flags = 0 }
-
--- one more keyed word or flag of a cvt line
-unfoldable pub cvt_word : CvtWords → List ℕ → Result CvtWords LineFault
-cvt_word c word =
-    if has_key (codes "block=") word then
-    once c.block (number_within 255 (behind (codes "block=") word)) >>= (λ n. Ok (record c { block = n }))
-    else flag_once c.flags (enq_flag word) >>= (λ flags. Ok (record c { flags = flags }))
-
--- cvt NAME LOCK MODE block=N [flags]
+-- cvt NAME LOCK MODE block=N [ast=N] [bast=N] [param=N] [flags]
 unfoldable pub cvt_line : List (List ℕ) → Result Line LineFault
 cvt_line words =
     next_word words >>= λ first.
@@ -287,17 +292,17 @@ cvt_line words =
     lock_named second.0 >>= λ lock.
     next_word second.1 >>= λ third.
     mode_of third.0 >>= λ mode.
-    all_words cvt_word no_cvt_words third.1 >>= λ c.
-    given c.block >>= λ block.
+    all_words request_word no_request_words third.1 >>= λ r.
+    given r.block >>= λ block.
     Ok (Cvt name (record {
       pid = no_process;
       lock = lock;
       mode = mode;
       block = block;
-      flags = c.flags;
-      ast = None;
-      bast = None;
-      param = 0;
+      flags = r.flags;
+      ast = r.ast;
+      bast = r.bast;
+      param = param_of r;
     }))
 
 -- the dequeue of a lock before any keyed word of its line is read

@@ -1,13 +1,13 @@
 //! The keyed words and flags behind the places of a line.
 
 ghost use Rattle.std.specs.Prelude.{◌≡◌};
-ghost use Rattle.vlm_lines.specs.Lines.{all_words, cvt_word, declare_word, deq_word, enq_word, no_cvt_words, no_declare_words, no_enq_words, no_set_words, once, set_word, words_of};
+ghost use Rattle.vlm_lines.specs.Lines.{all_words, declare_word, deq_word, enq_word, no_declare_words, no_enq_words, no_request_words, no_set_words, once, request_word, set_word, words_of};
 
 use crate::cuts::next_word;
 use crate::faults::LineFault;
 use crate::flags::{deq_flag, enq_flag, flag_once};
 use crate::locks::lock;
-use crate::numbers::{byte, short};
+use crate::numbers::{byte, long, short};
 use crate::values::value_of;
 use crate::words::{behind_key, is_text, resource_name};
 use vlm_words::names::NameArg;
@@ -91,17 +91,68 @@ impl Keyed for DeclareWords {
     }
 }
 
+/// The keyed words and flags of a cvt line, which an enq line may have too.
+#[derive(Clone, Copy)]
+pub(crate) struct RequestWords {
+    // the number of the status block
+    pub(crate) block: Option<u8>,
+    // the completion routine
+    pub(crate) ast: Option<u32>,
+    // the blocking routine
+    pub(crate) bast: Option<u32>,
+    // the parameter of both routines
+    pub(crate) param: Option<u32>,
+    // the bits of the flags
+    pub(crate) flags: u16,
+}
+
+impl RequestWords {
+    pub(crate) fn new() -> Self
+        ensures { result ≡ no_request_words }
+    {
+        RequestWords {
+            block: None,
+            ast: None,
+            bast: None,
+            param: None,
+            flags: 0,
+        }
+    }
+}
+
+impl Keyed for RequestWords {
+    ghost with_word = { request_word };
+
+    #[tactic(auto, unfolding(crate::specs::Lines::request_word))]
+    fn with_word(self, word: &[u8]) -> Result<Self, LineFault> {
+        if let Some(digits) = behind_key(b"block=", word) {
+            let block = once(self.block, byte(digits))?;
+            Ok(RequestWords { block, ..self })
+        } else if let Some(digits) = behind_key(b"ast=", word) {
+            let ast = once(self.ast, long(digits))?;
+            Ok(RequestWords { ast, ..self })
+        } else if let Some(digits) = behind_key(b"bast=", word) {
+            let bast = once(self.bast, long(digits))?;
+            Ok(RequestWords { bast, ..self })
+        } else if let Some(digits) = behind_key(b"param=", word) {
+            let param = once(self.param, long(digits))?;
+            Ok(RequestWords { param, ..self })
+        } else {
+            let flags = flag_once(self.flags, enq_flag(word))?;
+            Ok(RequestWords { flags, ..self })
+        }
+    }
+}
+
 /// The keyed words and flags of an enq line.
 #[derive(Clone, Copy)]
 pub(crate) struct EnqWords {
     // the name of the resource, not checked yet
     pub(crate) resource: Option<NameArg>,
-    // the number of the status block
-    pub(crate) block: Option<u8>,
     // the lock of the parent resource
     pub(crate) parent: Option<Which>,
-    // the bits of the flags
-    pub(crate) flags: u16,
+    // those that a cvt line has too
+    pub(crate) request: RequestWords,
 }
 
 impl EnqWords {
@@ -110,9 +161,8 @@ impl EnqWords {
     {
         EnqWords {
             resource: None,
-            block: None,
             parent: None,
-            flags: 0,
+            request: RequestWords::new(),
         }
     }
 }
@@ -125,50 +175,12 @@ impl Keyed for EnqWords {
         if let Some(name) = behind_key(b"name=", word) {
             let resource = once(self.resource, resource_name(name))?;
             Ok(EnqWords { resource, ..self })
-        } else if let Some(digits) = behind_key(b"block=", word) {
-            let block = once(self.block, byte(digits))?;
-            Ok(EnqWords { block, ..self })
         } else if let Some(named) = behind_key(b"parent=", word) {
             let parent = once(self.parent, lock(named))?;
             Ok(EnqWords { parent, ..self })
         } else {
-            let flags = flag_once(self.flags, enq_flag(word))?;
-            Ok(EnqWords { flags, ..self })
-        }
-    }
-}
-
-/// The keyed words and flags of a cvt line.
-#[derive(Clone, Copy)]
-pub(crate) struct CvtWords {
-    // the number of the status block
-    pub(crate) block: Option<u8>,
-    // the bits of the flags
-    pub(crate) flags: u16,
-}
-
-impl CvtWords {
-    pub(crate) fn new() -> Self
-        ensures { result ≡ no_cvt_words }
-    {
-        CvtWords {
-            block: None,
-            flags: 0,
-        }
-    }
-}
-
-impl Keyed for CvtWords {
-    ghost with_word = { cvt_word };
-
-    #[tactic(auto, unfolding(crate::specs::Lines::cvt_word))]
-    fn with_word(self, word: &[u8]) -> Result<Self, LineFault> {
-        if let Some(digits) = behind_key(b"block=", word) {
-            let block = once(self.block, byte(digits))?;
-            Ok(CvtWords { block, ..self })
-        } else {
-            let flags = flag_once(self.flags, enq_flag(word))?;
-            Ok(CvtWords { flags, ..self })
+            let request = self.request.with_word(word)?;
+            Ok(EnqWords { request, ..self })
         }
     }
 }

@@ -4,7 +4,7 @@ ghost use Rattle.std.specs.Prelude.{◌≡◌};
 ghost use Rattle.vlm_lines.specs.Lines.{lock_named};
 
 use crate::faults::LineFault;
-use crate::numbers::{byte, number};
+use crate::numbers::{byte, long};
 use crate::words::behind_key;
 use vlm_words::steps::Which;
 
@@ -18,7 +18,7 @@ pub(crate) fn lock(word: &[u8]) -> Result<Which, LineFault>
         let block = byte(digits)?;
         Ok(Which::Block(block))
     } else {
-        let lkid = number(u32::MAX, word)?;
+        let lkid = long(word)?;
         Ok(Which::Id(lkid))
     }
 }

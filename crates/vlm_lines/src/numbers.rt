@@ -43,6 +43,13 @@ pub(crate) fn short(word: &[u8]) -> Result<u16, LineFault>
     Ok(value as u16)
 }
 
+/// A number of at most 4294967295.
+pub(crate) fn long(word: &[u8]) -> Result<u32, LineFault>
+    ensures { result ≡ number_within 4294967295 word.now }
+{
+    number(u32::MAX, word)
+}
+
 // Whether the word is one or more decimal digits.
 #[tactic(auto, using(crate::proofs::Lengths::is_nothing_by_length))]
 fn is_number(word: &[u8]) -> bool

@@ -5,7 +5,7 @@ ghost use Rattle.vlm_lines.specs.Lines.{ast_line, block_command, line_read, line
 
 use crate::cuts;
 use crate::faults::LineFault;
-use crate::keyed::{CvtWords, DeclareWords, EnqWords, Keyed, SetWords};
+use crate::keyed::{DeclareWords, EnqWords, Keyed, RequestWords, SetWords};
 use crate::lines::{Line, NO_PROCESS};
 use crate::locks::lock;
 use crate::numbers::byte;
@@ -101,7 +101,8 @@ fn declaration_of(words: DeclareWords) -> Result<Declaration, LineFault>
     })
 }
 
-// The words of an enq line: NAME MODE name=RES block=N [parent=LOCK] and flags.
+// The words of an enq line: NAME MODE name=RES block=N [parent=LOCK] [ast=N] [bast=N] [param=N] and
+// flags.
 #[tactic(auto, unfolding(crate::specs::Lines::enq_line))]
 fn enq_line(line: &[u8]) -> Result<Line, LineFault>
     ensures { result ≡ enq_line (words_of line.now) }
@@ -112,22 +113,23 @@ fn enq_line(line: &[u8]) -> Result<Line, LineFault>
     let mode = mode(second)?;
     let words = EnqWords::new().with_words(rest)?;
     let resource = words.resource.ok_or(LineFault::WrongWord)?;
-    let block = words.block.ok_or(LineFault::WrongWord)?;
+    let asked = words.request;
+    let block = asked.block.ok_or(LineFault::WrongWord)?;
     let request = NewRequest {
         pid: NO_PROCESS,
         mode,
         name: resource,
         block,
         parent: words.parent.unwrap_or(Which::Id(0)),
-        flags: words.flags,
-        ast: None,
-        bast: None,
-        param: 0,
+        flags: asked.flags,
+        ast: asked.ast,
+        bast: asked.bast,
+        param: asked.param.unwrap_or(0),
     };
     Ok(Line::Enq(name, request))
 }
 
-// The words of a cvt line: NAME LOCK MODE block=N and flags.
+// The words of a cvt line: NAME LOCK MODE block=N [ast=N] [bast=N] [param=N] and flags.
 #[tactic(auto, unfolding(crate::specs::Lines::cvt_line))]
 fn cvt_line(line: &[u8]) -> Result<Line, LineFault>
     ensures { result ≡ cvt_line (words_of line.now) }
@@ -138,7 +140,7 @@ fn cvt_line(line: &[u8]) -> Result<Line, LineFault>
     let lock = lock(second)?;
     let (third, rest) = needed_word(after_lock)?;
     let mode = mode(third)?;
-    let words = CvtWords::new().with_words(rest)?;
+    let words = RequestWords::new().with_words(rest)?;
     let block = words.block.ok_or(LineFault::WrongWord)?;
     let conversion = Conversion {
         pid: NO_PROCESS,
@@ -146,9 +148,9 @@ fn cvt_line(line: &[u8]) -> Result<Line, LineFault>
         mode,
         block,
         flags: words.flags,
-        ast: None,
-        bast: None,
-        param: 0,
+        ast: words.ast,
+        bast: words.bast,
+        param: words.param.unwrap_or(0),
     };
     Ok(Line::Cvt(name, conversion))
 }

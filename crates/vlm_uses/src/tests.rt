@@ -2,7 +2,9 @@
 
 mod asts;
 mod faults;
+mod lines;
 mod lists;
+mod marks;
 mod modes;
 mod records;
 mod refusals;

@@ -1,0 +1,111 @@
+//! Marked numbers in three levels of words.
+
+ghost use Rattle.std.specs.Prelude.{◌≡◌, ◌≤◌, ◌<◌, ◌-◌, ◌++◌, [], false, length, position, replicate, slice_index_or, slice_set, true, IsOk, OnErr, OnOk};
+
+use crate::words::{clear_bit, first_bit, has_bit, set_bit};
+use std::alloc::{AllocError, Global};
+use std::marker::Model;
+
+/// Numbers of 0 to 65,535, each marked or not.
+#[derive(Drop)]
+pub struct Marks {
+    // a bit for each number that there is room for: 1 where it is marked
+    numbers: Vec<u64>,
+    // a bit for each word of the numbers: 1 where it is not 0
+    words: [u64; 16],
+    // a bit for each word above: 1 where it is not 0
+    top: [u64; 1],
+}
+
+impl Model for Marks {
+    ghost use Rattle.std.specs.Prelude.{Bool, List};
+
+    // Whether each number is marked, of those that there is room for.
+    ghost Value = { List Bool };
+
+    ghost use Rattle.vlm_marks.specs.Marks.{IsLevelled, marks_shown};
+
+    ghost view = { marks_shown };
+
+    ghost invariant = { IsLevelled };
+}
+
+impl Marks {
+    /// No marks, and no room for any. It takes no memory.
+    pub fn new(alloc: Global) -> Self
+        ensures { result ≡ [] }
+    {
+        Marks {
+            numbers: Vec::new(alloc),
+            words: [0; 16],
+            top: [0],
+        }
+    }
+
+    /// How many numbers there is room for: all below this one.
+    pub fn room(&self) -> usize
+        ensures { result ≡ length self.now }
+    {
+        64 * self.numbers.len()
+    }
+
+    /// Makes room for the number and all below it, for 64 at a time. Those that are new are not marked. Where memory
+    /// is refused nothing is changed. The memory grows to twice its size, so many calls seldom move the words.
+    pub fn make_room(&mut self, number: u16) -> Result<(), AllocError>
+        ensures room { OnOk result (number < length self.new) }
+        ensures unmarked { OnOk result (self.new
+            ≡ self.old ++ replicate (length self.new - length self.old) false) }
+        ensures succeeds { number < length self.old → IsOk result }
+        ensures refused { OnErr result (self.new ≡ self.old) }
+    {
+        let count = usize::from(number) / 64 + 1;
+        if self.numbers.len() < count {
+            self.numbers.resize(count, 0)?;
+        }
+        Ok(())
+    }
+
+    /// Marks a number.
+    pub fn mark(&mut self, number: u16)
+        requires { number < length self.old }
+        ensures { self.new ≡ slice_set self.old number true }
+    {
+        let number = usize::from(number);
+        set_bit(&mut self.numbers, number);
+        set_bit(&mut self.words, number / 64);
+        set_bit(&mut self.top, number / 64 / 64);
+    }
+
+    /// Takes a number's mark away, if it has one.
+    pub fn unmark(&mut self, number: u16)
+        requires { number < length self.old }
+        ensures { self.new ≡ slice_set self.old number false }
+    {
+        let number = usize::from(number);
+        if !clear_bit(&mut self.numbers, number) {
+            return;
+        }
+        if clear_bit(&mut self.words, number / 64) {
+            clear_bit(&mut self.top, number / 64 / 64);
+        }
+    }
+
+    /// Whether a number is marked. One that there is no room for is not.
+    pub fn has(&self, number: u16) -> bool
+        ensures { result ≡ slice_index_or self.now number false }
+    {
+        has_bit(&self.numbers, usize::from(number))
+    }
+
+    /// The least number that is marked, if one is.
+    pub fn first(&self) -> Option<u16>
+        ensures { result ≡ position (λ is_marked. is_marked) self.now }
+    {
+        if self.top[0] == 0 {
+            return None;
+        }
+        let top = first_bit(&self.top, 0);
+        let word = first_bit(&self.words, top);
+        Some(first_bit(&self.numbers, word) as u16)
+    }
+}

@@ -1,0 +1,58 @@
+//! Marked numbers, and the least of them.
+
+use std::process::Abort;
+use std::test::Fail;
+use vlm_marks::Marks;
+
+// The ends of words, and of 64 words.
+const RISING: [u16; 8] = [0, 1, 63, 64, 4095, 4096, 8191, 65_535];
+
+// Marks these numbers, for which there is room.
+fn mark_all(rt: &impl Abort, marks: &mut Marks, numbers: &[u16]) {
+    for number in numbers {
+        assert!(rt; usize::from(*number) < marks.room());
+        marks.mark(*number);
+        assert!(rt; marks.has(*number));
+    }
+}
+
+// Each number is the first, until its mark is taken away.
+fn unmark_all(rt: &impl Abort, marks: &mut Marks, numbers: &[u16]) {
+    for number in numbers {
+        assert!(rt; marks.first() == Some(*number));
+        assert!(rt; usize::from(*number) < marks.room());
+        marks.unmark(*number);
+        assert!(rt; !marks.has(*number));
+    }
+    assert!(rt; marks.first().is_none());
+}
+
+// In any order they are marked, and the least is found first.
+#[test]
+fn the_least_comes_first(rt: HostRuntime) -> Result<(), Fail> {
+    let mut marks = Marks::new(rt.alloc());
+    assert!(&rt; marks.first().is_none() && !marks.has(0) && marks.room() == 0);
+    marks.make_room(65_535)?;
+    assert!(&rt; marks.room() == 65_536 && marks.first().is_none());
+    mark_all(
+        &rt,
+        &mut marks,
+        &[4096, 65_535, 63, 0, 8191, 64, 4095, 1, 64],
+    );
+    unmark_all(&rt, &mut marks, &RISING);
+    Ok(())
+}
+
+// Marks stay where there is more room.
+#[test]
+fn room_is_made_beside_marks(rt: HostRuntime) -> Result<(), Fail> {
+    let mut marks = Marks::new(rt.alloc());
+    for number in RISING {
+        marks.make_room(number)?;
+        mark_all(&rt, &mut marks, &[number]);
+    }
+    marks.make_room(7)?;
+    assert!(&rt; marks.room() == 65_536 && !marks.has(62) && !marks.has(65_534));
+    unmark_all(&rt, &mut marks, &RISING);
+    Ok(())
+}
