@@ -1,6 +1,7 @@
 -- How what is owed to a process goes with what is due to it.
 use Rattle.std.proofs.Common.{◌≡◌, ◌≢◌, ◌≤◌, ◌<◌, ◌+◌, ◌-◌, ℕ, Bool, true, false, ◌&&◌, List, [], ◌∷◌, map, cond, Option, None, Some, refl, sym, ap, ◌∙◌, subst, inl, inr, arith, eq-eqb, ne_eqb}
-use Rattle.std.specs.Prelude.{◌==◌, is_some}
+use Rattle.std.specs.Prelude.{◌==◌, find, is_some}
+use Rattle.std.specs.Option.{option_map_or}
 use Rattle.std.specs.List.{sum_by}
 use Rattle.std.proofs.lemmas.Bool.{cases_eq}
 use Rattle.std.proofs.lemmas.Option.{same_Some}
@@ -17,9 +18,10 @@ use Rattle.vlm_words.specs.Endings.How.{by_grant}
 use Rattle.vlm_words.specs.Dues.{due_to, one_where, routines_of, row_due}
 use Rattle.vlm_words.specs.Grants.{grant_act, grant_endings, granted_row, is_arming}
 use Rattle.vlm_store.specs.declared.handles.Place.TheVariants.{Queued}
-use Rattle.vlm_store.specs.Records.{DueChanges, DuesStay, HasResource, IsProcess, IsSound, Records, SameButNotices, StoredLock, Stores, due_of, moving, process_at, with_lists}
+use Rattle.vlm_store.specs.Records.{DueChanges, DuesStay, HasResource, IsProcess, IsSound, Records, SameButNotices, StoredLock, StoredProcess, Stores, due_of, leaving, moving, process_at, process_without_lock, resource_with, with_lists, without_lock}
 use Rattle.vlm_store.proofs.Plain.{process_at-stored}
-use Rattle.vlm_locks.specs.Owing.{DueMoves, IsPaid, OwedMoves, blocks_written, completions_queued, completions_spared, due_for}
+use Rattle.vlm_locks.specs.Owing.{DueMoves, IsPaid, OwedMoves, blocks_written, completions_queued, completions_spared, due_for, row_after_end, row_at_end}
+use Rattle.vlm_locks.specs.Withdrawing.{owned_after}
 use Rattle.vlm_locks.proofs.Found.{process_still, process_there}
 use Rattle.vlm_locks.proofs.Weighing.{all, gone_weighs, moved_weighs}
 
@@ -185,3 +187,97 @@ paid_granted s t sound at row res stored there moved owed paid =
     ap (λ (due : ℕ). due + due_to pid row) (due_noticed (with_lists (moving (Queued res Granted) (record { at = at; row = granted_row row })) s) t moved pid)
     ∙ due_moved s sound at row (granted_row row) res Granted stored there pid)
     owed paid
+
+-- ---- a lock is withdrawn
+
+-- what is due for it once its request has ended, and once it is gone
+pub due_after_end : (row : Row) → row_due (row_after_end row) ≡ one_where row.armed
+due_after_end row = omega arith
+
+pub due_at_end : (row : Row) → row_due (row_at_end row) ≡ 0
+due_at_end row = omega arith
+
+-- its request ends: the completion is queued, and what was owed for a blocking routine forgiven
+pub ended_owed : (row : Row) (request : Request) → row.want ≡ Some request → (old mid new : Records) → row_due row ≤ due_of row.pid old
+    → DueChanges row.pid (λ due. due - completions_queued false request) old mid
+    → DueChanges row.pid (λ due. due - one_where (is_some request.blocking)) mid new → OwedMoves row (row_after_end row) old new
+ended_owed row request want old mid new enough queued spared =
+    owed_moves row (row_after_end row) old new refl
+    (omega (
+      arith,
+      owed_own row (λ due. due - completions_queued false request) old mid queued,
+      owed_own row (λ due. due - one_where (is_some request.blocking)) mid new spared,
+      enough,
+      due_before row request want false,
+      due_after_end row,
+    ))
+    (λ pid differs.
+    owed_other row (λ due. due - one_where (is_some request.blocking)) mid new spared pid differs
+    ∙ owed_other row (λ due. due - completions_queued false request) old mid queued pid differs)
+
+-- what is owed for a blocking routine is owed still once the completion is queued
+pub blocking_fits : (row : Row) (request : Request) → row.want ≡ Some request → (old mid : Records) → row_due row ≤ due_of row.pid old
+    → DueChanges row.pid (λ due. due - completions_queued false request) old mid → one_where (is_some request.blocking) ≤ due_of row.pid mid
+blocking_fits row request want old mid enough queued =
+    omega (arith, owed_own row (λ due. due - completions_queued false request) old mid queued, enough, due_before row request want false)
+
+-- where it wants nothing nothing is to come of that
+pub nothing_wanted : (row : Row) → row.want ≡ None → (pid : ℕ) → due_to pid (row_after_end row) ≡ due_to pid row
+nothing_wanted row none pid = ap (λ (o : Option Request). due_to pid (record row { want = o })) (sym none)
+
+-- its warning is forgiven as it goes
+pub spared_owed : (row : Row) (old new : Records) → one_where row.armed ≤ due_of row.pid old → DueChanges row.pid (λ due. due - one_where row.armed) old new
+    → OwedMoves (row_after_end row) (row_at_end row) old new
+spared_owed row old new enough spared =
+    owed_moves (row_after_end row) (row_at_end row) old new refl
+    (omega (arith, owed_own row (λ due. due - one_where row.armed) old new spared, enough, due_after_end row, due_at_end row))
+    (λ pid differs. owed_other row (λ due. due - one_where row.armed) old new spared pid differs)
+
+-- what is owed moves on
+pub owed_then : (a b c : Row) (s t u : Records) → OwedMoves a b s t → OwedMoves b c t u → OwedMoves a c s u
+owed_then a b c s t u first second pid = omega (arith, first pid, second pid)
+
+-- and is the same where the processes are, but for their locks
+pub owed_by_locks : (gone : Bool) (lock : ℕ) (s t : Records) → t.processes ≡ owned_after gone lock s.processes → DuesStay s t
+owed_by_locks true lock s t is pid = rw is (each s.processes)
+  where
+    each : (ps : List StoredProcess)
+        → option_map_or (λ (p : StoredProcess). p.due) (find (λ (p : StoredProcess). p.process.pid == pid) (map (process_without_lock lock) ps)) 0
+        ≡ option_map_or (λ (p : StoredProcess). p.due) (find (λ (p : StoredProcess). p.process.pid == pid) ps) 0
+    each [] = refl
+    each (p ∷ ps) =
+        elim (p.process.pid == pid) as (λ b.
+        option_map_or (λ (x : StoredProcess). x.due) (cond b (Some (process_without_lock lock p)) (find (λ (x : StoredProcess). x.process.pid == pid) (map (process_without_lock lock) ps))) 0
+        ≡ option_map_or (λ (x : StoredProcess). x.due) (cond b (Some p) (find (λ (x : StoredProcess). x.process.pid == pid) ps)) 0) [
+          | true ↦ refl
+          | false ↦ each ps
+        ]
+owed_by_locks false lock s t is pid = rw is refl
+
+-- a part of a withdrawal pays what it leaves due
+pub paid_withdrawn : (was now : Row) (gone : Bool) (lock : ℕ) (s t u v : Records) → IsPaid s → OwedMoves was now s t → SameButNotices s t
+    → u.processes ≡ owned_after false lock t.processes → ((pid : ℕ) → due_for pid u ≡ due_for pid t)
+    → v.processes ≡ owned_after gone lock u.processes → DueMoves was now u v → IsPaid v
+paid_withdrawn was now gone lock s t u v paid owed same left left_due part part_due pid =
+    omega (
+      arith,
+      paid pid,
+      owed pid,
+      due_noticed s t same pid,
+      owed_by_locks false lock t u left pid,
+      left_due pid,
+      owed_by_locks gone lock u v part pid,
+      part_due pid,
+    )
+
+-- a lock that goes leaves nothing due
+pub due_gone : (s : Records) → IsSound s → (at : ℕ) (row : Row) → Stores s at row → (t : Records) → t.resources ≡ map (resource_with (leaving at)) s.resources
+    → t.loose ≡ without_lock at s.loose → DueMoves row (row_at_end row) s t
+due_gone s sound at row stored t resources loose pid =
+    let none : due_to pid (row_at_end row) ≡ 0 = nothing (row.pid == pid) in
+    let gone : due_for pid t ≡ all (weight pid) (with_lists (leaving at) s) = rw (resources, loose) refl in
+    omega (arith, gone, gone_weighs (weight pid) s sound at row stored, none)
+  where
+    nothing : (b : Bool) → cond b (row_due (row_at_end row)) 0 ≡ 0
+    nothing true = refl
+    nothing false = refl

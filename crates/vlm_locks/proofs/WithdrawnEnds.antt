@@ -8,6 +8,7 @@ use Rattle.vlm_words.specs.declared.locks.Request.{Request}
 use Rattle.vlm_words.specs.declared.locks.Row.{Row}
 use Rattle.vlm_words.specs.declared.resources.Queue.{Queue}
 use Rattle.vlm_words.specs.declared.resources.Queue.TheVariants.{Granted, Conversion, Waiting}
+use Rattle.vlm_words.specs.Asts.{completion_asts, processes_after_asts}
 use Rattle.vlm_words.specs.Withdrawals.{Withdrawal, processes_after, queue_endings, withdrawal_endings}
 use Rattle.vlm_words.specs.Endings.{Ending, How, ending_status, row_endings}
 use Rattle.vlm_words.specs.State.{Process, Resource}
@@ -101,8 +102,11 @@ pub withdrawn_ends : (s : Records) (sound : IsSound s) (f : Standing) (standing 
 withdrawn_ends s sound f standing w named queue is =
     ap (λ k. flat_map (withdrawal_endings (record w { lkid = k })) (plain_resources s)) named ∙ ends_are s sound f standing w queue is
 
--- the end of what a row wants writes its status
+-- the end of what a row wants writes its status, and queues its completion
 pub end_written : (ended : End) (cond : Cond) (row : Row) (request : Request) (ps : List Process) → ending_status (how_ended ended) ≡ Some cond
-    → row.want ≡ Some request → processes_after (row_endings (how_ended ended) false row) ps ≡ processes_after_status row.pid request.block cond ps
-end_written Aborted cond row request ps status is = rw is (ap (λ c. processes_after_status row.pid request.block c ps) (same_Some _ _ status))
-end_written Cancelled cond row request ps status is = rw is (ap (λ c. processes_after_status row.pid request.block c ps) (same_Some _ _ status))
+    → row.want ≡ Some request → processes_after (row_endings (how_ended ended) false row) ps
+    ≡ processes_after_asts (completion_asts false request row.lkid row.pid) (processes_after_status row.pid request.block cond ps)
+end_written Aborted cond row request ps status is =
+    rw is (ap (λ c. processes_after_asts (completion_asts false request row.lkid row.pid) (processes_after_status row.pid request.block c ps)) (same_Some _ _ status))
+end_written Cancelled cond row request ps status is =
+    rw is (ap (λ c. processes_after_asts (completion_asts false request row.lkid row.pid) (processes_after_status row.pid request.block c ps)) (same_Some _ _ status))

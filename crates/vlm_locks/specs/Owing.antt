@@ -41,6 +41,10 @@ row_after_end row = record row { want = None }
 abbrev pub row_at_end : Row → Row
 row_at_end row = record row { want = None; armed = false }
 
+-- the row of a withdrawn lock: gone, or with what it wants ended
+abbrev pub left_row : Bool → Row → Row
+left_row gone row = if gone then row_at_end row else row_after_end row
+
 -- how many completions a request queues as it ends at once or later
 abbrev pub completions_queued : Bool → Request → ℕ
 completions_queued at_once request =

@@ -1,47 +1,61 @@
 //! The withdrawal of a lock: it goes, or only its request does.
 
-ghost use Rattle.std.specs.Prelude.{◌≡◌, true, false, [], ◌∷◌, flat_map, map};
+ghost use Rattle.std.specs.Prelude.{◌≡◌, ◌≤◌, ℕ, None, true, false, [], ◌∷◌, flat_map, map};
 ghost use Rattle.vlm_words.specs.Withdrawals.{is_writer, processes_after, resource_after_cancel, resource_after_withdrawals, resource_after_writer, resource_without, value_block_after_writer, withdrawal_endings};
+ghost use Rattle.vlm_words.specs.Dues.{one_where, row_due};
 ghost use Rattle.vlm_words.specs.Endings.{row_endings};
 ghost use Rattle.vlm_words.specs.declared.resources.Queue.{Queue};
 ghost use Rattle.vlm_store.specs.Plain.{plain_processes, plain_resources};
-ghost use Rattle.vlm_store.specs.Records.{HasNoSublocks, SameButNotices, but_notices};
+ghost use Rattle.vlm_store.specs.Records.{HasNoSublocks, SameButNotices, but_notices, due_of};
+ghost use Rattle.vlm_locks.specs.Owing.{DueMoves, IsPaid, OwedMoves, due_for, left_row, row_after_end, row_at_end};
 ghost use Rattle.vlm_locks.specs.Rest.{IsAtRest, LeavesOthers};
 ghost use Rattle.vlm_locks.specs.Standing.{IsStanding};
 ghost use Rattle.vlm_locks.specs.Withdrawals.{how_ended, plain_withdrawal};
 ghost use Rattle.vlm_locks.specs.Withdrawing.{IsPartDone, goes, may_write, owned_after};
 
+use crate::endings::{complete, one_where};
 use crate::finding::Standing;
 use crate::withdrawals::{End, Withdrawal};
-use vlm_procs::end;
+use vlm_procs::{end, forgive};
 use vlm_store::laws::law_records_are_sound;
 use vlm_store::{Place, Store};
 use vlm_words::locks::{Request, Row};
 use vlm_words::modes::Mode;
 use vlm_words::resources::{Queue, ValueBlock};
 
-// What the lock wants ends so. Where it wants nothing, nothing ends.
+// What the lock wants ends so, and its completion AST is queued; of a blocking routine that it names nothing comes.
+// Where it wants nothing, nothing ends.
 fn end_request(store: &mut Store, standing: &Standing, ended: End)
-    requires { IsStanding standing.now store.old }
+    requires standing { IsStanding standing.now store.old }
+    requires owed { row_due standing.now.row ≤ due_of standing.now.row.pid store.old }
     ensures statuses { plain_processes store.new ≡ processes_after
         (row_endings (how_ended ended) false standing.now.row) (plain_processes store.old) }
+    ensures owed { OwedMoves standing.now.row (row_after_end standing.now.row)
+        store.old store.new }
     ensures only_notices { SameButNotices store.old store.new }
 {
+    law_records_are_sound(store);
     let Some(request) = standing.row.want else {
         return;
     };
     let owner = store.lock_record(standing.lock).owner;
     end(store, owner, request.block, ended.status());
+    complete(store, owner, &standing.row, &request, false);
+    forgive(store, owner, one_where(request.blocking.is_some()));
 }
 
 // The request of the lock ends, by the queue in which it stands. A granted lock has none.
 fn end_withdrawn(store: &mut Store, standing: &Standing, withdrawal: &Withdrawal)
     requires standing { IsStanding standing.now store.old }
     requires named { withdrawal.now.lkid ≡ standing.now.row.lkid }
+    requires owed { row_due standing.now.row ≤ due_of standing.now.row.pid store.old }
+    requires granted { standing.now.queue ≡ Queue.Granted → standing.now.row.want ≡ None }
     ensures statuses { plain_processes store.new ≡ processes_after
         (flat_map (withdrawal_endings (plain_withdrawal withdrawal.now))
         (plain_resources store.old))
         (plain_processes store.old) }
+    ensures owed { OwedMoves standing.now.row (row_after_end standing.now.row)
+        store.old store.new }
     ensures only_notices { SameButNotices store.old store.new }
 {
     law_records_are_sound(store);
@@ -50,6 +64,50 @@ fn end_withdrawn(store: &mut Store, standing: &Standing, withdrawal: &Withdrawal
         Queue::Conversion => end_request(store, standing, withdrawal.converting),
         Queue::Waiting => end_request(store, standing, withdrawal.waiting),
     }
+}
+
+// A lock that goes is not warned any more: what is owed for that is forgiven.
+fn spare_warning(store: &mut Store, standing: &Standing, gone: bool)
+    requires standing { IsStanding standing.now store.old }
+    requires owed { one_where standing.now.row.armed ≤ due_of standing.now.row.pid store.old }
+    ensures statuses { plain_processes store.new ≡ plain_processes store.old }
+    ensures owed { OwedMoves (row_after_end standing.now.row) (left_row gone standing.now.row)
+        store.old store.new }
+    ensures only_notices { SameButNotices store.old store.new }
+{
+    law_records_are_sound(store);
+    if !gone {
+        return;
+    }
+    let owner = store.lock_record(standing.lock).owner;
+    forgive(store, owner, one_where(standing.row.armed));
+}
+
+// Whether a withdrawn lock of this queue goes: always, but where it is to stay and holds a mode.
+fn goes(stays: bool, queue: Queue) -> bool
+    ensures { result ≡ goes stays queue }
+{
+    !stays || matches!(queue, Queue::Waiting)
+}
+
+// The request of the lock ends, and what is owed for the lock and does not come is forgiven.
+fn end_notices(store: &mut Store, standing: &Standing, withdrawal: &Withdrawal)
+    requires standing { IsStanding standing.now store.old }
+    requires named { withdrawal.now.lkid ≡ standing.now.row.lkid }
+    requires owed { row_due standing.now.row ≤ due_of standing.now.row.pid store.old }
+    requires granted { standing.now.queue ≡ Queue.Granted → standing.now.row.want ≡ None }
+    ensures statuses { plain_processes store.new ≡ processes_after
+        (flat_map (withdrawal_endings (plain_withdrawal withdrawal.now))
+        (plain_resources store.old))
+        (plain_processes store.old) }
+    ensures owed { OwedMoves standing.now.row
+        (left_row (goes withdrawal.now.stays standing.now.queue) standing.now.row)
+        store.old store.new }
+    ensures only_notices { SameButNotices store.old store.new }
+{
+    end_withdrawn(store, standing, withdrawal);
+    let gone = goes(withdrawal.stays, standing.queue);
+    spare_warning(store, standing, gone);
 }
 
 // Whether what is held may write the value block as its lock is given up.
@@ -95,6 +153,7 @@ fn leave_value(store: &mut Store, standing: &Standing, withdrawal: &Withdrawal)
     ensures left { IsPartDone standing.now (resource_after_writer (plain_withdrawal withdrawal.now))
         false store.old store.new }
     ensures standing { IsStanding standing.now store.new }
+    ensures due { (pid : ℕ) → due_for pid store.new ≡ due_for pid store.old }
 {
     law_records_are_sound(store);
     if may_write(standing) {
@@ -108,8 +167,9 @@ fn remove(store: &mut Store, standing: &Standing)
     requires rest { IsAtRest store.old }
     requires standing { IsStanding standing.now store.old }
     requires childless { HasNoSublocks standing.now.lock store.old }
-    ensures { IsPartDone standing.now (resource_without standing.now.row.lkid) true
+    ensures done { IsPartDone standing.now (resource_without standing.now.row.lkid) true
         store.old store.new }
+    ensures due { DueMoves standing.now.row (row_at_end standing.now.row) store.old store.new }
 {
     law_records_are_sound(store);
     store.remove_lock(standing.lock);
@@ -120,8 +180,9 @@ fn grant_again(store: &mut Store, standing: &Standing)
     requires rest { IsAtRest store.old }
     requires standing { IsStanding standing.now store.old }
     requires converting { standing.now.queue ≡ Queue.Conversion }
-    ensures { IsPartDone standing.now (resource_after_cancel standing.now.row.lkid) false
+    ensures done { IsPartDone standing.now (resource_after_cancel standing.now.row.lkid) false
         store.old store.new }
+    ensures due { DueMoves standing.now.row (row_after_end standing.now.row) store.old store.new }
 {
     law_records_are_sound(store);
     let row = Row {
@@ -141,8 +202,11 @@ fn cancel(store: &mut Store, standing: &Standing)
     requires standing { IsStanding standing.now store.old }
     requires childless { standing.now.queue ≡ Queue.Waiting
         → HasNoSublocks standing.now.lock store.old }
-    ensures { IsPartDone standing.now (resource_after_cancel standing.now.row.lkid)
+    requires granted { standing.now.queue ≡ Queue.Granted → standing.now.row.want ≡ None }
+    ensures done { IsPartDone standing.now (resource_after_cancel standing.now.row.lkid)
         (goes true standing.now.queue) store.old store.new }
+    ensures due { DueMoves standing.now.row
+        (left_row (goes true standing.now.queue) standing.now.row) store.old store.new }
 {
     law_records_are_sound(store);
     match standing.queue {
@@ -152,7 +216,8 @@ fn cancel(store: &mut Store, standing: &Standing)
     }
 }
 
-/// Withdraws a lock. Its request ends, as the withdrawal says of one that waits and of one that converts. Held
+/// Withdraws a lock. Its request ends, as the withdrawal says of one that waits and of one that converts, and its
+/// completion AST is queued. Held
 /// at PW or EX, granted or converting, it leaves a given value in the value block, and may then mark it invalid.
 /// Then it goes from its queue; or where a converting lock is to stay, it goes to the end of the granted queue
 /// and holds what it held, while a waiting one goes and a granted one stays as it is. A lock that goes has no
@@ -163,6 +228,8 @@ pub fn withdraw(store: &mut Store, standing: &Standing, withdrawal: &Withdrawal)
     requires named { withdrawal.now.lkid ≡ standing.now.row.lkid }
     requires childless { goes withdrawal.now.stays standing.now.queue ≡ true
         → HasNoSublocks standing.now.lock store.old }
+    requires granted { standing.now.queue ≡ Queue.Granted → standing.now.row.want ≡ None }
+    requires paid { IsPaid store.old }
     ensures resources { plain_resources store.new
         ≡ map (resource_after_withdrawals (plain_withdrawal withdrawal.now ∷ []))
         (plain_resources store.old) }
@@ -174,8 +241,10 @@ pub fn withdraw(store: &mut Store, standing: &Standing, withdrawal: &Withdrawal)
     ensures own_locks { map but_notices store.new.processes ≡ map but_notices
         (owned_after (goes withdrawal.now.stays standing.now.queue) standing.now.lock
         store.old.processes) }
+    ensures paid { IsPaid store.new }
 {
-    end_withdrawn(store, standing, withdrawal);
+    law_records_are_sound(store);
+    end_notices(store, standing, withdrawal);
     leave_value(store, standing, withdrawal);
     if withdrawal.stays {
         cancel(store, standing);
