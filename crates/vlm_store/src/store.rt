@@ -5,7 +5,9 @@ ghost use Rattle.std.specs.Option.{ForSome};
 ghost use Rattle.vlm_words.specs.declared.locks.Row.{Row};
 ghost use Rattle.vlm_links.specs.Lists.{IsIn};
 ghost use Rattle.vlm_store.specs.declared.handles.Place.{Place};
-ghost use Rattle.vlm_store.specs.Records.{FindsLock, FindsResource, HasNoSublocks, HasPlace, HasResource, HasRoomForLock, HasRoomForResource, IsGivenBack, IsTaken, IsUnchanged, IsParentOf, IsProcess, at_after, first_at, first_resource_at, fits_beside, resource_at_after, resource_at, IsIdle, IsNewKey, IsNewLock, IsRowOf, IsSound, IsStored, Stores, locks_at, moving, new_stored_resource, nothing, on_resource, warns, with_lists, with_lock_room, with_new_lock, with_resource_room, without_resource, without_stored_lock};
+ghost use Rattle.vlm_words.specs.Asts.{has_to_warn};
+ghost use Rattle.vlm_store.specs.Plain.{plain_resource};
+ghost use Rattle.vlm_store.specs.Records.{FindsLock, FindsResource, HasNoSublocks, HasPlace, HasResource, HasRoomForLock, HasRoomForResource, IsGivenBack, IsTaken, IsUnchanged, IsParentOf, IsProcess, at_after, disarming, first_at, first_resource_at, fits_beside, resource_at_after, resource_at, IsIdle, IsNewKey, IsNewLock, IsRowOf, IsSound, IsStored, Stores, locks_at, moving, new_stored_resource, nothing, on_resource, with_lists, with_lock_room, with_new_lock, with_resource_room, without_resource, without_stored_lock};
 
 use crate::handles::{LockAt, Place, ProcAt, ResAt};
 use crate::kin::{join_parent, join_process, leave_parent, leave_process};
@@ -169,6 +171,14 @@ impl Store {
         self.queues.move_to(lock.slot(), &row, to);
     }
 
+    /// A lock is armed no more, and stays where it stands.
+    pub fn disarm(&mut self, lock: LockAt)
+        requires { IsStored lock self.old }
+        ensures { self.new ≡ with_lists (disarming lock) self.old }
+    {
+        self.queues.disarm(lock.slot());
+    }
+
     /// Removes a lock below which no other stands: from its queue, from the locks of its process, and from
     /// those below its parent. Its slot is free again; the index may have to grow for the next
     /// one.
@@ -309,7 +319,8 @@ impl Store {
     /// alone.
     pub fn may_warn(&self, res: ResAt) -> bool
         requires { HasResource res self.now }
-        ensures { IfSome (resource_at res self.now.resources) (λ r. result ≡ warns r) }
+        ensures { IfSome (resource_at res self.now.resources) (λ r. result
+            ≡ has_to_warn (plain_resource r)) }
     {
         self.queues.resources[res.slot()].tally.may_warn()
     }
