@@ -197,6 +197,15 @@ impl Store {
         self.lock_index.swap_remove(&lkid);
     }
 
+    /// Makes room for one more resource, where there is none.
+    pub fn reserve_resource(&mut self) -> Result<(), AllocError>
+        ensures unchanged { IsUnchanged self.old self.new }
+        ensures room { OnOk result (HasRoomForResource self.new) }
+        ensures succeeds { HasRoomForResource self.old → IsOk result }
+    {
+        reserve_one(&mut self.queues.resources, &mut self.resource_index)
+    }
+
     /// Adds a resource without locks, the last in order of making, with a valid value block of zeros. Where
     /// there is no room and memory is refused, or no handle is left, nothing is changed but that there may be
     /// more room.
