@@ -18,12 +18,13 @@ use Rattle.vlm_words.specs.Endings.How.{by_grant}
 use Rattle.vlm_words.specs.Dues.{due_to, one_where, routines_of, row_due}
 use Rattle.vlm_words.specs.Grants.{grant_act, grant_endings, granted_row, is_arming}
 use Rattle.vlm_store.specs.declared.handles.Place.TheVariants.{Queued}
-use Rattle.vlm_store.specs.Records.{DueChanges, DuesStay, HasResource, IsProcess, IsSound, Records, SameButNotices, StoredLock, StoredProcess, Stores, due_of, leaving, moving, process_at, process_without_lock, resource_with, with_lists, without_lock}
+use Rattle.vlm_store.specs.Records.{DueChanges, DuesStay, HasResource, IsProcess, IsSound, Records, SameButNotices, StoredLock, StoredProcess, Stores, due_of, leaving, moving, on_resource, process_at, process_without_lock, resource_with, with_lists, without_lock}
 use Rattle.vlm_store.proofs.Plain.{process_at-stored}
 use Rattle.vlm_locks.specs.Owing.{DueMoves, IsPaid, OwedMoves, blocks_written, completions_queued, completions_spared, due_for, row_after_end, row_at_end}
 use Rattle.vlm_locks.specs.Withdrawing.{owned_after}
 use Rattle.vlm_locks.proofs.Found.{process_still, process_there}
-use Rattle.vlm_locks.proofs.Weighing.{all, gone_weighs, moved_weighs}
+use Rattle.vlm_words.specs.declared.resources.ValueBlock.{ValueBlock}
+use Rattle.vlm_locks.proofs.Weighing.{all, gone_weighs, kept_weighs, moved_weighs}
 
 -- a handle is that of one process
 pub one_process : (s : Records) → IsSound s → (at a b : ℕ) → IsProcess at a s → IsProcess at b s → a ≡ b
@@ -93,10 +94,10 @@ owed_moves was now old new same own others pid =
 
 module _ (row : Row) (request : Request) (want : row.want ≡ Some request) (at_once : Bool) where
   -- what is due for it before and after
-  due_before : row_due row ≡ one_where (is_some request.completion) + one_where (is_some request.blocking) + one_where row.armed
+  pub due_before : row_due row ≡ one_where (is_some request.completion) + one_where (is_some request.blocking) + one_where row.armed
   due_before = ap (λ (o : Option Request). routines_of o + one_where row.armed) want
 
-  due_after : row_due (granted_row row) ≡ one_where (is_some request.blocking)
+  pub due_after : row_due (granted_row row) ≡ one_where (is_some request.blocking)
   due_after = omega (arith, ap (λ (o : Option Request). one_where (is_arming o)) want)
 
   module _ (old mid : Records) (queued : DueChanges row.pid (λ due. due - completions_queued at_once request) old mid) (enough : row_due row ≤ due_of row.pid old) where
@@ -281,3 +282,9 @@ due_gone s sound at row stored t resources loose pid =
     nothing : (b : Bool) → cond b (row_due (row_at_end row)) 0 ≡ 0
     nothing true = refl
     nothing false = refl
+
+-- a value block that is written leaves the locks
+pub due_valued : (s : Records) → IsSound s → (res : ℕ) (block : ValueBlock) (pid : ℕ)
+    → due_for pid (record s { resources = on_resource res (λ r. record r { value_block = block }) s.resources }) ≡ due_for pid s
+due_valued s sound res block pid =
+    ap (λ (due : ℕ). due + sum_by (weight pid) s.loose) (kept_weighs (weight pid) s sound (λ r. record r { value_block = block }) res (λ r. refl))

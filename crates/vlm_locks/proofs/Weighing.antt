@@ -187,11 +187,11 @@ module _ (g : StoredLock → ℕ) (at : ℕ) where
         (λ r among. elim (cases_eq r.at res) [
           | inl same ↦ rw (eq-eqb r.at res same) (own_resource queue res there stands r among same)
           | inr differs ↦ rw (ne_eqb r.at res differs) (omega (
-              arith,
-              elsewhere res queue there stands r among differs Granted,
-              elsewhere res queue there stands r among differs Conversion,
-              elsewhere res queue there stands r among differs Waiting,
-            ))
+            arith,
+            elsewhere res queue there stands r among differs Granted,
+            elsewhere res queue there stands r among differs Conversion,
+            elsewhere res queue there stands r among differs Waiting,
+          ))
         ]) in
         let loose : sum_by (only at g) s.loose ≡ 0 =
         list_absent s.loose (λ other found. no_loose (sound.one_place at other row Loose (Queued res queue) found stands)) in

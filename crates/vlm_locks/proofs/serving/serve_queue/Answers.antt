@@ -13,12 +13,12 @@ loop-lock-smaller c =
 
 pub loop-lock-preserved : goal.loop-lock-preserved
 loop-lock-preserved c = (
-    serving_next c.args.queue c.args.res c.args.value_block.now c.args.store.now c.loop-lock.value_block c.loop-lock.store c.loop-lock.invariant.0
-    c.in-Some.lock c.lock_record.result.now.row c.lock_record.ensures.sound c.in-Some.ensures.first c.lock_record.ensures.only c.requires.queued
-    c.grant.new.value_block c.grant.new.store c.if-not-wanted_fits.ensures c.grant.ensures.moved c.grant.ensures.effect,
-    paid_granted c.loop-lock.store c.grant.new.store c.lock_record.ensures.sound c.in-Some.lock c.lock_record.result.now.row c.args.res
-    c.lock_record.ensures.row (serving_there c.args.queue c.args.res c.args.value_block.now c.args.store.now c.loop-lock.value_block c.loop-lock.store c.loop-lock.invariant.0)
-    c.grant.ensures.moved c.grant.ensures.owed c.loop-lock.invariant.1,
+  serving_next c.args.queue c.args.res c.args.value_block.now c.args.store.now c.loop-lock.value_block c.loop-lock.store c.loop-lock.invariant.0
+      c.in-Some.lock c.lock_record.result.now.row c.lock_record.ensures.sound c.in-Some.ensures.first c.lock_record.ensures.only c.requires.queued
+      c.grant.new.value_block c.grant.new.store c.if-not-wanted_fits.ensures c.grant.ensures.moved c.grant.ensures.effect,
+  paid_granted c.loop-lock.store c.grant.new.store c.lock_record.ensures.sound c.in-Some.lock c.lock_record.result.now.row c.args.res
+      c.lock_record.ensures.row (serving_there c.args.queue c.args.res c.args.value_block.now c.args.store.now c.loop-lock.value_block c.loop-lock.store c.loop-lock.invariant.0)
+      c.grant.ensures.moved c.grant.ensures.owed c.loop-lock.invariant.1,
 )
 
 pub grant-requires-clause-owed : goal.grant-requires-clause-owed
