@@ -1,6 +1,6 @@
 //! The ASTs of processes.
 
-ghost use Rattle.std.specs.Prelude.{◌≡◌, ◌<◌, ◌≤◌, ◌+◌, ◌-◌, ℕ, length, OnErr, OnOk};
+ghost use Rattle.std.specs.Prelude.{◌≡◌, ◌<◌, ◌≤◌, ◌+◌, ◌-◌, ℕ, length, IsOk, OnErr, OnOk};
 ghost use Rattle.vlm_words.specs.Asts.{asts_of, oldest, processes_after_queueing, processes_after_take};
 ghost use Rattle.vlm_store.specs.Plain.{plain_processes};
 ghost use Rattle.vlm_store.specs.Records.{DueChanges, DuesStay, HasProcess, IsProcess, SameButNotices, due_of};
@@ -41,6 +41,7 @@ pub fn owe(store: &mut Store, at: ProcAt, count: usize) -> Result<(), AllocError
     ensures owed { OnOk result ((pid : ℕ) → IsProcess at pid store.old
         → DueChanges pid (λ due. due + count) store.old store.new) }
     ensures only_notices { OnOk result (SameButNotices store.old store.new) }
+    ensures succeeds { count ≡ 0 → IsOk result }
     ensures refused { OnErr result (store.new ≡ store.old) }
 {
     law_records_are_sound(store);

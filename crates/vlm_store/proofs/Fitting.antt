@@ -5,6 +5,7 @@ use Rattle.std.specs.List.{list_all, list_any}
 use Rattle.std.proofs.lemmas.List.Folds.{list_all-append}
 use Rattle.vlm_words.specs.declared.locks.Request.{Request}
 use Rattle.vlm_words.specs.declared.modes.Mode.{Mode}
+use Rattle.vlm_words.specs.Asts.{has_to_warn, is_in_the_way, is_to_warn, keeps_out}
 use Rattle.vlm_words.specs.Grants.{fits, is_beside}
 use Rattle.vlm_words.specs.declared.locks.Row.{Row}
 use Rattle.vlm_words.specs.declared.resources.Queue.TheVariants.{Granted, Conversion, Waiting}
@@ -17,7 +18,8 @@ use Rattle.vlm_tallies.proofs.ModesThatFit.{counts_fit-rows, each_counted-rows, 
 use Rattle.vlm_tallies.proofs.Totals.{total-both, total-nothing}
 use Rattle.vlm_store.specs.declared.handles.Place.TheVariants.{Queued}
 use Rattle.vlm_store.specs.declared.queues.Queues.{Queues}
-use Rattle.vlm_store.specs.Records.{fits_beside, is_in_the_way, keeps_out, rows_of_locks, warns}
+use Rattle.vlm_store.specs.Plain.{plain_resource}
+use Rattle.vlm_store.specs.Records.{fits_beside, rows_of_locks}
 use Rattle.vlm_store.specs.Shown.{handles_at, handles_but, handles_fit, rows, shares}
 use Rattle.vlm_store.specs.Store.{Layout, under_handle, resource_of}
 use Rattle.vlm_store.proofs.Layouts.{under_handle-without}
@@ -96,11 +98,23 @@ module _ (rows : ℕ → Row) (converting waiting : List ℕ) (fit : Mode → Bo
       armed true held = holds held
       armed false held = refl
 
--- counts that are the shares of a resource tell whether some of its locks is to be warned
+-- counts that are the shares of a resource tell which modes are in the way
+pub wanted-rows : (q : Queues) (res : ℕ) (wanted : Mode → ℕ) → ((m : Mode) → wanted m ≡ shares q (weight_of of_wanted m) None res) → (mode : Mode)
+    → counts_fit mode wanted ≡ list_all (λ k. passes (is_compatible mode) (rows q k).want) (handles_at q (Queued res Conversion) ++ handles_at q (Queued res Waiting))
+unfolding counts_fit
+wanted-rows q res wanted wanted_is mode =
+    let granted = handles_at q (Queued res Granted) in
+    let converting = handles_at q (Queued res Conversion) in
+    let waiting = handles_at q (Queued res Waiting) in
+    let of_rows : (m : Mode) → wanted m ≡ total (λ row. one_if (is_mode m row.want)) (rows q) (converting ++ waiting) =
+    λ m. omega (arith, wanted_is m, total-both (λ row. one_if (is_mode m row.want)) (rows q) converting waiting, total-nothing (rows q) granted) in
+    ap (each_counted (is_compatible mode)) (fun_ext of_rows) ∙ each_counted-rows (is_compatible mode) (λ row. row.want) (rows q) (converting ++ waiting)
+
+-- and whether some of its locks is to be warned
 pub shares-warn : (q : Queues) (res : ℕ) (armed wanted : Mode → ℕ) → ((m : Mode) → armed m ≡ shares q (weight_of of_armed m) None res) → ((m : Mode) → wanted m ≡ shares q (weight_of of_wanted m) None res)
     → counts_warn armed wanted
     ≡ list_any (λ row. row.armed && is_in_the_way row.held (map (rows q) (handles_at q (Queued res Conversion))) (map (rows q) (handles_at q (Queued res Waiting)))) (map (rows q) (handles_at q (Queued res Granted)))
-unfolding counts_fit counts_warn
+unfolding counts_warn
 shares-warn q res armed wanted armed_is wanted_is =
     let granted = handles_at q (Queued res Granted) in
     let converting = handles_at q (Queued res Conversion) in
@@ -108,14 +122,10 @@ shares-warn q res armed wanted armed_is wanted_is =
     let fit : Mode → Bool = λ mode. counts_fit mode wanted in
     let of_armed_rows : (m : Mode) → armed m ≡ total (λ row. one_if (is_mode m (armed_request row))) (rows q) granted =
     λ m. omega (arith, armed_is m, total-nothing (rows q) converting, total-nothing (rows q) waiting) in
-    let of_wanted_rows : (m : Mode) → wanted m ≡ total (λ row. one_if (is_mode m row.want)) (rows q) (converting ++ waiting) =
-    λ m. omega (arith, wanted_is m, total-both (λ row. one_if (is_mode m row.want)) (rows q) converting waiting, total-nothing (rows q) granted) in
-    let fit_is : (mode : Mode) → fit mode ≡ list_all (λ k. passes (is_compatible mode) (rows q k).want) (converting ++ waiting) =
-    λ mode. ap (each_counted (is_compatible mode)) (fun_ext of_wanted_rows) ∙ each_counted-rows (is_compatible mode) (λ row. row.want) (rows q) (converting ++ waiting) in
     ap (λ counts. not (each_counted fit counts)) (fun_ext of_armed_rows)
     ∙ ap not (each_counted-rows fit armed_request (rows q) granted)
     ∙ not_all (λ row. passes fit (armed_request row)) (rows q) granted
-    ∙ ap (λ test. list_any test (map (rows q) granted)) (fun_ext (to_warn (rows q) converting waiting fit fit_is))
+    ∙ ap (λ test. list_any test (map (rows q) granted)) (fun_ext (to_warn (rows q) converting waiting fit (wanted-rows q res wanted wanted_is)))
 
 -- and so does a caller see it
 rows-under_handle : (rows : ℕ → Row) (ks : List ℕ) → rows_of_locks (map (under_handle rows) ks) ≡ map rows ks
@@ -124,7 +134,8 @@ rows-under_handle rows (k ∷ ks) = ap (λ rest. rows k ∷ rest) (rows-under_ha
 
 pub warns-handles : (q : Queues) (l : Layout) (r : ℕ) → l.handles ≡ handles_at q → l.rows ≡ rows q
     → list_any (λ row. row.armed && is_in_the_way row.held (map (rows q) (handles_at q (Queued r Conversion))) (map (rows q) (handles_at q (Queued r Waiting)))) (map (rows q) (handles_at q (Queued r Granted)))
-    ≡ warns (resource_of l r)
+    ≡ has_to_warn (plain_resource (resource_of l r))
+unfolding has_to_warn is_to_warn
 warns-handles q l r handles rows_same =
     rw (handles, rows_same)
     (sym (rw (
@@ -132,3 +143,13 @@ warns-handles q l r handles rows_same =
       rows-under_handle (rows q) (handles_at q (Queued r Conversion)),
       rows-under_handle (rows q) (handles_at q (Queued r Waiting)),
     ) refl))
+
+-- a mode that does not fit beside what is wanted is in the way, as a caller sees it
+pub in_the_way-handles : (q : Queues) (l : Layout) (r : ℕ) (wanted : Mode → ℕ) → ((m : Mode) → wanted m ≡ shares q (weight_of of_wanted m) None r) → l.handles ≡ handles_at q → l.rows ≡ rows q
+    → (mode : Mode) → not (counts_fit mode wanted)
+    ≡ (list_any (λ row. keeps_out mode row.want) (rows_of_locks (resource_of l r).converting) || list_any (λ row. keeps_out mode row.want) (rows_of_locks (resource_of l r).waiting))
+in_the_way-handles q l r wanted wanted_is handles rows_same mode =
+    let converting = handles_at q (Queued r Conversion) in
+    let waiting = handles_at q (Queued r Waiting) in
+    in_the_way (rows q) converting waiting (λ m. counts_fit m wanted) (wanted-rows q r wanted wanted_is) mode
+    ∙ rw (handles, rows_same) (sym (rw (rows-under_handle (rows q) converting, rows-under_handle (rows q) waiting) refl))

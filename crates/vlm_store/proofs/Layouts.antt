@@ -11,7 +11,7 @@ use Rattle.vlm_words.specs.declared.resources.Queue.{Queue}
 use Rattle.vlm_words.specs.declared.resources.Queue.TheVariants.{Granted, Conversion, Waiting}
 use Rattle.vlm_store.specs.declared.handles.Place.{Place}
 use Rattle.vlm_store.specs.declared.handles.Place.TheVariants.{Loose, Queued}
-use Rattle.vlm_store.specs.Records.{AreOwnApart, StoredProcess, Records, StoredLock, StoredResource, AreApart, AreOwned, AreProcessesApart, AreResourcesApart, HasPlace, HasResource, IsSound, Stores, at_after, first_at, first_resource_at, resource_at_after, is_place, leaving, locks_at, moving, on_resource, queued, resource_at, resource_with, with_lists, without_lock, without_resource}
+use Rattle.vlm_store.specs.Records.{AreOwnApart, StoredProcess, Records, StoredLock, StoredResource, AreApart, AreOwned, AreProcessesApart, AreResourcesApart, HasPlace, HasResource, IsSound, Stores, at_after, disarmed, disarming, first_at, first_resource_at, resource_at_after, is_place, leaving, locks_at, moving, on_resource, queued, resource_at, resource_with, with_lists, without_lock, without_resource}
 use Rattle.vlm_store.specs.Store.{Layout, under_handle, records_of, resource_of}
 use Rattle.vlm_store.proofs.Places.{place_cases}
 use Rattle.vlm_store.proofs.Records.{is_place-other, is_place-same}
@@ -83,6 +83,20 @@ pub leaving-under_handle : (rows rows' : ℕ → Row) (handles handles' : Place 
     → (p : Place) → map (under_handle rows') (handles' p) ≡ leaving at p (map (under_handle rows) (handles p))
 leaving-under_handle rows rows' handles handles' at others left p =
     ap (map (under_handle rows')) (left p) ∙ under_handle-kept rows rows' (without at (handles p)) (λ k found. others k (IsIn-without at k (handles p) found).1) ∙ sym (under_handle-without rows at (handles p))
+
+pub disarming-under_handle : (rows rows' : ℕ → Row) (at : ℕ) → rows' at ≡ record (rows at) { armed = false } → ((k : ℕ) → k ≢ at → rows' k ≡ rows k)
+    → (p : Place) (ks : List ℕ) → map (under_handle rows') ks ≡ disarming at p (map (under_handle rows) ks)
+disarming-under_handle rows rows' at here others p [] = refl
+disarming-under_handle rows rows' at here others p (k ∷ ks) =
+    elim (cases_eq k at) [
+      | inl same ↦
+          let row : rows' k ≡ record (rows k) { armed = false } = subst (λ x. rows' x ≡ record (rows x) { armed = false }) (sym same) here in
+          rw (eq-eqb k at same)
+          (ap (λ r. record { at = k; row = r } ∷ map (under_handle rows') ks) row ∙ ap (λ rest. disarmed (under_handle rows k) ∷ rest) (disarming-under_handle rows rows' at here others p ks))
+      | inr differs ↦
+          rw (ne_eqb k at differs)
+          (ap (λ r. record { at = k; row = r } ∷ map (under_handle rows') ks) (others k differs) ∙ ap (λ rest. under_handle rows k ∷ rest) (disarming-under_handle rows rows' at here others p ks))
+    ]
 
 module _ (old new : Layout) (change : Place → List StoredLock → List StoredLock) (faces : (r : ℕ) → new.faces r ≡ old.faces r)
     (lists : (p : Place) → map (under_handle new.rows) (new.handles p) ≡ change p (map (under_handle old.rows) (old.handles p))) where

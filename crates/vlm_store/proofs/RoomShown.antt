@@ -5,19 +5,23 @@ use Rattle.std.specs.Option.{option_map}
 use Rattle.slab.specs.Slab.{Slab, get, HasRoomFor}
 use Rattle.indexmap.specs.IndexMap.{IndexMap, get as found, spare}
 use Rattle.vlm_links.specs.declared.link.TheConstants.{LAST_HANDLE}
+use Rattle.vlm_links.proofs.Rings.{same-handles, same-linked}
+use Rattle.vlm_words.specs.Keys.{is_same_key}
+use Rattle.vlm_words.specs.declared.resources.Key.{Key}
 use Rattle.vlm_store.specs.declared.locks.Lock.{Lock}
 use Rattle.vlm_store.specs.declared.processes.Process.{Process}
 use Rattle.vlm_store.specs.declared.queues.Queues.{Queues}
 use Rattle.vlm_store.specs.declared.resources.Resource.{Resource}
 use Rattle.vlm_store.specs.declared.store.Store.TheInside.{Inside}
 use Rattle.vlm_store.specs.Records.{HasRoom, IsGivenBack, IsNoLess, IsTaken, IsUnchanged, Records, Room, Rooms}
-use Rattle.vlm_store.specs.Shown.{but_queued, lkid_of, room_in}
+use Rattle.vlm_store.specs.Shown.{but_queued, lkid_of, order_links, room_in, tally_in}
 use Rattle.vlm_store.proofs.Rooms.{room_has, room_handle, room_slot, room_reserved}
-use Rattle.vlm_store.specs.Store.{Layout, lkid_at, records_of, room_of, tables}
+use Rattle.vlm_store.specs.Store.{Layout, key_at, lkid_at, records_of, room_of, tables}
 use Rattle.vlm_store.specs.Holdings.{holding, processes_of}
 use Rattle.vlm_store.specs.Kept.{IsKept, processes_shown, records_shown, rooms_shown}
 use Rattle.vlm_store.proofs.Indexing.{Indexes-same}
 use Rattle.vlm_store.proofs.Kept.{reserved_placed, reserved_tallied}
+use Rattle.vlm_store.proofs.Making.{reserved_lists, resources_placed, resources_tallied}
 use Rattle.vlm_store.proofs.Kinship.{queued_below, queued_named, queued_owned}
 
 -- the rooms of the three kinds
@@ -137,10 +141,29 @@ lock_room_kept s kept locks index is entries =
       processes = kept.processes;
     }
 
+-- more room for resources does so too
+pub resource_room_kept : (s : Inside) → IsKept s → (resources : Slab Resource) (index : IndexMap Key ℕ _) → resources ≡ record s.queues.resources { capacity = resources.capacity } → index.entries ≡ s.resource_index.entries
+    → IsKept (record s { queues = record s.queues { resources = resources }; resource_index = index })
+resource_room_kept s kept resources index is entries =
+    let same : (r : ℕ) → get resources r ≡ get s.queues.resources r = λ r. ap (λ x. get x r) is in
+    let lists = reserved_lists s.queues resources same in
+    record {
+      placed = resources_placed s.queues resources kept.placed lists;
+      tallied = resources_tallied s.queues resources kept.placed lists (λ r. ap tally_in (same r)) kept.tallied;
+      linked = same-linked order_links s.queues.resources resources s.order kept.linked (λ r _. same r);
+      ordered = λ r there. rw (same-handles order_links s.queues.resources resources s.order kept.linked (λ x _. same x)) (kept.ordered r (rw (same r) at there));
+      locks = kept.locks;
+      resources = Indexes-same (found is_same_key s.resource_index) (found is_same_key index) (key_at s.queues) (key_at (record s.queues { resources = resources }))
+          (λ k. ap (λ es. lookup (is_same_key k) es) entries) (λ r. ap (option_map (λ (x : Resource). x.key)) (same r)) kept.resources;
+      owned = kept.owned;
+      below = kept.below;
+      named = kept.named;
+      processes_linked = kept.processes_linked;
+      processes_ordered = kept.processes_ordered;
+      processes = kept.processes;
+    }
+
 -- a caller sees the room that was made
-pub lock_reserved : {T E : Type 0} (r : Result T E) (l : Layout) (nodes : Slab Lock) (finds : ℕ) → l.room.locks ≡ room_of nodes finds → OnOk r (HasRoomFor nodes 1) → OnOk r (nodes.vacant_key ≤ LAST_HANDLE)
-    → OnOk r (0 < finds) → OnOk r (HasRoom (records_of l).room.locks)
-unfolding records_of
-lock_reserved (Ok x) l nodes finds is slot handle find =
-    subst HasRoom (sym is) (record { slot = room_slot nodes slot; handle = subst (λ k. k ≤ LAST_HANDLE) (sym (room_handle nodes)) handle; find = find })
-lock_reserved (Err e) l nodes finds is slot handle find = tt
+pub has_reserved : {A E T : Type 0} (r : Result A E) (nodes : Slab T) (finds : ℕ) → OnOk r (HasRoomFor nodes 1) → OnOk r (nodes.vacant_key ≤ LAST_HANDLE) → OnOk r (0 < finds) → OnOk r (HasRoom (room_of nodes finds))
+has_reserved (Ok x) nodes finds slot handle find = record { slot = room_slot nodes slot; handle = subst (λ k. k ≤ LAST_HANDLE) (sym (room_handle nodes)) handle; find = find }
+has_reserved (Err e) nodes finds slot handle find = tt

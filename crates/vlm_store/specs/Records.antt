@@ -1,10 +1,8 @@
 -- What the store shows: resources with their queues, locks, and processes with their own locks, each under
 -- its handle.
-use Rattle.std.specs.Prelude.{◌≡◌, ◌<◌, ◌≤◌, ℕ, Bool, true, false, not, ◌==◌, ◌&&◌, ◌||◌, ◌+◌, ◌-◌, count_by, sum_by, List, [], ◌∷◌, ◌++◌, map, filter, find, flat_map, Option, None, Some, IsSome, if◌then◌else◌}
-use Rattle.std.specs.List.{list_any}
+use Rattle.std.specs.Prelude.{◌≡◌, ◌<◌, ◌≤◌, ℕ, Bool, true, false, not, ◌==◌, ◌&&◌, ◌+◌, ◌-◌, count_by, sum_by, List, [], ◌∷◌, ◌++◌, map, filter, find, flat_map, Option, None, Some, IsSome, if◌then◌else◌}
 use Rattle.std.specs.Option.{option_map_or}
 use Rattle.vlm_words.specs.declared.asts.Ast.{Ast}
-use Rattle.vlm_words.specs.declared.locks.Request.{Request}
 use Rattle.vlm_words.specs.declared.locks.Row.{Row}
 use Rattle.vlm_words.specs.declared.modes.Mode.{Mode}
 use Rattle.vlm_words.specs.declared.resources.Domain.{Domain}
@@ -16,7 +14,6 @@ use Rattle.vlm_links.specs.Lists.{IsIn, without}
 use Rattle.vlm_words.specs.Asts.{with_ast}
 use Rattle.vlm_words.specs.Declare.{new_process}
 use Rattle.vlm_words.specs.Grants.{fits}
-use Rattle.vlm_words.specs.Modes.{is_compatible}
 use Rattle.vlm_words.specs.State.{Process}
 use Rattle.vlm_words.specs.ValueBlocks.{new_value_block}
 use Rattle.vlm_words.specs.declared.resources.Key.{Key}
@@ -203,6 +200,14 @@ abbrev pub moving : Place → StoredLock → Place → List StoredLock → List 
 moving to lock place locks =
     if is_place place to then without_lock lock.at locks ++ lock ∷ [] else without_lock lock.at locks
 
+-- a lock that is armed no more
+abbrev pub disarmed : StoredLock → StoredLock
+disarmed k = record k { row = record k.row { armed = false } }
+
+-- a change of lists: the lock of this handle is armed no more, and stays where it stands
+abbrev pub disarming : ℕ → Place → List StoredLock → List StoredLock
+disarming at place locks = map (λ k. if k.at == at then disarmed k else k) locks
+
 -- a change of the resource of this handle alone
 abbrev pub on_resource : ℕ → (StoredResource → StoredResource) → List StoredResource → List StoredResource
 on_resource res change resources = map (λ r. if r.at == res then change r else r) resources
@@ -237,24 +242,6 @@ but_asking (Some asking) locks = without_lock asking locks
 -- the mode fits beside the locks that hold one here, but for the one that asks
 abbrev pub fits_beside : Mode → Option ℕ → StoredResource → Bool
 fits_beside mode asking r = fits mode (rows_of_locks (but_asking asking r.granted)) (rows_of_locks (but_asking asking r.converting))
-
--- what is held keeps the request from being granted
-abbrev pub keeps_out : Mode → Option Request → Bool
-keeps_out mode None = false
-keeps_out mode (Some want) = not (is_compatible want.mode mode)
-
--- what is held, if anything is, keeps some queued request from being granted
-abbrev pub is_in_the_way : Option Request → List Row → List Row → Bool
-is_in_the_way None converting waiting = false
-is_in_the_way (Some held) converting waiting =
-    list_any (λ row. keeps_out held.mode row.want) converting
-    || list_any (λ row. keeps_out held.mode row.want) waiting
-
--- some granted lock of the resource is armed, and in the way of a queued request
-abbrev pub warns : StoredResource → Bool
-warns r =
-    list_any (λ row. row.armed && is_in_the_way row.held (rows_of_locks r.converting) (rows_of_locks r.waiting))
-    (rows_of_locks r.granted)
 
 -- the handle of the first resource, if there is one
 abbrev pub first_resource_at : List StoredResource → Option ℕ

@@ -115,6 +115,7 @@ impl Store {
         ensures owed { OnOk result (self.new ≡ record self.old {
           processes = on_stored at (owed_more count) self.old.processes;
         }) }
+        ensures succeeds { count ≡ 0 → IsOk result }
         ensures refused { OnErr result (self.new ≡ self.old) }
     {
         let alloc = self.alloc;

@@ -1,6 +1,6 @@
 //! The locks in their lists.
 
-ghost use Rattle.std.specs.Prelude.{◌≡◌, ◌≢◌, ◌≤◌, ◌+◌, ℕ, None, Some, [], ◌∷◌, ◌++◌};
+ghost use Rattle.std.specs.Prelude.{◌≡◌, ◌≢◌, ◌≤◌, ◌+◌, ℕ, false, None, Some, [], ◌∷◌, ◌++◌};
 ghost use Rattle.std.specs.Option.{option_map};
 ghost use Rattle.slab.specs.Slab.{get, ContainsKey, HasRoomFor};
 ghost use Rattle.vlm_links.specs.Lists.{Relinks, without};
@@ -151,6 +151,30 @@ impl Queues {
         self.take_off(at);
         self.write_row(at, row);
         self.put_at(at, to);
+        self.count_in(at);
+    }
+
+    /// A lock is armed no more, and stays where it stands.
+    pub(crate) fn disarm(&mut self, at: usize)
+        requires placed { IsPlaced self.old None }
+        requires tallied { IsTallied self.old None }
+        requires present { ContainsKey self.old.locks at }
+        ensures placed { IsPlaced self.new None }
+        ensures tallied { IsTallied self.new None }
+        ensures handles { (place : Place) → handles_at self.new place ≡ handles_at self.old place }
+        ensures row { rows self.new at ≡ record (rows self.old at) { armed = false } }
+        ensures rows { (other : ℕ) → other ≢ at → rows self.new other ≡ rows self.old other }
+        ensures kin { SameBut but_queued self.old.locks self.new.locks }
+        ensures rest { SameBut but_queues self.old.resources self.new.resources }
+        ensures locks_room { room_in self.new.locks ≡ room_in self.old.locks }
+        ensures resources_room { room_in self.new.resources ≡ room_in self.old.resources }
+    {
+        self.count_out(at);
+        let row = Row {
+            armed: false,
+            ..self.locks[at].row
+        };
+        self.write_row(at, &row);
         self.count_in(at);
     }
 

@@ -1,11 +1,14 @@
 //! The store.
 
-ghost use Rattle.std.specs.Prelude.{◌≡◌, [], ◌∷◌, ◌++◌, length, IfOk, IfSome, IsOk, OnErr, OnOk};
+ghost use Rattle.std.specs.Prelude.{◌≡◌, ◌||◌, [], ◌∷◌, ◌++◌, length, IfOk, IfSome, IsOk, OnErr, OnOk};
+ghost use Rattle.std.specs.List.{list_any};
 ghost use Rattle.std.specs.Option.{ForSome};
 ghost use Rattle.vlm_words.specs.declared.locks.Row.{Row};
 ghost use Rattle.vlm_links.specs.Lists.{IsIn};
 ghost use Rattle.vlm_store.specs.declared.handles.Place.{Place};
-ghost use Rattle.vlm_store.specs.Records.{FindsLock, FindsResource, HasNoSublocks, HasPlace, HasResource, HasRoomForLock, HasRoomForResource, IsGivenBack, IsTaken, IsUnchanged, IsParentOf, IsProcess, at_after, first_at, first_resource_at, fits_beside, resource_at_after, resource_at, IsIdle, IsNewKey, IsNewLock, IsRowOf, IsSound, IsStored, Stores, locks_at, moving, new_stored_resource, nothing, on_resource, warns, with_lists, with_lock_room, with_new_lock, with_resource_room, without_resource, without_stored_lock};
+ghost use Rattle.vlm_words.specs.Asts.{has_to_warn, keeps_out};
+ghost use Rattle.vlm_store.specs.Plain.{plain_resource};
+ghost use Rattle.vlm_store.specs.Records.{FindsLock, FindsResource, HasNoSublocks, HasPlace, HasResource, HasRoomForLock, HasRoomForResource, IsGivenBack, IsTaken, IsUnchanged, IsParentOf, IsProcess, at_after, disarming, first_at, first_resource_at, fits_beside, resource_at_after, resource_at, rows_of_locks, IsIdle, IsNewKey, IsNewLock, IsRowOf, IsSound, IsStored, Stores, locks_at, moving, new_stored_resource, nothing, on_resource, with_lists, with_lock_room, with_new_lock, with_resource_room, without_resource, without_stored_lock};
 
 use crate::handles::{LockAt, Place, ProcAt, ResAt};
 use crate::kin::{join_parent, join_process, leave_parent, leave_process};
@@ -169,6 +172,14 @@ impl Store {
         self.queues.move_to(lock.slot(), &row, to);
     }
 
+    /// A lock is armed no more, and stays where it stands.
+    pub fn disarm(&mut self, lock: LockAt)
+        requires { IsStored lock self.old }
+        ensures { self.new ≡ with_lists (disarming lock) self.old }
+    {
+        self.queues.disarm(lock.slot());
+    }
+
     /// Removes a lock below which no other stands: from its queue, from the locks of its process, and from
     /// those below its parent. Its slot is free again; the index may have to grow for the next
     /// one.
@@ -184,6 +195,15 @@ impl Store {
         leave_process(&mut self.processes, &mut self.queues.locks, lock.slot());
         self.queues.remove(lock.slot());
         self.lock_index.swap_remove(&lkid);
+    }
+
+    /// Makes room for one more resource, where there is none.
+    pub fn reserve_resource(&mut self) -> Result<(), AllocError>
+        ensures unchanged { IsUnchanged self.old self.new }
+        ensures room { OnOk result (HasRoomForResource self.new) }
+        ensures succeeds { HasRoomForResource self.old → IsOk result }
+    {
+        reserve_one(&mut self.queues.resources, &mut self.resource_index)
     }
 
     /// Adds a resource without locks, the last in order of making, with a valid value block of zeros. Where
@@ -309,8 +329,20 @@ impl Store {
     /// alone.
     pub fn may_warn(&self, res: ResAt) -> bool
         requires { HasResource res self.now }
-        ensures { IfSome (resource_at res self.now.resources) (λ r. result ≡ warns r) }
+        ensures { IfSome (resource_at res self.now.resources) (λ r. result
+            ≡ has_to_warn (plain_resource r)) }
     {
         self.queues.resources[res.slot()].tally.may_warn()
+    }
+
+    /// Whether a lock that holds this mode keeps some queued request of the resource from being granted. It reads
+    /// counts alone.
+    pub fn is_in_the_way(&self, res: ResAt, held: Mode) -> bool
+        requires { HasResource res self.now }
+        ensures { IfSome (resource_at res self.now.resources) (λ r. result
+            ≡ (list_any (λ row. keeps_out held row.want) (rows_of_locks r.converting)
+            || list_any (λ row. keeps_out held row.want) (rows_of_locks r.waiting))) }
+    {
+        self.queues.resources[res.slot()].tally.keeps_out(held)
     }
 }

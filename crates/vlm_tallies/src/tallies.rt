@@ -1,6 +1,6 @@
 //! The counts of the modes that the locks of a resource hold and want.
 
-ghost use Rattle.std.specs.Prelude.{◌≡◌, ◌+◌, ◌<◌, ◌≤◌, ◌^◌};
+ghost use Rattle.std.specs.Prelude.{◌≡◌, ◌+◌, ◌<◌, ◌≤◌, ◌^◌, not};
 ghost use Rattle.vlm_words.specs.declared.modes.Mode.{Mode};
 ghost use Rattle.vlm_words.specs.Modes.{is_compatible};
 ghost use Rattle.vlm_tallies.specs.Tallies.{Count, armed_request, count_of, counts_fit, counts_warn, how_many, is_mode, none_or, one_if, weight_of};
@@ -128,6 +128,13 @@ impl Tally {
         ensures { result ≡ counts_fit mode (how_many of_held self.now) }
     {
         counts_fit(&self.held, mode)
+    }
+
+    /// Whether the mode is incompatible with some mode that is wanted.
+    pub fn keeps_out(&self, mode: Mode) -> bool
+        ensures { result ≡ not (counts_fit mode (how_many of_wanted self.now)) }
+    {
+        !counts_fit(&self.wanted, mode)
     }
 
     // Whether no granted lock with this mode is armed, or the mode is compatible with every mode that is wanted.

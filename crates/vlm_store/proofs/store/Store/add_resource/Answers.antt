@@ -1,4 +1,4 @@
-use Rattle.vlm_store.proofs.RoomShown.{room_shown, shown_room, is_taken, rooms_are, room_of_same, resource_room_made, has_room}
+use Rattle.vlm_store.proofs.RoomShown.{room_shown, shown_room, is_taken, rooms_are, room_of_same, resource_room_kept, resource_room_made, has_room}
 use Rattle.std.proofs.Common.{◌≡◌, ◌∙◌, ◌++◌, ◌∷◌, [], ℕ, None, IsSome, ap, sym, refl, arith, nat_eq}
 use Rattle.std.specs.Map.{lookup}
 use Rattle.std.specs.Option.{option_map}
@@ -11,12 +11,12 @@ use Rattle.vlm_store.specs.declared.handles.Place.TheVariants.{Queued}
 use Rattle.vlm_store.specs.declared.resources.Resource.{Resource}
 use Rattle.vlm_words.specs.Keys.{is_same_key, is_same_key-Decides}
 use Rattle.vlm_store.specs.Records.{new_stored_resource, HasRoom, IsTaken}
-use Rattle.vlm_store.specs.Shown.{Face, face_in, lkid_of, new_face, order_links, row_in, tally_in, room_in}
+use Rattle.vlm_store.specs.Shown.{Face, face_in, lkid_of, new_face, order_links, row_in, room_in}
 use Rattle.vlm_store.specs.Store.{key_at, lkid_at, resource_of, tables, records_of}
 use Rattle.vlm_store.proofs.Indexing.{Indexes-added, Indexes-same}
 use Rattle.vlm_store.proofs.Kept.{no_resource, on_ok}
 use Rattle.vlm_store.proofs.Layouts.{HasResource-order, resource_made}
-use Rattle.vlm_store.proofs.Making.{face_by_face, face_is, key_by_face, none_handles, there_by_face, whole_grown, reserved_lists, resources_handles, resources_placed, resources_tallied}
+use Rattle.vlm_store.proofs.Making.{face_by_face, face_is, key_by_face, none_handles, there_by_face, whole_grown, reserved_lists, resources_handles, resources_placed}
 use Rattle.vlm_store.specs.Kept.{beside_shown}
 use Rattle.vlm_store.specs.Shown.{but_queued}
 use Rattle.vlm_store.proofs.Kinship.{queued_below, queued_named, queued_owned, queued_processes}
@@ -25,26 +25,7 @@ use Rattle.vlm_store.proofs.Kept.{on_err}
 use Rattle.vlm_store.proofs.store.Store.add_resource.Goals as goal
 
 pub invariant_of-self : goal.invariant_of-self
-invariant_of-self c =
-    let s = c.self.inside in
-    let kept = c.self.invariant in
-    let same : (r : ℕ) → slot_of c.reserve_one.new.records r ≡ slot_of s.queues.resources r = λ r. ap (λ x. slot_of x r) c.reserve_one.ensures.records in
-    let lists = reserved_lists s.queues c.reserve_one.new.records same in
-    record {
-      placed = resources_placed s.queues c.reserve_one.new.records kept.placed lists;
-      tallied = resources_tallied s.queues c.reserve_one.new.records kept.placed lists (λ r. ap tally_in (same r)) kept.tallied;
-      linked = same-linked order_links s.queues.resources c.reserve_one.new.records s.order kept.linked (λ r _. same r);
-      ordered = λ r there. rw (same-handles order_links s.queues.resources c.reserve_one.new.records s.order kept.linked (λ x _. same x)) (kept.ordered r (rw (same r) at there));
-      locks = kept.locks;
-      resources = Indexes-same (get is_same_key s.resource_index) (get is_same_key c.reserve_one.new.index) (key_at s.queues) (key_at (record s.queues { resources = c.reserve_one.new.records }))
-          (λ k. ap (λ es. lookup (is_same_key k) es) c.reserve_one.ensures.index) (λ r. ap (option_map (λ (x : Resource). x.key)) (same r)) kept.resources;
-      owned = kept.owned;
-      below = kept.below;
-      named = kept.named;
-      processes_linked = kept.processes_linked;
-      processes_ordered = kept.processes_ordered;
-      processes = kept.processes;
-    }
+invariant_of-self c = resource_room_kept c.self.inside c.self.invariant c.reserve_one.new.records c.reserve_one.new.index c.reserve_one.ensures.records c.reserve_one.ensures.index
 
 pub add_resource-requires-clause-placed : goal.add_resource-requires-clause-placed
 add_resource-requires-clause-placed c =

@@ -1,3 +1,4 @@
+use Rattle.std.proofs.Common.{arith}
 use Rattle.std.proofs.lemmas.Result.{on_err_weaker, on_ok_weaker}
 use Rattle.vlm_store.proofs.Living.{process_there}
 use Rattle.vlm_store.proofs.Rewriting.{asts_kept, owed_shown, same_shown}
@@ -17,6 +18,9 @@ returns-clause-owed c =
     (on_ok_weaker c.owe.result
     (owed_shown c.self.inside c.self.invariant c.args.at c.index_mut.result.now c.owe.new.self (rw c.slot.ensures at c.index_mut.ensures.value) c.args.count c.owe.ensures.pending)
     c.owe.ensures.due)
+
+pub returns-clause-succeeds : goal.returns-clause-succeeds
+returns-clause-succeeds c none = c.owe.ensures.succeeds (omega (arith, none))
 
 pub returns-clause-refused : goal.returns-clause-refused
 returns-clause-refused c =

@@ -1,9 +1,9 @@
-use Rattle.std.proofs.Common.{refl}
+use Rattle.std.proofs.Common.{OnOk}
 use Rattle.indexmap.specs.IndexMap.{spare}
 use Rattle.vlm_store.specs.Records.{HasRoom}
 use Rattle.vlm_store.specs.Store.{tables}
 use Rattle.vlm_store.specs.Kept.{beside_shown}
-use Rattle.vlm_store.proofs.RoomShown.{has_room, lock_room_kept, lock_room_made, shown_room, lock_reserved}
+use Rattle.vlm_store.proofs.RoomShown.{has_reserved, has_room, lock_room_kept, lock_room_made, room_shown, shown_room}
 use Rattle.vlm_store.proofs.store.Store.reserve_lock.Goals as goal
 
 pub invariant_of-self : goal.invariant_of-self
@@ -24,4 +24,6 @@ pub returns-clause-room : goal.returns-clause-room
 returns-clause-room c =
     let s = c.self.inside in
     let s' = record s { queues = record s.queues { locks = c.reserve_one.new.records }; lock_index = c.reserve_one.new.index } in
-    lock_reserved c.reserve_one.result (tables s'.queues s'.order (beside_shown s')) c.reserve_one.new.records (spare c.reserve_one.new.index) refl c.reserve_one.ensures.slot c.reserve_one.ensures.handle c.reserve_one.ensures.find
+    let l = tables s'.queues s'.order (beside_shown s') in
+    room_shown (λ _ room. OnOk c.reserve_one.result (HasRoom room.locks)) l l
+    (has_reserved c.reserve_one.result c.reserve_one.new.records (spare c.reserve_one.new.index) c.reserve_one.ensures.slot c.reserve_one.ensures.handle c.reserve_one.ensures.find)

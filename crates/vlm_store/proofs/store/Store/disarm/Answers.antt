@@ -1,0 +1,54 @@
+use Rattle.std.proofs.Common.{None, ◌∙◌, ap, map, refl, nat_eq}
+use Rattle.indexmap.specs.IndexMap.{get}
+use Rattle.vlm_words.specs.Keys.{is_same_key}
+use Rattle.vlm_store.specs.Kept.{beside_shown}
+use Rattle.vlm_store.specs.Records.{disarming}
+use Rattle.vlm_store.specs.Shown.{but_queues, handles_at, rows}
+use Rattle.vlm_store.specs.Store.{key_at, lkid_at, tables, under_handle}
+use Rattle.vlm_store.proofs.Indexing.{Indexes-same}
+use Rattle.vlm_store.proofs.Kept.{faces_same}
+use Rattle.vlm_store.proofs.Kinship.{queued_below, queued_lkids, queued_named, queued_owned, queued_processes}
+use Rattle.vlm_store.proofs.Layouts.{disarming-under_handle, lists_changed}
+use Rattle.vlm_store.proofs.Living.{lock_there}
+use Rattle.vlm_store.proofs.Order.{keys_same, order_handles, order_linked, order_whole}
+use Rattle.vlm_store.proofs.RoomShown.{queues_room}
+use Rattle.vlm_store.proofs.store.Store.disarm.Goals as goal
+
+pub disarm-requires-clause-present : goal.disarm-requires-clause-present
+disarm-requires-clause-present c =
+    let stored = rw (← c.self.view_is) at c.requires in
+    rw c.slot.ensures (lock_there c.self.inside c.self.invariant c.args.lock stored.0 stored.1).0
+
+pub invariant_of-self : goal.invariant_of-self
+invariant_of-self c =
+    let s = c.self.inside in
+    let kept = c.self.invariant in
+    let q' = c.disarm.new.self in
+    let rest = c.disarm.ensures.rest in
+    record {
+      placed = c.disarm.ensures.placed;
+      tallied = c.disarm.ensures.tallied;
+      linked = order_linked but_queues (λ r. refl) s.queues.resources q'.resources rest s.order kept.linked;
+      ordered = order_whole but_queues (λ r. refl) s.queues.resources q'.resources rest s.order kept.linked kept.ordered;
+      locks = Indexes-same (get nat_eq s.lock_index) (get nat_eq s.lock_index) (lkid_at s.queues) (lkid_at q') (λ k. refl) (queued_lkids s.processes s.queues.locks q'.locks c.disarm.ensures.kin) kept.locks;
+      resources = Indexes-same (get is_same_key s.resource_index) (get is_same_key s.resource_index) (key_at s.queues) (key_at q') (λ k. refl) (keys_same but_queues (λ r. refl) s.queues.resources q'.resources rest) kept.resources;
+      owned = queued_owned s.processes s.queues.locks q'.locks c.disarm.ensures.kin None kept.owned;
+      below = queued_below s.processes s.queues.locks q'.locks c.disarm.ensures.kin None kept.below;
+      named = queued_named s.processes s.queues.locks q'.locks c.disarm.ensures.kin kept.named;
+      processes_linked = kept.processes_linked;
+      processes_ordered = kept.processes_ordered;
+      processes = kept.processes;
+    }
+
+pub returns : goal.returns
+returns c =
+    let s = c.self.inside in
+    let q' = c.disarm.new.self in
+    let rest = c.disarm.ensures.rest in
+    let is = rw c.slot.ensures at c.disarm.ensures in
+    rw (← c.self.view_is)
+    (lists_changed (tables s.queues s.order (beside_shown s)) (tables q' s.order (beside_shown (record s { queues = q' }))) (disarming c.args.lock) (faces_same s.queues.resources q'.resources rest)
+    (λ p. ap (map (under_handle (rows q'))) (is.handles p) ∙ disarming-under_handle (rows s.queues) (rows q') c.args.lock is.row is.rows p (handles_at s.queues p))
+    (order_handles but_queues (λ r. refl) s.queues.resources q'.resources rest s.order c.self.invariant.linked)
+    (queued_processes s.processes s.queues.locks q'.locks c.disarm.ensures.kin s.process_order c.self.invariant.owned c.self.invariant.below)
+    (queues_room s q' c.disarm.ensures.locks_room c.disarm.ensures.resources_room))
