@@ -1,5 +1,5 @@
 -- What a process is owed, and what is due to it for its locks.
-use Rattle.std.specs.Prelude.{◌≡◌, ◌+◌, ℕ, Bool, false, List, sum_by, Option, None, Some, is_some, if◌then◌else◌}
+use Rattle.std.specs.Prelude.{◌≡◌, ◌==◌, ◌+◌, ℕ, Bool, false, List, sum_by, Option, None, Some, is_some, if◌then◌else◌}
 use Rattle.vlm_words.specs.declared.locks.Request.{Request}
 use Rattle.vlm_words.specs.declared.locks.Row.{Row}
 use Rattle.vlm_words.specs.Asts.{is_synchronous}
@@ -24,6 +24,10 @@ due_for pid s = sum_by (due_on pid) s.resources + due_among pid s.loose
 -- each process is owed the ASTs that are due to it, and no more
 abbrev pub IsPaid : Records → Type 0
 IsPaid s = (pid : ℕ) → due_of pid s ≡ due_for pid s
+
+-- each process is owed the ASTs that are due to it, and this one so many more
+abbrev pub OwesMore : ℕ → ℕ → Records → Type 0
+OwesMore owner more s = (pid : ℕ) → due_of pid s ≡ due_for pid s + (if pid == owner then more else 0)
 
 -- what is due changes as that of one lock, which had this row and has that one
 abbrev pub DueMoves : Row → Row → Records → Records → Type 0

@@ -1,19 +1,23 @@
 //! The conversion of a granted lock.
 
-ghost use Rattle.std.specs.Prelude.{◌≡◌, Some, IfSome};
+ghost use Rattle.std.specs.Prelude.{◌≡◌, ◌≤◌, None, Some, IfSome, IsOk, OnErr, OnOk};
 ghost use Rattle.vlm_words.specs.declared.resources.Queue.{Queue};
 ghost use Rattle.vlm_words.specs.Convert.{converts_at_once, wanting_row};
-ghost use Rattle.vlm_words.specs.Grants.{fits};
+ghost use Rattle.vlm_words.specs.Dues.{routines_of, row_due};
+ghost use Rattle.vlm_words.specs.Grants.{fits, granted_row};
 ghost use Rattle.vlm_words.specs.Rows.{rows_without};
 ghost use Rattle.vlm_store.specs.Plain.{plain_processes, plain_resource};
-ghost use Rattle.vlm_store.specs.Records.{IsSameLock, StoredResource, resource_at, rows_of_locks};
+ghost use Rattle.vlm_store.specs.Records.{DuesStay, IsSameLock, StoredResource, due_of, resource_at, rows_of_locks};
 ghost use Rattle.vlm_locks.specs.Converting.{IsConverted, IsConvertedAtOnce, moved_in, processes_accepted};
+ghost use Rattle.vlm_locks.specs.Owing.{DueMoves, IsPaid, OwedMoves, OwesMore};
 ghost use Rattle.vlm_locks.specs.Rest.{IsAtRest, IsReplaced, LeavesOthers, OtherLocksStay, OwnLocksStay};
 ghost use Rattle.vlm_locks.specs.Standing.{IsStanding};
 
 use crate::endings::end_by_grant;
 use crate::finding::Standing;
 use crate::grants::granted_row;
+use crate::routines::owe_routines;
+use std::alloc::AllocError;
 use vlm_procs::accept;
 use vlm_queue::{can_hold, is_empty};
 use vlm_store::laws::law_records_are_sound;
@@ -63,8 +67,11 @@ fn wanting_row(row: Row, request: &Request) -> Row
 fn convert_now(store: &mut Store, standing: &Standing, row: &Row)
     requires standing { IsStanding standing.now store.old }
     requires row { IsSameLock standing.now.row row.now }
+    requires owed { row_due row.now ≤ due_of row.now.pid store.old }
     ensures granted { IfSome (resource_at standing.now.res store.old.resources)
         (λ r. IsConvertedAtOnce standing.now row.now r store.old store.new) }
+    ensures due { DueMoves standing.now.row (granted_row row.now) store.old store.new }
+    ensures owed { OwedMoves row.now (granted_row row.now) store.old store.new }
     ensures locks { OtherLocksStay standing.now.lock store.old store.new }
 {
     let owner = store.lock_record(standing.lock).owner;
@@ -83,6 +90,8 @@ fn convert_later(store: &mut Store, standing: &Standing, row: Row)
         IsReplaced standing.now.res r (moved_in standing.now row Queue.Conversion r)
         store.old store.new) }
     ensures statuses { plain_processes store.new ≡ plain_processes store.old }
+    ensures due { DueMoves standing.now.row row store.old store.new }
+    ensures dues { DuesStay store.old store.new }
     ensures locks { OtherLocksStay standing.now.lock store.old store.new }
 {
     law_records_are_sound(store);
@@ -98,11 +107,14 @@ fn convert_accepted(store: &mut Store, standing: &Standing, asked: &Request, at_
     requires granted { standing.now.queue ≡ Queue.Granted }
     requires at_once { IfSome (resource_at standing.now.res store.old.resources)
         (λ r. at_once ≡ converts_at_once asked.now standing.now.row.lkid (plain_resource r)) }
+    requires wants_nothing { standing.now.row.want ≡ None }
+    requires owed { OwesMore standing.now.row.pid (routines_of (Some asked.now)) store.old }
     ensures converted { IfSome (resource_at standing.now.res store.old.resources)
         (λ r. IsConverted standing.now asked.now (plain_processes store.old) r
         store.old store.new) }
     ensures beside { LeavesOthers standing.now.res standing.now.lock store.old store.new }
     ensures own_locks { OwnLocksStay store.old store.new }
+    ensures paid { IsPaid store.new }
 {
     law_records_are_sound(store);
     let row = wanting_row(standing.row, asked);
@@ -113,22 +125,36 @@ fn convert_accepted(store: &mut Store, standing: &Standing, asked: &Request, at_
     }
 }
 
-/// Converts a granted lock: its status block is that of a pending request, and then the lock is granted at once,
-/// or it goes to the end of the conversion queue and holds what it held. A grant at once takes effect on the value
-/// block of the resource and on the status block of the request.
-pub fn convert(store: &mut Store, standing: &Standing, asked: &Request, at_once: bool)
+/// Converts a granted lock: its process is owed the ASTs of the routines that the request names, its status block is
+/// that of a pending request, and then the lock is granted at once, or it goes to the end of the conversion queue and
+/// holds what it held. A grant at once takes effect on the value block of the resource and on the status block of the
+/// request. Where memory is refused nothing is changed.
+pub fn convert(
+    store: &mut Store,
+    standing: &Standing,
+    asked: &Request,
+    at_once: bool,
+) -> Result<(), AllocError>
     requires rest { IsAtRest store.old }
     requires standing { IsStanding standing.now store.old }
     requires granted { standing.now.queue ≡ Queue.Granted }
     requires at_once { IfSome (resource_at standing.now.res store.old.resources)
         (λ r. at_once ≡ converts_at_once asked.now standing.now.row.lkid (plain_resource r)) }
-    ensures converted { IfSome (resource_at standing.now.res store.old.resources)
+    requires wants_nothing { standing.now.row.want ≡ None }
+    requires paid { IsPaid store.old }
+    ensures converted { OnOk result (IfSome (resource_at standing.now.res store.old.resources)
         (λ r. IsConverted standing.now asked.now
-        (processes_accepted standing.now asked.now store.old) r store.old store.new) }
-    ensures beside { LeavesOthers standing.now.res standing.now.lock store.old store.new }
-    ensures own_locks { OwnLocksStay store.old store.new }
+        (processes_accepted standing.now asked.now store.old) r store.old store.new)) }
+    ensures beside { OnOk result
+        (LeavesOthers standing.now.res standing.now.lock store.old store.new) }
+    ensures own_locks { OnOk result (OwnLocksStay store.old store.new) }
+    ensures paid { OnOk result (IsPaid store.new) }
+    ensures refused { OnErr result (store.new ≡ store.old) }
+    ensures succeeds { routines_of (Some asked.now) ≡ 0 → IsOk result }
 {
     let owner = store.lock_record(standing.lock).owner;
+    owe_routines(store, owner, Some(*asked))?;
     accept(store, owner, asked.block, standing.row.lkid);
     convert_accepted(store, standing, asked, at_once);
+    Ok(())
 }

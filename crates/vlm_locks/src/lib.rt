@@ -9,6 +9,7 @@ mod endings;
 mod entering;
 mod finding;
 mod grants;
+mod routines;
 mod serving;
 mod sweeping;
 mod withdrawals;

@@ -11,6 +11,8 @@ use Rattle.vlm_locks.proofs.Converted.{converted_later, converted_now}
 use Rattle.vlm_locks.proofs.Moved.{none_joins_by_moving}
 use Rattle.vlm_locks.proofs.Staying.{none_joins_under_block}
 use Rattle.vlm_locks.proofs.Replaced.{others_stay, rests, still_there}
+use Rattle.vlm_locks.proofs.Paying.{paid_at_once, paid_later, wanting_fits}
+use Rattle.vlm_locks.proofs.Stood.{stored}
 use Rattle.vlm_locks.proofs.converting.convert_accepted.Goals as goal
 
 pub returns-then-at_once-clause-converted : goal.returns-then-at_once-clause-converted
@@ -74,3 +76,19 @@ returns-else-at_once-clause-beside c =
       there = still_there f.res standing.resource left s new replaced;
       rest = rests f.res standing.resource left s new replaced (none_joins_by_moving s f standing row Conversion same) c.requires.rest;
     }
+
+pub convert_now-requires-clause-owed : goal.convert_now-requires-clause-owed
+convert_now-requires-clause-owed c =
+    let f = c.args.standing.now in
+    wanting_fits f.row c.args.asked.now c.requires.wants_nothing c.wanting_row-row.result c.wanting_row-row.ensures c.args.store.now c.requires.owed
+    c.law_records_are_sound.ensures f.lock (stored c.args.store.now f c.requires.standing)
+
+pub returns-then-at_once-clause-paid : goal.returns-then-at_once-clause-paid
+returns-then-at_once-clause-paid c =
+    paid_at_once c.args.standing.now.row c.args.asked.now c.requires.wants_nothing c.wanting_row-row.result c.wanting_row-row.ensures c.args.store.now c.requires.owed
+    c.convert_now.new.store c.convert_now.ensures.due c.convert_now.ensures.owed
+
+pub returns-else-at_once-clause-paid : goal.returns-else-at_once-clause-paid
+returns-else-at_once-clause-paid c =
+    paid_later c.args.standing.now.row c.args.asked.now c.requires.wants_nothing c.wanting_row-row.result c.wanting_row-row.ensures c.args.store.now c.requires.owed
+    c.convert_later.new.store c.convert_later.ensures.due c.convert_later.ensures.dues

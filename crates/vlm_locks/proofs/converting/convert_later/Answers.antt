@@ -1,11 +1,13 @@
 use Rattle.vlm_store.specs.declared.handles.Place.TheVariants.{Queued}
 use Rattle.vlm_locks.proofs.OtherLocks.{moved_alone}
-use Rattle.std.proofs.Common.{IfSome, sym, subst}
+use Rattle.std.proofs.Common.{IfSome, refl, sym, subst}
 use Rattle.vlm_words.specs.declared.resources.Queue.TheVariants.{Conversion}
 use Rattle.vlm_locks.specs.Converting.{moved_in}
 use Rattle.vlm_locks.specs.Rest.{IsReplaced, OtherLocksStay}
 use Rattle.vlm_locks.proofs.Moved.{moved_replaced}
 use Rattle.vlm_locks.proofs.Stood.{stored}
+use Rattle.vlm_locks.proofs.Owing.{due_moved}
+use Rattle.vlm_locks.proofs.Paying.{found_there}
 use Rattle.vlm_locks.proofs.converting.convert_later.Goals as goal
 
 pub move_lock-requires-clause-lock : goal.move_lock-requires-clause-lock
@@ -27,3 +29,13 @@ returns-clause-locks c =
     let f = c.args.standing.now in
     subst (OtherLocksStay f.lock c.args.store.now) (sym c.move_lock.ensures)
     (moved_alone (Queued f.res Conversion) (record { at = f.lock; row = c.args.row }) c.args.store.now)
+
+pub returns-clause-due : goal.returns-clause-due
+returns-clause-due c =
+    let f = c.args.standing.now in
+    let s = c.args.store.now in
+    rw c.move_lock.ensures
+    (due_moved s c.law_records_are_sound.ensures f.lock f.row c.args.row f.res Conversion (stored s f c.requires.standing) (found_there s f c.requires.standing))
+
+pub returns-clause-dues : goal.returns-clause-dues
+returns-clause-dues c = rw c.move_lock.ensures (λ pid. refl)

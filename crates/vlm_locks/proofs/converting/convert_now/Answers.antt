@@ -1,6 +1,6 @@
 use Rattle.vlm_locks.specs.Rest.{OtherLocksStay}
 use Rattle.vlm_locks.proofs.OtherLocks.{block_alone, locks_stay_over, moved_alone, statuses_alone}
-use Rattle.std.proofs.Common.{IfSome, IsSome, sym, ap, ◌∙◌, subst}
+use Rattle.std.proofs.Common.{◌≡◌, ◌+◌, ℕ, IfSome, IsSome, sym, ap, ◌∙◌, subst}
 use Rattle.vlm_words.specs.declared.resources.Queue.TheVariants.{Granted}
 use Rattle.vlm_words.specs.declared.locks.Row.{Row}
 use Rattle.vlm_store.specs.declared.handles.Place.TheVariants.{Queued}
@@ -11,6 +11,10 @@ use Rattle.vlm_locks.proofs.Converted.{granted_at_once}
 use Rattle.vlm_locks.proofs.Moved.{moved_replaced}
 use Rattle.vlm_locks.proofs.Replaced.{still_there}
 use Rattle.vlm_locks.proofs.Stood.{owner_is, stored}
+use Rattle.vlm_locks.proofs.Owing.{due_moved, due_noticed}
+use Rattle.vlm_locks.proofs.Paying.{due_valued, found_there}
+use Rattle.vlm_locks.specs.Owing.{due_for}
+use Rattle.vlm_words.specs.Dues.{due_to}
 use Rattle.vlm_locks.proofs.converting.convert_now.Goals as goal
 
 pub lock_record-requires : goal.lock_record-requires
@@ -27,12 +31,16 @@ move_lock-requires-clause-lock c =
     same = record { lkid = c.requires.row.lkid; pid = c.requires.row.pid; parent = c.requires.row.parent }
 
 -- a lock that moves leaves the processes
-pub end_by_grant-requires : goal.end_by_grant-requires
-end_by_grant-requires c =
+pub end_by_grant-requires-clause-process : goal.end_by_grant-requires-clause-process
+end_by_grant-requires-clause-process c =
     let f = c.args.standing.now in
     rw (c.move_lock.ensures)
     (subst (λ pid. IsProcess c.lock_record.result.now.owner pid c.args.store.now) c.requires.row.pid
     (owner_is c.args.store.now c.lock_record.result.now.owner c.lock_record.result.now.row f.row (c.lock_record.ensures.only f.row (stored c.args.store.now f c.requires.standing)) c.lock_record.ensures.owner))
+
+-- and what they are owed
+pub end_by_grant-requires-clause-owed : goal.end_by_grant-requires-clause-owed
+end_by_grant-requires-clause-owed c = rw c.move_lock.ensures c.requires.owed
 
 pub set_value_block-requires : goal.set_value_block-requires
 set_value_block-requires c =
@@ -51,7 +59,9 @@ returns-clause-granted c =
     let row = c.args.row.now in
     subst (λ o. IfSome o (λ r. IsConvertedAtOnce f row r s c.set_value_block.new.self)) (sym standing.found)
     (granted_at_once s c.lock_record.ensures.sound f standing row c.move_lock.new.self c.end_by_grant.new.store c.set_value_block.new.self c.resource_record.result.now.value_block c.end_by_grant.new.value_block
-    c.resource_record.ensures.value_block (c.move_lock.ensures ∙ ap (λ (x : Row). with_lists (moving (Queued f.res Granted) (record { at = f.lock; row = x })) s) c.granted_row.ensures) c.end_by_grant.ensures c.set_value_block.ensures)
+    c.resource_record.ensures.value_block (c.move_lock.ensures ∙ ap (λ (x : Row). with_lists (moving (Queued f.res Granted) (record { at = f.lock; row = x })) s) c.granted_row.ensures)
+    (record { value_block = c.end_by_grant.ensures.value_block; statuses = c.end_by_grant.ensures.statuses; only_notices = c.end_by_grant.ensures.only_notices })
+    c.set_value_block.ensures)
 
 -- the lock alone is moved
 pub returns-clause-locks : goal.returns-clause-locks
@@ -63,3 +73,18 @@ returns-clause-locks c =
     locks_stay_over f.lock c.args.store.now c.end_by_grant.new.store c.set_value_block.new.self
     (locks_stay_over f.lock c.args.store.now c.move_lock.new.self c.end_by_grant.new.store moved (statuses_alone f.lock c.move_lock.new.self c.end_by_grant.new.store c.end_by_grant.ensures.only_notices))
     (subst (OtherLocksStay f.lock c.end_by_grant.new.store) (sym c.set_value_block.ensures) (block_alone f.lock f.res c.end_by_grant.new.value_block c.end_by_grant.new.store))
+
+pub returns-clause-due : goal.returns-clause-due
+returns-clause-due c pid =
+    let f = c.args.standing.now in
+    let s = c.args.store.now in
+    let due : due_for pid c.set_value_block.new.self ≡ due_for pid (with_lists (moving (Queued f.res Granted) (record { at = f.lock; row = granted_row c.args.row.now })) s) =
+    ap (due_for pid) c.set_value_block.ensures ∙ due_valued pid f.res c.end_by_grant.new.value_block c.end_by_grant.new.store
+    ∙ due_noticed c.move_lock.new.self c.end_by_grant.new.store c.end_by_grant.ensures.only_notices pid
+    ∙ ap (due_for pid) c.move_lock.ensures
+    ∙ ap (λ (x : Row). due_for pid (with_lists (moving (Queued f.res Granted) (record { at = f.lock; row = x })) s)) c.granted_row.ensures in
+    ap (λ (n : ℕ). n + due_to pid f.row) due
+    ∙ due_moved s c.lock_record.ensures.sound f.lock f.row (granted_row c.args.row.now) f.res Granted (stored s f c.requires.standing) (found_there s f c.requires.standing) pid
+
+pub returns-clause-owed : goal.returns-clause-owed
+returns-clause-owed c pid = rw (c.set_value_block.ensures) (rw c.move_lock.ensures at c.end_by_grant.ensures.owed pid)

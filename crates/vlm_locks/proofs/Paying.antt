@@ -1,0 +1,99 @@
+-- How what is owed to a process goes with what is due to it, as a lock converts or enters.
+use Rattle.std.proofs.Common.{◌≡◌, ◌≤◌, ◌+◌, ℕ, Bool, true, false, List, [], ◌∷◌, map, cond, Option, None, Some, IsSome, refl, sym, ap, ◌∙◌, subst, inl, inr, arith, eq-eqb, ne_eqb}
+use Rattle.std.specs.Prelude.{◌==◌}
+use Rattle.std.specs.List.{sum_by}
+use Rattle.std.proofs.lemmas.Bool.{cases_eq, cond_both}
+use Rattle.std.proofs.lemmas.List.Sums.{sum_by-cons}
+use Rattle.vlm_words.specs.declared.locks.Request.{Request}
+use Rattle.vlm_words.specs.declared.locks.Row.{Row}
+use Rattle.vlm_words.specs.declared.resources.ValueBlock.{ValueBlock}
+use Rattle.vlm_words.specs.Convert.{wanting_row}
+use Rattle.vlm_words.specs.Dues.{due_to, routines_of, row_due}
+use Rattle.vlm_words.specs.Grants.{granted_row}
+use Rattle.vlm_store.specs.Records.{DueChanges, DuesStay, HasResource, IsSound, Records, SameButNotices, StoredResource, Stores, due_of, on_resource}
+use Rattle.vlm_locks.specs.Owing.{DueMoves, IsPaid, OwedMoves, OwesMore, due_for, due_on}
+use Rattle.vlm_locks.specs.declared.finding.Standing.{Standing}
+use Rattle.vlm_locks.specs.Standing.{IsStanding}
+use Rattle.vlm_locks.proofs.Owing.{due_noticed, due_own, weight}
+use Rattle.vlm_locks.proofs.Weighing.{gone_weighs}
+
+-- ---- the ASTs of routines are owed
+
+-- more is added where it is this process
+added_where : (here : Bool) (due more : ℕ) → cond here (due + more) due ≡ due + cond here more 0
+added_where true due more = refl
+added_where false due more = omega arith
+
+-- a process is owed so many more
+pub owes_more : (owner more : ℕ) (s t : Records) → IsPaid s → DueChanges owner (λ due. due + more) s t → SameButNotices s t → OwesMore owner more t
+owes_more owner more s t paid changes same pid =
+    changes pid ∙ added_where (pid == owner) (due_of pid s) more
+    ∙ ap (λ due. due + cond (pid == owner) more 0) (paid pid ∙ sym (due_noticed s t same pid))
+
+-- and still is where what is owed stays
+pub owes_still : (owner more : ℕ) (s t : Records) → DuesStay s t → SameButNotices s t → OwesMore owner more s → OwesMore owner more t
+owes_still owner more s t stay same owes pid =
+    stay pid ∙ owes pid ∙ ap (λ due. due + cond (pid == owner) more 0) (sym (due_noticed s t same pid))
+
+-- the value block of a resource is nothing that is due
+pub due_valued : (pid res : ℕ) (block : ValueBlock) (s : Records)
+    → due_for pid (record s { resources = on_resource res (λ r. record r { value_block = block }) s.resources }) ≡ due_for pid s
+due_valued pid res block s = ap (λ due. due + sum_by (weight pid) s.loose) (each s.resources)
+  where
+    valued : StoredResource → StoredResource
+    valued r = record r { value_block = block }
+
+    one : (r : StoredResource) → due_on pid (cond (r.at == res) (record r { value_block = block }) r) ≡ due_on pid r
+    one r = cond_both (r.at == res) (record r { value_block = block }) r (λ x. due_on pid x ≡ due_on pid r) (λ _. refl) (λ _. refl)
+
+    each : (rs : List StoredResource) → sum_by (due_on pid) (on_resource res (λ r. record r { value_block = block }) rs) ≡ sum_by (due_on pid) rs
+    each [] = refl
+    each (r ∷ rs) =
+        omega (
+          arith,
+          sum_by-cons (due_on pid) (cond (r.at == res) (record r { value_block = block }) r) (on_resource res (λ x. record x { value_block = block }) rs),
+          sum_by-cons (due_on pid) r rs,
+          one r,
+          each rs,
+        )
+
+-- ---- a conversion
+
+-- the resource of a lock that stands is there
+pub found_there : (s : Records) (f : Standing) → IsStanding f s → HasResource f.res s
+found_there s f standing = subst (λ (o : Option StoredResource). IsSome o) (sym standing.found) refl
+
+-- a lock that wanted nothing has this row as it wants the request
+module _ (was : Row) (request : Request) (nothing : was.want ≡ None) (row : Row) (is : row ≡ wanting_row was request) where
+  -- for it the routines of the request are due beside what was
+  wanting_due : row_due row ≡ row_due was + routines_of (Some request)
+  wanting_due = ap row_due is ∙ omega (arith, ap routines_of nothing)
+
+  wanting_due_to : (pid : ℕ) → due_to pid row ≡ due_to pid was + cond (pid == was.pid) (routines_of (Some request)) 0
+  wanting_due_to pid =
+      ap (due_to pid) is ∙ elim (cases_eq was.pid pid) [
+        | inl same ↦ rw (eq-eqb was.pid pid same, eq-eqb pid was.pid (sym same)) (sym (ap row_due is) ∙ wanting_due)
+        | inr differs ↦ rw (ne_eqb was.pid pid differs, ne_eqb pid was.pid (λ e. differs (sym e))) refl
+      ]
+
+  module _ (s : Records) (owes : OwesMore was.pid (routines_of (Some request)) s) where
+    -- it is owed
+    pub wanting_fits : IsSound s → (at : ℕ) → Stores s at was → row_due row ≤ due_of row.pid s
+    wanting_fits sound at stored =
+        subst (λ (pid : ℕ). row_due row ≤ due_of pid s) (sym (ap (λ (r : Row). r.pid) is))
+        (omega (
+          arith,
+          wanting_due,
+          gone_weighs (weight was.pid) s sound at was stored,
+          due_own was,
+          owes was.pid,
+          ap (λ (b : Bool). cond b (routines_of (Some request)) 0) (eq-eqb was.pid was.pid refl),
+        ))
+
+    -- the lock waits for its conversion
+    pub paid_later : (t : Records) → DueMoves was row s t → DuesStay s t → IsPaid t
+    paid_later t due stay pid = omega (arith, due pid, stay pid, owes pid, wanting_due_to pid)
+
+    -- its conversion is granted at once
+    pub paid_at_once : (t : Records) → DueMoves was (granted_row row) s t → OwedMoves row (granted_row row) s t → IsPaid t
+    paid_at_once t due owed pid = omega (arith, due pid, owed pid, owes pid, wanting_due_to pid)

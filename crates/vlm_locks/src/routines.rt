@@ -1,0 +1,42 @@
+//! The routines of requests, and the ASTs that are owed for them.
+
+ghost use Rattle.std.specs.Prelude.{◌≡◌, ◌+◌, ℕ, IsOk, OnErr, OnOk};
+ghost use Rattle.vlm_words.specs.Dues.{routines_of};
+ghost use Rattle.vlm_store.specs.Plain.{plain_processes};
+ghost use Rattle.vlm_store.specs.Records.{DueChanges, IsProcess, SameButNotices, HasProcess};
+
+use crate::endings::one_where;
+use std::alloc::AllocError;
+use vlm_procs::owe;
+use vlm_store::{ProcAt, Store};
+use vlm_words::locks::Request;
+
+// How many routines a request names, if there is one.
+fn routines_of(want: Option<Request>) -> usize
+    ensures { result ≡ routines_of want }
+{
+    match want {
+        None => 0,
+        Some(request) => {
+            one_where(request.completion.is_some()) + one_where(request.blocking.is_some())
+        }
+    }
+}
+
+/// Owes a process the ASTs of the routines that a request of it names, if there is one. Where memory is refused
+/// nothing is changed.
+pub(crate) fn owe_routines(
+    store: &mut Store,
+    owner: ProcAt,
+    want: Option<Request>,
+) -> Result<(), AllocError>
+    requires { HasProcess owner store.old }
+    ensures processes { OnOk result (plain_processes store.new ≡ plain_processes store.old) }
+    ensures owed { OnOk result ((pid : ℕ) → IsProcess owner pid store.old
+        → DueChanges pid (λ due. due + routines_of want) store.old store.new) }
+    ensures only_notices { OnOk result (SameButNotices store.old store.new) }
+    ensures refused { OnErr result (store.new ≡ store.old) }
+    ensures succeeds { routines_of want ≡ 0 → IsOk result }
+{
+    owe(store, owner, routines_of(want))
+}
