@@ -96,6 +96,7 @@ fn grant_queued(store: &mut Store, res: ResAt)
 {
     let mut value_block = store.resource_record(res).value_block;
     serve_queues(&mut value_block, store, res);
+    law_records_are_sound(store);
     store.set_value_block(res, value_block);
 }
 

@@ -26,6 +26,7 @@ fn sweep_one(store: &mut Store, res: ResAt)
 {
     law_records_are_sound(store);
     serve(store, res);
+    law_records_are_sound(store);
     if is_idle(store, res) {
         store.remove_resource(res);
     }

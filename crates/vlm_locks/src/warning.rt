@@ -89,6 +89,7 @@ fn warn_granted(store: &mut Store, res: ResAt)
     law_records_are_sound(store);
     let mut at = head(store, res, Queue::Granted);
     while let Some(lock) = at {
+        law_records_are_sound(store);
         at = next(store, lock);
         warn_lock(store, res, lock);
     }

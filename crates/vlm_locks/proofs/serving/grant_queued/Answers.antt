@@ -1,4 +1,5 @@
 use Rattle.vlm_locks.proofs.Ended.{granted, still_there}
+use Rattle.vlm_locks.proofs.Owing.{paid_valued}
 use Rattle.vlm_locks.proofs.serving.grant_queued.Goals as goal
 
 pub returns-clause-granted : goal.returns-clause-granted
@@ -12,4 +13,6 @@ returns-clause-there c =
     c.resource_record.ensures.sound c.resource_record.ensures.value_block c.serve_queues.ensures.served c.set_value_block.ensures
 
 pub returns-clause-paid : goal.returns-clause-paid
-returns-clause-paid c = ?
+returns-clause-paid c =
+    paid_valued c.serve_queues.new.store c.set_value_block.new.self c.law_records_are_sound.ensures c.args.res c.serve_queues.new.value_block c.set_value_block.ensures
+    c.serve_queues.ensures.paid
