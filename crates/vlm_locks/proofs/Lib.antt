@@ -21,6 +21,7 @@ pub mod Weighing
 pub mod Owing
 pub mod Warned
 pub mod Paying
+pub mod Ready
 pub mod Swept
 pub mod Touched
 pub mod Withdrawn
