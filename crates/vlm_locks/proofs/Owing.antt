@@ -1,5 +1,5 @@
 -- How what is owed to a process goes with what is due to it.
-use Rattle.std.proofs.Common.{◌≡◌, ◌≢◌, ◌≤◌, ◌<◌, ◌+◌, ◌-◌, ℕ, Bool, true, false, ◌&&◌, List, [], ◌∷◌, map, cond, Option, None, Some, refl, sym, ap, ◌∙◌, subst, inl, inr, arith, eq-eqb, ne_eqb}
+use Rattle.std.proofs.Common.{◌≡◌, ◌≢◌, ◌≤◌, ◌+◌, ◌-◌, ℕ, Bool, true, false, List, [], ◌∷◌, map, cond, Option, None, Some, refl, sym, ap, ◌∙◌, subst, inl, inr, arith, eq-eqb, ne_eqb}
 use Rattle.std.specs.Prelude.{◌==◌, find, is_some}
 use Rattle.std.specs.Option.{option_map_or}
 use Rattle.std.specs.List.{sum_by}
@@ -22,7 +22,7 @@ use Rattle.vlm_store.specs.Records.{DueChanges, DuesStay, HasResource, IsIdle, I
 use Rattle.vlm_store.proofs.Plain.{process_at-stored}
 use Rattle.vlm_locks.specs.Owing.{DueMoves, IsPaid, OwedMoves, blocks_written, completions_queued, completions_spared, due_for, row_after_end, row_at_end}
 use Rattle.vlm_locks.specs.Withdrawing.{owned_after}
-use Rattle.vlm_locks.proofs.Found.{process_still, process_there}
+use Rattle.vlm_locks.proofs.Found.{process_still}
 use Rattle.vlm_words.specs.declared.resources.ValueBlock.{ValueBlock}
 use Rattle.vlm_locks.proofs.Weighing.{all, dropped_weighs, gone_weighs, kept_weighs, moved_weighs}
 

@@ -1,11 +1,10 @@
 -- The granted locks of a resource are warned, one after the other.
-use Rattle.std.proofs.Common.{◌≡◌, ◌≢◌, ◌≤◌, ◌<◌, ◌+◌, ◌-◌, ℕ, suc, Bool, true, false, List, [], ◌∷◌, ◌++◌, map, flat_map, length, cond, Option, None, Some, IfSome, IsSome, append_assoc, refl, sym, ap, ◌∙◌, subst, inl, inr, arith, eq-eqb, ne_eqb}
+use Rattle.std.proofs.Common.{◌≡◌, ◌≢◌, ◌≤◌, ◌<◌, ◌+◌, ◌-◌, ℕ, Bool, true, false, List, [], ◌∷◌, ◌++◌, map, flat_map, length, cond, Option, None, Some, IfSome, IsSome, append_assoc, refl, sym, ap, ◌∙◌, subst, inl, inr, arith, eq-eqb, ne_eqb}
 use Rattle.std.specs.Prelude.{◌==◌}
-use Rattle.std.specs.List.{list_any, sum_by}
+use Rattle.std.specs.List.{list_any}
 use Rattle.std.specs.Option.{option_map_or}
-use Rattle.std.proofs.lemmas.Bool.{and_parts, cases_eq, cond_both, or_parts}
+use Rattle.std.proofs.lemmas.Bool.{and_parts, cases_eq, or_parts}
 use Rattle.std.proofs.lemmas.List.{append-nil, map-append}
-use Rattle.std.proofs.lemmas.List.Sums.{sum_by-cons}
 use Rattle.std.proofs.lemmas.Option.{none-some, same_Some}
 use Rattle.vlm_words.specs.declared.locks.Row.{Row}
 use Rattle.vlm_words.specs.declared.resources.Queue.{Queue}
@@ -15,21 +14,20 @@ use Rattle.vlm_words.specs.Asts.{Queued as QueuedAst, blocking_asts, has_to_warn
 use Rattle.vlm_words.specs.Dues.{due_to, one_where, routines_of, row_due}
 use Rattle.vlm_words.proofs.Warned.{blind_warned}
 use Rattle.vlm_links.specs.Lists.{IsIn}
-use Rattle.vlm_store.specs.declared.handles.Place.{Place}
 use Rattle.vlm_store.specs.declared.handles.Place.TheVariants.{Loose, Queued}
 use Rattle.vlm_store.specs.Plain.{plain_processes, plain_resource}
 use Rattle.vlm_store.specs.Records.{AreApart, DueChanges, HasResource, IsSameLock, IsSound, Records, SameButNotices, StoredLock, StoredResource, Stores, at_after, but_notices, disarmed, disarming, due_of, first_at, locks_at, on_resource, queued, resource_at, resource_with, rows_of_locks, with_lists}
-use Rattle.vlm_store.proofs.Records.{map_on, queue_at, resource_is}
+use Rattle.vlm_store.proofs.Records.{map_on, queue_at}
 use Rattle.vlm_locks.specs.Owing.{DueMoves, IsPaid, OwedMoves, due_for}
-use Rattle.vlm_locks.specs.Rest.{IsReplaced, but_service}
-use Rattle.vlm_locks.specs.Staying.{LocksStay, StandsStill}
+use Rattle.vlm_locks.specs.Rest.{IsReplaced}
+use Rattle.vlm_locks.specs.Staying.{LocksStay}
 use Rattle.vlm_locks.specs.Warning.{IsLockWarned, IsWarned, disarmed_if, disarmed_row, is_warned_on}
-use Rattle.vlm_locks.proofs.Found.{on_resource-own, on_resource-put, resource_alone, resource_at-at, resource_at-put}
+use Rattle.vlm_locks.proofs.Found.{on_resource-own, on_resource-put, resource_alone, resource_at-put}
 use Rattle.vlm_locks.proofs.Owing.{due_noticed, owed_moves, owed_other, owed_own, paid_still, weight}
 use Rattle.vlm_locks.proofs.Replaced.{found_left, left_at}
 use Rattle.vlm_locks.proofs.Staying.{all_stay, same_back, same_lock}
 use Rattle.vlm_locks.proofs.Stood.{resource_among}
-use Rattle.vlm_locks.proofs.Weighing.{all, disarmed_weighs}
+use Rattle.vlm_locks.proofs.Weighing.{disarmed_weighs}
 
 -- ---- one lock
 

@@ -1,4 +1,4 @@
-use Rattle.std.proofs.Common.{◌≡◌, ◌≤◌, ◌<◌, subst, arith}
+use Rattle.std.proofs.Common.{◌≤◌, ◌<◌, subst, arith}
 use Rattle.vlm_store.specs.Records.{due_of}
 use Rattle.vlm_locks.proofs.Found.{process_there}
 use Rattle.vlm_locks.proofs.Owing.{one_process}

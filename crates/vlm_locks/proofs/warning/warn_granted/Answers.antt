@@ -1,7 +1,7 @@
-use Rattle.std.proofs.Common.{◌≡◌, None, Some, sym, ◌∙◌}
+use Rattle.std.proofs.Common.{sym}
 use Rattle.vlm_words.specs.declared.resources.Queue.TheVariants.{Granted}
 use Rattle.vlm_store.specs.declared.handles.Place.TheVariants.{Queued}
-use Rattle.vlm_locks.proofs.Warned.{follows, has_next, if_warned, next_stands, next_stored, now, now_found, paid_warned, warning_begun, warning_next, warning_over, warning_shorter, warning_there}
+use Rattle.vlm_locks.proofs.Warned.{follows, has_next, if_warned, next_stands, next_stored, now, now_found, paid_warned, warning_begun, warning_next, warning_shorter, warning_there}
 use Rattle.vlm_locks.proofs.warning.warn_granted.Goals as goal
 
 pub loop-at-init : goal.loop-at-init
@@ -54,7 +54,7 @@ loop-at-preserved c =
     let r = now c.args.res c.args.store.now s c.loop-at.at w in
     let warned = c.warn_lock.ensures r next.row found stored in (
       warning_next c.args.res c.args.store.now s c.loop-at.at w sound c.in-Some.lock (sym c.in-Some.is) c.warn_lock.new.store warned c.next-at.result
-      (follows c.args.res c.args.store.now s c.loop-at.at w sound c.in-Some.lock (sym c.in-Some.is) c.next-at.result (c.next-at.ensures (Queued c.args.res Granted) next.row stands)),
+          (follows c.args.res c.args.store.now s c.loop-at.at w sound c.in-Some.lock (sym c.in-Some.is) c.next-at.result (c.next-at.ensures (Queued c.args.res Granted) next.row stands)),
       paid_warned s c.warn_lock.new.store sound r c.in-Some.lock next.row stored warned c.loop-at.invariant.1,
     )
 

@@ -1,4 +1,4 @@
-use Rattle.std.proofs.Common.{◌≡◌, true, false, sym, ap, subst, ◌∙◌, Some}
+use Rattle.std.proofs.Common.{sym, ap, subst, ◌∙◌}
 use Rattle.vlm_store.specs.Records.{rows_of_locks}
 use Rattle.vlm_words.specs.Asts.{is_to_warn}
 use Rattle.vlm_locks.specs.Warning.{IsLockWarned}
