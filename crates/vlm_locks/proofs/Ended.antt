@@ -103,8 +103,7 @@ module _ (res : ℕ) (old_block : ValueBlock) (old : Records) (block : ValueBloc
 module _ (res : ℕ) (old s new : Records) (old_block block : ValueBlock) (sound : IsSound old) (told : IfSome (resource_at res old.resources) (λ r. old_block ≡ r.value_block))
     (done : IsServiceOf service res old_block old block s) (wrote : new ≡ record s { resources = on_resource res (λ r. record r { value_block = block }) s.resources }) where
   -- what the ends of the service wrote
-  blocks : blocks_with block (plain_processes s) ≡ blocks_after_service (plain_processes old) (plain_resource done.had)
-  unfolding blocks_after_service
+  blocks : blocks_with block (plain_processes s) ≡ blocks_granted_from (plain_processes old) (plain_resource done.had)
   blocks =
       let was : old_block ≡ done.had.value_block = subst (λ o. IfSome o (λ r. old_block ≡ r.value_block)) done.change.replaced.was told in
       done.effect ∙ ap (λ v. blocks_after (service (plain_resource done.had)).endings (blocks_with v (plain_processes old))) was
@@ -126,14 +125,15 @@ module _ (res : ℕ) (old s new : Records) (old_block block : ValueBlock) (sound
       (sym (ap (resource_at res) resources_are
       ∙ resource_at-put res last old.resources done.had (resource_at-at res s.resources done.left done.change.now) done.change.replaced.was)) refl
 
-  served_here : plain_resource last ≡ resource_after_service (plain_processes old) (plain_resource done.had)
+  served_here : plain_resource last
+      ≡ with_value_block (blocks_granted_from (plain_processes old) (plain_resource done.had)).value_block (service (plain_resource done.had)).resource
   served_here =
       ap (λ x. with_value_block block x) done.resource
       ∙ ap (λ (b : Blocks). with_value_block b.value_block (service (plain_resource done.had)).resource) blocks
 
-  -- the service is done
-  pub served : IsServed res old new
-  served = record {
+  -- the grants of the service are done
+  pub granted : HasGranted res old new
+  granted = record {
     had = done.had;
     left = last;
     replaced = record {
@@ -148,3 +148,38 @@ module _ (res : ℕ) (old s new : Records) (old_block block : ValueBlock) (sound
     resource = served_here;
     statuses = ap plain_processes wrote ∙ ap (λ (b : Blocks). b.processes) blocks;
   }
+
+-- a resource that is granted from and then warned is served
+pub served : (res : ℕ) (old s new : Records) → HasGranted res old s → IfSome (resource_at res s.resources) (λ r. IsWarned res r s new) → IsServed res old new
+unfolding blocks_after_service
+served res old s new granted warned =
+    let found : resource_at res s.resources ≡ Some granted.left = found_left res granted.had granted.left old s granted.replaced in
+    let then : IsWarned res granted.left s new = subst (λ o. IfSome o (λ r. IsWarned res r s new)) found warned in
+    record {
+      had = granted.had;
+      left = then.left;
+      replaced = record {
+        was = granted.replaced.was;
+        same = then.replaced.same ∙ granted.replaced.same;
+        resources =
+            then.replaced.resources ∙ ap (on_resource res (λ r. then.left)) granted.replaced.resources
+            ∙ on_resource-put res granted.left (λ r. then.left) old.resources (left_at res granted.had granted.left old s granted.replaced);
+        loose = then.replaced.loose ∙ granted.replaced.loose;
+        processes = then.replaced.processes ∙ granted.replaced.processes;
+      };
+      stay = stay_twice granted.had granted.left then.left granted.stay then.stay;
+      none_join = stay_twice then.left granted.left granted.had then.none_join granted.none_join;
+      resource = then.resource ∙ ap resource_after_warning granted.resource;
+      statuses =
+          then.statuses
+          ∙ ap (λ r. processes_after_asts (warnings r) (plain_processes s)) granted.resource
+          ∙ ap (processes_after_asts (warnings (service (plain_resource granted.had)).resource)) granted.statuses;
+    }
+
+-- it is there still
+pub served_there : (res : ℕ) (s new : Records) → HasResource res s → IfSome (resource_at res s.resources) (λ r. IsWarned res r s new) → HasResource res new
+served_there res s new there warned = of_found (resource_at res s.resources) refl there warned
+  where
+    of_found : (o : Option StoredResource) → resource_at res s.resources ≡ o → IsSome o → IfSome o (λ r. IsWarned res r s new) → HasResource res new
+    of_found None found none warned = cc
+    of_found (Some r) found some then = subst IsSome (sym (found_left res r then.left s new then.replaced)) refl

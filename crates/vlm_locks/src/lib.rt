@@ -12,6 +12,7 @@ mod grants;
 mod routines;
 mod serving;
 mod sweeping;
+mod warning;
 mod withdrawals;
 mod withdrawing;
 
