@@ -13,7 +13,7 @@ use Rattle.vlm_links.specs.Lists.{IsIn}
 use Rattle.vlm_store.specs.declared.handles.Place.{Place}
 use Rattle.vlm_store.specs.declared.handles.Place.TheVariants.{Loose, Queued}
 use Rattle.vlm_store.specs.Plain.{plain_resource, plain_resources}
-use Rattle.vlm_store.specs.Records.{AreResourcesApart, FindsResource, HasResource, IsProcess, IsSameLock, IsSound, IsStored, Records, Room, Stores, StoredLock, StoredProcess, StoredResource, but_notices, is_queue, joined_by, locks_at, moving, on_resource, process_with_lock, queued, resource_at, resource_with, with_lists, with_lock_room, with_new_lock, without_lock}
+use Rattle.vlm_store.specs.Records.{AreResourcesApart, FindsResource, HasResource, IsProcess, IsSameLock, IsSound, IsStored, Records, Room, Stores, StoredLock, StoredProcess, StoredResource, but_notices, joined_by, locks_at, moving, on_resource, process_with_lock, queued, resource_at, with_lists, with_lock_room, with_new_lock, without_lock}
 use Rattle.vlm_store.proofs.Records.{loose_joins, map_on, resource_is}
 use Rattle.vlm_locks.specs.Rest.{but_service}
 use Rattle.vlm_locks.proofs.Found.{resource_alone, resource_at-put}

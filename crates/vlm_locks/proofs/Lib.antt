@@ -20,6 +20,7 @@ pub mod Parting
 pub mod Weighing
 pub mod Owing
 pub mod Paying
+pub mod Ready
 pub mod Swept
 pub mod Touched
 pub mod Withdrawn

@@ -1,20 +1,27 @@
 -- How what is owed to a process goes with what is due to it, as a lock converts or enters.
-use Rattle.std.proofs.Common.{◌≡◌, ◌≤◌, ◌+◌, ℕ, Bool, true, false, List, [], ◌∷◌, map, cond, Option, None, Some, IsSome, refl, sym, ap, ◌∙◌, subst, inl, inr, arith, eq-eqb, ne_eqb}
+use Rattle.std.proofs.Common.{◌≡◌, ◌≤◌, ◌+◌, ℕ, Bool, true, false, List, [], ◌∷◌, ◌++◌, map, find, cond, Option, None, Some, IsSome, refl, sym, ap, ◌∙◌, subst, inl, inr, arith, eq-eqb, ne_eqb}
 use Rattle.std.specs.Prelude.{◌==◌}
 use Rattle.std.specs.List.{sum_by}
+use Rattle.std.specs.Option.{option_map_or}
 use Rattle.std.proofs.lemmas.Bool.{cases_eq, cond_both}
-use Rattle.std.proofs.lemmas.List.Sums.{sum_by-cons}
+use Rattle.std.proofs.lemmas.List.Sums.{sum_by-append, sum_by-cons}
 use Rattle.vlm_words.specs.declared.locks.Request.{Request}
 use Rattle.vlm_words.specs.declared.locks.Row.{Row}
+use Rattle.vlm_words.specs.declared.resources.Queue.{Queue}
 use Rattle.vlm_words.specs.declared.resources.ValueBlock.{ValueBlock}
 use Rattle.vlm_words.specs.Convert.{wanting_row}
 use Rattle.vlm_words.specs.Dues.{due_to, routines_of, row_due}
 use Rattle.vlm_words.specs.Grants.{granted_row}
-use Rattle.vlm_store.specs.Records.{DueChanges, DuesStay, HasResource, IsSound, Records, SameButNotices, StoredResource, Stores, due_of, on_resource}
+use Rattle.vlm_links.specs.Lists.{IsIn}
+use Rattle.vlm_store.specs.declared.handles.Place.TheVariants.{Loose, Queued}
+use Rattle.vlm_store.specs.Records.{DueChanges, DuesStay, HasResource, IsSound, Records, Room, SameButNotices, StoredProcess, StoredResource, Stores, due_of, moving, on_resource, process_with_lock, with_lists, with_lock_room, with_new_lock}
+use Rattle.vlm_locks.specs.Entering.{IsDueMore, IsReady}
+use Rattle.vlm_locks.specs.declared.entering.Entry.{Entry}
 use Rattle.vlm_locks.specs.Owing.{DueMoves, IsPaid, OwedMoves, OwesMore, due_for, due_on}
 use Rattle.vlm_locks.specs.declared.finding.Standing.{Standing}
 use Rattle.vlm_locks.specs.Standing.{IsStanding}
-use Rattle.vlm_locks.proofs.Owing.{due_noticed, due_own, weight}
+use Rattle.vlm_locks.proofs.Owing.{due_moved, due_noticed, due_own, weight}
+use Rattle.vlm_locks.proofs.Staying.{among_last}
 use Rattle.vlm_locks.proofs.Weighing.{gone_weighs}
 
 -- ---- the ASTs of routines are owed
@@ -97,3 +104,95 @@ module _ (was : Row) (request : Request) (nothing : was.want ≡ None) (row : Ro
     -- its conversion is granted at once
     pub paid_at_once : (t : Records) → DueMoves was (granted_row row) s t → OwedMoves row (granted_row row) s t → IsPaid t
     paid_at_once t due owed pid = omega (arith, due pid, owed pid, owes pid, wanting_due_to pid)
+
+-- ---- an entry
+
+-- a process is owed what it was where another lock joins its own
+same_dues : (owner : ℕ) (parent : Option ℕ) (at pid : ℕ) (ps : List StoredProcess)
+    → option_map_or (λ (p : StoredProcess). p.due) (find (λ (p : StoredProcess). p.process.pid == pid) (map (process_with_lock owner parent at) ps)) 0
+    ≡ option_map_or (λ (p : StoredProcess). p.due) (find (λ (p : StoredProcess). p.process.pid == pid) ps) 0
+same_dues owner parent at pid [] = refl
+same_dues owner parent at pid (p ∷ ps) =
+    elim (cases_eq p.process.pid pid) [
+      | inl same ↦ rw (eq-eqb p.process.pid pid same) refl
+      | inr differs ↦ rw (ne_eqb p.process.pid pid differs) (same_dues owner parent at pid ps)
+    ]
+
+-- a lock is made that stands in no queue
+due_made : (at : ℕ) (row : Row) (owner : ℕ) (parent : Option ℕ) (room : Room) (s : Records) (pid : ℕ)
+    → due_for pid (with_lock_room room (with_new_lock at row owner parent s)) ≡ due_for pid s + due_to pid row
+due_made at row owner parent room s pid =
+    omega (arith, sum_by-append (weight pid) s.loose (record { at = at; row = row } ∷ []), sum_by-cons (weight pid) (record { at = at; row = row }) [])
+
+-- and enters a queue with another row
+module _ (s : Records) (at : ℕ) (row : Row) (owner : ℕ) (parent : Option ℕ) (mid : Records) (room : Room) (added : mid ≡ with_lock_room room (with_new_lock at row owner parent s)) (sound : IsSound mid) where
+  pub due_entered : (now : Row) (res : ℕ) (to : Queue) → HasResource res mid → (new : Records) → new ≡ with_lists (moving (Queued res to) (record { at = at; row = now })) mid → IsDueMore now s new
+  due_entered now res to there new moved = record {
+    due = λ pid.
+        omega (
+          arith,
+          ap (due_for pid) moved,
+          due_moved mid sound at row now res to stored there pid,
+          ap (due_for pid) added,
+          due_made at row owner parent room s pid,
+        );
+    dues = λ pid. ap (due_of pid) moved ∙ ap (due_of pid) added ∙ same_dues owner parent at pid s.processes;
+  }
+    where
+      stored : Stores mid at row
+      stored = (Loose, subst (λ (x : Records). IsIn (record { at = at; row = row }) x.loose) (sym added) (among_last (record { at = at; row = row }) s.loose))
+
+-- for a resource that is made nothing is due
+pub due_with_resource : (r : StoredResource) → ((pid : ℕ) → due_on pid r ≡ 0) → (s : Records) (row : Row) (mid new : Records)
+    → mid.resources ≡ s.resources ++ r ∷ [] → mid.loose ≡ s.loose → mid.processes ≡ s.processes → IsDueMore row mid new → IsDueMore row s new
+due_with_resource r none s row mid new resources loose processes more = record {
+  due = λ pid.
+      omega (
+        arith,
+        more.due pid,
+        ap (sum_by (due_on pid)) resources,
+        sum_by-append (due_on pid) s.resources (r ∷ []),
+        sum_by-cons (due_on pid) r [],
+        none pid,
+        ap (sum_by (weight pid)) loose,
+      );
+  dues = λ pid. more.dues pid ∙ ap (λ (ps : List StoredProcess). option_map_or (λ (p : StoredProcess). p.due) (find (λ (p : StoredProcess). p.process.pid == pid) ps) 0) processes;
+}
+
+-- what is owed stays for a lock that waits
+pub owed_waiting : (row : Row) (s t : Records) → DuesStay s t → OwedMoves row row s t
+owed_waiting row s t stay pid = ap (λ (due : ℕ). due + due_to pid row) (stay pid)
+
+module _ (row : Row) (unarmed : row.armed ≡ false) where
+  new_due : row_due row ≡ routines_of row.want
+  new_due = ap (λ (b : Bool). routines_of row.want + cond b 1 0) unarmed ∙ omega arith
+
+  new_due_to : (pid : ℕ) → due_to pid row ≡ cond (pid == row.pid) (routines_of row.want) 0
+  new_due_to pid =
+      elim (cases_eq row.pid pid) [
+        | inl same ↦ rw (eq-eqb row.pid pid same, eq-eqb pid row.pid (sym same)) new_due
+        | inr differs ↦ rw (ne_eqb row.pid pid differs, ne_eqb pid row.pid (λ e. differs (sym e))) refl
+      ]
+
+  module _ (s : Records) (owes : OwesMore row.pid (routines_of row.want) s) (last : Row) (t : Records) (more : IsDueMore last s t) where
+    -- what is due for a new lock is owed
+    pub new_fits : row_due row ≤ due_of row.pid t
+    new_fits =
+        omega (
+          arith,
+          new_due,
+          more.dues row.pid,
+          owes row.pid,
+          ap (λ (b : Bool). cond b (routines_of row.want) 0) (eq-eqb row.pid row.pid refl),
+        )
+
+    -- and once it has entered, so is what is due for it then
+    pub paid_entered : (u : Records) → SameButNotices t u → OwedMoves row last t u → IsPaid u
+    paid_entered u same owed pid =
+        omega (arith, due_noticed t u same pid, owed pid, more.due pid, more.dues pid, owes pid, new_due_to pid)
+
+-- each process is owed what was due to it, and that of the entry the ASTs of the routines that its request names
+pub owes_ready : (e : Entry) (s t : Records) → IsReady e s t → IsPaid s → OwesMore e.row.pid (routines_of e.row.want) t
+owes_ready e s t ready paid =
+    owes_more e.row.pid (routines_of e.row.want) (record s { room = t.room }) t paid ready.owed
+    (record { resources = ready.resources; loose = ready.loose; processes = ready.processes; room = refl })

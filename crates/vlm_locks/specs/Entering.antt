@@ -1,7 +1,8 @@
 -- The entry of a new lock into the queues of a resource.
-use Rattle.std.specs.Prelude.{◌≡◌, ℕ, true, List, [], find, map, unwrap_or, IfSome, Option, None, Some, if◌then◌else◌}
+use Rattle.std.specs.Prelude.{◌≡◌, ◌+◌, ℕ, true, List, [], find, map, unwrap_or, IfSome, Option, None, Some, if◌then◌else◌}
 use Rattle.vlm_words.specs.declared.locks.Request.{Request}
 use Rattle.vlm_words.specs.declared.locks.Row.{Row}
+use Rattle.vlm_words.specs.Dues.{due_to, routines_of}
 use Rattle.vlm_words.specs.Effects.{blocks_after, blocks_with}
 use Rattle.vlm_words.specs.Enqueue.{resources_after_entry}
 use Rattle.vlm_words.specs.Grants.{grant_endings}
@@ -10,8 +11,9 @@ use Rattle.vlm_words.specs.State.{Process, Resource}
 use Rattle.vlm_words.specs.StatusBlocks.{processes_after_acceptance}
 use Rattle.vlm_words.specs.declared.resources.ValueBlock.{ValueBlock}
 use Rattle.vlm_store.specs.Plain.{plain_processes, plain_resources}
-use Rattle.vlm_store.specs.Records.{HasResource, HasRoomForLock, HasRoomForResource, IsParentOf, IsProcess, IsSameLock, IsStored, Records, Stores, but_notices, process_with_lock, resource_at}
+use Rattle.vlm_store.specs.Records.{DueChanges, DuesStay, HasResource, HasRoomForLock, HasRoomForResource, IsParentOf, IsProcess, IsSameLock, IsStored, Records, Stores, but_notices, process_with_lock, resource_at}
 use Rattle.vlm_locks.specs.declared.entering.Entry.{Entry}
+use Rattle.vlm_locks.specs.Owing.{due_for}
 use Rattle.vlm_locks.specs.Rest.{IsAtRest, OtherLocksStay, OthersStay}
 use Rattle.vlm_locks.specs.Rising.{IsAboveAll}
 
@@ -28,10 +30,27 @@ pub record MayEnter (e : Entry) (s : Records) : Type 0 where
   pub parent : IsParentOf e.parent e.row s
   pub keyed : IsKeyed e.site.domain e.site.key
 
--- there is room for the lock, and for its resource where none is there
+-- there is room for the lock, and for its resource where none is there, and its request names no routine
 pub record HasRoomToEnter (e : Entry) (s : Records) : Type 0 where
   pub lock : HasRoomForLock s
   pub resource : e.res ≡ None → HasRoomForResource s
+  pub asts : routines_of e.row.want ≡ 0
+
+-- there is room for the lock, and for its resource where none is there, and its process is owed the ASTs of the routines
+-- that its request names; nothing else is changed
+pub record IsReady (e : Entry) (old new : Records) : Type 0 where
+  pub resources : new.resources ≡ old.resources
+  pub loose : new.loose ≡ old.loose
+  pub processes : map but_notices new.processes ≡ map but_notices old.processes
+  pub statuses : plain_processes new ≡ plain_processes old
+  pub lock : HasRoomForLock new
+  pub resource : e.res ≡ None → HasRoomForResource new
+  pub owed : DueChanges e.row.pid (λ due. due + routines_of e.row.want) old new
+
+-- more is due, by what is due for a new lock with this row, and what is owed stays
+pub record IsDueMore (row : Row) (old new : Records) : Type 0 where
+  pub due : (pid : ℕ) → due_for pid new ≡ due_for pid old + due_to pid row
+  pub dues : DuesStay old new
 
 -- the processes once what a lock wants is accepted: its status block is that of a pending request
 abbrev pub processes_accepted : Option Request → Row → List Process → List Process

@@ -1,14 +1,17 @@
 //! The entry of a new lock.
 
-ghost use Rattle.std.specs.Prelude.{◌≡◌, Some, IfOk, IfSome, IsOk, OnErr, OnOk};
+ghost use Rattle.std.specs.Prelude.{◌≡◌, ◌≤◌, false, None, Some, IfOk, IfSome, IsOk, OnErr, OnOk};
+ghost use Rattle.vlm_words.specs.Dues.{routines_of, row_due};
 ghost use Rattle.vlm_words.specs.Enqueue.{is_at_once, resources_after_entry};
 ghost use Rattle.vlm_store.specs.Plain.{plain_processes, plain_resource, plain_resources};
-ghost use Rattle.vlm_store.specs.Records.{FindsResource, HasResource, HasRoomForLock, HasRoomForResource, IsNewKey, IsProcess, IsUnchanged, SameButNotices, StoredResource, resource_at};
-ghost use Rattle.vlm_locks.specs.Entering.{HasRoomToEnter, IsAdded, IsEntered, MayEnter, processes_accepted, processes_entered, resource_for};
+ghost use Rattle.vlm_store.specs.Records.{DuesStay, FindsResource, HasResource, HasRoomForLock, HasRoomForResource, IsNewKey, IsProcess, IsUnchanged, SameButNotices, StoredResource, due_of, resource_at};
+ghost use Rattle.vlm_locks.specs.Entering.{HasRoomToEnter, IsAdded, IsDueMore, IsEntered, IsReady, MayEnter, processes_accepted, processes_entered, resource_for};
+ghost use Rattle.vlm_locks.specs.Owing.{IsPaid, OwedMoves, OwesMore, entered_row};
 ghost use Rattle.vlm_locks.specs.Rest.{IsAtRest, OthersStay};
 
 use crate::endings::end_by_grant;
 use crate::grants::granted_row;
+use crate::routines::owe_routines;
 use std::alloc::AllocError;
 use vlm_procs::accept;
 use vlm_queue::{can_hold, is_empty};
@@ -56,6 +59,8 @@ fn enter_at(store: &mut Store, entry: &Entry, res: ResAt) -> Result<(), AllocErr
     requires may_enter { MayEnter entry.now store.old }
     requires found { FindsResource store.old entry.now.site.key (Some res) }
     ensures entered { OnOk result (IsEntered entry.now res store.old store.new) }
+    ensures due { OnOk result
+        (IsDueMore (entered_row entry.now.at_once entry.now.row) store.old store.new) }
     ensures succeeds { HasRoomForLock store.old → IsOk result }
     ensures err { OnErr result (IsUnchanged store.old store.new) }
 {
@@ -78,6 +83,8 @@ fn enter_new(store: &mut Store, entry: &Entry) -> Result<ResAt, AllocError>
     requires may_enter { MayEnter entry.now store.old }
     requires absent { IsNewKey entry.now.site.key store.old }
     ensures entered { IfOk result (λ res. IsEntered entry.now res store.old store.new) }
+    ensures due { OnOk result
+        (IsDueMore (entered_row entry.now.at_once entry.now.row) store.old store.new) }
     ensures succeeds { HasRoomForLock store.old → HasRoomForResource store.old → IsOk result }
     ensures err { OnErr result (IsUnchanged store.old store.new) }
 {
@@ -93,7 +100,10 @@ fn take_in(store: &mut Store, entry: &Entry) -> Result<ResAt, AllocError>
     requires may_enter { MayEnter entry.now store.old }
     requires found { FindsResource store.old entry.now.site.key entry.now.res }
     ensures entered { IfOk result (λ res. IsEntered entry.now res store.old store.new) }
-    ensures succeeds { HasRoomToEnter entry.now store.old → IsOk result }
+    ensures due { OnOk result
+        (IsDueMore (entered_row entry.now.at_once entry.now.row) store.old store.new) }
+    ensures succeeds { HasRoomForLock store.old
+        → (entry.now.res ≡ None → HasRoomForResource store.old) → IsOk result }
     ensures err { OnErr result (IsUnchanged store.old store.new) }
 {
     let Some(res) = entry.res else {
@@ -108,6 +118,7 @@ fn accept_want(store: &mut Store, owner: ProcAt, row: &Row)
     requires { IsProcess owner row.now.pid store.old }
     ensures statuses { plain_processes store.new
         ≡ processes_accepted row.now.want row.now (plain_processes store.old) }
+    ensures dues { DuesStay store.old store.new }
     ensures only_notices { SameButNotices store.old store.new }
 {
     if let Some(want) = row.want {
@@ -120,8 +131,11 @@ fn accept_want(store: &mut Store, owner: ProcAt, row: &Row)
 fn accept_entered(store: &mut Store, entry: &Entry, res: ResAt)
     requires owner { IsProcess entry.now.owner entry.now.row.pid store.old }
     requires there { HasResource res store.old }
+    requires owed { row_due entry.now.row ≤ due_of entry.now.row.pid store.old }
     ensures statuses { IfSome (resource_at res store.old.resources) (λ r. plain_processes store.new
         ≡ processes_entered entry.now r.value_block (plain_processes store.old)) }
+    ensures owed { OwedMoves entry.now.row (entered_row entry.now.at_once entry.now.row)
+        store.old store.new }
     ensures only_notices { SameButNotices store.old store.new }
 {
     accept_want(store, entry.owner, &entry.row);
@@ -131,12 +145,42 @@ fn accept_entered(store: &mut Store, entry: &Entry, res: ResAt)
     }
 }
 
-/// Takes a new lock in on the resource of its handle, which is made if it is not there: granted at once, or at the
-/// end of the waiting queue. The status block of its request is that of a pending one, or tells of its grant. Where
-/// there is no room and memory is refused, nothing is changed but that there may be more room.
-pub fn enter(store: &mut Store, entry: &Entry) -> Result<ResAt, AllocError>
+// Makes room for a new lock, and for its resource where that is not there. Where memory is refused, nothing is changed
+// but that there may be more room.
+fn reserve(store: &mut Store, entry: &Entry) -> Result<(), AllocError>
+    ensures unchanged { IsUnchanged store.old store.new }
+    ensures lock { OnOk result (HasRoomForLock store.new) }
+    ensures resource { OnOk result (entry.now.res ≡ None → HasRoomForResource store.new) }
+    ensures succeeds { HasRoomForLock store.old
+        → (entry.now.res ≡ None → HasRoomForResource store.old) → IsOk result }
+{
+    store.reserve_lock()?;
+    match entry.res {
+        None => store.reserve_resource(),
+        Some(_) => Ok(()),
+    }
+}
+
+// All that wants memory is made: room for a new lock, and for its resource where that is not there, and its process is
+// owed the ASTs of the routines that its request names. Where memory is refused, nothing is changed but that there may
+// be more room.
+fn make_ready(store: &mut Store, entry: &Entry) -> Result<(), AllocError>
+    requires owner { IsProcess entry.now.owner entry.now.row.pid store.old }
+    ensures ready { OnOk result (IsReady entry.now store.old store.new) }
+    ensures succeeds { HasRoomToEnter entry.now store.old → IsOk result }
+    ensures err { OnErr result (IsUnchanged store.old store.new) }
+{
+    reserve(store, entry)?;
+    owe_routines(store, entry.owner, entry.row.want)
+}
+
+// Takes a new lock in, once its process is owed the ASTs of the routines that its request names. Where there is no room
+// and memory is refused, nothing is changed but that there may be more room.
+fn enter_ready(store: &mut Store, entry: &Entry) -> Result<ResAt, AllocError>
     requires may_enter { MayEnter entry.now store.old }
     requires found { FindsResource store.old entry.now.site.key entry.now.res }
+    requires new { entry.now.row.armed ≡ false }
+    requires owed { OwesMore entry.now.row.pid (routines_of entry.now.row.want) store.old }
     ensures entered { OnOk result (plain_resources store.new
         ≡ resources_after_entry entry.now.serial entry.now.site entry.now.row entry.now.at_once
         (plain_resources store.old)) }
@@ -147,10 +191,38 @@ pub fn enter(store: &mut Store, entry: &Entry) -> Result<ResAt, AllocError>
     ensures others { IfOk result (λ res. OthersStay res store.old store.new) }
     ensures there { IfOk result (λ res. HasResource res store.new) }
     ensures rest { OnOk result (IsAtRest store.new) }
-    ensures succeeds { HasRoomToEnter entry.now store.old → IsOk result }
-    ensures err { OnErr result (IsUnchanged store.old store.new) }
+    ensures paid { OnOk result (IsPaid store.new) }
+    ensures succeeds { HasRoomForLock store.old
+        → (entry.now.res ≡ None → HasRoomForResource store.old) → IsOk result }
 {
     let res = take_in(store, entry)?;
     accept_entered(store, entry, res);
     Ok(res)
+}
+
+/// Takes a new lock in on the resource of its handle, which is made if it is not there: granted at once, or at the
+/// end of the waiting queue. Its process is owed the ASTs of the routines that its request names. The status block of
+/// the request is that of a pending one, or tells of its grant. Where there is no room and memory is refused, nothing
+/// is changed but that there may be more room.
+pub fn enter(store: &mut Store, entry: &Entry) -> Result<ResAt, AllocError>
+    requires may_enter { MayEnter entry.now store.old }
+    requires found { FindsResource store.old entry.now.site.key entry.now.res }
+    requires new { entry.now.row.armed ≡ false }
+    requires paid { IsPaid store.old }
+    ensures entered { OnOk result (plain_resources store.new
+        ≡ resources_after_entry entry.now.serial entry.now.site entry.now.row entry.now.at_once
+        (plain_resources store.old)) }
+    ensures statuses { let block = (resource_for entry.now (plain_resources store.old)).value_block
+        in OnOk result (plain_processes store.new
+        ≡ processes_entered entry.now block (plain_processes store.old)) }
+    ensures added { OnOk result (IsAdded entry.now store.old store.new) }
+    ensures others { IfOk result (λ res. OthersStay res store.old store.new) }
+    ensures there { IfOk result (λ res. HasResource res store.new) }
+    ensures rest { OnOk result (IsAtRest store.new) }
+    ensures paid { OnOk result (IsPaid store.new) }
+    ensures succeeds { HasRoomToEnter entry.now store.old → IsOk result }
+    ensures err { OnErr result (IsUnchanged store.old store.new) }
+{
+    make_ready(store, entry)?;
+    enter_ready(store, entry)
 }

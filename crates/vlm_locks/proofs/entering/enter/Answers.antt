@@ -1,5 +1,18 @@
-use Rattle.vlm_locks.proofs.Changed.{rests_still}
+use Rattle.std.proofs.lemmas.Result.{on_ok_weaker}
+use Rattle.vlm_locks.proofs.Paying.{owes_ready}
+use Rattle.vlm_locks.proofs.Ready.{added_ready, found_ready, may_enter_ready}
 use Rattle.vlm_locks.proofs.entering.enter.Goals as goal
 
-pub returns-clause-rest : goal.returns-clause-rest
-returns-clause-rest c = rests_still c.take_in.new.store c.accept_entered.new.store c.accept_entered.ensures.only_notices c.in_ok-res.ensures.entered.rest
+pub enter_ready-requires-clause-may_enter : goal.enter_ready-requires-clause-may_enter
+enter_ready-requires-clause-may_enter c = may_enter_ready c.args.entry.now c.args.store.now c.make_ready.new.store c.in_ok-make_ready.ensures.ready c.requires.may_enter
+
+pub enter_ready-requires-clause-found : goal.enter_ready-requires-clause-found
+enter_ready-requires-clause-found c = found_ready c.args.entry.now c.args.store.now c.make_ready.new.store c.in_ok-make_ready.ensures.ready c.args.entry.now.res c.requires.found
+
+pub enter_ready-requires-clause-owed : goal.enter_ready-requires-clause-owed
+enter_ready-requires-clause-owed c = owes_ready c.args.entry.now c.args.store.now c.make_ready.new.store c.in_ok-make_ready.ensures.ready c.requires.paid
+
+pub returns-clause-added : goal.returns-clause-added
+returns-clause-added c =
+    on_ok_weaker c.enter_ready.result (added_ready c.args.entry.now c.args.store.now c.make_ready.new.store c.in_ok-make_ready.ensures.ready c.enter_ready.new.store)
+    c.enter_ready.ensures.added

@@ -4,6 +4,7 @@ use Rattle.vlm_words.specs.Grants.{granted_row}
 use Rattle.vlm_store.specs.declared.handles.Place.TheVariants.{Queued}
 use Rattle.vlm_store.specs.Records.{moving, with_lists}
 use Rattle.vlm_locks.proofs.Entered.{entered_by, joins_granted, joins_waiting, there_still}
+use Rattle.vlm_locks.proofs.Paying.{due_entered}
 use Rattle.vlm_locks.proofs.Rising.{new_above}
 use Rattle.vlm_locks.proofs.entering.enter_at.Goals as goal
 
@@ -35,3 +36,20 @@ returns-else-entry-clause-entered c =
     entered_by c.args.store.now c.law_records_are_sound.ensures c.requires.may_enter.rest e c.requires.may_enter.keyed c.args.res c.requires.found c.in_ok-lock.lock c.add_lock.new.self _ c.law_records_are_sound-2.ensures c.in_ok-lock.ensures.added e.row Waiting
     c.move_lock-else-entry.new.self c.move_lock-else-entry.ensures c.in_ok-lock.ensures.fresh (record { lkid = refl; pid = refl; parent = refl }) c.requires.may_enter.rising c.requires.may_enter.owner
     (joins_waiting c.in_ok-lock.lock e.row e.at_once c.requires.found.0 c.if-entry.false)
+
+-- more is due, by what is due for it as it has entered
+pub returns-then-entry-clause-due : goal.returns-then-entry-clause-due
+returns-then-entry-clause-due c =
+    let e = c.args.entry.now in
+    let there = there_still c.args.store.now c.law_records_are_sound.ensures c.requires.may_enter.rest e c.requires.may_enter.keyed c.args.res c.requires.found c.in_ok-lock.lock c.add_lock.new.self _ c.in_ok-lock.ensures.added in
+    rw c.if-entry.true
+    (due_entered c.args.store.now c.in_ok-lock.lock e.row e.owner e.parent c.add_lock.new.self _ c.in_ok-lock.ensures.added c.law_records_are_sound-2.ensures (granted_row e.row) c.args.res Granted there
+    c.move_lock.new.self (c.move_lock.ensures ∙ ap (λ r. with_lists (moving (Queued c.args.res Granted) (record { at = c.in_ok-lock.lock; row = r })) c.add_lock.new.self) c.granted_row.ensures))
+
+pub returns-else-entry-clause-due : goal.returns-else-entry-clause-due
+returns-else-entry-clause-due c =
+    let e = c.args.entry.now in
+    let there = there_still c.args.store.now c.law_records_are_sound.ensures c.requires.may_enter.rest e c.requires.may_enter.keyed c.args.res c.requires.found c.in_ok-lock.lock c.add_lock.new.self _ c.in_ok-lock.ensures.added in
+    rw c.if-entry.false
+    (due_entered c.args.store.now c.in_ok-lock.lock e.row e.owner e.parent c.add_lock.new.self _ c.in_ok-lock.ensures.added c.law_records_are_sound-2.ensures e.row c.args.res Waiting there
+    c.move_lock-else-entry.new.self c.move_lock-else-entry.ensures)
