@@ -1,5 +1,5 @@
 -- Two services, one after the other, and what a service of a resource comes to in the end.
-use Rattle.std.proofs.Common.{◌≡◌, ℕ, List, [], ◌∷◌, ◌++◌, map, true, false, None, Some, IfSome, IsSome, refl, sym, ap, ◌∙◌, subst}
+use Rattle.std.proofs.Common.{◌≡◌, ℕ, List, [], ◌∷◌, ◌++◌, map, true, false, None, Some, IfSome, IsSome, refl, sym, ap, ◌∙◌, subst, Option}
 use Rattle.std.proofs.lemmas.List.{append-nil}
 use Rattle.std.proofs.lemmas.Option.{same_Some}
 use Rattle.vlm_words.specs.declared.resources.Queue.TheVariants.{Conversion, Waiting}
@@ -7,16 +7,19 @@ use Rattle.vlm_words.specs.declared.resources.ValueBlock.{ValueBlock}
 use Rattle.vlm_words.specs.Effects.{Blocks, blocks_after, blocks_with, with_value_block}
 use Rattle.vlm_words.specs.Grants.{Service, is_empty, no_service, service, service_of_conversions, service_of_new_requests, service_of_waiting, service_then}
 use Rattle.vlm_words.specs.State.{Resource}
-use Rattle.vlm_words.specs.Sweeps.{blocks_after_service, resource_after_service}
+use Rattle.vlm_words.specs.Sweeps.{blocks_after_service}
 use Rattle.vlm_store.specs.declared.handles.Place.TheVariants.{Queued}
 use Rattle.vlm_store.specs.Plain.{plain_processes, plain_resource}
 use Rattle.vlm_store.specs.Records.{HasResource, IsSound, Records, StoredLock, StoredResource, but_notices, first_at, locks_at, on_resource, resource_at, rows_of_locks}
-use Rattle.vlm_locks.specs.Serving.{IsLeft, IsServed, IsServiceOf, service_from}
+use Rattle.vlm_locks.specs.Serving.{IsLeft, IsServed, IsServiceOf, service_from, blocks_granted_from, HasGranted}
 use Rattle.vlm_locks.proofs.Found.{on_resource-put, resource_at-at, resource_at-put}
 use Rattle.vlm_locks.specs.Staying.{LocksStay}
 use Rattle.vlm_locks.proofs.Granting.{blocks_after_append}
 use Rattle.vlm_locks.proofs.Staying.{none_joins_under_block, stay_twice, stays_under_block}
 use Rattle.vlm_locks.proofs.Moves.{locks_found, none_queued}
+use Rattle.vlm_locks.specs.Warning.{IsWarned}
+use Rattle.vlm_locks.proofs.Replaced.{found_left, left_at}
+use Rattle.vlm_words.specs.Asts.{processes_after_asts, resource_after_warning, warnings}
 
 -- a change of one resource, and then another
 left_then : (res : ℕ) (had left last : StoredResource) (old s new : Records) → IsLeft res had left old s → IsLeft res left last s new → IsLeft res had last old new
@@ -103,8 +106,7 @@ module _ (res : ℕ) (old_block : ValueBlock) (old : Records) (block : ValueBloc
 module _ (res : ℕ) (old s new : Records) (old_block block : ValueBlock) (sound : IsSound old) (told : IfSome (resource_at res old.resources) (λ r. old_block ≡ r.value_block))
     (done : IsServiceOf service res old_block old block s) (wrote : new ≡ record s { resources = on_resource res (λ r. record r { value_block = block }) s.resources }) where
   -- what the ends of the service wrote
-  blocks : blocks_with block (plain_processes s) ≡ blocks_after_service (plain_processes old) (plain_resource done.had)
-  unfolding blocks_after_service
+  blocks : blocks_with block (plain_processes s) ≡ blocks_granted_from (plain_processes old) (plain_resource done.had)
   blocks =
       let was : old_block ≡ done.had.value_block = subst (λ o. IfSome o (λ r. old_block ≡ r.value_block)) done.change.replaced.was told in
       done.effect ∙ ap (λ v. blocks_after (service (plain_resource done.had)).endings (blocks_with v (plain_processes old))) was
@@ -126,14 +128,15 @@ module _ (res : ℕ) (old s new : Records) (old_block block : ValueBlock) (sound
       (sym (ap (resource_at res) resources_are
       ∙ resource_at-put res last old.resources done.had (resource_at-at res s.resources done.left done.change.now) done.change.replaced.was)) refl
 
-  served_here : plain_resource last ≡ resource_after_service (plain_processes old) (plain_resource done.had)
+  served_here : plain_resource last
+      ≡ with_value_block (blocks_granted_from (plain_processes old) (plain_resource done.had)).value_block (service (plain_resource done.had)).resource
   served_here =
       ap (λ x. with_value_block block x) done.resource
       ∙ ap (λ (b : Blocks). with_value_block b.value_block (service (plain_resource done.had)).resource) blocks
 
-  -- the service is done
-  pub served : IsServed res old new
-  served = record {
+  -- the grants of the service are done
+  pub granted : HasGranted res old new
+  granted = record {
     had = done.had;
     left = last;
     replaced = record {
@@ -148,3 +151,38 @@ module _ (res : ℕ) (old s new : Records) (old_block block : ValueBlock) (sound
     resource = served_here;
     statuses = ap plain_processes wrote ∙ ap (λ (b : Blocks). b.processes) blocks;
   }
+
+-- a resource that is granted from and then warned is served
+pub served : (res : ℕ) (old s new : Records) → HasGranted res old s → IfSome (resource_at res s.resources) (λ r. IsWarned res r s new) → IsServed res old new
+unfolding blocks_after_service warnings
+served res old s new first warned =
+    let found : resource_at res s.resources ≡ Some first.left = found_left res first.had first.left old s first.replaced in
+    let then : IsWarned res first.left s new = subst (λ o. IfSome o (λ r. IsWarned res r s new)) found warned in
+    record {
+      had = first.had;
+      left = then.left;
+      replaced = record {
+        was = first.replaced.was;
+        same = then.replaced.same ∙ first.replaced.same;
+        resources =
+            then.replaced.resources ∙ ap (on_resource res (λ r. then.left)) first.replaced.resources
+            ∙ on_resource-put res first.left (λ r. then.left) old.resources (left_at res first.had first.left old s first.replaced);
+        loose = then.replaced.loose ∙ first.replaced.loose;
+        processes = then.replaced.processes ∙ first.replaced.processes;
+      };
+      stay = stay_twice first.had first.left then.left first.stay then.stay;
+      none_join = stay_twice then.left first.left first.had then.none_join first.none_join;
+      resource = then.resource ∙ ap resource_after_warning first.resource;
+      statuses =
+          then.statuses
+          ∙ ap (λ r. processes_after_asts (warnings r) (plain_processes s)) first.resource
+          ∙ ap (processes_after_asts (warnings (service (plain_resource first.had)).resource)) first.statuses;
+    }
+
+-- it is there still
+pub served_there : (res : ℕ) (s new : Records) → HasResource res s → IfSome (resource_at res s.resources) (λ r. IsWarned res r s new) → HasResource res new
+served_there res s new there warned = of_found (resource_at res s.resources) refl there warned
+  where
+    of_found : (o : Option StoredResource) → resource_at res s.resources ≡ o → IsSome o → IfSome o (λ r. IsWarned res r s new) → HasResource res new
+    of_found None found none warned = cc
+    of_found (Some r) found some then = subst IsSome (sym (found_left res r then.left s new then.replaced)) refl

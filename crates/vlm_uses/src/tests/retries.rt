@@ -1,6 +1,8 @@
 //! A resource whose three queues are filled, served and emptied. What wants memory finds, where it was
 //! refused, that nothing has changed, and tries again: so each test passes with any one allocation refused.
 
+mod routines;
+
 ghost use Rattle.std.specs.Prelude.{◌≡◌};
 
 use crate::tests::stores::{self, key, lock, process, resource};
@@ -241,5 +243,102 @@ fn a_served_lock_is_loose_and_holds_its_mode(rt: HostRuntime) -> Result<(), Fail
     assert!(rt; fits(&rt, &store, &key, Mode::Pw, Some(2)));
     loosen(&rt, &mut store, 2);
     assert!(rt; fits(&rt, &store, &key, Mode::Pw, None));
+    Ok(())
+}
+
+// Arms a granted lock, which joins its queue anew.
+fn arm(rt: &impl Abort, store: &mut Store, key: &Key, lkid: u32) {
+    let res = resource(rt, store, key);
+    let granted = lock(rt, store, lkid);
+    let old = store.lock_record(granted).row;
+    store.move_lock(
+        granted,
+        Row { armed: true, ..old },
+        Place::Queued(res, Queue::Granted),
+    );
+}
+
+fn disarm(rt: &impl Abort, store: &mut Store, lkid: u32) {
+    let armed = lock(rt, store, lkid);
+    store.disarm(armed);
+}
+
+// Whether some granted lock of the resource is to be warned.
+fn may_warn(rt: &impl Abort, store: &Store, key: &Key) -> bool {
+    store.may_warn(resource(rt, store, key))
+}
+
+#[test]
+fn an_armed_lock_is_to_be_warned_until_it_is_disarmed(rt: HostRuntime) -> Result<(), Fail> {
+    let key = key(b"A")?;
+    let mut store = Store::new(rt.alloc());
+    fill(&rt, &mut store, &key)?;
+    assert!(rt; !may_warn(&rt, &store, &key));
+    arm(&rt, &mut store, &key, 1);
+    assert!(rt; may_warn(&rt, &store, &key));
+    disarm(&rt, &mut store, 1);
+    assert!(rt; !may_warn(&rt, &store, &key));
+    Ok(())
+}
+
+// Whether a lock that holds this mode is in the way of a queued request of the resource.
+fn is_in_the_way(rt: &impl Abort, store: &Store, key: &Key, mode: Mode) -> bool {
+    store.is_in_the_way(resource(rt, store, key), mode)
+}
+
+#[test]
+fn a_mode_is_in_the_way_of_what_is_queued(rt: HostRuntime) -> Result<(), Fail> {
+    let key = key(b"A")?;
+    let mut store = Store::new(rt.alloc());
+    fill(&rt, &mut store, &key)?;
+    assert!(rt; is_in_the_way(&rt, &store, &key, Mode::Ex));
+    assert!(rt; is_in_the_way(&rt, &store, &key, Mode::Cw));
+    assert!(rt; !is_in_the_way(&rt, &store, &key, Mode::Pr));
+    Ok(())
+}
+
+// Makes room for a resource and for a lock. Where memory was refused once it is made again.
+fn make_room(store: &mut Store) -> Result<(), AllocError> {
+    if store.reserve_resource().is_err() {
+        store.reserve_resource()?;
+    }
+    if store.reserve_lock().is_err() {
+        store.reserve_lock()?;
+    }
+    Ok(())
+}
+
+#[test]
+fn what_has_room_is_added(rt: HostRuntime) -> Result<(), Fail> {
+    let key = key(b"A")?;
+    let mut store = Store::new(rt.alloc());
+    declare(&rt, &mut store, 1)?;
+    make_room(&mut store)?;
+    stores::open(&mut store, 1, &key)?;
+    stores::add(&rt, &mut store, row(1, Some(Mode::Ex), None), None)?;
+    settle(&rt, &mut store, &key, 1);
+    assert!(rt; !fits(&rt, &store, &key, Mode::Cr, None));
+    Ok(())
+}
+
+// Owes a process so many ASTs more. Where memory was refused once they are owed again.
+fn owe(rt: &impl Abort, store: &mut Store, pid: u32, count: usize) -> Result<(), AllocError> {
+    let owner = process(rt, store, pid);
+    if store.owe(owner, count).is_err() {
+        let owner = process(rt, store, pid);
+        store.owe(owner, count)?;
+    }
+    Ok(())
+}
+
+// What a process is owed is not pending.
+#[test]
+fn asts_are_owed(rt: HostRuntime) -> Result<(), Fail> {
+    let mut store = Store::new(rt.alloc());
+    declare(&rt, &mut store, 1)?;
+    owe(&rt, &mut store, 1, 3)?;
+    owe(&rt, &mut store, 1, 30)?;
+    let owner = process(&rt, &store, 1);
+    assert!(rt; store.process_record(owner).asts.len() == 0);
     Ok(())
 }

@@ -1,6 +1,3 @@
-use Rattle.std.proofs.Common.{◌≡◌, ◌∙◌, sym, subst, refl}
-use Rattle.vlm_words.specs.Grants.{granted_row}
-use Rattle.vlm_store.specs.Records.{due_of}
 use Rattle.vlm_locks.proofs.Stood.{owner_is}
 use Rattle.vlm_locks.proofs.serving.grant.Goals as goal
 

@@ -1,12 +1,10 @@
-use Rattle.vlm_locks.proofs.Ended.{served, still_there}
+use Rattle.vlm_locks.proofs.Ended.{served, served_there}
 use Rattle.vlm_locks.proofs.serving.serve.Goals as goal
 
 pub returns-clause-served : goal.returns-clause-served
 returns-clause-served c =
-    served c.args.res c.args.store.now c.serve_queues.new.store c.set_value_block.new.self c.resource_record.result.now.value_block c.serve_queues.new.value_block
-    c.resource_record.ensures.sound c.resource_record.ensures.value_block c.serve_queues.ensures.served c.set_value_block.ensures
+    served c.args.res c.args.store.now c.grant_queued.new.store c.warn.new.store c.grant_queued.ensures.granted c.warn.ensures.warned
 
 pub returns-clause-there : goal.returns-clause-there
 returns-clause-there c =
-    still_there c.args.res c.args.store.now c.serve_queues.new.store c.set_value_block.new.self c.resource_record.result.now.value_block c.serve_queues.new.value_block
-    c.resource_record.ensures.sound c.resource_record.ensures.value_block c.serve_queues.ensures.served c.set_value_block.ensures
+    served_there c.args.res c.grant_queued.new.store c.warn.new.store c.grant_queued.ensures.there c.warn.ensures.warned

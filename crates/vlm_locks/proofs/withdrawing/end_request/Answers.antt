@@ -1,8 +1,8 @@
-use Rattle.std.proofs.Common.{◌≡◌, ◌≤◌, ◌+◌, ◌-◌, false, sym, ap, subst, ◌∙◌, arith}
+use Rattle.std.proofs.Common.{◌≤◌, ◌+◌, ◌-◌, false, sym, ap, subst, ◌∙◌, arith}
 use Rattle.vlm_words.specs.Asts.{completion_asts, processes_after_asts}
 use Rattle.vlm_words.specs.Dues.{one_where}
 use Rattle.vlm_store.specs.Plain.{plain_processes}
-use Rattle.vlm_store.specs.Records.{DueChanges, SameButNotices, due_of}
+use Rattle.vlm_store.specs.Records.{DueChanges, due_of}
 use Rattle.vlm_locks.specs.Owing.{completions_queued}
 use Rattle.vlm_locks.proofs.Found.{process_still, process_there}
 use Rattle.vlm_locks.proofs.Owing.{blocking_fits, changes_then, due_before, ended_owed, nothing_wanted, notices_twice, same_process}
@@ -55,7 +55,7 @@ forgive-requires-clause-owed c pid is =
     (owner_is c.args.store.now c.lock_record.result.now.owner c.lock_record.result.now.row c.args.standing.now.row (c.lock_record.ensures.only c.args.standing.now.row (stored c.args.store.now c.args.standing.now c.requires.standing)) c.lock_record.ensures.owner) is)
     (omega (
       arith,
-      c.one_where.ensures,
+      c.one_where.ensures ∙ ap one_where c.is_some.ensures,
       blocking_fits f.row c.in-Some.request c.in-Some.is c.args.store.now c.complete.new.store c.requires.owed queued,
     ))
 
@@ -79,7 +79,7 @@ returns-clause-owed c =
     ended_owed f.row c.in-Some.request c.in-Some.is c.args.store.now c.complete.new.store c.forgive.new.store c.requires.owed
     (changes_then f.row.pid (λ due. due - completions_queued false c.in-Some.request) c.args.store.now c.end.new.store c.complete.new.store
     c.end.ensures.dues c.complete.ensures.owed)
-    (subst (λ n. DueChanges f.row.pid (λ due. due - n) c.complete.new.store c.forgive.new.store) c.one_where.ensures
+    (subst (λ n. DueChanges f.row.pid (λ due. due - n) c.complete.new.store c.forgive.new.store) (c.one_where.ensures ∙ ap one_where c.is_some.ensures)
     (c.forgive.ensures.owed f.row.pid
     (process_still c.args.store.now c.complete.new.store c.lock_record.result.now.owner f.row.pid
     (notices_twice c.args.store.now c.end.new.store c.complete.new.store c.end.ensures.only_notices c.complete.ensures.only_notices)

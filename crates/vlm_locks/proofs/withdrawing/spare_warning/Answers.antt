@@ -1,4 +1,4 @@
-use Rattle.std.proofs.Common.{◌≡◌, ◌≤◌, ◌-◌, sym, subst, refl, true, arith}
+use Rattle.std.proofs.Common.{◌≤◌, ◌-◌, sym, subst, arith}
 use Rattle.vlm_store.specs.Records.{DueChanges, due_of}
 use Rattle.vlm_locks.specs.Owing.{OwedMoves, left_row, row_after_end}
 use Rattle.vlm_locks.proofs.Found.{process_there}

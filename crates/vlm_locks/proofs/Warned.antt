@@ -1,0 +1,552 @@
+-- The granted locks of a resource are warned, one after the other.
+use Rattle.std.proofs.Common.{◌≡◌, ◌≢◌, ◌≤◌, ◌<◌, ◌+◌, ◌-◌, ℕ, Bool, true, false, List, [], ◌∷◌, ◌++◌, map, flat_map, length, cond, Option, None, Some, IfSome, IsSome, append_assoc, refl, sym, ap, ◌∙◌, subst, inl, inr, arith, eq-eqb, ne_eqb}
+use Rattle.std.specs.Prelude.{◌==◌}
+use Rattle.std.specs.List.{list_any}
+use Rattle.std.specs.Option.{option_map_or}
+use Rattle.std.proofs.lemmas.Bool.{and_parts, cases_eq, or_parts}
+use Rattle.std.proofs.lemmas.List.{append-nil, map-append}
+use Rattle.std.proofs.lemmas.Option.{none-some, same_Some}
+use Rattle.vlm_words.specs.declared.locks.Row.{Row}
+use Rattle.vlm_words.specs.declared.resources.Queue.{Queue}
+use Rattle.vlm_words.specs.declared.resources.Queue.TheVariants.{Granted, Conversion, Waiting}
+use Rattle.vlm_words.specs.State.{Process, Resource}
+use Rattle.vlm_words.specs.Asts.{Queued as QueuedAst, blocking_asts, has_to_warn, is_in_the_way, is_to_warn, processes_after_asts, processes_after_queueing, resource_after_warning, row_after_warning, row_warnings, warnings}
+use Rattle.vlm_words.specs.Dues.{due_to, one_where, routines_of, row_due}
+use Rattle.vlm_words.proofs.Warned.{blind_warned}
+use Rattle.vlm_links.specs.Lists.{IsIn}
+use Rattle.vlm_store.specs.declared.handles.Place.TheVariants.{Loose, Queued}
+use Rattle.vlm_store.specs.Plain.{plain_processes, plain_resource}
+use Rattle.vlm_store.specs.Records.{AreApart, DueChanges, HasResource, IsSameLock, IsSound, Records, SameButNotices, StoredLock, StoredResource, Stores, at_after, but_notices, disarmed, disarming, due_of, first_at, locks_at, on_resource, queued, resource_at, resource_with, rows_of_locks, with_lists}
+use Rattle.vlm_store.proofs.Records.{map_on, queue_at}
+use Rattle.vlm_locks.specs.Owing.{DueMoves, IsPaid, OwedMoves, due_for}
+use Rattle.vlm_locks.specs.Rest.{IsReplaced}
+use Rattle.vlm_locks.specs.Staying.{LocksStay}
+use Rattle.vlm_locks.specs.Warning.{IsLockWarned, IsWarned, disarmed_if, disarmed_row, is_warned_on}
+use Rattle.vlm_locks.proofs.Found.{on_resource-own, on_resource-put, resource_alone, resource_at-put}
+use Rattle.vlm_locks.proofs.Owing.{due_noticed, owed_moves, owed_other, owed_own, paid_still, weight}
+use Rattle.vlm_locks.proofs.Replaced.{found_left, left_at}
+use Rattle.vlm_locks.proofs.Staying.{all_stay, same_back, same_lock}
+use Rattle.vlm_locks.proofs.Stood.{resource_among}
+use Rattle.vlm_locks.proofs.Weighing.{disarmed_weighs}
+
+-- ---- one lock
+
+-- its warning is owed, and is queued or forgiven
+pub warned_owed : (row : Row) (old new : Records) → row.armed ≡ true → row_due row ≤ due_of row.pid old → DueChanges row.pid (λ due. due - 1) old new
+    → OwedMoves row (disarmed_row row) old new
+warned_owed row old new armed enough changes =
+    let before : row_due row ≡ routines_of row.want + 1 = ap (λ (b : Bool). routines_of row.want + one_where b) armed in
+    let after : row_due (disarmed_row row) ≡ routines_of row.want = omega arith in
+    owed_moves row (disarmed_row row) old new refl
+    (omega (arith, owed_own row (λ due. due - 1) old new changes, enough, before, after))
+    (λ pid differs. owed_other row (λ due. due - 1) old new changes pid differs)
+
+-- an armed lock is owed one AST at least
+pub warning_fits : (row : Row) (s : Records) → row.armed ≡ true → row_due row ≤ due_of row.pid s → 1 ≤ due_of row.pid s
+warning_fits row s armed enough =
+    let before : row_due row ≡ routines_of row.want + 1 = ap (λ (b : Bool). routines_of row.want + one_where b) armed in
+    omega (arith, before, enough)
+
+-- a lock that is to be warned is armed
+pub armed_there : (res : ℕ) (s : Records) (row : Row) → HasResource res s → ((r : StoredResource) → resource_at res s.resources ≡ Some r → is_warned_on r row ≡ true) → row.armed ≡ true
+unfolding is_to_warn
+armed_there res s row there warned = of_found (resource_at res s.resources) refl there
+  where
+    of_found : (o : Option StoredResource) → resource_at res s.resources ≡ o → IsSome o → row.armed ≡ true
+    of_found None found there = cc
+    of_found (Some r) found there = (and_parts row.armed (is_in_the_way row.held (rows_of_locks r.converting) (rows_of_locks r.waiting)) (warned r found)).0
+
+-- one that is not to be warned stays as it is
+pub lock_unwarned : (r : StoredResource) (lock : ℕ) (row : Row) (s : Records) → is_warned_on r row ≡ false → IsLockWarned r lock row s s
+unfolding row_warnings row_after_warning
+lock_unwarned r lock row s is = record {
+  queued = rw is refl;
+  only = rw is (record { resources = refl; loose = refl; processes = refl; room = refl });
+  owed = λ pid. rw is refl;
+}
+
+-- and one that is queues its warning, and is armed no more
+pub lock_warned : (r : StoredResource) (lock : ℕ) (row : Row) (s t new : Records) → is_warned_on r row ≡ true
+    → plain_processes t ≡ processes_after_asts (blocking_asts row.held row.lkid row.pid) (plain_processes s) → OwedMoves row (disarmed_row row) s t → SameButNotices s t
+    → new ≡ with_lists (disarming lock) t → IsLockWarned r lock row s new
+unfolding row_warnings row_after_warning
+lock_warned r lock row s t new is told owed same wrote = record {
+  queued = rw (wrote, is) told;
+  only =
+      rw (wrote, is) (record {
+        resources = ap (map (resource_with (disarming lock))) same.resources;
+        loose = ap (disarming lock Loose) same.loose;
+        processes = same.processes;
+        room = same.room;
+      });
+  owed = λ pid. rw (wrote, is) (owed pid);
+}
+
+-- what is due for it changes so
+due_warned : (s t : Records) → IsSound s → (r : StoredResource) (lock : ℕ) (row : Row) → Stores s lock row → IsLockWarned r lock row s t
+    → DueMoves row (row_after_warning (rows_of_locks r.converting) (rows_of_locks r.waiting) row) s t
+unfolding row_after_warning
+due_warned s t sound r lock row stored warned pid = of_test (is_warned_on r row) refl
+  where
+    of_test : (b : Bool) → is_warned_on r row ≡ b → due_for pid t + due_to pid row ≡ due_for pid s + due_to pid (cond b (disarmed_row row) row)
+    of_test true is =
+        let same : SameButNotices (with_lists (disarming lock) s) t = subst (λ b. SameButNotices (disarmed_if b lock s) t) is warned.only in
+        omega (arith, due_noticed (with_lists (disarming lock) s) t same pid, disarmed_weighs (weight pid) lock s sound row stored)
+    of_test false is =
+        let same : SameButNotices s t = subst (λ b. SameButNotices (disarmed_if b lock s) t) is warned.only in
+        omega (arith, due_noticed s t same pid)
+
+pub paid_warned : (s t : Records) → IsSound s → (r : StoredResource) (lock : ℕ) (row : Row) → Stores s lock row → IsLockWarned r lock row s t → IsPaid s → IsPaid t
+paid_warned s t sound r lock row stored warned =
+    paid_still row (row_after_warning (rows_of_locks r.converting) (rows_of_locks r.waiting) row) s t (due_warned s t sound r lock row stored warned) warned.owed
+
+-- ---- all of them
+
+-- ASTs after ASTs
+pub asts_append : (first second : List QueuedAst) (processes : List Process)
+    → processes_after_asts (first ++ second) processes ≡ processes_after_asts second (processes_after_asts first processes)
+asts_append [] second processes = refl
+asts_append (q ∷ first) second processes = asts_append first second (processes_after_queueing q.pid q.ast processes)
+
+-- a lock once it is warned
+abbrev pub warned_lock : StoredResource → StoredLock → StoredLock
+warned_lock r k = record k { row = row_after_warning (rows_of_locks r.converting) (rows_of_locks r.waiting) k.row }
+
+-- the resource once the first of its granted locks are warned
+abbrev pub halfway : StoredResource → List StoredLock → List StoredLock → StoredResource
+halfway had done todo = record had { granted = map (warned_lock had) done ++ todo }
+
+-- what is left of the granted locks, warned, gives what all give, warned
+pub record IsWarning (res : ℕ) (old s : Records) (next : Option ℕ) : Type 0 where
+  pub had : StoredResource
+  pub done : List StoredLock
+  pub todo : List StoredLock
+  pub split : had.granted ≡ done ++ todo
+  pub replaced : IsReplaced res had (halfway had done todo) old s
+  pub first : next ≡ first_at todo
+  pub effect : processes_after_asts (flat_map (row_warnings (rows_of_locks had.converting) (rows_of_locks had.waiting)) (rows_of_locks todo)) (plain_processes s)
+      ≡ processes_after_asts (warnings (plain_resource had)) (plain_processes old)
+
+-- before the first
+pub warning_begun : (res : ℕ) (s : Records) (next : Option ℕ) → IsSound s → HasResource res s → next ≡ first_at (locks_at (Queued res Granted) s) → IsWarning res s s next
+unfolding warnings
+warning_begun res s next sound there is = of_found (resource_at res s.resources) refl there
+  where
+    of_found : (o : Option StoredResource) → resource_at res s.resources ≡ o → IsSome o → IsWarning res s s next
+    of_found None found there = cc
+    of_found (Some r) found there = record {
+      had = r;
+      done = [];
+      todo = r.granted;
+      split = refl;
+      replaced = record {
+        was = found;
+        same = refl;
+        resources = sym (on_resource-own res r s.resources sound.resources_apart found);
+        loose = refl;
+        processes = refl;
+      };
+      first = is ∙ ap first_at (ap (λ o. option_map_or (queued Granted) o []) found);
+      effect = refl;
+    }
+
+-- a list without the lock stays
+disarm_absent : (at : ℕ) (locks : List StoredLock) → ((row : Row) → ¬ IsIn (record { at = at; row = row }) locks) → map (λ (k : StoredLock). cond (k.at == at) (disarmed k) k) locks ≡ locks
+disarm_absent at [] absent = refl
+disarm_absent at (k ∷ rest) absent =
+    elim (cases_eq k.at at) [
+      | inl same ↦ absurd (absent k.row (inl (ap (λ x. record { at = x; row = k.row }) same)))
+      | inr differs ↦ rw (ne_eqb k.at at differs) (ap (λ xs. k ∷ xs) (disarm_absent at rest (λ row there. absent row (inr there))))
+    ]
+
+-- a list with it has it armed no more
+disarm_among : (before rest : List StoredLock) (k : StoredLock) → AreApart (before ++ k ∷ rest)
+    → map (λ (x : StoredLock). cond (x.at == k.at) (disarmed x) x) (before ++ k ∷ rest) ≡ before ++ disarmed k ∷ rest
+disarm_among [] rest k apart = rw (eq-eqb k.at k.at refl) (ap (λ xs. disarmed k ∷ xs) (disarm_absent k.at rest apart.0))
+disarm_among (x ∷ before) rest k apart =
+    rw (ne_eqb x.at k.at (λ same. apart.0 k.row (subst (λ (y : ℕ). IsIn (record { at = y; row = k.row }) (before ++ k ∷ rest)) (sym same) (among k before rest))))
+    (ap (λ xs. x ∷ xs) (disarm_among before rest k apart.1))
+  where
+    among : (lock : StoredLock) (xs ys : List StoredLock) → IsIn lock (xs ++ lock ∷ ys)
+    among lock [] ys = inl refl
+    among lock (y ∷ xs) ys = inr (among lock xs ys)
+
+-- the handles of locks, and those from one on
+abbrev pub handles : List StoredLock → List ℕ
+handles locks = map (λ (k : StoredLock). k.at) locks
+
+abbrev pub handles_from : Option ℕ → List ℕ → List ℕ
+handles_from None ats = []
+handles_from (Some at) [] = []
+handles_from (Some at) (x ∷ rest) = cond (x == at) (x ∷ rest) (handles_from (Some at) rest)
+
+-- those that a walk of the granted locks has left
+abbrev pub left_to_warn : ℕ → Option ℕ → Records → List ℕ
+left_to_warn res next s = handles_from next (handles (locks_at (Queued res Granted) s))
+
+-- a lock between others, and the one behind it
+among_between : (lock : StoredLock) (xs ys : List StoredLock) → IsIn lock (xs ++ lock ∷ ys)
+among_between lock [] ys = inl refl
+among_between lock (x ∷ xs) ys = inr (among_between lock xs ys)
+
+among_second : (lock k : StoredLock) (xs ys : List StoredLock) → IsIn k (xs ++ lock ∷ k ∷ ys)
+among_second lock k [] ys = inr (inl refl)
+among_second lock k (x ∷ xs) ys = inr (among_second lock k xs ys)
+
+-- what a warning makes of a lock
+lock_is_warned : (r : StoredResource) (k : StoredLock) → is_warned_on r k.row ≡ true → warned_lock r k ≡ disarmed k
+unfolding row_after_warning
+lock_is_warned r k is = rw is refl
+
+lock_is_not_warned : (r : StoredResource) (k : StoredLock) → is_warned_on r k.row ≡ false → warned_lock r k ≡ k
+unfolding row_after_warning
+lock_is_not_warned r k is = rw is refl
+
+-- it stays the lock that it was
+same_warned : (r : StoredResource) (k : StoredLock) → IsSameLock k.row (warned_lock r k).row
+same_warned r k = record {
+  lkid = sym (blind_warned (λ x. x.lkid) (λ x armed. refl) (rows_of_locks r.converting) (rows_of_locks r.waiting) k.row);
+  pid = sym (blind_warned (λ x. x.pid) (λ x armed. refl) (rows_of_locks r.converting) (rows_of_locks r.waiting) k.row);
+  parent = sym (blind_warned (λ x. x.parent) (λ x armed. refl) (rows_of_locks r.converting) (rows_of_locks r.waiting) k.row);
+}
+
+among_warned : (r : StoredResource) (k : StoredLock) (locks : List StoredLock) → IsIn k locks → IsIn (warned_lock r k) (map (warned_lock r) locks)
+among_warned r k [] among = absurd among
+among_warned r k (x ∷ locks) among = elim among [ inl here ↦ inl (ap (warned_lock r) here) | inr there ↦ inr (among_warned r k locks there) ]
+
+-- each warned lock was there
+was_warned : (r : StoredResource) (k : StoredLock) (locks : List StoredLock) → IsIn k (map (warned_lock r) locks) → (x : StoredLock) × (IsIn x locks × (warned_lock r x ≡ k))
+was_warned r k [] among = absurd among
+was_warned r k (x ∷ locks) among =
+    elim among [
+      | inl here ↦ (x, (inl refl, here))
+      | inr there ↦ (let found = was_warned r k locks there in (found.0, (inr found.1.0, found.1.1)))
+    ]
+
+-- so each lock of the resource stays there, and none joins
+module _ (had left : StoredResource) (granted : left.granted ≡ map (warned_lock had) had.granted) (converting : left.converting ≡ had.converting) (waiting : left.waiting ≡ had.waiting) where
+  warned_stay : LocksStay had left
+  warned_stay Granted k among = record {
+    queue = Granted;
+    row = (warned_lock had k).row;
+    among = subst (IsIn (warned_lock had k)) (sym granted) (among_warned had k had.granted among);
+    same = same_warned had k;
+  }
+  warned_stay Conversion k among = record { queue = Conversion; row = k.row; among = subst (IsIn k) (sym converting) among; same = same_lock k.row }
+  warned_stay Waiting k among = record { queue = Waiting; row = k.row; among = subst (IsIn k) (sym waiting) among; same = same_lock k.row }
+
+  none_join_warned : LocksStay left had
+  none_join_warned Granted k among =
+      let was = was_warned had k had.granted (subst (IsIn k) granted among) in
+      record {
+        queue = Granted;
+        row = was.0.row;
+        among = subst (λ (at : ℕ). IsIn (record { at = at; row = was.0.row }) had.granted) (ap (λ (x : StoredLock). x.at) was.1.1) was.1.0;
+        same = subst (λ (x : StoredLock). IsSameLock x.row was.0.row) was.1.1 (same_back was.0.row (warned_lock had was.0).row (same_warned had was.0));
+      }
+  none_join_warned Conversion k among = record { queue = Conversion; row = k.row; among = subst (IsIn k) converting among; same = same_lock k.row }
+  none_join_warned Waiting k among = record { queue = Waiting; row = k.row; among = subst (IsIn k) waiting among; same = same_lock k.row }
+
+-- as the plain machine has it
+warned_resource : (had left : StoredResource) → left.granted ≡ map (warned_lock had) had.granted → left ≡ record had { granted = left.granted }
+    → plain_resource left ≡ resource_after_warning (plain_resource had)
+unfolding resource_after_warning
+warned_resource had left granted rest =
+    ap plain_resource rest
+    ∙ ap (λ rows. record (plain_resource had) { granted = rows }) (ap rows_of_locks granted ∙ rows_warned had.granted)
+  where
+    rows_warned : (locks : List StoredLock)
+        → rows_of_locks (map (warned_lock had) locks) ≡ map (row_after_warning (rows_of_locks had.converting) (rows_of_locks had.waiting)) (rows_of_locks locks)
+    rows_warned [] = refl
+    rows_warned (k ∷ locks) = ap (λ rows. row_after_warning (rows_of_locks had.converting) (rows_of_locks had.waiting) k.row ∷ rows) (rows_warned locks)
+
+-- a lock is disarmed where it stands: of the resources just its own is another
+disarmed_resources : (s : Records) → IsSound s → (res : ℕ) (r : StoredResource) (lock : ℕ) (row : Row) (before rest : List StoredLock) → resource_at res s.resources ≡ Some r
+    → r.granted ≡ before ++ record { at = lock; row = row } ∷ rest → (then : StoredResource) → then ≡ record r { granted = then.granted }
+    → then.granted ≡ before ++ disarmed (record { at = lock; row = row }) ∷ rest
+    → map (resource_with (disarming lock)) s.resources ≡ on_resource res (λ x. then) s.resources
+disarmed_resources s sound res r lock row before rest found split then same granted =
+    map_on (resource_with (disarming lock)) (λ x. cond (x.at == res) then x) s.resources
+    (λ x among. elim (cases_eq x.at res) [
+      | inl is ↦
+          ap (resource_with (disarming lock)) (resource_alone res s.resources r x sound.resources_apart found among is) ∙ here
+          ∙ sym (ap (λ b. cond b then x) (eq-eqb x.at res is))
+      | inr differs ↦ there x among differs ∙ sym (ap (λ b. cond b then x) (ne_eqb x.at res differs))
+    ])
+  where
+    own : StoredLock
+    own = record { at = lock; row = row }
+
+    in_granted : locks_at (Queued res Granted) s ≡ r.granted
+    in_granted = ap (λ o. option_map_or (queued Granted) o []) found
+
+    stands : IsIn own (locks_at (Queued res Granted) s)
+    stands = subst (IsIn own) (sym (in_granted ∙ split)) (among_between own before rest)
+
+    absent : (x : StoredResource) → IsIn x s.resources → (queue : Queue) → Queued x.at queue ≢ Queued res Granted
+        → map (λ (k : StoredLock). cond (k.at == lock) (disarmed k) k) (queued queue x) ≡ queued queue x
+    absent x among queue differs =
+        disarm_absent lock (queued queue x)
+        (λ other there. differs (sound.one_place lock other row (Queued x.at queue) (Queued res Granted)
+        (subst (IsIn (record { at = lock; row = other })) (sym (queue_at s sound x among queue)) there) stands))
+
+    there : (x : StoredResource) → IsIn x s.resources → x.at ≢ res → resource_with (disarming lock) x ≡ x
+    there x among differs =
+        rw (absent x among Granted (λ e. differs (cc)), absent x among Conversion (λ e. differs (cc)), absent x among Waiting (λ e. differs (cc))) refl
+
+    in_it : IsIn r s.resources
+    in_it = resource_among res s.resources r found
+
+    here : resource_with (disarming lock) r ≡ then
+    here =
+        let apart : AreApart (before ++ own ∷ rest) = subst AreApart (in_granted ∙ split) (sound.locks_apart (Queued res Granted)) in
+        let first : map (λ (k : StoredLock). cond (k.at == lock) (disarmed k) k) r.granted ≡ then.granted =
+        ap (map (λ (k : StoredLock). cond (k.at == lock) (disarmed k) k)) split ∙ disarm_among before rest own apart ∙ sym granted in
+        rw (first, absent r in_it Conversion (λ e. cc), absent r in_it Waiting (λ e. cc)) (sym same)
+
+module _ (res : ℕ) (old s : Records) (next : Option ℕ) (warning : IsWarning res old s next) where
+  -- the resource as it is now
+  abbrev pub now : StoredResource
+  now = halfway warning.had warning.done warning.todo
+
+  pub now_found : resource_at res s.resources ≡ Some now
+  now_found = found_left res warning.had now old s warning.replaced
+
+  pub warning_there : HasResource res s
+  warning_there = subst IsSome (sym now_found) refl
+
+  granted_are : locks_at (Queued res Granted) s ≡ now.granted
+  granted_are = ap (λ o. option_map_or (queued Granted) o []) now_found
+
+  module _ (none : None ≡ next) where
+    -- no lock is left to look at
+    all_done : warning.todo ≡ []
+    all_done = of_list warning.todo (sym warning.first ∙ sym none)
+      where
+        of_list : (locks : List StoredLock) → first_at locks ≡ None → locks ≡ []
+        of_list [] first = refl
+        of_list (k ∷ rest) first = absurd (none-some k.at (sym first))
+
+    -- the locks that were granted, each warned
+    granted_now : now.granted ≡ map (warned_lock warning.had) warning.had.granted
+    granted_now =
+        ap (λ locks. map (warned_lock warning.had) warning.done ++ locks) all_done
+        ∙ append-nil (map (warned_lock warning.had) warning.done)
+        ∙ ap (map (warned_lock warning.had)) (sym (append-nil warning.done) ∙ ap (λ locks. warning.done ++ locks) (sym all_done) ∙ sym warning.split)
+
+    -- all are warned
+    pub warning_over : IsWarned res warning.had old s
+    warning_over = record {
+      left = now;
+      replaced = warning.replaced;
+      stay = warned_stay warning.had now granted_now refl refl;
+      none_join = none_join_warned warning.had now granted_now refl refl;
+      resource = warned_resource warning.had now granted_now refl;
+      statuses =
+          ap (λ locks. processes_after_asts (flat_map (row_warnings (rows_of_locks warning.had.converting) (rows_of_locks warning.had.waiting)) (rows_of_locks locks)) (plain_processes s)) (sym all_done)
+          ∙ warning.effect;
+    }
+
+  module _ (sound : IsSound s) (lock : ℕ) (first : Some lock ≡ next) where
+    -- the next lock and those behind it
+    pub record HasNext : Type 0 where
+      pub row : Row
+      pub rest : List StoredLock
+      pub is : warning.todo ≡ record { at = lock; row = row } ∷ rest
+
+    pub has_next : HasNext
+    has_next = of_list warning.todo refl (sym warning.first ∙ sym first)
+      where
+        of_list : (locks : List StoredLock) → warning.todo ≡ locks → first_at locks ≡ Some lock → HasNext
+        of_list [] is none = absurd (none-some lock none)
+        of_list (k ∷ rest) is some =
+            record { row = k.row; rest = rest; is = is ∙ ap (λ (at : ℕ). record { at = at; row = k.row } ∷ rest) (same_Some k.at lock some) }
+
+    -- those before it
+    abbrev before : List StoredLock
+    before = map (warned_lock warning.had) warning.done
+
+    abbrev own : StoredLock
+    own = record { at = lock; row = has_next.row }
+
+    granted_split : locks_at (Queued res Granted) s ≡ before ++ own ∷ has_next.rest
+    granted_split = granted_are ∙ ap (λ locks. before ++ locks) has_next.is
+
+    granted_apart : AreApart (before ++ own ∷ has_next.rest)
+    granted_apart = subst AreApart granted_split (sound.locks_apart (Queued res Granted))
+
+    pub next_stands : IsIn own (locks_at (Queued res Granted) s)
+    next_stands = subst (IsIn own) (sym granted_split) (among_between own before has_next.rest)
+
+    pub next_stored : Stores s lock has_next.row
+    next_stored = (Queued res Granted, next_stands)
+
+    -- the lock that follows it
+    pub follows : (after : Option ℕ) → after ≡ at_after lock (locks_at (Queued res Granted) s) → after ≡ first_at has_next.rest
+    follows after is = is ∙ ap (at_after lock) granted_split ∙ behind before granted_apart
+      where
+        behind : (xs : List StoredLock) → AreApart (xs ++ own ∷ has_next.rest) → at_after lock (xs ++ own ∷ has_next.rest) ≡ first_at has_next.rest
+        behind [] apart = rw (eq-eqb lock lock refl) refl
+        behind (x ∷ xs) apart =
+            rw (ne_eqb x.at lock (λ same. apart.0 has_next.row (subst (λ (at : ℕ). IsIn (record { at = at; row = has_next.row }) (xs ++ own ∷ has_next.rest)) (sym same) (among_between own xs has_next.rest))))
+            (behind xs apart.1)
+
+    -- what is left for the walk is one less behind it
+    pub left_shorter : (after : Option ℕ) → after ≡ first_at has_next.rest → length (left_to_warn res after s) < length (left_to_warn res next s)
+    left_shorter after is =
+        let here : left_to_warn res next s ≡ lock ∷ handles has_next.rest =
+        ap (λ (n : Option ℕ). handles_from n (handles (locks_at (Queued res Granted) s))) (sym first) ∙ ap (λ locks. handles_from (Some lock) (handles locks)) granted_split ∙ from_own before granted_apart in
+        let there : left_to_warn res after s ≡ handles has_next.rest =
+        ap (λ (n : Option ℕ). handles_from n (handles (locks_at (Queued res Granted) s))) is ∙ ap (λ locks. handles_from (first_at has_next.rest) (handles locks)) granted_split
+        ∙ from_rest has_next.rest before granted_apart in
+        rw (here, there) (omega arith)
+      where
+        from_own : (xs : List StoredLock) → AreApart (xs ++ own ∷ has_next.rest) → handles_from (Some lock) (handles (xs ++ own ∷ has_next.rest)) ≡ lock ∷ handles has_next.rest
+        from_own [] apart = rw (eq-eqb lock lock refl) refl
+        from_own (x ∷ xs) apart =
+            rw (ne_eqb x.at lock (λ same. apart.0 has_next.row (subst (λ (at : ℕ). IsIn (record { at = at; row = has_next.row }) (xs ++ own ∷ has_next.rest)) (sym same) (among_between own xs has_next.rest))))
+            (from_own xs apart.1)
+
+        from_rest : (rest : List StoredLock) (xs : List StoredLock) → AreApart (xs ++ own ∷ rest) → handles_from (first_at rest) (handles (xs ++ own ∷ rest)) ≡ handles rest
+        from_rest [] xs apart = refl
+        from_rest (k ∷ rest) [] apart =
+            rw (ne_eqb lock k.at (λ same. apart.0 k.row (subst (λ (at : ℕ). IsIn (record { at = at; row = k.row }) (k ∷ rest)) (sym same) (inl refl))), eq-eqb k.at k.at refl) refl
+        from_rest (k ∷ rest) (x ∷ xs) apart =
+            rw (ne_eqb x.at k.at (λ same. apart.0 k.row (subst (λ (at : ℕ). IsIn (record { at = at; row = k.row }) (xs ++ own ∷ k ∷ rest)) (sym same) (among_second own k xs rest))))
+            (from_rest (k ∷ rest) xs apart.1)
+
+    -- the resource once it is warned too
+    abbrev then : StoredResource
+    then = halfway warning.had (warning.done ++ own ∷ []) has_next.rest
+
+    then_granted : then.granted ≡ before ++ warned_lock warning.had own ∷ has_next.rest
+    then_granted =
+        ap (λ locks. locks ++ has_next.rest) (map-append (warned_lock warning.had) warning.done (own ∷ []))
+        ∙ append_assoc before (warned_lock warning.had own ∷ []) has_next.rest
+
+    module _ (t : Records) (warned : IsLockWarned now lock has_next.row s t) where
+      -- it is disarmed on its resource, if it is warned
+      resources_then : t.resources ≡ on_resource res (λ r. then) s.resources
+      resources_then = of_test (is_warned_on now has_next.row) refl
+        where
+          of_test : (b : Bool) → is_warned_on now has_next.row ≡ b → t.resources ≡ on_resource res (λ r. then) s.resources
+          of_test true is =
+              let same : SameButNotices (with_lists (disarming lock) s) t = subst (λ b. SameButNotices (disarmed_if b lock s) t) is warned.only in
+              same.resources ∙ disarmed_resources s sound res now lock has_next.row before has_next.rest now_found (ap (λ locks. before ++ locks) has_next.is) then refl
+              (then_granted ∙ ap (λ k. before ++ k ∷ has_next.rest) (lock_is_warned warning.had own is))
+          of_test false is =
+              let same : SameButNotices s t = subst (λ b. SameButNotices (disarmed_if b lock s) t) is warned.only in
+              let stays : then ≡ now =
+              ap (λ locks. record warning.had { granted = locks })
+              (then_granted ∙ ap (λ k. before ++ k ∷ has_next.rest) (lock_is_not_warned warning.had own is) ∙ ap (λ locks. before ++ locks) (sym has_next.is)) in
+              same.resources ∙ sym (ap (λ r. on_resource res (λ x. r) s.resources) stays ∙ on_resource-own res now s.resources sound.resources_apart now_found)
+
+      loose_then : t.loose ≡ s.loose
+      loose_then = of_test (is_warned_on now has_next.row) refl
+        where
+          of_test : (b : Bool) → is_warned_on now has_next.row ≡ b → t.loose ≡ s.loose
+          of_test true is =
+              (subst (λ b. SameButNotices (disarmed_if b lock s) t) is warned.only).loose
+              ∙ disarm_absent lock s.loose (λ row found. no_loose (sound.one_place lock row has_next.row Loose (Queued res Granted) found next_stands))
+            where
+              no_loose : Loose ≡ Queued res Granted → ⊥
+              no_loose e = cc
+          of_test false is = (subst (λ b. SameButNotices (disarmed_if b lock s) t) is warned.only).loose
+
+      processes_then : map but_notices t.processes ≡ map but_notices s.processes
+      processes_then = of_test (is_warned_on now has_next.row) refl
+        where
+          of_test : (b : Bool) → is_warned_on now has_next.row ≡ b → map but_notices t.processes ≡ map but_notices s.processes
+          of_test true is = (subst (λ b. SameButNotices (disarmed_if b lock s) t) is warned.only).processes
+          of_test false is = (subst (λ b. SameButNotices (disarmed_if b lock s) t) is warned.only).processes
+
+      -- the walk goes on
+      pub warning_next : (after : Option ℕ) → after ≡ first_at has_next.rest → IsWarning res old t after
+      warning_next after is = record {
+        had = warning.had;
+        done = warning.done ++ own ∷ [];
+        todo = has_next.rest;
+        split = warning.split ∙ ap (λ locks. warning.done ++ locks) has_next.is ∙ sym (append_assoc warning.done (own ∷ []) has_next.rest);
+        replaced = record {
+          was = warning.replaced.was;
+          same = refl;
+          resources =
+              resources_then ∙ ap (on_resource res (λ r. then)) warning.replaced.resources
+              ∙ on_resource-put res now (λ r. then) old.resources (left_at res warning.had now old s warning.replaced);
+          loose = loose_then ∙ warning.replaced.loose;
+          processes = processes_then ∙ warning.replaced.processes;
+        };
+        first = is;
+        effect =
+            ap (processes_after_asts (flat_map (row_warnings converting waiting) (rows_of_locks has_next.rest))) warned.queued
+            ∙ sym (asts_append (row_warnings converting waiting has_next.row) (flat_map (row_warnings converting waiting) (rows_of_locks has_next.rest)) (plain_processes s))
+            ∙ ap (λ locks. processes_after_asts (flat_map (row_warnings converting waiting) (rows_of_locks locks)) (plain_processes s)) (sym has_next.is)
+            ∙ warning.effect;
+      }
+        where
+          converting : List Row
+          converting = rows_of_locks warning.had.converting
+
+          waiting : List Row
+          waiting = rows_of_locks warning.had.waiting
+
+      -- with one lock less to look at
+      pub warning_shorter : (after : Option ℕ) → after ≡ first_at has_next.rest → length (left_to_warn res after t) < length (left_to_warn res next s)
+      warning_shorter after is =
+          let there : handles (locks_at (Queued res Granted) t) ≡ handles (locks_at (Queued res Granted) s) =
+          ap (λ o. handles (option_map_or (queued Granted) o []))
+          (ap (resource_at res) resources_then ∙ resource_at-put res then s.resources now (left_at res warning.had now old s warning.replaced) now_found)
+          ∙ ap handles then_granted ∙ same_handles before ∙ sym (ap handles granted_split) in
+          subst (λ hs. length (handles_from after hs) < length (left_to_warn res next s)) (sym there) (left_shorter after is)
+        where
+          same_handles : (xs : List StoredLock) → handles (xs ++ warned_lock warning.had own ∷ has_next.rest) ≡ handles (xs ++ own ∷ has_next.rest)
+          same_handles [] = refl
+          same_handles (x ∷ xs) = ap (λ hs. x.at ∷ hs) (same_handles xs)
+
+-- what is known of what is found
+pub if_found : (P : StoredResource → Type 0) (res : ℕ) (s : Records) (r : StoredResource) → resource_at res s.resources ≡ Some r → P r → IfSome (resource_at res s.resources) P
+if_found P res s r found holds = subst (λ o. IfSome o P) (sym found) holds
+
+-- where no row is to be warned, none is
+rows_unwarned : (converting waiting rows : List Row) → list_any (is_to_warn converting waiting) rows ≡ false
+    → (map (row_after_warning converting waiting) rows ≡ rows) × (flat_map (row_warnings converting waiting) rows ≡ [])
+unfolding row_after_warning row_warnings
+rows_unwarned converting waiting [] none = (refl, refl)
+rows_unwarned converting waiting (row ∷ rows) none =
+    let parts = or_parts (is_to_warn converting waiting row) (list_any (is_to_warn converting waiting) rows) none in
+    let behind = rows_unwarned converting waiting rows parts.1 in
+    (rw parts.0 (ap (λ (all : List Row). row ∷ all) behind.0), rw parts.0 behind.1)
+
+unwarned_stays : (r : Resource) → has_to_warn r ≡ false → resource_after_warning r ≡ r
+unfolding has_to_warn resource_after_warning
+unwarned_stays r none = ap (λ (rows : List Row). record r { granted = rows }) (rows_unwarned r.converting r.waiting r.granted none).0
+
+unwarned_says_nothing : (r : Resource) → has_to_warn r ≡ false → warnings r ≡ []
+unfolding has_to_warn warnings
+unwarned_says_nothing r none = (rows_unwarned r.converting r.waiting r.granted none).1
+
+-- nobody is to be warned
+pub none_warned : (res : ℕ) (s : Records) → IsSound s → HasResource res s → IfSome (resource_at res s.resources) (λ r. false ≡ has_to_warn (plain_resource r))
+    → IfSome (resource_at res s.resources) (λ r. IsWarned res r s s)
+none_warned res s sound there none = of_found (resource_at res s.resources) refl none
+  where
+    of_found : (o : Option StoredResource) → resource_at res s.resources ≡ o → IfSome o (λ r. false ≡ has_to_warn (plain_resource r)) → IfSome o (λ r. IsWarned res r s s)
+    of_found None found none = tt
+    of_found (Some r) found none = record {
+      left = r;
+      replaced = record {
+        was = found;
+        same = refl;
+        resources = sym (on_resource-own res r s.resources sound.resources_apart found);
+        loose = refl;
+        processes = refl;
+      };
+      stay = all_stay r;
+      none_join = all_stay r;
+      resource = sym (unwarned_stays (plain_resource r) (sym none));
+      statuses = sym (ap (λ queued. processes_after_asts queued (plain_processes s)) (unwarned_says_nothing (plain_resource r) (sym none)));
+    }
+
+-- the walk is at its end
+pub if_warned : (res : ℕ) (old s : Records) (next : Option ℕ) (warning : IsWarning res old s next) → None ≡ next → IfSome (resource_at res old.resources) (λ r. IsWarned res r old s)
+if_warned res old s next warning none = if_found (λ r. IsWarned res r old s) res old warning.had warning.replaced.was (warning_over res old s next warning none)
