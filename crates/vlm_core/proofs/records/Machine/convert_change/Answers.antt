@@ -3,7 +3,7 @@ use Rattle.vlm_core.specs.Admissions.{IsAdmittedConversion}
 use Rattle.vlm_core.specs.Between.{IsBetweenSteps}
 use Rattle.vlm_core.specs.Machine.{MachineState, plain_state}
 use Rattle.vlm_core.proofs.Conversions.{state_converted}
-use Rattle.vlm_core.proofs.Wanting.{names_routine, wants_nothing}
+use Rattle.vlm_core.proofs.Wanting.{wants_nothing}
 use Rattle.vlm_core.proofs.records.Machine.convert_change.Goals as goal
 
 -- the lock is granted, so it wants nothing
