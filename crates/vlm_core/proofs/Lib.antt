@@ -10,3 +10,4 @@ pub mod Stayed
 pub mod ToCome
 pub mod Siting
 pub mod Childless
+pub mod Wanting

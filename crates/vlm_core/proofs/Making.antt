@@ -6,7 +6,7 @@ use Rattle.vlm_words.specs.declared.steps.Step.{Step}
 use Rattle.vlm_words.specs.Runs.{history_after, no_history}
 use Rattle.vlm_words.specs.Runs.RunFrom.{begin, next}
 use Rattle.vlm_words.specs.State.{State}
-use Rattle.vlm_words.specs.Stepped.{Outcome, outcome_endings}
+use Rattle.vlm_words.specs.Stepped.{Outcome, outcome_endings, outcome_queued}
 use Rattle.vlm_core.specs.Running.{MakesInOrder}
 
 -- no step is made
@@ -27,7 +27,7 @@ makes-more first old new steps i step before after answer made within here outco
     rw more (record {
       given = made.given ++ answer ∷ [];
       legal = record {
-        history = history_after legal.history step answer (outcome_endings outcome);
+        history = history_after legal.history step answer (outcome_endings outcome) (outcome_queued outcome);
         run = next legal.run outcome;
         taken = ap (λ (taken : List Step). taken ++ step ∷ []) legal.taken;
         answered = ap (λ (given : List Answer). given ++ answer ∷ []) legal.answered;

@@ -1,9 +1,8 @@
 -- An identification that is to come is that of no lock, and of no process.
 use Rattle.std.proofs.Common.{◌≡◌, ◌≢◌, ◌≤◌, ℕ, List, [], ◌∷◌, map, cond, Option, None, Some, refl, sym, ap, ◌∙◌, subst, inl, inr, arith, eq-eqb}
 use Rattle.std.specs.Prelude.{◌==◌}
-use Rattle.std.specs.List.{All, sum_by}
+use Rattle.std.specs.List.{sum_by}
 use Rattle.std.specs.Option.{option_map_or}
-use Rattle.std.proofs.lemmas.List.Elements.{All-head, All-tail}
 use Rattle.std.proofs.lemmas.List.Sums.{sum_by-cons}
 use Rattle.std.proofs.Math.Nat.{lt_of_not-le}
 use Rattle.vlm_words.specs.declared.locks.Row.{Row}
@@ -23,6 +22,7 @@ use Rattle.vlm_store.specs.Records.{IsNewLock, IsNewProcess, Records, StoredLock
 use Rattle.vlm_locks.specs.Rising.{IsAboveAll}
 use Rattle.vlm_locks.proofs.Stood.{resource_among}
 use Rattle.vlm_core.specs.Machine.{MachineState, plain_state}
+use Rattle.vlm_core.proofs.Wanting.{each_of}
 
 -- ---- locks
 
@@ -79,19 +79,10 @@ above_all s lkid none_loose none at row stored = lt_of_not-le (λ from. new_lock
 
 -- ---- processes
 
--- what each process has, a stored one has
-each_stored : (P : Process → Type 0) (ps : List StoredProcess) → All P (map (λ (p : StoredProcess). p.process) ps) → (p : StoredProcess) → IsIn p ps → P p.process
-each_stored P [] all p among = absurd among
-each_stored P (x ∷ rest) all p among =
-    elim among [
-      | inl here ↦ subst (λ (y : StoredProcess). P y.process) here (All-head P x.process (map (λ (p : StoredProcess). p.process) rest) all)
-      | inr there ↦ each_stored P rest (All-tail P x.process (map (λ (p : StoredProcess). p.process) rest) all) p there
-    ]
-
 -- where a declaration is not refused, no process has the identification that it gives
 pub new_process : (m : MachineState) (d : Declaration) → None ≡ declare_refusal (plain_state m) d → DeclarationsGiveNewIdentifications (plain_state m)
     → IsNewProcess (next_pid (plain_state m) d.node) m.records
 new_process m d passed new p among same =
-    each_stored (λ q. q.pid ≢ next_pid (plain_state m) d.node) m.records.processes
+    each_of (λ (q : StoredProcess). q.process) (λ (q : Process). q.pid ≢ next_pid (plain_state m) d.node) m.records.processes
     (new d None (next_pid (plain_state m) d.node) refl (ap (λ refusal. (refused_or refusal (plain_state m) (step_change (plain_state m) (Declare d) None)).answer) (sym passed)))
     p among same

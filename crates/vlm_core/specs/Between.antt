@@ -1,14 +1,14 @@
 -- What holds between two steps, and what a step needs of it.
 use Rattle.std.specs.Prelude.{◌≤◌, ◌<◌, All}
 use Rattle.std.specs.List.{AllByRecursion}
-use Rattle.vlm_words.specs.Laws.{DeclarationsGiveNewIdentifications, IdentificationsAreApart, ParentsOutliveTheirSublocks}
+use Rattle.vlm_words.specs.Laws.{DeclarationsGiveNewIdentifications, IdentificationsAreApart, ParentsOutliveTheirSublocks, RowsFitTheirQueues}
 use Rattle.vlm_words.specs.Runs.{History, Run}
 use Rattle.vlm_words.specs.Settled.{IsSettled}
 use Rattle.vlm_words.specs.State.{State}
 
 -- nothing is to be swept, no two locks have one identification and none has one that is to come, or 0, serials are from 1,
--- no more of them than identifications were given, a declaration gives an identification that no living process has, and
--- each parent lock holds a mode
+-- no more of them than identifications were given, a declaration gives an identification that no living process has,
+-- each parent lock holds a mode, and each lock stands in the queue that fits what it holds and wants
 pub record IsBetweenSteps (s : State) : Type 0 where
   pub settled : AllByRecursion IsSettled s.resources
   pub identifications : IdentificationsAreApart s
@@ -16,6 +16,7 @@ pub record IsBetweenSteps (s : State) : Type 0 where
   pub few_serials : s.next_serial ≤ s.next_lkid
   pub new_processes : DeclarationsGiveNewIdentifications s
   pub parents : ParentsOutliveTheirSublocks s
+  pub rows_fit : RowsFitTheirQueues s
 
 -- some run leads to the state
 pub record IsReachable (s : State) : Type 0 where

@@ -3,6 +3,7 @@ use Rattle.std.specs.Prelude.{ℕ, List, ◌+◌}
 use Rattle.vlm_words.specs.State.{Node, State}
 use Rattle.vlm_store.specs.Plain.{plain_processes, plain_resources}
 use Rattle.vlm_store.specs.Records.{Records}
+use Rattle.vlm_locks.specs.Owing.{IsPaid}
 use Rattle.vlm_locks.specs.Rest.{IsAtRest}
 use Rattle.vlm_core.specs.declared.records.Machine.TheInside.{Inside}
 
@@ -35,6 +36,8 @@ plain_state m = record {
   next_serial = m.next_serial;
 }
 
--- the records are as they are to be between two steps, in each part of a step too
+-- the records are as they are to be between two steps, and each process is owed the ASTs that are due to it for its
+-- locks, in each part of a step too
 pub record HasRecordsAtRest (m : Inside) : Type 0 where
   pub rest : IsAtRest m.store
+  pub paid : IsPaid m.store

@@ -1,10 +1,10 @@
 //! The step that converts a lock to another mode.
 
-ghost use Rattle.std.specs.Prelude.{◌≡◌, Some, IfOk};
+ghost use Rattle.std.specs.Prelude.{◌≡◌, Some, IfOk, OnErr, OnOk};
 ghost use Rattle.std.specs.Result.{result_err};
-ghost use Rattle.vlm_words.specs.Convert.{ConversionAdmission, admission_refusal, convert_admission, convert_argument_refusal, convert_change, convert_lkid, convert_refusal, is_queued_legally_from, pair_refusal};
+ghost use Rattle.vlm_words.specs.Convert.{ConversionAdmission, admission_refusal, convert_admission, convert_change, convert_flags_refusal, convert_lkid, convert_refusal, is_queued_legally_from, pair_refusal};
 ghost use Rattle.vlm_words.specs.Flags.{flag_bits};
-ghost use Rattle.vlm_words.specs.Stepped.{Outcome};
+ghost use Rattle.vlm_words.specs.Stepped.{NamesRoutine, Outcome};
 ghost use Rattle.vlm_store.specs.Records.{HasResource};
 ghost use Rattle.vlm_locks.specs.Rest.{OthersStay};
 ghost use Rattle.vlm_locks.specs.Standing.{IsStandingOf};
@@ -15,6 +15,7 @@ ghost use Rattle.vlm_core.specs.Machine.{plain_state};
 use crate::checks::{acceptance, check_queue};
 use crate::flags::enq_flags;
 use crate::records::Machine;
+use std::alloc::AllocError;
 use vlm_locks::{Standing, convert, converts_at_once};
 use vlm_store::laws::law_records_are_sound;
 use vlm_words::conditions::Cond;
@@ -39,17 +40,20 @@ impl Machine {
         ensures { Outcome (plain_state self.old) (Step.Convert conversion)
             (plain_state self.new) result }
     {
-        match self.checked_conversion(&conversion) {
-            Ok(admitted) => {
-                let standing = admitted.standing;
-                self.convert_change(&conversion, &admitted);
+        let admitted = match self.checked_conversion(&conversion) {
+            Ok(admitted) => admitted,
+            Err(refusal) => return Answer::Plain(refusal),
+        };
+        let standing = admitted.standing;
+        match self.convert_change(&conversion, &admitted) {
+            Ok(()) => {
                 self.sweep(standing.res);
                 Answer::Lock(
                     acceptance(admitted.asked.flags, admitted.at_once),
                     standing.row.lkid,
                 )
             }
-            Err(refusal) => Answer::Plain(refusal),
+            Err(AllocError) => Answer::Plain(Cond::Insfmem),
         }
     }
 
@@ -100,38 +104,41 @@ impl Machine {
     }
 
     // The lock converts, with all that becomes of its status block, and the request number that it took is used up.
-    fn convert_change(&mut self, conversion: &Conversion, admitted: &AdmittedConversion)
-        requires { IsAdmittedConversion self.old conversion.now admitted.now }
-        ensures change { (a : ConversionAdmission)
+    // Where memory for the ASTs of the routines that are named is refused, nothing is changed.
+    fn convert_change(
+        &mut self,
+        conversion: &Conversion,
+        admitted: &AdmittedConversion,
+    ) -> Result<(), AllocError>
+        requires admitted { IsAdmittedConversion self.old conversion.now admitted.now }
+        requires between { IsBetweenSteps (plain_state self.old) }
+        ensures change { OnOk result ((a : ConversionAdmission)
             → convert_admission (plain_state self.old) conversion.now ≡ Some a
-            → plain_state self.new ≡ convert_change (plain_state self.old) conversion.now a }
-        ensures others { OthersStay admitted.now.standing.res self.old.records self.new.records }
-        ensures there { HasResource admitted.now.standing.res self.new.records }
+            → plain_state self.new ≡ convert_change (plain_state self.old) conversion.now a) }
+        ensures others { OnOk result
+            (OthersStay admitted.now.standing.res self.old.records self.new.records) }
+        ensures there { OnOk result (HasResource admitted.now.standing.res self.new.records) }
+        ensures unchanged { OnErr result (self.new ≡ self.old) }
+        ensures named { OnErr result (NamesRoutine conversion.now) }
     {
         convert(
             &mut self.store,
             &admitted.standing,
             &admitted.asked,
             admitted.at_once,
-        );
+        )?;
         self.last_request += 1;
+        Ok(())
     }
 }
 
-// The flags. BADPARAM where one of them is unknown, or a routine is given, which is not built yet.
-#[tactic(auto, unfolding(vlm_words::specs::Convert::convert_argument_refusal))]
+// The flags, or BADPARAM where one of them is unknown.
+#[tactic(auto, unfolding(vlm_words::specs::Convert::convert_flags_refusal))]
 fn checked_flags(conversion: &Conversion) -> Result<EnqFlags, Cond>
-    ensures refusal { result_err result ≡ convert_argument_refusal conversion.now }
+    ensures refusal { result_err result ≡ convert_flags_refusal conversion.now }
     ensures flags { IfOk result (λ flags. flag_bits flags ≡ conversion.now.flags) }
 {
-    let Some(flags) = enq_flags(conversion.flags) else {
-        return Err(Cond::Badparam);
-    };
-    if conversion.ast.is_none() && conversion.bast.is_none() {
-        Ok(flags)
-    } else {
-        Err(Cond::Badparam)
-    }
+    enq_flags(conversion.flags).ok_or(Cond::Badparam)
 }
 
 // BADPARAM where QUECVT does not go with a conversion from what the row holds.

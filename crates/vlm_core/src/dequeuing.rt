@@ -106,6 +106,7 @@ impl Machine {
     fn deq_change(&mut self, dequeue: &Dequeue, admitted: &AdmittedDequeue)
         requires admitted { IsAdmittedDequeue self.old dequeue.now admitted.now }
         requires childless { IsChildless self.old admitted.now }
+        requires between { IsBetweenSteps (plain_state self.old) }
         ensures change { plain_state self.new ≡ deq_change (plain_state self.old) dequeue.now }
         ensures others { OthersStay admitted.now.standing.res self.old.records self.new.records }
         ensures there { HasResource admitted.now.standing.res self.new.records }

@@ -3,7 +3,7 @@
 ghost use Rattle.std.specs.Prelude.{◌≡◌, ◌<◌, ◌^◌, ◌+◌, ℕ, true, false, is_some, find, unwrap_or, [], if◌then◌else◌, IfOk, IfSome, IsOk, OnErr, OnOk};
 ghost use Rattle.std.specs.Result.{result_err};
 ghost use Rattle.vlm_words.specs.declared.resources.Site.{Site};
-ghost use Rattle.vlm_words.specs.Enqueue.{enq_argument_refusal, enq_change, enq_form_refusal, enq_limit_refusal, enq_refusal, expedite_refusal, is_at_once, name_refusal};
+ghost use Rattle.vlm_words.specs.Enqueue.{enq_change, enq_flags_refusal, enq_form_refusal, enq_limit_refusal, enq_refusal, expedite_refusal, is_at_once, name_refusal};
 ghost use Rattle.vlm_words.specs.Resources.{is_at, new_resource};
 ghost use Rattle.vlm_words.specs.Flags.{flag_bits};
 ghost use Rattle.vlm_words.specs.Stepped.{Outcome};
@@ -192,7 +192,8 @@ impl Machine {
     }
 
     // The lock enters its resource, with all that becomes of its status block, and the numbers that it took are used
-    // up. Where there is no room and memory is refused, nothing is changed but that there may be more room.
+    // up. Where memory for it, or for the ASTs of the routines that are named, is refused, nothing is changed but that
+    // there may be more room.
     fn enq_change(
         &mut self,
         request: &NewRequest,
@@ -217,20 +218,13 @@ impl Machine {
     }
 }
 
-// The flags. BADPARAM where one of them is unknown, or a routine is given: these are not built yet.
-#[tactic(auto, unfolding(vlm_words::specs::Enqueue::enq_argument_refusal))]
+// The flags, or BADPARAM where one of them is unknown.
+#[tactic(auto, unfolding(vlm_words::specs::Enqueue::enq_flags_refusal))]
 fn checked_flags(request: &NewRequest) -> Result<EnqFlags, Cond>
-    ensures refusal { result_err result ≡ enq_argument_refusal request.now }
+    ensures refusal { result_err result ≡ enq_flags_refusal request.now }
     ensures flags { IfOk result (λ flags. flag_bits flags ≡ request.now.flags) }
 {
-    let Some(flags) = enq_flags(request.flags) else {
-        return Err(Cond::Badparam);
-    };
-    if request.ast.is_none() && request.bast.is_none() {
-        Ok(flags)
-    } else {
-        Err(Cond::Badparam)
-    }
+    enq_flags(request.flags).ok_or(Cond::Badparam)
 }
 
 // The name that is given, or IVBUFLEN.

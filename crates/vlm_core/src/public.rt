@@ -19,7 +19,7 @@ use vlm_store::laws::law_records_are_sound;
 use vlm_words::laws::{
     law_a_declaration_gives_a_new_identification, law_a_parent_outlives_its_sublocks,
     law_each_resource_is_settled, law_held_modes_are_compatible, law_identifications_are_apart,
-    law_nothing_is_left_to_grant, law_serials_rise,
+    law_nothing_is_left_to_grant, law_rows_fit_their_queues, law_serials_rise,
 };
 use vlm_words::steps::{Answer, Conversion, Declaration, Dequeue, NewRequest, Step, ValueSetting};
 
@@ -68,6 +68,7 @@ impl Core {
         law_serials_rise();
         law_a_declaration_gives_a_new_identification();
         law_a_parent_outlives_its_sublocks();
+        law_rows_fit_their_queues();
         let _machine = &self.machine;
     }
 
@@ -89,8 +90,12 @@ impl Core {
         &self.machine.store
     }
 
-    /// Makes one step, of whichever kind. A kind that is not built yet answers BADPARAM. Its cost grows
-    /// with what it grants, and with nothing else that is held.
+    /// Makes one step, of whichever kind. A kind that is not built yet answers BADPARAM. Each request that
+    /// ends in it queues an AST for its completion routine, if it names one; a grant at once with SYNCSTS
+    /// does not, since the answer tells of it. Then each granted lock that is in the way of a queued request
+    /// is warned, once for each grant of it: an AST for its blocking routine is queued, if its request names
+    /// one. Its cost grows with what it grants, where it warns also with the granted locks of that resource,
+    /// and with nothing else that is held.
     pub fn step(&mut self, step: Step) -> Answer
         ensures { Outcome self.old step self.new result }
     {
@@ -116,7 +121,8 @@ impl Core {
     }
 
     /// Takes the AST that was queued to the process first, of those that are pending (this project's own). It
-    /// takes no memory and answers the AST, or none where none is pending. Refused by DEPARTED, NONEXPR.
+    /// queues none, takes no memory and answers the AST, or none where none is pending. Refused by DEPARTED,
+    /// NONEXPR.
     pub fn take(&mut self, pid: u32) -> Answer
         ensures state { self.new ≡ (stepped self.old (Step.Take pid) None).state }
         ensures answer { result ≡ (stepped self.old (Step.Take pid) None).answer }
@@ -126,38 +132,50 @@ impl Core {
 
     /// Asks for a new lock ($ENQ): below the resource of a parent lock of the caller, or on a root in its
     /// group, or with SYSTEM in the system's domain. It answers NORMAL, or SYNCH where it is granted at
-    /// once with SYNCSTS. With VALBLK its grant returns the resource's value block. Refused by DEPARTED,
-    /// NONEXPR, BADPARAM for an unknown flag or an argument that is not built yet, ACCVIO, IVBUFLEN,
-    /// UNSUPPORTED for EXPEDITE at a mode other than NL, IVLOCKID where the parent is no lock of the caller,
-    /// PARNOTGRANT where it waits, EXDEPTH where it stands at level 15 (this project's own limit), NOSYSLCK
-    /// for a root with SYSTEM without the privilege, EXENQLM where the caller has as many locks as its
-    /// quota, NOLOCKID, NOTQUEUED where it must not queue and is not granted at once, INSFMEM.
+    /// once with SYNCSTS. With VALBLK its grant returns the resource's value block. Where it names a
+    /// completion routine, its end queues an AST for that to the caller, but for a grant at once with
+    /// SYNCSTS; where it names a blocking routine, an AST for that is queued to the caller once, as soon as
+    /// the granted lock is in the way of a queued request. The locks in its own way are warned so. Refused by
+    /// DEPARTED, NONEXPR, BADPARAM for an unknown flag, ACCVIO, IVBUFLEN, UNSUPPORTED for EXPEDITE at a mode
+    /// other than NL, IVLOCKID where the parent is no lock of the caller, PARNOTGRANT where it waits, EXDEPTH
+    /// where it stands at level 15 (this project's own limit), NOSYSLCK for a root with SYSTEM without the
+    /// privilege, EXENQLM where the caller has as many locks as its quota, NOLOCKID, NOTQUEUED where it must
+    /// not queue and is not granted at once, INSFMEM.
     pub fn enq(&mut self, request: NewRequest) -> Answer
         ensures { Outcome self.old (Step.Enq request) self.new result }
     {
         self.step(Step::Enq(request))
     }
 
-    /// Asks for another mode of a granted lock ($ENQ with LCK$M_CONVERT). It takes no memory. It answers
-    /// NORMAL, or SYNCH where it is granted at once with SYNCSTS. With VALBLK its grant returns the value
-    /// block of the resource, writes it, or does neither, by the held and the wanted mode. Refused by
-    /// DEPARTED, NONEXPR, BADPARAM for an unknown flag or an argument that is not built yet, ACCVIO, also
-    /// where the lock is named by a status block that is not there, IVLOCKID, CVTUNGRANT where the lock
-    /// waits or converts, BADPARAM where QUECVT does not go with the two modes, NOLOCKID, NOTQUEUED where
-    /// it must not queue and is not granted at once.
+    /// Asks for another mode of a granted lock ($ENQ with LCK$M_CONVERT). It answers NORMAL, or SYNCH where
+    /// it is granted at once with SYNCSTS. With VALBLK its grant returns the value block of the resource,
+    /// writes it, or does neither, by the held and the wanted mode. Where it names a completion routine, its
+    /// end queues an AST for that to the caller, but for a grant at once with SYNCSTS. With its grant its
+    /// blocking routine, or none, takes the place of the one that the lock had: an AST for it is queued to
+    /// the caller once, as soon as the granted lock is in the way of a queued request. The locks in its own
+    /// way are warned so. Refused by DEPARTED, NONEXPR, BADPARAM for an unknown flag, ACCVIO, also where the
+    /// lock is named by a status block that is not there, IVLOCKID, CVTUNGRANT where the lock waits or
+    /// converts, BADPARAM where QUECVT does not go with the two modes, NOLOCKID, NOTQUEUED where it must not
+    /// queue and is not granted at once, INSFMEM, but only where it names a routine: without one it takes no
+    /// memory.
     pub fn convert(&mut self, conversion: Conversion) -> Answer
-        ensures state { self.new ≡ (stepped self.old (Step.Convert conversion) None).state }
-        ensures answer { result ≡ (stepped self.old (Step.Convert conversion) None).answer }
+        ensures outcome { Outcome self.old (Step.Convert conversion) self.new result }
+        ensures state { conversion.ast ≡ None → conversion.bast ≡ None
+            → self.new ≡ (stepped self.old (Step.Convert conversion) None).state }
+        ensures answer { conversion.ast ≡ None → conversion.bast ≡ None
+            → result ≡ (stepped self.old (Step.Convert conversion) None).answer }
     {
         self.step(Step::Convert(conversion))
     }
 
     /// Gives a lock up, or with CANCEL ends its request ($DEQ). A lock that is held at PW or EX writes a
     /// given value to the value block, and with INVVALBLK then marks it invalid; with CANCEL, at lower
-    /// modes and for a waiting lock both are ignored (this project's own). It takes no memory. Refused by
-    /// DEPARTED, NONEXPR, BADPARAM for an unknown flag, ACCVIO where the lock is named by a status block
-    /// that is not there, IVLOCKID, CANCELGRANT where a granted lock is to be cancelled, SUBLOCKS where one
-    /// that has sublocks is to be given up.
+    /// modes and for a waiting lock both are ignored (this project's own). A request that ends with it, by
+    /// abort or cancel, queues an AST for its completion routine, if it names one; of its blocking routine
+    /// nothing comes, and a lock that goes is not warned any more. It takes no memory. Refused by DEPARTED,
+    /// NONEXPR, BADPARAM for an unknown flag, ACCVIO where the lock is named by a status block that is not
+    /// there, IVLOCKID, CANCELGRANT where a granted lock is to be cancelled, SUBLOCKS where one that has
+    /// sublocks is to be given up.
     pub fn deq(&mut self, dequeue: Dequeue) -> Answer
         ensures state { self.new ≡ (stepped self.old (Step.Deq dequeue) None).state }
         ensures answer { result ≡ (stepped self.old (Step.Deq dequeue) None).answer }

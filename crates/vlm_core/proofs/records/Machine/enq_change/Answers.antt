@@ -5,7 +5,7 @@ use Rattle.vlm_core.specs.Admissions.{IsAdmitted}
 use Rattle.vlm_core.specs.Between.{IsBetweenSteps}
 use Rattle.vlm_core.specs.Machine.{MachineState, kept, plain_state}
 use Rattle.vlm_core.proofs.Entries.{entered_state, processes_are, resources_are, serial_is}
-use Rattle.vlm_core.proofs.Stayed.{rests_refused}
+use Rattle.vlm_core.proofs.Stayed.{paid_refused, rests_refused}
 use Rattle.vlm_core.proofs.ToCome.{above_all}
 use Rattle.vlm_core.proofs.records.Machine.enq_change.Goals as goal
 
@@ -24,9 +24,16 @@ enter-requires-clause-may_enter c =
       keyed = admitted.entry.keyed;
     }
 
+-- a new lock is not armed
+pub enter-requires-clause-new : goal.enter-requires-clause-new
+enter-requires-clause-new c = ap (λ (r : Row). r.armed) c.requires.admitted.entry.row
+
 -- where memory is refused it is as it was
 pub invariant_of-self : goal.invariant_of-self
-invariant_of-self c = record { rest = rests_refused c.self.inside.store c.enter.new.store c.in_err-res.ensures.err c.self.invariant.rest }
+invariant_of-self c = record {
+  rest = rests_refused c.self.inside.store c.enter.new.store c.in_err-res.ensures.err c.self.invariant.rest;
+  paid = paid_refused c.self.inside.store c.enter.new.store c.in_err-res.ensures.err c.self.invariant.paid;
+}
 
 -- the plain machine's change
 pub returns-clause-change : goal.returns-clause-change
