@@ -1,0 +1,14 @@
+//! What holds of the ASTs of every run of the plain machine. The functions do nothing: their contracts are the
+//! laws.
+
+ghost use Rattle.vlm_words.specs.State.{State};
+ghost use Rattle.vlm_words.specs.Runs.{History, Run};
+ghost use Rattle.vlm_laws.specs.Completing.{EachRequestCompletesOnce};
+
+/// Each request that ends has its completion once: the completions that were queued, in their order, are those of
+/// the endings, in theirs. An ending has one where its request names a completion routine, unless it is granted at
+/// once and asks by SYNCSTS that the answer alone tells of that.
+pub fn law_a_request_completes_once()
+    ensures { (history : History) (last : State) → Run history last
+        → EachRequestCompletesOnce history.endings history.queued }
+{}
