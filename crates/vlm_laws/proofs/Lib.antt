@@ -1,1 +1,3 @@
 pub mod Completing
+pub mod Strangers
+pub mod Accounting

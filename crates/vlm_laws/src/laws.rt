@@ -3,7 +3,20 @@
 
 ghost use Rattle.vlm_words.specs.State.{State};
 ghost use Rattle.vlm_words.specs.Runs.{History, Run};
+ghost use Rattle.vlm_laws.specs.Accounting.{WhatIsQueuedIsTakenOrPending};
 ghost use Rattle.vlm_laws.specs.Completing.{EachRequestCompletesOnce};
+
+use vlm_words::laws::law_asts_are_taken_in_order;
+
+/// No AST is lost, and none comes from nowhere: what was queued to a living process, from the start of the run, is
+/// what its takes answered, and behind it what is pending, in the order of queueing. Nothing was queued to any other
+/// process.
+pub fn law_what_is_queued_is_taken_or_pending()
+    ensures { (history : History) (last : State) → Run history last
+        → WhatIsQueuedIsTakenOrPending history last }
+{
+    law_asts_are_taken_in_order();
+}
 
 /// Each request that ends has its completion once: the completions that were queued, in their order, are those of
 /// the endings, in theirs. An ending has one where its request names a completion routine, unless it is granted at
