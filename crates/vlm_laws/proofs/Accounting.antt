@@ -120,7 +120,7 @@ record IsAccountedForOthers (s t : State) (step : Step) (answer : Answer) (queue
   asts : (pid : ℕ) → lives s.processes pid ≡ false → asts_of t.processes pid ≡ []
 
 -- what a step leaves, behind what it takes, is what was there
-taken_and_left : (step : Step) (answer : Answer) (pid : ℕ) (before left : List Ast) → AstsLeft step answer pid before left
+pub taken_and_left : (step : Step) (answer : Answer) (pid : ℕ) (before left : List Ast) → AstsLeft step answer pid before left
     → before ≡ taken_in pid step answer ++ left
 taken_and_left (Declare d) answer pid before left is = sym is
 taken_and_left (SetValue v) answer pid before left is = sym is
@@ -298,7 +298,7 @@ unchanged_accounted s step refusal = record {
 }
 
 -- that takes answer in the order of queueing, after every run
-abbrev TakesInOrder : Type 0
+abbrev pub TakesInOrder : Type 0
 TakesInOrder =
     (history : History) (old : State) → Run history old → (step : Step) (choice : Option Row)
     → IsChoice old step choice → AstsAreTakenInOrder old step choice

@@ -1,2 +1,3 @@
 pub mod Completing
 pub mod Accounting
+pub mod Raising

@@ -1,10 +1,15 @@
 //! What holds of the ASTs of every run of the plain machine. The functions do nothing: their contracts are the
 //! laws.
 
+ghost use Rattle.std.specs.Prelude.{Option};
+ghost use Rattle.vlm_words.specs.declared.locks.Row.{Row};
+ghost use Rattle.vlm_words.specs.declared.steps.Step.{Step};
 ghost use Rattle.vlm_words.specs.State.{State};
 ghost use Rattle.vlm_words.specs.Runs.{History, Run};
+ghost use Rattle.vlm_words.specs.Stepped.{IsChoice};
 ghost use Rattle.vlm_laws.specs.Accounting.{WhatIsQueuedIsTakenOrPending};
 ghost use Rattle.vlm_laws.specs.Completing.{EachRequestCompletesOnce};
+ghost use Rattle.vlm_laws.specs.Raising.{OnlyOwnRequestsRaiseDues};
 
 use vlm_words::laws::law_asts_are_taken_in_order;
 
@@ -25,3 +30,14 @@ pub fn law_a_request_completes_once()
     ensures { (history : History) (last : State) → Run history last
         → EachRequestCompletesOnce history.endings history.queued }
 {}
+
+/// A process gets room for ASTs by its own requests alone. The ASTs that are pending for it and those that its locks
+/// may still bring are together no more after a step than before, but for the routines that the step names, where it
+/// is a new request or a conversion of that process that is accepted. So what is queued was due.
+pub fn law_only_own_requests_raise_what_is_due()
+    ensures { (history : History) (old : State) → Run history old
+        → (step : Step) (choice : Option Row)
+        → IsChoice old step choice → OnlyOwnRequestsRaiseDues old step choice }
+{
+    law_asts_are_taken_in_order();
+}
