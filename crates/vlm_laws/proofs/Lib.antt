@@ -1,0 +1,5 @@
+pub mod Completing
+pub mod Strangers
+pub mod Accounting
+pub mod Falling
+pub mod Raising

@@ -1,0 +1,264 @@
+-- What is due to a process rises by its own requests alone.
+use Rattle.std.proofs.Common.{◌≡◌, ◌≤◌, ◌+◌, ◌++◌, ℕ, Bool, true, false, not, List, [], ◌∷◌, map, cond, length, length-append, Option, None, Some, refl, sym, subst, ap, arith}
+use Rattle.std.specs.Prelude.{◌==◌}
+use Rattle.std.specs.List.{find, sum_by}
+use Rattle.std.proofs.lemmas.Bool.{and_parts, eqb-true}
+use Rattle.std.proofs.lemmas.List.Sums.{sum_by-append, sum_by-cons, sum_by_push}
+use Rattle.vlm_words.specs.declared.asts.Ast.{Ast}
+use Rattle.vlm_words.specs.declared.conditions.Cond.{Cond}
+use Rattle.vlm_words.specs.declared.locks.Request.{Request}
+use Rattle.vlm_words.specs.declared.locks.Row.{Row}
+use Rattle.vlm_words.specs.declared.resources.ValueBlock.{ValueBlock}
+use Rattle.vlm_words.specs.declared.steps.Conversion.{Conversion}
+use Rattle.vlm_words.specs.declared.steps.Dequeue.{Dequeue}
+use Rattle.vlm_words.specs.declared.steps.NewRequest.{NewRequest}
+use Rattle.vlm_words.specs.declared.steps.Step.TheVariants.{Declare, SetValue, Enq, Convert, Deq, Rundown, Leave, Search, Take}
+use Rattle.vlm_words.specs.declared.steps.Step.{Step}
+use Rattle.vlm_words.specs.State.{Resource, State}
+use Rattle.vlm_words.specs.Effects.{with_value_block}
+use Rattle.vlm_words.specs.Grants.{grant_endings, granted_row, resource_after_grant}
+use Rattle.vlm_words.specs.Sweeps.{sweep_asts}
+use Rattle.vlm_words.specs.Rows.{is_lock_of, rows_without}
+use Rattle.vlm_words.specs.Declare.{declare_change}
+use Rattle.vlm_words.specs.SetValue.{set_change}
+use Rattle.vlm_words.specs.Take.{take_change}
+use Rattle.vlm_words.specs.Trees.{enq_site}
+use Rattle.vlm_words.specs.Enqueue.{enq_at_once, enq_change, enq_endings, enq_row}
+use Rattle.vlm_words.specs.Convert.{ConversionAdmission, admission_among, admission_or, conversion_endings, convert_admission, convert_blocks, convert_change, convert_lkid, convert_request, converts_at_once, resource_after_conversion, resource_after_conversion_of, resource_without_granted, wanting_row}
+use Rattle.vlm_words.specs.Dequeue.{deq_change, deq_endings, withdrawal_of}
+use Rattle.vlm_words.specs.Dues.{due, due_to, one_where, routines_named, routines_of}
+use Rattle.vlm_words.specs.Taking.{AstsAfter, queued_to}
+use Rattle.vlm_words.specs.Stepped.{IsChoice, Stepped, conversion_change, refused_or, step_change, step_refusal, stepped, stepped_after_sweep}
+use Rattle.vlm_words.specs.Runs.{History, Run}
+use Rattle.vlm_words.proofs.Admissions.{admitted_request, some_same}
+use Rattle.vlm_words.proofs.Always.{admission_of}
+use Rattle.vlm_words.proofs.Apart.{Apart, apart_always, standing, stands}
+use Rattle.vlm_words.proofs.Counts.{found_stands}
+use Rattle.vlm_words.proofs.Each.{Found, found_at}
+use Rattle.vlm_words.proofs.Sums.{sum_filter_but-le}
+use Rattle.vlm_words.proofs.Weights.{weigh}
+use Rattle.vlm_words.proofs.Withdrawing.{one_ends}
+use Rattle.vlm_laws.specs.Accounting.{taken_in}
+use Rattle.vlm_laws.specs.Raising.{OnlyOwnRequestsRaiseDues, routines_asked}
+use Rattle.vlm_laws.proofs.Accounting.{TakesInOrder, taken_and_left}
+use Rattle.vlm_laws.proofs.Falling.{all_withdrawn_fall, calls, calls_many, entered_among_falls, grant_falls, many, many-append, own, swept_falls}
+
+-- ---- conversions
+
+-- the routines of a request, where the process is its owner
+abbrev asked : ℕ → ℕ → Request → ℕ
+asked pid owner request = own pid owner (routines_of (Some request))
+
+-- a row that wants a conversion is due what it was, and what the request names
+wanting_due : (pid : ℕ) (request : Request) (row : Row) → due_to pid (wanting_row row request) ≤ due_to pid row + asked pid row.pid request
+wanting_due pid request row = of_owner (row.pid == pid)
+  where
+    of_owner : (b : Bool) → cond b (routines_of (Some request) + one_where row.armed) 0
+        ≤ cond b (routines_of row.want + one_where row.armed) 0 + cond b (routines_of (Some request)) 0
+    of_owner true = omega arith
+    of_owner false = omega arith
+
+-- on the resource of the lock
+converted_row_falls : (pid : ℕ) (request : Request) (at_once : Bool) (caller lkid : ℕ) (block : ValueBlock) (r : Resource) (row : Row)
+    → Found (is_lock_of caller lkid) r.granted row
+    → weigh (due_to pid) (resource_after_conversion_of request at_once lkid block r (Some row))
+    + sum_by (calls pid) (cond at_once (grant_endings true (wanting_row row request)) [])
+    ≤ weigh (due_to pid) r + asked pid caller request
+converted_row_falls pid request at_once caller lkid block r row at =
+    let parts = and_parts (row.lkid == lkid) (row.pid == caller) at.passes in
+    let fewer : sum_by (due_to pid) (rows_without lkid r.granted) + due_to pid row ≤ sum_by (due_to pid) r.granted =
+    sum_filter_but-le (due_to pid) (is_lock_of caller lkid) (λ each. not (each.lkid == lkid)) r.granted row (ap not parts.0) at in
+    let owner : asked pid row.pid request ≡ asked pid caller request = ap (λ (n : ℕ). asked pid n request) (eqb-true row.pid caller parts.1) in
+    let wanting : due_to pid (wanting_row row request) ≤ due_to pid row + asked pid row.pid request = wanting_due pid request row in
+    elim at_once as (λ b.
+    weigh (due_to pid)
+    (cond b (with_value_block block (resource_after_grant (resource_without_granted lkid r) (wanting_row row request)))
+    (record (resource_without_granted lkid r) { converting = r.converting ++ wanting_row row request ∷ [] }))
+    + sum_by (calls pid) (cond b (grant_endings true (wanting_row row request)) []) ≤ weigh (due_to pid) r + asked pid caller request) [
+      | true ↦ omega (
+        arith,
+        fewer,
+        owner,
+        wanting,
+        grant_falls pid true (wanting_row row request),
+        sum_by_push (due_to pid) (rows_without lkid r.granted) (granted_row (wanting_row row request)),
+      )
+      | false ↦ omega (arith, fewer, owner, wanting, sum_by_push (due_to pid) r.converting (wanting_row row request))
+    ]
+
+-- a lock that has no row is not found
+absent_same : (request : Request) (at_once : Bool) (caller lkid : ℕ) (block : ValueBlock) (r : Resource) (found : Option Row) → find (is_lock_of caller lkid) r.granted ≡ found
+    → weigh (stands lkid) r ≡ 0 → resource_after_conversion_of request at_once lkid block r found ≡ r
+absent_same request at_once caller lkid block r None is absent = refl
+absent_same request at_once caller lkid block r (Some row) is absent =
+    absurd (omega (arith, found_stands caller lkid r.granted row (found_at (is_lock_of caller lkid) r.granted row is)))
+
+-- resources without a row of the lock stay as they are when it converts
+absent_unchanged : (request : Request) (at_once : Bool) (caller lkid : ℕ) (block : ValueBlock) (resources : List Resource) → standing lkid resources ≡ 0
+    → map (resource_after_conversion request at_once caller lkid block) resources ≡ resources
+unfolding resource_after_conversion
+absent_unchanged request at_once caller lkid block [] absent = refl
+absent_unchanged request at_once caller lkid block (r ∷ rest) absent =
+    let both : standing lkid (r ∷ rest) ≡ weigh (stands lkid) r + standing lkid rest = sum_by-cons (weigh (stands lkid)) r rest in
+    let here : resource_after_conversion request at_once caller lkid block r ≡ r =
+    absent_same request at_once caller lkid block r (find (is_lock_of caller lkid) r.granted) refl (omega arith) in
+    let behind : map (resource_after_conversion request at_once caller lkid block) rest ≡ rest = absent_unchanged request at_once caller lkid block rest (omega arith) in
+    cc
+
+-- what is due once the lock converts, with the call that a grant at once brings
+abbrev ConvertsWithin : ℕ → Request → ℕ → ℕ → ValueBlock → ConversionAdmission → List Resource → Type 0
+ConvertsWithin pid request caller lkid block a resources =
+    sum_by (weigh (due_to pid)) (map (resource_after_conversion request a.at_once caller lkid block) resources) + sum_by (calls pid) (conversion_endings a)
+    ≤ sum_by (weigh (due_to pid)) resources + asked pid caller request
+
+-- where a lock has one row, its conversion is asked for once: on its resource, or on those behind it
+here_or_behind : (pid : ℕ) (request : Request) (caller lkid : ℕ) (block : ValueBlock) (r : Resource) (rest : List Resource)
+    (a : ConversionAdmission) (found : Option Row)
+    → find (is_lock_of caller lkid) r.granted ≡ found → standing lkid (r ∷ rest) ≤ 1
+    → (admission_among request caller lkid rest ≡ Some a → ConvertsWithin pid request caller lkid block a rest)
+    → admission_or request r found (admission_among request caller lkid rest) ≡ Some a
+    → weigh (due_to pid) (resource_after_conversion_of request a.at_once lkid block r found)
+    + sum_by (weigh (due_to pid)) (map (resource_after_conversion request a.at_once caller lkid block) rest)
+    + sum_by (calls pid) (conversion_endings a)
+    ≤ weigh (due_to pid) r + sum_by (weigh (due_to pid)) rest + asked pid caller request
+here_or_behind pid request caller lkid block r rest a None is one behind at = omega (arith, behind at)
+here_or_behind pid request caller lkid block r rest a (Some row) is one behind at =
+    let at_row : Found (is_lock_of caller lkid) r.granted row = found_at (is_lock_of caller lkid) r.granted row is in
+    let here : ConversionAdmission = record { resource = r; row = row; request = request; at_once = converts_at_once request row.lkid r } in
+    let same : Some here ≡ Some a = at in
+    let its : sum_by (calls pid) (cond a.at_once (grant_endings true (wanting_row row request)) []) ≡ sum_by (calls pid) (conversion_endings a) =
+    ap (λ (b : ConversionAdmission). sum_by (calls pid) (cond a.at_once (grant_endings true (wanting_row b.row b.request)) [])) (some_same here a same) in
+    let falls = converted_row_falls pid request a.at_once caller lkid block r row at_row in
+    let absent : standing lkid rest ≡ 0 =
+    omega (arith, sum_by-cons (weigh (stands lkid)) r rest, found_stands caller lkid r.granted row at_row) in
+    omega (arith, falls, its, ap (sum_by (weigh (due_to pid))) (absent_unchanged request a.at_once caller lkid block rest absent))
+
+all_converted_fall : (pid : ℕ) (request : Request) (caller lkid : ℕ) (block : ValueBlock) (a : ConversionAdmission) (resources : List Resource)
+    → standing lkid resources ≤ 1 → admission_among request caller lkid resources ≡ Some a → ConvertsWithin pid request caller lkid block a resources
+unfolding resource_after_conversion
+all_converted_fall pid request caller lkid block a [] one at = cc
+all_converted_fall pid request caller lkid block a (r ∷ rest) one at =
+    let fewer : standing lkid rest ≤ 1 = omega (arith, sum_by-cons (weigh (stands lkid)) r rest) in
+    let all = here_or_behind pid request caller lkid block r rest a (find (is_lock_of caller lkid) r.granted) refl one
+    (λ behind. all_converted_fall pid request caller lkid block a rest fewer behind) at in
+    omega (
+      arith,
+      all,
+      sum_by-cons (weigh (due_to pid)) r rest,
+      sum_by-cons (weigh (due_to pid)) (resource_after_conversion request a.at_once caller lkid block r)
+          (map (resource_after_conversion request a.at_once caller lkid block) rest),
+    )
+
+-- ---- the steps
+
+-- what is due to each process, with what is queued to it, was due or is asked for
+abbrev RisesAsAsked : State → Step → Stepped → Type 0
+RisesAsAsked s step made =
+    (pid : ℕ) → sum_by (weigh (due_to pid)) made.state.resources + many pid made.queued
+    ≤ sum_by (weigh (due_to pid)) s.resources + routines_asked pid step made.answer
+
+-- a sweep keeps that
+swept_as_asked : (s : State) (step : Step) (change : Stepped) → RisesAsAsked s step change → RisesAsAsked s step (stepped_after_sweep change)
+swept_as_asked s step change rises pid =
+    omega (
+      arith,
+      rises pid,
+      swept_falls pid change.state.processes change.state.resources,
+      many-append pid change.queued (sweep_asts change.state.resources),
+    )
+
+-- a new request
+request_as_asked : (s : State) (e : NewRequest) (choice : Option Row) → RisesAsAsked s (Enq e) (step_change s (Enq e) choice)
+unfolding enq_change
+request_as_asked s e choice pid =
+    omega (
+      arith,
+      calls_many pid (enq_endings s e),
+      entered_among_falls pid s.next_serial (enq_site s e) (enq_row s e) (enq_at_once s e) s.resources,
+      of_owner (e.pid == pid),
+    )
+  where
+    of_owner : (b : Bool) → cond b (routines_named e.ast e.bast + one_where false) 0 ≤ cond b (routines_named e.ast e.bast) 0
+    of_owner true = omega arith
+    of_owner false = omega arith
+
+-- a conversion
+conversion_as_asked : (s : State) (c : Conversion) (a : ConversionAdmission) → Apart s → convert_admission s c ≡ Some a
+    → RisesAsAsked s (Convert c) (conversion_change s c (Some a))
+unfolding convert_change convert_admission
+conversion_as_asked s c a apart admitted pid =
+    let lkid : ℕ = convert_lkid s c in
+    let block : ValueBlock = (convert_blocks s c a).value_block in
+    let request : a.request ≡ convert_request s c = admitted_request (convert_request s c) c.pid lkid a s.resources admitted in
+    let falls : sum_by (weigh (due_to pid)) (map (resource_after_conversion a.request a.at_once c.pid lkid block) s.resources) + sum_by (calls pid) (conversion_endings a)
+    ≤ sum_by (weigh (due_to pid)) s.resources + asked pid c.pid (convert_request s c) =
+    subst (λ (q : Request). sum_by (weigh (due_to pid)) (map (resource_after_conversion q a.at_once c.pid lkid block) s.resources) + sum_by (calls pid) (conversion_endings a)
+    ≤ sum_by (weigh (due_to pid)) s.resources + asked pid c.pid (convert_request s c)) (sym request)
+    (all_converted_fall pid (convert_request s c) c.pid lkid block a s.resources (apart.one_row lkid) admitted) in
+    omega (arith, falls, calls_many pid (conversion_endings a))
+
+-- a dequeue
+dequeue_as_asked : (s : State) (d : Dequeue) (choice : Option Row) → RisesAsAsked s (Deq d) (step_change s (Deq d) choice)
+unfolding deq_change
+dequeue_as_asked s d choice pid =
+    omega (
+      arith,
+      calls_many pid (deq_endings s d),
+      all_withdrawn_fall pid (withdrawal_of s d) s.resources,
+      ap (sum_by (calls pid)) (one_ends (withdrawal_of s d) s.resources),
+    )
+
+-- a step that no check refuses
+made_as_asked : (s : State) (step : Step) (choice : Option Row) → Apart s → step_refusal s step ≡ None → RisesAsAsked s step (stepped_after_sweep (step_change s step choice))
+unfolding declare_change set_change take_change
+made_as_asked s (Declare d) choice apart passed = swept_as_asked s (Declare d) (step_change s (Declare d) choice) (λ pid. omega arith)
+made_as_asked s (SetValue v) choice apart passed = swept_as_asked s (SetValue v) (step_change s (SetValue v) choice) (λ pid. omega arith)
+made_as_asked s (Enq e) choice apart passed = swept_as_asked s (Enq e) (step_change s (Enq e) choice) (request_as_asked s e choice)
+made_as_asked s (Convert c) choice apart passed =
+    let admitted = admission_of s c passed in
+    subst (λ (a : Option ConversionAdmission). RisesAsAsked s (Convert c) (stepped_after_sweep (conversion_change s c a))) (sym admitted.1)
+    (swept_as_asked s (Convert c) (conversion_change s c (Some admitted.0)) (conversion_as_asked s c admitted.0 apart admitted.1))
+made_as_asked s (Deq d) choice apart passed = swept_as_asked s (Deq d) (step_change s (Deq d) choice) (dequeue_as_asked s d choice)
+made_as_asked s (Rundown process) choice apart passed = cc
+made_as_asked s (Leave node) choice apart passed = cc
+made_as_asked s (Search node) choice apart passed = cc
+made_as_asked s (Take process) choice apart passed = swept_as_asked s (Take process) (step_change s (Take process) choice) (λ pid. omega arith)
+
+step_as_asked : (s : State) (step : Step) (choice : Option Row) → Apart s → (refusal : Option Cond) → step_refusal s step ≡ refusal
+    → RisesAsAsked s step (refused_or refusal s (step_change s step choice))
+step_as_asked s step choice apart None passed = made_as_asked s step choice apart passed
+step_as_asked s step choice apart (Some refusal) is = λ pid. omega arith
+
+-- ---- after every run
+
+-- what is due, counted queue by queue
+all_due : (pid : ℕ) (resources : List Resource) → due pid resources ≡ sum_by (weigh (due_to pid)) resources
+all_due pid [] = refl
+all_due pid (r ∷ rest) =
+    omega (
+      arith,
+      all_due pid rest,
+      sum_by-append (due_to pid) (r.granted ++ r.converting) r.waiting,
+      sum_by-append (due_to pid) r.granted r.converting,
+      sum_by-cons (λ (x : Resource). sum_by (due_to pid) (x.granted ++ x.converting ++ x.waiting)) r rest,
+      sum_by-cons (weigh (due_to pid)) r rest,
+    )
+
+pub raising_always : TakesInOrder → (history : History) (old : State) → Run history old → (step : Step) (choice : Option Row)
+    → IsChoice old step choice → OnlyOwnRequestsRaiseDues old step choice
+raising_always in_order history old run step choice chosen = record {
+  room = λ pid before after was is.
+      let made : Stepped = stepped old step choice in
+      let order : AstsAfter step made.answer made.queued pid before.asts after.asts =
+      (in_order history old run step choice chosen).asts pid before after was is in
+      omega (
+        arith,
+        step_as_asked old step choice (apart_always history old run) (step_refusal old step) refl pid,
+        all_due pid old.resources,
+        all_due pid made.state.resources,
+        ap (λ (asts : List Ast). length asts) order.behind,
+        length-append order.left (queued_to pid made.queued),
+        ap (λ (asts : List Ast). length asts) (taken_and_left step made.answer pid before.asts order.left order.taken),
+        length-append (taken_in pid step made.answer) order.left,
+      );
+}

@@ -1,0 +1,39 @@
+-- Which completion ASTs the ends of requests have.
+use Rattle.std.specs.Prelude.{◌≡◌, ◌&&◌, ℕ, Bool, true, false, List, [], ◌∷◌, Option, None, Some, filter, flat_map, if◌then◌else◌}
+use Rattle.vlm_words.specs.declared.asts.AstKind.{AstKind}
+use Rattle.vlm_words.specs.declared.asts.AstKind.TheVariants.{Completion, Blocking}
+use Rattle.vlm_words.specs.Flags.{flag_bits, has_flag, syncsts}
+use Rattle.vlm_words.specs.Endings.{Ending}
+use Rattle.vlm_words.specs.Asts.{Queued}
+
+-- the AST is a completion, and no warning
+abbrev pub tells_completion : AstKind → Bool
+tells_completion Completion = true
+tells_completion Blocking = false
+
+-- what was queued is a completion
+abbrev pub is_completion : Queued → Bool
+is_completion q = tells_completion q.ast.kind
+
+-- the answer told the end: the request is granted at once, and asks for that by SYNCSTS
+abbrev pub is_told_by_answer : Ending → Bool
+is_told_by_answer ending = ending.at_once && has_flag (flag_bits ending.request.flags) syncsts
+
+-- the call of a routine for the end of a request, if one is named: queued to the process of the lock, with the
+-- parameter of the request and the identification of the lock
+abbrev pub call_of : Option ℕ → Ending → List Queued
+call_of None ending = []
+call_of (Some routine) ending =
+    record {
+      pid = ending.pid;
+      ast = record { kind = Completion; routine = routine; param = ending.request.param; lkid = ending.lkid };
+    }
+    ∷ []
+
+-- the completion of an ending: the call of its request's completion routine, unless the answer told the end
+abbrev pub completion_of : Ending → List Queued
+completion_of ending = if is_told_by_answer ending then [] else call_of ending.request.completion ending
+
+-- the completions that were queued are those of the endings, each once and in their order
+pub record EachRequestCompletesOnce (endings : List Ending) (queued : List Queued) : Type 0 where
+  pub completions : filter is_completion queued ≡ flat_map completion_of endings

@@ -1,0 +1,24 @@
+-- How many ASTs a process may come to have.
+use Rattle.std.specs.Prelude.{◌≡◌, ◌≤◌, ◌==◌, ◌+◌, ℕ, Option, Some, length, if◌then◌else◌}
+use Rattle.vlm_words.specs.declared.locks.Row.{Row}
+use Rattle.vlm_words.specs.declared.steps.Answer.TheVariants.{Lock}
+use Rattle.vlm_words.specs.declared.steps.Answer.{Answer}
+use Rattle.vlm_words.specs.declared.steps.Step.TheVariants.{Enq, Convert}
+use Rattle.vlm_words.specs.declared.steps.Step.{Step}
+use Rattle.vlm_words.specs.State.{Process, State, process_of}
+use Rattle.vlm_words.specs.Dues.{due, routines_named}
+use Rattle.vlm_words.specs.Stepped.{stepped}
+
+-- how many routines an accepted step names for ASTs of the process: those of its own request
+abbrev pub routines_asked : ℕ → Step → Answer → ℕ
+routines_asked pid (Enq e) (Lock cond lkid) = if e.pid == pid then routines_named e.ast e.bast else 0
+routines_asked pid (Convert c) (Lock cond lkid) = if c.pid == pid then routines_named c.ast c.bast else 0
+routines_asked pid step answer = 0
+
+-- a process that lives has no more ASTs after a step, pending and due together, than it had before, and one for each
+-- routine that it names in the step, where that is a request of its own that is accepted
+pub record OnlyOwnRequestsRaiseDues (old : State) (step : Step) (choice : Option Row) : Type 0 where
+  pub room : (pid : ℕ) (before after : Process) → process_of old.processes pid ≡ Some before
+      → process_of (stepped old step choice).state.processes pid ≡ Some after
+      → length after.asts + due pid (stepped old step choice).state.resources
+      ≤ length before.asts + due pid old.resources + routines_asked pid step (stepped old step choice).answer

@@ -1,0 +1,43 @@
+//! What holds of the ASTs of every run of the plain machine. The functions do nothing: their contracts are the
+//! laws.
+
+ghost use Rattle.std.specs.Prelude.{Option};
+ghost use Rattle.vlm_words.specs.declared.locks.Row.{Row};
+ghost use Rattle.vlm_words.specs.declared.steps.Step.{Step};
+ghost use Rattle.vlm_words.specs.State.{State};
+ghost use Rattle.vlm_words.specs.Runs.{History, Run};
+ghost use Rattle.vlm_words.specs.Stepped.{IsChoice};
+ghost use Rattle.vlm_laws.specs.Accounting.{WhatIsQueuedIsTakenOrPending};
+ghost use Rattle.vlm_laws.specs.Completing.{EachRequestCompletesOnce};
+ghost use Rattle.vlm_laws.specs.Raising.{OnlyOwnRequestsRaiseDues};
+
+use vlm_words::laws::law_asts_are_taken_in_order;
+
+/// No AST is lost, and none comes from nowhere: what was queued to a living process, from the start of the run, is
+/// what its takes answered, and behind it what is pending, in the order of queueing. Nothing was queued to any other
+/// process.
+pub fn law_what_is_queued_is_taken_or_pending()
+    ensures { (history : History) (last : State) → Run history last
+        → WhatIsQueuedIsTakenOrPending history last }
+{
+    law_asts_are_taken_in_order();
+}
+
+/// Each request that ends has its completion once: the completions that were queued, in their order, are those of
+/// the endings, in theirs. An ending has one where its request names a completion routine, unless it is granted at
+/// once and asks by SYNCSTS that the answer alone tells of that.
+pub fn law_a_request_completes_once()
+    ensures { (history : History) (last : State) → Run history last
+        → EachRequestCompletesOnce history.endings history.queued }
+{}
+
+/// A process gets room for ASTs by its own requests alone. The ASTs that are pending for it and those that its locks
+/// may still bring are together no more after a step than before, but for the routines that the step names, where it
+/// is a new request or a conversion of that process that is accepted. So what is queued was due.
+pub fn law_only_own_requests_raise_what_is_due()
+    ensures { (history : History) (old : State) → Run history old
+        → (step : Step) (choice : Option Row)
+        → IsChoice old step choice → OnlyOwnRequestsRaiseDues old step choice }
+{
+    law_asts_are_taken_in_order();
+}
