@@ -9,7 +9,7 @@ ghost use Rattle.vlm_words.specs.Runs.{History, Run};
 ghost use Rattle.vlm_words.specs.Stepped.{IsChoice};
 ghost use Rattle.vlm_laws.specs.Accounting.{WhatIsQueuedIsTakenOrPending};
 ghost use Rattle.vlm_laws.specs.Completing.{EachRequestCompletesOnce};
-ghost use Rattle.vlm_laws.specs.Raising.{OnlyOwnRequestsRaiseDues};
+ghost use Rattle.vlm_laws.specs.Raising.{NoMoreIsQueuedThanNamed, OnlyOwnRequestsRaiseDues};
 ghost use Rattle.vlm_laws.specs.Warning.{WarningsAreOfGrants};
 
 use vlm_words::laws::law_asts_are_taken_in_order;
@@ -48,4 +48,10 @@ pub fn law_only_own_requests_raise_what_is_due()
 pub fn law_a_warning_calls_what_a_granted_request_named()
     ensures { (history : History) (last : State) → Run history last
         → WarningsAreOfGrants history.endings history.queued }
+{}
+
+/// No more ASTs were queued to a process, from the start of the run, than it named routines in its requests that
+/// were accepted.
+pub fn law_no_more_is_queued_than_was_named()
+    ensures { (history : History) (last : State) → Run history last → NoMoreIsQueuedThanNamed history }
 {}
