@@ -106,7 +106,7 @@ sweep_matches (r ∷ rest) =
 -- ---- the steps
 
 -- what a change queues are the completions of its endings
-change_queues : (s : State) (step : Step) (choice : Option Row)
+pub change_queues : (s : State) (step : Step) (choice : Option Row)
     → (step_change s step choice).queued ≡ completions_of (step_change s step choice).endings
 change_queues s (Declare d) choice = refl
 change_queues s (SetValue v) choice = refl

@@ -3,3 +3,4 @@ pub mod Strangers
 pub mod Accounting
 pub mod Falling
 pub mod Raising
+pub mod Warning

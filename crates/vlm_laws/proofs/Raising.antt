@@ -1,5 +1,5 @@
 -- What is due to a process rises by its own requests alone.
-use Rattle.std.proofs.Common.{◌≡◌, ◌≤◌, ◌+◌, ◌++◌, ℕ, Bool, true, false, not, List, [], ◌∷◌, map, cond, length, length-append, Option, None, Some, refl, sym, subst, ap, arith}
+use Rattle.std.proofs.Common.{◌≡◌, ◌≤◌, ◌+◌, ◌++◌, ℕ, Bool, true, false, not, List, [], ◌∷◌, map, cond, length, length-append, Option, None, Some, inl, inr, refl, sym, subst, ap, arith}
 use Rattle.std.specs.Prelude.{◌==◌}
 use Rattle.std.specs.List.{find, sum_by}
 use Rattle.std.proofs.lemmas.Bool.{and_parts, eqb-true}
@@ -9,6 +9,7 @@ use Rattle.vlm_words.specs.declared.conditions.Cond.{Cond}
 use Rattle.vlm_words.specs.declared.locks.Request.{Request}
 use Rattle.vlm_words.specs.declared.locks.Row.{Row}
 use Rattle.vlm_words.specs.declared.resources.ValueBlock.{ValueBlock}
+use Rattle.vlm_words.specs.declared.steps.Answer.{Answer}
 use Rattle.vlm_words.specs.declared.steps.Conversion.{Conversion}
 use Rattle.vlm_words.specs.declared.steps.Dequeue.{Dequeue}
 use Rattle.vlm_words.specs.declared.steps.NewRequest.{NewRequest}
@@ -28,8 +29,8 @@ use Rattle.vlm_words.specs.Convert.{ConversionAdmission, admission_among, admiss
 use Rattle.vlm_words.specs.Dequeue.{deq_change, deq_endings, withdrawal_of}
 use Rattle.vlm_words.specs.Dues.{due, due_to, one_where, routines_named, routines_of}
 use Rattle.vlm_words.specs.Taking.{AstsAfter, queued_to}
-use Rattle.vlm_words.specs.Stepped.{IsChoice, Stepped, conversion_change, refused_or, step_change, step_refusal, stepped, stepped_after_sweep}
-use Rattle.vlm_words.specs.Runs.{History, Run}
+use Rattle.vlm_words.specs.Stepped.{IsChoice, Outcome, Stepped, conversion_change, outcome_queued, refused_or, step_change, step_refusal, stepped, stepped_after_sweep}
+use Rattle.vlm_words.specs.Runs.{History, Run, begin, next}
 use Rattle.vlm_words.proofs.Admissions.{admitted_request, some_same}
 use Rattle.vlm_words.proofs.Always.{admission_of}
 use Rattle.vlm_words.proofs.Apart.{Apart, apart_always, standing, stands}
@@ -39,7 +40,7 @@ use Rattle.vlm_words.proofs.Sums.{sum_filter_but-le}
 use Rattle.vlm_words.proofs.Weights.{weigh}
 use Rattle.vlm_words.proofs.Withdrawing.{one_ends}
 use Rattle.vlm_laws.specs.Accounting.{taken_in}
-use Rattle.vlm_laws.specs.Raising.{OnlyOwnRequestsRaiseDues, routines_asked}
+use Rattle.vlm_laws.specs.Raising.{NoMoreIsQueuedThanNamed, OnlyOwnRequestsRaiseDues, routines_asked, routines_named_in}
 use Rattle.vlm_laws.proofs.Accounting.{TakesInOrder, taken_and_left}
 use Rattle.vlm_laws.proofs.Falling.{all_withdrawn_fall, calls, calls_many, entered_among_falls, grant_falls, many, many-append, own, swept_falls}
 
@@ -262,3 +263,51 @@ raising_always in_order history old run step choice chosen = record {
         length-append (taken_in pid step made.answer) order.left,
       );
 }
+
+-- ---- over a run
+
+-- how many routines are named, with one step more
+named_more : (pid : ℕ) (steps : List Step) (answers : List Answer) (step : Step) (answer : Answer) → length answers ≡ length steps
+    → routines_named_in pid (steps ++ step ∷ []) (answers ++ answer ∷ []) ≡ routines_named_in pid steps answers + routines_asked pid step answer
+named_more pid [] [] step answer long = omega arith
+named_more pid [] (a ∷ answers) step answer long = absurd (omega (arith, long))
+named_more pid (x ∷ steps) [] step answer long = absurd (omega (arith, long))
+named_more pid (x ∷ steps) (a ∷ answers) step answer long =
+    omega (arith, named_more pid steps answers step answer (omega (arith, long)))
+
+-- an outcome
+outcome_as_asked : (history : History) (old new : State) (step : Step) (answer : Answer) → Run history old → (outcome : Outcome old step new answer) → (pid : ℕ)
+    → sum_by (weigh (due_to pid)) new.resources + many pid (outcome_queued outcome)
+    ≤ sum_by (weigh (due_to pid)) old.resources + routines_asked pid step answer
+outcome_as_asked history old new step answer run (inl made) pid =
+    omega (
+      arith,
+      step_as_asked old step made.choice (apart_always history old run) (step_refusal old step) refl pid,
+      ap (λ (s : State). sum_by (weigh (due_to pid)) s.resources) made.state,
+      ap (routines_asked pid step) made.answered,
+    )
+outcome_as_asked history old new step answer run (inr short) pid =
+    omega (arith, ap (λ (s : State). sum_by (weigh (due_to pid)) s.resources) short.state)
+
+-- what was queued, and what is due still, was named
+record IsWithin (pid : ℕ) (history : History) (s : State) : Type 0 where
+  long : length history.answers ≡ length history.steps
+  bound : many pid history.queued + sum_by (weigh (due_to pid)) s.resources ≤ routines_named_in pid history.steps history.answers
+
+within_always : (pid : ℕ) (history : History) (last : State) → Run history last → IsWithin pid history last
+within_always pid _ _ begin = record { long = refl; bound = omega arith }
+within_always pid _ last (next {history} {old} {new} {step} {answer} run outcome) =
+    let before : IsWithin pid history old = within_always pid history old run in
+    record {
+      long = omega (arith, before.long, length-append history.answers (answer ∷ []), length-append history.steps (step ∷ []));
+      bound = omega (
+        arith,
+        before.bound,
+        outcome_as_asked history old new step answer run outcome pid,
+        many-append pid history.queued (outcome_queued outcome),
+        named_more pid history.steps history.answers step answer before.long,
+      );
+    }
+
+pub no_more_always : (history : History) (last : State) → Run history last → NoMoreIsQueuedThanNamed history
+no_more_always history last run pid = omega (arith, (within_always pid history last run).bound)

@@ -1,3 +1,4 @@
 pub mod Completing
 pub mod Accounting
 pub mod Raising
+pub mod Warning

@@ -1,5 +1,5 @@
 -- How many ASTs a process may come to have.
-use Rattle.std.specs.Prelude.{◌≡◌, ◌≤◌, ◌==◌, ◌+◌, ℕ, Option, Some, length, if◌then◌else◌}
+use Rattle.std.specs.Prelude.{◌≡◌, ◌≤◌, ◌==◌, ◌+◌, ℕ, List, ◌∷◌, Option, Some, length, if◌then◌else◌}
 use Rattle.vlm_words.specs.declared.locks.Row.{Row}
 use Rattle.vlm_words.specs.declared.steps.Answer.TheVariants.{Lock}
 use Rattle.vlm_words.specs.declared.steps.Answer.{Answer}
@@ -7,7 +7,9 @@ use Rattle.vlm_words.specs.declared.steps.Step.TheVariants.{Enq, Convert}
 use Rattle.vlm_words.specs.declared.steps.Step.{Step}
 use Rattle.vlm_words.specs.State.{Process, State, process_of}
 use Rattle.vlm_words.specs.Dues.{due, routines_named}
+use Rattle.vlm_words.specs.Taking.{queued_to}
 use Rattle.vlm_words.specs.Stepped.{stepped}
+use Rattle.vlm_words.specs.Runs.{History}
 
 -- how many routines an accepted step names for ASTs of the process: those of its own request
 abbrev pub routines_asked : ℕ → Step → Answer → ℕ
@@ -22,3 +24,14 @@ pub record OnlyOwnRequestsRaiseDues (old : State) (step : Step) (choice : Option
       → process_of (stepped old step choice).state.processes pid ≡ Some after
       → length after.asts + due pid (stepped old step choice).state.resources
       ≤ length before.asts + due pid old.resources + routines_asked pid step (stepped old step choice).answer
+
+-- how many routines the process named in its accepted requests among these steps, which got these answers
+abbrev pub routines_named_in : ℕ → List Step → List Answer → ℕ
+routines_named_in pid (step ∷ steps) (answer ∷ answers) =
+    routines_asked pid step answer + routines_named_in pid steps answers
+routines_named_in pid steps answers = 0
+
+-- no more ASTs were queued to a process than it named routines in its accepted requests
+abbrev pub NoMoreIsQueuedThanNamed : History → Type 0
+NoMoreIsQueuedThanNamed history = (pid : ℕ)
+    → length (queued_to pid history.queued) ≤ routines_named_in pid history.steps history.answers

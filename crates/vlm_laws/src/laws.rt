@@ -1,5 +1,5 @@
-//! What holds of the ASTs of every run of the plain machine. The functions do nothing: their contracts are the
-//! laws.
+//! What holds of the ASTs of every run of the plain machine. The functions do nothing, but that some call a law that
+//! they rest on: their contracts are the laws.
 
 ghost use Rattle.std.specs.Prelude.{Option};
 ghost use Rattle.vlm_words.specs.declared.locks.Row.{Row};
@@ -9,7 +9,8 @@ ghost use Rattle.vlm_words.specs.Runs.{History, Run};
 ghost use Rattle.vlm_words.specs.Stepped.{IsChoice};
 ghost use Rattle.vlm_laws.specs.Accounting.{WhatIsQueuedIsTakenOrPending};
 ghost use Rattle.vlm_laws.specs.Completing.{EachRequestCompletesOnce};
-ghost use Rattle.vlm_laws.specs.Raising.{OnlyOwnRequestsRaiseDues};
+ghost use Rattle.vlm_laws.specs.Raising.{NoMoreIsQueuedThanNamed, OnlyOwnRequestsRaiseDues};
+ghost use Rattle.vlm_laws.specs.Warning.{WarningsAreOfGrants};
 
 use vlm_words::laws::law_asts_are_taken_in_order;
 
@@ -41,3 +42,16 @@ pub fn law_only_own_requests_raise_what_is_due()
 {
     law_asts_are_taken_in_order();
 }
+
+/// No warning comes from nowhere: each blocking AST that was queued calls the blocking routine of a request that was
+/// granted to the lock that it tells of, with the parameter of that request, and is queued to the lock's process.
+pub fn law_a_warning_calls_what_a_granted_request_named()
+    ensures { (history : History) (last : State) → Run history last
+        → WarningsAreOfGrants history.endings history.queued }
+{}
+
+/// No more ASTs were queued to a process, from the start of the run, than it named routines in its requests that
+/// were accepted.
+pub fn law_no_more_is_queued_than_was_named()
+    ensures { (history : History) (last : State) → Run history last → NoMoreIsQueuedThanNamed history }
+{}
