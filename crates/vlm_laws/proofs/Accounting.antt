@@ -32,7 +32,7 @@ use Rattle.vlm_words.specs.Runs.{History, Run, begin, history_after, next}
 use Rattle.vlm_words.proofs.Always.{admission_of}
 use Rattle.vlm_words.proofs.Processes.{kept_converted, kept_ended, kept_entered, kept_set, kept_swept, kept_taken}
 use Rattle.vlm_words.proofs.Queueing.{asts_are, queued_to-append, sweep_queues}
-use Rattle.vlm_words.proofs.Quotas.{owning}
+use Rattle.vlm_words.proofs.WhoseLocks.{owning}
 use Rattle.vlm_laws.specs.Accounting.{WhatIsQueuedIsTakenOrPending, taken_by, taken_in}
 use Rattle.vlm_laws.proofs.Strangers.{NoneOf, none_converted, none_dequeued, none_owned, none_requested, none_swept}
 

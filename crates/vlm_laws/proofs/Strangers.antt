@@ -30,7 +30,8 @@ use Rattle.vlm_words.proofs.Admissions.{some_same}
 use Rattle.vlm_words.proofs.Each.{Found, found_at}
 use Rattle.vlm_words.proofs.Moves.{IsByName, converted_named, grant_keeps, withdrawn_named}
 use Rattle.vlm_words.proofs.Queueing.{queued_to-append}
-use Rattle.vlm_words.proofs.Quotas.{all_counted, owned, owning, quotas_always, room_left}
+use Rattle.vlm_words.proofs.Quotas.{all_counted, quotas_always, room_left}
+use Rattle.vlm_words.proofs.WhoseLocks.{owned, owning}
 use Rattle.vlm_words.proofs.Sums.{found-le-sum, sum_changed-le, sum_filter-le, sum_of_one, sum_of_zero}
 use Rattle.vlm_words.proofs.Weights.{GrantKeeps, entered_among_weighs, served_weighs, weigh}
 use Rattle.vlm_words.proofs.Withdrawing.{one_ends}

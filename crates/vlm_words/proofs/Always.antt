@@ -1,5 +1,5 @@
 -- From one step to every run.
-use Rattle.std.proofs.Common.{ℕ, ◌≡◌, inl, inr, List, [], ◌++◌, Option, None, Some, refl, sym, subst}
+use Rattle.std.proofs.Common.{ℕ, Bool, ◌≡◌, inl, inr, List, [], ◌++◌, Option, None, Some, refl, sym, subst}
 use Rattle.std.proofs.lemmas.List.{append-nil}
 use Rattle.vlm_words.specs.declared.conditions.Cond.{Cond}
 use Rattle.vlm_words.specs.declared.locks.Row.{Row}
@@ -11,7 +11,7 @@ use Rattle.vlm_words.specs.declared.steps.NewRequest.{NewRequest}
 use Rattle.vlm_words.specs.declared.steps.Step.TheVariants.{Declare, SetValue, Enq, Convert, Deq, Rundown, Leave, Search, Take}
 use Rattle.vlm_words.specs.declared.steps.Step.{Step}
 use Rattle.vlm_words.specs.declared.steps.ValueSetting.{ValueSetting}
-use Rattle.vlm_words.specs.State.{State, start}
+use Rattle.vlm_words.specs.State.{Node, State, start}
 use Rattle.vlm_words.specs.Endings.{Ending}
 use Rattle.vlm_words.specs.Declare.{declare_refusal}
 use Rattle.vlm_words.specs.SetValue.{set_refusal}
@@ -19,7 +19,8 @@ use Rattle.vlm_words.specs.Take.{take_refusal}
 use Rattle.vlm_words.specs.Enqueue.{enq_refusal}
 use Rattle.vlm_words.specs.Convert.{ConversionAdmission, convert_admission, convert_refusal}
 use Rattle.vlm_words.specs.Dequeue.{deq_refusal}
-use Rattle.vlm_words.specs.Stepped.{IsChoice, Outcome, Stepped, conversion_change, outcome_endings, refused_or, step_change, step_refusal, stepped, stepped_after_sweep}
+use Rattle.vlm_words.specs.Rundown.{is_ended_by, is_of_node, leave_refusal, nodes_after_departure, rundown_refusal}
+use Rattle.vlm_words.specs.Stepped.{IsChoice, Outcome, end_of_processes, Stepped, conversion_change, outcome_endings, refused_or, step_change, step_refusal, stepped, stepped_after_sweep}
 use Rattle.vlm_words.specs.Runs.{History, Run, begin, next}
 use Rattle.vlm_words.proofs.Passed.{admission_passes, some_admission}
 
@@ -63,6 +64,12 @@ kept_by_refused_or P endings (Some refusal) old change held kept = unchanged P e
 pub admission_of : (s : State) (c : Conversion) → convert_refusal s c ≡ None → (a : ConversionAdmission) × (convert_admission s c ≡ Some a)
 admission_of s c passed = some_admission s c (convert_admission s c) (admission_passes s c passed)
 
+-- some processes end: one that is run down, or those of a node that departs
+pub data EndsNow (s : State) : (ℕ → Bool) → List Node → Type 0 where
+  run_down : (pid : ℕ) → rundown_refusal s pid ≡ None → EndsNow s (is_ended_by pid) s.nodes
+  departs : (node : ℕ) → leave_refusal s node ≡ None
+      → EndsNow s (is_of_node node) (nodes_after_departure s.nodes node)
+
 -- what is kept where each kind of step is made, every step keeps
 pub kept_by_stepped : (P : Said) (endings : List Ending) (s : State) → P endings s
     → ((d : Declaration) → declare_refusal s d ≡ None → HoldsAfter P endings (stepped_after_sweep (step_change s (Declare d) None)))
@@ -72,8 +79,9 @@ pub kept_by_stepped : (P : Said) (endings : List Ending) (s : State) → P endin
     → ((c : Conversion) (a : ConversionAdmission) → convert_refusal s c ≡ None → convert_admission s c ≡ Some a
     → HoldsAfter P endings (stepped_after_sweep (conversion_change s c (Some a))))
     → ((d : Dequeue) → deq_refusal s d ≡ None → HoldsAfter P endings (stepped_after_sweep (step_change s (Deq d) None)))
+    → ((is_one : ℕ → Bool) (nodes : List Node) → EndsNow s is_one nodes → HoldsAfter P endings (stepped_after_sweep (end_of_processes is_one nodes s)))
     → (step : Step) (choice : Option Row) → IsChoice s step choice → HoldsAfter P endings (stepped s step choice)
-kept_by_stepped P endings s held declare set take enq convert deq step choice chosen =
+kept_by_stepped P endings s held declare set take enq convert deq end step choice chosen =
     kept_by_refused_or P endings (step_refusal s step) s (step_change s step choice) held (each_kind step)
   where
     converts : (c : Conversion) → convert_refusal s c ≡ None → HoldsAfter P endings (stepped_after_sweep (step_change s (Convert c) choice))
@@ -88,7 +96,7 @@ kept_by_stepped P endings s held declare set take enq convert deq step choice ch
     each_kind (Enq e) passed = enq e passed
     each_kind (Convert c) passed = converts c passed
     each_kind (Deq d) passed = deq d passed
-    each_kind (Rundown pid) passed = cc
-    each_kind (Leave node) passed = cc
+    each_kind (Rundown pid) passed = end (is_ended_by pid) s.nodes (run_down pid passed)
+    each_kind (Leave node) passed = end (is_of_node node) (nodes_after_departure s.nodes node) (departs node passed)
     each_kind (Search node) passed = cc
     each_kind (Take pid) passed = take pid passed

@@ -11,6 +11,7 @@ use Rattle.vlm_words.specs.Take.{take_change}
 use Rattle.vlm_words.specs.Enqueue.{enq_change}
 use Rattle.vlm_words.specs.Convert.{convert_blocks, convert_change, convert_lkid, resource_after_conversion}
 use Rattle.vlm_words.specs.Dequeue.{deq_change, withdrawals_of}
+use Rattle.vlm_words.specs.Rundown.{processes_but, rundowns, state_after_rundown}
 use Rattle.vlm_words.specs.Withdrawals.{resource_after_withdrawals}
 use Rattle.vlm_words.specs.Runs.{History, Run}
 use Rattle.vlm_words.specs.Laws.{IdentificationsAreApart}
@@ -60,7 +61,7 @@ one_more_apart s t apart next more = record {
 -- after every run no two rows have the same identification
 pub apart_always : (history : History) (last : State)
     → Run history last → Apart last
-unfolding declare_change set_change take_change enq_change convert_change deq_change
+unfolding declare_change set_change take_change enq_change convert_change deq_change state_after_rundown
 apart_always =
     always (λ _ s. Apart s) (record { one_row = λ lkid. omega arith; none_is_0 = refl; none_to_come = λ lkid _. refl; first = omega arith })
     (λ history s _ apart.
@@ -76,7 +77,10 @@ apart_always =
     (convert_change s c a).processes s.resources))
     (λ d _. fewer_apart s _ apart refl
     (λ lkid. changed_named (stands lkid) (stands_named lkid) (resource_after_withdrawals (withdrawals_of s d))
-    (withdrawn_named (stands lkid) (stands_named lkid) (withdrawals_of s d)) (deq_change s d).processes s.resources)))
+    (withdrawn_named (stands lkid) (stands_named lkid) (withdrawals_of s d)) (deq_change s d).processes s.resources))
+    (λ is_one nodes _. fewer_apart s _ apart refl
+    (λ lkid. changed_named (stands lkid) (stands_named lkid) (resource_after_withdrawals (rundowns is_one s))
+    (withdrawn_named (stands lkid) (stands_named lkid) (rundowns is_one s)) (processes_but is_one s.processes) s.resources)))
 
 -- after every run identifications are apart
 pub identifications_always : (history : History) (last : State)

@@ -19,7 +19,7 @@ use Rattle.vlm_words.specs.declared.steps.Dequeue.{Dequeue}
 use Rattle.vlm_words.specs.declared.steps.NewRequest.{NewRequest}
 use Rattle.vlm_words.specs.declared.steps.Step.TheVariants.{Declare, SetValue, Enq, Convert, Deq, Rundown, Leave, Search, Take}
 use Rattle.vlm_words.specs.declared.steps.Step.{Step}
-use Rattle.vlm_words.specs.Flags.{cancel, expedite, flag_bits, has_flag, quecvt, system}
+use Rattle.vlm_words.specs.Flags.{expedite, flag_bits, has_flag, quecvt, system}
 use Rattle.vlm_words.specs.State.{Process, Resource, State, process_of}
 use Rattle.vlm_words.specs.Endings.{Ending, How, row_endings, wanted_endings}
 use Rattle.vlm_words.specs.Grants.{fits, grant_endings, is_beside, is_empty}
@@ -30,8 +30,9 @@ use Rattle.vlm_words.specs.Checks.{holds_lock}
 use Rattle.vlm_words.specs.Trees.{caller_group, enq_site, parent_lkid, parent_resource, root_domain, site_below}
 use Rattle.vlm_words.specs.Enqueue.{enq_at_once, enq_key, enq_refusal, enq_request, enq_resource, enq_row, is_at_once, is_free_for}
 use Rattle.vlm_words.specs.Convert.{ConversionAdmission, admission_among, admission_or, conversion_endings, convert_admission, convert_lkid, convert_request, converts_at_once, wanting_row}
-use Rattle.vlm_words.specs.Dequeue.{conversion_ending, deq_endings, withdrawal_of}
-use Rattle.vlm_words.specs.Withdrawals.{Withdrawal, queue_endings, withdrawal_endings}
+use Rattle.vlm_words.specs.Dequeue.{deq_endings, withdrawals_of}
+use Rattle.vlm_words.specs.Rundown.{is_ended_by, is_of_node, rundowns}
+use Rattle.vlm_words.specs.Withdrawals.{Withdrawal, queue_endings, withdrawal_endings, withdrawn_endings}
 use Rattle.vlm_words.specs.Stepped.{IsChoice, Stepped, conversion_change, refused_or, step_change, step_refusal, stepped, stepped_after_sweep}
 use Rattle.vlm_words.specs.Runs.{History, Run}
 use Rattle.vlm_words.specs.Laws.{ConvertsInTurn, EntersInTurn, GrantsFollowQueueOrder, IsAskedFor, IsBeside, IsFreeFor, IsGrant, IsGrantedInTurn, IsRootDomain, Stands, StandsAsAskedFor, SweptInOrder}
@@ -45,7 +46,7 @@ use Rattle.vlm_words.proofs.Weights.{weigh}
 use Rattle.vlm_words.proofs.Apart.{Apart, apart_always, stands, standing}
 use Rattle.vlm_words.proofs.Counts.{found_stands}
 use Rattle.vlm_words.proofs.Keys.{Placed, HaveTwoKeys, enq_keyed, one_key, placed_always}
-use Rattle.vlm_words.proofs.Withdrawing.{one_ends}
+use Rattle.vlm_words.proofs.Withdrawing.{GrantsNothing, dequeues_grant_nothing, each_end, rundowns_grant_nothing}
 use Rattle.vlm_words.proofs.Holders.{IsHolder, only_holder}
 use Rattle.vlm_words.proofs.InOrder.{sweep_in_order}
 
@@ -326,15 +327,17 @@ withdrawal_in_turn s step w waiting converting (r ∷ rest) =
     (ended_in_turn s step w.converting converting (rows_of w.lkid r.converting))
     (ended_in_turn s step w.waiting waiting (rows_of w.lkid r.waiting))) (withdrawal_in_turn s step w waiting converting rest)
 
+withdrawals_in_turn : (s : State) (step : Step) (withdrawals : List Withdrawal) → AllByRecursion GrantsNothing withdrawals → (resources : List Resource)
+    → AllByRecursion (InTurn s step) (withdrawn_endings withdrawals resources)
+withdrawals_in_turn s step withdrawals nothing resources =
+    each_end (InTurn s step) withdrawals resources
+    (each_weaker GrantsNothing (λ w. AllByRecursion (InTurn s step) (flat_map (withdrawal_endings w) resources))
+    (λ w none. withdrawal_in_turn s step w none.1 none.0 resources) withdrawals nothing)
+
 -- a dequeue grants nothing at once
 dequeue_in_turn : (s : State) (d : Dequeue) → AllByRecursion (InTurn s (Deq d)) (deq_endings s d)
 dequeue_in_turn s d =
-    subst (AllByRecursion (InTurn s (Deq d))) (sym (one_ends (withdrawal_of s d) s.resources))
-    (withdrawal_in_turn s (Deq d) (withdrawal_of s d) (λ grant. grant) (no_grant (has_flag d.flags cancel)) s.resources)
-  where
-    no_grant : (cancels : Bool) → IsGrant (conversion_ending cancels) → ⊥
-    no_grant true grant = grant
-    no_grant false grant = grant
+    withdrawals_in_turn s (Deq d) (withdrawals_of s d) (dequeues_grant_nothing s d) s.resources
 
 -- the endings of each kind of step that is made are in their turn
 each_in_turn : (s : State) → Apart s → Placed s → (step : Step) (choice : Option Row) → step_refusal s step ≡ None
@@ -349,8 +352,10 @@ each_in_turn s apart placed (Convert c) choice passed =
     subst (λ (a : Option ConversionAdmission). AllByRecursion (InTurn s (Convert c)) (conversion_change s c a).endings) (sym admitted.1)
     (conversion_in_turn s c admitted.0 apart admitted.1)
 each_in_turn s apart placed (Deq d) choice passed = dequeue_in_turn s d
-each_in_turn s apart placed (Rundown pid) choice passed = tt
-each_in_turn s apart placed (Leave node) choice passed = tt
+each_in_turn s apart placed (Rundown pid) choice passed =
+    withdrawals_in_turn s (Rundown pid) (rundowns (is_ended_by pid) s) (rundowns_grant_nothing (is_ended_by pid) s) s.resources
+each_in_turn s apart placed (Leave node) choice passed =
+    withdrawals_in_turn s (Leave node) (rundowns (is_of_node node) s) (rundowns_grant_nothing (is_of_node node) s) s.resources
 each_in_turn s apart placed (Search node) choice passed = tt
 each_in_turn s apart placed (Take pid) choice passed = tt
 

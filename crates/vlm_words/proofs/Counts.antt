@@ -3,6 +3,7 @@ use Rattle.std.proofs.Common.{◌≡◌, ◌≤◌, ◌+◌, ℕ, Bool, true, fa
 use Rattle.std.specs.Prelude.{◌==◌}
 use Rattle.std.specs.List.{AllByRecursion, flat_map, sum_by}
 use Rattle.std.proofs.lemmas.Bool.{and_parts, cond_both}
+use Rattle.std.proofs.lemmas.List.{map-id}
 use Rattle.std.proofs.lemmas.List.Filters.{sum_by-filter_both}
 use Rattle.std.proofs.lemmas.List.Sums.{sum_by-append, sum_by-cons, sum_by_push}
 use Rattle.vlm_words.specs.declared.locks.Request.{Request}
@@ -18,9 +19,9 @@ use Rattle.vlm_words.specs.Rows.{is_lock_of, rows_of, rows_without}
 use Rattle.vlm_words.specs.Convert.{resource_after_conversion_of, resource_without_granted, wanting_row}
 use Rattle.vlm_words.specs.Withdrawals.{resource_after_going, withdrawn_endings, Withdrawal, is_held_by_writer, queue_endings, resource_after_cancel, resource_after_withdrawals, resource_without, row_after_cancel, value_block_after_writer, withdrawal_endings}
 use Rattle.vlm_words.specs.Laws.{IsHeld, times_ended, wanting_on, wants_number}
-use Rattle.vlm_words.proofs.Each.{Found, each_filter, each_weaker}
-use Rattle.vlm_words.proofs.RowsFit.{Fit, same_fit}
-use Rattle.vlm_words.proofs.Withdrawing.{one_ends}
+use Rattle.vlm_words.proofs.Each.{Found, each_filter, each_map, each_weaker}
+use Rattle.vlm_words.proofs.RowsFit.{Fit, same_fit, withdrawn_fit}
+use Rattle.vlm_words.proofs.Together.{OfOneEach, all_one_after_another, others_end_same}
 use Rattle.vlm_words.proofs.Sums.{found-le-sum, sum_changed, sum_of_one, sum_of_zeros}
 use Rattle.vlm_words.proofs.Weights.{GrantKeeps, swept_weighs}
 use Rattle.vlm_words.proofs.Apart.{stands}
@@ -132,21 +133,44 @@ withdrawn_counts number w r fit =
     (λ left. wanting_on number (resource_after_going w left) + times_ended number (withdrawal_endings w r) ≡ wanting_on number r)
     (λ _. gone_counts number w written (same_fit r written refl refl refl fit)) (λ _. gone_counts number w r fit)
 
--- after a withdrawal and a sweep as many requests are wanted or ended
-pub all_withdrawn_count : (number : ℕ) (w : Withdrawal) (processes : List Process) (resources : List Resource) → AllByRecursion Fit resources
-    → sum_by (wanting_on number) (resources_after_sweep processes (map (resource_after_withdrawals (w ∷ [])) resources))
-    + times_ended number (withdrawn_endings (w ∷ []) resources ++ sweep_endings (map (resource_after_withdrawals (w ∷ [])) resources))
+all_resources_count : (number : ℕ) (w : Withdrawal) (resources : List Resource) → AllByRecursion Fit resources
+    → sum_by (wanting_on number) (map (resource_after_withdrawals (w ∷ [])) resources)
+    + times_ended number (flat_map (withdrawal_endings w) resources) ≡ sum_by (wanting_on number) resources
+all_resources_count number w resources fit =
+    sum_changed (wanting_on number) (resource_after_withdrawals (w ∷ [])) (ends number) (withdrawal_endings w) resources
+    (each_weaker Fit (λ r. wanting_on number (resource_after_withdrawals (w ∷ []) r) + times_ended number (withdrawal_endings w r) ≡ wanting_on number r)
+    (withdrawn_counts number w) resources fit)
+
+-- withdrawals of locks that are apart end the requests of these, each once
+withdrawals_count : (number : ℕ) (withdrawals : List Withdrawal) → OfOneEach withdrawals → (resources : List Resource) → AllByRecursion Fit resources
+    → sum_by (wanting_on number) (map (resource_after_withdrawals withdrawals) resources)
+    + times_ended number (withdrawn_endings withdrawals resources) ≡ sum_by (wanting_on number) resources
+withdrawals_count number [] apart resources fit = omega (arith, ap (sum_by (wanting_on number)) (map-id resources))
+withdrawals_count number (w ∷ withdrawals) apart resources fit =
+    let after : List Resource = map (resource_after_withdrawals (w ∷ [])) resources in
+    omega (
+      arith,
+      all_resources_count number w resources fit,
+      withdrawals_count number withdrawals apart.1 after
+          (each_map Fit Fit (resource_after_withdrawals (w ∷ [])) (withdrawn_fit (w ∷ [])) resources fit),
+      ap (sum_by (wanting_on number)) (all_one_after_another w withdrawals apart.0 resources),
+      ap (sum_by (ends number)) (others_end_same w withdrawals apart.0 resources),
+      sum_by-append (ends number) (flat_map (withdrawal_endings w) resources) (withdrawn_endings withdrawals resources),
+    )
+
+-- after withdrawals and a sweep as many requests are wanted or ended
+pub all_withdrawn_count : (number : ℕ) (withdrawals : List Withdrawal) → OfOneEach withdrawals → (processes : List Process) (resources : List Resource)
+    → AllByRecursion Fit resources
+    → sum_by (wanting_on number) (resources_after_sweep processes (map (resource_after_withdrawals withdrawals) resources))
+    + times_ended number (withdrawn_endings withdrawals resources ++ sweep_endings (map (resource_after_withdrawals withdrawals) resources))
     ≡ sum_by (wanting_on number) resources
-all_withdrawn_count number w processes resources fit =
-    let changes : List Resource = map (resource_after_withdrawals (w ∷ [])) resources in
+all_withdrawn_count number withdrawals apart processes resources fit =
+    let changes : List Resource = map (resource_after_withdrawals withdrawals) resources in
     omega (
       arith,
       swept_weighs (wants number) (ends number) (wants_kept number) (λ row armed. refl) processes changes,
-      ap (sum_by (ends number)) (one_ends w resources),
-      sum_by-append (ends number) (withdrawn_endings (w ∷ []) resources) (sweep_endings changes),
-      sum_changed (wanting_on number) (resource_after_withdrawals (w ∷ [])) (ends number) (withdrawal_endings w) resources
-          (each_weaker Fit (λ r. wanting_on number (resource_after_withdrawals (w ∷ []) r) + times_ended number (withdrawal_endings w r) ≡ wanting_on number r)
-          (withdrawn_counts number w) resources fit),
+      sum_by-append (ends number) (withdrawn_endings withdrawals resources) (sweep_endings changes),
+      withdrawals_count number withdrawals apart resources fit,
     )
 
 -- a lock that is found has a row

@@ -3,7 +3,7 @@
 use Rattle.std.proofs.Common.{◌≡◌, ◌≢◌, ◌≤◌, ◌<◌, ◌+◌, ◌-◌, ◌*◌, ◌/◌, ◌%◌, ℕ, zero, suc, Bool, true, false, not, cond, List, [], ◌∷◌, ◌++◌, map, length, get_or, set, Option, None, Some, refl, sym, ap, subst, ◌∙◌, arith}
 use Rattle.std.specs.Prelude.{nat_le, nat_lt, All}
 use Rattle.std.specs.List.{AllByRecursion}
-use Rattle.std.proofs.lemmas.Bool.{and_parts, leb-true}
+use Rattle.std.proofs.lemmas.Bool.{and_parts, leb-true, cond_both}
 use Rattle.std.proofs.lemmas.Bool.Decides.{nat_tests}
 use Rattle.std.proofs.lemmas.List.{get_or-set_same, length-set}
 use Rattle.std.proofs.lemmas.List.Elements.{All-from_recursion}
@@ -28,7 +28,8 @@ use Rattle.vlm_words.specs.Runs.{History, Run}
 use Rattle.vlm_words.specs.Laws.{DeclarationsGiveNewIdentifications}
 use Rattle.vlm_words.proofs.Each.{each_append, each_weaker}
 use Rattle.vlm_words.proofs.Processes.{kept_converted, kept_ended, kept_entered, kept_set, kept_swept, kept_taken}
-use Rattle.vlm_words.proofs.Always.{always, kept_by_stepped}
+use Rattle.vlm_words.proofs.Always.{always, kept_by_stepped, EndsNow, departs, run_down}
+use Rattle.vlm_words.specs.Rundown.{processes_but, state_after_rundown}
 
 -- the identifications of living processes
 abbrev pub pids : List Process → List ℕ
@@ -123,6 +124,45 @@ declared_given s d has given =
           (each_append (IsGiven nodes) (pids s.processes) (next_pid s d.node ∷ []) old (new, tt));
     }
 
+-- the nodes have declared as many
+record DeclareAsMany (nodes after : List Node) : Type 0 where
+  many : length after ≡ length nodes
+  each : (node : ℕ) → (node_at after node).declared ≡ (node_at nodes node).declared
+
+same_declared : (nodes : List Node) (place at : ℕ)
+    → (get_or (set nodes place (record (get_or nodes place new_node) { departed = true })) at new_node).declared ≡ (get_or nodes at new_node).declared
+same_declared [] place at = refl
+same_declared (x ∷ xs) zero zero = refl
+same_declared (x ∷ xs) zero (suc at) = refl
+same_declared (x ∷ xs) (suc place) zero = refl
+same_declared (x ∷ xs) (suc place) (suc at) = same_declared xs place at
+
+declare_as_many : (s : State) (is_one : ℕ → Bool) (nodes : List Node) → EndsNow s is_one nodes → DeclareAsMany s.nodes nodes
+declare_as_many s _ _ (run_down pid passed) = record { many = refl; each = λ node. refl }
+declare_as_many s _ _ (departs node passed) = record {
+  many = length-set s.nodes (node - 1) (record (node_at s.nodes node) { departed = true });
+  each = λ at. same_declared s.nodes (node - 1) (at - 1);
+}
+
+-- and those that are left have what they had
+pids_left : (is_one : ℕ → Bool) (P : ℕ → Type 0) (processes : List Process) → AllByRecursion P (pids processes)
+    → AllByRecursion P (pids (processes_but is_one processes))
+pids_left is_one P [] each = tt
+pids_left is_one P (p ∷ rest) each =
+    let behind : AllByRecursion P (pids (processes_but is_one rest)) = pids_left is_one P rest each.1 in
+    cond_both (not (is_one p.pid)) (p ∷ processes_but is_one rest) (processes_but is_one rest) (λ left. AllByRecursion P (pids left))
+    (λ _. (each.0, behind)) (λ _. behind)
+
+ended_given : (s : State) (is_one : ℕ → Bool) (nodes : List Node) → DeclareAsMany s.nodes nodes → AllGiven s
+    → AllGiven (state_after_rundown is_one nodes s)
+unfolding state_after_rundown
+ended_given s is_one nodes same given = record {
+  eight = same.many ∙ given.eight;
+  living =
+      pids_left is_one (IsGiven nodes) s.processes
+      (each_weaker (IsGiven s.nodes) (IsGiven nodes) (λ pid is. omega (arith, is, same.each (pid / 65536))) (pids s.processes) given.living);
+}
+
 -- after every run each living process has an identification that its node has given
 given_always : (history : History) (last : State)
     → Run history last → AllGiven last
@@ -138,7 +178,8 @@ given_always =
     (λ c a _ _. swept_given (convert_change s c a) (same_given s (convert_change s c a) refl (kept_converted (λ p. p.pid) (λ _ _ _. refl) s c a) given))
     (λ d _.
     swept_given (deq_change s d)
-    (same_given s (deq_change s d) refl (kept_ended (λ p. p.pid) (λ _ _ _. refl) (deq_endings s d) (blocks_with new_value_block s.processes)) given)))
+    (same_given s (deq_change s d) refl (kept_ended (λ p. p.pid) (λ _ _ _. refl) (deq_endings s d) (blocks_with new_value_block s.processes)) given))
+    (λ is_one nodes ends. swept_given (state_after_rundown is_one nodes s) (ended_given s is_one nodes (declare_as_many s is_one nodes ends) given)))
 
 -- no living process has the next identification of a node
 each_new : (nodes : List Node) (node pid : ℕ) → node * 65536 + ((node_at nodes node).declared + 1) ≡ pid

@@ -145,3 +145,11 @@ pub any_left : {X : Type 0} (P : X → Type 0) (xs ys : List X) → Any P xs →
 any_left P [] ys any = absurd (Any-none P any)
 any_left P (x ∷ xs) ys any =
     elim (Any-cases P x xs any) [ inl here ↦ Any-here P x (xs ++ ys) here | inr there ↦ Any-there P x (xs ++ ys) (any_left P xs ys there) ]
+
+-- each element is one of its list
+pub each_member : {X : Type 0} (xs : List X) → AllByRecursion (λ x. Any (λ y. x ≡ y) xs) xs
+each_member [] = tt
+each_member (x ∷ xs) = (
+  Any-here (λ y. x ≡ y) x xs refl,
+  each_weaker (λ z. Any (λ y. z ≡ y) xs) (λ z. Any (λ y. z ≡ y) (x ∷ xs)) (λ z any. Any-there (λ y. z ≡ y) x xs any) xs (each_member xs),
+)

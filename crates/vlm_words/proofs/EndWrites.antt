@@ -12,8 +12,8 @@ use Rattle.vlm_words.specs.declared.resources.ValueBlock.{ValueBlock}
 use Rattle.vlm_words.specs.Conditions.{condition_number}
 use Rattle.vlm_words.specs.State.{Process, Resource, process_of}
 use Rattle.vlm_words.specs.StatusBlocks.{block_after_return, new_status_block, process_after_write, process_with_block, with_block, processes_after_return, processes_after_status, processes_after_write, status_block_of, status_blocks_of}
-use Rattle.vlm_words.specs.Endings.{Ending, How}
-use Rattle.vlm_words.specs.Endings.How.{by_abort, by_cancel, by_grant}
+use Rattle.vlm_words.specs.Endings.{Ending, How, is_told}
+use Rattle.vlm_words.specs.Endings.How.{by_abort, by_cancel, by_grant, by_rundown}
 use Rattle.vlm_words.specs.Effects.{Blocks, blocks_after_end, blocks_after_ending, blocks_after_return, blocks_after_writing}
 use Rattle.vlm_words.specs.Grants.{service}
 use Rattle.vlm_words.specs.Sweeps.{blocks_after_service, processes_after_service, sweep_endings}
@@ -125,17 +125,26 @@ block_after_how (by_grant Return) value block = block_after_return value block
 block_after_how (by_grant Write) value block = record block { status = condition_number Normal }
 block_after_how by_abort value block = record block { status = condition_number Abort }
 block_after_how by_cancel value block = record block { status = condition_number Cancel }
+block_after_how by_rundown value block = block
 
--- an end writes its status block so
-pub end_writes : (how : How) (ending : Ending) (b : Blocks) → (blocks_after_end how ending b).processes
+-- an end of which the process is told writes its status block so
+pub end_writes : (how : How) → is_told how ≡ true → (ending : Ending) (b : Blocks) → (blocks_after_end how ending b).processes
     ≡ processes_after_write ending.pid ending.request.block
     (block_after_how how b.value_block (status_block_of b.processes ending.pid ending.request.block)) b.processes
 unfolding blocks_after_return blocks_after_writing processes_after_status processes_after_return
-end_writes (by_grant Nothing) ending b = refl
-end_writes (by_grant Return) ending b = refl
-end_writes (by_grant Write) ending b = refl
-end_writes by_abort ending b = refl
-end_writes by_cancel ending b = refl
+end_writes (by_grant Nothing) told ending b = refl
+end_writes (by_grant Return) told ending b = refl
+end_writes (by_grant Write) told ending b = refl
+end_writes by_abort told ending b = refl
+end_writes by_cancel told ending b = refl
+end_writes by_rundown told ending b = cc
+
+-- at the end of a process nothing is written, and nobody is told
+pub nothing_changed : (ending : Ending) (b : Blocks) → ending.how ≡ by_rundown → blocks_after_ending ending b ≡ b
+nothing_changed ending b is = rw is refl
+
+nothing_written : (ending : Ending) (b : Blocks) → ending.how ≡ by_rundown → (blocks_after_ending ending b).processes ≡ b.processes
+nothing_written ending b is = ap (λ (after : Blocks). after.processes) (nothing_changed ending b is)
 
 -- ---- all ends of a step
 
@@ -165,16 +174,36 @@ module _ (Leaves : ℕ → ℕ → List Ending → Block → Block → Type 0) w
       → ((pid number : ℕ) (block : Block)
       → Leaves pid number (ending ∷ []) block (cond (is_end_for pid number ending) (block_after_how ending.how b.value_block block) block))
       → AreLeft (ending ∷ []) b.processes (blocks_after_ending ending b).processes
-  left_by_one ending b one =
-      left_with_asts (completions ending) (ending ∷ []) b.processes (blocks_after_end ending.how ending b).processes
-      (subst (λ (after : List Process). AreLeft (ending ∷ []) b.processes after) (sym (end_writes ending.how ending b))
-      (record {
-        many = λ pid. many_written ending.pid ending.request.block pid _ b.processes;
-        each = λ pid k within.
-            subst (λ (after : Block). Leaves pid (k + 1) (ending ∷ []) (block_at b.processes pid k) after)
-            (sym (block_written ending.pid ending.request.block (block_after_how ending.how b.value_block) b.processes pid k within))
-            (one pid (k + 1) (block_at b.processes pid k));
-      }))
+  left_by_one ending b one = of_how ending.how refl
+    where
+      written : is_told ending.how ≡ true → AreLeft (ending ∷ []) b.processes (blocks_after_ending ending b).processes
+      written told =
+          left_with_asts (completions ending) (ending ∷ []) b.processes (blocks_after_end ending.how ending b).processes
+          (subst (λ (after : List Process). AreLeft (ending ∷ []) b.processes after) (sym (end_writes ending.how told ending b))
+          (record {
+            many = λ pid. many_written ending.pid ending.request.block pid _ b.processes;
+            each = λ pid k within.
+                subst (λ (after : Block). Leaves pid (k + 1) (ending ∷ []) (block_at b.processes pid k) after)
+                (sym (block_written ending.pid ending.request.block (block_after_how ending.how b.value_block) b.processes pid k within))
+                (one pid (k + 1) (block_at b.processes pid k));
+          }))
+
+      same : ending.how ≡ by_rundown → (block : Block) (named : Bool) → cond named (block_after_how ending.how b.value_block block) block ≡ block
+      same is block true = ap (λ (how : How). block_after_how how b.value_block block) is
+      same is block false = refl
+
+      of_how : (how : How) → ending.how ≡ how → AreLeft (ending ∷ []) b.processes (blocks_after_ending ending b).processes
+      of_how (by_grant act) is = written (ap is_told is)
+      of_how by_abort is = written (ap is_told is)
+      of_how by_cancel is = written (ap is_told is)
+      of_how by_rundown is =
+          subst (λ (after : List Process). AreLeft (ending ∷ []) b.processes after) (sym (nothing_written ending b is))
+          (record {
+            many = λ _. refl;
+            each = λ pid k within.
+                subst (λ (after : Block). Leaves pid (k + 1) (ending ∷ []) (block_at b.processes pid k) after)
+                (same is (block_at b.processes pid k) (is_end_for pid (k + 1) ending)) (one pid (k + 1) (block_at b.processes pid k));
+          })
 
   -- what first ends and then others make of a status block is what all of them make of it
   abbrev pub FollowOn : Type 0

@@ -20,7 +20,8 @@ use Rattle.vlm_words.specs.Take.{take_change}
 use Rattle.vlm_words.specs.Trees.{enq_site}
 use Rattle.vlm_words.specs.Enqueue.{enq_at_once, enq_change, enq_endings, enq_resource, enq_row}
 use Rattle.vlm_words.specs.Convert.{ConversionAdmission, admission_among, admission_or, conversion_endings, convert_admission, convert_blocks, convert_change, convert_lkid, convert_request, converts_at_once, resource_after_conversion, resource_after_conversion_of, wanting_row}
-use Rattle.vlm_words.specs.Dequeue.{deq_change, deq_endings, withdrawal_of}
+use Rattle.vlm_words.specs.Dequeue.{deq_change, deq_endings, withdrawals_of}
+use Rattle.vlm_words.specs.Rundown.{processes_but, rundown_endings, rundowns, state_after_rundown}
 use Rattle.vlm_words.specs.Runs.{History, Run}
 use Rattle.vlm_words.specs.Laws.{EachRequestEndsOnce, times_ended, wanting, wanting_on}
 use Rattle.vlm_words.proofs.Always.{always, kept_by_stepped}
@@ -29,6 +30,7 @@ use Rattle.vlm_words.proofs.Each.{Found, found_at}
 use Rattle.vlm_words.proofs.RowsFit.{Fit, fit_always}
 use Rattle.vlm_words.proofs.Weights.{weigh, swept_weighs, entered_among_weighs}
 use Rattle.vlm_words.proofs.Apart.{Apart, apart_always, stands, standing}
+use Rattle.vlm_words.proofs.Together.{dequeues_apart, rundowns_apart}
 use Rattle.vlm_words.proofs.Counts.{hits, wants, ends, wants_kept, found_stands, converted_row_counts, all_withdrawn_count}
 
 -- a lock that has no row is not found
@@ -169,7 +171,7 @@ one_more_counts endings more s t counted next one_more = record {
 -- after every run each accepted request is counted once
 pub counted_always : (history : History) (last : State)
     → Run history last → CountedOnce history.endings last
-unfolding declare_change set_change take_change enq_change convert_change deq_change
+unfolding declare_change set_change take_change enq_change convert_change deq_change state_after_rundown
 counted_always =
     always CountedOnce (record { accepted = λ number some below. absurd (omega arith); to_come = λ number past. refl })
     (λ history s run counted.
@@ -189,7 +191,11 @@ counted_always =
     counted refl (λ number. converted_counts number s c a admitted fit apart))
     (λ d _.
     same_counts history.endings (deq_endings s d ++ sweep_endings (deq_change s d).resources) s (state_after_sweep (deq_change s d)) counted refl
-    (λ number. all_withdrawn_count number (withdrawal_of s d) (deq_change s d).processes s.resources fit)))
+    (λ number. all_withdrawn_count number (withdrawals_of s d) (dequeues_apart s d) (deq_change s d).processes s.resources fit))
+    (λ is_one nodes _.
+    same_counts history.endings (rundown_endings is_one s ++ sweep_endings (state_after_rundown is_one nodes s).resources) s
+    (state_after_sweep (state_after_rundown is_one nodes s)) counted refl
+    (λ number. all_withdrawn_count number (rundowns is_one s) (rundowns_apart is_one s) (processes_but is_one s.processes) s.resources fit)))
 
 -- of two numbers whose sum is 1, one is 1 and the other 0
 one_of_two : (a b : ℕ) → a + b ≡ 1 → ((a ≡ 1) × (b ≡ 0)) ⊎ ((a ≡ 0) × (b ≡ 1))

@@ -1,7 +1,7 @@
 -- Service grants from the heads of the queues, resource by resource.
 use Rattle.std.proofs.Common.{◌≡◌, ◌<◌, ℕ, suc, true, false, not, ◌&&◌, List, [], ◌∷◌, ◌++◌, take, drop, cond, Option, None, Some, append_assoc, refl, sym, subst, ap, ◌∙◌, arith, map}
 use Rattle.std.specs.Prelude.{IsSome}
-use Rattle.std.specs.List.{AllZip}
+use Rattle.std.specs.List.{AllZip, AllByRecursion}
 use Rattle.std.proofs.lemmas.Bool.{and_parts, cond_both}
 use Rattle.std.proofs.lemmas.List.{append-nil, map-append}
 use Rattle.vlm_words.specs.declared.locks.Request.{Request}
@@ -13,7 +13,7 @@ use Rattle.vlm_words.specs.Endings.How.{by_grant}
 use Rattle.vlm_words.specs.Effects.{with_value_block}
 use Rattle.vlm_words.specs.Grants.{Service, grant_act, grant_endings, granted_row, is_empty, no_service, resource_after_grant, service, service_after_grant, service_of_conversions, service_of_new_requests, service_of_waiting, wanted_fits}
 use Rattle.vlm_words.specs.Sweeps.{blocks_after_service, is_vacant, resource_after_service, resources_after_sweep, sweep_endings}
-use Rattle.vlm_words.specs.Laws.{GrantsFirst, IsGrantOf, IsGranted, IsSameButArmed, IsSameResource, IsVacant, SweptInOrder, goes, none, stays, first_rows}
+use Rattle.vlm_words.specs.Laws.{GrantsFirst, IsGrantOf, IsGranted, IsSameButArmed, IsSameResource, IsVacant, SweptInOrder, goes, none, stays, first_rows, IsGrant}
 use Rattle.vlm_words.proofs.NothingLeft.{is_empty-true}
 use Rattle.vlm_words.specs.Asts.{resource_after_warning, row_after_warning}
 use Rattle.vlm_words.proofs.Warned.{blind_warned, stay_warned}
@@ -294,3 +294,16 @@ sweep_in_order processes (r ∷ rest) =
       | true ↦ λ empty. goes first (vacant after empty) behind
       | false ↦ λ _. stays first behind
     ] refl
+
+-- what is granted from queues ends by grants
+pub granted_ends : (rows : List Row) (endings : List Ending) → AllZip IsGrantOf rows endings → AllByRecursion (λ ending. IsGrant ending.how) endings
+granted_ends [] [] ends = tt
+granted_ends [] (ending ∷ endings) ends = absurd ends
+granted_ends (row ∷ rows) [] ends = absurd ends
+granted_ends (row ∷ rows) (ending ∷ endings) ends = (ends.0.how, granted_ends rows endings ends.1)
+
+-- the service of a resource ends nothing but by grants
+pub service_grants : (r : Resource) → AllByRecursion (λ ending. IsGrant ending.how) (service r).endings
+service_grants r =
+    let first : GrantsFirst r (service r).resource (service r).endings = service_in_order r in
+    granted_ends (first_rows first.conversions first.new_requests r) (service r).endings first.ends

@@ -1,7 +1,7 @@
 -- Whoever joins a queue stands behind it.
 use Rattle.std.proofs.Common.{◌≡◌, ◌≤◌, ◌+◌, ℕ, Bool, true, false, not, List, [], ◌∷◌, ◌++◌, map, length, cond, Option, None, Some, refl, sym, subst, ap, ◌∙◌, arith}
-use Rattle.std.specs.Prelude.{◌==◌}
-use Rattle.std.specs.List.{AllByRecursion, AllZip, find, sum_by}
+use Rattle.std.specs.Prelude.{◌==◌, ◌-◌}
+use Rattle.std.specs.List.{AllByRecursion, AllZip, find, sum_by, filter, range_with_len}
 use Rattle.std.proofs.lemmas.Bool.{and_parts, cond_both, eq-eqb, eqb-true}
 use Rattle.std.proofs.lemmas.List.{append-nil}
 use Rattle.std.proofs.lemmas.List.Elements.{All-from_recursion}
@@ -23,17 +23,23 @@ use Rattle.vlm_words.specs.Take.{take_change}
 use Rattle.vlm_words.specs.Trees.{enq_site}
 use Rattle.vlm_words.specs.Enqueue.{enq_at_once, enq_change, enq_row, resource_after_entry, resources_after_entry}
 use Rattle.vlm_words.specs.Convert.{ConversionAdmission, convert_blocks, convert_change, convert_lkid, resource_after_conversion, resource_after_conversion_of, resource_without_granted, wanting_row}
-use Rattle.vlm_words.specs.Withdrawals.{Withdrawal, is_held_by_writer, resource_after_cancel, resource_after_going, resource_after_withdrawals, resource_without, row_after_cancel, value_block_after_writer}
-use Rattle.vlm_words.specs.Dequeue.{deq_change, dequeue_lkid, withdrawal_of, withdrawals_of}
+use Rattle.vlm_words.specs.Withdrawals.{Withdrawal, is_held_by_writer, resource_after_cancel, resource_after_going, resource_after_withdrawals, resource_without, row_after_cancel, value_block_after_writer, resource_after_each, resource_after_writer}
+use Rattle.vlm_words.specs.Dequeue.{deq_change, dequeue_lkid, withdrawal_of, withdrawals_of, dequeued_lkids, is_dequeued}
 use Rattle.vlm_words.specs.Runs.{History, Run}
 use Rattle.vlm_words.specs.Stepped.{IsChoice, conversion_change, step_change, step_refusal}
-use Rattle.vlm_words.specs.Joining.{ChangesKeepOrder, HasOwnAlone, JoinsBehind, KeepsOrder, is_own_lock, nobody_joins, one_joins, row_leaves, row_stays}
+use Rattle.vlm_words.specs.Joining.{ChangesKeepOrder, HasOwnAlone, JoinsBehind, KeepsOrder, is_own_lock, nobody_joins, one_joins, row_leaves, row_stays, is_lock_of_one}
 use Rattle.vlm_words.proofs.Always.{admission_of}
 use Rattle.vlm_words.proofs.Apart.{Apart, apart_always, standing, stands}
-use Rattle.vlm_words.proofs.Each.{Found, found_at}
+use Rattle.vlm_words.proofs.Each.{Found, found_at, each_filter, each_map, each_so}
 use Rattle.vlm_words.proofs.InOrder.{same_resource}
 use Rattle.vlm_words.proofs.Keys.{entry_keeps_place}
 use Rattle.vlm_words.proofs.Weights.{weigh}
+use Rattle.vlm_words.specs.Rundown.{is_ended_by, is_of_node, nodes_after_departure, rundown_of, rundowns, state_after_rundown}
+use Rattle.vlm_words.specs.Flags.{cancel, deqall, has_flag}
+use Rattle.vlm_words.specs.OwnLocks.{own_lkids}
+use Rattle.vlm_words.specs.declared.steps.Dequeue.{Dequeue}
+use Rattle.vlm_words.proofs.WhoseLocks.{each_passing}
+use Rattle.vlm_words.proofs.Passed.{flags_go_together}
 
 -- ---- one queue
 
@@ -243,6 +249,102 @@ all_withdrawn own w is (r ∷ rest) one =
     let both : standing w.lkid (r ∷ rest) ≡ weigh (stands w.lkid) r + standing w.lkid rest = sum_by-cons (weigh (stands w.lkid)) r rest in
     (withdrawn own w is r (omega (arith, one, both)), all_withdrawn own w is rest (omega (arith, one, both)))
 
+-- ---- several withdrawals
+
+-- own locks that are gone have left
+gone_after : (own : ℕ → Bool) (lkid : ℕ) → own lkid ≡ true → (before after : List Row) → JoinsBehind own before after
+    → JoinsBehind own before (rows_without lkid after)
+gone_after own lkid is _ _ nobody_joins = nobody_joins
+gone_after own lkid is _ _ (one_joins {row} its) =
+    cond_both (not (row.lkid == lkid)) (row ∷ []) [] (JoinsBehind own []) (λ _. one_joins its) (λ _. nobody_joins)
+gone_after own lkid is _ _ (row_stays {row} {before} {after} further) = of_test (row.lkid == lkid) refl (gone_after own lkid is before after further)
+  where
+    of_test : (b : Bool) → (row.lkid == lkid) ≡ b → JoinsBehind own before (rows_without lkid after)
+        → JoinsBehind own (row ∷ before) (cond (not b) (row ∷ rows_without lkid after) (rows_without lkid after))
+    of_test true here behind = row_leaves (ap own (eqb-true row.lkid lkid here) ∙ is) behind
+    of_test false other behind = row_stays behind
+gone_after own lkid is _ _ (row_leaves {row} {before} {after} its further) = row_leaves its (gone_after own lkid is before after further)
+
+-- the withdrawal is that of an own lock, which goes
+abbrev Goes : (ℕ → Bool) → Withdrawal → Type 0
+Goes own w = (own w.lkid ≡ true) × (w.stays ≡ false)
+
+going_after : (own : ℕ → Bool) (before : Resource) (w : Withdrawal) → Goes own w → (r : Resource) → KeepsOrder own before r
+    → KeepsOrder own before (resource_after_going w r)
+unfolding resource_without
+going_after own before w goes r order =
+    subst (λ (b : Bool). KeepsOrder own before (cond b (resource_after_cancel w.lkid r) (resource_without w.lkid r))) (sym goes.1)
+    (record {
+      same = record { serial = order.same.serial; parent = order.same.parent; domain = order.same.domain; name = order.same.name; level = order.same.level };
+      granted = gone_after own w.lkid goes.0 before.granted r.granted order.granted;
+      converting = gone_after own w.lkid goes.0 before.converting r.converting order.converting;
+      waiting = gone_after own w.lkid goes.0 before.waiting r.waiting order.waiting;
+    })
+
+all_going_after : (own : ℕ → Bool) (before : Resource) (withdrawals : List Withdrawal) → AllByRecursion (Goes own) withdrawals → (r : Resource)
+    → KeepsOrder own before r → KeepsOrder own before (resource_after_each resource_after_going withdrawals r)
+all_going_after own before [] each r order = order
+all_going_after own before (w ∷ withdrawals) each r order =
+    all_going_after own before withdrawals each.1 (resource_after_going w r) (going_after own before w each.0 r order)
+
+-- what they leave in the value block leaves the queues
+left_in_order : (own : ℕ → Bool) (before : Resource) (withdrawals : List Withdrawal) (r : Resource) → KeepsOrder own before r
+    → KeepsOrder own before (resource_after_each resource_after_writer withdrawals r)
+left_in_order own before [] r order = order
+left_in_order own before (w ∷ withdrawals) r order =
+    left_in_order own before withdrawals (resource_after_writer w r)
+    (cond_both (is_held_by_writer w.lkid r) (record r { value_block = value_block_after_writer w r.value_block }) r (KeepsOrder own before)
+    (λ _. record {
+      same = record { serial = order.same.serial; parent = order.same.parent; domain = order.same.domain; name = order.same.name; level = order.same.level };
+      granted = order.granted;
+      converting = order.converting;
+      waiting = order.waiting;
+    })
+    (λ _. order))
+
+several_in_order : (own : ℕ → Bool) (withdrawals : List Withdrawal) → AllByRecursion (Goes own) withdrawals → (resources : List Resource)
+    → AllByRecursion (λ r. KeepsOrder own r (resource_after_withdrawals withdrawals r)) resources
+several_in_order own withdrawals each resources =
+    each_so (λ r. KeepsOrder own r (resource_after_withdrawals withdrawals r))
+    (λ r. all_going_after own r withdrawals each (resource_after_each resource_after_writer withdrawals r) (left_in_order own r withdrawals r (kept own r)))
+    resources
+
+-- the locks of processes that end
+rundown_in_order : (s : State) (is_one : ℕ → Bool)
+    → AllByRecursion (λ r. KeepsOrder (is_lock_of_one is_one s) r (resource_after_withdrawals (rundowns is_one s) r)) s.resources
+rundown_in_order s is_one =
+    several_in_order (is_lock_of_one is_one s) (rundowns is_one s)
+    (each_map (λ lkid. is_lock_of_one is_one s lkid ≡ true) (Goes (is_lock_of_one is_one s)) rundown_of (λ lkid its. (its, refl)) (own_lkids is_one s)
+    (each_passing (is_lock_of_one is_one s) (range_with_len 1 (s.next_lkid - 1)))) s.resources
+
+-- the locks that a dequeue takes: one, or with DEQALL several, which go
+dequeued_in_order : (s : State) → Apart s → (d : Dequeue) → (has_flag d.flags deqall ≡ true → has_flag d.flags cancel ≡ false)
+    → AllByRecursion (λ r. KeepsOrder (is_own_lock s (Deq d)) r (resource_after_withdrawals (withdrawals_of s d) r)) s.resources
+dequeued_in_order s apart d together = of_flag (has_flag d.flags deqall) refl
+  where
+    caller : ℕ → Bool
+    caller pid = pid == d.pid
+
+    own : Bool → ℕ → Bool
+    own all lkid = cond all (is_lock_of_one (λ pid. pid == d.pid) s lkid) (lkid == dequeue_lkid s d)
+
+    lkids : Bool → List ℕ
+    lkids all = cond all (filter (is_dequeued s d) (own_lkids (λ pid. pid == d.pid) s)) (dequeue_lkid s d ∷ [])
+
+    at : Bool → Type 0
+    at all = AllByRecursion (λ r. KeepsOrder (own all) r (resource_after_withdrawals (map (withdrawal_of d) (lkids all)) r)) s.resources
+
+    of_flag : (all : Bool) → has_flag d.flags deqall ≡ all → at (has_flag d.flags deqall)
+    of_flag true is =
+        subst at (sym is)
+        (several_in_order (own true) (map (withdrawal_of d) (lkids true))
+        (each_map (λ lkid. own true lkid ≡ true) (Goes (own true)) (withdrawal_of d) (λ lkid its. (its, together is)) (lkids true)
+        (each_filter (λ lkid. own true lkid ≡ true) (is_dequeued s d) (own_lkids (λ pid. pid == d.pid) s)
+        (each_passing (own true) (range_with_len 1 (s.next_lkid - 1))))) s.resources)
+    of_flag false is =
+        subst at (sym is)
+        (all_withdrawn (own false) (withdrawal_of d (dequeue_lkid s d)) (eq-eqb (dequeue_lkid s d) (dequeue_lkid s d) refl) s.resources (apart.one_row (dequeue_lkid s d)))
+
 -- ---- the steps
 
 -- a change that leaves the resources
@@ -269,7 +371,7 @@ changed s step choice change is each = record {
 }
 
 changes_keep_order : (s : State) → Apart s → (step : Step) (choice : Option Row) → step_refusal s step ≡ None → ChangesKeepOrder s step choice
-unfolding declare_change set_change take_change enq_change convert_change deq_change
+unfolding declare_change set_change take_change enq_change convert_change deq_change state_after_rundown
 changes_keep_order s apart (Declare d) choice passed = unchanged s (Declare d) choice refl
 changes_keep_order s apart (SetValue v) choice passed = unchanged s (SetValue v) choice refl
 changes_keep_order s apart (Enq e) choice passed =
@@ -293,9 +395,11 @@ changes_keep_order s apart (Convert c) choice passed =
     (all_converted (is_own_lock s (Convert c)) a.request a.at_once c.pid lkid (eq-eqb lkid lkid refl) block s.resources)
 changes_keep_order s apart (Deq d) choice passed =
     changed s (Deq d) choice (resource_after_withdrawals (withdrawals_of s d)) refl
-    (all_withdrawn (is_own_lock s (Deq d)) (withdrawal_of s d) (eq-eqb (dequeue_lkid s d) (dequeue_lkid s d) refl) s.resources (apart.one_row (dequeue_lkid s d)))
-changes_keep_order s apart (Rundown pid) choice passed = unchanged s (Rundown pid) choice refl
-changes_keep_order s apart (Leave node) choice passed = unchanged s (Leave node) choice refl
+    (dequeued_in_order s apart d (flags_go_together s d passed))
+changes_keep_order s apart (Rundown pid) choice passed =
+    changed s (Rundown pid) choice (resource_after_withdrawals (rundowns (is_ended_by pid) s)) refl (rundown_in_order s (is_ended_by pid))
+changes_keep_order s apart (Leave node) choice passed =
+    changed s (Leave node) choice (resource_after_withdrawals (rundowns (is_of_node node) s)) refl (rundown_in_order s (is_of_node node))
 changes_keep_order s apart (Search node) choice passed = unchanged s (Search node) choice refl
 changes_keep_order s apart (Take pid) choice passed = unchanged s (Take pid) choice refl
 

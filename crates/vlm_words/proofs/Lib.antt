@@ -5,6 +5,7 @@ pub mod Passed
 pub mod Always
 pub mod EachResource
 pub mod Withdrawing
+pub mod Together
 pub mod NothingLeft
 pub mod Compatible
 pub mod HeldModes
@@ -32,6 +33,7 @@ pub mod Holdings
 pub mod Rooted
 pub mod NewlyRooted
 pub mod Trees
+pub mod WhoseLocks
 pub mod Owners
 pub mod Numbers
 pub mod FlagBits
@@ -45,6 +47,9 @@ pub mod Waiting
 pub mod Queued
 pub mod EndWrites
 pub mod Writing
+pub mod Ended
+pub mod Leaving
+pub mod LeftValues
 pub mod Written
 pub mod Queueing
 mod Taking

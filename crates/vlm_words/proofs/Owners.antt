@@ -1,26 +1,29 @@
 -- A step leaves the requests and locks of other processes alone.
 use Rattle.std.proofs.Common.{◌≡◌, ◌≤◌, ◌+◌, ℕ, Bool, true, false, not, List, [], ◌∷◌, ◌++◌, map, flat_map, cond, Option, None, Some, refl, sym, subst, ap, inl, inr, ◌∙◌, arith}
-use Rattle.std.specs.Prelude.{◌==◌, ◌&&◌, ◌||◌, All}
-use Rattle.std.specs.List.{AllByRecursion, AllZip, find, list_any, sum_by}
-use Rattle.std.proofs.lemmas.Bool.{cond_both, eqb-true, or_cases}
+use Rattle.std.specs.Prelude.{◌==◌, ◌&&◌, ◌||◌, ◌/◌, All}
+use Rattle.std.specs.List.{AllByRecursion, AllZip, filter, find, list_any, sum_by}
+use Rattle.std.proofs.lemmas.Bool.{cond_both, eqb-true}
+use Rattle.std.proofs.lemmas.List.{map-id}
 use Rattle.std.proofs.lemmas.Bool.Decides.{eqb_tells}
 use Rattle.std.proofs.lemmas.List.Elements.{All-from_recursion}
 use Rattle.std.proofs.lemmas.List.Sums.{sum_by-append, sum_by-cons}
 use Rattle.vlm_words.specs.declared.conditions.Cond.TheVariants.{Ivlockid}
 use Rattle.vlm_words.specs.declared.conditions.Cond.{Cond}
-use Rattle.vlm_words.specs.Flags.{cancel, has_flag}
+use Rattle.vlm_words.specs.Flags.{deqall, has_flag}
 use Rattle.vlm_words.specs.declared.locks.Request.{Request}
 use Rattle.vlm_words.specs.declared.locks.Row.{Row}
 use Rattle.vlm_words.specs.declared.steps.Dequeue.{Dequeue}
 use Rattle.vlm_words.specs.declared.steps.Step.TheVariants.{Declare, SetValue, Enq, Convert, Deq, Rundown, Leave, Search, Take}
 use Rattle.vlm_words.specs.declared.steps.Step.{Step}
 use Rattle.vlm_words.specs.State.{Resource, State}
-use Rattle.vlm_words.specs.Endings.{Ending, How, row_endings, wanted_endings}
+use Rattle.vlm_words.specs.Endings.{Ending, wanted_endings}
 use Rattle.vlm_words.specs.Sweeps.{resources_after_sweep, sweep_endings}
 use Rattle.vlm_words.specs.Rows.{is_lock_of, rows_of}
+use Rattle.vlm_words.specs.OwnLocks.{own_lkids}
 use Rattle.vlm_words.specs.Checks.{caller_refusal, holds_lock, lock_refusal, or_else, which_refusal}
-use Rattle.vlm_words.specs.Withdrawals.{Withdrawal, is_held_by_writer, queue_endings, resource_after_cancel, resource_after_going, resource_after_withdrawals, resource_without, row_after_cancel, value_block_after_writer, withdrawal_endings}
-use Rattle.vlm_words.specs.Dequeue.{cancel_refusal, deq_change, deq_endings, deq_flags_refusal, deq_refusal, dequeue_lkid, sublocks_refusal, withdrawal_of}
+use Rattle.vlm_words.specs.Withdrawals.{Withdrawal, is_held_by_writer, resource_after_cancel, resource_after_going, resource_after_withdrawals, resource_without, row_after_cancel, value_block_after_writer}
+use Rattle.vlm_words.specs.Dequeue.{cancel_refusal, deq_change, deq_endings, deq_flags_refusal, deq_refusal, dequeue_lkid, dequeued_lkids, dequeued_lock_refusal, is_dequeued, is_for_all, leaves_none, sublocks_refusal, withdrawal_of, withdrawals_of}
+use Rattle.vlm_words.specs.Rundown.{is_ended_by, is_of_node, rundown_endings, rundowns, state_after_rundown}
 use Rattle.vlm_words.specs.Laws.{IsGrant, IsGrantOf, SweptInOrder, first_rows, goes, none, stays}
 use Rattle.vlm_words.specs.declared.resources.ValueBlock.{ValueBlock}
 use Rattle.vlm_words.specs.Endings.How.{by_grant}
@@ -37,135 +40,60 @@ use Rattle.vlm_words.specs.Stepped.{IsChoice, Stepped, conversion_change, refuse
 use Rattle.vlm_words.specs.Owners.{IsCaller, OthersAreLeftAlone}
 use Rattle.vlm_words.proofs.Always.{admission_of}
 use Rattle.vlm_words.proofs.Apart.{Apart, apart_always, standing, stands}
-use Rattle.vlm_words.proofs.Each.{each_append, each_weaker}
-use Rattle.vlm_words.proofs.Holdings.{converted_held, locks, locks_counted, locks_named, others_go}
-use Rattle.vlm_words.proofs.InOrder.{sweep_in_order}
-use Rattle.vlm_words.proofs.Moves.{grant_keeps, swept_named}
+use Rattle.vlm_words.proofs.Each.{each_append, each_filter, each_map, each_weaker}
+use Rattle.vlm_words.proofs.Holdings.{converted_held, locks, locks_named, others_go}
+use Rattle.vlm_words.proofs.InOrder.{granted_ends, sweep_in_order}
+use Rattle.vlm_words.proofs.Moves.{IsByName, grant_keeps, swept_named, withdrawn_named}
 use Rattle.vlm_words.proofs.Passed.{test_passes}
-use Rattle.vlm_words.proofs.Sums.{sum_of_zero}
+use Rattle.vlm_words.proofs.Sums.{sum_changed-le, sum_of_zero}
 use Rattle.vlm_words.proofs.Weights.{entered_among_weighs, weigh}
-use Rattle.vlm_words.proofs.Withdrawing.{one_ends}
+use Rattle.vlm_words.proofs.Together.{OfOneEach, all_one_after_another, dequeues_apart, rundowns_apart}
+use Rattle.vlm_words.proofs.WhoseLocks.{IsTheirs, NoStrangers, none_strange, own_are_theirs, rundown_ends_are_theirs, rundowns_are_theirs, strangers, withdrawn_are_theirs}
 
--- ---- whose lock an identification is
+-- ---- whose locks a dequeue takes
 
--- 1 for a row of this identification that is of another process
-abbrev strangers : ℕ → ℕ → Row → ℕ
-strangers pid lkid row = cond ((row.lkid == lkid) && not (row.pid == pid)) 1 0
+-- what the checks of a dequeue have passed: the fourth is that its lock is the caller's, where it names one
+fourth_passes : (a b c d e : Option Cond) → or_else a (or_else b (or_else c (or_else d e))) ≡ None → d ≡ None
+fourth_passes None None None None e passed = refl
+fourth_passes None None None (Some refusal) e passed = cc
+fourth_passes None None (Some refusal) d e passed = cc
+fourth_passes None (Some refusal) c d e passed = cc
+fourth_passes (Some refusal) b c d e passed = cc
 
--- a row of the identification is of the process, or of another one
-stands_of : (pid lkid : ℕ) (row : Row) → stands lkid row ≡ locks pid lkid row + strangers pid lkid row
-stands_of pid lkid row = of_tests (row.lkid == lkid) (row.pid == pid)
-  where
-    of_tests : (a b : Bool) → cond a 1 0 ≡ cond (a && b) 1 0 + cond (a && not b) 1 0
-    of_tests true true = refl
-    of_tests true false = refl
-    of_tests false b = refl
+-- the caller of a dequeue
+abbrev is_caller : Dequeue → ℕ → Bool
+is_caller d pid = pid == d.pid
 
-rows_of_all : (pid lkid : ℕ) (rows : List Row) → sum_by (stands lkid) rows ≡ sum_by (locks pid lkid) rows + sum_by (strangers pid lkid) rows
-rows_of_all pid lkid [] = refl
-rows_of_all pid lkid (row ∷ rows) =
-    omega (
-      arith,
-      rows_of_all pid lkid rows,
-      stands_of pid lkid row,
-      sum_by-cons (stands lkid) row rows,
-      sum_by-cons (locks pid lkid) row rows,
-      sum_by-cons (strangers pid lkid) row rows,
-    )
-
-all_of : (pid lkid : ℕ) (resources : List Resource)
-    → standing lkid resources ≡ sum_by (weigh (locks pid lkid)) resources + sum_by (weigh (strangers pid lkid)) resources
-all_of pid lkid [] = refl
-all_of pid lkid (r ∷ rest) =
-    omega (
-      arith,
-      all_of pid lkid rest,
-      rows_of_all pid lkid r.granted,
-      rows_of_all pid lkid r.converting,
-      rows_of_all pid lkid r.waiting,
-      sum_by-cons (weigh (stands lkid)) r rest,
-      sum_by-cons (weigh (locks pid lkid)) r rest,
-      sum_by-cons (weigh (strangers pid lkid)) r rest,
-    )
-
-on_resource_counted : (pid lkid : ℕ) (r : Resource) → holds_lock pid lkid r ≡ true → 1 ≤ weigh (locks pid lkid) r
-on_resource_counted pid lkid r held =
-    elim (or_cases (list_any (is_lock_of pid lkid) r.granted || list_any (is_lock_of pid lkid) r.converting) (list_any (is_lock_of pid lkid) r.waiting) held) [
-      | inl first ↦ elim (or_cases (list_any (is_lock_of pid lkid) r.granted) (list_any (is_lock_of pid lkid) r.converting) first) [
-        | inl granted ↦ omega (arith, locks_counted pid lkid r.granted granted)
-        | inr converting ↦ omega (arith, locks_counted pid lkid r.converting converting)
-      ]
-      | inr waiting ↦ omega (arith, locks_counted pid lkid r.waiting waiting)
-    ]
-
-held_counted : (pid lkid : ℕ) (resources : List Resource) → list_any (holds_lock pid lkid) resources ≡ true → 1 ≤ sum_by (weigh (locks pid lkid)) resources
-held_counted pid lkid [] held = cc
-held_counted pid lkid (r ∷ rest) held =
-    elim (or_cases (holds_lock pid lkid r) (list_any (holds_lock pid lkid) rest) held) [
-      | inl here ↦ omega (arith, on_resource_counted pid lkid r here, sum_by-cons (weigh (locks pid lkid)) r rest)
-      | inr later ↦ omega (arith, held_counted pid lkid rest later, sum_by-cons (weigh (locks pid lkid)) r rest)
-    ]
-
--- the lock that a dequeue names is of its caller, and no other row has its identification
-no_strangers : (s : State) (d : Dequeue) → Apart s → deq_refusal s d ≡ None → sum_by (weigh (strangers d.pid (dequeue_lkid s d))) s.resources ≡ 0
-unfolding deq_refusal lock_refusal
-no_strangers s d apart passed =
+-- the lock that a dequeue without DEQALL names is of its caller, and no other row has its identification
+named_is_theirs : (s : State) (d : Dequeue) → Apart s → deq_refusal s d ≡ None → has_flag d.flags deqall ≡ false
+    → NoStrangers (is_caller d) s.resources (dequeue_lkid s d)
+unfolding deq_refusal dequeued_lock_refusal lock_refusal
+named_is_theirs s d apart passed alone =
     let lkid : ℕ = dequeue_lkid s d in
+    let named : cond (is_for_all s d) None (cond (list_any (holds_lock d.pid lkid) s.resources) None (Some Ivlockid)) ≡ None =
+    fourth_passes (caller_refusal s d.pid) (deq_flags_refusal d) (which_refusal s d.pid d.lock)
+    (cond (is_for_all s d) None (cond (list_any (holds_lock d.pid lkid) s.resources) None (Some Ivlockid)))
+    (or_else (cancel_refusal s d) (sublocks_refusal s (leaves_none d) lkid)) passed in
+    let one : is_for_all s d ≡ false = rw alone refl in
     let held : list_any (holds_lock d.pid lkid) s.resources ≡ true =
     test_passes (list_any (holds_lock d.pid lkid) s.resources) Ivlockid
-    (fourth_passes (caller_refusal s d.pid) (deq_flags_refusal d) (which_refusal s d.pid d.lock)
-    (cond (list_any (holds_lock d.pid lkid) s.resources) None (Some Ivlockid))
-    (or_else (cancel_refusal s d) (sublocks_refusal s (has_flag d.flags cancel) lkid)) passed) in
-    omega (arith, all_of d.pid lkid s.resources, apart.one_row lkid, held_counted d.pid lkid s.resources held)
-  where
-    fourth_passes : (a b c d e : Option Cond) → or_else a (or_else b (or_else c (or_else d e))) ≡ None → d ≡ None
-    fourth_passes None None None None e passed = refl
-    fourth_passes None None None (Some refusal) e passed = cc
-    fourth_passes None None (Some refusal) d e passed = cc
-    fourth_passes None (Some refusal) c d e passed = cc
-    fourth_passes (Some refusal) b c d e passed = cc
+    (subst (λ (b : Bool). cond b None (cond (list_any (holds_lock d.pid lkid) s.resources) None (Some Ivlockid)) ≡ None) one named) in
+    none_strange (is_caller d) s apart lkid held
+
+-- the locks that a dequeue takes are its caller's
+dequeued_are_theirs : (s : State) (d : Dequeue) → Apart s → deq_refusal s d ≡ None
+    → AllByRecursion (λ w. NoStrangers (is_caller d) s.resources w.lkid) (withdrawals_of s d)
+dequeued_are_theirs s d apart passed =
+    each_map (NoStrangers (is_caller d) s.resources) (λ w. NoStrangers (is_caller d) s.resources w.lkid) (withdrawal_of d) (λ lkid none. none)
+    (dequeued_lkids s d)
+    (cond_both (has_flag d.flags deqall) (filter (is_dequeued s d) (own_lkids (is_caller d) s)) (dequeue_lkid s d ∷ [])
+    (AllByRecursion (NoStrangers (is_caller d) s.resources))
+    (λ _. each_filter (NoStrangers (is_caller d) s.resources) (is_dequeued s d) (own_lkids (is_caller d) s) (own_are_theirs (is_caller d) s apart))
+    (λ alone. (named_is_theirs s d apart passed alone, tt)))
 
 -- ---- whose requests end
 
--- the requests of rows of which none is a stranger's are of the process
-ends_of : (pid lkid : ℕ) (how : How) (rows : List Row) → sum_by (strangers pid lkid) rows ≡ 0
-    → AllByRecursion (λ ending. ending.pid ≡ pid) (queue_endings how lkid rows)
-ends_of pid lkid how [] nothing = tt
-ends_of pid lkid how (row ∷ rows) nothing =
-    of_tests (row.lkid == lkid) refl (row.pid == pid) refl (ends_of pid lkid how rows (omega (arith, nothing, sum_by-cons (strangers pid lkid) row rows)))
-  where
-    here : (want : Option Request) → row.pid ≡ pid → AllByRecursion (λ ending. ending.pid ≡ pid) (wanted_endings how false row.lkid row.pid want)
-    here None is = tt
-    here (Some request) is = (is, tt)
-
-    of_tests : (a : Bool) → (row.lkid == lkid) ≡ a → (b : Bool) → (row.pid == pid) ≡ b
-        → AllByRecursion (λ ending. ending.pid ≡ pid) (queue_endings how lkid rows)
-        → AllByRecursion (λ ending. ending.pid ≡ pid) (flat_map (row_endings how false) (cond a (row ∷ rows_of lkid rows) (rows_of lkid rows)))
-    of_tests false other b is later = later
-    of_tests true same true is later =
-        each_append (λ ending. ending.pid ≡ pid) (row_endings how false row) (queue_endings how lkid rows) (here row.want (eqb-true row.pid pid is)) later
-    of_tests true same false is later =
-        let one : strangers pid lkid row ≡ 1 = rw (same, is) refl in
-        absurd (omega (arith, nothing, one, sum_by-cons (strangers pid lkid) row rows))
-
-all_ends_of : (pid : ℕ) (w : Withdrawal) (resources : List Resource) → sum_by (weigh (strangers pid w.lkid)) resources ≡ 0
-    → AllByRecursion (λ ending. ending.pid ≡ pid) (flat_map (withdrawal_endings w) resources)
-all_ends_of pid w [] nothing = tt
-all_ends_of pid w (r ∷ rest) nothing =
-    let both = sum_by-cons (weigh (strangers pid w.lkid)) r rest in
-    each_append (λ ending. ending.pid ≡ pid) (withdrawal_endings w r) (flat_map (withdrawal_endings w) rest)
-    (each_append (λ ending. ending.pid ≡ pid) (queue_endings w.converting w.lkid r.converting) (queue_endings w.waiting w.lkid r.waiting)
-    (ends_of pid w.lkid w.converting r.converting (omega (arith, nothing, both)))
-    (ends_of pid w.lkid w.waiting r.waiting (omega (arith, nothing, both))))
-    (all_ends_of pid w rest (omega (arith, nothing, both)))
-
 -- a sweep ends nothing but by grants
-granted_ends : (rows : List Row) (endings : List Ending) → AllZip IsGrantOf rows endings → AllByRecursion (λ ending. IsGrant ending.how) endings
-granted_ends [] [] ends = tt
-granted_ends [] (ending ∷ endings) ends = absurd ends
-granted_ends (row ∷ rows) [] ends = absurd ends
-granted_ends (row ∷ rows) (ending ∷ endings) ends = (ends.0.how, granted_ends rows endings ends.1)
-
 swept_ends : (before after : List Resource) (endings : List Ending) → SweptInOrder before after endings → AllByRecursion (λ ending. IsGrant ending.how) endings
 swept_ends _ _ _ none = tt
 swept_ends _ _ _ (stays {before} {after} {rest} {left} {endings} {more} first behind) =
@@ -205,34 +133,31 @@ all_converted_keep pid lkid owner other request at_once block (r ∷ rest) one =
     )
 
 -- a row of a lock of another process is a stranger's
-anothers : (pid caller lkid : ℕ) → (pid ≡ caller → ⊥) → (row : Row) → locks pid lkid row ≤ strangers caller lkid row
-anothers pid caller lkid differs row =
-    elim (eqb_tells row.pid caller) [
-      | inl same ↦ elim (eqb_tells row.pid pid) [
-        | inl too ↦ absurd (differs (sym too.1 ∙ same.1))
-        | inr other ↦ rw (other.0) (of_tests (row.lkid == lkid))
-      ]
-      | inr other ↦ rw (other.0) (of_both (row.lkid == lkid) (row.pid == pid))
+anothers : (is_one : ℕ → Bool) (pid lkid : ℕ) → is_one pid ≡ false → (row : Row) → locks pid lkid row ≤ strangers is_one lkid row
+anothers is_one pid lkid differs row =
+    elim (eqb_tells row.pid pid) [
+      | inl same ↦ rw (same.0, ap is_one same.1 ∙ differs) (of_tests (row.lkid == lkid))
+      | inr other ↦ rw (other.0) (of_none (row.lkid == lkid) (not (is_one row.pid)))
     ]
   where
-    of_tests : (a : Bool) → cond (a && false) 1 0 ≤ cond (a && not (row.pid == caller)) 1 0
-    of_tests true = omega arith
-    of_tests false = omega arith
+    of_tests : (a : Bool) → cond (a && true) 1 0 ≤ cond (a && true) 1 0
+    of_tests a = omega arith
 
-    of_both : (a b : Bool) → cond (a && b) 1 0 ≤ cond (a && true) 1 0
-    of_both true true = omega arith
-    of_both true false = omega arith
-    of_both false b = omega arith
+    of_none : (a b : Bool) → cond (a && false) 1 0 ≤ cond (a && b) 1 0
+    of_none true true = omega arith
+    of_none true false = omega arith
+    of_none false b = omega arith
 
-all_anothers : (pid caller lkid : ℕ) → (pid ≡ caller → ⊥) → (rows : List Row) → sum_by (locks pid lkid) rows ≤ sum_by (strangers caller lkid) rows
-all_anothers pid caller lkid differs [] = omega arith
-all_anothers pid caller lkid differs (row ∷ rows) =
+all_anothers : (is_one : ℕ → Bool) (pid lkid : ℕ) → is_one pid ≡ false → (rows : List Row)
+    → sum_by (locks pid lkid) rows ≤ sum_by (strangers is_one lkid) rows
+all_anothers is_one pid lkid differs [] = omega arith
+all_anothers is_one pid lkid differs (row ∷ rows) =
     omega (
       arith,
-      anothers pid caller lkid differs row,
-      all_anothers pid caller lkid differs rows,
+      anothers is_one pid lkid differs row,
+      all_anothers is_one pid lkid differs rows,
       sum_by-cons (locks pid lkid) row rows,
-      sum_by-cons (strangers caller lkid) row rows,
+      sum_by-cons (strangers is_one lkid) row rows,
     )
 
 -- a withdrawal takes no row of another identification away
@@ -255,29 +180,61 @@ withdrawn_keeps pid lkid w differs r =
     (λ _. gone_keeps pid lkid w differs written) (λ _. gone_keeps pid lkid w differs r)
 
 -- nor one of another process
-all_withdrawn_keep : (pid lkid caller : ℕ) (w : Withdrawal) → (pid ≡ caller → ⊥) → (resources : List Resource) → sum_by (weigh (strangers caller w.lkid)) resources ≡ 0
+all_withdrawn_keep : (is_one : ℕ → Bool) (pid lkid : ℕ) (w : Withdrawal) → is_one pid ≡ false → (resources : List Resource)
+    → NoStrangers is_one resources w.lkid
     → sum_by (weigh (locks pid lkid)) resources ≤ sum_by (weigh (locks pid lkid)) (map (resource_after_withdrawals (w ∷ [])) resources)
-all_withdrawn_keep pid lkid caller w differs [] nothing = omega arith
-all_withdrawn_keep pid lkid caller w differs (r ∷ rest) nothing =
-    let both = sum_by-cons (weigh (strangers caller w.lkid)) r rest in
+all_withdrawn_keep is_one pid lkid w differs [] nothing = omega arith
+all_withdrawn_keep is_one pid lkid w differs (r ∷ rest) nothing =
+    let both = sum_by-cons (weigh (strangers is_one w.lkid)) r rest in
     omega (
       arith,
       here (omega (arith, nothing, both)),
-      all_withdrawn_keep pid lkid caller w differs rest (omega (arith, nothing, both)),
+      all_withdrawn_keep is_one pid lkid w differs rest (omega (arith, nothing, both)),
       sum_by-cons (weigh (locks pid lkid)) r rest,
       sum_by-cons (weigh (locks pid lkid)) (resource_after_withdrawals (w ∷ []) r) (map (resource_after_withdrawals (w ∷ [])) rest),
     )
   where
-    here : weigh (strangers caller w.lkid) r ≡ 0 → weigh (locks pid lkid) r ≤ weigh (locks pid lkid) (resource_after_withdrawals (w ∷ []) r)
+    here : weigh (strangers is_one w.lkid) r ≡ 0 → weigh (locks pid lkid) r ≤ weigh (locks pid lkid) (resource_after_withdrawals (w ∷ []) r)
     here none_here =
         elim (eqb_tells lkid w.lkid) [
           | inl same ↦
-              (let of_lock : sum_by (locks pid lkid) r.granted + sum_by (locks pid lkid) r.converting + sum_by (locks pid lkid) r.waiting
-              ≤ sum_by (strangers caller lkid) r.granted + sum_by (strangers caller lkid) r.converting + sum_by (strangers caller lkid) r.waiting =
-              omega (arith, all_anothers pid caller lkid differs r.granted, all_anothers pid caller lkid differs r.converting, all_anothers pid caller lkid differs r.waiting) in
-              omega (arith, of_lock, none_here, ap (λ (n : ℕ). weigh (strangers caller n) r) same.1))
+              (let of_lock : weigh (locks pid lkid) r ≤ weigh (strangers is_one lkid) r =
+              omega (arith, all_anothers is_one pid lkid differs r.granted, all_anothers is_one pid lkid differs r.converting, all_anothers is_one pid lkid differs r.waiting) in
+              omega (arith, of_lock, none_here, ap (λ (n : ℕ). weigh (strangers is_one n) r) same.1))
           | inr other ↦ withdrawn_keeps pid lkid w other.0 r
         ]
+
+-- a row is a stranger's by its lock and its process
+strangers_named : (is_one : ℕ → Bool) (lkid : ℕ) → IsByName (strangers is_one lkid)
+strangers_named is_one lkid row held want armed = refl
+
+-- where one lock is gone, still no row of the others is a stranger's
+still_no_strangers : (is_one : ℕ → Bool) (w : Withdrawal) (resources : List Resource) (withdrawals : List Withdrawal)
+    → AllByRecursion (λ v. NoStrangers is_one resources v.lkid) withdrawals
+    → AllByRecursion (λ v. NoStrangers is_one (map (resource_after_withdrawals (w ∷ [])) resources) v.lkid) withdrawals
+still_no_strangers is_one w resources withdrawals nothing =
+    each_weaker (λ v. NoStrangers is_one resources v.lkid) (λ v. NoStrangers is_one (map (resource_after_withdrawals (w ∷ [])) resources) v.lkid)
+    (λ v none. omega (
+      arith,
+      none,
+      sum_changed-le (weigh (strangers is_one v.lkid)) (resource_after_withdrawals (w ∷ []))
+          (withdrawn_named (strangers is_one v.lkid) (strangers_named is_one v.lkid) (w ∷ [])) resources,
+    ))
+    withdrawals nothing
+
+-- nor do several
+withdrawals_keep : (is_one : ℕ → Bool) (pid lkid : ℕ) → is_one pid ≡ false → (withdrawals : List Withdrawal) → OfOneEach withdrawals
+    → (resources : List Resource) → AllByRecursion (λ w. NoStrangers is_one resources w.lkid) withdrawals
+    → sum_by (weigh (locks pid lkid)) resources ≤ sum_by (weigh (locks pid lkid)) (map (resource_after_withdrawals withdrawals) resources)
+withdrawals_keep is_one pid lkid differs [] apart resources nothing = omega (arith, ap (sum_by (weigh (locks pid lkid))) (map-id resources))
+withdrawals_keep is_one pid lkid differs (w ∷ withdrawals) apart resources nothing =
+    let after : List Resource = map (resource_after_withdrawals (w ∷ [])) resources in
+    omega (
+      arith,
+      all_withdrawn_keep is_one pid lkid w differs resources nothing.0,
+      withdrawals_keep is_one pid lkid differs withdrawals apart.1 after (still_no_strangers is_one w resources withdrawals nothing.1),
+      ap (sum_by (weigh (locks pid lkid))) (all_one_after_another w withdrawals apart.0 resources),
+    )
 
 -- ---- the steps
 
@@ -317,8 +274,15 @@ swept_alone s step change ends kept = (
       omega (arith, kept pid lkid stranger, swept_named (locks pid lkid) (locks_named pid lkid) change.state.processes change.state.resources),
 )
 
+-- two numbers that are not the same
+no_caller : (a b : ℕ) → (a ≡ b → ⊥) → (a == b) ≡ false
+no_caller a b differs = elim (eqb_tells a b) [
+  | inl same ↦ absurd (differs same.1)
+  | inr other ↦ other.0
+]
+
 left_alone : (s : State) → Apart s → (step : Step) (choice : Option Row) → step_refusal s step ≡ None → IsLeftAlone s step (stepped_after_sweep (step_change s step choice))
-unfolding declare_change set_change take_change enq_change enq_resource convert_change deq_change
+unfolding declare_change set_change take_change enq_change enq_resource convert_change deq_change state_after_rundown
 left_alone s apart (Declare d) choice passed = swept_alone s (Declare d) (step_change s (Declare d) choice) tt (λ pid lkid stranger. omega arith)
 left_alone s apart (SetValue v) choice passed = swept_alone s (SetValue v) (step_change s (SetValue v) choice) tt (λ pid lkid stranger. omega arith)
 left_alone s apart (Enq e) choice passed =
@@ -336,13 +300,24 @@ left_alone s apart (Convert c) choice passed =
     (swept_alone s (Convert c) (conversion_change s c (Some a)) (grants_alone (Convert c) (conversion_endings a) (at_once_alone (Convert c) a.at_once (wanting_row a.row a.request)))
     (λ pid lkid stranger. all_converted_keep pid lkid c.pid (convert_lkid s c) a.request a.at_once (convert_blocks s c a).value_block s.resources (apart.one_row (convert_lkid s c))))
 left_alone s apart (Deq d) choice passed =
-    let nothing = no_strangers s d apart passed in
+    let theirs = dequeued_are_theirs s d apart passed in
     swept_alone s (Deq d) (step_change s (Deq d) choice)
-    (each_weaker (λ ending. ending.pid ≡ d.pid) (λ ending. (IsGrant ending.how → ⊥) → ending.pid ≡ d.pid) (λ ending is _. is) (deq_endings s d)
-    (subst (AllByRecursion (λ (ending : Ending). ending.pid ≡ d.pid)) (sym (one_ends (withdrawal_of s d) s.resources)) (all_ends_of d.pid (withdrawal_of s d) s.resources nothing)))
-    (λ pid lkid stranger. all_withdrawn_keep pid lkid d.pid (withdrawal_of s d) stranger s.resources nothing)
-left_alone s apart (Rundown pid) choice passed = cc
-left_alone s apart (Leave node) choice passed = cc
+    (each_weaker (IsTheirs (is_caller d)) (λ ending. (IsGrant ending.how → ⊥) → ending.pid ≡ d.pid) (λ ending is _. eqb-true ending.pid d.pid is) (deq_endings s d)
+    (withdrawn_are_theirs (is_caller d) (withdrawals_of s d) s.resources theirs))
+    (λ pid lkid stranger. withdrawals_keep (is_caller d) pid lkid (no_caller pid d.pid stranger) (withdrawals_of s d) (dequeues_apart s d) s.resources theirs)
+left_alone s apart (Rundown pid) choice passed =
+    swept_alone s (Rundown pid) (step_change s (Rundown pid) choice)
+    (each_weaker (IsTheirs (is_ended_by pid)) (λ ending. (IsGrant ending.how → ⊥) → ending.pid ≡ pid) (λ ending is _. eqb-true ending.pid pid is)
+    (rundown_endings (is_ended_by pid) s) (rundown_ends_are_theirs (is_ended_by pid) s apart))
+    (λ other lkid stranger. withdrawals_keep (is_ended_by pid) other lkid (no_caller other pid stranger) (rundowns (is_ended_by pid) s)
+    (rundowns_apart (is_ended_by pid) s) s.resources (rundowns_are_theirs (is_ended_by pid) s apart))
+left_alone s apart (Leave node) choice passed =
+    swept_alone s (Leave node) (step_change s (Leave node) choice)
+    (each_weaker (IsTheirs (is_of_node node)) (λ ending. (IsGrant ending.how → ⊥) → ending.pid / 65536 ≡ node)
+    (λ ending is _. eqb-true (ending.pid / 65536) node is)
+    (rundown_endings (is_of_node node) s) (rundown_ends_are_theirs (is_of_node node) s apart))
+    (λ other lkid stranger. withdrawals_keep (is_of_node node) other lkid (no_caller (other / 65536) node stranger) (rundowns (is_of_node node) s)
+    (rundowns_apart (is_of_node node) s) s.resources (rundowns_are_theirs (is_of_node node) s apart))
 left_alone s apart (Search node) choice passed = cc
 left_alone s apart (Take pid) choice passed = swept_alone s (Take pid) (step_change s (Take pid) choice) tt (λ process lkid stranger. omega arith)
 

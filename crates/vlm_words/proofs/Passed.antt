@@ -1,20 +1,22 @@
 -- What is so where the checks of a step do not refuse it.
 use Rattle.std.proofs.Common.{◌≡◌, Bool, true, false, not, ◌&&◌, ◌||◌, cond, Option, None, Some, refl, subst}
-use Rattle.std.specs.Prelude.{◌==◌}
+use Rattle.std.specs.Prelude.{◌==◌, is_some}
 use Rattle.std.proofs.lemmas.Bool.{not-false}
-use Rattle.vlm_words.specs.declared.conditions.Cond.TheVariants.{Unsupported}
+use Rattle.vlm_words.specs.declared.conditions.Cond.TheVariants.{Unsupported, Badparam}
 use Rattle.vlm_words.specs.declared.conditions.Cond.{Cond}
 use Rattle.vlm_words.specs.declared.modes.Mode.TheVariants.{Nl, Cr, Cw, Pr, Pw, Ex}
 use Rattle.vlm_words.specs.declared.modes.Mode.{Mode}
 use Rattle.vlm_words.specs.declared.steps.Conversion.{Conversion}
 use Rattle.vlm_words.specs.declared.steps.NewRequest.{NewRequest}
 use Rattle.vlm_words.specs.Modes.{rank}
-use Rattle.vlm_words.specs.Flags.{expedite, has_flag}
+use Rattle.vlm_words.specs.Flags.{expedite, has_flag, cancel, deq_bits, deqall, is_known}
 use Rattle.vlm_words.specs.State.{State}
 use Rattle.vlm_words.specs.Checks.{caller_refusal, lock_refusal, or_else, queue_refusal, request_numbers_refusal, status_block_refusal, which_refusal}
 use Rattle.vlm_words.specs.Trees.{parent_lkid, site_refusal}
 use Rattle.vlm_words.specs.Enqueue.{enq_flags_refusal, enq_form_refusal, enq_limit_refusal, enq_refusal, expedite_refusal, name_refusal}
 use Rattle.vlm_words.specs.Convert.{ConversionAdmission, admission_refusal, convert_admission, convert_flags_refusal, convert_lkid, convert_refusal, pair_refusal}
+use Rattle.vlm_words.specs.declared.steps.Dequeue.{Dequeue}
+use Rattle.vlm_words.specs.Dequeue.{cancel_refusal, deq_flags_refusal, deq_refusal, dequeue_lkid, dequeued_lock_refusal, is_mixed, leaves_none, sublocks_refusal}
 
 -- where neither of two checks refuses, each passes
 pub both_pass : (first later : Option Cond) → or_else first later ≡ None → (first ≡ None) × (later ≡ None)
@@ -122,3 +124,40 @@ pair_passes s c a passed admitted =
 pub second_passes : (a b : Bool) → (not a || b) ≡ true → a ≡ true → b ≡ true
 second_passes true b one first = one
 second_passes false b one first = cc
+
+-- the checks of a dequeue that follow those of its flags
+abbrev later_checks : State → Dequeue → Option Cond
+later_checks s d =
+    or_else (which_refusal s d.pid d.lock)
+    (or_else (dequeued_lock_refusal s d) (or_else (cancel_refusal s d) (sublocks_refusal s (leaves_none d) (dequeue_lkid s d))))
+
+-- what DEQALL goes with, where the checks of a dequeue do not refuse it
+not_mixed : (s : State) (d : Dequeue) → deq_refusal s d ≡ None → (is_known deq_bits d.flags && not (is_mixed d)) ≡ true
+unfolding deq_refusal deq_flags_refusal
+not_mixed s d passed =
+    test_passes (is_known deq_bits d.flags && not (is_mixed d)) Badparam
+    (both_pass (cond (is_known deq_bits d.flags && not (is_mixed d)) None (Some Badparam)) (later_checks s d)
+    (both_pass (caller_refusal s d.pid) (or_else (cond (is_known deq_bits d.flags && not (is_mixed d)) None (Some Badparam)) (later_checks s d)) passed).1).0
+
+-- DEQALL goes with no cancel
+pub flags_go_together : (s : State) (d : Dequeue) → deq_refusal s d ≡ None → has_flag d.flags deqall ≡ true → has_flag d.flags cancel ≡ false
+flags_go_together s d passed all =
+    of_tests (is_known deq_bits d.flags) (has_flag d.flags deqall) (has_flag d.flags cancel) (is_some d.value) all (not_mixed s d passed)
+  where
+    of_tests : (known all cancels given : Bool) → all ≡ true → (known && not (all && (cancels || given))) ≡ true → cancels ≡ false
+    of_tests true true true given is passed = cc
+    of_tests false true true given is passed = cc
+    of_tests known true false given is passed = refl
+    of_tests known false cancels given is passed = cc
+
+-- nor with a value
+pub no_value_goes : (s : State) (d : Dequeue) → deq_refusal s d ≡ None → has_flag d.flags deqall ≡ true → is_some d.value ≡ false
+no_value_goes s d passed all =
+    of_tests (is_known deq_bits d.flags) (has_flag d.flags deqall) (has_flag d.flags cancel) (is_some d.value) all (not_mixed s d passed)
+  where
+    of_tests : (known all cancels given : Bool) → all ≡ true → (known && not (all && (cancels || given))) ≡ true → given ≡ false
+    of_tests known true cancels false is passed = refl
+    of_tests true true true true is passed = cc
+    of_tests true true false true is passed = cc
+    of_tests false true cancels true is passed = cc
+    of_tests known false cancels given is passed = cc

@@ -1,5 +1,5 @@
 -- After every run a step makes a root in the system's domain only for a caller with the privilege.
-use Rattle.std.proofs.Common.{◌≡◌, ◌⊎◌, ◌&&◌, Bool, true, false, not, cond, List, [], ◌∷◌, map, Option, None, Some, inl, inr, refl, sym, ap, subst, ◌∙◌, arith}
+use Rattle.std.proofs.Common.{◌≡◌, ◌⊎◌, ◌&&◌, Bool, true, false, not, cond, List, [], ◌∷◌, map, Option, None, Some, inl, inr, refl, sym, ap, subst, ◌∙◌, arith, ℕ}
 use Rattle.std.specs.Prelude.{◌==◌, Any}
 use Rattle.std.specs.List.{AllByRecursion}
 use Rattle.std.proofs.lemmas.Bool.{and_from, eq-eqb, not-false}
@@ -12,7 +12,7 @@ use Rattle.vlm_words.specs.declared.steps.NewRequest.{NewRequest}
 use Rattle.vlm_words.specs.declared.steps.Step.TheVariants.{Declare, SetValue, Enq, Convert, Deq, Rundown, Leave, Search, Take}
 use Rattle.vlm_words.specs.declared.steps.Step.{Step}
 use Rattle.vlm_words.specs.Flags.{has_flag, system}
-use Rattle.vlm_words.specs.State.{Resource, State}
+use Rattle.vlm_words.specs.State.{Resource, State, Node}
 use Rattle.vlm_words.specs.Resources.{new_resource}
 use Rattle.vlm_words.specs.Sweeps.{state_after_sweep}
 use Rattle.vlm_words.specs.Trees.{caller_group, enq_site, has_syslck, parent_lkid, parent_refusal, parent_resource, privilege_refusal, root_domain, site_below, site_refusal}
@@ -23,7 +23,7 @@ use Rattle.vlm_words.specs.Enqueue.{enq_at_once, enq_change, enq_refusal, enq_ro
 use Rattle.vlm_words.specs.Convert.{ConversionAdmission, convert_blocks, convert_change, convert_lkid, resource_after_conversion}
 use Rattle.vlm_words.specs.Dequeue.{deq_change, withdrawals_of}
 use Rattle.vlm_words.specs.Withdrawals.{resource_after_withdrawals}
-use Rattle.vlm_words.specs.Stepped.{IsChoice, conversion_change, refused_or, step_change, step_refusal, stepped, stepped_after_sweep}
+use Rattle.vlm_words.specs.Stepped.{IsChoice, conversion_change, refused_or, step_change, step_refusal, stepped, stepped_after_sweep, end_of_processes}
 use Rattle.vlm_words.specs.Runs.{History, Run}
 use Rattle.vlm_words.specs.Laws.{IsSameResource}
 use Rattle.vlm_words.specs.Privileges.{IsPrivileged, IsPrivilegedStep, IsSystemRoot, SystemRootsArePrivileged, WasSystemRoot}
@@ -34,6 +34,7 @@ use Rattle.vlm_words.proofs.EachResource.{each_entered_among, each_swept}
 use Rattle.vlm_words.proofs.Keys.{KeepsPlace, Placed, WasGiven, conversion_keeps_place, entry_keeps_place, of_found, placed_always, service_keeps_place, withdrawals_keep_place}
 use Rattle.vlm_words.proofs.Refusals.{IsCaller, caller_passes}
 use Rattle.vlm_words.proofs.NewlyRooted.{HasParent, parent_of}
+use Rattle.vlm_words.specs.Rundown.{is_ended_by, is_of_node, nodes_after_departure, rundowns, state_after_rundown}
 
 -- a root in the system's domain was one before, or the step may make one
 abbrev IsRightly : State → Type 0 → Resource → Type 0
@@ -123,6 +124,14 @@ entered_rightly s e placed passed =
     (λ r rightly. rightly_kept s (IsPrivileged s e) r (resource_after_entry (enq_row s e) (enq_at_once s e) r)
     (entry_keeps_place (enq_row s e) (enq_at_once s e) r) rightly) s.resources (each_was s (IsPrivileged s e))
 
+-- ends of processes keep what is there
+rightly_ended : (s : State) (is_one : ℕ → Bool) (nodes : List Node)
+    → AllByRecursion (IsRightly s ⊥) (stepped_after_sweep (end_of_processes is_one nodes s)).state.resources
+unfolding state_after_rundown
+rightly_ended s is_one nodes =
+    rightly_swept s (state_after_rundown is_one nodes s) ⊥
+    (rightly_changed s ⊥ (resource_after_withdrawals (rundowns is_one s)) (withdrawals_keep_place (rundowns is_one s)))
+
 -- after an accepted step each root in the system's domain is there rightly
 accepted_rightly : (s : State) → Placed s → (step : Step) (choice : Option Row) → step_refusal s step ≡ None
     → AllByRecursion (IsRightly s (IsPrivilegedStep s step)) (stepped_after_sweep (step_change s step choice)).state.resources
@@ -141,8 +150,8 @@ accepted_rightly s placed (Convert c) choice passed =
 accepted_rightly s placed (Deq d) choice passed =
     rightly_swept s (deq_change s d) ⊥
     (rightly_changed s ⊥ (resource_after_withdrawals (withdrawals_of s d)) (withdrawals_keep_place (withdrawals_of s d)))
-accepted_rightly s placed (Rundown pid) choice passed = cc
-accepted_rightly s placed (Leave node) choice passed = cc
+accepted_rightly s placed (Rundown pid) choice passed = rightly_ended s (is_ended_by pid) s.nodes
+accepted_rightly s placed (Leave node) choice passed = rightly_ended s (is_of_node node) (nodes_after_departure s.nodes node)
 accepted_rightly s placed (Search node) choice passed = cc
 accepted_rightly s placed (Take pid) choice passed = rightly_swept s (take_change s pid) ⊥ (each_was s ⊥)
 

@@ -1,5 +1,5 @@
 -- After every step no process has more locks than its quota.
-use Rattle.std.proofs.Common.{◌≡◌, ◌≤◌, ◌<◌, ◌+◌, ℕ, true, false, List, [], ◌∷◌, ◌++◌, map, cond, None, Some, refl, sym, ap, subst, ◌∙◌, arith}
+use Rattle.std.proofs.Common.{◌≡◌, ◌≤◌, ◌<◌, ◌+◌, ℕ, true, false, List, [], ◌∷◌, ◌++◌, map, cond, None, Some, refl, sym, ap, subst, ◌∙◌, arith, Bool, Option}
 use Rattle.std.specs.Prelude.{◌==◌, nat_lt}
 use Rattle.std.specs.List.{sum_by}
 use Rattle.std.specs.Option.{option_map_or}
@@ -8,7 +8,7 @@ use Rattle.std.proofs.lemmas.List.Sums.{sum_by-append, sum_by-cons}
 use Rattle.vlm_words.specs.declared.conditions.Cond.TheVariants.{Exenqlm}
 use Rattle.vlm_words.specs.declared.locks.Row.{Row}
 use Rattle.vlm_words.specs.declared.steps.NewRequest.{NewRequest}
-use Rattle.vlm_words.specs.State.{Process, Resource, State, process_of}
+use Rattle.vlm_words.specs.State.{Process, Resource, State, process_of, Node}
 use Rattle.vlm_words.specs.Effects.{blocks_with}
 use Rattle.vlm_words.specs.ValueBlocks.{new_value_block}
 use Rattle.vlm_words.specs.Checks.{numbers_refusal, or_else, queue_refusal}
@@ -16,7 +16,7 @@ use Rattle.vlm_words.specs.Quotas.{locks_of, quota_of, quota_refusal}
 use Rattle.vlm_words.specs.Declare.{declare_change, declared_process}
 use Rattle.vlm_words.specs.SetValue.{set_change}
 use Rattle.vlm_words.specs.Take.{take_change}
-use Rattle.vlm_words.specs.Sweeps.{state_after_sweep}
+use Rattle.vlm_words.specs.Sweeps.{state_after_sweep, processes_after_service}
 use Rattle.vlm_words.specs.Enqueue.{enq_at_once, enq_change, enq_limit_refusal, enq_refusal}
 use Rattle.vlm_words.specs.Convert.{convert_blocks, convert_change, convert_lkid, resource_after_conversion}
 use Rattle.vlm_words.specs.Dequeue.{deq_change, deq_endings, withdrawals_of}
@@ -28,18 +28,12 @@ use Rattle.vlm_words.proofs.Passed.{both_pass, enq_passes, test_passes}
 use Rattle.vlm_words.proofs.Processes.{kept_converted, kept_ended, kept_entered, kept_set, kept_swept, kept_taken}
 use Rattle.vlm_words.proofs.Weights.{weigh}
 use Rattle.vlm_words.proofs.Moves.{IsByName, changed_named, converted_named, withdrawn_named, entered_named, swept_named}
-
--- 1 for a row of a lock of the process
-abbrev pub owned : ℕ → Row → ℕ
-owned pid row = cond (row.pid == pid) 1 0
-
--- how many locks the process has
-abbrev pub owning : ℕ → List Resource → ℕ
-owning pid resources = sum_by (weigh (owned pid)) resources
-
--- a row is counted by its process
-owned_named : (pid : ℕ) → IsByName (owned pid)
-owned_named pid row held want armed = refl
+use Rattle.vlm_words.proofs.WhoseLocks.{owned, owned_named, owning}
+use Rattle.vlm_words.proofs.Leaving.{no_lock_left}
+use Rattle.vlm_words.proofs.Ended.{found_still}
+use Rattle.vlm_words.proofs.Apart.{Apart, apart_always}
+use Rattle.vlm_words.proofs.Sums.{sum_changed-le}
+use Rattle.vlm_words.specs.Rundown.{processes_but, rundowns, state_after_rundown}
 
 -- the identification of a process, and its quota
 abbrev allowance : Process → ℕ × ℕ
@@ -120,13 +114,50 @@ entered_within s e passed within pid =
       | false ↦ λ _ count. omega (arith, count, within pid, quota)
     ] refl more
 
+-- a process that has ended has no lock, and no other has more than it had
+ended_within : (s : State) (is_one : ℕ → Bool) (nodes : List Node) → Apart s → Within s
+    → Within (state_after_sweep (state_after_rundown is_one nodes s))
+unfolding state_after_rundown
+ended_within s is_one nodes apart within pid = of_test (is_one pid) refl
+  where
+    left : List Process
+    left = processes_but is_one s.processes
+
+    changed : List Resource
+    changed = map (resource_after_withdrawals (rundowns is_one s)) s.resources
+
+    swept : owning pid (state_after_sweep (state_after_rundown is_one nodes s)).resources ≤ owning pid changed
+    swept = omega (arith, swept_named (owned pid) (owned_named pid) left changed)
+
+    fewer : owning pid changed ≤ owning pid s.resources
+    fewer = sum_changed-le (weigh (owned pid)) (resource_after_withdrawals (rundowns is_one s)) (withdrawn_named (owned pid) (owned_named pid) (rundowns is_one s)) s.resources
+
+    quota : quota_of (processes_after_service left changed) pid ≡ quota_of left pid
+    quota =
+        quota_by_allowance (processes_after_service left changed) pid
+        ∙ ap (λ (all : List (ℕ × ℕ)). quota_in all pid) (kept_swept allowance (λ _ _ _. refl) left changed)
+        ∙ sym (quota_by_allowance left pid)
+
+    of_test : (b : Bool) → is_one pid ≡ b
+        → owning pid (state_after_sweep (state_after_rundown is_one nodes s)).resources ≤ quota_of (processes_after_service left changed) pid
+    of_test true ends = omega (arith, swept, no_lock_left is_one s apart pid ends)
+    of_test false other =
+        omega (
+          arith,
+          swept,
+          fewer,
+          within pid,
+          quota,
+          ap (λ (found : Option Process). option_map_or (λ p. p.quota) found 0) (found_still is_one pid other s.processes),
+        )
+
 -- after every run all are within their quotas
 within_always : (history : History) (last : State)
     → Run history last → Within last
 unfolding declare_change set_change take_change convert_change deq_change
 within_always =
     always (λ _ s. Within s) (λ pid. omega arith)
-    (λ history s _ within.
+    (λ history s run within.
     kept_by_stepped (λ _ t. Within t) history.endings s within
     (λ d _.
     still_within (declare_change s d) (state_after_sweep (declare_change s d))
@@ -154,7 +185,8 @@ within_always =
     (kept_swept allowance (λ _ _ _. refl) (deq_change s d).processes (deq_change s d).resources
     ∙ kept_ended allowance (λ _ _ _. refl) (deq_endings s d) (blocks_with new_value_block s.processes))
     (λ pid. changed_named (owned pid) (owned_named pid) (resource_after_withdrawals (withdrawals_of s d))
-    (withdrawn_named (owned pid) (owned_named pid) (withdrawals_of s d)) (deq_change s d).processes s.resources) within))
+    (withdrawn_named (owned pid) (owned_named pid) (withdrawals_of s d)) (deq_change s d).processes s.resources) within)
+    (λ is_one nodes _. ended_within s is_one nodes (apart_always history s run) within))
 
 -- the locks of a process on a resource, counted over its three queues at once
 counted_at_once : (pid : ℕ) (r : Resource) → locks_on pid r ≡ weigh (owned pid) r

@@ -1,8 +1,8 @@
 -- After every run a step breaks no rule and is accepted, or is refused with the condition of a rule that it breaks.
 use Rattle.std.proofs.Common.{◌≡◌, ◌<◌, ◌⊎◌, ◌&&◌, ℕ, Bool, true, false, not, cond, ◌++◌, Option, None, Some, inl, inr, refl, sym, ap, subst, ◌∙◌, arith}
-use Rattle.std.specs.Prelude.{◌==◌, Any, nat_le, nat_lt}
+use Rattle.std.specs.Prelude.{◌==◌, Any, nat_le, nat_lt, is_some, IsSome}
 use Rattle.std.specs.List.{list_any}
-use Rattle.std.proofs.lemmas.Bool.{and_cases, and_parts, eq-eqb, eqb-true, not-true}
+use Rattle.std.proofs.lemmas.Bool.{and_cases, and_parts, eq-eqb, eqb-true, not-true, eqb-false}
 use Rattle.std.proofs.lemmas.Bool.Decides.{nat_tests}
 use Rattle.std.proofs.lemmas.List.Folds.{Any-from_list_any, list_any-from_Any}
 use Rattle.vlm_words.specs.declared.conditions.Cond.TheVariants.{Cancelgrant, Sublocks, Ivlockid, Badparam, Accvio, Nonexpr, Departed}
@@ -13,16 +13,16 @@ use Rattle.vlm_words.specs.declared.steps.Dequeue.{Dequeue}
 use Rattle.vlm_words.specs.declared.steps.Step.TheVariants.{Declare, SetValue, Enq, Convert, Deq, Rundown, Leave, Search, Take}
 use Rattle.vlm_words.specs.declared.steps.Step.{Step}
 use Rattle.vlm_words.specs.declared.steps.ValueSetting.{ValueSetting}
-use Rattle.vlm_words.specs.Flags.{cancel, deq_bits, has_flag, is_known}
+use Rattle.vlm_words.specs.Flags.{cancel, deq_bits, has_flag, is_known, deqall}
 use Rattle.vlm_words.specs.State.{Resource, State, node_at}
 use Rattle.vlm_words.specs.Checks.{caller_refusal, has_departed, lock_refusal, status_block_refusal, which_refusal}
 use Rattle.vlm_words.specs.Declare.{declare_refusal, is_node}
 use Rattle.vlm_words.specs.SetValue.{set_refusal}
-use Rattle.vlm_words.specs.Dequeue.{cancel_refusal, deq_flags_refusal, deq_refusal, dequeue_lkid, has_sublock_on, is_granted, sublocks_refusal}
+use Rattle.vlm_words.specs.Dequeue.{cancel_refusal, deq_flags_refusal, deq_refusal, dequeue_lkid, has_sublock_on, is_granted, sublocks_refusal, dequeued_lock_refusal, is_mixed, leaves_none}
 use Rattle.vlm_words.specs.Convert.{ConversionAdmission}
 use Rattle.vlm_words.specs.Stepped.{IsChoice, Stepped, conversion_change, refused_or, step_change, step_refusal, stepped, stepped_after_sweep}
 use Rattle.vlm_words.specs.Runs.{History, Run}
-use Rattle.vlm_words.specs.Reasons.{Breaks, CallerBreaks, DeclarationBreaks, DequeueBreaks, RefusalHasItsReason, SettingBreaks}
+use Rattle.vlm_words.specs.Reasons.{Breaks, CallerBreaks, DeclarationBreaks, DequeueBreaks, RefusalHasItsReason, SettingBreaks, DepartureBreaks}
 use Rattle.vlm_words.proofs.Each.{Any-weaker}
 use Rattle.vlm_words.proofs.Always.{admission_of}
 use Rattle.vlm_words.proofs.Apart.{Apart, apart_always}
@@ -33,6 +33,7 @@ use Rattle.vlm_words.proofs.Passed.{both_pass, second_fails, test_fails, test_pa
 use Rattle.vlm_words.proofs.Acceptances.{IsAnswered, conversion_answers, request_answers}
 use Rattle.vlm_words.proofs.FlagBits.{dequeue_known, dequeue_unknown}
 use Rattle.vlm_words.proofs.Refusals.{IsCaller, Says, any_resource, block_passes, caller_passes, granted_nowhere, granted_somewhere, is_somebody, lock_passes, no_resource, node_departed, over_queues, says_block, says_caller, says_departed, says_either, says_lock, says_some, says_unless, says_where, says_which, which_passes}
+use Rattle.vlm_words.specs.Rundown.{leave_refusal}
 
 -- ---- what every caller breaks
 
@@ -140,21 +141,85 @@ on_sublock lkid r there =
     (Any-weaker (λ (row : Row). row.parent ≡ lkid) (λ row. (row.parent == lkid) ≡ true) (λ row here. eq-eqb row.parent lkid here)
     (r.granted ++ r.converting ++ r.waiting) there)
 
+-- what of a dequeue's flags is refused: an unknown bit, or what DEQALL does not go with
+flags_break : (s : State) (d : Dequeue) → (is_known deq_bits d.flags && not (is_mixed d)) ≡ false → DequeueBreaks s d Badparam
+flags_break s d fails =
+    of_tests (is_known deq_bits d.flags) refl (has_flag d.flags deqall) refl (has_flag d.flags cancel) refl (is_some d.value) refl fails
+  where
+    of_tests : (known : Bool) → is_known deq_bits d.flags ≡ known → (all : Bool) → has_flag d.flags deqall ≡ all
+        → (cancels : Bool) → has_flag d.flags cancel ≡ cancels → (given : Bool) → is_some d.value ≡ given
+        → (known && not (all && (cancels || given))) ≡ false → DequeueBreaks s d Badparam
+    of_tests false unknown all is_all cancels is_cancel given is_given none = inl (dequeue_unknown d.flags unknown)
+    of_tests true known true is_all true is_cancel given is_given none = inr (is_all, inl is_cancel)
+    of_tests true known true is_all false is_cancel true is_given none = inr (is_all, inr is_given)
+    of_tests true known true is_all false is_cancel false is_given none = cc
+    of_tests true known false is_all cancels is_cancel given is_given none = cc
+
+flags_pass : (s : State) (d : Dequeue) → (is_known deq_bits d.flags && not (is_mixed d)) ≡ true → DequeueBreaks s d Badparam → ⊥
+flags_pass s d passes (inl unknown) = dequeue_known d.flags (and_parts (is_known deq_bits d.flags) (not (is_mixed d)) passes).0 unknown
+flags_pass s d passes (inr mixed) = of_mixed (and_parts (is_known deq_bits d.flags) (not (is_mixed d)) passes).1 mixed.0 mixed.1
+  where
+    both : (all cancels given : Bool) → not (all && (cancels || given)) ≡ true → all ≡ true → (cancels ≡ true) ⊎ (given ≡ true) → ⊥
+    both true true given no is (inl one) = cc
+    both true false true no is (inr other) = cc
+    both true true given no is (inr other) = cc
+    both true false true no is (inl one) = cc
+    both true false false no is (inl one) = cc
+    both true false false no is (inr other) = cc
+    both false cancels given no is one = cc
+
+    of_mixed : not (is_mixed d) ≡ true → has_flag d.flags deqall ≡ true → (has_flag d.flags cancel ≡ true) ⊎ IsSome d.value → ⊥
+    of_mixed no all one = both (has_flag d.flags deqall) (has_flag d.flags cancel) (is_some d.value) no all one
+
+-- a lock that is not the caller's is refused, where one is named
+says_dequeued_lock : (s : State) (d : Dequeue) → Says (DequeueBreaks s d) (dequeued_lock_refusal s d)
+unfolding dequeued_lock_refusal
+says_dequeued_lock s d = of_test (has_flag d.flags deqall) (dequeue_lkid s d == 0) refl refl
+  where
+    of_test : (all none : Bool) → has_flag d.flags deqall ≡ all → (dequeue_lkid s d == 0) ≡ none
+        → Says (DequeueBreaks s d) (cond (all && none) None (lock_refusal s d.pid (dequeue_lkid s d)))
+    of_test true true is zero = says_none (DequeueBreaks s d)
+    of_test true false is named =
+        says_lock (DequeueBreaks s d) s d.pid (dequeue_lkid s d) (λ broken. (λ _. eqb-false (dequeue_lkid s d) 0 named, broken))
+    of_test false none is named =
+        says_lock (DequeueBreaks s d) s d.pid (dequeue_lkid s d) (λ broken. ((λ all zero. no (sym is ∙ all)), broken))
+      where
+        no : false ≡ true → ⊥
+        no e = cc
+
+dequeued_lock_passes : (s : State) (d : Dequeue) → dequeued_lock_refusal s d ≡ None → DequeueBreaks s d Ivlockid → ⊥
+unfolding dequeued_lock_refusal
+dequeued_lock_passes s d passed broken = of_test (has_flag d.flags deqall) (dequeue_lkid s d == 0) refl refl passed
+  where
+    of_test : (all none : Bool) → has_flag d.flags deqall ≡ all → (dequeue_lkid s d == 0) ≡ none
+        → cond (all && none) None (lock_refusal s d.pid (dequeue_lkid s d)) ≡ None → ⊥
+    of_test true true is zero lock = broken.0 is (eqb-true (dequeue_lkid s d) 0 zero)
+    of_test true false is named lock = broken.1 (lock_passes s d.pid (dequeue_lkid s d) lock)
+    of_test false none is named lock = broken.1 (lock_passes s d.pid (dequeue_lkid s d) lock)
+
+-- neither of two tests passes
+neither : (a b : Bool) → not (a || b) ≡ true → (a ≡ false) × (b ≡ false)
+neither true b none = cc
+neither false true none = cc
+neither false false none = (refl, refl)
+
 -- a refused dequeue breaks the rule of its condition
 dequeue_breaks : (s : State) (d : Dequeue) → Says (DequeueBreaks s d) (deq_refusal s d)
 unfolding deq_refusal deq_flags_refusal cancel_refusal sublocks_refusal
 dequeue_breaks s d =
     says_either B (caller_refusal s d.pid) _ (says_caller B s d.pid (λ departed. departed) (λ none. none))
-    (λ called. says_either B (deq_flags_refusal d) _ (says_unless B (is_known deq_bits d.flags) Badparam (λ is. dequeue_unknown d.flags is))
+    (λ called. says_either B (deq_flags_refusal d) _ (says_unless B (is_known deq_bits d.flags && not (is_mixed d)) Badparam (flags_break s d))
     (λ _. says_either B (which_refusal s d.pid d.lock) _ (says_which B s d.pid d.lock (caller_passes s d.pid called) (λ broken. broken))
-    (λ _. says_either B (lock_refusal s d.pid lkid) _ (says_lock B s d.pid lkid (λ broken. broken))
-    (λ _. says_either B (cancel_refusal s d) (sublocks_refusal s (has_flag d.flags cancel) lkid)
+    (λ _. says_either B (dequeued_lock_refusal s d) _ (says_dequeued_lock s d)
+    (λ _. says_either B (cancel_refusal s d) (sublocks_refusal s (leaves_none d) lkid)
     (says_where B (has_flag d.flags cancel && is_granted d.pid lkid s.resources) Cancelgrant
     (λ is. let parts = and_parts (has_flag d.flags cancel) (is_granted d.pid lkid s.resources) is in
     (parts.0, granted_somewhere s d.pid lkid parts.1)))
-    (λ _. says_where B (not (has_flag d.flags cancel) && list_any (has_sublock_on lkid) s.resources) Sublocks
-    (λ is. let parts = and_parts (not (has_flag d.flags cancel)) (list_any (has_sublock_on lkid) s.resources) is in (
-      not-true (has_flag d.flags cancel) parts.0,
+    (λ _. says_where B (not (leaves_none d) && list_any (has_sublock_on lkid) s.resources) Sublocks
+    (λ is. let parts = and_parts (not (leaves_none d)) (list_any (has_sublock_on lkid) s.resources) is in
+    let plain = neither (has_flag d.flags cancel) (has_flag d.flags deqall) parts.0 in (
+      plain.0,
+      plain.1,
       any_resource (λ r. Any (λ row. row.parent ≡ lkid) (r.granted ++ r.converting ++ r.waiting)) (has_sublock_on lkid) (sublock_on lkid) s.resources parts.1,
     )))))))
   where
@@ -172,30 +237,64 @@ dequeue_keeps s d passed =
     let first = both_pass (caller_refusal s d.pid) _ passed in
     let flags = both_pass (deq_flags_refusal d) _ first.1 in
     let which = both_pass (which_refusal s d.pid d.lock) _ flags.1 in
-    let lock = both_pass (lock_refusal s d.pid lkid) _ which.1 in
-    let last = both_pass (cancel_refusal s d) (sublocks_refusal s (has_flag d.flags cancel) lkid) lock.1 in
-    of_cond (caller_passes s d.pid first.0) (test_passes (is_known deq_bits d.flags) Badparam flags.0) which.0 lock.0
+    let lock = both_pass (dequeued_lock_refusal s d) _ which.1 in
+    let last = both_pass (cancel_refusal s d) (sublocks_refusal s (leaves_none d) lkid) lock.1 in
+    of_cond (caller_passes s d.pid first.0) (test_passes (is_known deq_bits d.flags && not (is_mixed d)) Badparam flags.0) which.0 lock.0
     (test_fails (has_flag d.flags cancel && is_granted d.pid lkid s.resources) Cancelgrant last.0)
-    (test_fails (not (has_flag d.flags cancel) && list_any (has_sublock_on lkid) s.resources) Sublocks last.1)
+    (test_fails (not (leaves_none d) && list_any (has_sublock_on lkid) s.resources) Sublocks last.1)
   where
-    of_cond : IsCaller s d.pid → is_known deq_bits d.flags ≡ true → which_refusal s d.pid d.lock ≡ None
-        → lock_refusal s d.pid (dequeue_lkid s d) ≡ None
+    none_left : (cancels all : Bool) → cancels ≡ false → all ≡ false → not (cancels || all) ≡ true
+    none_left true all is plain = cc
+    none_left false true is plain = cc
+    none_left false false is plain = refl
+
+    of_cond : IsCaller s d.pid → (is_known deq_bits d.flags && not (is_mixed d)) ≡ true → which_refusal s d.pid d.lock ≡ None
+        → dequeued_lock_refusal s d ≡ None
         → (has_flag d.flags cancel && is_granted d.pid (dequeue_lkid s d) s.resources) ≡ false
-        → (not (has_flag d.flags cancel) && list_any (has_sublock_on (dequeue_lkid s d)) s.resources) ≡ false
+        → (not (leaves_none d) && list_any (has_sublock_on (dequeue_lkid s d)) s.resources) ≡ false
         → (c : Cond) → DequeueBreaks s d c → ⊥
-    of_cond caller known which lock cancels gives Badparam broken = dequeue_known d.flags known broken
+    of_cond caller known which lock cancels gives Badparam broken = flags_pass s d known broken
     of_cond caller known which lock cancels gives Accvio broken = which_passes s d.pid d.lock which broken
-    of_cond caller known which lock cancels gives Ivlockid broken = broken (lock_passes s d.pid (dequeue_lkid s d) lock)
+    of_cond caller known which lock cancels gives Ivlockid broken = dequeued_lock_passes s d lock broken
     of_cond caller known which lock cancels gives Cancelgrant broken =
         granted_nowhere s d.pid (dequeue_lkid s d)
         (second_fails (has_flag d.flags cancel) (is_granted d.pid (dequeue_lkid s d) s.resources) cancels broken.0) broken.1
     of_cond caller known which lock cancels gives Sublocks broken =
         no_resource (λ r. Any (λ row. row.parent ≡ dequeue_lkid s d) (r.granted ++ r.converting ++ r.waiting)) (has_sublock_on (dequeue_lkid s d))
         (on_sublock (dequeue_lkid s d)) s.resources
-        (second_fails (not (has_flag d.flags cancel)) (list_any (has_sublock_on (dequeue_lkid s d)) s.resources) gives (ap not broken.0)) broken.1
+        (second_fails (not (leaves_none d)) (list_any (has_sublock_on (dequeue_lkid s d)) s.resources) gives
+        (none_left (has_flag d.flags cancel) (has_flag d.flags deqall) broken.0 broken.1.0)) broken.1.1
     of_cond caller known which lock cancels gives Departed broken = caller.stays broken
     of_cond caller known which lock cancels gives Nonexpr broken = is_somebody s d.pid caller broken
     of_cond caller known which lock cancels gives c broken = broken
+
+-- ---- departures
+
+-- a refused departure breaks the rule of its condition
+departure_breaks : (s : State) (node : ℕ) → Says (DepartureBreaks s node) (leave_refusal s node)
+unfolding leave_refusal
+departure_breaks s node = of_test (is_node node) refl
+  where
+    of_test : (b : Bool) → is_node node ≡ b
+        → Says (DepartureBreaks s node) (cond (not b) (Some Badparam) (cond (has_departed s.nodes node) (Some Departed) None))
+    of_test true is = says_departed (DepartureBreaks s node) s node (λ departed. departed) None (λ _. says_none (DepartureBreaks s node))
+    of_test false is = says_some (DepartureBreaks s node) Badparam (no_node node is)
+
+-- an accepted departure breaks none
+departure_keeps : (s : State) (node : ℕ) → leave_refusal s node ≡ None → (c : Cond) → DepartureBreaks s node c → ⊥
+unfolding leave_refusal
+departure_keeps s node passed = of_tests (is_node node) refl (has_departed s.nodes node) refl passed
+  where
+    of_cond : is_node node ≡ true → has_departed s.nodes node ≡ false → (c : Cond) → DepartureBreaks s node c → ⊥
+    of_cond is stays Badparam broken = some_node node is broken
+    of_cond is stays Departed broken = node_departed s node stays broken
+    of_cond is stays c broken = broken
+
+    of_tests : (b : Bool) → is_node node ≡ b → (departed : Bool) → has_departed s.nodes node ≡ departed
+        → cond (not b) (Some Badparam) (cond departed (Some Departed) None) ≡ None → (c : Cond) → DepartureBreaks s node c → ⊥
+    of_tests true is false stays pass = of_cond is stays
+    of_tests true is true stays pass = cc
+    of_tests false is departed stays pass = cc
 
 -- ---- every step
 
@@ -206,8 +305,8 @@ step_breaks s apart placed (SetValue v) = setting_breaks s v
 step_breaks s apart placed (Enq e) = request_breaks s e apart placed
 step_breaks s apart placed (Convert c) = conversion_breaks s c apart
 step_breaks s apart placed (Deq d) = dequeue_breaks s d
-step_breaks s apart placed (Rundown pid) = says_some (Breaks s (Rundown pid)) Badparam tt
-step_breaks s apart placed (Leave node) = says_some (Breaks s (Leave node)) Badparam tt
+step_breaks s apart placed (Rundown pid) = says_caller (CallerBreaks s pid) s pid (λ departed. departed) (λ none. none)
+step_breaks s apart placed (Leave node) = departure_breaks s node
 step_breaks s apart placed (Search node) = says_some (Breaks s (Search node)) Badparam tt
 step_breaks s apart placed (Take pid) = says_caller (CallerBreaks s pid) s pid (λ departed. departed) (λ none. none)
 
@@ -219,8 +318,8 @@ step_keeps s apart placed (Enq e) passed = request_keeps s e apart placed passed
 step_keeps s apart placed (Convert c) passed =
     let admitted = admission_of s c passed in conversion_keeps s c apart passed admitted.0 admitted.1
 step_keeps s apart placed (Deq d) passed = dequeue_keeps s d passed
-step_keeps s apart placed (Rundown pid) passed = cc
-step_keeps s apart placed (Leave node) passed = cc
+step_keeps s apart placed (Rundown pid) passed = caller_keeps s pid (caller_passes s pid passed)
+step_keeps s apart placed (Leave node) passed = departure_keeps s node passed
 step_keeps s apart placed (Search node) passed = cc
 step_keeps s apart placed (Take pid) passed = caller_keeps s pid (caller_passes s pid passed)
 
@@ -234,8 +333,8 @@ step_answers s (Convert c) choice passed =
     subst (λ (a : Option ConversionAdmission). IsAnswered s (Convert c) (stepped_after_sweep (conversion_change s c a))) (sym admitted.1)
     (conversion_answers s c admitted.0 admitted.1)
 step_answers s (Deq d) choice passed = tt
-step_answers s (Rundown pid) choice passed = cc
-step_answers s (Leave node) choice passed = cc
+step_answers s (Rundown pid) choice passed = tt
+step_answers s (Leave node) choice passed = tt
 step_answers s (Search node) choice passed = cc
 step_answers s (Take pid) choice passed = tt
 

@@ -18,14 +18,14 @@ use Rattle.vlm_words.specs.declared.steps.Dequeue.{Dequeue}
 use Rattle.vlm_words.specs.declared.steps.NewRequest.{NewRequest}
 use Rattle.vlm_words.specs.declared.steps.Step.TheVariants.{Declare, SetValue, Enq, Convert, Deq, Rundown, Leave, Search, Take}
 use Rattle.vlm_words.specs.declared.steps.Step.{Step}
-use Rattle.vlm_words.specs.Flags.{cancel, flag_bits, has_flag, valblk}
+use Rattle.vlm_words.specs.Flags.{flag_bits, has_flag, valblk}
 use Rattle.vlm_words.specs.Modes.{value_action}
-use Rattle.vlm_words.specs.State.{Process, Resource, State, process_of}
+use Rattle.vlm_words.specs.State.{Process, Resource, State, process_of, Node}
 use Rattle.vlm_words.specs.ValueBlocks.{new_value_block}
 use Rattle.vlm_words.specs.StatusBlocks.{new_status_block, processes_after_acceptance, status_blocks_of}
 use Rattle.vlm_words.specs.Endings.{Ending, How, row_endings, wanted_endings}
 use Rattle.vlm_words.specs.Endings.How.{by_abort, by_cancel, by_grant}
-use Rattle.vlm_words.specs.Effects.{blocks_after, blocks_with, with_value_block}
+use Rattle.vlm_words.specs.Effects.{blocks_after, blocks_with, with_value_block, Blocks}
 use Rattle.vlm_words.specs.Grants.{grant_act, grant_endings, granted_row, is_empty, resource_after_grant, service}
 use Rattle.vlm_words.specs.Rows.{is_lock_of, rows_of}
 use Rattle.vlm_words.specs.Sweeps.{is_vacant, resources_after_sweep, sweep_endings}
@@ -35,28 +35,30 @@ use Rattle.vlm_words.specs.Take.{take_change}
 use Rattle.vlm_words.specs.Trees.{enq_site}
 use Rattle.vlm_words.specs.Enqueue.{enq_at_once, enq_change, enq_refusal, enq_request, enq_resource, enq_row, resource_after_entry}
 use Rattle.vlm_words.specs.Convert.{ConversionAdmission, convert_admission, convert_blocks, convert_change, convert_lkid, convert_refusal, convert_request, resource_after_conversion, resource_after_conversion_of, resource_without_granted, wanting_row}
-use Rattle.vlm_words.specs.Withdrawals.{Withdrawal, queue_endings, withdrawal_endings}
-use Rattle.vlm_words.specs.Dequeue.{deq_change, deq_endings, withdrawal_of}
+use Rattle.vlm_words.specs.Withdrawals.{Withdrawal, queue_endings, withdrawal_endings, withdrawn_endings}
+use Rattle.vlm_words.specs.Dequeue.{deq_change, deq_endings, withdrawals_of}
 use Rattle.vlm_words.specs.Runs.{History, Run}
-use Rattle.vlm_words.specs.Stepped.{IsChoice, Stepped, conversion_change, refused_or, step_change, step_refusal, stepped, stepped_after_sweep}
+use Rattle.vlm_words.specs.Stepped.{IsChoice, Stepped, conversion_change, refused_or, step_change, step_refusal, stepped, stepped_after_sweep, end_of_processes}
 use Rattle.vlm_words.specs.Laws.{IsGrant, IsGrantOf, IsGranted}
 use Rattle.vlm_words.specs.Returned.{ActsAsAskedFor, GrantsReturnValues, HeldBefore, HoldsGranted, IsItsValue, TellsMark, TellsValue, act_asked_for, conversion_act, last_return}
 use Rattle.vlm_words.specs.Written.{last_end}
 use Rattle.vlm_words.proofs.Always.{admission_of}
 use Rattle.vlm_words.proofs.Apart.{Apart, apart_always}
-use Rattle.vlm_words.proofs.Each.{Any-behind, Any-cases, Any-here, Any-none, Any-there, Any-weaker, any_left, each_append, each_weaker}
+use Rattle.vlm_words.proofs.Each.{Any-behind, Any-cases, Any-here, Any-none, Any-there, Any-weaker, any_left, each_append, each_weaker, each_member}
 use Rattle.vlm_words.proofs.HeldModes.{HoldersAgree, holders_agree_always}
 use Rattle.vlm_words.proofs.InOrder.{service_in_order}
 use Rattle.vlm_words.proofs.Refusals.{Any_found}
 use Rattle.vlm_words.proofs.Returning.{AreReturned, Its, Serves, StatusBy, ValueBy, none_returned, one_returned, all_returned, returned_swept}
 use Rattle.vlm_words.proofs.Standing.{admitted_there, any_entered, any_map, granted_stays}
-use Rattle.vlm_words.proofs.SweptValues.{IsHarmless, WritesNothing, conversion_is_harmless, each_member, harmless_always, new_is_harmless, service_each, service_harmless, served, served_leaves, swept_alone}
-use Rattle.vlm_words.proofs.Waiting.{EachConverting, Queued, conversion_queued, dequeue_queued, request_queued}
-use Rattle.vlm_words.proofs.Withdrawing.{one_ends}
+use Rattle.vlm_words.proofs.SweptValues.{IsHarmless, WritesNothing, conversion_is_harmless, harmless_always, new_is_harmless, service_each, service_harmless, served, served_leaves, swept_alone}
+use Rattle.vlm_words.proofs.Waiting.{EachConverting, Queued, conversion_queued, dequeue_queued, request_queued, rundown_queued}
+use Rattle.vlm_words.proofs.Withdrawing.{GrantsNothing, dequeues_grant_nothing, each_end, rundowns_grant_nothing}
 use Rattle.vlm_words.proofs.Writers.{kept_value}
 use Rattle.vlm_words.proofs.Written.{blocks_are}
 use Rattle.vlm_words.proofs.Warned.{holds_warned}
 use Rattle.vlm_words.specs.Asts.{resource_after_warning, row_after_warning}
+use Rattle.vlm_words.specs.Rundown.{is_ended_by, is_of_node, nodes_after_departure, processes_but, rundown_endings, rundowns, state_after_rundown}
+use Rattle.vlm_words.proofs.Ended.{rundowns_write_nothing}
 
 -- ---- what a grant does
 
@@ -382,14 +384,16 @@ withdrawn_grant_nothing w converting waiting (r ∷ rest) =
     (rows_grant_nothing w.converting converting (rows_of w.lkid r.converting)) (rows_grant_nothing w.waiting waiting (rows_of w.lkid r.waiting)))
     (withdrawn_grant_nothing w converting waiting rest)
 
+all_grant_nothing : (withdrawals : List Withdrawal) → AllByRecursion GrantsNothing withdrawals → (resources : List Resource)
+    → AllByRecursion IsNoGrant (withdrawn_endings withdrawals resources)
+all_grant_nothing withdrawals nothing resources =
+    each_end IsNoGrant withdrawals resources
+    (each_weaker GrantsNothing (λ w. AllByRecursion IsNoGrant (flat_map (withdrawal_endings w) resources))
+    (λ w none. withdrawn_grant_nothing w none.0 none.1 resources) withdrawals nothing)
+
 dequeue_grants_nothing : (s : State) (d : Dequeue) → AllByRecursion IsNoGrant (deq_endings s d)
 dequeue_grants_nothing s d =
-    subst (AllByRecursion IsNoGrant) (sym (one_ends (withdrawal_of s d) s.resources))
-    (withdrawn_grant_nothing (withdrawal_of s d) (of_cancel (has_flag d.flags cancel)) (λ grant. grant) s.resources)
-  where
-    of_cancel : (cancels : Bool) → IsGrant (cond cancels by_cancel by_abort) → ⊥
-    of_cancel true grant = grant
-    of_cancel false grant = grant
+    all_grant_nothing (withdrawals_of s d) (dequeues_grant_nothing s d) s.resources
 
 -- an end that grants with some act is a grant
 by_act : (ending : Ending) (act : Act) → IsNoGrant ending → ending.how ≡ by_grant act → ⊥
@@ -408,6 +412,23 @@ dequeue_returning s d choice harmless =
     (each_weaker IsNoGrant WritesNothing (λ ending no. by_act ending Write no) (deq_endings s d) none)
     (each_weaker IsNoGrant (Its P new_value_block) (λ ending no returns. absurd (by_act ending Return no returns)) (deq_endings s d) none))
 
+-- the ends of processes return nothing
+rundown_returning : (s : State) (is_one : ℕ → Bool) (nodes : List Node) → AllByRecursion (Queued IsHarmless) s.resources
+    → IsReturning s (stepped_after_sweep (end_of_processes is_one nodes s))
+unfolding state_after_rundown
+rundown_returning s is_one nodes harmless =
+    let change : Stepped = end_of_processes is_one nodes s in
+    let left : List Process = processes_but is_one s.processes in
+    let P : Ending → ValueBlock → Type 0 = IsItsValue (stepped_after_sweep change).state in
+    let endings : List Ending = rundown_endings is_one s in
+    let none : AllByRecursion IsNoGrant endings = all_grant_nothing (rundowns is_one s) (rundowns_grant_nothing is_one s) s.resources in
+    swept_returning s change left (rundown_queued IsHarmless s is_one nodes harmless) (rundown_queued (HeldSo s) s is_one nodes (queued_held s))
+    (each_weaker IsNoGrant (Acts s) (λ ending no grant. absurd (no grant)) endings none)
+    (subst (λ (b : Blocks). AreReturned P endings left b.processes) (rundowns_write_nothing is_one s (blocks_with new_value_block left))
+    (all_returned P endings (blocks_with new_value_block left)
+    (each_weaker IsNoGrant WritesNothing (λ ending no. by_act ending Write no) endings none)
+    (each_weaker IsNoGrant (Its P new_value_block) (λ ending no returns. absurd (by_act ending Return no returns)) endings none)))
+
 returning : (history : History) (s : State) → Run history s → (step : Step) (choice : Option Row) → step_refusal s step ≡ None
     → IsReturning s (stepped_after_sweep (step_change s step choice))
 unfolding declare_change set_change take_change
@@ -422,8 +443,9 @@ returning history s run (Convert c) choice passed =
     (conversion_returning s c admitted.0 (holders_agree_always history s run) (apart_always history s run) passed admitted.1
     (harmless_always history s run))
 returning history s run (Deq d) choice passed = dequeue_returning s d choice (harmless_always history s run)
-returning history s run (Rundown pid) choice passed = cc
-returning history s run (Leave node) choice passed = cc
+returning history s run (Rundown pid) choice passed = rundown_returning s (is_ended_by pid) s.nodes (harmless_always history s run)
+returning history s run (Leave node) choice passed =
+    rundown_returning s (is_of_node node) (nodes_after_departure s.nodes node) (harmless_always history s run)
 returning history s run (Search node) choice passed = cc
 returning history s run (Take pid) choice passed =
     idle_returning s (step_change s (Take pid) choice) refl (harmless_always history s run) (queued_held s)

@@ -14,9 +14,10 @@ use Rattle.vlm_words.specs.Grants.{granted_row, is_empty, no_service, resource_a
 use Rattle.vlm_words.specs.Rows.{is_lock_of, rows_of, rows_without}
 use Rattle.vlm_words.specs.Enqueue.{enq_at_once, enq_refusal, enq_resource, enq_row, resource_after_entry}
 use Rattle.vlm_words.specs.Convert.{resource_after_conversion, resource_after_conversion_of, resource_without_granted, wanting_row}
-use Rattle.vlm_words.specs.Withdrawals.{Withdrawal, is_held_by_writer, resource_after_cancel, resource_after_writer, resource_without, row_after_cancel, value_block_after_writer, resource_after_going}
+use Rattle.vlm_words.specs.Withdrawals.{Withdrawal, is_held_by_writer, resource_after_cancel, resource_after_writer, resource_without, row_after_cancel, value_block_after_writer, resource_after_going, resource_after_withdrawals}
 use Rattle.vlm_words.specs.Runs.{History, Run}
 use Rattle.vlm_words.specs.Laws.{IsConverting, IsHeld, IsWaiting, RowsFit, RowsFitTheirQueues}
+use Rattle.vlm_words.proofs.Withdrawing.{kept_withdrawn}
 use Rattle.vlm_words.proofs.Each.{Found, found_at, each_append, each_at, each_filter, each_map, each_weaker}
 use Rattle.vlm_words.proofs.EachResource.{each_always}
 use Rattle.vlm_words.specs.Asts.{resource_after_warning}
@@ -157,6 +158,10 @@ gone_fit : (w : Withdrawal) (r : Resource) → Fit r → Fit (resource_after_goi
 gone_fit w r fit =
     cond_both w.stays (resource_after_cancel w.lkid r) (resource_without w.lkid r) Fit
     (λ _. cancelled_fit w.lkid r fit) (λ _. without_fit w.lkid r fit)
+
+-- withdrawals keep the rows fit
+pub withdrawn_fit : (withdrawals : List Withdrawal) (r : Resource) → Fit r → Fit (resource_after_withdrawals withdrawals r)
+withdrawn_fit withdrawals r fit = kept_withdrawn Fit left_fit gone_fit withdrawals r fit
 
 -- after every run each row fits its queue
 pub fit_always : (history : History) (last : State)

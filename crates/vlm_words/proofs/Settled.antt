@@ -13,6 +13,7 @@ use Rattle.vlm_words.specs.Take.{take_change}
 use Rattle.vlm_words.specs.Enqueue.{enq_change}
 use Rattle.vlm_words.specs.Convert.{convert_change}
 use Rattle.vlm_words.specs.Dequeue.{deq_change}
+use Rattle.vlm_words.specs.Rundown.{state_after_rundown}
 use Rattle.vlm_words.specs.Runs.{History, Run}
 use Rattle.vlm_words.specs.Laws.{IsVacant, NoResourceIsVacant}
 use Rattle.vlm_words.specs.Settled.{IsSettled, IsSweptNext, IsUnswept, unless_vacant}
@@ -53,7 +54,8 @@ occupied_always =
     (λ taker _. occupied_swept (take_change s taker).processes (take_change s taker).resources)
     (λ e _. occupied_swept (enq_change s e).processes (enq_change s e).resources)
     (λ c a _ _. occupied_swept (convert_change s c a).processes (convert_change s c a).resources)
-    (λ d _. occupied_swept (deq_change s d).processes (deq_change s d).resources))
+    (λ d _. occupied_swept (deq_change s d).processes (deq_change s d).resources)
+    (λ is_one nodes _. occupied_swept (state_after_rundown is_one nodes s).processes (state_after_rundown is_one nodes s).resources))
 
 occupied_not_vacant : (r : Resource) → Occupied r → IsVacant r → ⊥
 occupied_not_vacant r occupied vacant =

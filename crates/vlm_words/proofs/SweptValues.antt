@@ -12,7 +12,7 @@ use Rattle.vlm_words.specs.declared.steps.NewRequest.{NewRequest}
 use Rattle.vlm_words.specs.Flags.{flag_bits, has_flag, valblk}
 use Rattle.vlm_words.specs.State.{Process, Resource, State}
 use Rattle.vlm_words.specs.Endings.{Ending, How, wanted_endings}
-use Rattle.vlm_words.specs.Endings.How.{by_abort, by_cancel, by_grant}
+use Rattle.vlm_words.specs.Endings.How.{by_abort, by_cancel, by_grant, by_rundown}
 use Rattle.vlm_words.specs.Effects.{Blocks, blocks_after, blocks_after_end, blocks_after_ending, blocks_after_return, blocks_with}
 use Rattle.vlm_words.specs.Grants.{grant_act, grant_endings, is_empty, no_service, resource_after_grant, service, service_after_grant, service_of_conversions, service_of_new_requests, service_of_waiting, valblk_act, wanted_fits}
 use Rattle.vlm_words.specs.Rows.{is_lock_of}
@@ -23,7 +23,7 @@ use Rattle.vlm_words.specs.Runs.{History, Run}
 use Rattle.vlm_words.specs.Laws.{action_from, IsSameResource}
 use Rattle.vlm_words.proofs.Admissions.{admitted_request, found_lkid}
 use Rattle.vlm_words.proofs.Apart.{Apart, apart_always}
-use Rattle.vlm_words.proofs.Each.{Any-here, Any-there, Any-weaker, each_append, each_weaker, found_at}
+use Rattle.vlm_words.proofs.Each.{Any-here, Any-there, Any-weaker, each_append, each_weaker, found_at, each_member}
 use Rattle.vlm_words.proofs.HeldModes.{HoldersAgree, holders_agree_always}
 use Rattle.vlm_words.proofs.InOrder.{SameWaiting, conversions_leave_waiting, same_then, service_in_order}
 use Rattle.vlm_words.proofs.Refusals.{Any_found}
@@ -68,14 +68,6 @@ table_writes held request flagged table = of_held held table
     of_held : (held : Option Request) → action_from held request.mode ≡ Write → cond (has_flag (flag_bits request.flags) valblk) (valblk_act held request.mode) Nothing ≡ Write
     of_held None table = cc
     of_held (Some held) table = rw flagged table
-
--- each element is one of its list
-pub each_member : {X : Type 0} (xs : List X) → AllByRecursion (λ x. Any (λ y. x ≡ y) xs) xs
-each_member [] = tt
-each_member (x ∷ xs) = (
-  Any-here (λ y. x ≡ y) x xs refl,
-  each_weaker (λ z. Any (λ y. z ≡ y) xs) (λ z. Any (λ y. z ≡ y) (x ∷ xs)) (λ z any. Any-there (λ y. z ≡ y) x xs any) xs (each_member xs),
-)
 
 -- an accepted conversion that is not granted at once does not write
 pub conversion_is_harmless : (s : State) (c : Conversion) (a : ConversionAdmission) → AllByRecursion HoldersAgree s.resources → Apart s
@@ -165,6 +157,7 @@ end_leaves (by_grant Return) ending b nothing = refl
 end_leaves (by_grant Write) ending b nothing = absurd (nothing refl)
 end_leaves by_abort ending b nothing = refl
 end_leaves by_cancel ending b nothing = refl
+end_leaves by_rundown ending b nothing = refl
 
 pub ends_leave : (endings : List Ending) (b : Blocks) → AllByRecursion WritesNothing endings → (blocks_after endings b).value_block ≡ b.value_block
 ends_leave [] b nothing = refl

@@ -11,20 +11,23 @@ use Rattle.vlm_words.specs.declared.steps.Answer.TheVariants.{Plain}
 use Rattle.vlm_words.specs.declared.steps.Declaration.{Declaration}
 use Rattle.vlm_words.specs.declared.steps.Step.TheVariants.{Declare, SetValue, Enq, Convert, Deq, Rundown, Leave, Search, Take}
 use Rattle.vlm_words.specs.declared.steps.Step.{Step}
-use Rattle.vlm_words.specs.State.{Process, State, process_of}
-use Rattle.vlm_words.specs.Asts.{asts_of, later, oldest, process_after_take, processes_after_take}
+use Rattle.vlm_words.specs.State.{Process, State, process_of, Node, Resource}
+use Rattle.vlm_words.specs.Asts.{asts_of, later, oldest, process_after_take, processes_after_take, Queued}
 use Rattle.vlm_words.specs.Sweeps.{processes_after_service, sweep_asts}
 use Rattle.vlm_words.specs.Declare.{declare_change, declared_process}
 use Rattle.vlm_words.specs.SetValue.{set_change}
 use Rattle.vlm_words.specs.Take.{take_change, taken_ast}
 use Rattle.vlm_words.specs.Convert.{ConversionAdmission}
 use Rattle.vlm_words.specs.Runs.{History, Run}
-use Rattle.vlm_words.specs.Stepped.{IsChoice, Stepped, conversion_change, refused, refused_or, step_change, step_refusal, stepped, stepped_after_sweep}
+use Rattle.vlm_words.specs.Stepped.{IsChoice, Stepped, conversion_change, refused, refused_or, step_change, step_refusal, stepped, stepped_after_sweep, end_of_processes}
 use Rattle.vlm_words.specs.Taking.{AstsAfter, AstsAfterTake, AstsAreTakenInOrder, AstsLeft, IsTakenFrom, queued_to}
 use Rattle.vlm_words.proofs.Always.{admission_of}
 use Rattle.vlm_words.proofs.Processes.{kept_set}
 use Rattle.vlm_words.proofs.Queueing.{AreQueued, asts_are, both_queued, conversion_queues, dequeue_queues, none_queued, pending, request_queues, sweep_queues}
 use Rattle.vlm_words.proofs.Written.{as_taken, found_first}
+use Rattle.vlm_words.specs.declared.conditions.Cond.TheVariants.{Normal}
+use Rattle.vlm_words.specs.Rundown.{is_ended_by, is_of_node, nodes_after_departure, processes_but, state_after_rundown}
+use Rattle.vlm_words.proofs.Ended.{found_still, is_left, rundowns_tell_nobody, swept_living}
 
 -- ---- what a take leaves
 
@@ -78,6 +81,7 @@ first_is_taken (ast ∷ asts) = refl
 abbrev Takes : State → Step → Stepped → Type 0
 Takes s step made =
     (pid : ℕ) (before : Process) → process_of s.processes pid ≡ Some before
+    → is_some (process_of made.state.processes pid) ≡ true
     → AstsAfter step made.answer made.queued pid before.asts (asts_of made.state.processes pid)
 
 -- a process that is there is there
@@ -87,7 +91,7 @@ is_there processes pid p is = ap (λ (o : Option Process). is_some o) is
 -- a step that leaves the ASTs of each process, and queues these, with its sweep
 leaves : (s : State) (step : Step) (change : Stepped) → ((pid : ℕ) (asts : List Ast) → AstsLeft step change.answer pid asts asts)
     → AreQueued change.queued s.processes change.state.processes → Takes s step (stepped_after_sweep change)
-leaves s step change left queued pid before is =
+leaves s step change left queued pid before is living =
     let all : AreQueued (change.queued ++ sweep_asts change.state.resources) s.processes (processes_after_service change.state.processes change.state.resources) =
     both_queued change.queued (sweep_asts change.state.resources) s.processes change.state.processes (processes_after_service change.state.processes change.state.resources)
     queued (sweep_queues change.state.processes change.state.resources) in
@@ -126,7 +130,7 @@ declaring_leaves s d = record {
 -- a take
 taking : (s : State) (taker : ℕ) (choice : Option Row) → Takes s (Take taker) (stepped_after_sweep (step_change s (Take taker) choice))
 unfolding take_change
-taking s taker choice pid before is = record {
+taking s taker choice pid before is living = record {
   left = cond (taker == pid) (later before.asts) before.asts;
   taken = of_test (taker == pid) refl;
   behind =
@@ -147,6 +151,25 @@ taking s taker choice pid before is = record {
         (first_is_taken before.asts)
     of_test false other = refl
 
+-- ends of processes leave the ASTs of the others
+ending_takes : (s : State) (step : Step) (is_one : ℕ → Bool) (nodes : List Node)
+    → ((pid : ℕ) (asts : List Ast) → AstsLeft step (Plain Normal) pid asts asts)
+    → Takes s step (stepped_after_sweep (end_of_processes is_one nodes s))
+unfolding state_after_rundown
+ending_takes s step is_one nodes left pid before is living =
+    let others : List Process = processes_but is_one s.processes in
+    let resources : List Resource = (state_after_rundown is_one nodes s).resources in
+    let there : is_some (process_of others pid) ≡ true = sym (swept_living others resources pid) ∙ living in
+    let still : process_of others pid ≡ process_of s.processes pid = found_still is_one pid (is_left is_one pid s.processes there) s.processes in
+    record {
+      left = before.asts;
+      taken = left pid before.asts;
+      behind =
+          (sweep_queues others resources).asts pid there
+          ∙ ap (λ (asts : List Ast). asts ++ queued_to pid (sweep_asts resources)) (asts_are others pid before (still ∙ is))
+          ∙ ap (λ (queued : List Queued). before.asts ++ queued_to pid (queued ++ sweep_asts resources)) (sym (rundowns_tell_nobody is_one s));
+    }
+
 takes : (s : State) (step : Step) (choice : Option Row) → step_refusal s step ≡ None → Takes s step (stepped_after_sweep (step_change s step choice))
 unfolding set_change
 takes s (Declare d) choice passed =
@@ -160,14 +183,15 @@ takes s (Convert c) choice passed =
     subst (λ (there : Option ConversionAdmission). Takes s (Convert c) (stepped_after_sweep (conversion_change s c there))) (sym admitted.1)
     (leaves s (Convert c) (conversion_change s c (Some admitted.0)) (λ pid asts. refl) (conversion_queues s c admitted.0))
 takes s (Deq d) choice passed = leaves s (Deq d) (step_change s (Deq d) choice) (λ pid asts. refl) (dequeue_queues s d)
-takes s (Rundown pid) choice passed = cc
-takes s (Leave node) choice passed = cc
+takes s (Rundown pid) choice passed = ending_takes s (Rundown pid) (is_ended_by pid) s.nodes (λ process asts. refl)
+takes s (Leave node) choice passed =
+    ending_takes s (Leave node) (is_of_node node) (nodes_after_departure s.nodes node) (λ process asts. refl)
 takes s (Search node) choice passed = cc
 takes s (Take taker) choice passed = taking s taker choice
 
 -- a refused step
 refused_takes : (s : State) (step : Step) (refusal : Cond) → Takes s step (refused s refusal)
-refused_takes s step refusal pid before is = record {
+refused_takes s step refusal pid before is living = record {
   left = before.asts;
   taken = stays step;
   behind = asts_are s.processes pid before is ∙ sym (append-nil before.asts);
@@ -189,7 +213,7 @@ pub taking_always : (history : History) (old : State) → Run history old → (s
 taking_always history old run step choice chosen = record {
   asts = λ pid before after was is.
       subst (AstsAfter step (stepped old step choice).answer (stepped old step choice).queued pid before.asts) (asts_are (stepped old step choice).state.processes pid after is)
-      (of_refusal (step_refusal old step) refl pid before was);
+      (of_refusal (step_refusal old step) refl pid before was (is_there (stepped old step choice).state.processes pid after is));
 }
   where
     of_refusal : (refusal : Option Cond) → step_refusal old step ≡ refusal → Takes old step (refused_or refusal old (step_change old step choice))

@@ -7,7 +7,7 @@ use Rattle.vlm_words.specs.declared.resources.ValueBlock.{ValueBlock}
 use Rattle.vlm_words.specs.declared.steps.Conversion.{Conversion}
 use Rattle.vlm_words.specs.declared.steps.Dequeue.{Dequeue}
 use Rattle.vlm_words.specs.declared.steps.NewRequest.{NewRequest}
-use Rattle.vlm_words.specs.State.{Resource, State}
+use Rattle.vlm_words.specs.State.{Node, Resource, State}
 use Rattle.vlm_words.specs.Effects.{with_value_block}
 use Rattle.vlm_words.specs.Grants.{resource_after_grant}
 use Rattle.vlm_words.specs.Sweeps.{state_after_sweep, served_with}
@@ -20,6 +20,7 @@ use Rattle.vlm_words.specs.Enqueue.{enq_at_once, enq_change, enq_refusal, enq_ro
 use Rattle.vlm_words.specs.Convert.{ConversionAdmission, convert_admission, convert_blocks, convert_change, convert_lkid, convert_refusal, resource_after_conversion, resource_after_conversion_of, resource_without_granted, wanting_row}
 use Rattle.vlm_words.specs.Withdrawals.{Withdrawal, is_held_by_writer, resource_after_cancel, resource_after_going, resource_after_withdrawals, resource_after_writer, resource_without, value_block_after_writer}
 use Rattle.vlm_words.specs.Dequeue.{deq_change, withdrawals_of}
+use Rattle.vlm_words.specs.Rundown.{rundowns, state_after_rundown}
 use Rattle.vlm_words.specs.Runs.{History, Run}
 use Rattle.vlm_words.proofs.Each.{each_append, each_drop, each_filter, each_map}
 use Rattle.vlm_words.proofs.Always.{always, kept_by_stepped}
@@ -123,6 +124,13 @@ module _ (P : Row → Type 0) where
   dequeue_queued s d each =
       each_map (Queued P) (Queued P) (resource_after_withdrawals (withdrawals_of s d)) (kept_withdrawn (Queued P) left_queued gone_queued (withdrawals_of s d)) s.resources each
 
+  -- an end of processes
+  pub rundown_queued : (s : State) (is_one : ℕ → Bool) (nodes : List Node) → AllByRecursion (Queued P) s.resources
+      → AllByRecursion (Queued P) (state_after_rundown is_one nodes s).resources
+  unfolding state_after_rundown
+  rundown_queued s is_one nodes each =
+      each_map (Queued P) (Queued P) (resource_after_withdrawals (rundowns is_one s)) (kept_withdrawn (Queued P) left_queued gone_queued (rundowns is_one s)) s.resources each
+
   -- after every run each queued row has it
   pub queued_always : ((history : History) (s : State) → Run history s → (e : NewRequest) → enq_refusal s e ≡ None → enq_at_once s e ≡ false → P (enq_row s e))
       → ((history : History) (s : State) → Run history s → (c : Conversion) (a : ConversionAdmission) → convert_refusal s c ≡ None → convert_admission s c ≡ Some a
@@ -138,4 +146,5 @@ module _ (P : Row → Type 0) where
       (λ taker _. swept_queued (take_change s taker) each)
       (λ e passed. swept_queued (enq_change s e) (request_queued s e (requests history s run e passed) each))
       (λ c a passed is. swept_queued (convert_change s c a) (conversion_queued s c a (conversions history s run c a passed is) each))
-      (λ d _. swept_queued (deq_change s d) (dequeue_queued s d each)))
+      (λ d _. swept_queued (deq_change s d) (dequeue_queued s d each))
+      (λ is_one nodes _. swept_queued (state_after_rundown is_one nodes s) (rundown_queued s is_one nodes each)))

@@ -1,6 +1,6 @@
 -- Only writers change value blocks.
 use Rattle.std.proofs.Common.{◌≡◌, ◌⊎◌, ◌-◌, ◌+◌, ℕ, Bool, true, false, not, List, [], ◌∷◌, ◌++◌, map, length, get_or, cond, Option, None, Some, refl, sym, subst, ap, inl, inr, ◌∙◌, arith}
-use Rattle.std.specs.Prelude.{◌==◌, ◌≢◌, ◌&&◌, ◌||◌, Any, is_some, unwrap_or}
+use Rattle.std.specs.Prelude.{◌==◌, ◌≢◌, ◌&&◌, ◌||◌, Any, is_some, unwrap_or, ◌/◌, ⊤}
 use Rattle.std.specs.List.{AllByRecursion, find}
 use Rattle.std.proofs.lemmas.Bool.{and_from, and_parts, cases_lt, cond_both, eq-eqb, eqb-true, or_cases}
 use Rattle.std.proofs.lemmas.List.{get_or_past}
@@ -22,7 +22,7 @@ use Rattle.vlm_words.specs.declared.steps.Step.TheVariants.{Declare, SetValue, E
 use Rattle.vlm_words.specs.declared.steps.Step.{Step}
 use Rattle.vlm_words.specs.Flags.{cancel, has_flag, invvalblk, valblk}
 use Rattle.vlm_words.specs.Modes.{is_writing, value_action}
-use Rattle.vlm_words.specs.State.{Process, Resource, State, process_of}
+use Rattle.vlm_words.specs.State.{Process, Resource, State, process_of, Node}
 use Rattle.vlm_words.specs.StatusBlocks.{new_status_block, processes_after_acceptance, status_block_of, status_blocks_of}
 use Rattle.vlm_words.specs.Endings.How.{by_grant}
 use Rattle.vlm_words.specs.ValueBlocks.{written_value_block}
@@ -37,27 +37,31 @@ use Rattle.vlm_words.specs.Take.{take_change}
 use Rattle.vlm_words.specs.Trees.{enq_site}
 use Rattle.vlm_words.specs.Enqueue.{enq_at_once, enq_change, enq_row, resource_after_entry}
 use Rattle.vlm_words.specs.Convert.{ConversionAdmission, conversion_endings, convert_admission, convert_blocks, convert_change, convert_lkid, convert_refusal, convert_request, resource_after_conversion, resource_after_conversion_of, wanting_row}
-use Rattle.vlm_words.specs.Withdrawals.{Withdrawal, has_writer, is_held_by_writer, is_writer, resource_after_cancel, resource_after_going, resource_after_withdrawals, resource_after_writer, resource_without, value_block_after_writer}
-use Rattle.vlm_words.specs.Dequeue.{deq_change, dequeue_lkid, withdrawal_of, withdrawals_of}
+use Rattle.vlm_words.specs.Withdrawals.{Withdrawal, has_writer, is_held_by_writer, is_writer, resource_after_cancel, resource_after_going, resource_after_withdrawals, resource_after_writer, resource_without, value_block_after_writer, resource_after_each}
+use Rattle.vlm_words.specs.Dequeue.{deq_change, dequeue_lkid, withdrawal_of, withdrawals_of, deq_refusal, dequeued_lkids}
 use Rattle.vlm_words.specs.Runs.{History, Run}
 use Rattle.vlm_words.specs.Stepped.{IsChoice, Stepped, conversion_change, refused_or, step_change, step_refusal, stepped, stepped_after_sweep}
 use Rattle.vlm_words.specs.Laws.{Stands, action_from}
-use Rattle.vlm_words.specs.Writers.{HasItsValue, HasNewValue, IsWrittenValue, IsWriter, LeavesValue, OnlyWritersChangeValues, WritesFrom, WritesValue}
+use Rattle.vlm_words.specs.Writers.{HasItsValue, HasNewValue, IsWrittenValue, IsWriter, LeavesValue, OnlyWritersChangeValues, WritesFrom, WritesValue, HasWriterOf, IsHeldByWriter}
 use Rattle.vlm_words.proofs.Admissions.{admitted_request, found_lkid}
 use Rattle.vlm_words.proofs.Always.{admission_of}
 use Rattle.vlm_words.proofs.Apart.{Apart, apart_always}
 use Rattle.vlm_words.proofs.AtOnce.{only_there}
-use Rattle.vlm_words.proofs.Each.{Any-behind, Any-cases, Any-none, Any-weaker, any_left, each_filter, each_map, each_weaker, found_at}
+use Rattle.vlm_words.proofs.Each.{Any-behind, Any-cases, Any-none, Any-weaker, any_left, each_filter, each_map, each_weaker, found_at, each_member, Any-here, each_so}
 use Rattle.vlm_words.proofs.EachResource.{each_entered_at}
 use Rattle.vlm_words.proofs.HeldModes.{HoldersAgree, holders_agree_always}
 use Rattle.vlm_words.proofs.Keys.{Placed, WasGiven, conversion_keeps_place, entry_keeps_place, placed_always, withdrawals_keep_place}
 use Rattle.vlm_words.proofs.Refusals.{Any_found}
 use Rattle.vlm_words.proofs.Standing.{admitted_there}
-use Rattle.vlm_words.proofs.SweptValues.{IsHarmless, WritesNothing, conversion_is_harmless, each_member, ends_leave, grant_harmless, harmless_always, new_is_harmless, served, served_leaves, served_same, swept_alone, table_writes, writes_by_table}
-use Rattle.vlm_words.proofs.Waiting.{Queued, conversion_queued, dequeue_queued, request_queued}
+use Rattle.vlm_words.proofs.SweptValues.{IsHarmless, WritesNothing, conversion_is_harmless, ends_leave, grant_harmless, harmless_always, new_is_harmless, served, served_leaves, served_same, swept_alone, table_writes, writes_by_table}
+use Rattle.vlm_words.proofs.Waiting.{Queued, conversion_queued, dequeue_queued, request_queued, rundown_queued}
 use Rattle.vlm_words.proofs.Writes.{only_row_among, write_at_once}
 use Rattle.vlm_words.proofs.Written.{blocks_are, conversion_names}
 use Rattle.vlm_words.proofs.EndWrites.{block_at, block_numbered, block_written, many_written}
+use Rattle.vlm_words.specs.OwnLocks.{own_lkids}
+use Rattle.vlm_words.specs.Rundown.{is_ended_by, is_of_node, nodes_after_departure, rundown_of, rundowns, state_after_rundown}
+use Rattle.vlm_words.proofs.LeftValues.{IsPlain, LeftTogether, left_together, lkids_of_writers, writer_found, writer_of}
+use Rattle.vlm_words.proofs.Passed.{flags_go_together, no_value_goes}
 
 -- ---- what is so of a resource
 
@@ -220,26 +224,151 @@ left_by_cancel value true true block is = refl
 left_by_cancel value false true block is = refl
 left_by_cancel value invalidates false block is = cc
 
-dequeue_has_its : (s : State) (d : Dequeue) (r : Resource) → HasItsValue s (Deq d) r (resource_after_withdrawals (withdrawals_of s d) r)
-dequeue_has_its s d r = record {
-  serial = (withdrawals_keep_place (withdrawals_of s d) r).serial;
+-- a dequeue of one lock
+one_has_its : (s : State) (d : Dequeue) (lkid : ℕ) → dequeued_lkids s d ≡ lkid ∷ [] → (r : Resource)
+    → HasItsValue s (Deq d) r (resource_after_withdrawals (withdrawal_of d lkid ∷ []) r)
+one_has_its s d lkid one r = record {
+  serial = (withdrawals_keep_place (withdrawal_of d lkid ∷ []) r).serial;
   written = λ writes.
       subst (LeavesValue d.value (has_flag d.flags invvalblk) r.value_block)
-      (sym (withdrawn_value (withdrawal_of s d) r
-      ∙ ap (λ (held : Bool). cond held (value_block_after_writer (withdrawal_of s d) r.value_block) r.value_block) (held_by_writer (dequeue_lkid s d) r writes.1)))
+      (sym (withdrawn_value (withdrawal_of d lkid) r
+      ∙ ap (λ (held : Bool). cond held (value_block_after_writer (withdrawal_of d lkid) r.value_block) r.value_block)
+      (held_by_writer lkid r (only (subst (Any (IsHeldByWriter r)) one writes.1)))))
       (left_by_dequeue d.value (has_flag d.flags invvalblk) (has_flag d.flags cancel) r.value_block writes.0);
-  kept = λ none. withdrawn_value (withdrawal_of s d) r ∙ of_tests none (is_held_by_writer (dequeue_lkid s d) r) refl (has_flag d.flags cancel) refl;
+  kept = λ none. withdrawn_value (withdrawal_of d lkid) r ∙ of_tests none (is_held_by_writer lkid r) refl (has_flag d.flags cancel) refl;
 }
   where
-    of_tests : (WritesValue s (Deq d) r → ⊥) → (held : Bool) → is_held_by_writer (dequeue_lkid s d) r ≡ held → (cancels : Bool) → has_flag d.flags cancel ≡ cancels
-        → cond held (value_block_after_writer (withdrawal_of s d) r.value_block) r.value_block ≡ r.value_block
+    only : Any (IsHeldByWriter r) (lkid ∷ []) → IsHeldByWriter r lkid
+    only some = elim (Any-cases (IsHeldByWriter r) lkid [] some) [
+      | inl here ↦ here
+      | inr later ↦ absurd (Any-none (IsHeldByWriter r) later)
+    ]
+
+    of_tests : (WritesValue s (Deq d) r → ⊥) → (held : Bool) → is_held_by_writer lkid r ≡ held → (cancels : Bool) → has_flag d.flags cancel ≡ cancels
+        → cond held (value_block_after_writer (withdrawal_of d lkid) r.value_block) r.value_block ≡ r.value_block
     of_tests none false holds cancels is = refl
     of_tests none true holds true is = left_by_cancel d.value (has_flag d.flags invvalblk) (has_flag d.flags cancel) r.value_block is
-    of_tests none true holds false is = absurd (none (is, writer_holds (dequeue_lkid s d) r holds))
+    of_tests none true holds false is =
+        absurd (none (is, subst (Any (IsHeldByWriter r)) (sym one) (Any-here (IsHeldByWriter r) lkid [] (writer_holds lkid r holds))))
 
-dequeue_has : (s : State) (d : Dequeue) → AllByRecursion (Has s (Deq d)) (deq_change s d).resources
+-- a lock of a list is held by a writer, by the test and by the law
+some_holds : (r : Resource) (lkids : List ℕ) → list_any (λ lkid. is_held_by_writer lkid r) lkids ≡ true → Any (IsHeldByWriter r) lkids
+some_holds r lkids some =
+    Any-weaker (λ lkid. is_held_by_writer lkid r ≡ true) (IsHeldByWriter r) (λ lkid held. writer_holds lkid r held) lkids
+    (Any-from_list_any (λ lkid. is_held_by_writer lkid r) lkids some)
+
+holds_some : (r : Resource) (lkids : List ℕ) → Any (IsHeldByWriter r) lkids → list_any (λ lkid. is_held_by_writer lkid r) lkids ≡ true
+holds_some r lkids some =
+    list_any-from_Any (λ lkid. is_held_by_writer lkid r) lkids
+    (Any-weaker (IsHeldByWriter r) (λ lkid. is_held_by_writer lkid r ≡ true) (λ lkid held. held_by_writer lkid r held) lkids some)
+
+-- locks that go or stay leave the value block
+all_going_leave : (withdrawals : List Withdrawal) (r : Resource) → (resource_after_each resource_after_going withdrawals r).value_block ≡ r.value_block
+all_going_leave [] r = refl
+all_going_leave (w ∷ withdrawals) r = all_going_leave withdrawals (resource_after_going w r) ∙ going_leaves w r
+
+-- locks that are given up together, of which the step says whether one is held by a writer
+together_has_its : (s : State) (step : Step) (invalidates : Bool) (withdrawals : List Withdrawal) → AllByRecursion (IsPlain invalidates) withdrawals
+    → (r : Resource) → (WritesValue s step r → list_any (λ w. is_held_by_writer w.lkid r) withdrawals ≡ true)
+    → (list_any (λ w. is_held_by_writer w.lkid r) withdrawals ≡ true → WritesValue s step r)
+    → ((after : ValueBlock) → LeavesValue None invalidates r.value_block after → IsWrittenValue s step r.value_block after)
+    → HasItsValue s step r (resource_after_withdrawals withdrawals r)
+together_has_its s step invalidates withdrawals plain r by_law by_test written = record {
+  serial = (withdrawals_keep_place withdrawals r).serial;
+  written = λ writes. subst (IsWrittenValue s step r.value_block) (sym leaves) (written left (all.written (by_law writes)));
+  kept = λ none. leaves ∙ of_test none (list_any (λ w. is_held_by_writer w.lkid r) withdrawals) refl;
+}
+  where
+    left : ValueBlock
+    left = (resource_after_each resource_after_writer withdrawals r).value_block
+
+    all : LeftTogether invalidates withdrawals r
+    all = left_together invalidates withdrawals plain r
+
+    leaves : (resource_after_withdrawals withdrawals r).value_block ≡ left
+    leaves = all_going_leave withdrawals (resource_after_each resource_after_writer withdrawals r)
+
+    of_test : (WritesValue s step r → ⊥) → (b : Bool) → list_any (λ w. is_held_by_writer w.lkid r) withdrawals ≡ b → left ≡ r.value_block
+    of_test none true is = absurd (none (by_test is))
+    of_test none false is = all.kept is
+
+-- a dequeue of several locks gives no value
+given_none : (value : Option (List ℕ)) → is_some value ≡ false → value ≡ None
+given_none None is = refl
+given_none (Some value) is = cc
+
+several_have_its : (s : State) (d : Dequeue) → has_flag d.flags cancel ≡ false → d.value ≡ None → (r : Resource)
+    → HasItsValue s (Deq d) r (resource_after_withdrawals (withdrawals_of s d) r)
+several_have_its s d plain none r =
+    together_has_its s (Deq d) (has_flag d.flags invvalblk) (withdrawals_of s d)
+    (each_map (λ lkid. ⊤) (IsPlain (has_flag d.flags invvalblk)) (withdrawal_of d) (λ lkid _. (rw (plain, none) refl, rw plain (marks (has_flag d.flags invvalblk))))
+    (dequeued_lkids s d) (each_so (λ lkid. ⊤) (λ lkid. tt) (dequeued_lkids s d)))
+    r
+    (λ writes. lkids_of_writers (withdrawal_of d) (λ lkid. refl) (dequeued_lkids s d) r ∙ holds_some r (dequeued_lkids s d) writes.1)
+    (λ some. (plain, some_holds r (dequeued_lkids s d) (sym (lkids_of_writers (withdrawal_of d) (λ lkid. refl) (dequeued_lkids s d) r) ∙ some)))
+    (λ after left. subst (λ (value : Option (List ℕ)). LeavesValue value (has_flag d.flags invvalblk) r.value_block after) (sym none) left)
+  where
+    marks : (b : Bool) → (b && true) ≡ b
+    marks true = refl
+    marks false = refl
+
+dequeue_has_its : (s : State) (d : Dequeue) → deq_refusal s d ≡ None → (r : Resource)
+    → HasItsValue s (Deq d) r (resource_after_withdrawals (withdrawals_of s d) r)
+dequeue_has_its s d passed r = of_flag (has_flag d.flags deqall) refl
+  where
+    of_flag : (all : Bool) → has_flag d.flags deqall ≡ all → HasItsValue s (Deq d) r (resource_after_withdrawals (withdrawals_of s d) r)
+    of_flag true is =
+        several_have_its s d (flags_go_together s d passed is) (given_none d.value (no_value_goes s d passed is)) r
+    of_flag false is =
+        let one : dequeued_lkids s d ≡ dequeue_lkid s d ∷ [] = rw is refl in
+        subst (λ (lkids : List ℕ). HasItsValue s (Deq d) r (resource_after_withdrawals (map (withdrawal_of d) lkids) r)) (sym one)
+        (one_has_its s d (dequeue_lkid s d) one r)
+
+-- ends of processes
+ending_has_its : (s : State) (step : Step) (is_one : ℕ → Bool) → Apart s
+    → ((r : Resource) → WritesValue s step r → HasWriterOf (λ owner. is_one owner ≡ true) r)
+    → ((r : Resource) → HasWriterOf (λ owner. is_one owner ≡ true) r → WritesValue s step r)
+    → ((before after : ValueBlock) → LeavesValue None true before after → IsWrittenValue s step before after)
+    → (r : Resource) → Any (λ x. r ≡ x) s.resources → HasItsValue s step r (resource_after_withdrawals (rundowns is_one s) r)
+ending_has_its s step is_one apart by_law by_test written r among =
+    together_has_its s step true (rundowns is_one s)
+    (each_map (λ lkid. ⊤) (IsPlain true) rundown_of (λ lkid _. (refl, refl)) (own_lkids is_one s) (each_so (λ lkid. ⊤) (λ lkid. tt) (own_lkids is_one s)))
+    r
+    (λ writes. lkids_of_writers rundown_of (λ lkid. refl) (own_lkids is_one s) r
+    ∙ writer_found is_one s apart r among (λ lkid. held_by_writer lkid r) (λ lkid. writer_holds lkid r) (by_law r writes))
+    (λ some. by_test r (writer_of is_one s apart r among (λ lkid. held_by_writer lkid r) (λ lkid. writer_holds lkid r)
+    (sym (lkids_of_writers rundown_of (λ lkid. refl) (own_lkids is_one s) r) ∙ some)))
+    (written r.value_block)
+
+ending_has : (s : State) (step : Step) (is_one : ℕ → Bool) (nodes : List Node) → Apart s
+    → ((r : Resource) → WritesValue s step r → HasWriterOf (λ owner. is_one owner ≡ true) r)
+    → ((r : Resource) → HasWriterOf (λ owner. is_one owner ≡ true) r → WritesValue s step r)
+    → ((before after : ValueBlock) → LeavesValue None true before after → IsWrittenValue s step before after)
+    → AllByRecursion (Has s step) (state_after_rundown is_one nodes s).resources
+unfolding state_after_rundown
+ending_has s step is_one nodes apart by_law by_test written =
+    changed_has s step (resource_after_withdrawals (rundowns is_one s)) (ending_has_its s step is_one apart by_law by_test written)
+
+-- whose locks they are, by the test and by the law
+of_pid : (pid : ℕ) (r : Resource) → HasWriterOf (λ owner. owner ≡ pid) r → HasWriterOf (λ owner. is_ended_by pid owner ≡ true) r
+of_pid pid r = Any-weaker (λ row. (row.pid ≡ pid) × IsWriter row.held) (λ row. (is_ended_by pid row.pid ≡ true) × IsWriter row.held)
+    (λ row so. (eq-eqb row.pid pid so.0, so.1)) (r.granted ++ r.converting)
+
+is_pid : (pid : ℕ) (r : Resource) → HasWriterOf (λ owner. is_ended_by pid owner ≡ true) r → HasWriterOf (λ owner. owner ≡ pid) r
+is_pid pid r = Any-weaker (λ row. (is_ended_by pid row.pid ≡ true) × IsWriter row.held) (λ row. (row.pid ≡ pid) × IsWriter row.held)
+    (λ row so. (eqb-true row.pid pid so.0, so.1)) (r.granted ++ r.converting)
+
+of_node : (node : ℕ) (r : Resource) → HasWriterOf (λ owner. owner / 65536 ≡ node) r → HasWriterOf (λ owner. is_of_node node owner ≡ true) r
+of_node node r = Any-weaker (λ row. (row.pid / 65536 ≡ node) × IsWriter row.held) (λ row. (is_of_node node row.pid ≡ true) × IsWriter row.held)
+    (λ row so. (eq-eqb (row.pid / 65536) node so.0, so.1)) (r.granted ++ r.converting)
+
+is_node_of : (node : ℕ) (r : Resource) → HasWriterOf (λ owner. is_of_node node owner ≡ true) r → HasWriterOf (λ owner. owner / 65536 ≡ node) r
+is_node_of node r = Any-weaker (λ row. (is_of_node node row.pid ≡ true) × IsWriter row.held) (λ row. (row.pid / 65536 ≡ node) × IsWriter row.held)
+    (λ row so. (eqb-true (row.pid / 65536) node so.0, so.1)) (r.granted ++ r.converting)
+
+dequeue_has : (s : State) (d : Dequeue) → deq_refusal s d ≡ None → AllByRecursion (Has s (Deq d)) (deq_change s d).resources
 unfolding deq_change
-dequeue_has s d = changed_has s (Deq d) (resource_after_withdrawals (withdrawals_of s d)) (λ r _. dequeue_has_its s d r)
+dequeue_has s d passed = changed_has s (Deq d) (resource_after_withdrawals (withdrawals_of s d)) (λ r _. dequeue_has_its s d passed r)
 
 -- ---- a conversion
 
@@ -462,9 +591,14 @@ accepted_has history s run (Convert c) choice passed =
     (conversion_queued IsHarmless s c admitted.0 (conversion_is_harmless s c admitted.0 agree apart passed admitted.1) (harmless_always history s run))
     (conversion_has s c admitted.0 agree apart passed admitted.1))
 accepted_has history s run (Deq d) choice passed =
-    swept_change s (Deq d) (step_change s (Deq d) choice) (dequeue_queued IsHarmless s d (harmless_always history s run)) (dequeue_has s d)
-accepted_has history s run (Rundown pid) choice passed = cc
-accepted_has history s run (Leave node) choice passed = cc
+    swept_change s (Deq d) (step_change s (Deq d) choice) (dequeue_queued IsHarmless s d (harmless_always history s run)) (dequeue_has s d passed)
+accepted_has history s run (Rundown pid) choice passed =
+    swept_change s (Rundown pid) (step_change s (Rundown pid) choice) (rundown_queued IsHarmless s (is_ended_by pid) s.nodes (harmless_always history s run))
+    (ending_has s (Rundown pid) (is_ended_by pid) s.nodes (apart_always history s run) (of_pid pid) (is_pid pid) (λ before after left. left))
+accepted_has history s run (Leave node) choice passed =
+    swept_change s (Leave node) (step_change s (Leave node) choice)
+    (rundown_queued IsHarmless s (is_of_node node) (nodes_after_departure s.nodes node) (harmless_always history s run))
+    (ending_has s (Leave node) (is_of_node node) (nodes_after_departure s.nodes node) (apart_always history s run) (of_node node) (is_node_of node) (λ before after left. left))
 accepted_has history s run (Search node) choice passed = cc
 accepted_has history s run (Take pid) choice passed =
     swept_change s (Take pid) (step_change s (Take pid) choice) (harmless_always history s run) (idle_has s (Take pid) (λ r writes. writes))

@@ -1,6 +1,7 @@
 -- What writes of status blocks make of each status block.
 use Rattle.std.proofs.Common.{◌≡◌, ℕ, Bool, true, false, List, [], ◌∷◌, ◌++◌, cond, Option, None, Some, refl, sym, subst, ap, inl, inr, ◌∙◌}
 use Rattle.std.specs.Prelude.{◌==◌, ◌&&◌}
+use Rattle.std.specs.List.{AllByRecursion}
 use Rattle.std.proofs.lemmas.Bool.{eqb-true}
 use Rattle.vlm_words.specs.declared.blocks.Block.{Block}
 use Rattle.vlm_words.specs.declared.modes.Act.TheVariants.{Nothing, Return, Write}
@@ -8,27 +9,30 @@ use Rattle.vlm_words.specs.declared.resources.ValueBlock.{ValueBlock}
 use Rattle.vlm_words.specs.Conditions.{condition_number}
 use Rattle.vlm_words.specs.ValueBlocks.{return_status}
 use Rattle.vlm_words.specs.State.{Process, Resource}
-use Rattle.vlm_words.specs.Endings.{Ending, How}
-use Rattle.vlm_words.specs.Endings.How.{by_abort, by_cancel, by_grant}
+use Rattle.vlm_words.specs.Endings.{Ending, How, is_told}
+use Rattle.vlm_words.specs.Endings.How.{by_abort, by_cancel, by_grant, by_rundown}
 use Rattle.vlm_words.specs.Effects.{Blocks, blocks_after, blocks_after_ending, blocks_with}
 use Rattle.vlm_words.specs.Grants.{service}
 use Rattle.vlm_words.specs.Sweeps.{blocks_after_service, processes_after_service, sweep_endings}
 use Rattle.vlm_words.specs.Written.{IsLeftByEnds, TellsHow, TellsLast, is_end_for, last_end, later_end}
-use Rattle.vlm_words.proofs.Each.{Any-behind, Any-here, any_left, each_so}
+use Rattle.vlm_words.specs.Laws.{IsGrant}
+use Rattle.vlm_words.proofs.Each.{Any-behind, Any-here, any_left, each_so, each_weaker}
+use Rattle.vlm_words.proofs.InOrder.{service_grants}
 use Rattle.vlm_words.proofs.EndWrites.{AreLeft, ServiceLeaves, block_after_how, left_by_both, left_by_none, left_by_one, left_swept, left_with_asts}
 use Rattle.vlm_words.specs.Asts.{warnings}
 
 -- the status that it writes tells how the request ended
-tells : (how : How) (value : ValueBlock) (block : Block) → TellsHow how (block_after_how how value block).status
-tells (by_grant Nothing) value block = refl
-tells (by_grant Return) value block = of_mark value.valid
+tells : (how : How) → is_told how ≡ true → (value : ValueBlock) (block : Block) → TellsHow how (block_after_how how value block).status
+tells (by_grant Nothing) told value block = refl
+tells (by_grant Return) told value block = of_mark value.valid
   where
     of_mark : (valid : Bool) → TellsHow (by_grant Return) (condition_number (return_status valid))
     of_mark true = inl refl
     of_mark false = inr refl
-tells (by_grant Write) value block = refl
-tells by_abort value block = refl
-tells by_cancel value block = refl
+tells (by_grant Write) told value block = refl
+tells by_abort told value block = refl
+tells by_cancel told value block = refl
+tells by_rundown told value block = cc
 
 keeps_lkid : (how : How) (value : ValueBlock) (block : Block) → (block_after_how how value block).lkid ≡ block.lkid
 keeps_lkid (by_grant Nothing) value block = refl
@@ -36,6 +40,7 @@ keeps_lkid (by_grant Return) value block = refl
 keeps_lkid (by_grant Write) value block = refl
 keeps_lkid by_abort value block = refl
 keeps_lkid by_cancel value block = refl
+keeps_lkid by_rundown value block = refl
 
 keeps_value : (how : How) (value : ValueBlock) (block : Block) → (how ≡ by_grant Return → ⊥) → (block_after_how how value block).value ≡ block.value
 keeps_value (by_grant Nothing) value block other = refl
@@ -43,20 +48,21 @@ keeps_value (by_grant Return) value block other = absurd (other refl)
 keeps_value (by_grant Write) value block other = refl
 keeps_value by_abort value block other = refl
 keeps_value by_cancel value block other = refl
+keeps_value by_rundown value block other = refl
 
 -- nothing ended
 one_left_by_none : (pid number : ℕ) (block : Block) → IsLeftByEnds pid number [] block block
 one_left_by_none pid number block = record { status = refl; lkid = refl; value = λ _. refl }
 
 -- one request ended
-one_left_by_one : (pid number : ℕ) (ending : Ending) (value : ValueBlock) (before : Block)
+one_left_by_one : (pid number : ℕ) (ending : Ending) → is_told ending.how ≡ true → (value : ValueBlock) (before : Block)
     → IsLeftByEnds pid number (ending ∷ []) before (cond (is_end_for pid number ending) (block_after_how ending.how value before) before)
-one_left_by_one pid number ending value before = of_tests (ending.pid == pid) refl (ending.request.block == number) refl
+one_left_by_one pid number ending told value before = of_tests (ending.pid == pid) refl (ending.request.block == number) refl
   where
     of_tests : (mine : Bool) → (ending.pid == pid) ≡ mine → (this : Bool) → (ending.request.block == number) ≡ this
         → IsLeftByEnds pid number (ending ∷ []) before (cond (mine && this) (block_after_how ending.how value before) before)
     of_tests true is true at = record {
-      status = rw (is, at) (tells ending.how value before);
+      status = rw (is, at) (tells ending.how told value before);
       lkid = keeps_lkid ending.how value before;
       value = λ none. keeps_value ending.how value before
           (λ returns. none (Any-here _ ending [] (eqb-true ending.pid pid is, eqb-true ending.request.block number at, returns)));
@@ -108,13 +114,28 @@ AreLeftByEnds = AreLeft IsLeftByEnds
 pub all_left_by_none : (processes : List Process) → AreLeftByEnds [] processes processes
 all_left_by_none = left_by_none IsLeftByEnds one_left_by_none
 
+-- the process is told of the end
+abbrev pub IsTold : Ending → Type 0
+IsTold ending = is_told ending.how ≡ true
+
 -- the ends of requests of one resource
-pub all_left : (endings : List Ending) (b : Blocks) → AreLeftByEnds endings b.processes (blocks_after endings b).processes
-all_left [] b = all_left_by_none b.processes
-all_left (ending ∷ endings) b =
+pub all_left : (endings : List Ending) (b : Blocks) → AllByRecursion IsTold endings → AreLeftByEnds endings b.processes (blocks_after endings b).processes
+all_left [] b told = all_left_by_none b.processes
+all_left (ending ∷ endings) b told =
     left_by_both IsLeftByEnds one_left_by_both (ending ∷ []) endings b.processes (blocks_after_ending ending b).processes (blocks_after endings (blocks_after_ending ending b)).processes
-    (left_by_one IsLeftByEnds ending b (λ pid number before. one_left_by_one pid number ending b.value_block before))
-    (all_left endings (blocks_after_ending ending b))
+    (left_by_one IsLeftByEnds ending b (λ pid number before. one_left_by_one pid number ending told.0 b.value_block before))
+    (all_left endings (blocks_after_ending ending b) told.1)
+
+-- a process is told of each grant
+grant_told : (how : How) → IsGrant how → is_told how ≡ true
+grant_told (by_grant act) grants = refl
+grant_told by_abort grants = absurd grants
+grant_told by_cancel grants = absurd grants
+grant_told by_rundown grants = absurd grants
+
+service_tells : (r : Resource) → AllByRecursion IsTold (service r).endings
+service_tells r =
+    each_weaker (λ ending. IsGrant ending.how) IsTold (λ ending grants. grant_told ending.how grants) (service r).endings (service_grants r)
 
 -- the ends of a change, and then the grants of its sweep
 pub all_left_swept : (endings : List Ending) (before changed : List Process) (resources : List Resource) → AreLeftByEnds endings before changed
@@ -125,4 +146,4 @@ all_left_swept endings before changed resources left =
     (each_so (ServiceLeaves IsLeftByEnds)
     (λ r processes.
     left_with_asts IsLeftByEnds (warnings (service r).resource) (service r).endings processes (blocks_after (service r).endings (blocks_with r.value_block processes)).processes
-    (all_left (service r).endings (blocks_with r.value_block processes))) resources)
+    (all_left (service r).endings (blocks_with r.value_block processes) (service_tells r))) resources)

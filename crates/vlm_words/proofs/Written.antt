@@ -1,12 +1,12 @@
 -- A step writes the status blocks that it names, and those that the requests name that end in it.
-use Rattle.std.proofs.Common.{◌≡◌, ◌<◌, ◌+◌, ◌&&◌, ℕ, Bool, true, false, List, [], ◌∷◌, ◌++◌, length, get_or, cond, Option, None, Some, refl, sym, subst, ap, ◌∙◌}
-use Rattle.std.specs.Prelude.{◌==◌, is_some, nat_lt, nat_le}
-use Rattle.std.specs.List.{AllByRecursion}
+use Rattle.std.proofs.Common.{◌≡◌, ◌<◌, ◌+◌, ◌&&◌, ℕ, Bool, true, false, List, [], ◌∷◌, ◌++◌, length, get_or, cond, Option, None, Some, refl, sym, subst, ap, ◌∙◌, map}
+use Rattle.std.specs.Prelude.{◌==◌, is_some, nat_lt, nat_le, not, ⊤}
+use Rattle.std.specs.List.{AllByRecursion, flat_map}
 use Rattle.std.specs.Option.{option_map_or, option_or}
 use Rattle.std.proofs.lemmas.Bool.{and_parts, cond_both, ltb-true}
 use Rattle.std.proofs.lemmas.List.Folds.{find-append}
 use Rattle.vlm_words.specs.declared.blocks.Block.{Block}
-use Rattle.vlm_words.specs.declared.conditions.Cond.TheVariants.{Normal, Departed, Nonexpr, Accvio}
+use Rattle.vlm_words.specs.declared.conditions.Cond.TheVariants.{Normal, Departed, Nonexpr, Accvio, Badparam}
 use Rattle.vlm_words.specs.declared.conditions.Cond.{Cond}
 use Rattle.vlm_words.specs.declared.locks.Row.{Row}
 use Rattle.vlm_words.specs.declared.steps.Answer.TheVariants.{Plain}
@@ -18,24 +18,24 @@ use Rattle.vlm_words.specs.declared.steps.NewRequest.{NewRequest}
 use Rattle.vlm_words.specs.declared.steps.Step.TheVariants.{Declare, SetValue, Enq, Convert, Deq, Rundown, Leave, Search, Take}
 use Rattle.vlm_words.specs.declared.steps.Step.{Step}
 use Rattle.vlm_words.specs.declared.steps.ValueSetting.{ValueSetting}
-use Rattle.vlm_words.specs.State.{Process, Resource, State, process_of}
+use Rattle.vlm_words.specs.State.{Process, Resource, State, process_of, Node}
 use Rattle.vlm_words.specs.ValueBlocks.{new_value_block}
 use Rattle.vlm_words.specs.StatusBlocks.{new_status_block, processes_after_acceptance, processes_after_setting, processes_after_write, status_block_of, status_blocks_of}
-use Rattle.vlm_words.specs.Endings.{Ending}
+use Rattle.vlm_words.specs.Endings.{Ending, How, is_told, row_endings, wanted_endings}
 use Rattle.vlm_words.specs.Effects.{blocks_with}
 use Rattle.vlm_words.specs.Sweeps.{processes_after_service, sweep_endings}
 use Rattle.vlm_words.specs.Checks.{caller_refusal, has_departed, or_else, status_block_refusal, which_refusal}
-use Rattle.vlm_words.specs.Declare.{declare_change, declared_process}
+use Rattle.vlm_words.specs.Declare.{declare_change, declared_process, is_node}
 use Rattle.vlm_words.specs.SetValue.{set_change, set_refusal}
 use Rattle.vlm_words.specs.Take.{take_change}
 use Rattle.vlm_words.specs.Asts.{later, process_after_take, processes_after_take}
-use Rattle.vlm_words.specs.Enqueue.{enq_change, enq_endings, enq_resource}
-use Rattle.vlm_words.specs.Convert.{ConversionAdmission, admission_refusal, conversion_endings, convert_admission, convert_flags_refusal, convert_blocks, convert_change, convert_lkid, convert_refusal}
+use Rattle.vlm_words.specs.Enqueue.{enq_change, enq_endings, enq_resource, enq_at_once, enq_row}
+use Rattle.vlm_words.specs.Convert.{ConversionAdmission, admission_refusal, conversion_endings, convert_admission, convert_flags_refusal, convert_blocks, convert_change, convert_lkid, convert_refusal, wanting_row}
 use Rattle.vlm_words.specs.Checks.{lock_refusal}
 use Rattle.vlm_words.specs.Steps.{node_of_pid}
-use Rattle.vlm_words.specs.Dequeue.{deq_change, deq_endings}
+use Rattle.vlm_words.specs.Dequeue.{deq_change, deq_endings, conversion_ending, dequeued_lkids, withdrawal_of, withdrawals_of}
 use Rattle.vlm_words.specs.Runs.{History, Run}
-use Rattle.vlm_words.specs.Stepped.{IsChoice, Stepped, conversion_change, refused, refused_or, step_change, step_refusal, stepped, stepped_after_sweep}
+use Rattle.vlm_words.specs.Stepped.{IsChoice, Stepped, conversion_change, refused, refused_or, step_change, step_refusal, stepped, stepped_after_sweep, end_of_processes}
 use Rattle.vlm_words.specs.Settled.{IsSettled}
 use Rattle.vlm_words.specs.Written.{BlocksAfter, IsLeftByEnds, ProcessesAfter, WritesNamedBlocks, block_named, names_block, without_notices}
 use Rattle.vlm_words.proofs.Always.{admission_of}
@@ -43,7 +43,19 @@ use Rattle.vlm_words.proofs.Passed.{test_passes}
 use Rattle.vlm_words.proofs.Processes.{kept_converted, kept_ended, kept_entered, kept_set, kept_swept, kept_taken}
 use Rattle.vlm_words.proofs.Settled.{settled_law, unswept}
 use Rattle.vlm_words.proofs.EndWrites.{block_at, block_written, many_written}
-use Rattle.vlm_words.proofs.Writing.{AreLeftByEnds, all_left, all_left_by_none, all_left_swept}
+use Rattle.vlm_words.proofs.Writing.{AreLeftByEnds, all_left, all_left_by_none, all_left_swept, IsTold}
+use Rattle.vlm_words.specs.declared.locks.Request.{Request}
+use Rattle.vlm_words.specs.Endings.How.{by_grant}
+use Rattle.vlm_words.specs.Grants.{grant_act, grant_endings}
+use Rattle.vlm_words.specs.Rows.{rows_of}
+use Rattle.vlm_words.specs.Flags.{cancel, has_flag}
+use Rattle.vlm_words.specs.Withdrawals.{Withdrawal, queue_endings, withdrawal_endings}
+use Rattle.vlm_words.specs.Rundown.{is_ended_by, is_of_node, leave_refusal, nodes_after_departure, processes_but, rundown_endings, rundown_refusal, state_after_rundown}
+use Rattle.vlm_words.proofs.Apart.{Apart, apart_always}
+use Rattle.vlm_words.proofs.Each.{each_append, each_map, each_so}
+use Rattle.vlm_words.proofs.Ended.{found_still, is_left, left_by_rundown, swept_living}
+use Rattle.vlm_words.proofs.WhoseLocks.{rundown_ends_are_theirs}
+use Rattle.vlm_words.proofs.Withdrawing.{each_end}
 
 -- ---- status blocks are numbered from 1
 
@@ -77,6 +89,7 @@ abbrev Writes : State → Step → Stepped → Type 0
 Writes s step made =
     ProcessesAfter step made.answer s.processes made.state.processes
     × ((pid : ℕ) (before : Process) → process_of s.processes pid ≡ Some before
+    → is_some (process_of made.state.processes pid) ≡ true
     → BlocksAfter step made.answer made.endings pid before.blocks (status_blocks_of made.state.processes pid))
 
 -- the blocks of a process that is there
@@ -156,22 +169,50 @@ refused_makes_nothing s (Leave node) refusal is block = refl
 refused_makes_nothing s (Search node) refusal is block = refl
 refused_makes_nothing s (Take pid) refusal is block = refl
 
-refused_leaves : (kind : Step) (refusal : Cond) (processes : List Process) → ProcessesAfter kind (Plain refusal) processes processes
-refused_leaves (Declare d) refusal processes = refl
-refused_leaves (SetValue v) refusal processes = refl
-refused_leaves (Enq e) refusal processes = refl
-refused_leaves (Convert c) refusal processes = refl
-refused_leaves (Deq d) refusal processes = refl
-refused_leaves (Rundown pid) refusal processes = refl
-refused_leaves (Leave node) refusal processes = refl
-refused_leaves (Search node) refusal processes = refl
-refused_leaves (Take pid) refusal processes = refl
+-- the end of a process, or of a node's, is never refused by NORMAL
+end_not_normal : (s : State) (pid : ℕ) (refusal : Cond) → rundown_refusal s pid ≡ Some refusal → (refusal ≡ Normal → ⊥)
+unfolding caller_refusal
+end_not_normal s pid refusal is = of_tests (has_departed s.nodes (node_of_pid pid)) (is_some (process_of s.processes pid)) is
+  where
+    of_tests : (a b : Bool) → cond a (Some Departed) (cond b None (Some Nonexpr)) ≡ Some refusal → refusal ≡ Normal → ⊥
+    of_tests true b told normal = cc
+    of_tests false true told normal = cc
+    of_tests false false told normal = cc
+
+departure_not_normal : (s : State) (node : ℕ) (refusal : Cond) → leave_refusal s node ≡ Some refusal → (refusal ≡ Normal → ⊥)
+unfolding leave_refusal
+departure_not_normal s node refusal is = of_tests (not (is_node node)) (has_departed s.nodes node) is
+  where
+    of_tests : (a b : Bool) → cond a (Some Badparam) (cond b (Some Departed) None) ≡ Some refusal → refusal ≡ Normal → ⊥
+    of_tests true b told normal = cc
+    of_tests false true told normal = cc
+    of_tests false false told normal = cc
+
+refused_leaves : (s : State) (kind : Step) (refusal : Cond) → step_refusal s kind ≡ Some refusal → (processes : List Process)
+    → ProcessesAfter kind (Plain refusal) processes processes
+refused_leaves s (Declare d) refusal is processes = refl
+refused_leaves s (SetValue v) refusal is processes = refl
+refused_leaves s (Enq e) refusal is processes = refl
+refused_leaves s (Convert c) refusal is processes = refl
+refused_leaves s (Deq d) refusal is processes = refl
+refused_leaves s (Rundown pid) refusal is processes = of_told refusal (end_not_normal s pid refusal is)
+  where
+    of_told : (told : Cond) → (told ≡ Normal → ⊥) → ProcessesAfter (Rundown pid) (Plain told) processes processes
+    of_told Normal other = absurd (other refl)
+    of_told told other = refl
+refused_leaves s (Leave node) refusal is processes = of_told refusal (departure_not_normal s node refusal is)
+  where
+    of_told : (told : Cond) → (told ≡ Normal → ⊥) → ProcessesAfter (Leave node) (Plain told) processes processes
+    of_told Normal other = absurd (other refl)
+    of_told told other = refl
+refused_leaves s (Search node) refusal is processes = refl
+refused_leaves s (Take pid) refusal is processes = refl
 
 -- a refused step
 refused_writes : (s : State) (step : Step) (refusal : Cond) → step_refusal s step ≡ Some refusal → Writes s step (refused s refusal)
 refused_writes s step refusal is = (
-  refused_leaves step refusal s.processes,
-  λ pid before there.
+  refused_leaves s step refusal is s.processes,
+  λ pid before there living.
       named_then_ended step (Plain refusal) [] pid before.blocks s.processes s.processes
       (unmade step (Plain refusal) s (refused_makes_nothing s step refusal is) pid before there) (all_left_by_none s.processes),
 )
@@ -185,7 +226,7 @@ swept_writes : (s : State) (step : Step) (change : Stepped)
     → AreLeftByEnds change.endings named change.state.processes → Writes s step (stepped_after_sweep change)
 swept_writes s step change kept named first ends = (
   kept,
-  λ pid before there.
+  λ pid before there living.
       named_then_ended step change.answer (change.endings ++ sweep_endings change.state.resources) pid before.blocks named
       (processes_after_service change.state.processes change.state.resources) (first pid before there)
       (all_left_swept change.endings named change.state.processes change.state.resources ends),
@@ -228,6 +269,44 @@ setting_writes s v choice =
     (one_named (SetValue v) (Plain Normal) s v.pid v.block (λ block. record block { value = v.value }) (λ _ _. refl) (λ _. refl))
     (all_left_by_none (set_change s v).processes)
 
+-- the process is told of a grant at once, and of what a dequeue ends
+at_once_tells : (b : Bool) (row : Row) → AllByRecursion IsTold (cond b (grant_endings true row) [])
+at_once_tells false row = tt
+at_once_tells true row = of_want row.want
+  where
+    of_want : (want : Option Request) → AllByRecursion IsTold (wanted_endings (by_grant (grant_act row.held row.want)) true row.lkid row.pid want)
+    of_want None = tt
+    of_want (Some request) = (refl, tt)
+
+rows_tell : (how : How) → is_told how ≡ true → (rows : List Row) → AllByRecursion IsTold (flat_map (row_endings how false) rows)
+rows_tell how told [] = tt
+rows_tell how told (row ∷ rows) =
+    each_append IsTold (row_endings how false row) (flat_map (row_endings how false) rows) (of_want row.want) (rows_tell how told rows)
+  where
+    of_want : (want : Option Request) → AllByRecursion IsTold (wanted_endings how false row.lkid row.pid want)
+    of_want None = tt
+    of_want (Some request) = (told, tt)
+
+lock_tells : (w : Withdrawal) → is_told w.converting ≡ true → is_told w.waiting ≡ true → (resources : List Resource)
+    → AllByRecursion IsTold (flat_map (withdrawal_endings w) resources)
+lock_tells w converting waiting [] = tt
+lock_tells w converting waiting (r ∷ rest) =
+    each_append IsTold (withdrawal_endings w r) (flat_map (withdrawal_endings w) rest)
+    (each_append IsTold (queue_endings w.converting w.lkid r.converting) (queue_endings w.waiting w.lkid r.waiting)
+    (rows_tell w.converting converting (rows_of w.lkid r.converting)) (rows_tell w.waiting waiting (rows_of w.lkid r.waiting)))
+    (lock_tells w converting waiting rest)
+
+dequeue_tells : (s : State) (d : Dequeue) → AllByRecursion IsTold (deq_endings s d)
+dequeue_tells s d =
+    each_end IsTold (withdrawals_of s d) s.resources
+    (each_map (λ lkid. ⊤) (λ w. AllByRecursion IsTold (flat_map (withdrawal_endings w) s.resources)) (withdrawal_of d)
+    (λ lkid _. lock_tells (withdrawal_of d lkid) (of_cancel (has_flag d.flags cancel)) refl s.resources) (dequeued_lkids s d)
+    (each_so (λ lkid. ⊤) (λ lkid. tt) (dequeued_lkids s d)))
+  where
+    of_cancel : (cancels : Bool) → is_told (conversion_ending cancels) ≡ true
+    of_cancel true = refl
+    of_cancel false = refl
+
 -- a new request
 request_writes : (s : State) (e : NewRequest) (choice : Option Row)
     → Writes s (Enq e) (stepped_after_sweep (step_change s (Enq e) choice))
@@ -238,7 +317,8 @@ request_writes s e choice =
     (processes_after_acceptance e.pid e.block s.next_lkid s.processes)
     (one_named (Enq e) (step_change s (Enq e) choice).answer s e.pid e.block (λ block. record block { status = 0; lkid = s.next_lkid })
     (λ _ _. refl) (λ _. refl))
-    (all_left (enq_endings s e) (blocks_with (enq_resource s e).value_block (processes_after_acceptance e.pid e.block s.next_lkid s.processes)))
+    (all_left (enq_endings s e) (blocks_with (enq_resource s e).value_block (processes_after_acceptance e.pid e.block s.next_lkid s.processes))
+    (at_once_tells (enq_at_once s e) (enq_row s e)))
 
 -- a conversion
 conversion_writes : (s : State) (c : Conversion) (a : ConversionAdmission) → Writes s (Convert c) (stepped_after_sweep (conversion_change s c (Some a)))
@@ -250,7 +330,8 @@ conversion_writes s c a =
     (processes_after_acceptance c.pid c.block lkid s.processes)
     (one_named (Convert c) (conversion_change s c (Some a)).answer s c.pid c.block (λ block. record block { status = 0; lkid = lkid })
     (λ _ _. refl) (λ _. refl))
-    (all_left (conversion_endings a) (blocks_with a.resource.value_block (processes_after_acceptance c.pid c.block lkid s.processes)))
+    (all_left (conversion_endings a) (blocks_with a.resource.value_block (processes_after_acceptance c.pid c.block lkid s.processes))
+    (at_once_tells a.at_once (wanting_row a.row a.request)))
 
 -- a dequeue
 dequeue_writes : (s : State) (d : Dequeue) (choice : Option Row) → Writes s (Deq d) (stepped_after_sweep (step_change s (Deq d) choice))
@@ -260,7 +341,29 @@ dequeue_writes s d choice =
     (kept_swept without_notices (λ _ _ _. refl) (deq_change s d).processes (deq_change s d).resources
     ∙ kept_ended without_notices (λ _ _ _. refl) (deq_endings s d) (blocks_with new_value_block s.processes))
     s.processes (unmade (Deq d) (Plain Normal) s (λ _. refl))
-    (all_left (deq_endings s d) (blocks_with new_value_block s.processes))
+    (all_left (deq_endings s d) (blocks_with new_value_block s.processes) (dequeue_tells s d))
+
+-- ends of processes
+rundown_writes : (s : State) (step : Step) (is_one : ℕ → Bool) (nodes : List Node) → Apart s
+    → ((block : Block) → block_named step (Plain Normal) block ≡ block)
+    → ((processes : List Process) → map without_notices processes ≡ map without_notices (processes_but is_one s.processes)
+    → ProcessesAfter step (Plain Normal) s.processes processes)
+    → Writes s step (stepped_after_sweep (end_of_processes is_one nodes s))
+unfolding state_after_rundown
+rundown_writes s step is_one nodes apart nothing kept =
+    let left : List Process = processes_but is_one s.processes in
+    let change : Stepped = end_of_processes is_one nodes s in
+    (
+      kept (processes_after_service left change.state.resources) (kept_swept without_notices (λ _ _ _. refl) left change.state.resources),
+      λ pid before there living.
+          let still : process_of left pid ≡ process_of s.processes pid =
+          found_still is_one pid (is_left is_one pid s.processes (sym (swept_living left change.state.resources pid) ∙ living)) s.processes in
+          named_then_ended step (Plain Normal) (rundown_endings is_one s ++ sweep_endings change.state.resources) pid before.blocks left
+          (processes_after_service left change.state.resources)
+          (unmade step (Plain Normal) (record s { processes = left }) nothing pid before (still ∙ there))
+          (all_left_swept (rundown_endings is_one s) left left change.state.resources
+          (left_by_rundown is_one (rundown_endings is_one s) (rundown_ends_are_theirs is_one s apart) s.processes)),
+    )
 
 -- a process as a take leaves it, if it is its own
 abbrev pub as_taken : Process → Bool → Process
@@ -296,20 +399,22 @@ taking_writes s taker choice =
     })
     (all_left_by_none (take_change s taker).processes)
 
-writes : (s : State) → AllByRecursion IsSettled s.resources → (step : Step) (choice : Option Row)
+writes : (s : State) → Apart s → AllByRecursion IsSettled s.resources → (step : Step) (choice : Option Row)
     → step_refusal s step ≡ None → Writes s step (stepped_after_sweep (step_change s step choice))
-writes s settled (Declare d) choice passed = declaration_writes s d choice settled
-writes s settled (SetValue v) choice passed = setting_writes s v choice
-writes s settled (Enq e) choice passed = request_writes s e choice
-writes s settled (Convert c) choice passed =
+writes s apart settled (Declare d) choice passed = declaration_writes s d choice settled
+writes s apart settled (SetValue v) choice passed = setting_writes s v choice
+writes s apart settled (Enq e) choice passed = request_writes s e choice
+writes s apart settled (Convert c) choice passed =
     let admitted = admission_of s c passed in
     subst (λ (there : Option ConversionAdmission). Writes s (Convert c) (stepped_after_sweep (conversion_change s c there))) (sym admitted.1)
     (conversion_writes s c admitted.0)
-writes s settled (Deq d) choice passed = dequeue_writes s d choice
-writes s settled (Rundown pid) choice passed = cc
-writes s settled (Leave node) choice passed = cc
-writes s settled (Search node) choice passed = cc
-writes s settled (Take pid) choice passed = taking_writes s pid choice
+writes s apart settled (Deq d) choice passed = dequeue_writes s d choice
+writes s apart settled (Rundown pid) choice passed =
+    rundown_writes s (Rundown pid) (is_ended_by pid) s.nodes apart (λ _. refl) (λ processes kept. kept)
+writes s apart settled (Leave node) choice passed =
+    rundown_writes s (Leave node) (is_of_node node) (nodes_after_departure s.nodes node) apart (λ _. refl) (λ processes kept. kept)
+writes s apart settled (Search node) choice passed = cc
+writes s apart settled (Take pid) choice passed = taking_writes s pid choice
 
 -- after every run
 pub written_always : (history : History) (old : State) → Run history old → (step : Step) (choice : Option Row) → IsChoice old step choice → WritesNamedBlocks old step choice
@@ -319,9 +424,10 @@ written_always history old run step choice chosen =
       processes = so.0;
       blocks = λ pid before after was is.
           subst (λ (blocks : List Block). BlocksAfter step (stepped old step choice).answer (stepped old step choice).endings pid before.blocks blocks)
-          (blocks_are (stepped old step choice).state.processes pid after is) (so.1 pid before was);
+          (blocks_are (stepped old step choice).state.processes pid after is)
+          (so.1 pid before was (ap (λ (found : Option Process). is_some found) is));
     }
   where
     of_refusal : (refusal : Option Cond) → step_refusal old step ≡ refusal → Writes old step (refused_or refusal old (step_change old step choice))
-    of_refusal None passed = writes old (settled_law history old run) step choice passed
+    of_refusal None passed = writes old (apart_always history old run) (settled_law history old run) step choice passed
     of_refusal (Some refusal) is = refused_writes old step refusal is

@@ -11,7 +11,7 @@ use Rattle.vlm_words.specs.declared.modes.Mode.{Mode}
 use Rattle.vlm_words.specs.Modes.{is_compatible}
 use Rattle.vlm_words.specs.Flags.{flag_bits, has_flag, syncsts}
 use Rattle.vlm_words.specs.State.{Process, Resource, process_of}
-use Rattle.vlm_words.specs.Endings.{Ending}
+use Rattle.vlm_words.specs.Endings.{Ending, is_told}
 
 -- the ASTs that are queued to a living process and not yet taken, the oldest first
 abbrev pub asts_of : List Process → ℕ → List Ast
@@ -79,9 +79,11 @@ completion_asts at_once request lkid pid =
     if is_synchronous at_once request then []
     else asts_for Completion request.completion request lkid pid
 
--- the completion AST of a request that has ended so
+-- the completion AST of a request that has ended so; a process that ends is told nothing
 abbrev pub completions : Ending → List Queued
-completions ending = completion_asts ending.at_once ending.request ending.lkid ending.pid
+completions ending =
+    if is_told ending.how then completion_asts ending.at_once ending.request ending.lkid ending.pid
+    else []
 
 -- those of requests that have ended, in the order of their ends
 abbrev pub completions_of : List Ending → List Queued

@@ -32,6 +32,10 @@ quecvt = 32
 abbrev pub enq_bits : ℕ
 enq_bits = valblk + noqueue + syncsts + system + expedite + quecvt
 
+-- all locks below a lock, or all of the caller, are given up
+abbrev pub deqall : ℕ
+deqall = 1
+
 -- a request is cancelled
 abbrev pub cancel : ℕ
 cancel = 2
@@ -42,7 +46,7 @@ invvalblk = 4
 
 -- the bits of dequeues that are built
 abbrev pub deq_bits : ℕ
-deq_bits = cancel + invvalblk
+deq_bits = deqall + cancel + invvalblk
 
 -- the flag is among the bits
 unfoldable pub has_flag : ℕ → ℕ → Bool

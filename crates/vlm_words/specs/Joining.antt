@@ -1,23 +1,32 @@
 -- How a step's own change leaves the queues: in their order, and whoever joins one stands behind it.
-use Rattle.std.specs.Prelude.{◌≡◌, ◌≤◌, ◌==◌, ◌++◌, ℕ, Bool, true, false, List, [], ◌∷◌, All, Option, length}
-use Rattle.std.specs.List.{AllZip}
+use Rattle.std.specs.Prelude.{◌≡◌, ◌≤◌, ◌/◌, ◌==◌, ◌++◌, ℕ, Bool, true, false, List, [], ◌∷◌, All, Option, length, if◌then◌else◌}
+use Rattle.std.specs.List.{AllZip, list_any}
 use Rattle.vlm_words.specs.declared.locks.Row.{Row}
 use Rattle.vlm_words.specs.declared.steps.Step.TheVariants.{Declare, SetValue, Enq, Convert, Deq, Rundown, Leave, Search, Take}
 use Rattle.vlm_words.specs.declared.steps.Step.{Step}
 use Rattle.vlm_words.specs.State.{Resource, State}
 use Rattle.vlm_words.specs.Checks.{named_lkid}
+use Rattle.vlm_words.specs.Flags.{deqall, has_flag}
+use Rattle.vlm_words.specs.OwnLocks.{has_lock_among}
 use Rattle.vlm_words.specs.Laws.{IsSameResource}
 use Rattle.vlm_words.specs.Stepped.{step_change}
 
--- the lock is one of the step's own: the one that it makes, or the one that it names
+-- a lock of this identification is one of these processes'
+abbrev pub is_lock_of_one : (ℕ → Bool) → State → ℕ → Bool
+is_lock_of_one is_one s lkid = list_any (has_lock_among is_one lkid) s.resources
+
+-- the lock is one of the step's own: the one that it makes, or the one that it names, or one of the process that gives up
+-- many or ends, or one of the node that departs
 abbrev pub is_own_lock : State → Step → ℕ → Bool
 is_own_lock s (Declare d) lkid = false
 is_own_lock s (SetValue v) lkid = false
 is_own_lock s (Enq e) lkid = lkid == s.next_lkid
 is_own_lock s (Convert c) lkid = lkid == named_lkid s c.pid c.lock
-is_own_lock s (Deq d) lkid = lkid == named_lkid s d.pid d.lock
-is_own_lock s (Rundown pid) lkid = false
-is_own_lock s (Leave node) lkid = false
+is_own_lock s (Deq d) lkid =
+    if has_flag d.flags deqall then is_lock_of_one (λ pid. pid == d.pid) s lkid
+    else lkid == named_lkid s d.pid d.lock
+is_own_lock s (Rundown process) lkid = is_lock_of_one (λ pid. pid == process) s lkid
+is_own_lock s (Leave node) lkid = is_lock_of_one (λ pid. pid / 65536 == node) s lkid
 is_own_lock s (Search node) lkid = false
 is_own_lock s (Take pid) lkid = false
 

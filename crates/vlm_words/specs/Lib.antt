@@ -24,7 +24,9 @@ pub mod Take
 pub mod Enqueue
 pub mod Convert
 pub mod Withdrawals
+pub mod OwnLocks
 pub mod Dequeue
+pub mod Rundown
 pub mod Dues
 pub mod Stepped
 pub mod Runs

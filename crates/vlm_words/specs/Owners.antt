@@ -1,5 +1,5 @@
 -- Whose requests a step ends, and whose locks leave.
-use Rattle.std.specs.Prelude.{◌≡◌, ◌≤◌, ◌+◌, ◌==◌, ◌&&◌, ℕ, All, Option, count_by, sum_by}
+use Rattle.std.specs.Prelude.{◌≡◌, ◌≤◌, ◌+◌, ◌/◌, ◌==◌, ◌&&◌, ℕ, All, Option, count_by, sum_by}
 use Rattle.vlm_words.specs.declared.locks.Row.{Row}
 use Rattle.vlm_words.specs.declared.steps.Step.TheVariants.{Declare, SetValue, Enq, Convert, Deq, Rundown, Leave, Search, Take}
 use Rattle.vlm_words.specs.declared.steps.Step.{Step}
@@ -7,7 +7,7 @@ use Rattle.vlm_words.specs.State.{Resource, State}
 use Rattle.vlm_words.specs.Laws.{IsGrant}
 use Rattle.vlm_words.specs.Stepped.{stepped}
 
--- the process is the one that makes the step
+-- the process is the one that makes the step, or one of the node that departs
 abbrev pub IsCaller : Step → ℕ → Type 0
 IsCaller (Declare d) pid = ⊥
 IsCaller (SetValue v) pid = pid ≡ v.pid
@@ -15,7 +15,7 @@ IsCaller (Enq e) pid = pid ≡ e.pid
 IsCaller (Convert c) pid = pid ≡ c.pid
 IsCaller (Deq d) pid = pid ≡ d.pid
 IsCaller (Rundown process) pid = pid ≡ process
-IsCaller (Leave node) pid = ⊥
+IsCaller (Leave node) pid = pid / 65536 ≡ node
 IsCaller (Search node) pid = ⊥
 IsCaller (Take process) pid = pid ≡ process
 

@@ -1,5 +1,5 @@
 -- Why a step is refused: the rule of each condition, in words of its own.
-use Rattle.std.specs.Prelude.{◌≡◌, ◌≢◌, ◌<◌, ◌≤◌, ◌/◌, ◌^◌, ◌⊎◌, ℕ, true, false, List, [], ◌∷◌, ◌++◌, length, sum_by, All, Any, Option, None, Some, ⊤}
+use Rattle.std.specs.Prelude.{◌≡◌, ◌≢◌, ◌<◌, ◌≤◌, ◌/◌, ◌^◌, ◌⊎◌, ℕ, true, false, List, [], ◌∷◌, ◌++◌, length, sum_by, All, Any, Option, None, Some, IsSome, ⊤}
 use Rattle.std.specs.Int.{bit_at}
 use Rattle.vlm_words.specs.declared.conditions.Cond.TheVariants.{Normal, Synch, Notqueued, Cancelgrant, Sublocks, Ivlockid, Cvtungrant, Parnotgrant, Exdepth, Exenqlm, Nolockid, Ivbuflen, Badparam, Unsupported, Nosyslck, Accvio, Nonexpr, Departed}
 use Rattle.vlm_words.specs.declared.conditions.Cond.{Cond}
@@ -19,7 +19,7 @@ use Rattle.vlm_words.specs.declared.steps.ValueSetting.{ValueSetting}
 use Rattle.vlm_words.specs.declared.steps.Which.TheVariants.{Id, Block}
 use Rattle.vlm_words.specs.declared.steps.Which.{Which}
 use Rattle.vlm_words.specs.Modes.{is_queued_legally}
-use Rattle.vlm_words.specs.Flags.{cancel, expedite, has_flag, invvalblk, noqueue, quecvt, syncsts, system, valblk}
+use Rattle.vlm_words.specs.Flags.{cancel, deqall, expedite, has_flag, invvalblk, noqueue, quecvt, syncsts, system, valblk}
 use Rattle.vlm_words.specs.State.{Process, State, node_at, process_of}
 use Rattle.vlm_words.specs.Checks.{named_lkid}
 use Rattle.vlm_words.specs.Stepped.{stepped}
@@ -31,7 +31,7 @@ request_flags = valblk ∷ noqueue ∷ syncsts ∷ system ∷ expedite ∷ quecv
 
 -- the flags of dequeues that are built
 abbrev pub dequeue_flags : List ℕ
-dequeue_flags = cancel ∷ invvalblk ∷ []
+dequeue_flags = deqall ∷ cancel ∷ invvalblk ∷ []
 
 -- some bit is set that is none of these flags'
 pub record HasUnknownBit (flags : List ℕ) (bits : ℕ) : Type 0 where
@@ -151,18 +151,27 @@ ConversionBreaks s c cond = CallerBreaks s c.pid cond
 abbrev pub named_by_dequeue : State → Dequeue → ℕ
 named_by_dequeue s d = named_lkid s d.pid d.lock
 
--- which rules a dequeue breaks: some of its arguments are bad; its lock is none of its caller's; it cancels a
--- granted lock; or it gives up one that has sublocks
+-- which rules a dequeue breaks: some of its arguments are bad; its lock is none of its caller's, where it does not ask
+-- for all of them; it cancels a granted lock; or it gives up one that has sublocks without these
 abbrev pub DequeueBreaks : State → Dequeue → Cond → Type 0
-DequeueBreaks s d Badparam = HasUnknownBit dequeue_flags d.flags
+DequeueBreaks s d Badparam =
+    HasUnknownBit dequeue_flags d.flags
+    ⊎ ((has_flag d.flags deqall ≡ true) × ((has_flag d.flags cancel ≡ true) ⊎ IsSome d.value))
 DequeueBreaks s d Accvio = IsNamedByNoBlock s d.pid d.lock
-DequeueBreaks s d Ivlockid = HasLock s d.pid (named_by_dequeue s d) → ⊥
+DequeueBreaks s d Ivlockid =
+    (has_flag d.flags deqall ≡ true → named_by_dequeue s d ≢ 0) × (HasLock s d.pid (named_by_dequeue s d) → ⊥)
 DequeueBreaks s d Cancelgrant =
     (has_flag d.flags cancel ≡ true) × IsGrantedSomewhere s d.pid (named_by_dequeue s d)
 DequeueBreaks s d Sublocks =
-    (has_flag d.flags cancel ≡ false)
+    (has_flag d.flags cancel ≡ false) × (has_flag d.flags deqall ≡ false)
     × Any (λ r. Any (λ row. row.parent ≡ named_by_dequeue s d) (r.granted ++ r.converting ++ r.waiting)) s.resources
 DequeueBreaks s d cond = CallerBreaks s d.pid cond
+
+-- which rules a departure breaks: it names no node, or one that has departed
+abbrev pub DepartureBreaks : State → ℕ → Cond → Type 0
+DepartureBreaks s node Badparam = (node ≡ 0) ⊎ (8 < node)
+DepartureBreaks s node Departed = HasDeparted s node
+DepartureBreaks s node cond = ⊥
 
 -- a kind of step that is not built breaks the rule that it be built
 abbrev pub UnbuiltBreaks : Cond → Type 0
@@ -176,8 +185,8 @@ Breaks s (SetValue v) cond = SettingBreaks s v cond
 Breaks s (Enq e) cond = RequestBreaks s e cond
 Breaks s (Convert c) cond = ConversionBreaks s c cond
 Breaks s (Deq d) cond = DequeueBreaks s d cond
-Breaks s (Rundown pid) cond = UnbuiltBreaks cond
-Breaks s (Leave node) cond = UnbuiltBreaks cond
+Breaks s (Rundown pid) cond = CallerBreaks s pid cond
+Breaks s (Leave node) cond = DepartureBreaks s node cond
 Breaks s (Search node) cond = UnbuiltBreaks cond
 Breaks s (Take pid) cond = CallerBreaks s pid cond
 
@@ -194,6 +203,8 @@ IsAcceptance (SetValue v) AtOnce (Plain Normal) = ⊤
 IsAcceptance (Enq e) AtOnce (Lock cond lkid) = IsAcceptedWith e.flags AtOnce cond
 IsAcceptance (Convert c) AtOnce (Lock cond lkid) = IsAcceptedWith c.flags AtOnce cond
 IsAcceptance (Deq d) AtOnce (Plain Normal) = ⊤
+IsAcceptance (Rundown pid) AtOnce (Plain Normal) = ⊤
+IsAcceptance (Leave node) AtOnce (Plain Normal) = ⊤
 IsAcceptance (Take pid) AtOnce (Taken ast) = ⊤
 IsAcceptance step AtOnce answer = ⊥
 

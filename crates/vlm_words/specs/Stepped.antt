@@ -1,5 +1,5 @@
 -- One step of the plain lock machine, and what else a step may come to.
-use Rattle.std.specs.Prelude.{◌≡◌, ◌⊎◌, ⊤, List, [], ◌++◌, Option, None, Some, IsSome}
+use Rattle.std.specs.Prelude.{◌≡◌, ◌⊎◌, ⊤, ℕ, Bool, List, [], ◌++◌, Option, None, Some, IsSome}
 use Rattle.std.proofs.Common.{inl, inr}
 use Rattle.vlm_words.specs.declared.conditions.Cond.TheVariants.{Normal, Badparam, Insfmem}
 use Rattle.vlm_words.specs.declared.conditions.Cond.{Cond}
@@ -9,7 +9,7 @@ use Rattle.vlm_words.specs.declared.steps.Answer.{Answer}
 use Rattle.vlm_words.specs.declared.steps.Conversion.{Conversion}
 use Rattle.vlm_words.specs.declared.steps.Step.TheVariants.{Declare, SetValue, Enq, Convert, Deq, Rundown, Leave, Search, Take}
 use Rattle.vlm_words.specs.declared.steps.Step.{Step}
-use Rattle.vlm_words.specs.State.{State}
+use Rattle.vlm_words.specs.State.{Node, State}
 use Rattle.vlm_words.specs.Endings.{Ending}
 use Rattle.vlm_words.specs.Asts.{Queued, completions_of}
 use Rattle.vlm_words.specs.Sweeps.{state_after_sweep, sweep_asts, sweep_endings}
@@ -20,6 +20,7 @@ use Rattle.vlm_words.specs.Take.{take_change, take_refusal, taken_ast}
 use Rattle.vlm_words.specs.Enqueue.{enq_at_once, enq_change, enq_endings, enq_refusal}
 use Rattle.vlm_words.specs.Convert.{ConversionAdmission, conversion_endings, convert_admission, convert_change, convert_lkid, convert_refusal}
 use Rattle.vlm_words.specs.Dequeue.{deq_change, deq_endings, deq_refusal}
+use Rattle.vlm_words.specs.Rundown.{is_ended_by, is_of_node, leave_refusal, nodes_after_departure, rundown_endings, rundown_refusal, state_after_rundown}
 
 -- what a step comes to: the state that it leaves, its answer, the requests that end in it, and the ASTs that it
 -- queues
@@ -43,6 +44,15 @@ conversion_change s c (Some a) = record {
   queued = completions_of (conversion_endings a);
 }
 
+-- the end of these processes, with what has become of the nodes
+abbrev pub end_of_processes : (ℕ → Bool) → List Node → State → Stepped
+end_of_processes is_one nodes s = record {
+  state = state_after_rundown is_one nodes s;
+  answer = Plain Normal;
+  endings = rundown_endings is_one s;
+  queued = completions_of (rundown_endings is_one s);
+}
+
 -- why the checks of a step refuse it, if they do; a kind that is not built yet is refused
 abbrev pub step_refusal : State → Step → Option Cond
 step_refusal s (Declare d) = declare_refusal s d
@@ -50,8 +60,8 @@ step_refusal s (SetValue v) = set_refusal s v
 step_refusal s (Enq e) = enq_refusal s e
 step_refusal s (Convert c) = convert_refusal s c
 step_refusal s (Deq d) = deq_refusal s d
-step_refusal s (Rundown pid) = Some Badparam
-step_refusal s (Leave node) = Some Badparam
+step_refusal s (Rundown pid) = rundown_refusal s pid
+step_refusal s (Leave node) = leave_refusal s node
 step_refusal s (Search node) = Some Badparam
 step_refusal s (Take pid) = take_refusal s pid
 
@@ -87,8 +97,9 @@ step_change s (Deq d) choice = record {
   endings = deq_endings s d;
   queued = completions_of (deq_endings s d);
 }
-step_change s (Rundown pid) choice = refused s Badparam
-step_change s (Leave node) choice = refused s Badparam
+step_change s (Rundown pid) choice = end_of_processes (is_ended_by pid) s.nodes s
+step_change s (Leave node) choice =
+    end_of_processes (is_of_node node) (nodes_after_departure s.nodes node) s
 step_change s (Search node) choice = refused s Badparam
 step_change s (Take pid) choice = record {
   state = take_change s pid;

@@ -1,15 +1,16 @@
 -- Which locks change value blocks, and to what.
-use Rattle.std.specs.Prelude.{◌≡◌, ◌≢◌, ◌⊎◌, ◌-◌, ◌++◌, ℕ, Bool, true, false, List, replicate, slice_index_or, All, Any, Option, None, Some}
+use Rattle.std.specs.Prelude.{◌≡◌, ◌≢◌, ◌⊎◌, ◌-◌, ◌/◌, ◌++◌, ℕ, Bool, true, false, List, replicate, slice_index_or, All, Any, Option, None, Some}
 use Rattle.vlm_words.specs.declared.locks.Request.{Request}
 use Rattle.vlm_words.specs.declared.locks.Row.{Row}
 use Rattle.vlm_words.specs.declared.modes.Mode.TheVariants.{Pw, Ex}
 use Rattle.vlm_words.specs.declared.modes.Mode.{Mode}
 use Rattle.vlm_words.specs.declared.resources.ValueBlock.{ValueBlock}
-use Rattle.vlm_words.specs.declared.steps.Step.TheVariants.{Convert, Deq}
+use Rattle.vlm_words.specs.declared.steps.Step.TheVariants.{Convert, Deq, Rundown, Leave}
 use Rattle.vlm_words.specs.declared.steps.Step.{Step}
 use Rattle.vlm_words.specs.Flags.{cancel, has_flag, invvalblk, valblk}
 use Rattle.vlm_words.specs.State.{Process, Resource, State, process_of}
 use Rattle.vlm_words.specs.Checks.{named_lkid}
+use Rattle.vlm_words.specs.Dequeue.{dequeued_lkids}
 use Rattle.vlm_words.specs.Written.{blank_block}
 use Rattle.vlm_words.specs.Stepped.{stepped}
 
@@ -23,15 +24,23 @@ abbrev pub WritesFrom : Option Request → Mode → Type 0
 WritesFrom None mode = ⊥
 WritesFrom (Some held) mode = ((held.mode ≡ Pw) × (mode ≢ Ex)) ⊎ (held.mode ≡ Ex)
 
+-- the lock is held on the resource at PW or EX, granted or converting
+abbrev pub IsHeldByWriter : Resource → ℕ → Type 0
+IsHeldByWriter r lkid = Any (λ row. (row.lkid ≡ lkid) × IsWriter row.held) (r.granted ++ r.converting)
+
+-- some lock of a process of which it is so is held there at PW or EX
+abbrev pub HasWriterOf : (ℕ → Type 0) → Resource → Type 0
+HasWriterOf IsOne r = Any (λ row. IsOne row.pid × IsWriter row.held) (r.granted ++ r.converting)
+
 -- the step writes the value block of the resource: by a conversion with VALBLK of a lock that is granted there and that
--- writes, or as a lock that is held there at PW or EX, granted or converting, is given up
+-- writes, or as a lock that is held there at PW or EX, granted or converting, is given up or goes with its process
 abbrev pub WritesValue : State → Step → Resource → Type 0
 WritesValue s (Convert c) r =
     (has_flag c.flags valblk ≡ true)
     × Any (λ row. (row.lkid ≡ named_lkid s c.pid c.lock) × WritesFrom row.held c.mode) r.granted
-WritesValue s (Deq d) r =
-    (has_flag d.flags cancel ≡ false)
-    × Any (λ row. (row.lkid ≡ named_lkid s d.pid d.lock) × IsWriter row.held) (r.granted ++ r.converting)
+WritesValue s (Deq d) r = (has_flag d.flags cancel ≡ false) × Any (IsHeldByWriter r) (dequeued_lkids s d)
+WritesValue s (Rundown pid) r = HasWriterOf (λ owner. owner ≡ pid) r
+WritesValue s (Leave node) r = HasWriterOf (λ owner. owner / 65536 ≡ node) r
 WritesValue s step r = ⊥
 
 -- what a lock leaves as it is given up: the value that is given, valid, or what was there; with INVVALBLK it is
@@ -48,6 +57,8 @@ abbrev pub IsWrittenValue : State → Step → ValueBlock → ValueBlock → Typ
 IsWrittenValue s (Convert c) before after = (p : Process) → process_of s.processes c.pid ≡ Some p
     → (after.value ≡ (slice_index_or p.blocks (c.block - 1) blank_block).value) × (after.valid ≡ true)
 IsWrittenValue s (Deq d) before after = LeavesValue d.value (has_flag d.flags invvalblk) before after
+IsWrittenValue s (Rundown pid) before after = LeavesValue None true before after
+IsWrittenValue s (Leave node) before after = LeavesValue None true before after
 IsWrittenValue s step before after = ⊥
 
 -- the resource was there, and its value block is as the step writes it, or as it was

@@ -1,5 +1,5 @@
 -- What a step writes into status blocks, and of which processes.
-use Rattle.std.specs.Prelude.{◌≡◌, ◌<◌, ◌+◌, ◌==◌, ◌&&◌, ◌⊎◌, ◌++◌, ℕ, Bool, false, List, [], ◌∷◌, map, length, replicate, slice_index_or, Any, Option, None, Some, if◌then◌else◌}
+use Rattle.std.specs.Prelude.{◌≡◌, ◌<◌, ◌+◌, ◌/◌, ◌==◌, ◌&&◌, not, filter, ◌⊎◌, ◌++◌, ℕ, Bool, false, List, [], ◌∷◌, map, length, replicate, slice_index_or, Any, Option, None, Some, if◌then◌else◌}
 use Rattle.vlm_words.specs.declared.blocks.Block.{Block}
 use Rattle.vlm_words.specs.declared.conditions.Cond.TheVariants.{Normal, Abort, Cancel, Valnotvalid}
 use Rattle.vlm_words.specs.declared.locks.Row.{Row}
@@ -7,12 +7,12 @@ use Rattle.vlm_words.specs.declared.modes.Act.TheVariants.{Nothing, Return, Writ
 use Rattle.vlm_words.specs.declared.steps.Answer.TheVariants.{Lock, Plain, Process as process_answer}
 use Rattle.vlm_words.specs.declared.steps.Answer.{Answer}
 use Rattle.vlm_words.specs.declared.steps.Declaration.{Declaration}
-use Rattle.vlm_words.specs.declared.steps.Step.TheVariants.{Declare, SetValue, Enq, Convert}
+use Rattle.vlm_words.specs.declared.steps.Step.TheVariants.{Declare, SetValue, Enq, Convert, Rundown, Leave}
 use Rattle.vlm_words.specs.declared.steps.Step.{Step}
 use Rattle.vlm_words.specs.Conditions.{condition_number}
 use Rattle.vlm_words.specs.State.{Process, State, process_of}
 use Rattle.vlm_words.specs.Endings.{Ending, How}
-use Rattle.vlm_words.specs.Endings.How.{by_abort, by_cancel, by_grant}
+use Rattle.vlm_words.specs.Endings.How.{by_abort, by_cancel, by_grant, by_rundown}
 use Rattle.vlm_words.specs.Stepped.{stepped}
 
 -- a status block that nothing was written to
@@ -34,11 +34,16 @@ process_asked_for pid d = record {
 abbrev pub without_notices : Process → Process
 without_notices p = record p { blocks = []; asts = [] }
 
--- an accepted declaration adds its process behind the others, and changes none; any other step leaves the processes
--- as they are, in their order, but for their status blocks and their ASTs
+-- an accepted declaration adds its process behind the others, and changes none; a rundown takes its process away, and
+-- a departure those of its node; any other step leaves the processes as they are, in their order; all but for their
+-- status blocks and their ASTs
 abbrev pub ProcessesAfter : Step → Answer → List Process → List Process → Type 0
 ProcessesAfter (Declare d) (process_answer pid) before after =
     after ≡ before ++ process_asked_for pid d ∷ []
+ProcessesAfter (Rundown pid) (Plain Normal) before after =
+    map without_notices after ≡ map without_notices (filter (λ p. not (p.pid == pid)) before)
+ProcessesAfter (Leave node) (Plain Normal) before after =
+    map without_notices after ≡ map without_notices (filter (λ p. not (p.pid / 65536 == node)) before)
 ProcessesAfter step answer before after = map without_notices after ≡ map without_notices before
 
 -- the step names the status block of this number of this process
@@ -72,7 +77,7 @@ last_end pid number (ending ∷ endings) =
     later_end (last_end pid number endings) (if is_end_for pid number ending then Some ending else None)
 
 -- the status that tells how a request ended: a grant is told by NORMAL, or by VALNOTVALID where it returns the
--- value block
+-- value block; no block of a living process tells of a rundown
 abbrev pub TellsHow : How → ℕ → Type 0
 TellsHow (by_grant Return) status =
     (status ≡ condition_number Normal) ⊎ (status ≡ condition_number Valnotvalid)
@@ -80,6 +85,7 @@ TellsHow (by_grant Nothing) status = status ≡ condition_number Normal
 TellsHow (by_grant Write) status = status ≡ condition_number Normal
 TellsHow by_abort status = status ≡ condition_number Abort
 TellsHow by_cancel status = status ≡ condition_number Cancel
+TellsHow by_rundown status = ⊥
 
 -- the status of a block tells how the last request ended that names it; where none did, it stays
 abbrev pub TellsLast : Option Ending → ℕ → ℕ → Type 0

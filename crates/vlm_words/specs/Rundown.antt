@@ -1,0 +1,72 @@
+-- The steps that end processes: the rundown of one, and the departure of a node with all that it declared.
+use Rattle.std.specs.Prelude.{ℕ, Bool, true, false, not, ◌==◌, ◌-◌, List, map, filter, slice_set, Option, None, Some, if◌then◌else◌}
+use Rattle.vlm_words.specs.declared.conditions.Cond.TheVariants.{Badparam, Departed}
+use Rattle.vlm_words.specs.declared.conditions.Cond.{Cond}
+use Rattle.vlm_words.specs.State.{Node, Process, State, node_at}
+use Rattle.vlm_words.specs.Steps.{node_of_pid}
+use Rattle.vlm_words.specs.Endings.{Ending}
+use Rattle.vlm_words.specs.Endings.How.{by_rundown}
+use Rattle.vlm_words.specs.Withdrawals.{Withdrawal, resource_after_withdrawals, withdrawn_endings}
+use Rattle.vlm_words.specs.OwnLocks.{own_lkids}
+use Rattle.vlm_words.specs.Checks.{caller_refusal, has_departed}
+use Rattle.vlm_words.specs.Declare.{is_node}
+
+-- ---- the end of processes
+
+-- what becomes of a lock whose process ends: it goes, and where it is held at PW or EX its value block is marked invalid
+abbrev pub rundown_of : ℕ → Withdrawal
+rundown_of lkid = record {
+  lkid = lkid;
+  waiting = by_rundown;
+  converting = by_rundown;
+  stays = false;
+  value = None;
+  invalidates = true;
+}
+
+-- what becomes of all locks of these processes, by rising identification
+abbrev pub rundowns : (ℕ → Bool) → State → List Withdrawal
+rundowns is_one s = map rundown_of (own_lkids is_one s)
+
+-- the requests of these processes end
+abbrev pub rundown_endings : (ℕ → Bool) → State → List Ending
+rundown_endings is_one s = withdrawn_endings (rundowns is_one s) s.resources
+
+-- the processes but for these; with them go their status blocks and their ASTs
+abbrev pub processes_but : (ℕ → Bool) → List Process → List Process
+processes_but is_one processes = filter (λ p. not (is_one p.pid)) processes
+
+-- these processes are gone, with all their locks, and this has become of the nodes
+unfoldable pub state_after_rundown : (ℕ → Bool) → List Node → State → State
+state_after_rundown is_one nodes s = record s {
+  nodes = nodes;
+  processes = processes_but is_one s.processes;
+  resources = map (resource_after_withdrawals (rundowns is_one s)) s.resources;
+}
+
+-- ---- the rundown of a process
+
+-- the check of a rundown: its process lives, on a node that has not departed
+abbrev pub rundown_refusal : State → ℕ → Option Cond
+rundown_refusal s pid = caller_refusal s pid
+
+-- the process is the one that ends
+abbrev pub is_ended_by : ℕ → ℕ → Bool
+is_ended_by pid other = other == pid
+
+-- ---- the departure of a node
+
+-- no such node, or one that has departed before
+unfoldable pub leave_refusal : State → ℕ → Option Cond
+leave_refusal s node =
+    if not (is_node node) then Some Badparam
+    else (if has_departed s.nodes node then Some Departed else None)
+
+-- the process is one of the node
+abbrev pub is_of_node : ℕ → ℕ → Bool
+is_of_node node pid = node_of_pid pid == node
+
+-- the node has departed
+abbrev pub nodes_after_departure : List Node → ℕ → List Node
+nodes_after_departure nodes node =
+    slice_set nodes (node - 1) (record (node_at nodes node) { departed = true })
