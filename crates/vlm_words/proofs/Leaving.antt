@@ -28,7 +28,7 @@ in_range n first (suc many) above below =
       | inr other ↦ rw (other.0) (in_range n (first + 1) many (omega (arith, above, other.1)) (omega (arith, below)))
     ]
 
-in_filter : (test : ℕ → Bool) (n : ℕ) → test n ≡ true → (xs : List ℕ) → list_any (λ x. n == x) xs ≡ true
+pub in_filter : (test : ℕ → Bool) (n : ℕ) → test n ≡ true → (xs : List ℕ) → list_any (λ x. n == x) xs ≡ true
     → list_any (λ x. n == x) (filter test xs) ≡ true
 in_filter test n passes [] there = cc
 in_filter test n passes (x ∷ xs) there =
@@ -56,75 +56,55 @@ is_listed is_one s apart lkid held =
 
 -- ---- rows that are gone
 
--- a row of one of the processes has a listed lock
-abbrev IsListed : (ℕ → Bool) → List Withdrawal → Row → Type 0
-IsListed is_one withdrawals row = is_one row.pid ≡ true → list_any (λ w. row.lkid == w.lkid) withdrawals ≡ true
+-- 1 for a row of which it is so
+abbrev pub so_many : (Row → Bool) → Row → ℕ
+so_many is_so row = cond (is_so row) 1 0
+
+-- a row of which it is so has a listed lock
+abbrev pub IsListed : (Row → Bool) → List Withdrawal → Row → Type 0
+IsListed is_so withdrawals row = is_so row ≡ true → list_any (λ w. row.lkid == w.lkid) withdrawals ≡ true
 
 -- all rows but those of these locks
-abbrev rows_left : List Withdrawal → List Row → List Row
+abbrev pub rows_left : List Withdrawal → List Row → List Row
 rows_left [] rows = rows
 rows_left (w ∷ withdrawals) rows = rows_left withdrawals (rows_without w.lkid rows)
 
-others_listed : (is_one : ℕ → Bool) (w : Withdrawal) (withdrawals : List Withdrawal) (rows : List Row)
-    → AllByRecursion (IsListed is_one (w ∷ withdrawals)) rows → AllByRecursion (IsListed is_one withdrawals) (rows_without w.lkid rows)
-others_listed is_one w withdrawals [] each = tt
-others_listed is_one w withdrawals (row ∷ rows) each =
-    of_test (row.lkid == w.lkid) refl (others_listed is_one w withdrawals rows each.1)
+others_listed : (is_so : Row → Bool) (w : Withdrawal) (withdrawals : List Withdrawal) (rows : List Row)
+    → AllByRecursion (IsListed is_so (w ∷ withdrawals)) rows → AllByRecursion (IsListed is_so withdrawals) (rows_without w.lkid rows)
+others_listed is_so w withdrawals [] each = tt
+others_listed is_so w withdrawals (row ∷ rows) each =
+    of_test (row.lkid == w.lkid) refl (others_listed is_so w withdrawals rows each.1)
   where
-    of_test : (b : Bool) → (row.lkid == w.lkid) ≡ b → AllByRecursion (IsListed is_one withdrawals) (rows_without w.lkid rows)
-        → AllByRecursion (IsListed is_one withdrawals) (cond (not b) (row ∷ rows_without w.lkid rows) (rows_without w.lkid rows))
+    of_test : (b : Bool) → (row.lkid == w.lkid) ≡ b → AllByRecursion (IsListed is_so withdrawals) (rows_without w.lkid rows)
+        → AllByRecursion (IsListed is_so withdrawals) (cond (not b) (row ∷ rows_without w.lkid rows) (rows_without w.lkid rows))
     of_test true here behind = behind
     of_test false other behind =
-        (λ theirs. subst (λ (b : Bool). (b || list_any (λ v. row.lkid == v.lkid) withdrawals) ≡ true) other (each.0 theirs), behind)
+        (λ so. subst (λ (b : Bool). (b || list_any (λ v. row.lkid == v.lkid) withdrawals) ≡ true) other (each.0 so), behind)
 
-none_left : (is_one : ℕ → Bool) (pid : ℕ) → is_one pid ≡ true → (withdrawals : List Withdrawal) (rows : List Row)
-    → AllByRecursion (IsListed is_one withdrawals) rows → sum_by (owned pid) (rows_left withdrawals rows) ≡ 0
-none_left is_one pid ends [] rows listed =
-    sum_of_zeros (owned pid) rows (each_weaker (IsListed is_one []) (λ row. owned pid row ≡ 0) none rows listed)
+none_left : (is_so : Row → Bool) (withdrawals : List Withdrawal) (rows : List Row)
+    → AllByRecursion (IsListed is_so withdrawals) rows → sum_by (so_many is_so) (rows_left withdrawals rows) ≡ 0
+none_left is_so [] rows listed =
+    sum_of_zeros (so_many is_so) rows (each_weaker (IsListed is_so []) (λ row. so_many is_so row ≡ 0) (λ row none. of_test (is_so row) none) rows listed)
   where
-    no : false ≡ true → ⊥
-    no e = cc
-
-    none : (row : Row) → IsListed is_one [] row → owned pid row ≡ 0
-    none row theirs =
-        elim (eqb_tells row.pid pid) [
-          | inl same ↦ absurd (no (theirs (ap is_one same.1 ∙ ends)))
-          | inr other ↦ rw (other.0) refl
-        ]
-none_left is_one pid ends (w ∷ withdrawals) rows listed =
-    none_left is_one pid ends withdrawals (rows_without w.lkid rows) (others_listed is_one w withdrawals rows listed)
+    of_test : (b : Bool) → (b ≡ true → false ≡ true) → cond {A = ℕ} b 1 0 ≡ 0
+    of_test true none = let no : false ≡ true = none refl in cc
+    of_test false none = refl
+none_left is_so (w ∷ withdrawals) rows listed =
+    none_left is_so withdrawals (rows_without w.lkid rows) (others_listed is_so w withdrawals rows listed)
 
 -- ---- resources
 
 -- all locks that are withdrawn go
-abbrev AllGo : List Withdrawal → Type 0
+abbrev pub AllGo : List Withdrawal → Type 0
 AllGo = AllByRecursion (λ w. w.stays ≡ false)
 
--- the rows that are left in the three queues
-left_weigh : (f : Row → ℕ) (withdrawals : List Withdrawal) → AllGo withdrawals → (r : Resource)
-    → weigh f (resource_after_each resource_after_going withdrawals r)
-    ≡ sum_by f (rows_left withdrawals r.granted) + sum_by f (rows_left withdrawals r.converting) + sum_by f (rows_left withdrawals r.waiting)
-unfolding resource_without
-left_weigh f [] go r = refl
-left_weigh f (w ∷ withdrawals) go r =
-    let gone : resource_after_going w r ≡ resource_without w.lkid r =
-    ap (λ (b : Bool). cond b (resource_after_cancel w.lkid r) (resource_without w.lkid r)) go.0 in
-    ap (λ (left : Resource). weigh f (resource_after_each resource_after_going withdrawals left)) gone
-    ∙ left_weigh f withdrawals go.1 (resource_without w.lkid r)
-
--- all rows of these processes on the resource have listed locks
-record AllListed (is_one : ℕ → Bool) (withdrawals : List Withdrawal) (r : Resource) : Type 0 where
-  granted : AllByRecursion (IsListed is_one withdrawals) r.granted
-  converting : AllByRecursion (IsListed is_one withdrawals) r.converting
-  waiting : AllByRecursion (IsListed is_one withdrawals) r.waiting
-
 -- what is left in a value block leaves the queues
-record KeepsRows (before after : Resource) : Type 0 where
-  granted : after.granted ≡ before.granted
-  converting : after.converting ≡ before.converting
-  waiting : after.waiting ≡ before.waiting
+pub record KeepsRows (before after : Resource) : Type 0 where
+  pub granted : after.granted ≡ before.granted
+  pub converting : after.converting ≡ before.converting
+  pub waiting : after.waiting ≡ before.waiting
 
-writers_keep_rows : (withdrawals : List Withdrawal) (r : Resource) → KeepsRows r (resource_after_each resource_after_writer withdrawals r)
+pub writers_keep_rows : (withdrawals : List Withdrawal) (r : Resource) → KeepsRows r (resource_after_each resource_after_writer withdrawals r)
 writers_keep_rows [] r = record { granted = refl; converting = refl; waiting = refl }
 writers_keep_rows (w ∷ withdrawals) r =
     of_test (is_held_by_writer w.lkid r) (writers_keep_rows withdrawals (record r { value_block = value_block_after_writer w r.value_block }))
@@ -138,42 +118,110 @@ writers_keep_rows (w ∷ withdrawals) r =
     of_test true written kept = record { granted = written.granted; converting = written.converting; waiting = written.waiting }
     of_test false written kept = kept
 
-no_lock_here : (is_one : ℕ → Bool) (pid : ℕ) → is_one pid ≡ true → (withdrawals : List Withdrawal) → AllGo withdrawals
-    → (r : Resource) → AllListed is_one withdrawals r → weigh (owned pid) (resource_after_withdrawals withdrawals r) ≡ 0
-no_lock_here is_one pid ends withdrawals go r listed =
-    let rows = writers_keep_rows withdrawals r in
+-- the rows of each queue that are left
+pub record RowsLeft (withdrawals : List Withdrawal) (before after : Resource) : Type 0 where
+  pub granted : after.granted ≡ rows_left withdrawals before.granted
+  pub converting : after.converting ≡ rows_left withdrawals before.converting
+  pub waiting : after.waiting ≡ rows_left withdrawals before.waiting
+
+left_by_going : (withdrawals : List Withdrawal) → AllGo withdrawals → (r : Resource)
+    → RowsLeft withdrawals r (resource_after_each resource_after_going withdrawals r)
+unfolding resource_without
+left_by_going [] go r = record { granted = refl; converting = refl; waiting = refl }
+left_by_going (w ∷ withdrawals) go r =
+    subst (λ (b : Bool). RowsLeft (w ∷ withdrawals) r
+    (resource_after_each resource_after_going withdrawals (cond b (resource_after_cancel w.lkid r) (resource_without w.lkid r)))) (sym go.0)
+    (let behind = left_by_going withdrawals go.1 (resource_without w.lkid r) in
+    record { granted = behind.granted; converting = behind.converting; waiting = behind.waiting })
+
+pub rows_left_behind : (withdrawals : List Withdrawal) → AllGo withdrawals → (r : Resource)
+    → RowsLeft withdrawals r (resource_after_withdrawals withdrawals r)
+rows_left_behind withdrawals go r =
+    let kept = writers_keep_rows withdrawals r in
+    let left = left_by_going withdrawals go (resource_after_each resource_after_writer withdrawals r) in
+    record {
+      granted = left.granted ∙ ap (rows_left withdrawals) kept.granted;
+      converting = left.converting ∙ ap (rows_left withdrawals) kept.converting;
+      waiting = left.waiting ∙ ap (rows_left withdrawals) kept.waiting;
+    }
+
+-- all rows of the resource of which it is so have listed locks
+pub record AllListed (is_so : Row → Bool) (withdrawals : List Withdrawal) (r : Resource) : Type 0 where
+  pub granted : AllByRecursion (IsListed is_so withdrawals) r.granted
+  pub converting : AllByRecursion (IsListed is_so withdrawals) r.converting
+  pub waiting : AllByRecursion (IsListed is_so withdrawals) r.waiting
+
+-- no such row is left on the resource
+pub none_left_here : (is_so : Row → Bool) (withdrawals : List Withdrawal) → AllGo withdrawals
+    → (r : Resource) → AllListed is_so withdrawals r → weigh (so_many is_so) (resource_after_withdrawals withdrawals r) ≡ 0
+none_left_here is_so withdrawals go r listed =
+    let left = rows_left_behind withdrawals go r in
     omega (
       arith,
-      left_weigh (owned pid) withdrawals go (resource_after_each resource_after_writer withdrawals r),
-      ap (λ (queue : List Row). sum_by (owned pid) (rows_left withdrawals queue)) rows.granted,
-      ap (λ (queue : List Row). sum_by (owned pid) (rows_left withdrawals queue)) rows.converting,
-      ap (λ (queue : List Row). sum_by (owned pid) (rows_left withdrawals queue)) rows.waiting,
-      none_left is_one pid ends withdrawals r.granted listed.granted,
-      none_left is_one pid ends withdrawals r.converting listed.converting,
-      none_left is_one pid ends withdrawals r.waiting listed.waiting,
+      ap (sum_by (so_many is_so)) left.granted,
+      ap (sum_by (so_many is_so)) left.converting,
+      ap (sum_by (so_many is_so)) left.waiting,
+      none_left is_so withdrawals r.granted listed.granted,
+      none_left is_so withdrawals r.converting listed.converting,
+      none_left is_so withdrawals r.waiting listed.waiting,
     )
 
-no_lock_is_left : (is_one : ℕ → Bool) (pid : ℕ) → is_one pid ≡ true → (withdrawals : List Withdrawal) → AllGo withdrawals
-    → (resources : List Resource) → AllByRecursion (AllListed is_one withdrawals) resources
-    → owning pid (map (resource_after_withdrawals withdrawals) resources) ≡ 0
-no_lock_is_left is_one pid ends withdrawals go [] listed = refl
-no_lock_is_left is_one pid ends withdrawals go (r ∷ rest) listed =
+none_left_at_all : (is_so : Row → Bool) (withdrawals : List Withdrawal) → AllGo withdrawals
+    → (resources : List Resource) → AllByRecursion (AllListed is_so withdrawals) resources
+    → sum_by (weigh (so_many is_so)) (map (resource_after_withdrawals withdrawals) resources) ≡ 0
+none_left_at_all is_so withdrawals go [] listed = refl
+none_left_at_all is_so withdrawals go (r ∷ rest) listed =
     omega (
       arith,
-      sum_by-cons (weigh (owned pid)) (resource_after_withdrawals withdrawals r) (map (resource_after_withdrawals withdrawals) rest),
-      no_lock_is_left is_one pid ends withdrawals go rest listed.1,
-      no_lock_here is_one pid ends withdrawals go r listed.0,
+      sum_by-cons (weigh (so_many is_so)) (resource_after_withdrawals withdrawals r) (map (resource_after_withdrawals withdrawals) rest),
+      none_left_at_all is_so withdrawals go rest listed.1,
+      none_left_here is_so withdrawals go r listed.0,
     )
 
 -- ---- the processes that end
 
-listed_as : (lkid : ℕ) (lkids : List ℕ) → list_any (λ w. lkid == w.lkid) (map rundown_of lkids) ≡ list_any (λ n. lkid == n) lkids
+pub listed_as : (lkid : ℕ) (lkids : List ℕ) → list_any (λ w. lkid == w.lkid) (map rundown_of lkids) ≡ list_any (λ n. lkid == n) lkids
 listed_as lkid [] = refl
 listed_as lkid (n ∷ lkids) = ap (λ (b : Bool). (lkid == n) || b) (listed_as lkid lkids)
 
-all_go : (lkids : List ℕ) → AllGo (map rundown_of lkids)
+pub all_go : (lkids : List ℕ) → AllGo (map rundown_of lkids)
 all_go [] = tt
 all_go (lkid ∷ lkids) = (refl, all_go lkids)
+
+-- a row of a process that ends is one of theirs
+owned_less : (is_one : ℕ → Bool) (pid : ℕ) → is_one pid ≡ true → (rows : List Row)
+    → sum_by (owned pid) rows ≤ sum_by (so_many (λ row. is_one row.pid)) rows
+owned_less is_one pid ends [] = omega arith
+owned_less is_one pid ends (row ∷ rows) =
+    omega (
+      arith,
+      owned_less is_one pid ends rows,
+      of_row (row.pid == pid) refl,
+      sum_by-cons (owned pid) row rows,
+      sum_by-cons (so_many (λ row. is_one row.pid)) row rows,
+    )
+  where
+    of_row : (b : Bool) → (row.pid == pid) ≡ b → cond {A = ℕ} b 1 0 ≤ cond (is_one row.pid) 1 0
+    of_row true is = rw (ap is_one (eqb-true row.pid pid is) ∙ ends) (omega arith)
+    of_row false is = omega arith
+
+all_owned_less : (is_one : ℕ → Bool) (pid : ℕ) → is_one pid ≡ true → (resources : List Resource)
+    → owning pid resources ≤ sum_by (weigh (so_many (λ row. is_one row.pid))) resources
+all_owned_less is_one pid ends [] = omega arith
+all_owned_less is_one pid ends (r ∷ rest) =
+    omega (
+      arith,
+      all_owned_less is_one pid ends rest,
+      owned_less is_one pid ends r.granted,
+      owned_less is_one pid ends r.converting,
+      owned_less is_one pid ends r.waiting,
+      sum_by-cons (weigh (owned pid)) r rest,
+      sum_by-cons (weigh (so_many (λ row. is_one row.pid))) r rest,
+    )
+
+-- the row is of one of the processes
+abbrev is_theirs : (ℕ → Bool) → Row → Bool
+is_theirs is_one row = is_one row.pid
 
 module _ (is_one : ℕ → Bool) (s : State) (apart : Apart s) where
   -- a row of a queue of a resource
@@ -193,12 +241,12 @@ module _ (is_one : ℕ → Bool) (s : State) (apart : Apart s) where
 
   queue_listed : (r : Resource) → Any (λ x. r ≡ x) s.resources → (rows all : List Row)
       → ((lkid : ℕ) → list_any (is_lock_among is_one lkid) all ≡ true → has_lock_among is_one lkid r ≡ true)
-      → AllByRecursion (λ row. Any (λ y. row ≡ y) all) rows → AllByRecursion (IsListed is_one (rundowns is_one s)) rows
+      → AllByRecursion (λ row. Any (λ y. row ≡ y) all) rows → AllByRecursion (IsListed (is_theirs is_one) (rundowns is_one s)) rows
   queue_listed r among rows all holds each =
-      each_weaker (λ row. Any (λ y. row ≡ y) all) (IsListed is_one (rundowns is_one s))
+      each_weaker (λ row. Any (λ y. row ≡ y) all) (IsListed (is_theirs is_one) (rundowns is_one s))
       (λ row there theirs. listed_as row.lkid (own_lkids is_one s) ∙ row_listed r among row.lkid (holds row.lkid (row_found row all there theirs))) rows each
 
-  resource_listed : (r : Resource) → Any (λ x. r ≡ x) s.resources → AllListed is_one (rundowns is_one s) r
+  resource_listed : (r : Resource) → Any (λ x. r ≡ x) s.resources → AllListed (is_theirs is_one) (rundowns is_one s) r
   resource_listed r among = record {
     granted = queue_listed r among r.granted r.granted (λ lkid held. rw held refl) (each_member r.granted);
     converting = queue_listed r among r.converting r.converting
@@ -217,8 +265,12 @@ module _ (is_one : ℕ → Bool) (s : State) (apart : Apart s) where
       third_of false true is = refl
       third_of a false is = cc
 
-  -- of a process that ends no lock is left
+  -- of processes that end no lock is left
+  none_of_theirs : sum_by (weigh (so_many (is_theirs is_one))) (map (resource_after_withdrawals (rundowns is_one s)) s.resources) ≡ 0
+  none_of_theirs =
+      none_left_at_all (is_theirs is_one) (rundowns is_one s) (all_go (own_lkids is_one s)) s.resources
+      (each_weaker (λ r. Any (λ x. r ≡ x) s.resources) (AllListed (is_theirs is_one) (rundowns is_one s)) resource_listed s.resources (each_member s.resources))
+
   pub no_lock_left : (pid : ℕ) → is_one pid ≡ true → owning pid (map (resource_after_withdrawals (rundowns is_one s)) s.resources) ≡ 0
   no_lock_left pid ends =
-      no_lock_is_left is_one pid ends (rundowns is_one s) (all_go (own_lkids is_one s)) s.resources
-      (each_weaker (λ r. Any (λ x. r ≡ x) s.resources) (AllListed is_one (rundowns is_one s)) resource_listed s.resources (each_member s.resources))
+      omega (arith, none_of_theirs, all_owned_less is_one pid ends (map (resource_after_withdrawals (rundowns is_one s)) s.resources))

@@ -2,7 +2,7 @@
 use Rattle.std.proofs.Common.{◌≡◌, ◌⊎◌, ℕ, Bool, true, false, not, List, [], ◌∷◌, ◌++◌, map, cond, Option, None, Some, refl, sym, subst, ap, ◌∙◌, inl, inr, arith}
 use Rattle.std.specs.Prelude.{◌==◌, ◌&&◌, ◌||◌, Any, is_some, unwrap_or}
 use Rattle.std.specs.List.{AllByRecursion, list_any, sum_by}
-use Rattle.std.proofs.lemmas.Bool.{cond_both, eq-eqb, eqb-true, or_cases}
+use Rattle.std.proofs.lemmas.Bool.{cond_both, eq-eqb, eqb-true, or_cases, or_right}
 use Rattle.std.proofs.lemmas.List.Folds.{list_any-append}
 use Rattle.std.proofs.lemmas.List.Sums.{sum_by-cons}
 use Rattle.vlm_words.specs.declared.locks.Row.{Row}
@@ -28,7 +28,7 @@ any_so C (x ∷ xs) some = elim (Any-cases (λ y. C) x xs some) [
 ]
 
 -- some element, which is one of the list
-any_with_member : {X : Type 0} (P : X → Type 0) (xs : List X) → Any P xs → Any (λ x. P x × Any (λ y. x ≡ y) xs) xs
+pub any_with_member : {X : Type 0} (P : X → Type 0) (xs : List X) → Any P xs → Any (λ x. P x × Any (λ y. x ≡ y) xs) xs
 any_with_member P [] some = absurd (Any-none P some)
 any_with_member P (x ∷ xs) some = elim (Any-cases P x xs some) [
   | inl here ↦ Any-here (λ z. P z × Any (λ y. z ≡ y) (x ∷ xs)) x xs (here, Any-here (λ y. x ≡ y) x xs refl)
@@ -39,7 +39,7 @@ any_with_member P (x ∷ xs) some = elim (Any-cases P x xs some) [
 ]
 
 -- some element, of which too is so what is of all
-any_and_each : {X : Type 0} (P Q : X → Type 0) (xs : List X) → AllByRecursion Q xs → Any P xs → Any (λ x. P x × Q x) xs
+pub any_and_each : {X : Type 0} (P Q : X → Type 0) (xs : List X) → AllByRecursion Q xs → Any P xs → Any (λ x. P x × Q x) xs
 any_and_each P Q [] each some = absurd (Any-none P some)
 any_and_each P Q (x ∷ xs) each some = elim (Any-cases P x xs some) [
   | inl here ↦ Any-here (λ z. P z × Q z) x xs (here, each.0)
@@ -53,10 +53,6 @@ any_by test m passes (x ∷ xs) there = elim (or_cases (m == x) (list_any (λ n.
   | inl here ↦ (let so : test x ≡ true = sym (ap test (eqb-true m x here)) ∙ passes in rw so refl)
   | inr later ↦ or_right (test x) (list_any test xs) (any_by test m passes xs later)
 ]
-  where
-    or_right : (a b : Bool) → b ≡ true → (a || b) ≡ true
-    or_right true b is = refl
-    or_right false b is = is
 
 -- ---- the value block
 
@@ -137,7 +133,7 @@ lkids_of_writers f named (lkid ∷ lkids) r = rw (named lkid, lkids_of_writers f
 no_stranger : (is_one : ℕ → Bool) (lkid : ℕ) (row : Row) → strangers is_one lkid row ≡ 0 → row.lkid ≡ lkid → is_one row.pid ≡ true
 no_stranger is_one lkid row none same = of_tests (row.lkid == lkid) (is_one row.pid) (eq-eqb row.lkid lkid same) none
   where
-    of_tests : (a b : Bool) → a ≡ true → cond (a && not b) 1 0 ≡ 0 → b ≡ true
+    of_tests : (a b : Bool) → a ≡ true → cond {A = ℕ} (a && not b) 1 0 ≡ 0 → b ≡ true
     of_tests a true is none = refl
     of_tests true false is none = cc
     of_tests false false is none = cc

@@ -32,6 +32,8 @@ pub mod Quotas
 pub mod Holdings
 pub mod Rooted
 pub mod NewlyRooted
+pub mod Below
+pub mod Closed
 pub mod Trees
 pub mod WhoseLocks
 pub mod Owners

@@ -48,7 +48,7 @@ use Rattle.vlm_words.proofs.Passed.{test_passes}
 use Rattle.vlm_words.proofs.Sums.{sum_changed-le, sum_of_zero}
 use Rattle.vlm_words.proofs.Weights.{entered_among_weighs, weigh}
 use Rattle.vlm_words.proofs.Together.{OfOneEach, all_one_after_another, dequeues_apart, rundowns_apart}
-use Rattle.vlm_words.proofs.WhoseLocks.{IsTheirs, NoStrangers, none_strange, own_are_theirs, rundown_ends_are_theirs, rundowns_are_theirs, strangers, withdrawn_are_theirs}
+use Rattle.vlm_words.proofs.WhoseLocks.{IsTheirs, NoStrangers, none_strange, own_are_theirs, rundown_ends_are_theirs, rundowns_are_theirs, strangers, withdrawn_are_theirs, all_anothers}
 
 -- ---- whose locks a dequeue takes
 
@@ -130,34 +130,6 @@ all_converted_keep pid lkid owner other request at_once block (r ∷ rest) one =
       all_converted_keep pid lkid owner other request at_once block rest (omega (arith, one, both)),
       sum_by-cons (weigh (locks pid lkid)) r rest,
       sum_by-cons (weigh (locks pid lkid)) (resource_after_conversion request at_once owner other block r) (map (resource_after_conversion request at_once owner other block) rest),
-    )
-
--- a row of a lock of another process is a stranger's
-anothers : (is_one : ℕ → Bool) (pid lkid : ℕ) → is_one pid ≡ false → (row : Row) → locks pid lkid row ≤ strangers is_one lkid row
-anothers is_one pid lkid differs row =
-    elim (eqb_tells row.pid pid) [
-      | inl same ↦ rw (same.0, ap is_one same.1 ∙ differs) (of_tests (row.lkid == lkid))
-      | inr other ↦ rw (other.0) (of_none (row.lkid == lkid) (not (is_one row.pid)))
-    ]
-  where
-    of_tests : (a : Bool) → cond (a && true) 1 0 ≤ cond (a && true) 1 0
-    of_tests a = omega arith
-
-    of_none : (a b : Bool) → cond (a && false) 1 0 ≤ cond (a && b) 1 0
-    of_none true true = omega arith
-    of_none true false = omega arith
-    of_none false b = omega arith
-
-all_anothers : (is_one : ℕ → Bool) (pid lkid : ℕ) → is_one pid ≡ false → (rows : List Row)
-    → sum_by (locks pid lkid) rows ≤ sum_by (strangers is_one lkid) rows
-all_anothers is_one pid lkid differs [] = omega arith
-all_anothers is_one pid lkid differs (row ∷ rows) =
-    omega (
-      arith,
-      anothers is_one pid lkid differs row,
-      all_anothers is_one pid lkid differs rows,
-      sum_by-cons (locks pid lkid) row rows,
-      sum_by-cons (strangers is_one lkid) row rows,
     )
 
 -- a withdrawal takes no row of another identification away

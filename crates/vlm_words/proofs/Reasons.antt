@@ -1,6 +1,6 @@
 -- After every run a step breaks no rule and is accepted, or is refused with the condition of a rule that it breaks.
 use Rattle.std.proofs.Common.{◌≡◌, ◌<◌, ◌⊎◌, ◌&&◌, ℕ, Bool, true, false, not, cond, ◌++◌, Option, None, Some, inl, inr, refl, sym, ap, subst, ◌∙◌, arith}
-use Rattle.std.specs.Prelude.{◌==◌, Any, nat_le, nat_lt, is_some, IsSome}
+use Rattle.std.specs.Prelude.{◌==◌, Any, nat_le, nat_lt, is_some, IsSome, ◌||◌}
 use Rattle.std.specs.List.{list_any}
 use Rattle.std.proofs.lemmas.Bool.{and_cases, and_parts, eq-eqb, eqb-true, not-true, eqb-false}
 use Rattle.std.proofs.lemmas.Bool.Decides.{nat_tests}
@@ -32,7 +32,7 @@ use Rattle.vlm_words.proofs.ReasonsOfRequests.{request_breaks, request_keeps}
 use Rattle.vlm_words.proofs.Passed.{both_pass, second_fails, test_fails, test_passes}
 use Rattle.vlm_words.proofs.Acceptances.{IsAnswered, conversion_answers, request_answers}
 use Rattle.vlm_words.proofs.FlagBits.{dequeue_known, dequeue_unknown}
-use Rattle.vlm_words.proofs.Refusals.{IsCaller, Says, any_resource, block_passes, caller_passes, granted_nowhere, granted_somewhere, is_somebody, lock_passes, no_resource, node_departed, over_queues, says_block, says_caller, says_departed, says_either, says_lock, says_some, says_unless, says_where, says_which, which_passes}
+use Rattle.vlm_words.proofs.Refusals.{IsCaller, Says, any_resource, block_passes, caller_passes, granted_nowhere, granted_somewhere, is_somebody, lock_passes, no_resource, node_departed, over_queues, says_block, says_caller, says_departed, says_either, says_lock, says_some, says_unless, says_where, says_which, which_passes, says_none}
 use Rattle.vlm_words.specs.Rundown.{leave_refusal}
 
 -- ---- what every caller breaks
@@ -160,16 +160,14 @@ flags_pass s d passes (inl unknown) = dequeue_known d.flags (and_parts (is_known
 flags_pass s d passes (inr mixed) = of_mixed (and_parts (is_known deq_bits d.flags) (not (is_mixed d)) passes).1 mixed.0 mixed.1
   where
     both : (all cancels given : Bool) → not (all && (cancels || given)) ≡ true → all ≡ true → (cancels ≡ true) ⊎ (given ≡ true) → ⊥
-    both true true given no is (inl one) = cc
-    both true false true no is (inr other) = cc
-    both true true given no is (inr other) = cc
-    both true false true no is (inl one) = cc
-    both true false false no is (inl one) = cc
-    both true false false no is (inr other) = cc
-    both false cancels given no is one = cc
+    both true true given none is some = cc
+    both true false true none is some = cc
+    both true false false none is (inl first) = cc
+    both true false false none is (inr second) = cc
+    both false cancels given none is some = cc
 
     of_mixed : not (is_mixed d) ≡ true → has_flag d.flags deqall ≡ true → (has_flag d.flags cancel ≡ true) ⊎ IsSome d.value → ⊥
-    of_mixed no all one = both (has_flag d.flags deqall) (has_flag d.flags cancel) (is_some d.value) no all one
+    of_mixed none all some = both (has_flag d.flags deqall) (has_flag d.flags cancel) (is_some d.value) none all some
 
 -- a lock that is not the caller's is refused, where one is named
 says_dequeued_lock : (s : State) (d : Dequeue) → Says (DequeueBreaks s d) (dequeued_lock_refusal s d)
@@ -263,7 +261,7 @@ dequeue_keeps s d passed =
         no_resource (λ r. Any (λ row. row.parent ≡ dequeue_lkid s d) (r.granted ++ r.converting ++ r.waiting)) (has_sublock_on (dequeue_lkid s d))
         (on_sublock (dequeue_lkid s d)) s.resources
         (second_fails (not (leaves_none d)) (list_any (has_sublock_on (dequeue_lkid s d)) s.resources) gives
-        (none_left (has_flag d.flags cancel) (has_flag d.flags deqall) broken.0 broken.1.0)) broken.1.1
+        (none_left (has_flag d.flags cancel) (has_flag d.flags deqall) broken.0 broken.1)) broken.2
     of_cond caller known which lock cancels gives Departed broken = caller.stays broken
     of_cond caller known which lock cancels gives Nonexpr broken = is_somebody s d.pid caller broken
     of_cond caller known which lock cancels gives c broken = broken

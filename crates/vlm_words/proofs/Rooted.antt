@@ -210,28 +210,28 @@ loose_or_orphaned old new p orphaned row stays =
     at_most true = omega arith
     at_most false = omega arith
 
--- a change of each resource keeps each row's parent, where it leaves its place, adds no row, and takes no parent
+-- a change of each resource keeps each row's parent, where it leaves its place, adds no row, and takes no parent of a row
+-- that it leaves
 pub rooted_mapped : (f : Resource → Resource) → KeepsPlace f → ((g : Row → ℕ) → IsByName g → (r : Resource) → weigh g (f r) ≤ weigh g r)
     → (orphaned : Row → Bool) → (resources : List Resource)
     → ((p : Position) (row : Row) → orphaned row ≡ false → list_any (is_up p row.pid row.parent) resources ≡ true
     → list_any (is_up p row.pid row.parent) (map f resources) ≡ true)
-    → AllByRecursion (NoneOrphaned orphaned) resources → AllByRecursion (AllRooted resources) resources
+    → AllByRecursion (λ r. NoneOrphaned orphaned (f r)) resources → AllByRecursion (AllRooted resources) resources
     → AllByRecursion (AllRooted (map f resources)) (map f resources)
 rooted_mapped f keeps fewer orphaned resources stays none rooted = each_changed resources none rooted
   where
-    each_changed : (rs : List Resource) → AllByRecursion (NoneOrphaned orphaned) rs → AllByRecursion (AllRooted resources) rs
+    each_changed : (rs : List Resource) → AllByRecursion (λ r. NoneOrphaned orphaned (f r)) rs → AllByRecursion (AllRooted resources) rs
         → AllByRecursion (AllRooted (map f resources)) (map f rs)
     each_changed [] orphans each = tt
-    each_changed (r ∷ rest) orphans each =
-        let still : AllRooted (map f resources) r =
-        omega (
-          arith,
-          each.0,
-          orphans.0,
-          weigh_le_both (loose (map f resources) (position r)) (loose resources (position r)) (λ row. cond (orphaned row) 1 0)
-              (λ row. loose_or_orphaned resources (map f resources) (position r) orphaned row (stays (position r) row)) r,
-        ) in (
-          rooted_changed (map f resources) f keeps r
-              (fewer (loose (map f resources) (position r)) (loose_named (map f resources) (position r)) r) still,
-          each_changed rest orphans.1 each.1,
-        )
+    each_changed (r ∷ rest) orphans each = (
+      subst (λ (p : Position). weigh (loose (map f resources) p) (f r) ≡ 0) (sym (same_position r (f r) (keeps r)))
+          (omega (
+            arith,
+            each.0,
+            orphans.0,
+            fewer (loose resources (position r)) (loose_named resources (position r)) r,
+            weigh_le_both (loose (map f resources) (position r)) (loose resources (position r)) (λ row. cond (orphaned row) 1 0)
+                (λ row. loose_or_orphaned resources (map f resources) (position r) orphaned row (stays (position r) row)) (f r),
+          )),
+      each_changed rest orphans.1 each.1,
+    )

@@ -172,7 +172,7 @@ others_end_same w (v ∷ withdrawals) apart resources =
 
 -- ---- each lock once
 
-from_on : (first many : ℕ) → AllByRecursion (λ n. first ≤ n) (range_with_len first many)
+pub from_on : (first many : ℕ) → AllByRecursion (λ n. first ≤ n) (range_with_len first many)
 from_on first zero = tt
 from_on first (suc many) = (omega arith, each_weaker (λ n. first + 1 ≤ n) (λ n. first ≤ n) (λ n above. omega (arith, above)) (range_with_len (first + 1) many) (from_on (first + 1) many))
 

@@ -1,7 +1,7 @@
 -- After every step each lock of a sub-resource has its parent, and each sub-resource stands below its parent resource.
-use Rattle.std.proofs.Common.{◌≡◌, ◌≢◌, ◌≤◌, ◌<◌, ◌+◌, inl, inr, ℕ, Bool, true, false, not, ◌&&◌, ◌||◌, List, [], ◌∷◌, ◌++◌, map, cond, Option, None, Some, refl, sym, ap, ◌∙◌, arith}
+use Rattle.std.proofs.Common.{◌≡◌, ◌≢◌, ◌≤◌, ◌<◌, ◌+◌, inl, inr, ℕ, Bool, true, false, not, ◌&&◌, ◌||◌, List, [], ◌∷◌, ◌++◌, map, cond, Option, None, Some, refl, sym, ap, ◌∙◌, arith, subst}
 use Rattle.std.specs.Prelude.{◌==◌, Any, All, nat_lt}
-use Rattle.std.specs.List.{AllByRecursion, list_any, sum_by}
+use Rattle.std.specs.List.{AllByRecursion, list_any, sum_by, filter}
 use Rattle.std.proofs.lemmas.Bool.{and_parts, eq-eqb, eqb-true, or_cases}
 use Rattle.std.proofs.lemmas.Bool.Decides.{nat_tests}
 use Rattle.std.proofs.lemmas.List.Elements.{All-from_recursion}
@@ -12,8 +12,8 @@ use Rattle.vlm_words.specs.declared.conditions.Cond.TheVariants.{Sublocks}
 use Rattle.vlm_words.specs.declared.steps.Conversion.{Conversion}
 use Rattle.vlm_words.specs.declared.steps.Dequeue.{Dequeue}
 use Rattle.vlm_words.specs.declared.steps.NewRequest.{NewRequest}
-use Rattle.vlm_words.specs.Flags.{cancel, has_flag}
-use Rattle.vlm_words.specs.State.{Resource, State}
+use Rattle.vlm_words.specs.Flags.{cancel, has_flag, deqall}
+use Rattle.vlm_words.specs.State.{Resource, State, Node}
 use Rattle.vlm_words.specs.Sweeps.{is_vacant, state_after_sweep}
 use Rattle.vlm_words.specs.Settled.{IsSettled}
 use Rattle.vlm_words.specs.Resources.{is_at, is_domain, new_resource}
@@ -25,13 +25,13 @@ use Rattle.vlm_words.specs.Declare.{declare_change}
 use Rattle.vlm_words.specs.SetValue.{set_change}
 use Rattle.vlm_words.specs.Take.{take_change}
 use Rattle.vlm_words.specs.Convert.{ConversionAdmission, convert_blocks, convert_change, convert_lkid, resource_after_conversion}
-use Rattle.vlm_words.specs.Dequeue.{cancel_refusal, deq_change, deq_flags_refusal, deq_refusal, dequeue_lkid, has_sublock, has_sublock_on, sublocks_refusal, withdrawal_of, withdrawals_of}
+use Rattle.vlm_words.specs.Dequeue.{cancel_refusal, deq_change, deq_flags_refusal, deq_refusal, dequeue_lkid, has_sublock, has_sublock_on, sublocks_refusal, withdrawal_of, withdrawals_of, dequeued_lock_refusal, is_dequeued, leaves_none}
 use Rattle.vlm_words.specs.Withdrawals.{Withdrawal, resource_after_withdrawals}
 use Rattle.vlm_words.specs.Runs.{History, Run}
 use Rattle.vlm_words.specs.Laws.{HasItsLevel, HasItsParent, HoldsOn, ParentsOutliveTheirSublocks, TreesAreBounded}
 use Rattle.vlm_words.proofs.Always.{always, kept_by_stepped}
-use Rattle.vlm_words.proofs.Each.{Any-here, Any-there, Any-weaker, each_map, each_weaker}
-use Rattle.vlm_words.proofs.Passed.{sixth_passes, test_fails}
+use Rattle.vlm_words.proofs.Each.{Any-here, Any-there, Any-weaker, each_map, each_weaker, each_so}
+use Rattle.vlm_words.proofs.Passed.{sixth_passes, test_fails, flags_go_together}
 use Rattle.vlm_words.proofs.EachResource.{each_entered_among, each_entered_at, each_swept}
 use Rattle.vlm_words.proofs.Settled.{settled_law}
 use Rattle.vlm_words.proofs.Keys.{KeepsPlace, Placed, conversion_keeps_place, entry_keeps_place, is_domain-true, placed_always, service_keeps_place, withdrawals_keep_place}
@@ -42,6 +42,11 @@ use Rattle.vlm_words.proofs.Holdings.{converted_held, held_by, locks, withdrawn_
 use Rattle.vlm_words.proofs.Sums.{sum_of_zero}
 use Rattle.vlm_words.proofs.Rooted.{Position, position, is_parent, is_up, is_rooted, loose, loose_named, AllRooted, up_mapped, still_rooted, weigh_le_both, rooted_changed, rooted_swept, NoneOrphaned, rooted_mapped}
 use Rattle.vlm_words.proofs.NewlyRooted.{parent_of, up_entered, rooted_row, stands_well, own_rooted}
+use Rattle.vlm_words.proofs.Below.{each_weightless, held_there}
+use Rattle.vlm_words.proofs.Closed.{Closed, each_closed, held_stays, or_fails, orphaned_by, own_are_closed, taken_are_closed}
+use Rattle.vlm_words.proofs.Leaving.{AllGo, AllListed, all_go, none_left_here}
+use Rattle.vlm_words.specs.OwnLocks.{own_lkids}
+use Rattle.vlm_words.specs.Rundown.{rundown_of, state_after_rundown}
 
 -- each row has its parent, and no resource is below the lowest level
 pub record Tree (s : State) : Type 0 where
@@ -133,9 +138,9 @@ one_on_each lkid (r ∷ rest) one = (
 )
 
 -- none of no rows is orphaned
-none_orphaned : (resources : List Resource) → AllByRecursion (NoneOrphaned (λ row. false)) resources
-none_orphaned [] = tt
-none_orphaned (r ∷ rest) = (omega (arith, sum_of_zero r.granted, sum_of_zero r.converting, sum_of_zero r.waiting), none_orphaned rest)
+none_orphaned : (f : Resource → Resource) (resources : List Resource) → AllByRecursion (λ r. NoneOrphaned (λ row. false) (f r)) resources
+none_orphaned f [] = tt
+none_orphaned f (r ∷ rest) = (omega (arith, sum_of_zero (f r).granted, sum_of_zero (f r).converting, sum_of_zero (f r).waiting), none_orphaned f rest)
 
 -- a conversion keeps the tree
 tree_converted : (s : State) (c : Conversion) (a : ConversionAdmission) → Apart s → Tree s → Tree (convert_change s c a)
@@ -152,15 +157,15 @@ tree_converted s c a apart tree = record {
       (λ r. held_by row.pid row.parent r ≤ held_by row.pid row.parent (resource_after_conversion a.request a.at_once c.pid (convert_lkid s c) (convert_blocks s c a).value_block r))
       (λ r one. converted_held row.pid row.parent c.pid (convert_lkid s c) a.request a.at_once (convert_blocks s c a).value_block r one) s.resources
       (one_on_each (convert_lkid s c) s.resources (apart.one_row (convert_lkid s c)))))
-      (none_orphaned s.resources) tree.rooted;
+      (none_orphaned (resource_after_conversion a.request a.at_once c.pid (convert_lkid s c) (convert_blocks s c a).value_block) s.resources) tree.rooted;
   low =
       low_mapped (resource_after_conversion a.request a.at_once c.pid (convert_lkid s c) (convert_blocks s c a).value_block)
       (conversion_keeps_place a.request a.at_once c.pid (convert_lkid s c) (convert_blocks s c a).value_block) s.resources tree.low;
 }
 
--- the row's parent goes with the dequeue
-abbrev orphaned_by : Withdrawal → Row → Bool
-orphaned_by w row = not w.stays && (row.parent == w.lkid)
+-- the row's parent goes with a dequeue of one lock
+abbrev orphaned_by_one : Withdrawal → Row → Bool
+orphaned_by_one w row = not w.stays && (row.parent == w.lkid)
 
 -- rows of which none passes a test are counted 0
 none_counted : (b : Bool) (lkid : ℕ) (rows : List Row) → (b && has_sublock lkid rows) ≡ false → sum_by (λ row. cond (b && (row.parent == lkid)) 1 0) rows ≡ 0
@@ -180,68 +185,127 @@ none_counted true lkid (row ∷ rows) none = of_test (row.parent == lkid) refl (
           sum_by-cons (λ (x : Row). cond (x.parent == lkid) 1 0) row rows,
         )
 
--- two tests fail where neither passes
-or_fails : (a b : Bool) → (a || b) ≡ false → (a ≡ false) × (b ≡ false)
-or_fails true b none = cc
-or_fails false b none = (refl, none)
-
--- where the checks of a dequeue pass, no row is orphaned by it
-none_left_behind : (s : State) (d : Dequeue) → deq_refusal s d ≡ None → AllByRecursion (NoneOrphaned (orphaned_by (withdrawal_of s d))) s.resources
+-- where the checks of a dequeue of one lock pass, no row is orphaned by it
+none_left_behind : (s : State) (d : Dequeue) → deq_refusal s d ≡ None → has_flag d.flags deqall ≡ false
+    → AllByRecursion (NoneOrphaned (orphaned_by_one (withdrawal_of d (dequeue_lkid s d)))) s.resources
 unfolding deq_refusal sublocks_refusal
-none_left_behind s d passed =
+none_left_behind s d passed alone =
     each_none s.resources
-    (test_fails (not (has_flag d.flags cancel) && list_any (has_sublock_on (dequeue_lkid s d)) s.resources) Sublocks
-    (sixth_passes (caller_refusal s d.pid) (deq_flags_refusal d) (which_refusal s d.pid d.lock) (lock_refusal s d.pid (dequeue_lkid s d)) (cancel_refusal s d)
-    (cond (not (has_flag d.flags cancel) && list_any (has_sublock_on (dequeue_lkid s d)) s.resources) (Some Sublocks) None) passed))
+    (subst (λ (all : Bool). (not (has_flag d.flags cancel || all) && list_any (has_sublock_on (dequeue_lkid s d)) s.resources) ≡ false) alone
+    (test_fails (not (leaves_none d) && list_any (has_sublock_on (dequeue_lkid s d)) s.resources) Sublocks
+    (sixth_passes (caller_refusal s d.pid) (deq_flags_refusal d) (which_refusal s d.pid d.lock) (dequeued_lock_refusal s d) (cancel_refusal s d)
+    (cond (not (leaves_none d) && list_any (has_sublock_on (dequeue_lkid s d)) s.resources) (Some Sublocks) None) passed)))
   where
     both_false : (a b c : Bool) → (a && (b || c)) ≡ false → ((a && b) ≡ false) × ((a && c) ≡ false)
     both_false true b c none = or_fails b c none
     both_false false b c none = (refl, refl)
 
-    each_none : (rs : List Resource) → (not (has_flag d.flags cancel) && list_any (has_sublock_on (dequeue_lkid s d)) rs) ≡ false
-        → AllByRecursion (NoneOrphaned (orphaned_by (withdrawal_of s d))) rs
+    plain : Bool → Bool → Bool
+    plain cancels is = not (cancels || false) && is
+
+    same : (cancels is : Bool) → plain cancels is ≡ false → (not cancels && is) ≡ false
+    same true is none = refl
+    same false is none = none
+
+    each_none : (rs : List Resource) → (not (has_flag d.flags cancel || false) && list_any (has_sublock_on (dequeue_lkid s d)) rs) ≡ false
+        → AllByRecursion (NoneOrphaned (orphaned_by_one (withdrawal_of d (dequeue_lkid s d)))) rs
     each_none [] none = tt
     each_none (r ∷ rest) none =
-        let plain : Bool = not (has_flag d.flags cancel) in
         let lkid : ℕ = dequeue_lkid s d in
-        let parts = both_false plain (has_sublock_on lkid r) (list_any (has_sublock_on lkid) rest) none in
-        let queues = both_false plain (has_sublock lkid r.granted || has_sublock lkid r.converting) (has_sublock lkid r.waiting) parts.0 in
-        let held = both_false plain (has_sublock lkid r.granted) (has_sublock lkid r.converting) queues.0 in (
+        let goes : Bool = not (has_flag d.flags cancel) in
+        let parts = both_false goes (has_sublock_on lkid r) (list_any (has_sublock_on lkid) rest)
+        (same (has_flag d.flags cancel) (has_sublock_on lkid r || list_any (has_sublock_on lkid) rest) none) in
+        let queues = both_false goes (has_sublock lkid r.granted || has_sublock lkid r.converting) (has_sublock lkid r.waiting) parts.0 in
+        let held = both_false goes (has_sublock lkid r.granted) (has_sublock lkid r.converting) queues.0 in (
           omega (
             arith,
-            none_counted plain lkid r.granted held.0,
-            none_counted plain lkid r.converting held.1,
-            none_counted plain lkid r.waiting queues.1,
+            none_counted goes lkid r.granted held.0,
+            none_counted goes lkid r.converting held.1,
+            none_counted goes lkid r.waiting queues.1,
           ),
-          each_none rest parts.1,
+          each_none rest (back (has_flag d.flags cancel) (list_any (has_sublock_on lkid) rest) parts.1),
         )
+      where
+        back : (cancels is : Bool) → (not cancels && is) ≡ false → plain cancels is ≡ false
+        back true is none = refl
+        back false is none = none
+
+-- withdrawals keep the tree, where none of what they leave has its parent among them
+module _ (s t : State) (withdrawals : List Withdrawal) (is : t.resources ≡ map (resource_after_withdrawals withdrawals) s.resources) (tree : Tree s)
+    (orphaned : Row → Bool)
+    (stays : (row : Row) → orphaned row ≡ false → (r : Resource) → held_by row.pid row.parent r ≤ held_by row.pid row.parent (resource_after_withdrawals withdrawals r))
+    (none : AllByRecursion (λ r. NoneOrphaned orphaned (resource_after_withdrawals withdrawals r)) s.resources) where
+  tree_withdrawn : Tree t
+  tree_withdrawn =
+      let f : Resource → Resource = resource_after_withdrawals withdrawals in
+      record {
+        rooted =
+            subst (λ (rs : List Resource). AllByRecursion (AllRooted rs) rs) (sym is)
+            (rooted_mapped f (withdrawals_keep_place withdrawals) (λ g named. withdrawn_named g named withdrawals) orphaned s.resources
+            (λ p row keeps.
+            up_mapped p row.pid row.parent f (withdrawals_keep_place withdrawals) s.resources
+            (each_so (λ r. held_by row.pid row.parent r ≤ held_by row.pid row.parent (f r)) (stays row keeps) s.resources))
+            none tree.rooted);
+        low = subst (AllByRecursion (λ (r : Resource). r.level ≤ 15)) (sym is) (low_mapped f (withdrawals_keep_place withdrawals) s.resources tree.low);
+      }
+
+-- locks that go together with those below them
+tree_closed : (s t : State) → Apart s → Tree s → (f : ℕ → Withdrawal) → ((lkid : ℕ) → (f lkid).lkid ≡ lkid) → (lkids : List ℕ) → AllGo (map f lkids) → Closed s lkids
+    → t.resources ≡ map (resource_after_withdrawals (map f lkids)) s.resources → Tree t
+tree_closed s t apart tree f named lkids go closed is =
+    tree_withdrawn s t (map f lkids) is tree (orphaned_by (map f lkids))
+    (λ row keeps r. held_stays row.pid row.parent (map f lkids) go keeps r)
+    (each_weaker (AllListed (orphaned_by (map f lkids)) (map f lkids)) (λ r. NoneOrphaned (orphaned_by (map f lkids)) (resource_after_withdrawals (map f lkids) r))
+    (λ r listed. none_left_here (orphaned_by (map f lkids)) (map f lkids) go r listed) s.resources
+    (each_closed s tree.rooted tree.low f named lkids closed))
+
+-- a dequeue of one lock keeps the tree
+tree_dequeued_one : (s t : State) (d : Dequeue) → deq_refusal s d ≡ None → has_flag d.flags deqall ≡ false → Tree s
+    → t.resources ≡ map (resource_after_withdrawals (withdrawal_of d (dequeue_lkid s d) ∷ [])) s.resources → Tree t
+tree_dequeued_one s t d passed alone tree is =
+    tree_withdrawn s t (withdrawal_of d (dequeue_lkid s d) ∷ []) is tree (orphaned_by_one (withdrawal_of d (dequeue_lkid s d)))
+    (λ row keeps r. withdrawn_held row.pid row.parent (withdrawal_of d (dequeue_lkid s d))
+    (differs (has_flag d.flags cancel) (row.parent == dequeue_lkid s d) keeps) r)
+    (each_weaker (NoneOrphaned (orphaned_by_one (withdrawal_of d (dequeue_lkid s d))))
+    (λ r. NoneOrphaned (orphaned_by_one (withdrawal_of d (dequeue_lkid s d))) (resource_after_withdrawals (withdrawal_of d (dequeue_lkid s d) ∷ []) r))
+    (λ r none. omega (
+      arith,
+      none,
+      withdrawn_named (λ row. cond (orphaned_by_one (withdrawal_of d (dequeue_lkid s d)) row) 1 0) (λ row held want armed. refl)
+          (withdrawal_of d (dequeue_lkid s d) ∷ []) r,
+    )) s.resources (none_left_behind s d passed alone))
+  where
+    differs : (cancels named : Bool) → (not cancels && named) ≡ false → cancels ≡ false → named ≡ false
+    differs true named none plain = cc
+    differs false named none plain = none
 
 -- a dequeue keeps the tree
-tree_dequeued : (s : State) (d : Dequeue) → deq_refusal s d ≡ None → Tree s → Tree (deq_change s d)
+tree_dequeued : (s : State) (d : Dequeue) → Apart s → deq_refusal s d ≡ None → Tree s → Tree (deq_change s d)
 unfolding deq_change
-tree_dequeued s d passed tree = record {
-  rooted =
-      rooted_mapped (resource_after_withdrawals (withdrawals_of s d)) (withdrawals_keep_place (withdrawals_of s d))
-      (λ g named. withdrawn_named g named (withdrawals_of s d)) (orphaned_by (withdrawal_of s d)) s.resources
-      (λ p row keeps.
-      up_mapped p row.pid row.parent (resource_after_withdrawals (withdrawals_of s d)) (withdrawals_keep_place (withdrawals_of s d)) s.resources
-      (each_held row keeps s.resources))
-      (none_left_behind s d passed) tree.rooted;
-  low = low_mapped (resource_after_withdrawals (withdrawals_of s d)) (withdrawals_keep_place (withdrawals_of s d)) s.resources tree.low;
-}
+tree_dequeued s d apart passed tree = of_flag (has_flag d.flags deqall) refl
   where
-    differs : (cancels is : Bool) → (not cancels && is) ≡ false → cancels ≡ false → is ≡ false
-    differs true is none plain = cc
-    differs false is none plain = none
+    lkids : List ℕ
+    lkids = filter (is_dequeued s d) (own_lkids (λ pid. pid == d.pid) s)
 
-    each_held : (row : Row) → orphaned_by (withdrawal_of s d) row ≡ false → (rs : List Resource)
-        → AllByRecursion (λ r. held_by row.pid row.parent r ≤ held_by row.pid row.parent (resource_after_withdrawals (withdrawals_of s d) r)) rs
-    each_held row keeps [] = tt
-    each_held row keeps (r ∷ rest) = (
-      withdrawn_held row.pid row.parent (withdrawal_of s d)
-          (differs (has_flag d.flags cancel) (row.parent == dequeue_lkid s d) keeps) r,
-      each_held row keeps rest,
-    )
+    all_go : has_flag d.flags cancel ≡ false → (rest : List ℕ) → AllGo (map (withdrawal_of d) rest)
+    all_go goes [] = tt
+    all_go goes (lkid ∷ rest) = (goes, all_go goes rest)
+
+    of_flag : (all : Bool) → has_flag d.flags deqall ≡ all → Tree (deq_change s d)
+    of_flag true is =
+        tree_closed s (deq_change s d) apart tree (withdrawal_of d) (λ lkid. refl) lkids (all_go (flags_go_together s d passed is) lkids)
+        (taken_are_closed s apart tree.rooted d)
+        (ap (λ (all : Bool). map (resource_after_withdrawals (map (withdrawal_of d) (cond all lkids (dequeue_lkid s d ∷ [])))) s.resources) is)
+    of_flag false is =
+        tree_dequeued_one s (deq_change s d) d passed is tree
+        (ap (λ (all : Bool). map (resource_after_withdrawals (map (withdrawal_of d) (cond all lkids (dequeue_lkid s d ∷ [])))) s.resources) is)
+
+-- ends of processes keep the tree
+tree_ended : (s : State) (is_one : ℕ → Bool) (nodes : List Node) → Apart s → Tree s → Tree (state_after_rundown is_one nodes s)
+unfolding state_after_rundown
+tree_ended s is_one nodes apart tree =
+    tree_closed s (state_after_rundown is_one nodes s) apart tree rundown_of (λ lkid. refl) (own_lkids is_one s) (all_go (own_lkids is_one s))
+    (own_are_closed s apart tree.rooted is_one) refl
 
 -- no resource is vacant after a run
 occupied_always : (history : History) (last : State) → Run history last
@@ -263,24 +327,10 @@ tree_always =
     tree_swept (enq_change s e)
     (tree_entered s e passed (placed_always history s run) (occupied_always history s run) tree))
     (λ c a _ _. tree_swept (convert_change s c a) (tree_converted s c a (apart_always history s run) tree))
-    (λ d passed. tree_swept (deq_change s d) (tree_dequeued s d passed tree)))
+    (λ d passed. tree_swept (deq_change s d) (tree_dequeued s d (apart_always history s run) passed tree))
+    (λ is_one nodes _. tree_swept (state_after_rundown is_one nodes s) (tree_ended s is_one nodes (apart_always history s run) tree)))
 
 -- ---- the laws
-
--- what is held, where it is counted
-held_there : (pid lkid : ℕ) (rows : List Row) → 1 ≤ sum_by (locks pid lkid) rows → Any (λ row. (row.lkid ≡ lkid) × (row.pid ≡ pid)) rows
-held_there pid lkid [] some = absurd (omega (arith, some))
-held_there pid lkid (row ∷ rows) some = of_test (is_lock_of pid lkid row) refl (held_there pid lkid rows)
-  where
-    of_test : (b : Bool) → is_lock_of pid lkid row ≡ b
-        → (1 ≤ sum_by (locks pid lkid) rows → Any (λ (x : Row). (x.lkid ≡ lkid) × (x.pid ≡ pid)) rows) → Any (λ (x : Row). (x.lkid ≡ lkid) × (x.pid ≡ pid)) (row ∷ rows)
-    of_test true is later =
-        let parts = and_parts (row.lkid == lkid) (row.pid == pid) is in
-        Any-here (λ (x : Row). (x.lkid ≡ lkid) × (x.pid ≡ pid)) row rows (eqb-true row.lkid lkid parts.0, eqb-true row.pid pid parts.1)
-    of_test false is later =
-        let none : locks pid lkid row ≡ 0 = ap (λ (b : Bool). cond b 1 0) is in
-        Any-there (λ (x : Row). (x.lkid ≡ lkid) × (x.pid ≡ pid)) row rows
-        (later (omega (arith, some, none, sum_by-cons (locks pid lkid) row rows)))
 
 -- a row that has its parent by the test has it by the law
 has_its_parent : (all : List Resource) (r : Resource) (row : Row) → is_rooted all (position r) row ≡ true → HasItsParent all r row
@@ -311,12 +361,6 @@ has_its_parent all r row rooted =
           held_there row.pid row.parent (up.granted ++ up.converting)
               (omega (arith, some, sum_by-append (locks row.pid row.parent) up.granted up.converting)),
         )
-
--- the rows of a resource whose weight is 0
-each_weightless : (f : Row → ℕ) (rows : List Row) → sum_by f rows ≡ 0 → AllByRecursion (λ row. f row ≡ 0) rows
-each_weightless f [] none = tt
-each_weightless f (row ∷ rows) none =
-    (omega (arith, none, sum_by-cons f row rows), each_weightless f rows (omega (arith, none, sum_by-cons f row rows)))
 
 -- after every run a parent lock outlives its sublocks
 pub parents_always : (history : History) (last : State)

@@ -17,6 +17,8 @@ use Rattle.vlm_words.proofs.Each.{each_append, each_map, each_weaker}
 use Rattle.vlm_words.proofs.Weights.{weigh}
 use Rattle.vlm_words.proofs.Withdrawing.{each_end}
 use Rattle.vlm_words.proofs.Moves.{IsByName}
+use Rattle.vlm_words.proofs.Holdings.{locks}
+use Rattle.std.proofs.lemmas.Bool.Decides.{eqb_tells}
 
 -- 1 for a row of this identification that is of one of these processes
 abbrev pub among : (ℕ → Bool) → ℕ → Row → ℕ
@@ -120,6 +122,34 @@ own_are_theirs is_one s apart =
     each_weaker (λ lkid. list_any (has_lock_among is_one lkid) s.resources ≡ true) (NoStrangers is_one s.resources)
     (λ lkid held. none_strange is_one s apart lkid held) (own_lkids is_one s)
     (each_passing (λ lkid. list_any (has_lock_among is_one lkid) s.resources) (range_with_len 1 (s.next_lkid - 1)))
+
+-- a row of a lock of another process is a stranger's
+anothers : (is_one : ℕ → Bool) (pid lkid : ℕ) → is_one pid ≡ false → (row : Row) → locks pid lkid row ≤ strangers is_one lkid row
+anothers is_one pid lkid differs row =
+    elim (eqb_tells row.pid pid) [
+      | inl same ↦ rw (same.0, ap is_one same.1 ∙ differs) (of_tests (row.lkid == lkid))
+      | inr other ↦ rw (other.0) (of_none (row.lkid == lkid) (not (is_one row.pid)))
+    ]
+  where
+    of_tests : (a : Bool) → cond (a && true) 1 0 ≤ cond (a && true) 1 0
+    of_tests a = omega arith
+
+    of_none : (a b : Bool) → cond (a && false) 1 0 ≤ cond (a && b) 1 0
+    of_none true true = omega arith
+    of_none true false = omega arith
+    of_none false b = omega arith
+
+pub all_anothers : (is_one : ℕ → Bool) (pid lkid : ℕ) → is_one pid ≡ false → (rows : List Row)
+    → sum_by (locks pid lkid) rows ≤ sum_by (strangers is_one lkid) rows
+all_anothers is_one pid lkid differs [] = omega arith
+all_anothers is_one pid lkid differs (row ∷ rows) =
+    omega (
+      arith,
+      anothers is_one pid lkid differs row,
+      all_anothers is_one pid lkid differs rows,
+      sum_by-cons (locks pid lkid) row rows,
+      sum_by-cons (strangers is_one lkid) row rows,
+    )
 
 -- ---- whose requests end
 

@@ -1,7 +1,7 @@
 -- Only writers change value blocks.
 use Rattle.std.proofs.Common.{◌≡◌, ◌⊎◌, ◌-◌, ◌+◌, ℕ, Bool, true, false, not, List, [], ◌∷◌, ◌++◌, map, length, get_or, cond, Option, None, Some, refl, sym, subst, ap, inl, inr, ◌∙◌, arith}
 use Rattle.std.specs.Prelude.{◌==◌, ◌≢◌, ◌&&◌, ◌||◌, Any, is_some, unwrap_or, ◌/◌, ⊤}
-use Rattle.std.specs.List.{AllByRecursion, find}
+use Rattle.std.specs.List.{AllByRecursion, find, list_any}
 use Rattle.std.proofs.lemmas.Bool.{and_from, and_parts, cases_lt, cond_both, eq-eqb, eqb-true, or_cases}
 use Rattle.std.proofs.lemmas.List.{get_or_past}
 use Rattle.std.proofs.lemmas.List.Elements.{All-from_recursion}
@@ -20,7 +20,7 @@ use Rattle.vlm_words.specs.declared.steps.Dequeue.{Dequeue}
 use Rattle.vlm_words.specs.declared.steps.NewRequest.{NewRequest}
 use Rattle.vlm_words.specs.declared.steps.Step.TheVariants.{Declare, SetValue, Enq, Convert, Deq, Rundown, Leave, Search, Take}
 use Rattle.vlm_words.specs.declared.steps.Step.{Step}
-use Rattle.vlm_words.specs.Flags.{cancel, has_flag, invvalblk, valblk}
+use Rattle.vlm_words.specs.Flags.{cancel, has_flag, invvalblk, valblk, deqall}
 use Rattle.vlm_words.specs.Modes.{is_writing, value_action}
 use Rattle.vlm_words.specs.State.{Process, Resource, State, process_of, Node}
 use Rattle.vlm_words.specs.StatusBlocks.{new_status_block, processes_after_acceptance, status_block_of, status_blocks_of}
