@@ -226,6 +226,14 @@ blocking_fits row request want old mid enough queued =
 pub nothing_wanted : (row : Row) → row.want ≡ None → (pid : ℕ) → due_to pid (row_after_end row) ≡ due_to pid row
 nothing_wanted row none pid = ap (λ (o : Option Request). due_to pid (record row { want = o })) (sym none)
 
+-- what is owed for the routines of what it wants is forgiven where its process ends
+pub untold_owed : (row : Row) (old new : Records) → row_due row ≤ due_of row.pid old → DueChanges row.pid (λ due. due - routines_of row.want) old new
+    → OwedMoves row (row_after_end row) old new
+untold_owed row old new enough forgiven =
+    owed_moves row (row_after_end row) old new refl
+    (omega (arith, owed_own row (λ due. due - routines_of row.want) old new forgiven, enough, due_after_end row))
+    (λ pid differs. owed_other row (λ due. due - routines_of row.want) old new forgiven pid differs)
+
 -- its warning is forgiven as it goes
 pub spared_owed : (row : Row) (old new : Records) → one_where row.armed ≤ due_of row.pid old → DueChanges row.pid (λ due. due - one_where row.armed) old new
     → OwedMoves (row_after_end row) (row_at_end row) old new

@@ -114,7 +114,7 @@ same_own (y ∷ old) (x ∷ new) same p among =
 pub rises_still : (old new : Records) (q p : StoredProcess) → WereStored old new → q.own ≡ p.own → HasRisingLocks old q → HasRisingLocks new p
 rises_still old new q p were same rises = record {
   own = subst (λ owns. StandByIdentification new (own_handles owns)) same (stand_still old new (own_handles q.own) (λ a b in_a in_b. before_still old new were a b) rises.own);
-  sublocks = λ own among. stand_still old new own.sublocks (λ a b in_a in_b. before_still old new were a b) (rises.sublocks own (subst (IsIn own) (sym same) among));
+  sublocks = λ own among. stand_still old new (own.at ∷ own.sublocks) (λ a b in_a in_b. before_still old new were a b) (rises.sublocks own (subst (IsIn own) (sym same) among));
 }
 
 -- so all have where none gets another lock
@@ -162,7 +162,9 @@ rises_without s lock q rises = record {
   own = subst (StandByIdentification s) (sym (handles_without lock q.own)) (stand_without s lock (own_handles q.own) rises.own);
   sublocks = λ own among.
       let was = was_own lock q.own own among in
-      subst (λ (o : OwnLock). StandByIdentification s o.sublocks) was.1.1 (stand_without s lock was.0.sublocks (rises.sublocks was.0 was.1.0));
+      let stand = rises.sublocks was.0 was.1.0 in
+      subst (λ (o : OwnLock). StandByIdentification s (o.at ∷ o.sublocks)) was.1.1
+      (λ later there. stand.0 later (IsIn-without lock later was.0.sublocks there).0, stand_without s lock was.0.sublocks stand.1);
 }
 
 -- the locks of each process stand so still as a lock goes
@@ -241,8 +243,8 @@ module _ (owner : ℕ) (parent : Option ℕ) (lock : ℕ) where
     rises_with q among rises = record {
       own = of_owner (q.at == owner);
       sublocks = λ own there. elim (had_own (q.at == owner) q.own own there) [
-        | inl was ↦ subst (λ (o : OwnLock). StandByIdentification new o.sublocks) was.1.1 (of_parent parent was.0 was.1.0)
-        | inr is ↦ subst (λ (o : OwnLock). StandByIdentification new o.sublocks) is tt
+        | inl was ↦ subst (λ (o : OwnLock). StandByIdentification new (o.at ∷ o.sublocks)) was.1.1 (of_parent parent was.0 was.1.0)
+        | inr is ↦ subst (λ (o : OwnLock). StandByIdentification new (o.at ∷ o.sublocks)) is (λ later none. absurd none, tt)
       ];
     }
       where
@@ -252,8 +254,11 @@ module _ (owner : ℕ) (parent : Option ℕ) (lock : ℕ) where
             let owned = sound.owned.owns q found.0 among found.1.0 in
             subst (λ k. IsStored k s) found.1.1 (owned.0, owned.1.0)
 
-        below_stored : (o : OwnLock) → IsIn o q.own → (at : ℕ) → IsIn at o.sublocks → IsStored at s
-        below_stored o own at there = let below = sound.owned.below q o at among own there in (below.1, below.2.1)
+        below_stored : (o : OwnLock) → IsIn o q.own → (at : ℕ) → IsIn at (o.at ∷ o.sublocks) → IsStored at s
+        below_stored o own at there = elim there [
+          | inl is ↦ (let owned = sound.owned.owns q o among own in subst (λ k. IsStored k s) is (owned.0, owned.1.0))
+          | inr later ↦ (let below = sound.owned.below q o at among own later in (below.1, below.2.1))
+        ]
 
         of_owner : (mine : Bool) → StandByIdentification new (own_handles (map (with_sublock parent lock) q.own ++ cond mine (new_own lock) []))
         of_owner true =
@@ -265,13 +270,17 @@ module _ (owner : ℕ) (parent : Option ℕ) (lock : ℕ) where
             (sym (map-append (λ (o : OwnLock). o.at) (map (with_sublock parent lock) q.own) [] ∙ append-nil _ ∙ handles_with q.own))
             (stand_kept (own_handles q.own) own_stored rises.own)
 
-        of_parent : (up : Option ℕ) (o : OwnLock) → IsIn o q.own → StandByIdentification new (with_sublock up lock o).sublocks
-        of_parent None o own = stand_kept o.sublocks (below_stored o own) (rises.sublocks o own)
+        of_parent : (up : Option ℕ) (o : OwnLock) → IsIn o q.own
+            → StandByIdentification new ((with_sublock up lock o).at ∷ (with_sublock up lock o).sublocks)
+        of_parent None o own = stand_kept (o.at ∷ o.sublocks) (below_stored o own) (rises.sublocks o own)
         of_parent (Some handle) o own = of_test (o.at == handle)
           where
-            of_test : (b : Bool) → StandByIdentification new (cond b (record o { sublocks = o.sublocks ++ lock ∷ [] }) o).sublocks
-            of_test true = stand_joined o.sublocks (below_stored o own) (rises.sublocks o own)
-            of_test false = stand_kept o.sublocks (below_stored o own) (rises.sublocks o own)
+            with_lock : Bool → OwnLock
+            with_lock b = cond b (record o { sublocks = o.sublocks ++ lock ∷ [] }) o
+
+            of_test : (b : Bool) → StandByIdentification new ((with_lock b).at ∷ (with_lock b).sublocks)
+            of_test true = stand_joined (o.at ∷ o.sublocks) (below_stored o own) (rises.sublocks o own)
+            of_test false = stand_kept (o.at ∷ o.sublocks) (below_stored o own) (rises.sublocks o own)
 
     -- the locks of each process stand by rising identification with a new lock that is above all
     pub all_rise_with : AllRise s s.processes → AllRise new (map (process_with_lock owner parent lock) s.processes)

@@ -1,5 +1,5 @@
 -- Which requests end as a lock is withdrawn.
-use Rattle.std.proofs.Common.{◌≡◌, ◌≢◌, ℕ, false, List, [], ◌∷◌, ◌++◌, map, flat_map, Some, refl, sym, ap, ◌∙◌, inl, inr, eq-eqb, ne_eqb}
+use Rattle.std.proofs.Common.{◌≡◌, ◌≢◌, ℕ, false, List, [], ◌∷◌, ◌++◌, map, flat_map, Some, refl, sym, ap, ◌∙◌, inl, inr, eq-eqb, ne_eqb, None, Option}
 use Rattle.std.proofs.lemmas.Bool.{cases_eq}
 use Rattle.std.proofs.lemmas.List.{append-nil}
 use Rattle.std.proofs.lemmas.Option.{none-some, same_Some}
@@ -10,20 +10,21 @@ use Rattle.vlm_words.specs.declared.resources.Queue.{Queue}
 use Rattle.vlm_words.specs.declared.resources.Queue.TheVariants.{Granted, Conversion, Waiting}
 use Rattle.vlm_words.specs.Asts.{completion_asts, processes_after_asts}
 use Rattle.vlm_words.specs.Withdrawals.{Withdrawal, processes_after, queue_endings, withdrawal_endings}
-use Rattle.vlm_words.specs.Endings.{Ending, How, ending_status, row_endings}
+use Rattle.vlm_words.specs.Endings.{Ending, How, ending_status, row_endings, wanted_endings}
 use Rattle.vlm_words.specs.State.{Process, Resource}
 use Rattle.vlm_words.specs.StatusBlocks.{processes_after_status}
 use Rattle.vlm_links.specs.Lists.{IsIn}
 use Rattle.vlm_store.specs.declared.handles.Place.TheVariants.{Queued}
 use Rattle.vlm_store.specs.Plain.{plain_resource, plain_resources}
 use Rattle.vlm_store.specs.Records.{AreResourcesApart, IsSound, Records, StoredResource, queued, resource_at, rows_of_locks}
-use Rattle.vlm_locks.specs.declared.withdrawals.End.TheVariants.{Aborted, Cancelled}
+use Rattle.vlm_locks.specs.declared.withdrawals.End.TheVariants.{Aborted, Cancelled, RunDown}
 use Rattle.vlm_locks.specs.declared.withdrawals.End.{End}
 use Rattle.vlm_locks.specs.Withdrawals.{how_ended}
 use Rattle.vlm_locks.specs.declared.finding.Standing.{Standing}
 use Rattle.vlm_locks.specs.Standing.{IsStanding}
 use Rattle.vlm_locks.proofs.Stood.{own_among}
 use Rattle.vlm_locks.proofs.Withdrawn.{rows_elsewhere, rows_here}
+use Rattle.vlm_words.specs.Endings.How.{by_rundown}
 
 -- where no resource has ends there are none
 ends_none : {X : Type 0} (ends : Resource → List X) (rs : List StoredResource) → ((x : StoredResource) → IsIn x rs → ends (plain_resource x) ≡ [])
@@ -110,3 +111,14 @@ end_written Aborted cond row request ps status is =
     rw is (ap (λ c. processes_after_asts (completion_asts false request row.lkid row.pid) (processes_after_status row.pid request.block c ps)) (same_Some _ _ status))
 end_written Cancelled cond row request ps status is =
     rw is (ap (λ c. processes_after_asts (completion_asts false request row.lkid row.pid) (processes_after_status row.pid request.block c ps)) (same_Some _ _ status))
+end_written RunDown cond row request ps status is = cc
+
+-- where its process ends nothing is written, and no completion queued
+pub none_written : (ended : End) (row : Row) (ps : List Process) → ending_status (how_ended ended) ≡ None → processes_after (row_endings (how_ended ended) false row) ps ≡ ps
+none_written Aborted row ps status = cc
+none_written Cancelled row ps status = cc
+none_written RunDown row ps status = of_want row.want
+  where
+    of_want : (want : Option Request) → processes_after (wanted_endings by_rundown false row.lkid row.pid want) ps ≡ ps
+    of_want None = refl
+    of_want (Some request) = refl

@@ -8,7 +8,7 @@ use Rattle.vlm_store.specs.Records.{HasResource, Records, StoredProcess, StoredR
 use Rattle.vlm_locks.specs.Rising.{HasRisingLocks}
 
 -- between two steps each lock stands in a queue, each resource is in the domain of its key, and the locks of a process
--- and the locks below a lock stand by rising identification
+-- and a lock with the locks below it stand by rising identification
 pub record IsAtRest (s : Records) : Type 0 where
   pub none_loose : s.loose ≡ []
   pub keyed : (r : StoredResource) → IsIn r s.resources → IsKeyed r.domain r.key

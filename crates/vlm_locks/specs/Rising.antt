@@ -17,10 +17,10 @@ StandByIdentification s (at ∷ rest) = ((later : ℕ) → IsIn later rest → C
 abbrev pub own_handles : List OwnLock → List ℕ
 own_handles locks = map (λ own. own.at) locks
 
--- the locks of the process stand by rising identification, and so do the locks below each of these
+-- the locks of the process stand by rising identification, and so does each of these with the locks below it
 pub record HasRisingLocks (s : Records) (p : StoredProcess) : Type 0 where
   pub own : StandByIdentification s (own_handles p.own)
-  pub sublocks : (own : OwnLock) → IsIn own p.own → StandByIdentification s own.sublocks
+  pub sublocks : (own : OwnLock) → IsIn own p.own → StandByIdentification s (own.at ∷ own.sublocks)
 
 -- each stored lock has a lower identification
 abbrev pub IsAboveAll : ℕ → Records → Type 0

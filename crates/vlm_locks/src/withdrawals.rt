@@ -1,6 +1,6 @@
 //! What is to become of a lock.
 
-ghost use Rattle.std.specs.Prelude.{◌≡◌, Some};
+ghost use Rattle.std.specs.Prelude.{◌≡◌};
 ghost use Rattle.vlm_words.specs.Endings.{ending_status};
 ghost use Rattle.vlm_locks.specs.Withdrawals.{how_ended};
 
@@ -13,16 +13,19 @@ pub enum End {
     Aborted,
     /// It is cancelled.
     Cancelled,
+    /// With its process, which is told nothing any more.
+    RunDown,
 }
 
 impl End {
-    /// The status of the request: ABORT or CANCEL.
-    pub(crate) fn status(self) -> Cond
-        ensures { ending_status (how_ended self) ≡ Some result }
+    /// The status of the request, ABORT or CANCEL; none where its process ends.
+    pub(crate) fn status(self) -> Option<Cond>
+        ensures { ending_status (how_ended self) ≡ result }
     {
         match self {
-            End::Aborted => Cond::Abort,
-            End::Cancelled => Cond::Cancel,
+            End::Aborted => Some(Cond::Abort),
+            End::Cancelled => Some(Cond::Cancel),
+            End::RunDown => None,
         }
     }
 }

@@ -1,7 +1,9 @@
 //! The withdrawal of a lock: it goes, or only its request does.
 
-ghost use Rattle.std.specs.Prelude.{◌≡◌, ◌≤◌, ℕ, None, true, false, [], ◌∷◌, flat_map, map};
+ghost use Rattle.std.specs.Prelude.{◌≡◌, ◌≤◌, ℕ, None, Some, true, false, [], ◌∷◌, flat_map, map};
 ghost use Rattle.vlm_words.specs.Withdrawals.{is_writer, processes_after, resource_after_cancel, resource_after_withdrawals, resource_after_writer, resource_without, value_block_after_writer, withdrawal_endings};
+ghost use Rattle.vlm_words.specs.Asts.{completion_asts, processes_after_asts};
+ghost use Rattle.vlm_words.specs.StatusBlocks.{processes_after_status};
 ghost use Rattle.vlm_words.specs.Dues.{one_where, row_due};
 ghost use Rattle.vlm_words.specs.Endings.{row_endings};
 ghost use Rattle.vlm_words.specs.declared.resources.Queue.{Queue};
@@ -15,16 +17,51 @@ ghost use Rattle.vlm_locks.specs.Withdrawing.{IsPartDone, goes, may_write, owned
 
 use crate::endings::{complete, one_where};
 use crate::finding::Standing;
+use crate::routines::routines_of;
 use crate::withdrawals::{End, Withdrawal};
 use vlm_procs::{end, forgive};
 use vlm_store::laws::law_records_are_sound;
 use vlm_store::{Place, Store};
+use vlm_words::conditions::Cond;
 use vlm_words::locks::{Request, Row};
 use vlm_words::modes::Mode;
 use vlm_words::resources::{Queue, ValueBlock};
 
-// What the lock wants ends so, and its completion AST is queued; of a blocking routine that it names nothing comes.
-// Where it wants nothing, nothing ends.
+// The request that the lock wants ends with this status, and its completion AST is queued; of a blocking routine that it
+// names nothing comes.
+fn end_told(store: &mut Store, standing: &Standing, request: &Request, status: Cond)
+    requires standing { IsStanding standing.now store.old }
+    requires wants { standing.now.row.want ≡ Some request.now }
+    requires owed { row_due standing.now.row ≤ due_of standing.now.row.pid store.old }
+    ensures statuses { let row = standing.now.row in plain_processes store.new
+        ≡ processes_after_asts (completion_asts false request.now row.lkid row.pid)
+        (processes_after_status row.pid request.now.block status (plain_processes store.old)) }
+    ensures owed { OwedMoves standing.now.row (row_after_end standing.now.row)
+        store.old store.new }
+    ensures only_notices { SameButNotices store.old store.new }
+{
+    law_records_are_sound(store);
+    let owner = store.lock_record(standing.lock).owner;
+    end(store, owner, request.block, status);
+    complete(store, owner, &standing.row, request, false);
+    forgive(store, owner, one_where(request.blocking.is_some()));
+}
+
+// The request that the lock wants ends with its process: of no routine that it names comes anything.
+fn end_untold(store: &mut Store, standing: &Standing)
+    requires standing { IsStanding standing.now store.old }
+    requires owed { row_due standing.now.row ≤ due_of standing.now.row.pid store.old }
+    ensures statuses { plain_processes store.new ≡ plain_processes store.old }
+    ensures owed { OwedMoves standing.now.row (row_after_end standing.now.row)
+        store.old store.new }
+    ensures only_notices { SameButNotices store.old store.new }
+{
+    law_records_are_sound(store);
+    let owner = store.lock_record(standing.lock).owner;
+    forgive(store, owner, routines_of(standing.row.want));
+}
+
+// What the lock wants ends so. Where it wants nothing, nothing ends.
 fn end_request(store: &mut Store, standing: &Standing, ended: End)
     requires standing { IsStanding standing.now store.old }
     requires owed { row_due standing.now.row ≤ due_of standing.now.row.pid store.old }
@@ -38,10 +75,10 @@ fn end_request(store: &mut Store, standing: &Standing, ended: End)
     let Some(request) = standing.row.want else {
         return;
     };
-    let owner = store.lock_record(standing.lock).owner;
-    end(store, owner, request.block, ended.status());
-    complete(store, owner, &standing.row, &request, false);
-    forgive(store, owner, one_where(request.blocking.is_some()));
+    match ended.status() {
+        Some(status) => end_told(store, standing, &request, status),
+        None => end_untold(store, standing),
+    }
 }
 
 // The request of the lock ends, by the queue in which it stands. A granted lock has none.
