@@ -23,6 +23,8 @@ pub mod Warned
 pub mod Paying
 pub mod Ready
 pub mod Swept
-pub mod Touched
+pub mod Sweeps
 pub mod Withdrawn
+pub mod PlainRundown
+pub mod RunsDown
 pub mod WithdrawnEnds

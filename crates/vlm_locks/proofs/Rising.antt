@@ -124,7 +124,7 @@ all_rise_still old new were same rising p among =
     rises_still old new was.0 p were was.1.1 (rising was.0 was.1.0)
 
 -- a process of those that are changed was there
-was_process : (change : StoredProcess → StoredProcess) (ps : List StoredProcess) (p : StoredProcess) → IsIn p (map change ps)
+pub was_process : (change : StoredProcess → StoredProcess) (ps : List StoredProcess) (p : StoredProcess) → IsIn p (map change ps)
     → (q : StoredProcess) × (IsIn q ps × (change q ≡ p))
 was_process change [] p among = absurd among
 was_process change (x ∷ ps) p among =
@@ -149,7 +149,7 @@ was_own lock (x ∷ owns) own among =
     ]
 
 -- of the handles just its own goes
-handles_without : (lock : ℕ) (owns : List OwnLock) → own_handles (map (without_sublock lock) (filter (λ (o : OwnLock). not (o.at == lock)) owns)) ≡ without lock (own_handles owns)
+pub handles_without : (lock : ℕ) (owns : List OwnLock) → own_handles (map (without_sublock lock) (filter (λ (o : OwnLock). not (o.at == lock)) owns)) ≡ without lock (own_handles owns)
 handles_without lock [] = refl
 handles_without lock (x ∷ owns) =
     elim (cases_eq x.at lock) [

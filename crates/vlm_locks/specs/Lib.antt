@@ -10,3 +10,5 @@ pub mod Sweeping
 pub mod Converting
 pub mod Withdrawals
 pub mod Withdrawing
+pub mod Touched
+pub mod RunningDown

@@ -2,7 +2,8 @@
 
 ghost use Rattle.std.specs.Prelude.{◌≡◌};
 ghost use Rattle.vlm_words.specs.Endings.{ending_status};
-ghost use Rattle.vlm_locks.specs.Withdrawals.{how_ended};
+ghost use Rattle.vlm_words.specs.Rundown.{rundown_of};
+ghost use Rattle.vlm_locks.specs.Withdrawals.{how_ended, plain_withdrawal};
 
 use vlm_words::conditions::Cond;
 
@@ -46,4 +47,20 @@ pub struct Withdrawal {
     pub value: Option<[u8; 16]>,
     /// The value block is then marked invalid if the lock is held at PW or EX.
     pub invalidates: bool,
+}
+
+impl Withdrawal {
+    /// That of a lock whose process ends.
+    pub(crate) fn rundown(lkid: u32) -> Self
+        ensures { plain_withdrawal result ≡ rundown_of lkid }
+    {
+        Withdrawal {
+            lkid,
+            waiting: End::RunDown,
+            converting: End::RunDown,
+            stays: false,
+            value: None,
+            invalidates: true,
+        }
+    }
 }

@@ -30,7 +30,7 @@ use Rattle.vlm_words.proofs.Writing.{AreLeftByEnds}
 -- ---- how requests end
 
 -- the request ends with its process
-abbrev IsByRundown : Ending → Type 0
+abbrev pub IsByRundown : Ending → Type 0
 IsByRundown ending = ending.how ≡ by_rundown
 
 rows_end : (rows : List Row) → AllByRecursion IsByRundown (flat_map (row_endings by_rundown false) rows)
@@ -42,7 +42,7 @@ rows_end (row ∷ rows) =
     of_want None = tt
     of_want (Some request) = (refl, tt)
 
-lock_ends : (lkid : ℕ) (resources : List Resource) → AllByRecursion IsByRundown (flat_map (withdrawal_endings (rundown_of lkid)) resources)
+pub lock_ends : (lkid : ℕ) (resources : List Resource) → AllByRecursion IsByRundown (flat_map (withdrawal_endings (rundown_of lkid)) resources)
 lock_ends lkid [] = tt
 lock_ends lkid (r ∷ rest) =
     each_append IsByRundown (withdrawal_endings (rundown_of lkid) r) (flat_map (withdrawal_endings (rundown_of lkid)) rest)
@@ -65,7 +65,7 @@ tell_nobody (ending ∷ endings) each = rw (each.0) (tell_nobody endings each.1)
 pub rundowns_tell_nobody : (is_one : ℕ → Bool) (s : State) → completions_of (rundown_endings is_one s) ≡ []
 rundowns_tell_nobody is_one s = tell_nobody (rundown_endings is_one s) (all_by_rundown is_one s)
 
-write_nothing : (endings : List Ending) (b : Blocks) → AllByRecursion IsByRundown endings → blocks_after endings b ≡ b
+pub write_nothing : (endings : List Ending) (b : Blocks) → AllByRecursion IsByRundown endings → blocks_after endings b ≡ b
 write_nothing [] b each = refl
 write_nothing (ending ∷ endings) b each =
     ap (blocks_after endings) (nothing_changed ending b each.0) ∙ write_nothing endings b each.1

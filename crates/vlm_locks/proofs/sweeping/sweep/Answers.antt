@@ -1,6 +1,6 @@
 use Rattle.std.proofs.Common.{arith, drop, ◌+◌}
 use Rattle.vlm_locks.proofs.Parting.{parted_there}
-use Rattle.vlm_locks.proofs.Touched.{is_touched_at, swept_resources, swept_statuses, sweeping_at, sweeping_begun, sweeping_next, sweeping_over}
+use Rattle.vlm_locks.proofs.Sweeps.{is_touched_at, swept_resources, swept_statuses, sweeping_at, sweeping_begun, sweeping_next, sweeping_over}
 use Rattle.vlm_locks.proofs.sweeping.sweep.Goals as goal
 
 pub loop-res-init : goal.loop-res-init

@@ -1,6 +1,6 @@
 use Rattle.std.proofs.Common.{drop}
 use Rattle.vlm_locks.specs.Owing.{IsPaid}
-use Rattle.vlm_locks.proofs.Touched.{IsSweeping}
+use Rattle.vlm_locks.proofs.Sweeps.{IsSweeping}
 use Rattle.vlm_locks.proofs.sweeping.sweep.Given as goal
 
 -- the resources so far are swept, and what is due is owed

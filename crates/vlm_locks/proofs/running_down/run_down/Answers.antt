@@ -1,0 +1,99 @@
+use Rattle.std.proofs.Common.{◌≡◌, ◌≤◌, ◌<◌, ◌+◌, length, sym, ap, ◌∙◌, subst, arith, map}
+use Rattle.vlm_words.specs.declared.resources.Queue.TheVariants.{Granted}
+use Rattle.vlm_links.specs.Lists.{IsIn}
+use Rattle.vlm_store.specs.declared.handles.Place.TheVariants.{Queued}
+use Rattle.vlm_store.specs.Records.{locks_at, own_handles_at, but_notices}
+use Rattle.vlm_locks.specs.Withdrawals.{plain_withdrawal}
+use Rattle.vlm_locks.proofs.Found.{process_there}
+use Rattle.vlm_locks.proofs.RunsDown.{IsTurn, all_left, fewer_own, last_is_childless, last_stored, last_there, next_turn, no_locks, none_at_all, one_at_least}
+use Rattle.vlm_locks.proofs.Stood.{stands}
+use Rattle.vlm_locks.proofs.running_down.run_down.Goals as goal
+use Rattle.vlm_locks.specs.Withdrawing.{goes, owned_after}
+use Rattle.vlm_words.specs.Withdrawals.{Withdrawal}
+
+pub last_own-requires : goal.last_own-requires
+last_own-requires c = process_there c.loop-lock.store c.args.owner c.args.pid c.loop-lock.invariant.lives
+
+pub standing_of-requires-clause-stored : goal.standing_of-requires-clause-stored
+standing_of-requires-clause-stored c =
+    last_stored c.args.owner c.args.pid c.loop-lock.store c.loop-lock.invariant.sound c.loop-lock.invariant.lives c.loop-lock.invariant.rest c.in-Some.lock
+    (sym c.last_own.ensures ∙ c.in-Some.is)
+
+pub withdraw-requires-clause-childless : goal.withdraw-requires-clause-childless
+withdraw-requires-clause-childless c goes p own among its same =
+    last_is_childless c.args.owner c.args.pid c.loop-lock.store c.loop-lock.invariant.sound c.loop-lock.invariant.lives c.loop-lock.invariant.rest c.in-Some.lock
+    (sym c.last_own.ensures ∙ c.in-Some.is) c.loop-lock.invariant.together p own among its (same ∙ c.in-Some-standing_of.ensures.lock)
+
+pub withdraw-requires-clause-granted : goal.withdraw-requires-clause-granted
+withdraw-requires-clause-granted c is =
+    let f = c.in-Some-standing_of.standing in
+    c.loop-lock.invariant.granted f.res (record { at = f.lock; row = f.row })
+    (subst (λ queue. IsIn (record { at = f.lock; row = f.row }) (locks_at (Queued f.res queue) c.loop-lock.store)) is
+    (stands c.loop-lock.store f c.in-Some-standing_of.ensures.standing))
+
+pub note-requires : goal.note-requires
+note-requires c =
+    omega (
+      arith,
+      c.loop-lock.invariant.room,
+      one_at_least c.loop-lock.store c.loop-lock.invariant.sound c.in-Some-standing_of.standing c.in-Some-standing_of.ensures.standing,
+    )
+
+pub loop-lock-smaller : goal.loop-lock-smaller
+loop-lock-smaller c =
+    let f = c.in-Some-standing_of.standing in
+    let s = c.loop-lock.store in
+    let turn : IsTurn c.args.owner c.args.pid s c.withdraw.new.store c.loop-lock.touched c.note.new.self f (plain_withdrawal c.rundown.result) = record {
+      sound = c.law_records_are_sound-in-Some-2.ensures;
+      standing = c.in-Some-standing_of.ensures.standing;
+      mine = subst (λ at. IsIn at (own_handles_at c.args.owner s)) (sym c.in-Some-standing_of.ensures.lock)
+          (last_there c.args.owner c.args.pid s c.loop-lock.invariant.sound c.loop-lock.invariant.lives c.loop-lock.invariant.rest c.in-Some.lock (sym c.last_own.ensures ∙ c.in-Some.is));
+      withdrawal = c.rundown.ensures;
+      resources = c.withdraw.ensures.resources;
+      statuses = c.withdraw.ensures.statuses;
+      beside = c.withdraw.ensures.beside;
+      own_locks =
+          c.withdraw.ensures.own_locks
+          ∙ ap (λ stays. map but_notices (owned_after (goes stays f.queue) f.lock s.processes)) (ap (λ (w : Withdrawal). w.stays) c.rundown.ensures);
+      paid = c.withdraw.ensures.paid;
+      serial = c.resource_record.result.now.serial;
+      its_serial = c.resource_record.ensures.serial;
+      notes = c.note.ensures.noted;
+      room = c.note.ensures.room;
+    } in
+    omega (arith, fewer_own c.args.owner c.args.pid c.args.store.now s c.withdraw.new.store c.loop-lock.touched c.note.new.self f (plain_withdrawal c.rundown.result) c.loop-lock.invariant turn)
+
+pub loop-lock-preserved : goal.loop-lock-preserved
+loop-lock-preserved c =
+    let f = c.in-Some-standing_of.standing in
+    let s = c.loop-lock.store in
+    next_turn c.args.owner c.args.pid c.args.store.now s c.withdraw.new.store c.loop-lock.touched c.note.new.self f (plain_withdrawal c.rundown.result) c.loop-lock.invariant
+    (record {
+      sound = c.law_records_are_sound-in-Some-2.ensures;
+      standing = c.in-Some-standing_of.ensures.standing;
+      mine = subst (λ at. IsIn at (own_handles_at c.args.owner s)) (sym c.in-Some-standing_of.ensures.lock)
+          (last_there c.args.owner c.args.pid s c.loop-lock.invariant.sound c.loop-lock.invariant.lives c.loop-lock.invariant.rest c.in-Some.lock (sym c.last_own.ensures ∙ c.in-Some.is));
+      withdrawal = c.rundown.ensures;
+      resources = c.withdraw.ensures.resources;
+      statuses = c.withdraw.ensures.statuses;
+      beside = c.withdraw.ensures.beside;
+      own_locks =
+          c.withdraw.ensures.own_locks
+          ∙ ap (λ stays. map but_notices (owned_after (goes stays f.queue) f.lock s.processes)) (ap (λ (w : Withdrawal). w.stays) c.rundown.ensures);
+      paid = c.withdraw.ensures.paid;
+      serial = c.resource_record.result.now.serial;
+      its_serial = c.resource_record.ensures.serial;
+      notes = c.note.ensures.noted;
+      room = c.note.ensures.room;
+    })
+
+pub returns-in_default-clause-resources : goal.returns-in_default-clause-resources
+returns-in_default-clause-resources c =
+    sym (all_left c.args.owner c.args.pid c.loop-lock.store c.loop-lock.invariant.sound c.loop-lock.invariant.lives
+    (none_at_all (own_handles_at c.args.owner c.loop-lock.store) (sym c.last_own.ensures ∙ c.in_default.is)))
+    ∙ c.loop-lock.invariant.resources
+
+pub returns-in_default-clause-gone : goal.returns-in_default-clause-gone
+returns-in_default-clause-gone c =
+    no_locks c.args.owner c.args.pid c.loop-lock.store c.loop-lock.invariant.sound c.loop-lock.invariant.lives
+    (none_at_all (own_handles_at c.args.owner c.loop-lock.store) (sym c.last_own.ensures ∙ c.in_default.is))

@@ -1,0 +1,46 @@
+-- What becomes of the records where processes end.
+use Rattle.std.specs.Prelude.{◌≡◌, ◌==◌, ◌&&◌, ◌||◌, ◌+◌, ℕ, Bool, false, not, List, filter, length, sum_by, None, if◌then◌else◌}
+use Rattle.std.specs.List.{list_any}
+use Rattle.vlm_words.specs.declared.locks.Row.{Row}
+use Rattle.vlm_words.specs.declared.resources.Queue.TheVariants.{Granted}
+use Rattle.vlm_words.specs.State.{Resource}
+use Rattle.vlm_words.specs.Withdrawals.{is_writer}
+use Rattle.vlm_links.specs.Lists.{IsIn}
+use Rattle.vlm_store.specs.declared.handles.Place.{Place}
+use Rattle.vlm_store.specs.declared.handles.Place.TheVariants.{Queued}
+use Rattle.vlm_store.specs.Records.{Records, StoredLock, StoredResource, Stores, locks_at}
+
+-- the rows but for those of these processes
+abbrev pub rows_but : (ℕ → Bool) → List Row → List Row
+rows_but is_one rows = filter (λ row. not (is_one row.pid)) rows
+
+-- some row of these processes holds PW or EX
+abbrev pub has_writer_of : (ℕ → Bool) → List Row → Bool
+has_writer_of is_one rows = list_any (λ row. is_one row.pid && is_writer row.held) rows
+
+-- the resource without the locks of these processes; where one of them held PW or EX its value block is invalid
+unfoldable pub resource_after_rundown : (ℕ → Bool) → Resource → Resource
+resource_after_rundown is_one r = record r {
+  value_block =
+      if has_writer_of is_one r.granted || has_writer_of is_one r.converting
+      then record r.value_block { valid = false } else r.value_block;
+  granted = rows_but is_one r.granted;
+  converting = rows_but is_one r.converting;
+  waiting = rows_but is_one r.waiting;
+}
+
+-- a sublock is one of its parent's process
+abbrev pub SublocksAreOwn : Records → Type 0
+SublocksAreOwn s = (at other : ℕ) (row up : Row) → Stores s at row → Stores s other up → row.parent ≡ up.lkid → row.pid ≡ up.pid
+
+-- a granted lock wants nothing
+abbrev pub GrantedWantNothing : Records → Type 0
+GrantedWantNothing s = (res : ℕ) (lock : StoredLock) → IsIn lock (locks_at (Queued res Granted) s) → lock.row.want ≡ None
+
+-- each lock was there, in its place and with its row
+abbrev pub WereThere : Records → Records → Type 0
+WereThere old new = (place : Place) (lock : StoredLock) → IsIn lock (locks_at place new) → IsIn lock (locks_at place old)
+
+-- how many locks there are
+abbrev pub lock_total : Records → ℕ
+lock_total s = sum_by (λ r. length r.granted + length r.converting + length r.waiting) s.resources + length s.loose

@@ -1,0 +1,55 @@
+//! The end of a process: all its locks go.
+
+ghost use Rattle.std.specs.Prelude.{◌≡◌, ◌==◌, ◌≤◌, ◌+◌, ℕ, ◌++◌, [], length, map};
+ghost use Rattle.vlm_store.specs.Plain.{plain_processes, plain_resources};
+ghost use Rattle.vlm_store.specs.Records.{HasNoLocks, IsProcess};
+ghost use Rattle.vlm_locks.specs.Owing.{IsPaid};
+ghost use Rattle.vlm_locks.specs.Rest.{IsAtRest};
+ghost use Rattle.vlm_locks.specs.RunningDown.{GrantedWantNothing, SublocksAreOwn, WereThere, lock_total, resource_after_rundown};
+ghost use Rattle.vlm_locks.specs.Touched.{AreThere, OnlyTouched};
+
+use crate::finding::standing_of;
+use crate::touched::{Touch, Touched};
+use crate::withdrawals::Withdrawal;
+use crate::withdrawing::withdraw;
+use vlm_store::laws::law_records_are_sound;
+use vlm_store::{ProcAt, Store};
+
+/// Withdraws all locks of a process that ends: the requests end and nobody is told; where a lock is held at PW or EX its
+/// value block is marked invalid. Sublocks go before their parents, since these were made before them. What it touches is
+/// noted. The cost grows with the locks that go.
+pub fn run_down(store: &mut Store, touched: &mut Touched, owner: ProcAt, pid: u32)
+    requires rest { IsAtRest store.old }
+    requires owner { IsProcess owner pid store.old }
+    requires together { SublocksAreOwn store.old }
+    requires granted { GrantedWantNothing store.old }
+    requires paid { IsPaid store.old }
+    requires room { length touched.old.noted + lock_total store.old ≤ touched.old.room }
+    requires noted { AreThere touched.old.noted store.old }
+    ensures resources { plain_resources store.new
+        ≡ map (resource_after_rundown (λ p. p == pid)) (plain_resources store.old) }
+    ensures statuses { plain_processes store.new ≡ plain_processes store.old }
+    ensures owner { IsProcess owner pid store.new }
+    ensures gone { HasNoLocks owner store.new }
+    ensures were_there { WereThere store.old store.new }
+    ensures rest { IsAtRest store.new }
+    ensures paid { IsPaid store.new }
+    ensures noted { AreThere touched.new.noted store.new }
+    ensures only_touched { OnlyTouched touched.new.noted store.old store.new }
+    ensures room { length touched.new.noted + lock_total store.new ≤ touched.new.room }
+{
+    law_records_are_sound(store);
+    while let Some(lock) = store.last_own(owner) {
+        let Some(standing) = standing_of(store, lock) else {
+            break;
+        };
+        law_records_are_sound(store);
+        withdraw(store, &standing, &Withdrawal::rundown(standing.row.lkid));
+        law_records_are_sound(store);
+        let serial = store.resource_record(standing.res).serial;
+        touched.note(Touch {
+            serial,
+            res: standing.res,
+        });
+    }
+}
