@@ -8,6 +8,8 @@
 #![tactic(auto)]
 
 mod marks;
+mod nodes;
 mod words;
 
 pub use marks::Marks;
+pub use nodes::NodeMarks;
