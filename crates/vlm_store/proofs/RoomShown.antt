@@ -139,6 +139,7 @@ lock_room_kept s kept locks index is entries =
       processes_linked = kept.processes_linked;
       processes_ordered = kept.processes_ordered;
       processes = kept.processes;
+      marked = kept.marked;
     }
 
 -- more room for resources does so too
@@ -161,6 +162,7 @@ resource_room_kept s kept resources index is entries =
       processes_linked = kept.processes_linked;
       processes_ordered = kept.processes_ordered;
       processes = kept.processes;
+      marked = kept.marked;
     }
 
 -- a caller sees the room that was made

@@ -6,6 +6,7 @@ use Rattle.vlm_links.specs.Lists.{IsIn, IsLinked, handles_of}
 use Rattle.vlm_store.specs.declared.store.Store.TheInside.{Inside}
 use Rattle.vlm_store.specs.Index.{Indexes}
 use Rattle.vlm_words.specs.Keys.{is_same_key}
+use Rattle.vlm_store.specs.Pending.{IsMarked}
 use Rattle.vlm_store.specs.Records.{Records, Rooms, StoredProcess}
 use Rattle.vlm_store.specs.Holdings.{IsBelow, IsNamed, IsOwned, holding, pid_at, process_links, processes_of}
 use Rattle.vlm_store.specs.Shown.{IsPlaced, IsTallied, order_links}
@@ -32,7 +33,7 @@ abbrev pub records_shown : Inside → Records
 records_shown s = records_of (tables s.queues s.order (beside_shown s))
 
 -- each lock stands in the three lists that it notes, each resource counts its locks, resources and processes
--- stand in their orders, and each index finds just what is there
+-- stand in their orders, each index finds just what is there, and marked are just the processes with an AST pending
 pub record IsKept (s : Inside) : Type 0 where
   pub placed : IsPlaced s.queues None
   pub tallied : IsTallied s.queues None
@@ -46,3 +47,4 @@ pub record IsKept (s : Inside) : Type 0 where
   pub processes_linked : IsLinked process_links s.processes s.process_order
   pub processes_ordered : (at : ℕ) → ContainsKey s.processes at → IsIn at (handles_of process_links s.processes s.process_order)
   pub processes : Indexes (get nat_eq s.process_index) (pid_at s.processes)
+  pub marked : IsMarked s.processes s.pending

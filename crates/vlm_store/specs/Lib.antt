@@ -2,6 +2,7 @@ pub mod Families
 pub mod Holdings
 pub mod Index
 pub mod Kept
+pub mod Pending
 pub mod Plain
 pub mod Records
 pub mod Shown

@@ -24,6 +24,7 @@ pub mod laws;
 mod locks;
 mod neighbours;
 mod owners;
+mod pending;
 mod processes;
 mod queues;
 mod resources;

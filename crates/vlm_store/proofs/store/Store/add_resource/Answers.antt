@@ -70,6 +70,7 @@ invariant_of-self-2 c =
       processes_linked = kept.processes_linked;
       processes_ordered = kept.processes_ordered;
       processes = kept.processes;
+      marked = kept.marked;
     }
 
 pub returns-clause-added : goal.returns-clause-added

@@ -55,6 +55,7 @@ invariant_of-self c =
       processes_linked = kept.processes_linked;
       processes_ordered = kept.processes_ordered;
       processes = kept.processes;
+      marked = kept.marked;
     }
 
 pub returns : goal.returns

@@ -11,6 +11,7 @@ use Rattle.vlm_store.specs.Holdings.{pid_at, pid_of}
 use Rattle.vlm_store.proofs.Declaring.{empty_below, empty_named, empty_owned, empty_processes, empty_processes_linked, empty_processes_ordered}
 use Rattle.vlm_store.specs.Store.{key_at, lkid_at}
 use Rattle.vlm_store.proofs.Kept.{Indexes-empty, empty_linked, empty_ordered, empty_placed, empty_records, empty_tallied}
+use Rattle.vlm_store.proofs.Marked.{empty_marked}
 use Rattle.vlm_store.proofs.store.Store.new.Goals as goal
 
 pub invariant_of-result : goal.invariant_of-result
@@ -32,6 +33,7 @@ invariant_of-result c =
       processes_linked = empty_processes_linked c.new-5.result q.locks no_processes no_locks c.new-6.result c.new-6.ensures;
       processes_ordered = empty_processes_ordered c.new-5.result q.locks no_processes no_locks c.new-6.result c.new-6.ensures;
       processes = Indexes-empty (found nat_eq c.new-9.result) (pid_at c.new-5.result) (λ k. ap (lookup (nat_eq k)) c.new-9.ensures.empty) (λ p. ap (option_map pid_of) (no_processes p));
+      marked = empty_marked c.new-5.result c.new-10.result no_processes c.new-10.ensures;
     }
 
 pub returns : goal.returns

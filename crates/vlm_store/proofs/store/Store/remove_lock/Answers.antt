@@ -12,6 +12,7 @@ use Rattle.vlm_store.specs.Shown.{but_kin, but_queues, handles_at, lkid_of, rows
 use Rattle.vlm_store.specs.Store.{key_at, lkid_at, records_of, tables}
 use Rattle.vlm_store.proofs.Indexing.{Indexes-removed, Indexes-same}
 use Rattle.vlm_store.proofs.Kept.{faces_same}
+use Rattle.vlm_store.proofs.Marked.{own_marked}
 use Rattle.vlm_store.proofs.Kinship.{below_kin, below_owned, kin_handles, kin_placed, kin_rows, kin_tallied, own_kin, own_pids, own_process_linked, own_process_whole, records_processes}
 use Rattle.vlm_store.proofs.Layouts.{leaving-under_handle, lists_changed_beside}
 use Rattle.vlm_store.proofs.Leaving.{left_below, left_kin, left_lkids, left_named, left_owned, left_processes}
@@ -76,6 +77,7 @@ invariant_of-self c =
       processes_linked = own_process_linked s.processes c.leave_process.new.processes process.rest s.process_order kept.processes_linked;
       processes_ordered = own_process_whole s.processes c.leave_process.new.processes process.rest s.process_order kept.processes_linked kept.processes_ordered;
       processes = Indexes-same (get nat_eq s.process_index) (get nat_eq s.process_index) (pid_at s.processes) (pid_at c.leave_process.new.processes) (λ k. refl) (own_pids s.processes c.leave_process.new.processes process.rest) kept.processes;
+      marked = own_marked s.processes c.leave_process.new.processes s.pending process.rest kept.marked;
     }
 
 pub returns-clause-removed : goal.returns-clause-removed

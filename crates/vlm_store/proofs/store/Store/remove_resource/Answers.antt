@@ -53,6 +53,7 @@ invariant_of-self c =
       processes_linked = kept.processes_linked;
       processes_ordered = kept.processes_ordered;
       processes = kept.processes;
+      marked = kept.marked;
     }
 
 pub returns-clause-removed : goal.returns-clause-removed
