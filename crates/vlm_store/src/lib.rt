@@ -12,9 +12,13 @@
 //! locks in a process, sublocks in a lock. Resources and processes are linked in order of making. A resource
 //! counts its locks in a tally, so a lock that moves is counted out, linked anew, and counted in.
 //!
+//! Beside the indexes stand marks: of each node the processes that have an AST pending, so that the first of them is
+//! found without a walk.
+//!
 //! A slab and its index grow where one more record is to be added and there is no room, before anything is
 //! changed. Nothing else takes memory, but for the status blocks that a new process is given, and the room for
-//! the ASTs that a process is owed; and neither slab nor index shrinks.
+//! the ASTs that a process is owed; the room for the mark of a new process is made with its record. Neither slab nor
+//! index nor the marks shrink.
 #![tactic(auto)]
 
 mod counts;
