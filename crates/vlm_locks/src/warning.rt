@@ -76,8 +76,8 @@ fn warn_lock(store: &mut Store, res: ResAt, lock: LockAt)
     store.disarm(lock);
 }
 
-// Warns the granted locks of a resource, from the first that is armed to the last. The next one is read before one is
-// warned, since it is armed no more then.
+// Warns the armed locks of a resource, from the first to the last. Which one follows is read before a lock is warned,
+// since it may be armed no more then.
 fn warn_armed(store: &mut Store, res: ResAt)
     requires there { HasResource res store.old }
     requires paid { IsPaid store.old }
