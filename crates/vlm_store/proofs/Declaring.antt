@@ -176,6 +176,7 @@ module _ (s : Inside) (kept : IsKept s) (processes : Slab Process) (process_inde
   roomier = record {
     placed = kept.placed;
     tallied = kept.tallied;
+    armed = kept.armed;
     linked = kept.linked;
     ordered = kept.ordered;
     locks = kept.locks;

@@ -1,3 +1,5 @@
+pub mod ArmedSeen
+pub mod Arming
 pub mod Counted
 pub mod Counting
 pub mod Declaring

@@ -40,6 +40,7 @@ module _ (s : Inside) (kept : IsKept s) (at : ℕ) (was now : Process) (here : g
       record {
         placed = kept.placed;
         tallied = kept.tallied;
+        armed = kept.armed;
         linked = kept.linked;
         ordered = kept.ordered;
         locks = kept.locks;

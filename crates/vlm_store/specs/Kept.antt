@@ -4,6 +4,7 @@ use Rattle.slab.specs.Slab.{ContainsKey}
 use Rattle.indexmap.specs.IndexMap.{get, spare}
 use Rattle.vlm_links.specs.Lists.{IsIn, IsLinked, handles_of}
 use Rattle.vlm_store.specs.declared.store.Store.TheInside.{Inside}
+use Rattle.vlm_store.specs.Armed.{IsArmed}
 use Rattle.vlm_store.specs.Index.{Indexes}
 use Rattle.vlm_words.specs.Keys.{is_same_key}
 use Rattle.vlm_store.specs.Pending.{IsMarked}
@@ -32,11 +33,13 @@ beside_shown s = record { processes = processes_shown s; room = rooms_shown s }
 abbrev pub records_shown : Inside → Records
 records_shown s = records_of (tables s.queues s.order (beside_shown s))
 
--- each lock stands in the three lists that it notes, each resource counts its locks, resources and processes
--- stand in their orders, each index finds just what is there, and marked are just the processes with an AST pending
+-- each lock stands in the three lists that it notes, each resource counts its locks and has the armed ones among the
+-- granted, resources and processes stand in their orders, each index finds just what is there, and marked are just the
+-- processes with an AST pending
 pub record IsKept (s : Inside) : Type 0 where
   pub placed : IsPlaced s.queues None
   pub tallied : IsTallied s.queues None
+  pub armed : IsArmed s.queues None
   pub linked : IsLinked order_links s.queues.resources s.order
   pub ordered : (res : ℕ) → ContainsKey s.queues.resources res → IsIn res (handles_of order_links s.queues.resources s.order)
   pub locks : Indexes (get nat_eq s.lock_index) (lkid_at s.queues)

@@ -1,3 +1,4 @@
+pub mod Armed
 pub mod Families
 pub mod Holdings
 pub mod Index

@@ -61,6 +61,7 @@ invariant_of-self-2 c =
     record {
       placed = kept.placed;
       tallied = kept.tallied;
+      armed = kept.armed;
       linked = kept.linked;
       ordered = kept.ordered;
       locks = kept.locks;

@@ -10,7 +10,8 @@ use Rattle.vlm_words.specs.Keys.{is_same_key}
 use Rattle.vlm_store.specs.Holdings.{pid_at, pid_of}
 use Rattle.vlm_store.proofs.Declaring.{empty_below, empty_named, empty_owned, empty_processes, empty_processes_linked, empty_processes_ordered}
 use Rattle.vlm_store.specs.Store.{key_at, lkid_at}
-use Rattle.vlm_store.proofs.Kept.{Indexes-empty, empty_linked, empty_ordered, empty_placed, empty_records, empty_tallied}
+use Rattle.vlm_store.proofs.Arming.{empty_armed}
+use Rattle.vlm_store.proofs.Kept.{Indexes-empty, empty_handles, empty_linked, empty_ordered, empty_placed, empty_records, empty_tallied}
 use Rattle.vlm_store.proofs.Marked.{empty_marked}
 use Rattle.vlm_store.proofs.store.Store.new.Goals as goal
 
@@ -23,6 +24,7 @@ invariant_of-result c =
     record {
       placed = empty_placed q no_locks no_resources c.new-3.ensures;
       tallied = empty_tallied q no_locks no_resources c.new-3.ensures;
+      armed = empty_armed q no_resources (empty_handles q no_locks no_resources c.new-3.ensures);
       linked = empty_linked q no_locks no_resources c.new-3.ensures c.new-4.result c.new-4.ensures;
       ordered = empty_ordered q no_locks no_resources c.new-3.ensures c.new-4.result c.new-4.ensures;
       locks = Indexes-empty (found nat_eq c.new-7.result) (lkid_at q) (λ k. ap (lookup (nat_eq k)) c.new-7.ensures.empty) (λ at. ap (option_map lkid_of) (no_locks at));

@@ -45,6 +45,7 @@ invariant_of-self c =
     record {
       placed = kept.placed;
       tallied = kept.tallied;
+      armed = kept.armed;
       linked = kept.linked;
       ordered = kept.ordered;
       locks = kept.locks;

@@ -40,6 +40,7 @@ invariant_of-self c =
     record {
       placed = gone.placed;
       tallied = gone.tallied;
+      armed = gone.armed;
       linked = gone.linked;
       ordered = whole_left order_links s.queues.resources q'.resources s.order c.remove_resource.new.order c.args.res kept.ordered gone.order gone.gone
           (λ r differs. there_by_face (slot_of q'.resources r) (slot_of s.queues.resources r) (gone.faces r differs));
