@@ -2,6 +2,7 @@ pub mod Admitting
 pub mod Callers
 pub mod Conversions
 pub mod Entries
+pub mod FirstPending
 pub mod Made
 pub mod Making
 pub mod Reaching

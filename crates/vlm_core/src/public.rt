@@ -94,7 +94,7 @@ impl Core {
     /// ends in it queues an AST for its completion routine, if it names one; a grant at once with SYNCSTS
     /// does not, since the answer tells of it. Then each granted lock that is in the way of a queued request
     /// is warned, once for each grant of it: an AST for its blocking routine is queued, if its request names
-    /// one. Its cost grows with what it grants, where it warns also with the granted locks of that resource,
+    /// one. Its cost grows with what it grants, where it warns also with the armed locks of that resource,
     /// and with nothing else that is held.
     pub fn step(&mut self, step: Step) -> Answer
         ensures { Outcome self.old step self.new result }

@@ -1,8 +1,9 @@
-//! The readers: they show the status blocks, and the resources and their queues, take no memory and
-//! change nothing.
+//! The readers: they show the status blocks, whose ASTs are pending, and the resources and their queues, take no memory
+//! and change nothing.
 
 ghost use Rattle.std.specs.Prelude.{◌≡◌, length, slice_get};
 ghost use Rattle.std.specs.Option.{option_map};
+ghost use Rattle.vlm_words.specs.Pending.{first_pending};
 ghost use Rattle.vlm_words.specs.State.{process_of};
 ghost use Rattle.vlm_words.specs.StatusBlocks.{status_block_at};
 ghost use Rattle.vlm_queue.specs.Views.{resource_view, row_shown};
@@ -12,6 +13,7 @@ use crate::public::Core;
 use vlm_procs::{pending, status_block};
 use vlm_queue::{ResourceView, RowView, resource_at, row_at};
 use vlm_words::blocks::Block;
+use vlm_words::laws::law_identifications_of_processes_rise;
 use vlm_words::resources::Queue;
 
 impl Core {
@@ -32,6 +34,15 @@ impl Core {
     {
         let caller = living(&self.machine.store, pid)?;
         Some(pending(&self.machine.store, caller.at))
+    }
+
+    /// The first living process of a node, in order of making, that has an AST pending. None where none of the node
+    /// has one. It takes constant time, however many processes there are.
+    pub fn pending_of(&self, node: u8) -> Option<u32>
+        ensures { result ≡ first_pending node self.now.processes }
+    {
+        law_identifications_of_processes_rise();
+        self.machine.store.pending_of(node)
     }
 
     /// How many resources have locks.

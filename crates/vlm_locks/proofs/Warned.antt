@@ -3,7 +3,7 @@ use Rattle.std.proofs.Common.{◌≡◌, ◌≢◌, ◌≤◌, ◌<◌, ◌+◌,
 use Rattle.std.specs.Prelude.{◌==◌}
 use Rattle.std.specs.List.{list_any}
 use Rattle.std.specs.Option.{option_map_or}
-use Rattle.std.proofs.lemmas.Bool.{and_parts, cases_eq, or_parts}
+use Rattle.std.proofs.lemmas.Bool.{and_parts, cases_Bool, cases_eq, or_parts}
 use Rattle.std.proofs.lemmas.List.{append-nil, map-append}
 use Rattle.std.proofs.lemmas.Option.{none-some, same_Some}
 use Rattle.vlm_words.specs.declared.locks.Row.{Row}
@@ -15,6 +15,7 @@ use Rattle.vlm_words.specs.Dues.{due_to, one_where, routines_of, row_due}
 use Rattle.vlm_words.proofs.Warned.{blind_warned}
 use Rattle.vlm_links.specs.Lists.{IsIn}
 use Rattle.vlm_store.specs.declared.handles.Place.TheVariants.{Loose, Queued}
+use Rattle.vlm_store.specs.Armed.{IsArmedAt, armed_among, armed_at}
 use Rattle.vlm_store.specs.Plain.{plain_processes, plain_resource}
 use Rattle.vlm_store.specs.Records.{AreApart, DueChanges, HasResource, IsSameLock, IsSound, Records, SameButNotices, StoredLock, StoredResource, Stores, at_after, but_notices, disarmed, disarming, due_of, first_at, locks_at, on_resource, queued, resource_at, resource_with, rows_of_locks, with_lists}
 use Rattle.vlm_store.proofs.Records.{map_on, queue_at}
@@ -22,6 +23,7 @@ use Rattle.vlm_locks.specs.Owing.{DueMoves, IsPaid, OwedMoves, due_for}
 use Rattle.vlm_locks.specs.Rest.{IsReplaced}
 use Rattle.vlm_locks.specs.Staying.{LocksStay}
 use Rattle.vlm_locks.specs.Warning.{IsLockWarned, IsWarned, disarmed_if, disarmed_row, is_warned_on}
+use Rattle.vlm_locks.proofs.ArmedOnes.{StartsArmed, among_armed, among_between, armed_apart, armed_split, behind, from_armed, from_lock, handles, handles_from}
 use Rattle.vlm_locks.proofs.Found.{on_resource-own, on_resource-put, resource_alone, resource_at-put}
 use Rattle.vlm_locks.proofs.Owing.{due_noticed, owed_moves, owed_other, owed_own, paid_still, weight}
 use Rattle.vlm_locks.proofs.Replaced.{found_left, left_at}
@@ -127,28 +129,89 @@ pub record IsWarning (res : ℕ) (old s : Records) (next : Option ℕ) : Type 0 
   pub effect : processes_after_asts (flat_map (row_warnings (rows_of_locks had.converting) (rows_of_locks had.waiting)) (rows_of_locks todo)) (plain_processes s)
       ≡ processes_after_asts (warnings (plain_resource had)) (plain_processes old)
 
+-- one that is not armed is not warned
+unarmed_stays : (r : StoredResource) (k : StoredLock) → k.row.armed ≡ false → warned_lock r k ≡ k
+unfolding is_to_warn row_after_warning
+unarmed_stays r k is = rw is refl
+
+unarmed_says_nothing : (r : StoredResource) (k : StoredLock) → k.row.armed ≡ false → row_warnings (rows_of_locks r.converting) (rows_of_locks r.waiting) k.row ≡ []
+unfolding is_to_warn row_warnings
+unarmed_says_nothing r k is = rw is refl
+
+-- the walk passes over it
+passed : (res : ℕ) (old s : Records) (next : Option ℕ) (w : IsWarning res old s next) (k : StoredLock) (rest : List StoredLock) → w.todo ≡ k ∷ rest → k.row.armed ≡ false
+    → (x : IsWarning res old s (first_at rest)) × (x.todo ≡ rest)
+passed res old s next w k rest is unarmed =
+    let warned = warned_lock w.had in
+    let says = row_warnings (rows_of_locks w.had.converting) (rows_of_locks w.had.waiting) in
+    let same : map warned w.done ++ w.todo ≡ map warned (w.done ++ k ∷ []) ++ rest =
+    ap (λ locks. map warned w.done ++ locks) is
+    ∙ sym (
+    ap (λ locks. locks ++ rest) (map-append warned w.done (k ∷ []))
+    ∙ append_assoc (map warned w.done) (warned k ∷ []) rest
+    ∙ ap (λ (x : StoredLock). map warned w.done ++ x ∷ rest) (unarmed_stays w.had k unarmed)
+    ) in (
+      record {
+        had = w.had;
+        done = w.done ++ k ∷ [];
+        todo = rest;
+        split = w.split ∙ ap (λ locks. w.done ++ locks) is ∙ sym (append_assoc w.done (k ∷ []) rest);
+        replaced = subst (λ locks. IsReplaced res w.had (record w.had { granted = locks }) old s) same w.replaced;
+        first = refl;
+        effect =
+            ap (λ asts. processes_after_asts (asts ++ flat_map says (rows_of_locks rest)) (plain_processes s)) (sym (unarmed_says_nothing w.had k unarmed))
+            ∙ ap (λ locks. processes_after_asts (flat_map says (rows_of_locks locks)) (plain_processes s)) (sym is)
+            ∙ w.effect;
+      },
+      refl,
+    )
+
+-- it stands at an armed lock, or at the end
+pub record IsAtArmed (res : ℕ) (old s : Records) (next : Option ℕ) : Type 0 where
+  pub warning : IsWarning res old s next
+  pub armed : StartsArmed warning.todo
+
+-- from where it stands it goes on to the first that is armed
+to_armed : (res : ℕ) (old s : Records) (todo : List StoredLock) (next after : Option ℕ) (w : IsWarning res old s next) → w.todo ≡ todo → after ≡ first_at (armed_among todo) → IsAtArmed res old s after
+to_armed res old s [] next after w is first = record {
+  warning = record { had = w.had; done = w.done; todo = w.todo; split = w.split; replaced = w.replaced; first = first ∙ ap first_at (sym is); effect = w.effect };
+  armed = subst StartsArmed (sym is) tt;
+}
+to_armed res old s (k ∷ rest) next after w is first =
+    elim (cases_Bool k.row.armed) [
+      | inl armed ↦ record {
+        warning = record { had = w.had; done = w.done; todo = w.todo; split = w.split; replaced = w.replaced; first = (rw armed at first) ∙ ap first_at (sym is); effect = w.effect };
+        armed = subst StartsArmed (sym is) armed;
+      }
+      | inr unarmed ↦
+          let on = passed res old s next w k rest is unarmed in
+          to_armed res old s rest (first_at rest) after on.0 on.1 (rw unarmed at first)
+    ]
+
 -- before the first
-pub warning_begun : (res : ℕ) (s : Records) (next : Option ℕ) → IsSound s → HasResource res s → next ≡ first_at (locks_at (Queued res Granted) s) → IsWarning res s s next
+pub warning_begun : (res : ℕ) (s : Records) (next : Option ℕ) → IsSound s → HasResource res s → next ≡ first_at (armed_at res s) → IsAtArmed res s s next
 unfolding warnings
 warning_begun res s next sound there is = of_found (resource_at res s.resources) refl there
   where
-    of_found : (o : Option StoredResource) → resource_at res s.resources ≡ o → IsSome o → IsWarning res s s next
+    of_found : (o : Option StoredResource) → resource_at res s.resources ≡ o → IsSome o → IsAtArmed res s s next
     of_found None found there = cc
-    of_found (Some r) found there = record {
-      had = r;
-      done = [];
-      todo = r.granted;
-      split = refl;
-      replaced = record {
-        was = found;
-        same = refl;
-        resources = sym (on_resource-own res r s.resources sound.resources_apart found);
-        loose = refl;
-        processes = refl;
-      };
-      first = is ∙ ap first_at (ap (λ o. option_map_or (queued Granted) o []) found);
-      effect = refl;
-    }
+    of_found (Some r) found there =
+        let w : IsWarning res s s (first_at r.granted) = record {
+          had = r;
+          done = [];
+          todo = r.granted;
+          split = refl;
+          replaced = record {
+            was = found;
+            same = refl;
+            resources = sym (on_resource-own res r s.resources sound.resources_apart found);
+            loose = refl;
+            processes = refl;
+          };
+          first = refl;
+          effect = refl;
+        } in
+        to_armed res s s r.granted (first_at r.granted) next w refl (is ∙ ap (λ o. first_at (armed_among (option_map_or (queued Granted) o []))) found)
 
 -- a list without the lock stays
 disarm_absent : (at : ℕ) (locks : List StoredLock) → ((row : Row) → ¬ IsIn (record { at = at; row = row }) locks) → map (λ (k : StoredLock). cond (k.at == at) (disarmed k) k) locks ≡ locks
@@ -171,27 +234,9 @@ disarm_among (x ∷ before) rest k apart =
     among lock [] ys = inl refl
     among lock (y ∷ xs) ys = inr (among lock xs ys)
 
--- the handles of locks, and those from one on
-abbrev pub handles : List StoredLock → List ℕ
-handles locks = map (λ (k : StoredLock). k.at) locks
-
-abbrev pub handles_from : Option ℕ → List ℕ → List ℕ
-handles_from None ats = []
-handles_from (Some at) [] = []
-handles_from (Some at) (x ∷ rest) = cond (x == at) (x ∷ rest) (handles_from (Some at) rest)
-
 -- those that a walk of the granted locks has left
 abbrev pub left_to_warn : ℕ → Option ℕ → Records → List ℕ
 left_to_warn res next s = handles_from next (handles (locks_at (Queued res Granted) s))
-
--- a lock between others, and the one behind it
-among_between : (lock : StoredLock) (xs ys : List StoredLock) → IsIn lock (xs ++ lock ∷ ys)
-among_between lock [] ys = inl refl
-among_between lock (x ∷ xs) ys = inr (among_between lock xs ys)
-
-among_second : (lock k : StoredLock) (xs ys : List StoredLock) → IsIn k (xs ++ lock ∷ k ∷ ys)
-among_second lock k [] ys = inr (inl refl)
-among_second lock k (x ∷ xs) ys = inr (among_second lock k xs ys)
 
 -- what a warning makes of a lock
 lock_is_warned : (r : StoredResource) (k : StoredLock) → is_warned_on r k.row ≡ true → warned_lock r k ≡ disarmed k
@@ -381,39 +426,32 @@ module _ (res : ℕ) (old s : Records) (next : Option ℕ) (warning : IsWarning 
     pub next_stored : Stores s lock has_next.row
     next_stored = (Queued res Granted, next_stands)
 
-    -- the lock that follows it
-    pub follows : (after : Option ℕ) → after ≡ at_after lock (locks_at (Queued res Granted) s) → after ≡ first_at has_next.rest
-    follows after is = is ∙ ap (at_after lock) granted_split ∙ behind before granted_apart
-      where
-        behind : (xs : List StoredLock) → AreApart (xs ++ own ∷ has_next.rest) → at_after lock (xs ++ own ∷ has_next.rest) ≡ first_at has_next.rest
-        behind [] apart = rw (eq-eqb lock lock refl) refl
-        behind (x ∷ xs) apart =
-            rw (ne_eqb x.at lock (λ same. apart.0 has_next.row (subst (λ (at : ℕ). IsIn (record { at = at; row = has_next.row }) (xs ++ own ∷ has_next.rest)) (sym same) (among_between own xs has_next.rest))))
-            (behind xs apart.1)
+    module _ (armed : StartsArmed warning.todo) where
+      own_armed : has_next.row.armed ≡ true
+      own_armed = subst StartsArmed has_next.is armed
+
+      pub stands_armed : IsArmedAt res lock s
+      stands_armed = (has_next.row, among_armed own (locks_at (Queued res Granted) s) next_stands own_armed)
+
+      -- the armed lock that follows it
+      pub follows : (after : Option ℕ) → after ≡ at_after lock (armed_at res s) → after ≡ first_at (armed_among has_next.rest)
+      follows after is =
+          let split : armed_among (before ++ own ∷ has_next.rest) ≡ armed_among before ++ own ∷ armed_among has_next.rest = armed_split before own has_next.rest own_armed in
+          is ∙ ap (at_after lock) (ap armed_among granted_split ∙ split)
+          ∙ behind own (armed_among has_next.rest) (armed_among before) (subst AreApart split (armed_apart (before ++ own ∷ has_next.rest) granted_apart))
 
     -- what is left for the walk is one less behind it
-    pub left_shorter : (after : Option ℕ) → after ≡ first_at has_next.rest → length (left_to_warn res after s) < length (left_to_warn res next s)
+    pub left_shorter : (after : Option ℕ) → after ≡ first_at (armed_among has_next.rest) → length (left_to_warn res after s) < length (left_to_warn res next s)
     left_shorter after is =
         let here : left_to_warn res next s ≡ lock ∷ handles has_next.rest =
-        ap (λ (n : Option ℕ). handles_from n (handles (locks_at (Queued res Granted) s))) (sym first) ∙ ap (λ locks. handles_from (Some lock) (handles locks)) granted_split ∙ from_own before granted_apart in
-        let there : left_to_warn res after s ≡ handles has_next.rest =
-        ap (λ (n : Option ℕ). handles_from n (handles (locks_at (Queued res Granted) s))) is ∙ ap (λ locks. handles_from (first_at has_next.rest) (handles locks)) granted_split
-        ∙ from_rest has_next.rest before granted_apart in
-        rw (here, there) (omega arith)
-      where
-        from_own : (xs : List StoredLock) → AreApart (xs ++ own ∷ has_next.rest) → handles_from (Some lock) (handles (xs ++ own ∷ has_next.rest)) ≡ lock ∷ handles has_next.rest
-        from_own [] apart = rw (eq-eqb lock lock refl) refl
-        from_own (x ∷ xs) apart =
-            rw (ne_eqb x.at lock (λ same. apart.0 has_next.row (subst (λ (at : ℕ). IsIn (record { at = at; row = has_next.row }) (xs ++ own ∷ has_next.rest)) (sym same) (among_between own xs has_next.rest))))
-            (from_own xs apart.1)
-
-        from_rest : (rest : List StoredLock) (xs : List StoredLock) → AreApart (xs ++ own ∷ rest) → handles_from (first_at rest) (handles (xs ++ own ∷ rest)) ≡ handles rest
-        from_rest [] xs apart = refl
-        from_rest (k ∷ rest) [] apart =
-            rw (ne_eqb lock k.at (λ same. apart.0 k.row (subst (λ (at : ℕ). IsIn (record { at = at; row = k.row }) (k ∷ rest)) (sym same) (inl refl))), eq-eqb k.at k.at refl) refl
-        from_rest (k ∷ rest) (x ∷ xs) apart =
-            rw (ne_eqb x.at k.at (λ same. apart.0 k.row (subst (λ (at : ℕ). IsIn (record { at = at; row = k.row }) (xs ++ own ∷ k ∷ rest)) (sym same) (among_second own k xs rest))))
-            (from_rest (k ∷ rest) xs apart.1)
+        ap (λ (n : Option ℕ). handles_from n (handles (locks_at (Queued res Granted) s))) (sym first) ∙ ap (λ locks. handles_from (Some lock) (handles locks)) granted_split
+        ∙ from_lock own has_next.rest before granted_apart in
+        let apart : before ++ own ∷ has_next.rest ≡ (before ++ own ∷ []) ++ has_next.rest = sym (append_assoc before (own ∷ []) has_next.rest) in
+        let there : left_to_warn res after s ≡ handles_from (first_at (armed_among has_next.rest)) (handles ((before ++ own ∷ []) ++ has_next.rest)) =
+        ap (λ (n : Option ℕ). handles_from n (handles (locks_at (Queued res Granted) s))) is
+        ∙ ap (λ locks. handles_from (first_at (armed_among has_next.rest)) (handles locks)) (granted_split ∙ apart) in
+        let few = from_armed has_next.rest (before ++ own ∷ []) (subst AreApart apart granted_apart) in
+        rw (here, there) (omega (arith, few))
 
     -- the resource once it is warned too
     abbrev then : StoredResource
@@ -461,28 +499,30 @@ module _ (res : ℕ) (old s : Records) (next : Option ℕ) (warning : IsWarning 
           of_test false is = (subst (λ b. SameButNotices (disarmed_if b lock s) t) is warned.only).processes
 
       -- the walk goes on
-      pub warning_next : (after : Option ℕ) → after ≡ first_at has_next.rest → IsWarning res old t after
-      warning_next after is = record {
-        had = warning.had;
-        done = warning.done ++ own ∷ [];
-        todo = has_next.rest;
-        split = warning.split ∙ ap (λ locks. warning.done ++ locks) has_next.is ∙ sym (append_assoc warning.done (own ∷ []) has_next.rest);
-        replaced = record {
-          was = warning.replaced.was;
-          same = refl;
-          resources =
-              resources_then ∙ ap (on_resource res (λ r. then)) warning.replaced.resources
-              ∙ on_resource-put res now (λ r. then) old.resources (left_at res warning.had now old s warning.replaced);
-          loose = loose_then ∙ warning.replaced.loose;
-          processes = processes_then ∙ warning.replaced.processes;
-        };
-        first = is;
-        effect =
-            ap (processes_after_asts (flat_map (row_warnings converting waiting) (rows_of_locks has_next.rest))) warned.queued
-            ∙ sym (asts_append (row_warnings converting waiting has_next.row) (flat_map (row_warnings converting waiting) (rows_of_locks has_next.rest)) (plain_processes s))
-            ∙ ap (λ locks. processes_after_asts (flat_map (row_warnings converting waiting) (rows_of_locks locks)) (plain_processes s)) (sym has_next.is)
-            ∙ warning.effect;
-      }
+      pub warning_next : (after : Option ℕ) → after ≡ first_at (armed_among has_next.rest) → IsAtArmed res old t after
+      warning_next after is =
+          let w : IsWarning res old t (first_at has_next.rest) = record {
+            had = warning.had;
+            done = warning.done ++ own ∷ [];
+            todo = has_next.rest;
+            split = warning.split ∙ ap (λ locks. warning.done ++ locks) has_next.is ∙ sym (append_assoc warning.done (own ∷ []) has_next.rest);
+            replaced = record {
+              was = warning.replaced.was;
+              same = refl;
+              resources =
+                  resources_then ∙ ap (on_resource res (λ r. then)) warning.replaced.resources
+                  ∙ on_resource-put res now (λ r. then) old.resources (left_at res warning.had now old s warning.replaced);
+              loose = loose_then ∙ warning.replaced.loose;
+              processes = processes_then ∙ warning.replaced.processes;
+            };
+            first = refl;
+            effect =
+                ap (processes_after_asts (flat_map (row_warnings converting waiting) (rows_of_locks has_next.rest))) warned.queued
+                ∙ sym (asts_append (row_warnings converting waiting has_next.row) (flat_map (row_warnings converting waiting) (rows_of_locks has_next.rest)) (plain_processes s))
+                ∙ ap (λ locks. processes_after_asts (flat_map (row_warnings converting waiting) (rows_of_locks locks)) (plain_processes s)) (sym has_next.is)
+                ∙ warning.effect;
+          } in
+          to_armed res old t has_next.rest (first_at has_next.rest) after w refl is
         where
           converting : List Row
           converting = rows_of_locks warning.had.converting
@@ -491,7 +531,7 @@ module _ (res : ℕ) (old s : Records) (next : Option ℕ) (warning : IsWarning 
           waiting = rows_of_locks warning.had.waiting
 
       -- with one lock less to look at
-      pub warning_shorter : (after : Option ℕ) → after ≡ first_at has_next.rest → length (left_to_warn res after t) < length (left_to_warn res next s)
+      pub warning_shorter : (after : Option ℕ) → after ≡ first_at (armed_among has_next.rest) → length (left_to_warn res after t) < length (left_to_warn res next s)
       warning_shorter after is =
           let there : handles (locks_at (Queued res Granted) t) ≡ handles (locks_at (Queued res Granted) s) =
           ap (λ o. handles (option_map_or (queued Granted) o []))

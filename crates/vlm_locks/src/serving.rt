@@ -103,7 +103,7 @@ fn grant_queued(store: &mut Store, res: ResAt)
 /// Grants what can be granted on a resource: conversions first, then new requests, each queue up to the
 /// first that does not fit. Each grant takes effect on the value block and on its status block, and its completion AST
 /// is queued. Then the granted locks are warned that are in the way of what is queued still. The cost grows with what
-/// is granted and, where a lock is to be warned, with the granted locks.
+/// is granted and, where a lock is to be warned, with the armed locks.
 pub(crate) fn serve(store: &mut Store, res: ResAt)
     requires there { HasResource res store.old }
     requires paid { IsPaid store.old }

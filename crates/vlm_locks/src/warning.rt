@@ -10,12 +10,10 @@ ghost use Rattle.vlm_locks.specs.Owing.{IsPaid, OwedMoves};
 ghost use Rattle.vlm_locks.specs.Warning.{IsLockWarned, IsWarned, disarmed_row};
 
 use vlm_procs::{forgive, queue};
-use vlm_queue::{head, next};
 use vlm_store::laws::law_records_are_sound;
 use vlm_store::{LockAt, ProcAt, ResAt, Store};
 use vlm_words::asts::{Ast, AstKind};
 use vlm_words::locks::Row;
-use vlm_words::resources::Queue;
 
 // Whether a granted lock with this row is to be warned: it is armed, and what it holds is in the way of a queued
 // request.
@@ -78,8 +76,9 @@ fn warn_lock(store: &mut Store, res: ResAt, lock: LockAt)
     store.disarm(lock);
 }
 
-// Warns the granted locks of a resource, from the first to the last.
-fn warn_granted(store: &mut Store, res: ResAt)
+// Warns the armed locks of a resource, from the first to the last. Which one follows is read before a lock is warned,
+// since it may be armed no more then.
+fn warn_armed(store: &mut Store, res: ResAt)
     requires there { HasResource res store.old }
     requires paid { IsPaid store.old }
     ensures warned { IfSome (resource_at res store.old.resources)
@@ -87,16 +86,17 @@ fn warn_granted(store: &mut Store, res: ResAt)
     ensures paid { IsPaid store.new }
 {
     law_records_are_sound(store);
-    let mut at = head(store, res, Queue::Granted);
+    let mut at = store.first_armed(res);
     while let Some(lock) = at {
         law_records_are_sound(store);
-        at = next(store, lock);
+        at = store.next_armed(res, lock);
         warn_lock(store, res, lock);
     }
 }
 
 /// Warns the granted locks of a resource that are armed and in the way of a queued request, in their order: the
-/// blocking AST of each is queued, and it is armed no more. Where counts show that there is none, no lock is looked at.
+/// blocking AST of each is queued, and it is armed no more. Where counts show that there is none, no lock is looked at;
+/// else those that are armed are.
 pub(crate) fn warn(store: &mut Store, res: ResAt)
     requires there { HasResource res store.old }
     requires paid { IsPaid store.old }
@@ -106,6 +106,6 @@ pub(crate) fn warn(store: &mut Store, res: ResAt)
 {
     law_records_are_sound(store);
     if store.may_warn(res) {
-        warn_granted(store, res);
+        warn_armed(store, res);
     }
 }

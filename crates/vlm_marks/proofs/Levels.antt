@@ -89,9 +89,9 @@ marks-grown m new marks count shown less is =
 pub room_for : (new : List ℕ) (place n : ℕ) → place ≡ n → length new ≡ place / 64 + 1 → n < length (marks_of new)
 room_for new place n same len = omega (arith, length-marks_of new)
 
--- where there are fewer words there is no room
-pub no_room : (m : Inside) (marks : List Bool) (place n : ℕ) → marks_of m.numbers.items ≡ marks → place ≡ n → length m.numbers.items < place / 64 + 1 → n < length marks → ⊥
-no_room m marks place n shown same less within = omega (arith, has_word m marks n shown within)
+-- where there are fewer words there is no room for the first number of the last one
+pub no_room : (m : Inside) (marks : List Bool) (place n : ℕ) → marks_of m.numbers.items ≡ marks → place ≡ n → length m.numbers.items < place / 64 + 1 → 64 * (n / 64) < length marks → ⊥
+no_room m marks place n shown same less within = omega (arith, has_word m marks (64 * (n / 64)) shown within)
 
 -- where there are as many words there is room
 pub has_room : (m : Inside) (marks : List Bool) (place n : ℕ) → marks_of m.numbers.items ≡ marks → place ≡ n → place / 64 + 1 ≤ length m.numbers.items → n < length marks

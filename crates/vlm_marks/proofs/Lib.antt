@@ -1,3 +1,4 @@
 pub mod Bits
 pub mod Levels
 pub mod Numbers
+pub mod Placed

@@ -1,5 +1,5 @@
 -- The marks of numbers, by their bits.
-use Rattle.std.proofs.Common.{◌≡◌, ℕ, ◌+◌, ◌-◌, ◌*◌, ◌/◌, ◌<◌, ◌≤◌, Bool, false, List, ◌++◌, length, get_or, set, replicate, None, Some, min, refl, sym, ap, ◌∙◌, inl, inr, arith}
+use Rattle.std.proofs.Common.{◌≡◌, ℕ, ◌+◌, ◌-◌, ◌*◌, ◌/◌, ◌<◌, ◌≤◌, Bool, false, List, ◌++◌, length, get_or, set, replicate, None, Some, refl, sym, ap, ◌∙◌, inl, inr, arith}
 use Rattle.std.specs.Prelude.{◌==◌, position}
 use Rattle.std.proofs.lemmas.Bool.{cases_eq, le-ltb, lt-ltb}
 use Rattle.std.proofs.lemmas.List.{get_or-set_same, get_or-set_other, get_or_past, get_or-replicate, length-append, length-replicate, length-set}
@@ -7,7 +7,7 @@ use Rattle.std.proofs.lemmas.List.FromFn.{fill_by_all, get_or-map-range_with_len
 use Rattle.std.proofs.lemmas.List.Sums.{position_or_len_is}
 use Rattle.std.proofs.Math.ListN.{get_or-append}
 use Rattle.std.proofs.Math.Seq.{get_or-append_right}
-use Rattle.vlm_marks.specs.Words.{IsFirstBit, Sets, Tells, bit_of}
+use Rattle.vlm_marks.specs.Words.{IsFirstBit, Sets, bit_of}
 use Rattle.vlm_marks.specs.Marks.{marks_of}
 use Rattle.vlm_marks.proofs.Bits.{bit_of-zero, within-one}
 

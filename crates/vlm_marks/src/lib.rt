@@ -1,4 +1,4 @@
-//! A set of small numbers whose least is found at once.
+//! A set of small numbers whose least is found at once, and processes marked in such sets, node by node.
 //!
 //! A number is marked or not. Marking, unmarking and finding the least marked number take constant time and no
 //! memory: room for numbers is made beforehand, and that is the one call that may want memory.
@@ -8,6 +8,8 @@
 #![tactic(auto)]
 
 mod marks;
+mod nodes;
 mod words;
 
 pub use marks::Marks;
+pub use nodes::NodeMarks;

@@ -1,6 +1,6 @@
 //! Marked numbers in three levels of words.
 
-ghost use Rattle.std.specs.Prelude.{◌≡◌, ◌≤◌, ◌<◌, ◌-◌, ◌++◌, [], false, length, position, replicate, slice_index_or, slice_set, true, IsOk, OnErr, OnOk};
+ghost use Rattle.std.specs.Prelude.{◌≡◌, ◌≤◌, ◌<◌, ◌-◌, ◌*◌, ◌/◌, ◌++◌, [], false, length, position, replicate, slice_index_or, slice_set, true, IsOk, OnErr, OnOk};
 
 use crate::words::{clear_bit, first_bit, has_bit, set_bit};
 use std::alloc::{AllocError, Global};
@@ -55,7 +55,7 @@ impl Marks {
         ensures room { OnOk result (number < length self.new) }
         ensures unmarked { OnOk result (self.new
             ≡ self.old ++ replicate (length self.new - length self.old) false) }
-        ensures succeeds { number < length self.old → IsOk result }
+        ensures succeeds { 64 * (number / 64) < length self.old → IsOk result }
         ensures refused { OnErr result (self.new ≡ self.old) }
     {
         let count = usize::from(number) / 64 + 1;

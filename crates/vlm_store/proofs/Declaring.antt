@@ -16,11 +16,13 @@ use Rattle.vlm_store.specs.declared.resources.InOrder.{InOrder}
 use Rattle.vlm_store.specs.Shown.{no_list}
 use Rattle.vlm_store.specs.Holdings.{IsBelow, IsNamed, IsOwned, OwnerFits, ParentFits, below_links, below_list, but_order, holding, own_in, own_handles, own_links, own_list, owner_in, parent_in, pid_at, pid_of, process_face, process_face_in, process_links, process_under, processes_of}
 use Rattle.vlm_store.specs.Kept.{IsKept}
+use Rattle.vlm_store.specs.Pending.{waits_in}
 use Rattle.vlm_store.specs.declared.store.Store.TheInside.{Inside}
 use Rattle.vlm_store.proofs.Indexing.{Indexes-same}
 use Rattle.vlm_store.proofs.Families.{family-empty, family-kept}
 use Rattle.vlm_store.proofs.Kinship.{by_part}
 use Rattle.vlm_store.proofs.Making.{no_list_has}
+use Rattle.vlm_store.proofs.Marked.{kept_marked}
 use Rattle.vlm_store.proofs.OwnLocks.{written_same}
 
 -- ---- nothing is there yet
@@ -174,6 +176,7 @@ module _ (s : Inside) (kept : IsKept s) (processes : Slab Process) (process_inde
   roomier = record {
     placed = kept.placed;
     tallied = kept.tallied;
+    armed = kept.armed;
     linked = kept.linked;
     ordered = kept.ordered;
     locks = kept.locks;
@@ -184,4 +187,5 @@ module _ (s : Inside) (kept : IsKept s) (processes : Slab Process) (process_inde
     processes_linked = same-linked process_links s.processes processes s.process_order kept.processes_linked (λ p _. same p);
     processes_ordered = λ p there. rw (same-handles process_links s.processes processes s.process_order kept.processes_linked (λ x _. same x)) (kept.processes_ordered p (rw (same p) at there));
     processes = Indexes-same (found nat_eq s.process_index) (found nat_eq process_index) (pid_at s.processes) (pid_at processes) finds (λ p. ap (option_map pid_of) (same p)) kept.processes;
+    marked = kept_marked s.processes processes s.pending (λ p. ap (option_map pid_of) (same p)) (λ p. ap waits_in (same p)) kept.marked;
   }

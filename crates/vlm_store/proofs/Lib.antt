@@ -1,8 +1,11 @@
+pub mod ArmedSeen
+pub mod Arming
 pub mod Counted
 pub mod Counting
 pub mod Declaring
 pub mod Dues
 pub mod Families
+pub mod FirstPending
 pub mod Fitting
 pub mod Indexing
 pub mod Joining
@@ -12,6 +15,7 @@ pub mod Layouts
 pub mod Leaving
 pub mod Living
 pub mod Making
+pub mod Marked
 pub mod Members
 pub mod Order
 pub mod OwnLocks

@@ -19,6 +19,7 @@ use Rattle.vlm_words.specs.declared.resources.ValueBlock.{ValueBlock}
 use Rattle.vlm_store.specs.declared.locks.Lock.{Lock}
 use Rattle.vlm_store.specs.declared.queues.Queues.{Queues}
 use Rattle.vlm_store.specs.declared.resources.Resource.{Resource}
+use Rattle.vlm_store.specs.Armed.{IsArmed, armed_handles, armed_links, armed_list, armed_list_in}
 use Rattle.vlm_store.specs.Shown.{Face, IsPlaced, IsTallied, face_in, face_of, handles_at, list_at, list_in, no_list, queue_links, rows, shares, tally_in, with_order_links}
 use Rattle.vlm_tallies.specs.Tallies.{how_many, no_tally, total, weight_of}
 use Rattle.vlm_tallies.proofs.Totals.{none_counted}
@@ -71,6 +72,11 @@ module _ (q : Queues) (r1 r2 : Slab Resource) (at : ℕ) (made : Resource) (upda
     added_lists (Queued r queue) =
         relinked_same with_order_links (list_in queue) (list_stays queue) r1 r2 relinks r
         ∙ but_one (list_in queue) q.resources r1 at (ap (list_in queue) updates.changed ∙ made_list queue ∙ sym (ap (list_in queue) fresh)) (λ k differs. ap (list_in queue) (updates.others k differs)) r
+
+  pub added_armed : IsNoList made.armed → (r : ℕ) → armed_list_in (get r2 r) ≡ armed_list q r
+  added_armed none r =
+      relinked_same with_order_links armed_list_in (λ x pair. refl) r1 r2 relinks r
+      ∙ but_one armed_list_in q.resources r1 at (ap armed_list_in updates.changed ∙ no_list_is made.armed none ∙ sym (ap armed_list_in fresh)) (λ k differs. ap armed_list_in (updates.others k differs)) r
 
   pub added_tallies : made.tally ≡ no_tally → (r : ℕ) → tally_in (get r2 r) ≡ tally_in (get q.resources r)
   added_tallies none r =
@@ -139,6 +145,10 @@ module _ (q : Queues) (res : ℕ) (was now : Resource) (there : ContainsKey q.re
       but_one (list_in queue) q.resources (with_value q.resources res now) res (ap (list_in queue) written.changed ∙ lists queue ∙ sym (ap (list_in queue) here))
       (λ k differs. ap (list_in queue) (written.others k differs)) r
 
+  pub written_armed : now.armed ≡ was.armed → (r : ℕ) → armed_list_in (get (with_value q.resources res now) r) ≡ armed_list q r
+  written_armed same =
+      but_one armed_list_in q.resources (with_value q.resources res now) res (ap armed_list_in written.changed ∙ same ∙ sym (ap armed_list_in here)) (λ k differs. ap armed_list_in (written.others k differs))
+
   pub written_tallies : now.tally ≡ was.tally → (r : ℕ) → tally_in (get (with_value q.resources res now) r) ≡ tally_in (get q.resources r)
   written_tallies tally =
       but_one tally_in q.resources (with_value q.resources res now) res (ap tally_in written.changed ∙ tally ∙ sym (ap tally_in here)) (λ k differs. ap tally_in (written.others k differs))
@@ -163,6 +173,12 @@ module _ (q : Queues) (r1 r2 : Slab Resource) (at : ℕ) (relinks : Relinks with
       but_one (list_in queue) q.resources r2 at
       (ap (list_in queue) updates.changed ∙ sym (no_list_has queue_links q.locks (list_at q (Queued at queue)) (placed.linked (Queued at queue)) (idle queue)))
       (λ k differs. ap (list_in queue) (updates.others k differs) ∙ relinked_same with_order_links (list_in queue) (list_stays queue) q.resources r1 relinks k) r
+
+  pub removed_armed : IsArmed q None → (r : ℕ) → armed_list_in (get r2 r) ≡ armed_list q r
+  removed_armed armed =
+      but_one armed_list_in q.resources r2 at
+      (ap armed_list_in updates.changed ∙ sym (no_list_has armed_links q.locks (armed_list q at) (armed.linked at) (armed.order at ∙ ap (armed_handles (rows q)) (idle Granted))))
+      (λ k differs. ap armed_list_in (updates.others k differs) ∙ relinked_same with_order_links armed_list_in (λ x pair. refl) q.resources r1 relinks k)
 
   no_share : (weight : Queue → Row → ℕ) → shares q weight None at ≡ 0
   no_share weight = omega (arith, ap (total (weight Granted) (rows q)) (idle Granted), ap (total (weight Conversion) (rows q)) (idle Conversion), ap (total (weight Waiting) (rows q)) (idle Waiting))

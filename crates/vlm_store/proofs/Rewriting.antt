@@ -1,5 +1,5 @@
 -- A process is rewritten, but for its identification, its locks and its place in the order.
-use Rattle.std.proofs.Common.{◌≡◌, ◌∙◌, ◌+◌, ℕ, List, Some, ap, sym, refl, nat_eq}
+use Rattle.std.proofs.Common.{◌≡◌, ◌∙◌, ◌+◌, ℕ, Bool, List, Some, ap, sym, refl, nat_eq}
 use Rattle.slab.specs.Slab.{get}
 use Rattle.indexmap.specs.IndexMap.{get as found, spare}
 use Rattle.vlm_words.specs.declared.asts.Ast.{Ast}
@@ -9,12 +9,15 @@ use Rattle.vlm_store.specs.declared.processes.Process.{Process}
 use Rattle.vlm_store.specs.declared.store.Store.TheInside.{Inside}
 use Rattle.vlm_store.specs.Holdings.{faced, holding, pid_at, plain_process, process_face, process_face_in}
 use Rattle.vlm_store.specs.Kept.{IsKept, beside_shown, records_shown, rooms_shown}
+use Rattle.vlm_store.specs.Pending.{IsMarked, IsToldOf, OthersStay, waits_in}
 use Rattle.vlm_store.specs.Records.{OwnLock, StoredProcess, changed_process, on_process, on_stored, owed_more}
 use Rattle.vlm_store.specs.Store.{tables}
 use Rattle.vlm_store.proofs.Declaring.{process_named, process_own_handles, process_owned, rewritten, written_face, written_handles, written_linked, written_others, written_owns, written_pids, written_whole}
 use Rattle.vlm_store.proofs.Indexing.{Indexes-same}
 use Rattle.vlm_store.proofs.Kinship.{processes_changed}
+use Rattle.vlm_store.proofs.Marked.{kept_marked, pids_apart, waits_same, written_marked}
 use Rattle.vlm_store.proofs.Members.{process_written}
+use Rattle.vlm_store.proofs.OwnLocks.{written_same}
 use Rattle.vlm_store.proofs.Plain.{on_stored-same}
 use Rattle.vlm_store.proofs.Rooms.{room_written}
 use Rattle.vlm_store.proofs.RoomShown.{room_shown, room_of_same}
@@ -27,15 +30,17 @@ changed_face change was now plain due at locks =
 
 module _ (s : Inside) (kept : IsKept s) (at : ℕ) (was now : Process) (here : get s.processes at ≡ Some was) (own : now.own ≡ was.own) (order : now.in_order ≡ was.in_order)
     (pid : now.pid ≡ was.pid) where
-  -- the store keeps what it kept
-  pub rewritten_kept : IsKept (record s { processes = rewritten s.processes at was now here own order pid })
-  rewritten_kept =
+  -- the store keeps what it kept, with these marks
+  pub remarked_kept : (marks : List (List Bool)) → IsMarked (rewritten s.processes at was now here own order pid) marks
+      → IsKept (record s { processes = rewritten s.processes at was now here own order pid; pending = marks })
+  remarked_kept marks marked =
       let owns = written_owns s.processes at was now here own order pid in
       let pids = written_pids s.processes at was now here own order pid in
       let processes = rewritten s.processes at was now here own order pid in
       record {
         placed = kept.placed;
         tallied = kept.tallied;
+        armed = kept.armed;
         linked = kept.linked;
         ordered = kept.ordered;
         locks = kept.locks;
@@ -46,7 +51,21 @@ module _ (s : Inside) (kept : IsKept s) (at : ℕ) (was now : Process) (here : g
         processes_linked = written_linked s.processes at was now here own order pid s.process_order kept.processes_linked;
         processes_ordered = written_whole s.processes at was now here own order pid s.process_order kept.processes_linked kept.processes_ordered;
         processes = Indexes-same (found nat_eq s.process_index) (found nat_eq s.process_index) (pid_at s.processes) (pid_at processes) (λ k. refl) pids kept.processes;
+        marked = marked;
       }
+
+  -- with its own, where as many ASTs are pending
+  pub rewritten_kept : now.asts.pending ≡ was.asts.pending → IsKept (record s { processes = rewritten s.processes at was now here own order pid })
+  rewritten_kept pending =
+      remarked_kept s.pending
+      (kept_marked s.processes (rewritten s.processes at was now here own order pid) s.pending (written_pids s.processes at was now here own order pid)
+      (written_same s.processes at was now waits_in here (waits_same was now pid pending)) kept.marked)
+
+  -- and where the process's mark is written with it
+  pub written_kept : (marks : List (List Bool)) → IsToldOf now marks → OthersStay was.pid s.pending marks
+      → IsKept (record s { processes = rewritten s.processes at was now here own order pid; pending = marks })
+  written_kept marks told others =
+      remarked_kept marks (written_marked s.processes s.pending marks at was now here pid told others (pids_apart s.processes (found nat_eq s.process_index) kept.processes) kept.marked)
 
   -- and shows the process changed
   pub rewritten_shown : (change : StoredProcess → StoredProcess) → ((locks : List OwnLock) → faced at (process_face now) locks ≡ change (faced at (process_face was) locks))
@@ -73,17 +92,12 @@ module _ (s : Inside) (kept : IsKept s) (at : ℕ) (was : Process) (asts : Asts)
   abbrev with_asts : Inside
   with_asts = record s { processes = rewritten s.processes at was (record was { asts = asts }) here refl refl refl }
 
-  pub asts_kept : IsKept with_asts
+  pub asts_kept : asts.pending ≡ was.asts.pending → IsKept with_asts
   asts_kept = rewritten_kept s kept at was (record was { asts = asts }) here refl refl refl
 
   pub asts_shown : (change : StoredProcess → StoredProcess) → ((locks : List OwnLock) → faced at (process_face (record was { asts = asts })) locks ≡ change (faced at (process_face was) locks))
       → records_shown with_asts ≡ record (records_shown s) { processes = on_stored at change (records_shown s).processes }
   asts_shown = rewritten_shown s kept at was (record was { asts = asts }) here refl refl refl
-
-  -- other ASTs are pending, and as many are owed as were
-  pub pending_shown : (change : PlainProcess → PlainProcess) → record (plain_process was) { asts = asts.pending } ≡ change (plain_process was) → asts.due ≡ was.asts.due
-      → records_shown with_asts ≡ record (records_shown s) { processes = on_process at change (records_shown s).processes }
-  pending_shown change pending due = asts_shown (changed_process change) (changed_face change was (record was { asts = asts }) pending due at)
 
   -- more are owed
   pub owed_shown : (count : ℕ) → asts.pending ≡ was.asts.pending → asts.due ≡ was.asts.due + count

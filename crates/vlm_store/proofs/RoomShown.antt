@@ -14,14 +14,16 @@ use Rattle.vlm_store.specs.declared.queues.Queues.{Queues}
 use Rattle.vlm_store.specs.declared.resources.Resource.{Resource}
 use Rattle.vlm_store.specs.declared.store.Store.TheInside.{Inside}
 use Rattle.vlm_store.specs.Records.{HasRoom, IsGivenBack, IsNoLess, IsTaken, IsUnchanged, Records, Room, Rooms}
+use Rattle.vlm_store.specs.Armed.{armed_list_in}
 use Rattle.vlm_store.specs.Shown.{but_queued, lkid_of, order_links, room_in, tally_in}
 use Rattle.vlm_store.proofs.Rooms.{room_has, room_handle, room_slot, room_reserved}
 use Rattle.vlm_store.specs.Store.{Layout, key_at, lkid_at, records_of, room_of, tables}
 use Rattle.vlm_store.specs.Holdings.{holding, processes_of}
 use Rattle.vlm_store.specs.Kept.{IsKept, processes_shown, records_shown, rooms_shown}
 use Rattle.vlm_store.proofs.Indexing.{Indexes-same}
-use Rattle.vlm_store.proofs.Kept.{reserved_placed, reserved_tallied}
-use Rattle.vlm_store.proofs.Making.{reserved_lists, resources_placed, resources_tallied}
+use Rattle.vlm_store.proofs.Kept.{reserved_handles, reserved_placed, reserved_tallied}
+use Rattle.vlm_store.proofs.Arming.{armed_reserved, armed_resources}
+use Rattle.vlm_store.proofs.Making.{reserved_lists, resources_handles, resources_placed, resources_tallied}
 use Rattle.vlm_store.proofs.Kinship.{queued_below, queued_named, queued_owned}
 
 -- the rooms of the three kinds
@@ -128,6 +130,7 @@ lock_room_kept s kept locks index is entries =
     record {
       placed = reserved_placed s.queues locks same kept.placed;
       tallied = reserved_tallied s.queues locks same kept.placed kept.tallied;
+      armed = armed_reserved s.queues locks same (reserved_handles s.queues locks same kept.placed) kept.armed;
       linked = kept.linked;
       ordered = kept.ordered;
       locks = Indexes-same (found nat_eq s.lock_index) (found nat_eq index) (lkid_at s.queues) (lkid_at (record s.queues { locks = locks })) (λ k. ap (λ es. lookup (nat_eq k) es) entries)
@@ -139,6 +142,7 @@ lock_room_kept s kept locks index is entries =
       processes_linked = kept.processes_linked;
       processes_ordered = kept.processes_ordered;
       processes = kept.processes;
+      marked = kept.marked;
     }
 
 -- more room for resources does so too
@@ -150,6 +154,7 @@ resource_room_kept s kept resources index is entries =
     record {
       placed = resources_placed s.queues resources kept.placed lists;
       tallied = resources_tallied s.queues resources kept.placed lists (λ r. ap tally_in (same r)) kept.tallied;
+      armed = armed_resources s.queues resources (λ r. ap armed_list_in (same r)) (resources_handles s.queues resources kept.placed lists) kept.armed;
       linked = same-linked order_links s.queues.resources resources s.order kept.linked (λ r _. same r);
       ordered = λ r there. rw (same-handles order_links s.queues.resources resources s.order kept.linked (λ x _. same x)) (kept.ordered r (rw (same r) at there));
       locks = kept.locks;
@@ -161,6 +166,7 @@ resource_room_kept s kept resources index is entries =
       processes_linked = kept.processes_linked;
       processes_ordered = kept.processes_ordered;
       processes = kept.processes;
+      marked = kept.marked;
     }
 
 -- a caller sees the room that was made

@@ -4,8 +4,10 @@ use Rattle.slab.specs.Slab.{ContainsKey}
 use Rattle.indexmap.specs.IndexMap.{get, spare}
 use Rattle.vlm_links.specs.Lists.{IsIn, IsLinked, handles_of}
 use Rattle.vlm_store.specs.declared.store.Store.TheInside.{Inside}
+use Rattle.vlm_store.specs.Armed.{IsArmed}
 use Rattle.vlm_store.specs.Index.{Indexes}
 use Rattle.vlm_words.specs.Keys.{is_same_key}
+use Rattle.vlm_store.specs.Pending.{IsMarked}
 use Rattle.vlm_store.specs.Records.{Records, Rooms, StoredProcess}
 use Rattle.vlm_store.specs.Holdings.{IsBelow, IsNamed, IsOwned, holding, pid_at, process_links, processes_of}
 use Rattle.vlm_store.specs.Shown.{IsPlaced, IsTallied, order_links}
@@ -31,11 +33,13 @@ beside_shown s = record { processes = processes_shown s; room = rooms_shown s }
 abbrev pub records_shown : Inside → Records
 records_shown s = records_of (tables s.queues s.order (beside_shown s))
 
--- each lock stands in the three lists that it notes, each resource counts its locks, resources and processes
--- stand in their orders, and each index finds just what is there
+-- each lock stands in the three lists that it notes, each resource counts its locks and has the armed ones among the
+-- granted, resources and processes stand in their orders, each index finds just what is there, and marked are just the
+-- processes with an AST pending
 pub record IsKept (s : Inside) : Type 0 where
   pub placed : IsPlaced s.queues None
   pub tallied : IsTallied s.queues None
+  pub armed : IsArmed s.queues None
   pub linked : IsLinked order_links s.queues.resources s.order
   pub ordered : (res : ℕ) → ContainsKey s.queues.resources res → IsIn res (handles_of order_links s.queues.resources s.order)
   pub locks : Indexes (get nat_eq s.lock_index) (lkid_at s.queues)
@@ -46,3 +50,4 @@ pub record IsKept (s : Inside) : Type 0 where
   pub processes_linked : IsLinked process_links s.processes s.process_order
   pub processes_ordered : (at : ℕ) → ContainsKey s.processes at → IsIn at (handles_of process_links s.processes s.process_order)
   pub processes : Indexes (get nat_eq s.process_index) (pid_at s.processes)
+  pub marked : IsMarked s.processes s.pending

@@ -1,6 +1,6 @@
 -- What the store shows: resources with their queues, locks, and processes with their own locks, each under
 -- its handle.
-use Rattle.std.specs.Prelude.{◌≡◌, ◌<◌, ◌≤◌, ℕ, Bool, true, false, not, ◌==◌, ◌&&◌, ◌+◌, ◌-◌, count_by, sum_by, List, [], ◌∷◌, ◌++◌, map, filter, find, flat_map, Option, None, Some, IsSome, if◌then◌else◌}
+use Rattle.std.specs.Prelude.{◌≡◌, ◌<◌, ◌≤◌, ◌/◌, ℕ, Bool, true, false, not, ◌==◌, ◌&&◌, ◌+◌, ◌-◌, count_by, sum_by, List, [], ◌∷◌, ◌++◌, map, filter, find, flat_map, Option, None, Some, IsSome, if◌then◌else◌}
 use Rattle.std.specs.Option.{option_map_or}
 use Rattle.vlm_words.specs.declared.asts.Ast.{Ast}
 use Rattle.vlm_words.specs.declared.locks.Row.{Row}
@@ -446,9 +446,15 @@ HasRoomForLock s = HasRoom s.room.locks
 abbrev pub HasRoomForResource : Records → Type 0
 HasRoomForResource s = HasRoom s.room.resources
 
--- there is room for one more process, but for its status blocks
-abbrev pub HasRoomForProcess : Records → Type 0
-HasRoomForProcess s = HasRoom s.room.processes
+-- a living process of the same node has an ordinal among the same 64, or a later one: so a mark of this one has room
+abbrev pub IsBesideOne : ℕ → Records → Type 0
+IsBesideOne pid s = (p : StoredProcess)
+    × (IsIn p s.processes × (p.process.pid / 65536 ≡ pid / 65536) × (pid / 64 ≤ p.process.pid / 64))
+
+-- there is room for one more process with this identification, but for its status blocks
+pub record HasRoomForProcess (pid : ℕ) (s : Records) : Type 0 where
+  pub record_room : HasRoom s.room.processes
+  pub mark : IsBesideOne pid s
 
 -- there is as much room as there was, or more
 pub record IsNoLess (old new : Room) : Type 0 where

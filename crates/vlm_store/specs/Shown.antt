@@ -96,9 +96,17 @@ but_tally r = record r { tally = no_tally }
 abbrev pub but_value_block : Resource → Resource
 but_value_block r = record r { value_block = record { value = replicate 16 0; valid = false } }
 
+-- a resource but for its queues and counts
+abbrev pub but_counted : Resource → Resource
+but_counted r = but_tally (but_lists r)
+
+-- a resource but for the list of its armed locks
+abbrev pub but_armed : Resource → Resource
+but_armed r = record r { armed = no_list }
+
 -- a resource but for its lists and counts
 abbrev pub but_queues : Resource → Resource
-but_queues r = but_tally (but_lists r)
+but_queues r = but_armed (but_counted r)
 
 -- the identification of a lock
 abbrev pub lkid_of : Lock → ℕ
@@ -121,19 +129,28 @@ abbrev pub named_row : Row → Row
 named_row row = record no_row { lkid = row.lkid; pid = row.pid; parent = row.parent }
 
 -- a lock but for its queue, and what it holds and wants there
+abbrev pub but_requeued : Lock → Lock
+but_requeued l = record l { row = named_row l.row; place = Loose; in_queue = no_links }
+
+-- a lock but for its neighbours among the armed locks of its resource
+abbrev pub but_in_armed : Lock → Lock
+but_in_armed l = record l { in_armed = no_links }
+
+-- a lock but for the lists of its resource in which it stands, and what it holds and wants there
 abbrev pub but_queued : Lock → Lock
-but_queued l = record l { row = named_row l.row; place = Loose; in_queue = no_links }
+but_queued l = but_in_armed (but_requeued l)
 
 -- a lock but for its neighbours among those of its process and of its parent, and its sublocks
 abbrev pub but_kin : Lock → Lock
 but_kin l = record l { of_process = no_links; of_parent = no_links; sublocks = no_list }
 
--- a lock at its making, but for its queue: in no list of its process or its parent, and without sublocks
+-- a lock at its making, but for the lists of a resource: in no list of its process or its parent, and without sublocks
 abbrev pub new_lock : Row → ℕ → Option ℕ → Lock
 new_lock row owner parent = record {
   row = named_row row;
   place = Loose;
   in_queue = no_links;
+  in_armed = no_links;
   owner = owner;
   of_process = no_links;
   parent = parent;

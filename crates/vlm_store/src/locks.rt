@@ -1,13 +1,17 @@
 //! The record of a lock.
 
-ghost use Rattle.std.specs.Prelude.{refl};
+ghost use Rattle.std.specs.Prelude.{◌≡◌, refl};
 
-use crate::handles::{LockAt, Place, ProcAt};
+use crate::handles::{LockAt, Place, ProcAt, ResAt};
 use vlm_links::{Linked, LinkedList, Links};
 use vlm_words::locks::Row;
+use vlm_words::resources::Queue;
 
 /// The lists of locks that are queues, and that of the loose locks.
 pub(crate) struct InQueue;
+
+/// The list of the granted locks of a resource that are armed, in the order in which they were granted.
+pub(crate) struct InArmed;
 
 /// The list of the locks of a process, in order of making.
 pub(crate) struct OfProcess;
@@ -24,6 +28,8 @@ pub struct Lock {
     pub place: Place,
     // its neighbours there, or among the loose locks
     pub(crate) in_queue: Links,
+    // its neighbours among the armed locks of its resource, if it is granted and armed
+    pub(crate) in_armed: Links,
     /// The process that owns it.
     pub owner: ProcAt,
     // its neighbours among that process's locks
@@ -34,6 +40,20 @@ pub struct Lock {
     pub(crate) of_parent: Links,
     // the locks that were made under it and are there still
     pub(crate) sublocks: LinkedList<OfParent>,
+}
+
+impl Lock {
+    ghost use Rattle.vlm_store.specs.Armed.{armed_of};
+
+    /// The resource among whose armed locks it belongs, if it is granted and armed.
+    pub(crate) fn armed_on(&self) -> Option<ResAt>
+        ensures { result ≡ armed_of self.now }
+    {
+        match self.place {
+            Place::Queued(res, Queue::Granted) if self.row.armed => Some(res),
+            _ => None,
+        }
+    }
 }
 
 impl Linked<InQueue> for Lock {
@@ -53,6 +73,26 @@ impl Linked<InQueue> for Lock {
 
     fn set_links(&mut self, pair: Links) {
         self.in_queue = pair;
+    }
+}
+
+impl Linked<InArmed> for Lock {
+    ghost links = { λ l. l.in_armed };
+
+    ghost with_links = { λ l pair. record l { in_armed = pair } };
+
+    ghost links_written = { λ l pair. refl };
+
+    ghost written_twice = { λ l a b. refl };
+
+    ghost written_as_was = { λ l. refl };
+
+    fn links(&self) -> Links {
+        self.in_armed
+    }
+
+    fn set_links(&mut self, pair: Links) {
+        self.in_armed = pair;
     }
 }
 

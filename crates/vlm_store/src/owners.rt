@@ -49,10 +49,11 @@ impl Store {
             })) }
         ensures fresh { IfOk result (λ at. ¬ HasProcess at self.old) }
         ensures taken { OnOk result (IsTaken self.old.room.processes self.new.room.processes) }
-        ensures succeeds { HasRoomForProcess self.old → IsOk result }
+        ensures succeeds { HasRoomForProcess pid self.old → IsOk result }
         ensures err { OnErr result (IsUnchanged self.old self.new) }
     {
         reserve_one(&mut self.processes, &mut self.process_index)?;
+        self.pending.make_room(pid)?;
         let process = Process::new(pid, declaration, blocks);
         let at = ProcAt::of(put_in(&mut self.processes, &mut self.process_order, process));
         let _ = self.process_index.insert(pid, at);
@@ -70,6 +71,7 @@ impl Store {
         let pid = self.processes[at.slot()].pid;
         take_out(&mut self.processes, &mut self.process_order, at.slot());
         self.process_index.swap_remove(&pid);
+        self.pending.unmark(pid);
     }
 
     /// The record of a process: what it may do, its status blocks, of which block n stands at n - 1, and its ASTs.
@@ -105,7 +107,7 @@ impl Store {
           processes = on_process at without_oldest_ast self.old.processes;
         } }
     {
-        self.processes[at.slot()].asts.take()
+        self.processes[at.slot()].take_ast(&mut self.pending)
     }
 
     /// Makes room for so many more ASTs of a process than are queued to it and owed, and owes them. Where memory is
@@ -130,7 +132,7 @@ impl Store {
           processes = on_stored at (with_owed_ast ast) self.old.processes;
         } }
     {
-        self.processes[at.slot()].asts.queue(ast);
+        self.processes[at.slot()].queue_ast(&mut self.pending, ast);
     }
 
     /// Of the ASTs that a process is owed so many will not come: their room is free again.

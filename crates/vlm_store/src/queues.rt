@@ -5,7 +5,8 @@ ghost use Rattle.std.specs.Option.{option_map};
 ghost use Rattle.slab.specs.Slab.{get, ContainsKey, HasRoomFor};
 ghost use Rattle.vlm_links.specs.Lists.{Relinks, without};
 ghost use Rattle.vlm_store.specs.declared.handles.Place.{Place};
-ghost use Rattle.vlm_store.specs.Shown.{IsPlaced, IsTallied, IsThere, SameBut, but_lists, but_place, but_queued, but_queues, but_row, handles_at, list_at, named_row, new_lock, noted, room_in, rows, with_queue_links};
+ghost use Rattle.vlm_store.specs.Armed.{IsArmed};
+ghost use Rattle.vlm_store.specs.Shown.{IsPlaced, IsTallied, IsThere, SameBut, but_counted, but_lists, but_place, but_queued, but_queues, but_requeued, but_row, handles_at, list_at, named_row, new_lock, noted, room_in, rows, with_queue_links};
 
 use crate::handles::{LockAt, Place, ProcAt};
 use crate::locks::{InQueue, Lock};
@@ -63,7 +64,7 @@ impl Queues {
         ensures handles { (place : Place) → handles_at self.new place
             ≡ without at (handles_at self.old place) }
         ensures relinks { Relinks with_queue_links self.old.locks self.new.locks }
-        ensures kin { SameBut but_queued self.old.locks self.new.locks }
+        ensures kin { SameBut but_requeued self.old.locks self.new.locks }
         ensures rest { SameBut but_lists self.old.resources self.new.resources }
         ensures locks_room { room_in self.new.locks ≡ room_in self.old.locks }
         ensures resources_room { room_in self.new.resources ≡ room_in self.old.resources }
@@ -85,7 +86,7 @@ impl Queues {
         ensures elsewhere { (other : Place) → other ≢ place
             → handles_at self.new other ≡ handles_at self.old other }
         ensures rows { (other : ℕ) → rows self.new other ≡ rows self.old other }
-        ensures kin { SameBut but_queued self.old.locks self.new.locks }
+        ensures kin { SameBut but_requeued self.old.locks self.new.locks }
         ensures rest { SameBut but_lists self.old.resources self.new.resources }
         ensures locks_room { room_in self.new.locks ≡ room_in self.old.locks }
         ensures resources_room { room_in self.new.resources ≡ room_in self.old.resources }
@@ -103,7 +104,7 @@ impl Queues {
         ensures others { (other : ℕ) → other ≢ at → get self.new.locks other
             ≡ get self.old.locks other }
         ensures rest { SameBut but_place self.old.locks self.new.locks }
-        ensures kin { SameBut but_queued self.old.locks self.new.locks }
+        ensures kin { SameBut but_requeued self.old.locks self.new.locks }
         ensures resources { self.new.resources ≡ self.old.resources }
         ensures loose { self.new.loose ≡ self.old.loose }
         ensures locks_room { room_in self.new.locks ≡ room_in self.old.locks }
@@ -119,7 +120,7 @@ impl Queues {
         ensures others { (other : ℕ) → other ≢ at → get self.new.locks other
             ≡ get self.old.locks other }
         ensures rest { SameBut but_row self.old.locks self.new.locks }
-        ensures kin { SameBut but_queued self.old.locks self.new.locks }
+        ensures kin { SameBut but_requeued self.old.locks self.new.locks }
         ensures resources { self.new.resources ≡ self.old.resources }
         ensures loose { self.new.loose ≡ self.old.loose }
         ensures locks_room { room_in self.new.locks ≡ room_in self.old.locks }
@@ -127,8 +128,8 @@ impl Queues {
         self.locks[at].row = *row;
     }
 
-    /// Gives a lock another row, and puts it at the end of a list.
-    pub(crate) fn move_to(&mut self, at: usize, row: &Row, to: Place)
+    // Gives a lock another row, and puts it at the end of a list. It is not among the armed ones of its resource.
+    fn requeue(&mut self, at: usize, row: &Row, to: Place)
         requires placed { IsPlaced self.old None }
         requires tallied { IsTallied self.old None }
         requires present { ContainsKey self.old.locks at }
@@ -142,8 +143,8 @@ impl Queues {
             → handles_at self.new other ≡ without at (handles_at self.old other) }
         ensures row { rows self.new at ≡ row.now }
         ensures rows { (other : ℕ) → other ≢ at → rows self.new other ≡ rows self.old other }
-        ensures kin { SameBut but_queued self.old.locks self.new.locks }
-        ensures rest { SameBut but_queues self.old.resources self.new.resources }
+        ensures kin { SameBut but_requeued self.old.locks self.new.locks }
+        ensures rest { SameBut but_counted self.old.resources self.new.resources }
         ensures locks_room { room_in self.new.locks ≡ room_in self.old.locks }
         ensures resources_room { room_in self.new.resources ≡ room_in self.old.resources }
     {
@@ -154,13 +155,42 @@ impl Queues {
         self.count_in(at);
     }
 
+    /// Gives a lock another row, and puts it at the end of a list.
+    pub(crate) fn move_to(&mut self, at: usize, row: &Row, to: Place)
+        requires placed { IsPlaced self.old None }
+        requires tallied { IsTallied self.old None }
+        requires armed { IsArmed self.old None }
+        requires present { ContainsKey self.old.locks at }
+        requires within { at ≤ LAST_HANDLE }
+        requires there { IsThere self.old.resources to }
+        requires named { named_row (rows self.old at) ≡ named_row row.now }
+        ensures placed { IsPlaced self.new None }
+        ensures tallied { IsTallied self.new None }
+        ensures armed { IsArmed self.new None }
+        ensures here { handles_at self.new to ≡ without at (handles_at self.old to) ++ at ∷ [] }
+        ensures elsewhere { (other : Place) → other ≢ to
+            → handles_at self.new other ≡ without at (handles_at self.old other) }
+        ensures row { rows self.new at ≡ row.now }
+        ensures rows { (other : ℕ) → other ≢ at → rows self.new other ≡ rows self.old other }
+        ensures kin { SameBut but_queued self.old.locks self.new.locks }
+        ensures rest { SameBut but_queues self.old.resources self.new.resources }
+        ensures locks_room { room_in self.new.locks ≡ room_in self.old.locks }
+        ensures resources_room { room_in self.new.resources ≡ room_in self.old.resources }
+    {
+        self.leave_armed(at);
+        self.requeue(at, row, to);
+        self.join_armed(at);
+    }
+
     /// A lock is armed no more, and stays where it stands.
     pub(crate) fn disarm(&mut self, at: usize)
         requires placed { IsPlaced self.old None }
         requires tallied { IsTallied self.old None }
+        requires armed { IsArmed self.old None }
         requires present { ContainsKey self.old.locks at }
         ensures placed { IsPlaced self.new None }
         ensures tallied { IsTallied self.new None }
+        ensures armed { IsArmed self.new None }
         ensures handles { (place : Place) → handles_at self.new place ≡ handles_at self.old place }
         ensures row { rows self.new at ≡ record (rows self.old at) { armed = false } }
         ensures rows { (other : ℕ) → other ≢ at → rows self.new other ≡ rows self.old other }
@@ -169,6 +199,7 @@ impl Queues {
         ensures locks_room { room_in self.new.locks ≡ room_in self.old.locks }
         ensures resources_room { room_in self.new.resources ≡ room_in self.old.resources }
     {
+        self.leave_armed(at);
         self.count_out(at);
         let row = Row {
             armed: false,
@@ -183,12 +214,14 @@ impl Queues {
     pub(crate) fn add(&mut self, row: &Row, owner: ProcAt, parent: Option<LockAt>) -> usize
         requires placed { IsPlaced self.old None }
         requires tallied { IsTallied self.old None }
+        requires armed { IsArmed self.old None }
         requires room { HasRoomFor self.old.locks 1 }
         requires within { self.old.locks.vacant_key ≤ LAST_HANDLE }
         ensures within { result ≤ LAST_HANDLE }
         ensures fresh { get self.old.locks result ≡ None }
         ensures placed { IsPlaced self.new None }
         ensures tallied { IsTallied self.new None }
+        ensures armed { IsArmed self.new None }
         ensures here { handles_at self.new Place.Loose
             ≡ handles_at self.old Place.Loose ++ result ∷ [] }
         ensures elsewhere { (other : Place) → other ≢ Place.Loose
@@ -208,6 +241,7 @@ impl Queues {
             row: *row,
             place: Place::Loose,
             in_queue: Links::none(),
+            in_armed: Links::none(),
             owner,
             of_process: Links::none(),
             parent,
@@ -222,9 +256,11 @@ impl Queues {
     pub(crate) fn remove(&mut self, at: usize)
         requires placed { IsPlaced self.old None }
         requires tallied { IsTallied self.old None }
+        requires armed { IsArmed self.old None }
         requires present { ContainsKey self.old.locks at }
         ensures placed { IsPlaced self.new None }
         ensures tallied { IsTallied self.new None }
+        ensures armed { IsArmed self.new None }
         ensures handles { (place : Place) → handles_at self.new place
             ≡ without at (handles_at self.old place) }
         ensures gone { get self.new.locks at ≡ None }
@@ -235,6 +271,7 @@ impl Queues {
         ensures given_back { room_in self.new.locks ≡ ((room_in self.old.locks).0 + 1, at) }
         ensures resources_room { room_in self.new.resources ≡ room_in self.old.resources }
     {
+        self.leave_armed(at);
         self.count_out(at);
         self.take_off(at);
         self.locks.remove(at);

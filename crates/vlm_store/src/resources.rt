@@ -6,9 +6,10 @@ ghost use Rattle.slab.specs.Slab.{get, ContainsKey, HasRoomFor};
 ghost use Rattle.vlm_links.specs.Lists.{IsIn, IsLinked, handles_of, without};
 ghost use Rattle.vlm_words.specs.declared.resources.Queue.{Queue};
 ghost use Rattle.vlm_store.specs.declared.handles.Place.{Place};
+ghost use Rattle.vlm_store.specs.Armed.{IsArmed};
 ghost use Rattle.vlm_store.specs.Shown.{IsPlaced, IsTallied, SameBut, but_value_block, face_in, face_of, handles_at, new_face, order_links, room_in};
 
-use crate::locks::InQueue;
+use crate::locks::{InArmed, InQueue};
 use crate::queues::Queues;
 use vlm_links::{LAST_HANDLE, Linked, LinkedList, Links};
 use vlm_tallies::Tally;
@@ -36,6 +37,8 @@ pub struct Resource {
     pub(crate) converting: LinkedList<InQueue>,
     // the locks that want a mode and hold none, the first in line first
     pub(crate) waiting: LinkedList<InQueue>,
+    // those of the granted locks that are armed, in the order of the granted queue
+    pub(crate) armed: LinkedList<InArmed>,
     // the locks of the three queues, counted by the modes that they hold and want
     pub(crate) tally: Tally,
     // the resources made before and after it
@@ -98,6 +101,7 @@ impl Queues {
     ) -> usize
         requires placed { IsPlaced self.old None }
         requires tallied { IsTallied self.old None }
+        requires armed { IsArmed self.old None }
         requires linked { IsLinked order_links self.old.resources order.old }
         requires room { HasRoomFor self.old.resources 1 }
         requires within { self.old.resources.vacant_key ≤ LAST_HANDLE }
@@ -105,6 +109,7 @@ impl Queues {
         ensures fresh { get self.old.resources result ≡ None }
         ensures placed { IsPlaced self.new None }
         ensures tallied { IsTallied self.new None }
+        ensures armed { IsArmed self.new None }
         ensures handles { (place : Place) → handles_at self.new place ≡ handles_at self.old place }
         ensures locks { self.new.locks ≡ self.old.locks }
         ensures linked { IsLinked order_links self.new.resources order.new }
@@ -125,6 +130,7 @@ impl Queues {
             granted: LinkedList::new(),
             converting: LinkedList::new(),
             waiting: LinkedList::new(),
+            armed: LinkedList::new(),
             tally: Tally::new(),
             in_order: Links::none(),
         });
@@ -136,11 +142,13 @@ impl Queues {
     pub(crate) fn remove_resource(&mut self, order: &mut LinkedList<InOrder>, res: usize)
         requires placed { IsPlaced self.old None }
         requires tallied { IsTallied self.old None }
+        requires armed { IsArmed self.old None }
         requires linked { IsLinked order_links self.old.resources order.old }
         requires listed { IsIn res (handles_of order_links self.old.resources order.old) }
         requires idle { (queue : Queue) → handles_at self.old (Place.Queued res queue) ≡ [] }
         ensures placed { IsPlaced self.new None }
         ensures tallied { IsTallied self.new None }
+        ensures armed { IsArmed self.new None }
         ensures handles { (place : Place) → handles_at self.new place ≡ handles_at self.old place }
         ensures locks { self.new.locks ≡ self.old.locks }
         ensures linked { IsLinked order_links self.new.resources order.new }
@@ -161,9 +169,11 @@ impl Queues {
     pub(crate) fn set_value_block(&mut self, res: usize, value_block: ValueBlock)
         requires placed { IsPlaced self.old None }
         requires tallied { IsTallied self.old None }
+        requires armed { IsArmed self.old None }
         requires there { ContainsKey self.old.resources res }
         ensures placed { IsPlaced self.new None }
         ensures tallied { IsTallied self.new None }
+        ensures armed { IsArmed self.new None }
         ensures handles { (place : Place) → handles_at self.new place ≡ handles_at self.old place }
         ensures locks { self.new.locks ≡ self.old.locks }
         ensures rest { SameBut but_value_block self.old.resources self.new.resources }

@@ -21,6 +21,7 @@ use slab::Slab;
 use std::alloc::{AllocError, Global};
 use std::marker::Model;
 use vlm_links::{LinkedList, reserve_one};
+use vlm_marks::NodeMarks;
 use vlm_words::locks::Row;
 use vlm_words::modes::Mode;
 use vlm_words::resources::{Key, Site, ValueBlock};
@@ -43,6 +44,8 @@ pub struct Store {
     resource_index: IndexMap<Key, ResAt>,
     // where the process of each identification is
     pub(crate) process_index: IndexMap<u32, ProcAt>,
+    // the processes that have an AST pending, node by node
+    pub(crate) pending: NodeMarks,
 }
 
 // Written out, a drop is one call to each owner of a store.
@@ -57,6 +60,7 @@ impl Drop for Store {
             lock_index: _,
             resource_index: _,
             process_index: _,
+            pending: _,
         } = self;
     }
 }
@@ -91,6 +95,7 @@ impl Store {
             lock_index: IndexMap::new(alloc),
             resource_index: IndexMap::new(alloc),
             process_index: IndexMap::new(alloc),
+            pending: NodeMarks::new(alloc),
         }
     }
 

@@ -6,6 +6,7 @@ mod lines;
 mod lists;
 mod marks;
 mod modes;
+mod pending;
 mod records;
 mod refusals;
 mod retries;

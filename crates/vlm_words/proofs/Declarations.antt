@@ -1,5 +1,5 @@
 -- After every run each living process has an identification that its node has given, and so a declaration gives
--- a new one.
+-- a new one, above those of its node.
 use Rattle.std.proofs.Common.{◌≡◌, ◌≢◌, ◌≤◌, ◌<◌, ◌+◌, ◌-◌, ◌*◌, ◌/◌, ◌%◌, ℕ, zero, suc, Bool, true, false, not, cond, List, [], ◌∷◌, ◌++◌, map, length, get_or, set, Option, None, Some, refl, sym, ap, subst, ◌∙◌, arith}
 use Rattle.std.specs.Prelude.{nat_le, nat_lt, All}
 use Rattle.std.specs.List.{AllByRecursion}
@@ -26,7 +26,9 @@ use Rattle.vlm_words.specs.Dequeue.{deq_change, deq_endings}
 use Rattle.vlm_words.specs.Stepped.{refused_or, step_change}
 use Rattle.vlm_words.specs.Runs.{History, Run}
 use Rattle.vlm_words.specs.Laws.{DeclarationsGiveNewIdentifications}
+use Rattle.vlm_words.specs.Pending.{ProcessesRise}
 use Rattle.vlm_words.proofs.Each.{each_append, each_weaker}
+use Rattle.vlm_words.proofs.Pairs.{AllPairs-from_recursion, EachPair}
 use Rattle.vlm_words.proofs.Processes.{kept_converted, kept_ended, kept_entered, kept_set, kept_swept, kept_taken}
 use Rattle.vlm_words.proofs.Always.{always, kept_by_stepped, EndsNow, departs, run_down}
 use Rattle.vlm_words.specs.Rundown.{processes_but, state_after_rundown}
@@ -206,3 +208,109 @@ declarations_always history last run d choice pid chosen answered = of_refusal (
         let same : next_pid last d.node ≡ pid = cc in
         let has : HasOrdinal last d = ordinal_left last d passed in
         All-from_recursion (λ p. p.pid ≢ pid) last.processes (each_new last.nodes d.node pid same has.left last.processes given.living)
+
+-- ---- they rise
+
+-- the identification is one of the eight nodes'
+abbrev pub IsOfNode : ℕ → Type 0
+IsOfNode pid = is_node (pid / 65536) ≡ true
+
+-- of two processes of one node the one that was declared later has the greater identification
+abbrev pub Rises : ℕ → ℕ → Type 0
+Rises a b = a / 65536 ≡ b / 65536 → a < b
+
+-- each living process has an identification that its node has given, and those of a node rise
+pub record AllRise (s : State) : Type 0 where
+  pub given : AllGiven s
+  pub named : AllByRecursion IsOfNode (pids s.processes)
+  pub rising : EachPair Rises (pids s.processes)
+
+-- they do where no node and no identification changes
+same_rise : (s t : State) → t.nodes ≡ s.nodes → pids t.processes ≡ pids s.processes → AllRise s → AllRise t
+same_rise s t nodes processes rise = record {
+  given = same_given s t nodes processes rise.given;
+  named = subst (λ (all : List ℕ). AllByRecursion IsOfNode all) (sym processes) rise.named;
+  rising = subst (λ (all : List ℕ). EachPair Rises all) (sym processes) rise.rising;
+}
+
+-- a sweep changes none
+swept_rise : (s : State) → AllRise s → AllRise (state_after_sweep s)
+swept_rise s rise = same_rise s (state_after_sweep s) refl (kept_swept (λ p. p.pid) (λ _ _ _. refl) s.processes s.resources) rise
+
+-- one more at the end, above all of its node
+rises_at_end : (all : List ℕ) (last : ℕ) → AllByRecursion (λ pid. Rises pid last) all → EachPair Rises all → EachPair Rises (all ++ last ∷ [])
+rises_at_end [] last below rising = (tt, tt)
+rises_at_end (pid ∷ rest) last below rising = (
+  each_append (Rises pid) rest (last ∷ []) rising.0 (below.0, tt),
+  rises_at_end rest last below.1 rising.1,
+)
+
+-- what a node has given is below what it gives next
+next_is_above : (nodes : List Node) (node pid : ℕ) → (node_at nodes node).declared < 65535
+    → IsGiven nodes pid → Rises pid (node * 65536 + ((node_at nodes node).declared + 1))
+next_is_above nodes node pid left given same =
+    let upper : pid / 65536 ≡ node = omega arith in
+    let last : (node_at nodes (pid / 65536)).declared ≡ (node_at nodes node).declared =
+    ap (λ (number : ℕ). (node_at nodes number).declared) upper in
+    omega arith
+
+-- after a declaration they rise too
+declared_rise : (s : State) (d : Declaration) → is_node d.node ≡ true → HasOrdinal s d → AllRise s → AllRise (declare_change s d)
+unfolding declare_change
+declared_rise s d of_node has rise =
+    let upper : next_pid s d.node / 65536 ≡ d.node = omega (arith, has.left) in
+    let added = sym (pids_added s.processes (declared_process s d)) in
+    record {
+      given = declared_given s d has rise.given;
+      named = subst (λ (all : List ℕ). AllByRecursion IsOfNode all) added
+          (each_append IsOfNode (pids s.processes) (next_pid s d.node ∷ []) rise.named (ap is_node upper ∙ of_node, tt));
+      rising = subst (λ (all : List ℕ). EachPair Rises all) added
+          (rises_at_end (pids s.processes) (next_pid s d.node)
+          (each_weaker (IsGiven s.nodes) (λ pid. Rises pid (next_pid s d.node)) (λ pid. next_is_above s.nodes d.node pid has.left) (pids s.processes) rise.given.living) rise.rising);
+    }
+
+-- where the checks of a declaration pass, it names one of the eight nodes
+names_node : (d : Declaration) → 1 ≤ d.node → d.node ≤ 8 → is_node d.node ≡ true
+names_node d first last = grind (arith, nat_tests)
+
+-- after every run each living process is of a node, and those of a node rise
+rise_always : (history : History) (last : State)
+    → Run history last → AllRise last
+unfolding set_change take_change enq_change convert_change deq_change
+rise_always =
+    always (λ _ s. AllRise s) (record { given = record { eight = refl; living = tt }; named = tt; rising = tt })
+    (λ history s _ rise.
+    kept_by_stepped (λ _ t. AllRise t) history.endings s rise
+    (λ d passed.
+    let has = ordinal_left s d passed in
+    swept_rise (declare_change s d) (declared_rise s d (names_node d has.first has.last) has rise))
+    (λ v _. swept_rise (set_change s v) (same_rise s (set_change s v) refl (kept_set (λ p. p.pid) (λ _ _. refl) v.pid v.block v.value s.processes) rise))
+    (λ taker _. swept_rise (take_change s taker) (same_rise s (take_change s taker) refl (kept_taken (λ p. p.pid) (λ _ _. refl) taker s.processes) rise))
+    (λ e _. swept_rise (enq_change s e) (same_rise s (enq_change s e) refl (kept_entered (λ p. p.pid) (λ _ _ _. refl) s e) rise))
+    (λ c a _ _. swept_rise (convert_change s c a) (same_rise s (convert_change s c a) refl (kept_converted (λ p. p.pid) (λ _ _ _. refl) s c a) rise))
+    (λ d _.
+    swept_rise (deq_change s d)
+    (same_rise s (deq_change s d) refl (kept_ended (λ p. p.pid) (λ _ _ _. refl) (deq_endings s d) (blocks_with new_value_block s.processes)) rise)))
+
+-- what holds of identifications, of the processes that have them
+of_processes : (processes : List Process) → AllByRecursion IsOfNode (pids processes) → AllByRecursion (λ p. IsOfNode p.pid) processes
+of_processes [] named = tt
+of_processes (p ∷ rest) named = (named.0, of_processes rest named.1)
+
+each_above : (pid : ℕ) (processes : List Process) → AllByRecursion (Rises pid) (pids processes) → AllByRecursion (λ p. Rises pid p.pid) processes
+each_above pid [] above = tt
+each_above pid (p ∷ rest) above = (above.0, each_above pid rest above.1)
+
+rise_of_processes : (processes : List Process) → EachPair Rises (pids processes) → EachPair (λ a b. Rises a.pid b.pid) processes
+rise_of_processes [] rising = tt
+rise_of_processes (p ∷ rest) rising = (each_above p.pid rest rising.0, rise_of_processes rest rising.1)
+
+-- after every run the processes of a node rise
+pub processes_always : (history : History) (last : State)
+    → Run history last → ProcessesRise last
+processes_always history last run =
+    let rise = rise_always history last run in
+    record {
+      named = All-from_recursion (λ p. IsOfNode p.pid) last.processes (of_processes last.processes rise.named);
+      rising = AllPairs-from_recursion (λ a b. Rises a.pid b.pid) last.processes (rise_of_processes last.processes rise.rising);
+    }

@@ -19,6 +19,7 @@ pub mod Checks
 pub mod Trees
 pub mod Quotas
 pub mod Declare
+pub mod Pending
 pub mod SetValue
 pub mod Take
 pub mod Enqueue

@@ -13,6 +13,7 @@ ghost use Rattle.vlm_words.specs.Granted.{NoGrantIsHidden};
 ghost use Rattle.vlm_words.specs.Joining.{ChangesKeepOrder};
 ghost use Rattle.vlm_words.specs.Owners.{OthersAreLeftAlone};
 ghost use Rattle.vlm_words.specs.Numbers.{NumbersAreGivenOnce};
+ghost use Rattle.vlm_words.specs.Pending.{ProcessesRise};
 ghost use Rattle.vlm_words.specs.Privileges.{SystemRootsArePrivileged};
 ghost use Rattle.vlm_words.specs.Queued.{NoqueueIsKept};
 ghost use Rattle.vlm_words.specs.Writers.{OnlyWritersChangeValues};
@@ -75,6 +76,12 @@ pub fn law_serials_rise()
 pub fn law_a_declaration_gives_a_new_identification()
     ensures { (history : History) (last : State) → Run history last
         → DeclarationsGiveNewIdentifications last }
+{}
+
+/// Each living process is of a node from 1 to 8, and in the order of making the identifications of a node's
+/// processes rise.
+pub fn law_identifications_of_processes_rise()
+    ensures { (history : History) (last : State) → Run history last → ProcessesRise last }
 {}
 
 /// No two resources have one key.

@@ -2,7 +2,8 @@ use Rattle.vlm_store.proofs.Rooms.{room_relinked, room_taken}
 use Rattle.std.proofs.Common.{ap, ◌∙◌, ◌+◌, ℕ}
 use Rattle.vlm_links.proofs.Keeping.{updated-linked, vacant_unlisted}
 use Rattle.vlm_store.specs.Shown.{order_links, with_order_links}
-use Rattle.vlm_store.proofs.Making.{added_lists, added_tallies, resources_handles, resources_placed, resources_tallied}
+use Rattle.vlm_store.proofs.Arming.{armed_resources}
+use Rattle.vlm_store.proofs.Making.{added_armed, added_lists, added_tallies, resources_handles, resources_placed, resources_tallied}
 use Rattle.vlm_store.proofs.queues.Queues.add_resource.Goals as goal
 
 pub push_back-requires-clause-linked : goal.push_back-requires-clause-linked
@@ -22,7 +23,16 @@ returns-clause-tallied c =
     (added_lists c.args.self.now c.insert_reserved-at.new.self c.push_back.new.nodes c.insert_reserved-at.result _ c.insert_reserved-at.ensures.updates c.insert_reserved-at.ensures.was_vacant
     c.push_back.ensures.relinks c.new-2.ensures c.new-3.ensures c.new-4.ensures)
     (added_tallies c.args.self.now c.insert_reserved-at.new.self c.push_back.new.nodes c.insert_reserved-at.result _ c.insert_reserved-at.ensures.updates c.insert_reserved-at.ensures.was_vacant
-    c.push_back.ensures.relinks c.new-5.ensures) c.requires.tallied
+    c.push_back.ensures.relinks c.new-6.ensures) c.requires.tallied
+
+pub returns-clause-armed : goal.returns-clause-armed
+returns-clause-armed c =
+    let q = c.args.self.now in
+    let lists = added_lists q c.insert_reserved-at.new.self c.push_back.new.nodes c.insert_reserved-at.result _ c.insert_reserved-at.ensures.updates c.insert_reserved-at.ensures.was_vacant
+    c.push_back.ensures.relinks c.new-2.ensures c.new-3.ensures c.new-4.ensures in
+    armed_resources q c.push_back.new.nodes
+    (added_armed q c.insert_reserved-at.new.self c.push_back.new.nodes c.insert_reserved-at.result _ c.insert_reserved-at.ensures.updates c.insert_reserved-at.ensures.was_vacant c.push_back.ensures.relinks c.new-5.ensures)
+    (resources_handles q c.push_back.new.nodes c.requires.placed lists) c.requires.armed
 
 pub returns-clause-handles : goal.returns-clause-handles
 returns-clause-handles c =

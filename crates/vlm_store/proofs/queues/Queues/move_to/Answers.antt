@@ -1,48 +1,56 @@
-use Rattle.std.proofs.Common.{◌∙◌, ◌++◌, ◌∷◌, [], None, Some, ap}
-use Rattle.vlm_links.specs.Lists.{without}
+use Rattle.std.proofs.Common.{◌∙◌, ◌++◌, ◌∷◌, [], Some, ap}
 use Rattle.slab.specs.Slab.{get}
-use Rattle.vlm_store.specs.Shown.{row_in, tally_in}
-use Rattle.vlm_store.proofs.Counting.{tallied_moved, tallied_put, tallied_taken}
-use Rattle.vlm_store.proofs.Places.{counted_handles, counted_placed, rows_relinked, written_handles, written_placed}
+use Rattle.vlm_links.specs.Lists.{without}
+use Rattle.vlm_store.specs.Shown.{but_armed, but_in_armed, but_requeued, named_row}
+use Rattle.vlm_store.proofs.Arming.{armed_but_one, armed_lists, armed_queues, counted_queues, in_armed_is, out_unlisted, place_still, requeued_granted, requeued_is, requeued_last}
+use Rattle.vlm_store.proofs.Places.{there_through}
 use Rattle.vlm_store.proofs.queues.Queues.move_to.Goals as goal
 
-pub take_off-requires-clause-placed : goal.take_off-requires-clause-placed
-take_off-requires-clause-placed c =
-    counted_placed c.args.self.now c.count_out.new.self None c.requires.placed c.count_out.ensures.rest c.count_out.ensures.loose c.count_out.ensures.locks
+pub requeue-requires-clause-present : goal.requeue-requires-clause-present
+requeue-requires-clause-present c = there_through but_in_armed c.args.self.now.locks c.leave_armed.new.self.locks c.leave_armed.ensures.kin c.args.at c.requires.present
 
-pub put_at-requires-clause-placed : goal.put_at-requires-clause-placed
-put_at-requires-clause-placed c =
-    written_placed c.take_off.new.self c.write_row.new.self (Some c.args.at) c.take_off.ensures.placed c.write_row.ensures.rest c.write_row.ensures.resources c.write_row.ensures.loose
+pub requeue-requires-clause-there : goal.requeue-requires-clause-there
+requeue-requires-clause-there c = place_still but_armed c.args.self.now.resources c.leave_armed.new.self.resources c.leave_armed.ensures.rest c.args.to c.requires.there
 
-pub count_in-requires-clause-tallied : goal.count_in-requires-clause-tallied
-count_in-requires-clause-tallied c =
-    let placed2 = written_placed c.take_off.new.self c.write_row.new.self (Some c.args.at) c.take_off.ensures.placed c.write_row.ensures.rest c.write_row.ensures.resources c.write_row.ensures.loose in
-    let handles2 = written_handles c.take_off.new.self c.write_row.new.self (Some c.args.at) c.take_off.ensures.placed c.write_row.ensures.rest c.write_row.ensures.resources c.write_row.ensures.loose in
-    let tallied1 = tallied_taken c.count_out.new.self c.take_off.new.self c.args.at c.take_off.ensures.handles (rows_relinked c.count_out.new.self.locks c.take_off.new.self.locks c.take_off.ensures.relinks)
-    c.take_off.ensures.rest c.count_out.ensures.tallied in
-    let tallied2 = tallied_moved c.take_off.new.self c.write_row.new.self c.args.at (λ r. ap (λ s. tally_in (get s r)) c.write_row.ensures.resources) (λ p. ap (without c.args.at) (handles2 p))
-    (λ k differs. ap row_in (c.write_row.ensures.others k differs)) tallied1 in
-    tallied_put c.write_row.new.self c.put_at.new.self c.args.at c.args.to placed2 c.put_at.ensures.here c.put_at.ensures.elsewhere c.put_at.ensures.rows c.put_at.ensures.rest tallied2
+pub requeue-requires-clause-named : goal.requeue-requires-clause-named
+requeue-requires-clause-named c = ap named_row (c.leave_armed.ensures.rows c.args.at) ∙ c.requires.named
 
-pub returns-clause-placed : goal.returns-clause-placed
-returns-clause-placed c =
-    counted_placed c.put_at.new.self c.count_in.new.self None c.put_at.ensures.placed c.count_in.ensures.rest c.count_in.ensures.loose c.count_in.ensures.locks
+pub join_armed-requires-clause-armed : goal.join_armed-requires-clause-armed
+join_armed-requires-clause-armed c =
+    let q1 = c.leave_armed.new.self in
+    let q2 = c.requeue.new.self in
+    let moved = c.requeue.ensures in
+    armed_but_one q1 q2 (Some c.args.at) (Some c.args.at) c.args.at c.leave_armed.ensures.armed (out_unlisted q1 c.args.at c.leave_armed.ensures.armed) (armed_lists q1.resources q2.resources moved.rest)
+    (λ k _. moved.kin k) (requeued_granted q1 q2 c.args.at moved.rows c.args.to moved.here moved.elsewhere)
+
+pub join_armed-requires-clause-present : goal.join_armed-requires-clause-present
+join_armed-requires-clause-present c =
+    let present1 = there_through but_in_armed c.args.self.now.locks c.leave_armed.new.self.locks c.leave_armed.ensures.kin c.args.at c.requires.present in
+    there_through but_requeued c.leave_armed.new.self.locks c.requeue.new.self.locks c.requeue.ensures.kin c.args.at present1
+
+pub join_armed-requires-clause-last : goal.join_armed-requires-clause-last
+join_armed-requires-clause-last c =
+    let moved = c.requeue.ensures in
+    requeued_last c.leave_armed.new.self c.requeue.new.self c.args.at moved.rows c.args.to moved.here moved.elsewhere moved.placed
 
 pub returns-clause-here : goal.returns-clause-here
-returns-clause-here c =
-    counted_handles c.put_at.new.self c.count_in.new.self None c.put_at.ensures.placed c.count_in.ensures.rest c.count_in.ensures.loose c.count_in.ensures.locks c.args.to
-    ∙ c.put_at.ensures.here
-    ∙ ap (λ ks. ks ++ c.args.at ∷ [])
-    (written_handles c.take_off.new.self c.write_row.new.self (Some c.args.at) c.take_off.ensures.placed c.write_row.ensures.rest c.write_row.ensures.resources c.write_row.ensures.loose c.args.to
-    ∙ c.take_off.ensures.handles c.args.to
-    ∙ ap (without c.args.at)
-    (counted_handles c.args.self.now c.count_out.new.self None c.requires.placed c.count_out.ensures.rest c.count_out.ensures.loose c.count_out.ensures.locks c.args.to))
+returns-clause-here c = c.join_armed.ensures.handles c.args.to ∙ c.requeue.ensures.here ∙ ap (λ ks. without c.args.at ks ++ c.args.at ∷ []) (c.leave_armed.ensures.handles c.args.to)
 
 pub returns-clause-elsewhere : goal.returns-clause-elsewhere
-returns-clause-elsewhere c p differs =
-    counted_handles c.put_at.new.self c.count_in.new.self None c.put_at.ensures.placed c.count_in.ensures.rest c.count_in.ensures.loose c.count_in.ensures.locks p
-    ∙ c.put_at.ensures.elsewhere p differs
-    ∙ written_handles c.take_off.new.self c.write_row.new.self (Some c.args.at) c.take_off.ensures.placed c.write_row.ensures.rest c.write_row.ensures.resources c.write_row.ensures.loose p
-    ∙ c.take_off.ensures.handles p
-    ∙ ap (without c.args.at)
-    (counted_handles c.args.self.now c.count_out.new.self None c.requires.placed c.count_out.ensures.rest c.count_out.ensures.loose c.count_out.ensures.locks p)
+returns-clause-elsewhere c p differs = c.join_armed.ensures.handles p ∙ c.requeue.ensures.elsewhere p differs ∙ ap (without c.args.at) (c.leave_armed.ensures.handles p)
+
+pub returns-clause-kin : goal.returns-clause-kin
+returns-clause-kin c k =
+    let q = c.args.self.now.locks in
+    let q1 = c.leave_armed.new.self.locks in
+    let q2 = c.requeue.new.self.locks in
+    let q3 = c.join_armed.new.self.locks in
+    in_armed_is (get q3 k) (get q2 k) (c.join_armed.ensures.kin k) ∙ requeued_is (get q2 k) (get q1 k) (c.requeue.ensures.kin k) ∙ in_armed_is (get q1 k) (get q k) (c.leave_armed.ensures.kin k)
+
+pub returns-clause-rest : goal.returns-clause-rest
+returns-clause-rest c k =
+    let q = c.args.self.now.resources in
+    let q1 = c.leave_armed.new.self.resources in
+    let q2 = c.requeue.new.self.resources in
+    let q3 = c.join_armed.new.self.resources in
+    armed_queues q2 q3 c.join_armed.ensures.rest k ∙ counted_queues q1 q2 c.requeue.ensures.rest k ∙ armed_queues q q1 c.leave_armed.ensures.rest k

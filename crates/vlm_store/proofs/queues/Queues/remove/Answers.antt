@@ -1,6 +1,10 @@
-use Rattle.vlm_store.specs.Shown.{room_in}
+use Rattle.vlm_store.specs.Shown.{but_requeued, room_in, row_in}
 use Rattle.vlm_store.proofs.Rooms.{room_given_back}
-use Rattle.std.proofs.Common.{◌∙◌, None, ap, refl, ◌+◌, ℕ}
+use Rattle.std.proofs.Common.{◌∙◌, None, Some, ap, refl, ◌+◌, ℕ}
+use Rattle.std.specs.Option.{option_map}
+use Rattle.slab.specs.Slab.{get}
+use Rattle.vlm_store.specs.declared.queues.Queues.{Queues}
+use Rattle.vlm_store.proofs.Arming.{armed_but_one, armed_lists, lists_counted, out_unlisted, removed_granted, tally_counted}
 use Rattle.vlm_links.specs.Lists.{without}
 use Rattle.vlm_store.proofs.Counting.{removed_placed, removed_tallied, tallied_taken, updated_handles}
 use Rattle.vlm_store.proofs.Places.{counted_handles, counted_placed, lists_same, rows_relinked}
@@ -8,7 +12,7 @@ use Rattle.vlm_store.proofs.queues.Queues.remove.Goals as goal
 
 pub take_off-requires-clause-placed : goal.take_off-requires-clause-placed
 take_off-requires-clause-placed c =
-    counted_placed c.args.self.now c.count_out.new.self None c.requires.placed c.count_out.ensures.rest c.count_out.ensures.loose c.count_out.ensures.locks
+    counted_placed c.leave_armed.new.self c.count_out.new.self None c.leave_armed.ensures.placed c.count_out.ensures.rest c.count_out.ensures.loose c.count_out.ensures.locks
 
 pub returns-clause-placed : goal.returns-clause-placed
 returns-clause-placed c =
@@ -33,9 +37,29 @@ returns-clause-handles c p =
     (lists_same q2 (record q2 { locks = c.remove.new.self }) refl refl) p
     ∙ c.take_off.ensures.handles p
     ∙ ap (without c.args.at)
-    (counted_handles c.args.self.now c.count_out.new.self None c.requires.placed c.count_out.ensures.rest c.count_out.ensures.loose c.count_out.ensures.locks p)
+    (counted_handles c.leave_armed.new.self c.count_out.new.self None c.leave_armed.ensures.placed c.count_out.ensures.rest c.count_out.ensures.loose c.count_out.ensures.locks p
+    ∙ c.leave_armed.ensures.handles p)
 
 pub returns-clause-given_back : goal.returns-clause-given_back
 returns-clause-given_back c =
     room_given_back c.take_off.new.self.locks c.remove.new.self c.args.at c.remove.ensures.room c.remove.ensures.len c.remove.ensures.capacity c.remove.ensures.key_is_next
-    ∙ ap (λ (p : ℕ × ℕ). (p.0 + 1, c.args.at)) (c.take_off.ensures.locks_room ∙ ap room_in c.count_out.ensures.locks)
+    ∙ ap (λ (p : ℕ × ℕ). (p.0 + 1, c.args.at)) (c.take_off.ensures.locks_room ∙ ap room_in c.count_out.ensures.locks ∙ c.leave_armed.ensures.locks_room)
+
+pub returns-clause-armed : goal.returns-clause-armed
+returns-clause-armed c =
+    let q1 = c.leave_armed.new.self in
+    let q2 = c.count_out.new.self in
+    let q3 = c.take_off.new.self in
+    let q4 : Queues = record q3 { locks = c.remove.new.self } in
+    let armed1 = c.leave_armed.ensures.armed in
+    let placed3 = c.take_off.ensures.placed in
+    let others = c.remove.ensures.updates.others in
+    armed_but_one q1 q4 (Some c.args.at) None c.args.at armed1 (out_unlisted q1 c.args.at armed1)
+    (armed_lists q1.resources q3.resources (λ r. lists_counted q2.resources q3.resources c.take_off.ensures.rest r ∙ tally_counted q1.resources q2.resources c.count_out.ensures.rest r))
+    (λ k differs. ap (option_map but_requeued) (others k differs) ∙ c.take_off.ensures.kin k ∙ ap (λ s. option_map but_requeued (get s k)) c.count_out.ensures.locks)
+    (removed_granted q1 q4 c.args.at
+    (λ k differs. ap row_in (others k differs) ∙ rows_relinked q2.locks q3.locks c.take_off.ensures.relinks k ∙ ap (λ s. row_in (get s k)) c.count_out.ensures.locks)
+    (λ p.
+    updated_handles q3 q4 c.args.at None c.remove.ensures.updates placed3.linked (λ x. placed3.gone x c.args.at refl) (lists_same q3 q4 refl refl) p
+    ∙ c.take_off.ensures.handles p
+    ∙ ap (without c.args.at) (counted_handles q1 q2 None c.leave_armed.ensures.placed c.count_out.ensures.rest c.count_out.ensures.loose c.count_out.ensures.locks p)))

@@ -4,7 +4,8 @@ use Rattle.vlm_links.specs.Lists.{IsIn}
 use Rattle.vlm_links.proofs.Keeping.{updated-handles, updated-linked}
 use Rattle.vlm_links.proofs.HandleLists.{IsIn-without}
 use Rattle.vlm_store.specs.Shown.{order_links, with_order_links}
-use Rattle.vlm_store.proofs.Making.{removed_lists, removed_tally, resources_handles, resources_placed}
+use Rattle.vlm_store.proofs.Arming.{armed_resources}
+use Rattle.vlm_store.proofs.Making.{removed_armed, removed_lists, removed_tally, resources_handles, resources_placed}
 use Rattle.vlm_store.proofs.queues.Queues.remove_resource.Goals as goal
 
 pub returns-clause-placed : goal.returns-clause-placed
@@ -15,6 +16,14 @@ returns-clause-placed c =
 pub returns-clause-tallied : goal.returns-clause-tallied
 returns-clause-tallied c =
     removed_tally c.args.self.now c.unlink.new.nodes c.remove.new.self c.args.res c.unlink.ensures.relinks c.remove.ensures.updates c.requires.placed c.requires.idle c.requires.tallied
+
+pub returns-clause-armed : goal.returns-clause-armed
+returns-clause-armed c =
+    let q = c.args.self.now in
+    armed_resources q c.remove.new.self
+    (removed_armed q c.unlink.new.nodes c.remove.new.self c.args.res c.unlink.ensures.relinks c.remove.ensures.updates c.requires.placed c.requires.idle c.requires.armed)
+    (resources_handles q c.remove.new.self c.requires.placed
+    (removed_lists q c.unlink.new.nodes c.remove.new.self c.args.res c.unlink.ensures.relinks c.remove.ensures.updates c.requires.placed c.requires.idle)) c.requires.armed
 
 pub returns-clause-handles : goal.returns-clause-handles
 returns-clause-handles c =

@@ -16,9 +16,11 @@ use Rattle.vlm_store.specs.Kept.{beside_shown}
 use Rattle.vlm_store.specs.Records.{process_with_lock, HasRoom, IsTaken, with_new_lock}
 use Rattle.vlm_store.specs.Shown.{but_queues, handles_at, list_at, lkid_of, queue_links, row_in}
 use Rattle.vlm_store.specs.Store.{key_at, lkid_at, records_of, tables}
+use Rattle.vlm_store.proofs.Arming.{armed_kin, armed_reserved}
 use Rattle.vlm_store.proofs.Indexing.{Indexes-added, Indexes-same}
 use Rattle.vlm_store.proofs.Joining.{new_lkid, other_lkids, joined_kin, joined_lkids, joined_named, joined_owned, joined_processes, linked_parent_there, new_below, new_owned, owner_was_there}
 use Rattle.vlm_store.proofs.Kept.{faces_same, no_lock, on_err, on_ok, reserved_handles, reserved_placed, stored_there}
+use Rattle.vlm_store.proofs.Marked.{own_marked}
 use Rattle.vlm_store.proofs.Kinship.{kin_handles, kin_placed, kin_rows, kin_tallied, own_below, own_pids, own_process_linked, own_process_whole, records_processes}
 use Rattle.vlm_store.proofs.Layouts.{loose_joined}
 use Rattle.vlm_store.proofs.store.Store.add_lock.Goals as goal
@@ -31,6 +33,12 @@ pub add-slot-requires-clause-placed : goal.add-slot-requires-clause-placed
 add-slot-requires-clause-placed c =
     let s = c.self.inside in
     reserved_placed s.queues c.reserve_one.new.records (λ k. ap (λ x. slot_of x k) c.reserve_one.ensures.records) c.self.invariant.placed
+
+pub add-slot-requires-clause-armed : goal.add-slot-requires-clause-armed
+add-slot-requires-clause-armed c =
+    let s = c.self.inside in
+    let same : (k : ℕ) → slot_of c.reserve_one.new.records k ≡ slot_of s.queues.locks k = λ k. ap (λ x. slot_of x k) c.reserve_one.ensures.records in
+    armed_reserved s.queues c.reserve_one.new.records same (reserved_handles s.queues c.reserve_one.new.records same c.self.invariant.placed) c.self.invariant.armed
 
 pub join_process-requires-clause-owned : goal.join_process-requires-clause-owned
 join_process-requires-clause-owned c =
@@ -104,6 +112,7 @@ invariant_of-self-2 c =
     record {
       placed = kin_placed q' c.join_parent.new.locks kin added.placed;
       tallied = kin_tallied q' c.join_parent.new.locks kin added.placed added.tallied;
+      armed = armed_kin q' c.join_parent.new.locks kin (kin_handles q' c.join_parent.new.locks kin added.placed) (kin_rows q' c.join_parent.new.locks kin) added.armed;
       linked = order_linked but_queues (λ r. refl) s.queues.resources q'.resources rest s.order kept.linked;
       ordered = order_whole but_queues (λ r. refl) s.queues.resources q'.resources rest s.order kept.linked kept.ordered;
       locks = Indexes-added nat_eq unsigned_Decides c.reserve_one.new.index c.insert.new.self c.args.row.lkid (lkid_at (record s.queues { locks = c.reserve_one.new.records })) (lkid_at q'') at
@@ -116,6 +125,7 @@ invariant_of-self-2 c =
       processes_linked = own_process_linked s.processes c.join_process.new.processes process.rest s.process_order kept.processes_linked;
       processes_ordered = own_process_whole s.processes c.join_process.new.processes process.rest s.process_order kept.processes_linked kept.processes_ordered;
       processes = Indexes-same (get nat_eq s.process_index) (get nat_eq s.process_index) (pid_at s.processes) (pid_at c.join_process.new.processes) (λ k. refl) (own_pids s.processes c.join_process.new.processes process.rest) kept.processes;
+      marked = own_marked s.processes c.join_process.new.processes s.pending process.rest kept.marked;
     }
 
 pub returns-clause-added : goal.returns-clause-added

@@ -1,6 +1,7 @@
 use Rattle.vlm_store.specs.Store.{tables, records_of}
 use Rattle.vlm_store.proofs.RoomShown.{has_room, shown_room, room_shown, is_taken, process_room_made}
-use Rattle.std.proofs.Common.{◌≡◌, ◌≢◌, ◌∙◌, ◌++◌, ◌∷◌, ℕ, List, [], map, None, Some, IsSome, ap, sym, refl, arith, nat_eq}
+use Rattle.std.proofs.Common.{◌≡◌, ◌≢◌, ◌∙◌, ◌++◌, ◌∷◌, ℕ, List, [], length, map, None, Some, IsSome, ap, sym, refl, arith, nat_eq}
+use Rattle.std.proofs.lemmas.Option.{none-some}
 use Rattle.std.specs.Cmp.{unsigned_Decides}
 use Rattle.std.specs.Map.{lookup}
 use Rattle.std.specs.Option.{option_map}
@@ -20,7 +21,8 @@ use Rattle.vlm_store.proofs.Declaring.{names_stay, owner_is_there, owns_stay, ow
 use Rattle.vlm_store.proofs.Indexing.{Indexes-added, Indexes-same}
 use Rattle.vlm_store.proofs.Kept.{on_ok, on_err}
 use Rattle.vlm_store.proofs.Kinship.{processes_changed, there_by_part}
-use Rattle.vlm_store.proofs.Living.{no_process_found, process_there}
+use Rattle.vlm_store.proofs.Living.{no_process_found, process_named, process_there}
+use Rattle.vlm_store.proofs.Marked.{added_marked, grown_marked, waits_by_order, waits_not}
 use Rattle.vlm_store.proofs.Making.{whole_grown}
 use Rattle.vlm_store.proofs.Members.{process_made}
 use Rattle.vlm_store.proofs.Places.{no_list_is}
@@ -59,6 +61,7 @@ invariant_of-self-2 c =
     record {
       placed = kept.placed;
       tallied = kept.tallied;
+      armed = kept.armed;
       linked = kept.linked;
       ordered = kept.ordered;
       locks = kept.locks;
@@ -73,6 +76,12 @@ invariant_of-self-2 c =
           (rw c.of-at.ensures at (on_ok c.insert.result _ (c.insert.ensures.succeeds (omega (arith, c.in_ok-reserve_one.ensures.find))) c.insert.ensures.updates))
           (ap (option_map pid_of) entered.fresh) (pid_by_order (get new at) (Some process) entered.here ∙ ap (λ (p : PlainProcess). Some p.pid) c.new-process.ensures.plain)
           (λ p differs. pid_by_order (get new p) (get roomy p) (entered.others p differs)) fresh indexes1;
+      marked = added_marked s.processes new at (λ p differs. pid_by_order (get new p) (get s.processes p) (others p differs))
+          (λ p differs. waits_by_order (get new p) (get s.processes p) (others p differs)) c.make_room.new.self c.args.pid vacant
+          (pid_by_order (get new at) (Some process) entered.here ∙ ap (λ (p : PlainProcess). Some p.pid) c.new-process.ensures.plain)
+          (waits_by_order (get new at) (Some process) entered.here ∙ waits_not process (ap (λ (p : PlainProcess). length p.asts) c.new-process.ensures.plain))
+          (λ k is. none-some k (sym (no_process_found s kept c.args.pid (rw (← c.self.view_is) at c.requires.new)) ∙ kept.processes.complete c.args.pid k is))
+          c.in_ok-make_room.ensures.room (grown_marked s.processes s.pending c.make_room.new.self c.in_ok-make_room.ensures.kept kept.marked);
     }
 
 pub returns-clause-added : goal.returns-clause-added
@@ -98,7 +107,7 @@ returns-clause-added c =
     ∙ ap (λ due. record { at = at; process = new_process c.args.pid c.args.declaration.now; due = due; own = map (own_of h') (h'.own at) }) c.new-process.ensures.due
     ∙ ap (λ l. record { at = at; process = new_process c.args.pid c.args.declaration.now; due = 0; own = map (own_of h') (handles_of own_links s.queues.locks l) }) after in
     rw (← c.self.view_is, c.of-at.ensures)
-    (processes_changed s.queues s.order (beside_shown s) (beside_shown (record s { processes = new; process_order = c.put_in.new.order; process_index = c.insert.new.self })) (λ (ps : List StoredProcess). ps ++ new_stored_process at c.args.pid c.args.declaration.now ∷ [])
+    (processes_changed s.queues s.order (beside_shown s) (beside_shown (record s { processes = new; process_order = c.put_in.new.order; process_index = c.insert.new.self; pending = c.make_room.new.self })) (λ (ps : List StoredProcess). ps ++ new_stored_process at c.args.pid c.args.declaration.now ∷ [])
     (process_made h h' (λ k. refl) at (new_stored_process at c.args.pid c.args.declaration.now) (λ p differs. face_by_order (get new p) (get s.processes p) (others p differs))
     (λ p _. process_own_handles s.processes new s.queues.locks owns p) (vacant_unlisted process_links s.processes s.process_order kept.processes_linked at vacant)
     (entered.order ∙ ap (λ ks. ks ++ at ∷ []) handles1) made))
@@ -114,7 +123,7 @@ returns-clause-fresh c has =
 pub returns-clause-taken : goal.returns-clause-taken
 returns-clause-taken c =
     let s = c.self.inside in
-    let s' = record s { processes = c.put_in.new.processes; process_order = c.put_in.new.order; process_index = c.insert.new.self } in
+    let s' = record s { processes = c.put_in.new.processes; process_order = c.put_in.new.order; process_index = c.insert.new.self; pending = c.make_room.new.self } in
     rw (← c.self.view_is)
     (room_shown (λ a b. IsTaken a.processes b.processes) (tables s.queues s.order (beside_shown s)) (tables s.queues s.order (beside_shown s'))
     (is_taken s.processes c.reserve_one.new.records c.put_in.new.processes (spare s.process_index) (spare c.reserve_one.new.index) (spare c.insert.new.self) c.reserve_one.ensures.records c.reserve_one.ensures.capacity
@@ -129,6 +138,26 @@ returns-in_err-reserve_one-clause-err c =
 pub returns-in_err-reserve_one-clause-succeeds : goal.returns-in_err-reserve_one-clause-succeeds
 returns-in_err-reserve_one-clause-succeeds c has =
     let s = c.self.inside in
-    let room = has_room s.processes (spare s.process_index) (shown_room (λ r. HasRoom r.processes) (tables s.queues s.order (beside_shown s)) (rw (← c.self.view_is) at has)) in
+    let room = has_room s.processes (spare s.process_index) (shown_room (λ r. HasRoom r.processes) (tables s.queues s.order (beside_shown s)) (rw (← c.self.view_is) at has.record_room)) in
     let never = c.in_err-reserve_one.ensures.succeeds room.0 room.1 room.2 in
+    cc
+
+-- where memory is refused for the mark no more than room was made
+pub invariant_of-self-in_err-make_room : goal.invariant_of-self-in_err-make_room
+invariant_of-self-in_err-make_room c =
+    rw c.in_err-make_room.ensures.refused
+    (roomier c.self.inside c.self.invariant c.reserve_one.new.records c.reserve_one.new.index (λ p. ap (λ x. get x p) c.reserve_one.ensures.records) (λ k. ap (λ es. lookup (nat_eq k) es) c.reserve_one.ensures.index))
+
+pub returns-in_err-make_room-clause-err : goal.returns-in_err-make_room-clause-err
+returns-in_err-make_room-clause-err c =
+    rw (← c.self.view_is)
+    (on_err c.from_residual-in_err-make_room.result _ (process_room_made c.self.inside c.reserve_one.new.records (spare c.reserve_one.new.index) c.reserve_one.ensures.records c.reserve_one.ensures.capacity c.reserve_one.ensures.finds))
+
+-- beside a living process of its node there is room for the mark
+pub returns-in_err-make_room-clause-succeeds : goal.returns-in_err-make_room-clause-succeeds
+returns-in_err-make_room-clause-succeeds c has =
+    let beside = rw (← c.self.view_is) at has.mark in
+    let p = beside.0 in
+    let named = process_named c.self.inside c.self.invariant p.at p.process.pid (p, (beside.1.0, refl, refl)) in
+    let never = c.in_err-make_room.ensures.succeeds p.process.pid beside.1.1 beside.1.2 (c.self.invariant.marked.room p.at p.process.pid named.1) in
     cc

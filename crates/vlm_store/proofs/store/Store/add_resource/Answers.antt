@@ -13,6 +13,8 @@ use Rattle.vlm_words.specs.Keys.{is_same_key, is_same_key-Decides}
 use Rattle.vlm_store.specs.Records.{new_stored_resource, HasRoom, IsTaken}
 use Rattle.vlm_store.specs.Shown.{Face, face_in, lkid_of, new_face, order_links, row_in, room_in}
 use Rattle.vlm_store.specs.Store.{key_at, lkid_at, resource_of, tables, records_of}
+use Rattle.vlm_store.specs.Armed.{armed_list_in}
+use Rattle.vlm_store.proofs.Arming.{armed_resources}
 use Rattle.vlm_store.proofs.Indexing.{Indexes-added, Indexes-same}
 use Rattle.vlm_store.proofs.Kept.{no_resource, on_ok}
 use Rattle.vlm_store.proofs.Layouts.{HasResource-order, resource_made}
@@ -31,6 +33,13 @@ pub add_resource-requires-clause-placed : goal.add_resource-requires-clause-plac
 add_resource-requires-clause-placed c =
     let s = c.self.inside in
     resources_placed s.queues c.reserve_one.new.records c.self.invariant.placed (reserved_lists s.queues c.reserve_one.new.records (λ r. ap (λ x. slot_of x r) c.reserve_one.ensures.records))
+
+pub add_resource-requires-clause-armed : goal.add_resource-requires-clause-armed
+add_resource-requires-clause-armed c =
+    let s = c.self.inside in
+    let same : (r : ℕ) → slot_of c.reserve_one.new.records r ≡ slot_of s.queues.resources r = λ r. ap (λ x. slot_of x r) c.reserve_one.ensures.records in
+    armed_resources s.queues c.reserve_one.new.records (λ r. ap armed_list_in (same r))
+    (resources_handles s.queues c.reserve_one.new.records c.self.invariant.placed (reserved_lists s.queues c.reserve_one.new.records same)) c.self.invariant.armed
 
 pub add_resource-requires-clause-linked : goal.add_resource-requires-clause-linked
 add_resource-requires-clause-linked c =
@@ -55,6 +64,7 @@ invariant_of-self-2 c =
     record {
       placed = added.placed;
       tallied = added.tallied;
+      armed = added.armed;
       linked = added.linked;
       ordered = whole_grown order_links c.reserve_one.new.records q'.resources s.order c.add_resource.new.order at (λ r there. rw handles1 (kept.ordered r (rw (same r) at there))) added.order
           (λ r differs. there_by_face (slot_of q'.resources r) (slot_of c.reserve_one.new.records r) (added.faces r differs));
@@ -70,6 +80,7 @@ invariant_of-self-2 c =
       processes_linked = kept.processes_linked;
       processes_ordered = kept.processes_ordered;
       processes = kept.processes;
+      marked = kept.marked;
     }
 
 pub returns-clause-added : goal.returns-clause-added

@@ -18,7 +18,8 @@ forgive-requires c =
 pub invariant_of-self : goal.invariant_of-self
 invariant_of-self c =
     rw c.slot.ensures
-    (asts_kept c.self.inside c.self.invariant c.args.at c.index_mut.result.now c.forgive.new.self (rw c.slot.ensures at c.index_mut.ensures.value))
+    (asts_kept c.self.inside c.self.invariant c.args.at c.index_mut.result.now c.forgive.new.self (rw c.slot.ensures at c.index_mut.ensures.value)
+    (ap (λ (asts : Asts). asts.pending) c.forgive.ensures))
 
 pub returns : goal.returns
 returns c =

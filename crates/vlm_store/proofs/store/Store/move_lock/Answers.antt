@@ -45,6 +45,7 @@ invariant_of-self c =
     record {
       placed = c.move_to.ensures.placed;
       tallied = c.move_to.ensures.tallied;
+      armed = c.move_to.ensures.armed;
       linked = order_linked but_queues (λ r. refl) s.queues.resources q'.resources rest s.order kept.linked;
       ordered = order_whole but_queues (λ r. refl) s.queues.resources q'.resources rest s.order kept.linked kept.ordered;
       locks = Indexes-same (get nat_eq s.lock_index) (get nat_eq s.lock_index) (lkid_at s.queues) (lkid_at q') (λ k. refl) (queued_lkids s.processes s.queues.locks q'.locks c.move_to.ensures.kin) kept.locks;
@@ -55,6 +56,7 @@ invariant_of-self c =
       processes_linked = kept.processes_linked;
       processes_ordered = kept.processes_ordered;
       processes = kept.processes;
+      marked = kept.marked;
     }
 
 pub returns : goal.returns

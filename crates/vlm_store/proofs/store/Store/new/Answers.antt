@@ -10,7 +10,9 @@ use Rattle.vlm_words.specs.Keys.{is_same_key}
 use Rattle.vlm_store.specs.Holdings.{pid_at, pid_of}
 use Rattle.vlm_store.proofs.Declaring.{empty_below, empty_named, empty_owned, empty_processes, empty_processes_linked, empty_processes_ordered}
 use Rattle.vlm_store.specs.Store.{key_at, lkid_at}
-use Rattle.vlm_store.proofs.Kept.{Indexes-empty, empty_linked, empty_ordered, empty_placed, empty_records, empty_tallied}
+use Rattle.vlm_store.proofs.Arming.{empty_armed}
+use Rattle.vlm_store.proofs.Kept.{Indexes-empty, empty_handles, empty_linked, empty_ordered, empty_placed, empty_records, empty_tallied}
+use Rattle.vlm_store.proofs.Marked.{empty_marked}
 use Rattle.vlm_store.proofs.store.Store.new.Goals as goal
 
 pub invariant_of-result : goal.invariant_of-result
@@ -22,6 +24,7 @@ invariant_of-result c =
     record {
       placed = empty_placed q no_locks no_resources c.new-3.ensures;
       tallied = empty_tallied q no_locks no_resources c.new-3.ensures;
+      armed = empty_armed q no_resources (empty_handles q no_locks no_resources c.new-3.ensures);
       linked = empty_linked q no_locks no_resources c.new-3.ensures c.new-4.result c.new-4.ensures;
       ordered = empty_ordered q no_locks no_resources c.new-3.ensures c.new-4.result c.new-4.ensures;
       locks = Indexes-empty (found nat_eq c.new-7.result) (lkid_at q) (λ k. ap (lookup (nat_eq k)) c.new-7.ensures.empty) (λ at. ap (option_map lkid_of) (no_locks at));
@@ -32,6 +35,7 @@ invariant_of-result c =
       processes_linked = empty_processes_linked c.new-5.result q.locks no_processes no_locks c.new-6.result c.new-6.ensures;
       processes_ordered = empty_processes_ordered c.new-5.result q.locks no_processes no_locks c.new-6.result c.new-6.ensures;
       processes = Indexes-empty (found nat_eq c.new-9.result) (pid_at c.new-5.result) (λ k. ap (lookup (nat_eq k)) c.new-9.ensures.empty) (λ p. ap (option_map pid_of) (no_processes p));
+      marked = empty_marked c.new-5.result c.new-10.result no_processes c.new-10.ensures;
     }
 
 pub returns : goal.returns

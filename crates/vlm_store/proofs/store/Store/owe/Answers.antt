@@ -10,7 +10,8 @@ index_mut-requires c = rw c.slot.ensures (process_there c.self.inside c.self.inv
 pub invariant_of-self : goal.invariant_of-self
 invariant_of-self c =
     rw c.slot.ensures
-    (asts_kept c.self.inside c.self.invariant c.args.at c.index_mut.result.now c.owe.new.self (rw c.slot.ensures at c.index_mut.ensures.value))
+    (asts_kept c.self.inside c.self.invariant c.args.at c.index_mut.result.now c.owe.new.self (rw c.slot.ensures at c.index_mut.ensures.value)
+    c.owe.ensures.pending)
 
 pub returns-clause-owed : goal.returns-clause-owed
 returns-clause-owed c =

@@ -10,8 +10,10 @@ use Rattle.vlm_store.specs.Kept.{beside_shown}
 use Rattle.vlm_store.specs.Records.{leaving, process_without_lock, with_lists, IsGivenBack, without_stored_lock}
 use Rattle.vlm_store.specs.Shown.{but_kin, but_queues, handles_at, lkid_of, rows}
 use Rattle.vlm_store.specs.Store.{key_at, lkid_at, records_of, tables}
+use Rattle.vlm_store.proofs.Arming.{armed_kin}
 use Rattle.vlm_store.proofs.Indexing.{Indexes-removed, Indexes-same}
 use Rattle.vlm_store.proofs.Kept.{faces_same}
+use Rattle.vlm_store.proofs.Marked.{own_marked}
 use Rattle.vlm_store.proofs.Kinship.{below_kin, below_owned, kin_handles, kin_placed, kin_rows, kin_tallied, own_kin, own_pids, own_process_linked, own_process_whole, records_processes}
 use Rattle.vlm_store.proofs.Layouts.{leaving-under_handle, lists_changed_beside}
 use Rattle.vlm_store.proofs.Leaving.{left_below, left_kin, left_lkids, left_named, left_owned, left_processes}
@@ -50,6 +52,15 @@ remove-requires-clause-tallied c =
     (same_then but_kin s.queues.locks c.leave_parent.new.locks c.leave_process.new.locks (below_kin s.processes s.queues.locks c.leave_parent.new.locks parent.rest) (own_kin c.leave_parent.new.locks c.leave_process.new.locks process.relinks))
     kept.placed kept.tallied
 
+pub remove-requires-clause-armed : goal.remove-requires-clause-armed
+remove-requires-clause-armed c =
+    let s = c.self.inside in
+    let kept = c.self.invariant in
+    let parent = rw c.slot-2.ensures at c.leave_parent.ensures in
+    let process = rw c.slot-3.ensures at c.leave_process.ensures in
+    let kin = same_then but_kin s.queues.locks c.leave_parent.new.locks c.leave_process.new.locks (below_kin s.processes s.queues.locks c.leave_parent.new.locks parent.rest) (own_kin c.leave_parent.new.locks c.leave_process.new.locks process.relinks) in
+    armed_kin s.queues c.leave_process.new.locks kin (kin_handles s.queues c.leave_process.new.locks kin kept.placed) (kin_rows s.queues c.leave_process.new.locks kin) kept.armed
+
 pub invariant_of-self : goal.invariant_of-self
 invariant_of-self c =
     let s = c.self.inside in
@@ -63,6 +74,7 @@ invariant_of-self c =
     record {
       placed = removed.placed;
       tallied = removed.tallied;
+      armed = removed.armed;
       linked = order_linked but_queues (λ r. refl) s.queues.resources q'.resources removed.rest s.order kept.linked;
       ordered = order_whole but_queues (λ r. refl) s.queues.resources q'.resources removed.rest s.order kept.linked kept.ordered;
       locks =
@@ -76,6 +88,7 @@ invariant_of-self c =
       processes_linked = own_process_linked s.processes c.leave_process.new.processes process.rest s.process_order kept.processes_linked;
       processes_ordered = own_process_whole s.processes c.leave_process.new.processes process.rest s.process_order kept.processes_linked kept.processes_ordered;
       processes = Indexes-same (get nat_eq s.process_index) (get nat_eq s.process_index) (pid_at s.processes) (pid_at c.leave_process.new.processes) (λ k. refl) (own_pids s.processes c.leave_process.new.processes process.rest) kept.processes;
+      marked = own_marked s.processes c.leave_process.new.processes s.pending process.rest kept.marked;
     }
 
 pub returns-clause-removed : goal.returns-clause-removed

@@ -40,6 +40,7 @@ invariant_of-self c =
     record {
       placed = gone.placed;
       tallied = gone.tallied;
+      armed = gone.armed;
       linked = gone.linked;
       ordered = whole_left order_links s.queues.resources q'.resources s.order c.remove_resource.new.order c.args.res kept.ordered gone.order gone.gone
           (λ r differs. there_by_face (slot_of q'.resources r) (slot_of s.queues.resources r) (gone.faces r differs));
@@ -53,6 +54,7 @@ invariant_of-self c =
       processes_linked = kept.processes_linked;
       processes_ordered = kept.processes_ordered;
       processes = kept.processes;
+      marked = kept.marked;
     }
 
 pub returns-clause-removed : goal.returns-clause-removed

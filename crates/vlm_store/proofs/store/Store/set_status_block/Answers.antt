@@ -14,7 +14,7 @@ invariant_of-self c =
     let put = c.put_status_block.ensures in
     rw c.slot.ensures
     (rewritten_kept c.self.inside c.self.invariant c.args.at c.index_mut.result.now c.put_status_block.new.self (rw c.slot.ensures at c.index_mut.ensures.value)
-    put.own put.order (ap (λ (p : PlainProcess). p.pid) put.plain))
+    put.own put.order (ap (λ (p : PlainProcess). p.pid) put.plain) (ap (λ (p : PlainProcess). p.asts) put.plain))
 
 pub returns : goal.returns
 returns c =

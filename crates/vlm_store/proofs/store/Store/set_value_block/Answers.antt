@@ -32,6 +32,7 @@ invariant_of-self c =
     record {
       placed = set.placed;
       tallied = set.tallied;
+      armed = set.armed;
       linked = order_linked but_value_block (λ r. refl) s.queues.resources q'.resources set.rest s.order kept.linked;
       ordered = order_whole but_value_block (λ r. refl) s.queues.resources q'.resources set.rest s.order kept.linked kept.ordered;
       locks = Indexes-same (get nat_eq s.lock_index) (get nat_eq s.lock_index) (lkid_at s.queues) (lkid_at q') (λ k. refl) (λ x. ap (λ l. option_map lkid_of (slot_of l x)) set.locks) kept.locks;
@@ -42,6 +43,7 @@ invariant_of-self c =
       processes_linked = kept.processes_linked;
       processes_ordered = kept.processes_ordered;
       processes = kept.processes;
+      marked = kept.marked;
     }
 
 pub returns : goal.returns

@@ -1,0 +1,112 @@
+//! Marked processes, node by node.
+
+ghost use Rattle.std.specs.Prelude.{◌≡◌, ◌/◌, ◌<◌, ◌≤◌, ℕ, false, true, IfSome, IsOk, OnErr, OnOk};
+ghost use Rattle.vlm_marks.specs.Nodes.{Grows, HasRoomFor, IsFirstMarked, Writes, is_marked, place_of};
+
+use crate::marks::Marks;
+use std::alloc::{AllocError, Global};
+use std::marker::Model;
+
+// How many nodes there are, numbered from 1.
+const NODES: usize = 8;
+
+// How many identifications each node has.
+const ORDINALS: u32 = 65_536;
+
+/// Processes of the nodes 1 to 8, each marked or not. The identification of a process is 65,536 times its node, and
+/// its ordinal. One of another node is not marked and wants no room.
+#[derive(Drop)]
+pub struct NodeMarks {
+    // the ordinals that are marked of node k stand at k - 1
+    nodes: [Marks; NODES],
+}
+
+impl Model for NodeMarks {
+    ghost use Rattle.std.specs.Prelude.{Bool, List};
+
+    // Of each node, which ordinals are marked, of those that there is room for.
+    ghost Value = { List (List Bool) };
+
+    ghost use Rattle.vlm_marks.specs.Nodes.{AreEight};
+
+    ghost view = { λ m. m.nodes };
+
+    ghost invariant = { λ m. AreEight m.nodes };
+}
+
+// Where the marks of the process stand, if its node has any.
+#[tactic(auto, unfolding(crate::specs::Nodes::place_of))]
+fn place_of(pid: u32) -> Option<usize>
+    ensures place { result ≡ place_of pid }
+    ensures below { IfSome result (λ place. place < 8) }
+{
+    let node = (pid / ORDINALS) as usize;
+    if 1 <= node && node <= NODES {
+        Some(node - 1)
+    } else {
+        None
+    }
+}
+
+impl NodeMarks {
+    /// No marks, and no room for any. It takes no memory.
+    pub fn new(alloc: Global) -> Self
+        ensures { (pid : ℕ) → is_marked result pid ≡ false }
+    {
+        NodeMarks {
+            nodes: [
+                Marks::new(alloc),
+                Marks::new(alloc),
+                Marks::new(alloc),
+                Marks::new(alloc),
+                Marks::new(alloc),
+                Marks::new(alloc),
+                Marks::new(alloc),
+                Marks::new(alloc),
+            ],
+        }
+    }
+
+    /// Makes room to mark the process, and 64 of its node at a time. Where memory is refused nothing is changed.
+    pub fn make_room(&mut self, pid: u32) -> Result<(), AllocError>
+        ensures room { OnOk result (HasRoomFor self.new pid) }
+        ensures kept { OnOk result (Grows self.old self.new) }
+        ensures succeeds { (other : ℕ) → other / 65536 ≡ pid / 65536 → pid / 64 ≤ other / 64
+            → HasRoomFor self.old other → IsOk result }
+        ensures refused { OnErr result (self.new ≡ self.old) }
+    {
+        match place_of(pid) {
+            Some(place) => self.nodes[place].make_room((pid % ORDINALS) as u16),
+            None => Ok(()),
+        }
+    }
+
+    /// Marks a process.
+    pub fn mark(&mut self, pid: u32)
+        requires { HasRoomFor self.old pid }
+        ensures { Writes pid true self.old self.new }
+    {
+        if let Some(place) = place_of(pid) {
+            self.nodes[place].mark((pid % ORDINALS) as u16);
+        }
+    }
+
+    /// Takes a process's mark away, if it has one.
+    pub fn unmark(&mut self, pid: u32)
+        requires { HasRoomFor self.old pid }
+        ensures { Writes pid false self.old self.new }
+    {
+        if let Some(place) = place_of(pid) {
+            self.nodes[place].unmark((pid % ORDINALS) as u16);
+        }
+    }
+
+    /// The least identification of the node's marked processes, if one is marked.
+    pub fn first(&self, node: u8) -> Option<u32>
+        ensures { IsFirstMarked self.now node result }
+    {
+        let place = place_of(u32::from(node) * ORDINALS)?;
+        let ordinal = self.nodes[place].first()?;
+        Some(u32::from(node) * ORDINALS + u32::from(ordinal))
+    }
+}

@@ -1,0 +1,35 @@
+-- What a caller sees of the armed locks of a resource.
+use Rattle.std.proofs.Common.{◌≡◌, ℕ, map, Some, sym, ap, ◌∙◌, subst}
+use Rattle.slab.specs.Slab.{get, ContainsKey}
+use Rattle.vlm_links.specs.Lists.{IsIn, handles_of}
+use Rattle.vlm_words.specs.declared.resources.Queue.TheVariants.{Granted}
+use Rattle.vlm_store.specs.declared.handles.Place.TheVariants.{Queued}
+use Rattle.vlm_store.specs.declared.resources.Resource.{Resource}
+use Rattle.vlm_store.specs.declared.store.Store.TheInside.{Inside}
+use Rattle.vlm_store.specs.Armed.{IsArmedAt, armed_among, armed_at, armed_links, armed_list_handles, armed_list_in}
+use Rattle.vlm_store.specs.Kept.{IsKept, beside_shown, records_shown}
+use Rattle.vlm_store.specs.Records.{HasResource}
+use Rattle.vlm_store.specs.Shown.{handles_at, rows}
+use Rattle.vlm_store.specs.Store.{tables, under_handle}
+use Rattle.vlm_store.proofs.Arming.{armed-seen}
+use Rattle.vlm_store.proofs.Layouts.{HasResource-order, locks_at-seen, under_handle-among}
+
+module _ (s : Inside) (kept : IsKept s) (res : ℕ) (has : HasResource res (records_shown s)) where
+  pub resource_is_there : ContainsKey s.queues.resources res
+  resource_is_there = kept.linked.present res (HasResource-order (tables s.queues s.order (beside_shown s)) res has)
+
+  -- the list of the record is that of the resource
+  pub armed_listed : (r : Resource) → get s.queues.resources res ≡ Some r → handles_of armed_links s.queues.locks r.armed ≡ armed_list_handles s.queues res
+  armed_listed r is = sym (ap (λ slot. handles_of armed_links s.queues.locks (armed_list_in slot)) is)
+
+  -- it holds just what a caller sees
+  pub armed_shown : armed_at res (records_shown s) ≡ map (under_handle (rows s.queues)) (armed_list_handles s.queues res)
+  armed_shown =
+      let l = tables s.queues s.order (beside_shown s) in
+      ap armed_among (locks_at-seen l (Queued res Granted) (HasResource-order l res has))
+      ∙ armed-seen (rows s.queues) (handles_at s.queues (Queued res Granted))
+      ∙ ap (map (under_handle (rows s.queues))) (sym (kept.armed.order res))
+
+  pub armed_at_listed : (at : ℕ) → IsArmedAt res at (records_shown s) → IsIn at (armed_list_handles s.queues res)
+  armed_at_listed at armed =
+      (under_handle-among (rows s.queues) (armed_list_handles s.queues res) (record { at = at; row = armed.0 }) (subst (IsIn (record { at = at; row = armed.0 })) armed_shown armed.1)).0

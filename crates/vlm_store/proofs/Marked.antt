@@ -1,0 +1,162 @@
+-- Which processes are marked, as processes come, go and are written.
+use Rattle.std.proofs.Common.{◌≡◌, ◌≢◌, ℕ, ◌/◌, Bool, true, false, List, length, Option, None, Some, refl, sym, ap, ◌∙◌, subst, inl, inr}
+use Rattle.std.specs.Prelude.{◌&&◌, nat_lt}
+use Rattle.std.proofs.lemmas.Bool.{cases_eq}
+use Rattle.std.proofs.lemmas.Option.{none-some, same_Some}
+use Rattle.std.specs.Option.{option_map}
+use Rattle.slab.specs.Slab.{Slab, get, ContainsKey, with_value}
+use Rattle.slab.proofs.SlabLemmas.{Updates-with_value}
+use Rattle.vlm_marks.specs.Nodes.{Grows, HasRoomFor, Writes, is_marked, is_node}
+use Rattle.vlm_words.specs.declared.asts.Ast.{Ast}
+use Rattle.vlm_store.specs.declared.processes.Process.{Process}
+use Rattle.vlm_store.specs.Holdings.{but_order, but_own, pid_at, pid_of}
+use Rattle.vlm_store.specs.Index.{Indexes}
+use Rattle.vlm_store.specs.Pending.{IsMarked, IsToldOf, OthersStay, is_waiting, waits_in}
+use Rattle.vlm_store.specs.Shown.{SameBut}
+use Rattle.vlm_store.proofs.Kinship.{by_part, own_pids}
+use Rattle.vlm_store.proofs.Places.{through}
+
+-- ---- one process
+
+pub no_and : (b : Bool) → (b && false) ≡ false
+no_and true = refl
+no_and false = refl
+
+-- a new process waits for nothing
+pub waits_not : (p : Process) → length p.asts.pending ≡ 0 → is_waiting p ≡ false
+waits_not p none = ap (λ n. is_node (p.pid / 65536) && nat_lt 0 n) none ∙ no_and (is_node (p.pid / 65536))
+
+-- what is told of a process where as many ASTs are pending
+pub waits_same : (was now : Process) → now.pid ≡ was.pid → now.asts.pending ≡ was.asts.pending → is_waiting now ≡ is_waiting was
+waits_same was now pid pending = ap (λ x. is_node (x / 65536) && nat_lt 0 (length now.asts.pending)) pid ∙ ap (λ (asts : List Ast). is_node (was.pid / 65536) && nat_lt 0 (length asts)) pending
+
+-- ---- all processes
+
+-- what is told of a process does not depend on its locks, nor on its place in the order
+waits-own : (slot : Option Process) → waits_in (option_map but_own slot) ≡ waits_in slot
+waits-own None = refl
+waits-own (Some p) = refl
+
+waits-order : (slot : Option Process) → waits_in (option_map but_order slot) ≡ waits_in slot
+waits-order None = refl
+waits-order (Some p) = refl
+
+pub waits_by_order : (a b : Option Process) → option_map but_order a ≡ option_map but_order b → waits_in a ≡ waits_in b
+waits_by_order = by_part but_order waits_in waits-order
+
+-- no two processes have one identification
+pub pids_apart : (processes : Slab Process) (found : ℕ → Option ℕ) → Indexes found (pid_at processes) → (a b pid : ℕ) → pid_at processes a ≡ Some pid → pid_at processes b ≡ Some pid → a ≡ b
+pids_apart processes found indexes a b pid here there = same_Some a b (sym (indexes.complete pid a here) ∙ indexes.complete pid b there)
+
+-- nothing is there yet, and nothing is marked
+pub empty_marked : (processes : Slab Process) (marks : List (List Bool)) → ((p : ℕ) → get processes p ≡ None) → ((pid : ℕ) → is_marked marks pid ≡ false) → IsMarked processes marks
+empty_marked processes marks no_processes none = record {
+  told = λ at pid is. absurd (none-some pid (sym (ap (option_map pid_of) (no_processes at)) ∙ is));
+  room = λ at pid is. absurd (none-some pid (sym (ap (option_map pid_of) (no_processes at)) ∙ is));
+  lives = λ pid is. (let never : true ≡ false = sym is ∙ none pid in cc);
+}
+
+-- no mark changes where processes tell what they told
+pub kept_marked : (old new : Slab Process) (marks : List (List Bool)) → ((at : ℕ) → pid_at new at ≡ pid_at old at) → ((at : ℕ) → waits_in (get new at) ≡ waits_in (get old at)) → IsMarked old marks → IsMarked new marks
+kept_marked old new marks pids waits marked = record {
+  told = λ at pid is. marked.told at pid (sym (pids at) ∙ is) ∙ sym (waits at);
+  room = λ at pid is. marked.room at pid (sym (pids at) ∙ is);
+  lives = λ pid is. (let living = marked.lives pid is in (living.0, pids living.0 ∙ living.1));
+}
+
+-- where their locks are written
+pub own_marked : (old new : Slab Process) (marks : List (List Bool)) → SameBut but_own old new → IsMarked old marks → IsMarked new marks
+own_marked old new marks same = kept_marked old new marks (own_pids old new same) (through but_own waits_in waits-own old new same)
+
+-- there is more room for marks
+pub grown_marked : (processes : Slab Process) (old new : List (List Bool)) → Grows old new → IsMarked processes old → IsMarked processes new
+grown_marked processes old new grows marked = record {
+  told = λ at pid is. grows.marks pid ∙ marked.told at pid is;
+  room = λ at pid is. grows.room pid (marked.room at pid is);
+  lives = λ pid is. marked.lives pid (sym (grows.marks pid) ∙ is);
+}
+
+-- the process at a handle
+pub told_of : (processes : Slab Process) (marks : List (List Bool)) (at : ℕ) (p : Process) → get processes at ≡ Some p → IsMarked processes marks → IsToldOf p marks
+told_of processes marks at p here marked = record {
+  told = marked.told at p.pid (ap (option_map pid_of) here) ∙ ap waits_in here;
+  room = marked.room at p.pid (ap (option_map pid_of) here);
+}
+
+module _ (old new : Slab Process) (at : ℕ) (pid_other : (p : ℕ) → p ≢ at → pid_at new p ≡ pid_at old p) (waits_other : (p : ℕ) → p ≢ at → waits_in (get new p) ≡ waits_in (get old p)) where
+  -- a process comes that has no AST
+  pub added_marked : (marks : List (List Bool)) (mine : ℕ) → get old at ≡ None → pid_at new at ≡ Some mine → waits_in (get new at) ≡ false
+      → ((k : ℕ) → pid_at old k ≢ Some mine) → HasRoomFor marks mine → IsMarked old marks → IsMarked new marks
+  added_marked marks mine vacant here none fresh room marked = record {
+    told = λ k pid is. elim (cases_eq k at) [
+      | inl same ↦
+          ap (is_marked marks) (sym (same_pid k pid same is)) ∙ unmarked (is_marked marks mine) refl ∙ sym (ap (λ x. waits_in (get new x)) same ∙ none)
+      | inr differs ↦ marked.told k pid (sym (pid_other k differs) ∙ is) ∙ sym (waits_other k differs)
+    ];
+    room = λ k pid is. elim (cases_eq k at) [
+      | inl same ↦ subst (HasRoomFor marks) (same_pid k pid same is) room
+      | inr differs ↦ marked.room k pid (sym (pid_other k differs) ∙ is)
+    ];
+    lives = λ pid is.
+        let living = marked.lives pid is in
+        let differs : living.0 ≢ at = λ same. none-some pid (sym (ap (option_map pid_of) vacant) ∙ ap (pid_at old) (sym same) ∙ living.1) in
+        (living.0, pid_other living.0 differs ∙ living.1);
+  }
+    where
+      same_pid : (k pid : ℕ) → k ≡ at → pid_at new k ≡ Some pid → mine ≡ pid
+      same_pid k pid same is = same_Some mine pid (sym here ∙ ap (pid_at new) (sym same) ∙ is)
+
+      unmarked : (mark : Bool) → is_marked marks mine ≡ mark → is_marked marks mine ≡ false
+      unmarked true is = (let living = marked.lives mine is in absurd (fresh living.0 living.1))
+      unmarked false is = is
+
+  -- a process goes, with its mark
+  pub removed_marked : (marks marks' : List (List Bool)) (pid : ℕ) → pid_at old at ≡ Some pid → get new at ≡ None → Writes pid false marks marks'
+      → ((a b x : ℕ) → pid_at old a ≡ Some x → pid_at old b ≡ Some x → a ≡ b) → IsMarked old marks → IsMarked new marks'
+  removed_marked marks marks' pid here gone written apart marked = record {
+    told = λ k x is.
+        let stays = still k x is in
+        written.others x (λ same. stays.0 (apart k at x stays.1 (here ∙ ap Some (sym same)))) ∙ marked.told k x stays.1 ∙ sym (waits_other k stays.0);
+    room = λ k x is. written.room x (marked.room k x (still k x is).1);
+    lives = λ x is.
+        let other : x ≢ pid = λ same. (let never : true ≡ false = sym is ∙ ap (is_marked marks') same ∙ written.this ∙ no_and (is_node (pid / 65536)) in cc) in
+        let living = marked.lives x (sym (written.others x other) ∙ is) in
+        let differs : living.0 ≢ at = λ same. other (same_Some x pid (sym living.1 ∙ ap (pid_at old) same ∙ here)) in
+        (living.0, pid_other living.0 differs ∙ living.1);
+  }
+    where
+      still : (k x : ℕ) → pid_at new k ≡ Some x → (k ≢ at) × (pid_at old k ≡ Some x)
+      still k x is =
+          let differs : k ≢ at = λ same. none-some x (sym (ap (option_map pid_of) gone) ∙ ap (pid_at new) (sym same) ∙ is) in
+          (differs, sym (pid_other k differs) ∙ is)
+
+-- a process is written, and its mark with it
+pub written_marked : (processes : Slab Process) (marks marks' : List (List Bool)) (at : ℕ) (was now : Process) → get processes at ≡ Some was → now.pid ≡ was.pid → IsToldOf now marks' → OthersStay was.pid marks marks'
+    → ((a b x : ℕ) → pid_at processes a ≡ Some x → pid_at processes b ≡ Some x → a ≡ b) → IsMarked processes marks → IsMarked (with_value processes at now) marks'
+written_marked processes marks marks' at was now here pid told others apart marked =
+    let there : ContainsKey processes at = rw here refl in
+    let updates = Updates-with_value processes at now there in
+    let new = with_value processes at now in
+    let pid_here : pid_at processes at ≡ Some was.pid = ap (option_map pid_of) here in
+    let pid_now : pid_at new at ≡ Some now.pid = ap (option_map pid_of) updates.changed in
+    let same_pid : (k x : ℕ) → k ≡ at → pid_at new k ≡ Some x → now.pid ≡ x = λ k x same is. same_Some now.pid x (sym pid_now ∙ ap (pid_at new) (sym same) ∙ is) in
+    let pid_other : (k : ℕ) → k ≢ at → pid_at new k ≡ pid_at processes k = λ k differs. ap (option_map pid_of) (updates.others k differs) in
+    record {
+      told = λ k x is. elim (cases_eq k at) [
+        | inl same ↦ ap (is_marked marks') (sym (same_pid k x same is)) ∙ told.told ∙ sym (ap (λ y. waits_in (get new y)) same ∙ ap waits_in updates.changed)
+        | inr differs ↦
+            let old_pid = sym (pid_other k differs) ∙ is in
+            others.marks x (λ same. differs (apart k at x old_pid (pid_here ∙ ap Some (sym same)))) ∙ marked.told k x old_pid ∙ sym (ap waits_in (updates.others k differs))
+      ];
+      room = λ k x is. elim (cases_eq k at) [
+        | inl same ↦ subst (HasRoomFor marks') (same_pid k x same is) told.room
+        | inr differs ↦ others.room x (marked.room k x (sym (pid_other k differs) ∙ is))
+      ];
+      lives = λ x is. elim (cases_eq x was.pid) [
+        | inl same ↦ (at, pid_now ∙ ap Some (pid ∙ sym same))
+        | inr other ↦
+            let living = marked.lives x (sym (others.marks x other) ∙ is) in
+            let differs : living.0 ≢ at = λ same. other (same_Some x was.pid (sym living.1 ∙ ap (pid_at processes) same ∙ pid_here)) in
+            (living.0, pid_other living.0 differs ∙ living.1)
+      ];
+    }

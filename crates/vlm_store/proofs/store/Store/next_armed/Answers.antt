@@ -1,0 +1,45 @@
+use Rattle.std.proofs.Common.{◌∙◌, ap, subst, sym}
+use Rattle.vlm_links.specs.Lists.{IsIn, handle_after}
+use Rattle.vlm_links.proofs.Walks.{handle_after-in}
+use Rattle.vlm_store.specs.Armed.{armed_list_handles}
+use Rattle.vlm_store.specs.Records.{at_after}
+use Rattle.vlm_store.specs.Shown.{rows}
+use Rattle.vlm_store.proofs.ArmedSeen.{armed_at_listed, armed_listed, armed_shown, resource_is_there}
+use Rattle.vlm_store.proofs.Layouts.{under_handle-after}
+use Rattle.vlm_store.proofs.store.Store.next_armed.Goals as goal
+
+pub index-requires : goal.index-requires
+index-requires c = rw c.slot.ensures (resource_is_there c.self.inside c.self.invariant c.args.res (rw (← c.self.view_is) at c.requires.there))
+
+pub next-requires-clause-listed : goal.next-requires-clause-listed
+next-requires-clause-listed c =
+    let s = c.self.inside in
+    let has = rw (← c.self.view_is) at c.requires.there in
+    let listed = armed_listed s c.self.invariant c.args.res has c.index.result.now (rw c.slot.ensures at c.index.ensures) in
+    rw c.slot-2.ensures (subst (IsIn c.args.lock) (sym listed) (armed_at_listed s c.self.invariant c.args.res has c.args.lock (rw (← c.self.view_is) at c.requires.armed)))
+
+pub of-requires : goal.of-requires
+of-requires c =
+    let s = c.self.inside in
+    let listed = armed_listed s c.self.invariant c.args.res (rw (← c.self.view_is) at c.requires.there) c.index.result.now (rw c.slot.ensures at c.index.ensures) in
+    let is = rw c.slot-2.ensures at c.in_ok-at.ensures in
+    (c.self.invariant.armed.linked c.args.res).within c.in_ok-at.at
+    (handle_after-in c.args.lock (armed_list_handles s.queues c.args.res) c.in_ok-at.at (is ∙ ap (handle_after c.args.lock) listed))
+
+pub returns : goal.returns
+returns c =
+    let s = c.self.inside in
+    let has = rw (← c.self.view_is) at c.requires.there in
+    let listed = armed_listed s c.self.invariant c.args.res has c.index.result.now (rw c.slot.ensures at c.index.ensures) in
+    rw (← c.self.view_is, c.of.ensures)
+    ((rw c.slot-2.ensures at c.in_ok-at.ensures) ∙ ap (handle_after c.args.lock) listed
+    ∙ sym (ap (at_after c.args.lock) (armed_shown s c.self.invariant c.args.res has) ∙ under_handle-after (rows s.queues) c.args.lock (armed_list_handles s.queues c.args.res)))
+
+pub returns-in_err-at : goal.returns-in_err-at
+returns-in_err-at c =
+    let s = c.self.inside in
+    let has = rw (← c.self.view_is) at c.requires.there in
+    let listed = armed_listed s c.self.invariant c.args.res has c.index.result.now (rw c.slot.ensures at c.index.ensures) in
+    rw (← c.self.view_is)
+    (c.from_residual.ensures ∙ (rw c.slot-2.ensures at c.in_err-at.ensures) ∙ ap (handle_after c.args.lock) listed
+    ∙ sym (ap (at_after c.args.lock) (armed_shown s c.self.invariant c.args.res has) ∙ under_handle-after (rows s.queues) c.args.lock (armed_list_handles s.queues c.args.res)))
