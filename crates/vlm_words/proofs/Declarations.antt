@@ -273,6 +273,23 @@ declared_rise s d of_node has rise =
 names_node : (d : Declaration) → 1 ≤ d.node → d.node ≤ 8 → is_node d.node ≡ true
 names_node d first last = grind (arith, nat_tests)
 
+-- those that are left after some have ended rise as before
+rising_left : (is_one : ℕ → Bool) (processes : List Process) → EachPair Rises (pids processes) → EachPair Rises (pids (processes_but is_one processes))
+rising_left is_one [] rising = tt
+rising_left is_one (p ∷ rest) rising =
+    let behind : EachPair Rises (pids (processes_but is_one rest)) = rising_left is_one rest rising.1 in
+    cond_both (not (is_one p.pid)) (p ∷ processes_but is_one rest) (processes_but is_one rest) (λ left. EachPair Rises (pids left))
+    (λ _. (pids_left is_one (Rises p.pid) rest rising.0, behind)) (λ _. behind)
+
+ended_rise : (s : State) (is_one : ℕ → Bool) (nodes : List Node) → DeclareAsMany s.nodes nodes → AllRise s
+    → AllRise (state_after_rundown is_one nodes s)
+unfolding state_after_rundown
+ended_rise s is_one nodes same rise = record {
+  given = ended_given s is_one nodes same rise.given;
+  named = pids_left is_one IsOfNode s.processes rise.named;
+  rising = rising_left is_one s.processes rise.rising;
+}
+
 -- after every run each living process is of a node, and those of a node rise
 rise_always : (history : History) (last : State)
     → Run history last → AllRise last
@@ -290,7 +307,8 @@ rise_always =
     (λ c a _ _. swept_rise (convert_change s c a) (same_rise s (convert_change s c a) refl (kept_converted (λ p. p.pid) (λ _ _ _. refl) s c a) rise))
     (λ d _.
     swept_rise (deq_change s d)
-    (same_rise s (deq_change s d) refl (kept_ended (λ p. p.pid) (λ _ _ _. refl) (deq_endings s d) (blocks_with new_value_block s.processes)) rise)))
+    (same_rise s (deq_change s d) refl (kept_ended (λ p. p.pid) (λ _ _ _. refl) (deq_endings s d) (blocks_with new_value_block s.processes)) rise))
+    (λ is_one nodes ends. swept_rise (state_after_rundown is_one nodes s) (ended_rise s is_one nodes (declare_as_many s is_one nodes ends) rise)))
 
 -- what holds of identifications, of the processes that have them
 of_processes : (processes : List Process) → AllByRecursion IsOfNode (pids processes) → AllByRecursion (λ p. IsOfNode p.pid) processes
