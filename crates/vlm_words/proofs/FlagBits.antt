@@ -109,22 +109,19 @@ no_flag_place (suc (suc (suc (suc (suc (suc n)))))) each =
 
 -- a place where no flag of dequeues has its bit
 dequeue_places : (place : ℕ) → bit_at deq_bits place ≡ 0 → AllByRecursion (λ flag. bit_at flag place ≡ 0) dequeue_flags
-dequeue_places zero is = cc
+dequeue_places zero is = (refl, (refl, tt))
 dequeue_places (suc zero) is = cc
 dequeue_places (suc (suc zero)) is = cc
 dequeue_places (suc (suc (suc n))) is =
     let above : 3 ≤ suc (suc (suc n)) = omega arith in
-    (
-      bit_at_above 1 3 (suc (suc (suc n))) (omega arith) above,
-      (bit_at_above 2 3 (suc (suc (suc n))) (omega arith) above, (bit_at_above 4 3 (suc (suc (suc n))) (omega arith) above, tt)),
-    )
+    (bit_at_above 2 3 (suc (suc (suc n))) (omega arith) above, (bit_at_above 4 3 (suc (suc (suc n))) (omega arith) above, tt))
 
 -- and none of both has one there
 no_dequeue_place : (place : ℕ) → AllByRecursion (λ flag. bit_at flag place ≡ 0) dequeue_flags → bit_at deq_bits place ≡ 0
-no_dequeue_place zero each = absurd (omega (arith, each.0))
-no_dequeue_place (suc zero) each = absurd (omega (arith, each.1.0))
-no_dequeue_place (suc (suc zero)) each = absurd (omega (arith, each.1.1.0))
-no_dequeue_place (suc (suc (suc n))) each = bit_at_above 7 3 (suc (suc (suc n))) (omega arith) (omega arith)
+no_dequeue_place zero each = refl
+no_dequeue_place (suc zero) each = absurd (omega (arith, each.0))
+no_dequeue_place (suc (suc zero)) each = absurd (omega (arith, each.1.0))
+no_dequeue_place (suc (suc (suc n))) each = bit_at_above 6 3 (suc (suc (suc n))) (omega arith) (omega arith)
 
 -- a bit outside all flags is no flag's
 some_flag : (bits : ℕ) → HasBitOutside enq_bits bits → HasUnknownBit request_flags bits

@@ -31,7 +31,7 @@ request_flags = valblk ∷ noqueue ∷ syncsts ∷ system ∷ expedite ∷ quecv
 
 -- the flags of dequeues that are built
 abbrev pub dequeue_flags : List ℕ
-dequeue_flags = deqall ∷ cancel ∷ invvalblk ∷ []
+dequeue_flags = cancel ∷ invvalblk ∷ []
 
 -- some bit is set that is none of these flags'
 pub record HasUnknownBit (flags : List ℕ) (bits : ℕ) : Type 0 where
@@ -185,8 +185,8 @@ Breaks s (SetValue v) cond = SettingBreaks s v cond
 Breaks s (Enq e) cond = RequestBreaks s e cond
 Breaks s (Convert c) cond = ConversionBreaks s c cond
 Breaks s (Deq d) cond = DequeueBreaks s d cond
-Breaks s (Rundown pid) cond = CallerBreaks s pid cond
-Breaks s (Leave node) cond = DepartureBreaks s node cond
+Breaks s (Rundown pid) cond = UnbuiltBreaks cond
+Breaks s (Leave node) cond = UnbuiltBreaks cond
 Breaks s (Search node) cond = UnbuiltBreaks cond
 Breaks s (Take pid) cond = CallerBreaks s pid cond
 
