@@ -1,5 +1,5 @@
 -- The completions that are queued are those of the endings.
-use Rattle.std.proofs.Common.{◌≡◌, ◌++◌, ℕ, Bool, true, false, List, [], ◌∷◌, cond, Option, None, Some, inl, inr, refl, sym, ap, ◌∙◌}
+use Rattle.std.proofs.Common.{◌≡◌, ◌++◌, ◌||◌, ℕ, Bool, true, false, List, [], ◌∷◌, cond, Option, None, Some, inl, inr, refl, sym, ap, ◌∙◌}
 use Rattle.std.specs.List.{filter, flat_map}
 use Rattle.std.proofs.lemmas.Bool.{cond_both}
 use Rattle.std.proofs.lemmas.List.{append-nil}
@@ -13,14 +13,15 @@ use Rattle.vlm_words.specs.declared.steps.Answer.{Answer}
 use Rattle.vlm_words.specs.declared.steps.Step.TheVariants.{Declare, SetValue, Enq, Convert, Deq, Rundown, Leave, Search, Take}
 use Rattle.vlm_words.specs.declared.steps.Step.{Step}
 use Rattle.vlm_words.specs.State.{Resource, State}
-use Rattle.vlm_words.specs.Endings.{Ending}
+use Rattle.vlm_words.specs.Endings.{Ending, How, is_told}
+use Rattle.vlm_words.specs.Endings.How.{by_abort, by_cancel, by_grant, by_rundown}
 use Rattle.vlm_words.specs.Asts.{Queued, asts_for, blocking_asts, completion_asts, completions, completions_of, is_synchronous, is_to_warn, row_warnings, warnings}
 use Rattle.vlm_words.specs.Grants.{service}
 use Rattle.vlm_words.specs.Sweeps.{service_asts, sweep_asts, sweep_endings}
 use Rattle.vlm_words.specs.Convert.{ConversionAdmission, convert_admission}
 use Rattle.vlm_words.specs.Stepped.{Outcome, Stepped, conversion_change, outcome_endings, outcome_queued, refused_or, step_change, step_refusal}
 use Rattle.vlm_words.specs.Runs.{History, Run, begin, next}
-use Rattle.vlm_laws.specs.Completing.{EachRequestCompletesOnce, call_of, completion_of, is_completion}
+use Rattle.vlm_laws.specs.Completing.{EachRequestCompletesOnce, call_of, completion_of, ends_with_its_process, is_completion}
 
 -- among what was queued the completions are those of the endings
 abbrev Matches : List Ending → List Queued → Type 0
@@ -39,7 +40,7 @@ both_match first later some more one other =
 -- the completion of one ending
 one_matches : (ending : Ending) → filter is_completion (completions ending) ≡ completion_of ending
 unfolding completion_asts
-one_matches ending = of_tests (is_synchronous ending.at_once ending.request) ending.request.completion
+one_matches ending = of_how ending.how (is_synchronous ending.at_once ending.request) ending.request.completion
   where
     of_tests : (told : Bool) (routine : Option ℕ)
         → filter is_completion (cond told [] (asts_for Completion routine ending.request ending.lkid ending.pid))
@@ -47,6 +48,14 @@ one_matches ending = of_tests (is_synchronous ending.at_once ending.request) end
     of_tests true routine = refl
     of_tests false None = refl
     of_tests false (Some routine) = refl
+
+    of_how : (how : How) (told : Bool) (routine : Option ℕ)
+        → filter is_completion (cond (is_told how) (cond told [] (asts_for Completion routine ending.request ending.lkid ending.pid)) [])
+        ≡ cond (ends_with_its_process how || told) [] (call_of routine ending)
+    of_how (by_grant act) told routine = of_tests told routine
+    of_how by_abort told routine = of_tests told routine
+    of_how by_cancel told routine = of_tests told routine
+    of_how by_rundown told routine = refl
 
 -- the completions of endings
 ends_match : (endings : List Ending) → Matches endings (completions_of endings)

@@ -13,7 +13,7 @@ use Rattle.vlm_words.specs.declared.locks.Row.{Row}
 use Rattle.vlm_words.specs.declared.resources.Site.{Site}
 use Rattle.vlm_words.specs.declared.resources.ValueBlock.{ValueBlock}
 use Rattle.vlm_words.specs.State.{Process, Resource}
-use Rattle.vlm_words.specs.Endings.{Ending, How, row_endings, wanted_endings}
+use Rattle.vlm_words.specs.Endings.{Ending, How, is_told, row_endings, wanted_endings}
 use Rattle.vlm_words.specs.Endings.How.{by_grant}
 use Rattle.vlm_words.specs.Asts.{Queued, asts_for, blocking_asts, completion_asts, completions, completions_of, is_in_the_way, is_synchronous, is_to_warn, resource_after_warning, row_after_warning, row_warnings, warnings}
 use Rattle.vlm_words.specs.Effects.{with_value_block}
@@ -22,7 +22,9 @@ use Rattle.vlm_words.specs.Sweeps.{blocks_after_service, is_vacant, resource_aft
 use Rattle.vlm_words.specs.Resources.{is_at, new_resource}
 use Rattle.vlm_words.specs.Enqueue.{resource_after_entry, resources_after_entry}
 use Rattle.vlm_words.specs.Rows.{rows_of, rows_without}
-use Rattle.vlm_words.specs.Withdrawals.{Withdrawal, is_held_by_writer, queue_endings, resource_after_cancel, resource_after_going, resource_after_withdrawals, resource_without, row_after_cancel, value_block_after_writer, withdrawal_endings}
+use Rattle.vlm_words.specs.Withdrawals.{Withdrawal, is_held_by_writer, queue_endings, resource_after_cancel, resource_after_going, resource_after_withdrawals, resource_without, row_after_cancel, value_block_after_writer, withdrawal_endings, withdrawn_endings}
+use Rattle.vlm_words.proofs.Together.{OfOneEach, all_one_after_another, others_end_same}
+use Rattle.std.proofs.lemmas.List.{map-id}
 use Rattle.vlm_words.specs.Dues.{due_to, one_where, routines_of}
 use Rattle.vlm_words.specs.Taking.{queued_to}
 use Rattle.vlm_words.proofs.Queueing.{queued_to-append}
@@ -71,9 +73,12 @@ named_calls pid owner lkid kind (Some routine) request =
 ending_calls : (pid : ℕ) (ending : Ending) → calls pid ending ≤ own pid ending.pid (one_where (is_some ending.request.completion))
 unfolding completion_asts
 ending_calls pid ending =
-    cond_both (is_synchronous ending.at_once ending.request) [] (asts_for Completion ending.request.completion ending.request ending.lkid ending.pid)
+    let told : List Queued =
+    cond (is_synchronous ending.at_once ending.request) [] (asts_for Completion ending.request.completion ending.request ending.lkid ending.pid) in
+    cond_both (is_told ending.how) told [] (λ asts. many pid asts ≤ own pid ending.pid (one_where (is_some ending.request.completion)))
+    (λ _. cond_both (is_synchronous ending.at_once ending.request) [] (asts_for Completion ending.request.completion ending.request ending.lkid ending.pid)
     (λ asts. many pid asts ≤ own pid ending.pid (one_where (is_some ending.request.completion))) (λ _. omega arith)
-    (λ _. named_calls pid ending.pid ending.lkid Completion ending.request.completion ending.request)
+    (λ _. named_calls pid ending.pid ending.lkid Completion ending.request.completion ending.request)) (λ _. omega arith)
 
 -- 1 where a completion routine is wanted
 abbrev completion_wanted : Option Request → ℕ
@@ -348,7 +353,7 @@ withdrawn_falls pid w r =
     (λ left. weigh (due_to pid) (resource_after_going w left) + sum_by (calls pid) (withdrawal_endings w r) ≤ weigh (due_to pid) r)
     (λ _. gone_falls pid w written) (λ _. gone_falls pid w r)
 
-pub all_withdrawn_fall : (pid : ℕ) (w : Withdrawal) (resources : List Resource)
+all_withdrawn_fall : (pid : ℕ) (w : Withdrawal) (resources : List Resource)
     → sum_by (weigh (due_to pid)) (map (resource_after_withdrawals (w ∷ [])) resources) + sum_by (calls pid) (flat_map (withdrawal_endings w) resources)
     ≤ sum_by (weigh (due_to pid)) resources
 all_withdrawn_fall pid w [] = omega arith
@@ -360,4 +365,20 @@ all_withdrawn_fall pid w (r ∷ rest) =
       sum_by-cons (weigh (due_to pid)) r rest,
       sum_by-cons (weigh (due_to pid)) (resource_after_withdrawals (w ∷ []) r) (map (resource_after_withdrawals (w ∷ [])) rest),
       sum_by-append (calls pid) (withdrawal_endings w r) (flat_map (withdrawal_endings w) rest),
+    )
+
+-- several locks that are withdrawn together
+pub withdrawals_fall : (pid : ℕ) (withdrawals : List Withdrawal) → OfOneEach withdrawals → (resources : List Resource)
+    → sum_by (weigh (due_to pid)) (map (resource_after_withdrawals withdrawals) resources) + sum_by (calls pid) (withdrawn_endings withdrawals resources)
+    ≤ sum_by (weigh (due_to pid)) resources
+withdrawals_fall pid [] apart resources = omega (arith, ap (sum_by (weigh (due_to pid))) (map-id resources))
+withdrawals_fall pid (w ∷ withdrawals) apart resources =
+    let after : List Resource = map (resource_after_withdrawals (w ∷ [])) resources in
+    omega (
+      arith,
+      all_withdrawn_fall pid w resources,
+      withdrawals_fall pid withdrawals apart.1 after,
+      ap (sum_by (weigh (due_to pid))) (all_one_after_another w withdrawals apart.0 resources),
+      ap (sum_by (calls pid)) (others_end_same w withdrawals apart.0 resources),
+      sum_by-append (calls pid) (flat_map (withdrawal_endings w) resources) (withdrawn_endings withdrawals resources),
     )

@@ -26,7 +26,7 @@ use Rattle.vlm_words.specs.Take.{take_change}
 use Rattle.vlm_words.specs.Trees.{enq_site}
 use Rattle.vlm_words.specs.Enqueue.{enq_at_once, enq_change, enq_endings, enq_row}
 use Rattle.vlm_words.specs.Convert.{ConversionAdmission, admission_among, admission_or, conversion_endings, convert_admission, convert_blocks, convert_change, convert_lkid, convert_request, converts_at_once, resource_after_conversion, resource_after_conversion_of, resource_without_granted, wanting_row}
-use Rattle.vlm_words.specs.Dequeue.{deq_change, deq_endings, withdrawal_of}
+use Rattle.vlm_words.specs.Dequeue.{deq_change, deq_endings, withdrawals_of}
 use Rattle.vlm_words.specs.Dues.{due, due_to, one_where, routines_named, routines_of}
 use Rattle.vlm_words.specs.Taking.{AstsAfter, queued_to}
 use Rattle.vlm_words.specs.Stepped.{IsChoice, Outcome, Stepped, conversion_change, outcome_queued, refused_or, step_change, step_refusal, stepped, stepped_after_sweep}
@@ -38,11 +38,11 @@ use Rattle.vlm_words.proofs.Counts.{found_stands}
 use Rattle.vlm_words.proofs.Each.{Found, found_at}
 use Rattle.vlm_words.proofs.Sums.{sum_filter_but-le}
 use Rattle.vlm_words.proofs.Weights.{weigh}
-use Rattle.vlm_words.proofs.Withdrawing.{one_ends}
+use Rattle.vlm_words.proofs.Together.{dequeues_apart}
 use Rattle.vlm_laws.specs.Accounting.{taken_in}
 use Rattle.vlm_laws.specs.Raising.{NoMoreIsQueuedThanNamed, OnlyOwnRequestsRaiseDues, routines_asked, routines_named_in}
 use Rattle.vlm_laws.proofs.Accounting.{TakesInOrder, taken_and_left}
-use Rattle.vlm_laws.proofs.Falling.{all_withdrawn_fall, calls, calls_many, entered_among_falls, grant_falls, many, many-append, own, swept_falls}
+use Rattle.vlm_laws.proofs.Falling.{calls, calls_many, entered_among_falls, grant_falls, many, many-append, own, swept_falls, withdrawals_fall}
 
 -- ---- conversions
 
@@ -205,8 +205,7 @@ dequeue_as_asked s d choice pid =
     omega (
       arith,
       calls_many pid (deq_endings s d),
-      all_withdrawn_fall pid (withdrawal_of s d) s.resources,
-      ap (sum_by (calls pid)) (one_ends (withdrawal_of s d) s.resources),
+      withdrawals_fall pid (withdrawals_of s d) (dequeues_apart s d) s.resources,
     )
 
 -- a step that no check refuses

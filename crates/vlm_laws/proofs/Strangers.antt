@@ -12,7 +12,7 @@ use Rattle.vlm_words.specs.declared.steps.Conversion.{Conversion}
 use Rattle.vlm_words.specs.declared.steps.Dequeue.{Dequeue}
 use Rattle.vlm_words.specs.declared.steps.NewRequest.{NewRequest}
 use Rattle.vlm_words.specs.State.{Resource, State}
-use Rattle.vlm_words.specs.Endings.{Ending, How, row_endings, wanted_endings}
+use Rattle.vlm_words.specs.Endings.{Ending, How, is_told, row_endings, wanted_endings}
 use Rattle.vlm_words.specs.Endings.How.{by_grant}
 use Rattle.vlm_words.specs.Asts.{Queued, asts_for, blocking_asts, completion_asts, completions, completions_of, is_synchronous, is_to_warn, row_warnings, warnings}
 use Rattle.vlm_words.specs.Grants.{grant_act, grant_endings, service}
@@ -22,8 +22,8 @@ use Rattle.vlm_words.specs.Rows.{is_lock_of, rows_of}
 use Rattle.vlm_words.specs.Trees.{enq_site}
 use Rattle.vlm_words.specs.Enqueue.{enq_at_once, enq_change, enq_endings, enq_refusal, enq_row}
 use Rattle.vlm_words.specs.Convert.{ConversionAdmission, admission_among, admission_or, conversion_endings, convert_admission, convert_blocks, convert_change, convert_lkid, convert_request, converts_at_once, resource_after_conversion, wanting_row}
-use Rattle.vlm_words.specs.Withdrawals.{Withdrawal, queue_endings, resource_after_withdrawals, withdrawal_endings}
-use Rattle.vlm_words.specs.Dequeue.{deq_change, deq_endings, withdrawal_of, withdrawals_of}
+use Rattle.vlm_words.specs.Withdrawals.{Withdrawal, queue_endings, resource_after_withdrawals, withdrawal_endings, withdrawn_endings}
+use Rattle.vlm_words.specs.Dequeue.{deq_change, deq_endings, withdrawals_of}
 use Rattle.vlm_words.specs.Runs.{History, Run}
 use Rattle.vlm_words.specs.Taking.{queued_to}
 use Rattle.vlm_words.proofs.Admissions.{some_same}
@@ -34,7 +34,6 @@ use Rattle.vlm_words.proofs.Quotas.{all_counted, quotas_always, room_left}
 use Rattle.vlm_words.proofs.WhoseLocks.{owned, owning}
 use Rattle.vlm_words.proofs.Sums.{found-le-sum, sum_changed-le, sum_filter-le, sum_of_one, sum_of_zero}
 use Rattle.vlm_words.proofs.Weights.{GrantKeeps, entered_among_weighs, served_weighs, weigh}
-use Rattle.vlm_words.proofs.Withdrawing.{one_ends}
 
 -- a row is counted by its process
 owned_named : (pid : ℕ) → IsByName (owned pid)
@@ -132,9 +131,12 @@ none_completes pid (ending ∷ endings) none =
   where
     here : (ending.pid == pid) ≡ false → queued_to pid (completions ending) ≡ []
     here other =
-        cond_both (is_synchronous ending.at_once ending.request) [] (asts_for Completion ending.request.completion ending.request ending.lkid ending.pid)
+        let told : List Queued =
+        cond (is_synchronous ending.at_once ending.request) [] (asts_for Completion ending.request.completion ending.request ending.lkid ending.pid) in
+        cond_both (is_told ending.how) told [] (λ asts. queued_to pid asts ≡ [])
+        (λ _. cond_both (is_synchronous ending.at_once ending.request) [] (asts_for Completion ending.request.completion ending.request ending.lkid ending.pid)
         (λ asts. queued_to pid asts ≡ []) (λ _. refl)
-        (λ _. for_another pid ending.pid ending.lkid Completion ending.request.completion ending.request other)
+        (λ _. for_another pid ending.pid ending.lkid Completion ending.request.completion ending.request other)) (λ _. refl)
 
 -- warnings of rows of which none is of the process
 none_warned : (pid : ℕ) (converting waiting rows : List Row) → sum_by (owned pid) rows ≡ 0
@@ -287,18 +289,25 @@ withdrawals_end pid w (r ∷ rest) =
       sum_by-cons (weigh (owned pid)) r rest,
     )
 
+-- withdrawals end no request of a process that has no lock
+none_end : (pid : ℕ) (withdrawals : List Withdrawal) (resources : List Resource) → owning pid resources ≡ 0
+    → sum_by (mine pid) (withdrawn_endings withdrawals resources) ≡ 0
+none_end pid [] resources none = refl
+none_end pid (w ∷ withdrawals) resources none =
+    omega (
+      arith,
+      none,
+      withdrawals_end pid w resources,
+      none_end pid withdrawals resources none,
+      sum_by-append (mine pid) (flat_map (withdrawal_endings w) resources) (withdrawn_endings withdrawals resources),
+    )
+
 -- a dequeue
 pub none_dequeued : (s : State) (d : Dequeue) (pid : ℕ) → owning pid s.resources ≡ 0
     → NoneOf pid (completions_of (deq_endings s d)) (deq_change s d).resources
 unfolding deq_change
 none_dequeued s d pid none = record {
-  queued = none_completes pid (deq_endings s d)
-      (omega (
-        arith,
-        none,
-        withdrawals_end pid (withdrawal_of s d) s.resources,
-        ap (sum_by (mine pid)) (one_ends (withdrawal_of s d) s.resources),
-      ));
+  queued = none_completes pid (deq_endings s d) (none_end pid (withdrawals_of s d) s.resources none);
   locks = omega (
     arith,
     none,

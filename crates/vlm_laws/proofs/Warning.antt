@@ -12,7 +12,7 @@ use Rattle.vlm_words.specs.declared.resources.ValueBlock.{ValueBlock}
 use Rattle.vlm_words.specs.declared.steps.Answer.{Answer}
 use Rattle.vlm_words.specs.declared.steps.Step.{Step}
 use Rattle.vlm_words.specs.State.{Process, Resource, State}
-use Rattle.vlm_words.specs.Endings.{Ending}
+use Rattle.vlm_words.specs.Endings.{Ending, is_told}
 use Rattle.vlm_words.specs.Asts.{Queued, asts_for, blocking_asts, completion_asts, completions, completions_of, is_synchronous, is_to_warn, resource_after_warning, row_after_warning, row_warnings, warnings}
 use Rattle.vlm_words.specs.Effects.{with_value_block}
 use Rattle.vlm_words.specs.Grants.{is_empty, service}
@@ -42,8 +42,11 @@ no_warning endings q is warns = cc
 completes : (endings : List Ending) (ending : Ending) → AllByRecursion (IsNamedByGrant endings) (completions ending)
 unfolding completion_asts
 completes endings ending =
-    cond_both (is_synchronous ending.at_once ending.request) [] (asts_for Completion ending.request.completion ending.request ending.lkid ending.pid)
-    (AllByRecursion (IsNamedByGrant endings)) (λ _. tt) (λ _. of_routine ending.request.completion)
+    let told : List Queued =
+    cond (is_synchronous ending.at_once ending.request) [] (asts_for Completion ending.request.completion ending.request ending.lkid ending.pid) in
+    cond_both (is_told ending.how) told [] (AllByRecursion (IsNamedByGrant endings))
+    (λ _. cond_both (is_synchronous ending.at_once ending.request) [] (asts_for Completion ending.request.completion ending.request ending.lkid ending.pid)
+    (AllByRecursion (IsNamedByGrant endings)) (λ _. tt) (λ _. of_routine ending.request.completion)) (λ _. tt)
   where
     of_routine : (routine : Option ℕ) → AllByRecursion (IsNamedByGrant endings) (asts_for Completion routine ending.request ending.lkid ending.pid)
     of_routine None = tt

@@ -1,9 +1,10 @@
 -- Which completion ASTs the ends of requests have.
-use Rattle.std.specs.Prelude.{◌≡◌, ◌&&◌, ℕ, Bool, true, false, List, [], ◌∷◌, Option, None, Some, filter, flat_map, if◌then◌else◌}
+use Rattle.std.specs.Prelude.{◌≡◌, ◌&&◌, ◌||◌, ℕ, Bool, true, false, List, [], ◌∷◌, Option, None, Some, filter, flat_map, if◌then◌else◌}
 use Rattle.vlm_words.specs.declared.asts.AstKind.{AstKind}
 use Rattle.vlm_words.specs.declared.asts.AstKind.TheVariants.{Completion, Blocking}
 use Rattle.vlm_words.specs.Flags.{flag_bits, has_flag, syncsts}
-use Rattle.vlm_words.specs.Endings.{Ending}
+use Rattle.vlm_words.specs.Endings.{Ending, How}
+use Rattle.vlm_words.specs.Endings.How.{by_abort, by_cancel, by_grant, by_rundown}
 use Rattle.vlm_words.specs.Asts.{Queued}
 
 -- the AST is a completion, and no warning
@@ -19,6 +20,13 @@ is_completion q = tells_completion q.ast.kind
 abbrev pub is_told_by_answer : Ending → Bool
 is_told_by_answer ending = ending.at_once && has_flag (flag_bits ending.request.flags) syncsts
 
+-- the request ends with its process, which nobody tells
+abbrev pub ends_with_its_process : How → Bool
+ends_with_its_process (by_grant act) = false
+ends_with_its_process by_abort = false
+ends_with_its_process by_cancel = false
+ends_with_its_process by_rundown = true
+
 -- the call of a routine for the end of a request, if one is named: queued to the process of the lock, with the
 -- parameter of the request and the identification of the lock
 abbrev pub call_of : Option ℕ → Ending → List Queued
@@ -30,9 +38,12 @@ call_of (Some routine) ending =
     }
     ∷ []
 
--- the completion of an ending: the call of its request's completion routine, unless the answer told the end
+-- the completion of an ending: the call of its request's completion routine, unless the answer told the end or the
+-- process ended
 abbrev pub completion_of : Ending → List Queued
-completion_of ending = if is_told_by_answer ending then [] else call_of ending.request.completion ending
+completion_of ending =
+    if ends_with_its_process ending.how || is_told_by_answer ending then []
+    else call_of ending.request.completion ending
 
 -- the completions that were queued are those of the endings, each once and in their order
 pub record EachRequestCompletesOnce (endings : List Ending) (queued : List Queued) : Type 0 where
