@@ -10,9 +10,11 @@ use Rattle.vlm_words.specs.declared.resources.Queue.TheVariants.{Granted}
 use Rattle.vlm_words.specs.declared.steps.Conversion.{Conversion}
 use Rattle.vlm_words.specs.declared.steps.Dequeue.{Dequeue}
 use Rattle.vlm_words.specs.Convert.{ConversionAdmission, admission_among, admission_or, convert_admission, convert_lkid, convert_request}
-use Rattle.vlm_words.specs.Dequeue.{cancel_refusal, dequeue_lkid, is_granted}
+use Rattle.vlm_words.specs.Checks.{caller_refusal, lock_refusal, or_else, which_refusal}
+use Rattle.vlm_words.specs.Dequeue.{cancel_refusal, deq_flags_refusal, deq_refusal, dequeue_lkid, dequeued_lock_refusal, is_granted, leaves_none, sublocks_refusal}
 use Rattle.vlm_words.specs.Withdrawals.{Withdrawal}
-use Rattle.vlm_words.specs.Flags.{cancel, has_flag}
+use Rattle.vlm_words.specs.Flags.{cancel, deqall, has_flag}
+use Rattle.vlm_words.specs.State.{State}
 use Rattle.vlm_words.specs.Rows.{is_lock_of}
 use Rattle.vlm_links.specs.Lists.{IsIn}
 use Rattle.vlm_store.specs.Plain.{plain_resource, plain_resources}
@@ -160,3 +162,17 @@ module _ (m : MachineState) (sound : IsSound m.records) (d : Dequeue) (a : Admit
   pub dequeue_passes : a.withdrawal.stays ≡ false → cancel_refusal (plain_state m) d ≡ None
   unfolding cancel_refusal
   dequeue_passes keeps = rw (cancel_flag ∙ keeps) refl
+
+-- the checks of a dequeue of one lock, in their order
+pub refusal_alone : (s : State) (d : Dequeue) → has_flag d.flags deqall ≡ false
+    → deq_refusal s d
+    ≡ or_else (caller_refusal s d.pid) (or_else (deq_flags_refusal d) (or_else (which_refusal s d.pid d.lock) (or_else (lock_refusal s d.pid (dequeue_lkid s d))
+    (or_else (cancel_refusal s d) (sublocks_refusal s (has_flag d.flags cancel) (dequeue_lkid s d))))))
+unfolding deq_refusal dequeued_lock_refusal
+refusal_alone s d alone =
+    let one : (has_flag d.flags cancel || has_flag d.flags deqall) ≡ has_flag d.flags cancel = rw alone (or_false (has_flag d.flags cancel)) in
+    rw (one, alone) refl
+  where
+    or_false : (b : Bool) → (b || false) ≡ b
+    or_false true = refl
+    or_false false = refl

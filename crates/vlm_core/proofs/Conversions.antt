@@ -1,14 +1,15 @@
 -- A conversion and a dequeue on the records are those of the plain machine.
-use Rattle.std.proofs.Common.{◌≡◌, ◌+◌, List, [], ◌∷◌, map, flat_map, Some, IfSome, sym, ap, ◌∙◌}
+use Rattle.std.proofs.Common.{◌≡◌, ◌+◌, false, List, [], ◌∷◌, map, flat_map, Some, IfSome, refl, sym, ap, ◌∙◌}
+use Rattle.std.proofs.lemmas.List.{append-nil}
 use Rattle.std.proofs.lemmas.Option.{same_Some}
 use Rattle.vlm_words.specs.declared.locks.Request.{Request}
 use Rattle.vlm_words.specs.declared.resources.ValueBlock.{ValueBlock}
 use Rattle.vlm_words.specs.declared.steps.Conversion.{Conversion}
 use Rattle.vlm_words.specs.declared.steps.Dequeue.{Dequeue}
 use Rattle.vlm_words.specs.Convert.{ConversionAdmission, conversion_blocks, convert_admission, convert_blocks, convert_change, convert_lkid, resource_after_conversion}
-use Rattle.vlm_words.specs.Dequeue.{deq_change, withdrawal_of}
+use Rattle.vlm_words.specs.Dequeue.{deq_change, dequeue_lkid, dequeued_lkids, withdrawal_of, withdrawals_of}
+use Rattle.vlm_words.specs.Flags.{deqall, has_flag}
 use Rattle.vlm_words.specs.Withdrawals.{Withdrawal, processes_after, resource_after_withdrawals, withdrawal_endings, withdrawn_endings}
-use Rattle.vlm_words.proofs.Withdrawing.{one_ends}
 use Rattle.vlm_words.specs.Effects.{Blocks}
 use Rattle.vlm_words.specs.State.{Process, Resource, State}
 use Rattle.vlm_words.specs.StatusBlocks.{processes_after_acceptance}
@@ -63,19 +64,28 @@ module _ (old : MachineState) (c : Conversion) (a : AdmittedConversion) (admitte
       with_parts : List Process → List Resource → State
       with_parts ps rs = record (plain_state old) { processes = ps; resources = rs; next_request = old.next_request + 1 }
 
+-- withdrawn is the one lock that is named
+one_withdrawn : (s : State) (d : Dequeue) → has_flag d.flags deqall ≡ false → withdrawal_of d (dequeue_lkid s d) ∷ [] ≡ withdrawals_of s d
+one_withdrawn s d alone = rw alone refl
+
+-- and its request ends
+one_ends : (w : Withdrawal) (resources : List Resource) → withdrawn_endings (w ∷ []) resources ≡ flat_map (withdrawal_endings w) resources
+one_ends w resources = append-nil (flat_map (withdrawal_endings w) resources)
+
 -- the state once the lock is withdrawn
-pub state_withdrawn : (old : MachineState) (d : Dequeue) (w : Withdrawal) (new : Records) → w ≡ withdrawal_of (plain_state old) d
+pub state_withdrawn : (old : MachineState) (d : Dequeue) (w : Withdrawal) (new : Records) → has_flag d.flags deqall ≡ false
+    → w ≡ withdrawal_of d (dequeue_lkid (plain_state old) d)
     → plain_resources new ≡ map (resource_after_withdrawals (w ∷ [])) (plain_resources old.records)
     → plain_processes new ≡ processes_after (flat_map (withdrawal_endings w) (plain_resources old.records)) (plain_processes old.records)
     → plain_state (record old { records = new }) ≡ deq_change (plain_state old) d
 unfolding deq_change
-state_withdrawn old d w new is resources statuses =
+state_withdrawn old d w new alone is resources statuses =
     ap (λ ps. with_parts ps (plain_resources new)) statuses
     ∙ ap (λ rs. with_parts (processes_after (flat_map (withdrawal_endings w) (plain_resources old.records)) (plain_processes old.records)) rs) resources
     ∙ ap (λ ends. with_parts (processes_after ends (plain_processes old.records)) (map (resource_after_withdrawals (w ∷ [])) (plain_resources old.records)))
     (sym (one_ends w (plain_resources old.records)))
-    ∙ ap (λ x. with_parts (processes_after (withdrawn_endings (x ∷ []) (plain_resources old.records)) (plain_processes old.records))
-    (map (resource_after_withdrawals (x ∷ [])) (plain_resources old.records))) is
+    ∙ ap (λ (ws : List Withdrawal). with_parts (processes_after (withdrawn_endings ws (plain_resources old.records)) (plain_processes old.records))
+    (map (resource_after_withdrawals ws) (plain_resources old.records))) (ap (λ x. x ∷ []) is ∙ one_withdrawn (plain_state old) d alone)
   where
     with_parts : List Process → List Resource → State
     with_parts ps rs = record (plain_state old) { processes = ps; resources = rs }

@@ -1,5 +1,5 @@
 -- What the checks of a step decide, for the change that follows.
-use Rattle.std.specs.Prelude.{◌≡◌, ◌<◌, ◌^◌, true, Option, Some}
+use Rattle.std.specs.Prelude.{◌≡◌, ◌<◌, ◌^◌, true, false, Option, Some}
 use Rattle.vlm_words.specs.declared.resources.Queue.TheVariants.{Granted}
 use Rattle.vlm_words.specs.declared.steps.Conversion.{Conversion}
 use Rattle.vlm_words.specs.declared.steps.Dequeue.{Dequeue}
@@ -8,7 +8,7 @@ use Rattle.vlm_words.specs.Convert.{convert_admission, convert_lkid, convert_req
 use Rattle.vlm_words.specs.Dequeue.{dequeue_lkid, withdrawal_of}
 use Rattle.vlm_words.specs.Checks.{acceptance}
 use Rattle.vlm_words.specs.Enqueue.{enq_at_once, enq_row}
-use Rattle.vlm_words.specs.Flags.{flag_bits}
+use Rattle.vlm_words.specs.Flags.{deqall, flag_bits, has_flag}
 use Rattle.vlm_words.specs.Resources.{IsKeyed}
 use Rattle.vlm_words.specs.State.{State}
 use Rattle.vlm_words.specs.Trees.{enq_site, parent_lkid}
@@ -75,10 +75,11 @@ pub record IsAdmittedConversion (m : MachineState) (c : Conversion) (a : Admitte
   pub found : convert_admission (plain_state m) c ≡ Some (admission_on a.standing a.asked standing.standing.resource)
   pub number : m.next_request < 2 ^ 64
 
--- the dequeue is admitted so: its lock as it stands, and what is to become of it
+-- the dequeue is admitted so: it is of one lock, this is its lock as it stands, and what is to become of it
 pub record IsAdmittedDequeue (m : MachineState) (d : Dequeue) (a : AdmittedDequeue) : Type 0 where
   pub standing : IsStandingOf d.pid (dequeue_lkid (plain_state m) d) a.standing m.records
-  pub withdrawal : plain_withdrawal a.withdrawal ≡ withdrawal_of (plain_state m) d
+  pub alone : has_flag d.flags deqall ≡ false
+  pub withdrawal : plain_withdrawal a.withdrawal ≡ withdrawal_of d (dequeue_lkid (plain_state m) d)
 
 -- a lock that the dequeue gives up has no sublocks
 abbrev pub IsChildless : MachineState → AdmittedDequeue → Type 0

@@ -1,9 +1,9 @@
 //! The step that gives a lock up, or cancels its request.
 
-ghost use Rattle.std.specs.Prelude.{◌≡◌, ◌&&◌, None, true, not, IfOk, OnOk, if◌then◌else◌};
+ghost use Rattle.std.specs.Prelude.{◌≡◌, ◌&&◌, None, true, false, not, IfOk, OnOk, if◌then◌else◌};
 ghost use Rattle.std.specs.Result.{result_err};
-ghost use Rattle.vlm_words.specs.Dequeue.{cancel_refusal, conversion_ending, deq_change, deq_flags_refusal, deq_refusal, sublocks_refusal, withdrawal_of};
-ghost use Rattle.vlm_words.specs.Flags.{cancel, deq_flag_bits, has_flag, invvalblk};
+ghost use Rattle.vlm_words.specs.Dequeue.{cancel_refusal, conversion_ending, deq_change, deq_flags_refusal, deq_refusal, dequeued_lock_refusal, leaves_none, sublocks_refusal, withdrawal_of};
+ghost use Rattle.vlm_words.specs.Flags.{cancel, deq_flag_bits, deqall, has_flag, invvalblk};
 ghost use Rattle.vlm_words.specs.Endings.How.{by_abort};
 ghost use Rattle.vlm_words.specs.Stepped.{Outcome};
 ghost use Rattle.vlm_store.specs.Records.{HasNoSublocks, HasResource};
@@ -116,10 +116,11 @@ impl Machine {
 }
 
 // The flags, or BADPARAM where one of them is unknown.
-#[tactic(auto, unfolding(vlm_words::specs::Dequeue::deq_flags_refusal))]
+#[tactic(auto, using(vlm_words::proofs::FlagBits::none_for_all), unfolding(vlm_words::specs::Dequeue::deq_flags_refusal))]
 fn checked_flags(dequeue: &Dequeue) -> Result<DeqFlags, Cond>
     ensures refusal { result_err result ≡ deq_flags_refusal dequeue.now }
     ensures flags { IfOk result (λ flags. deq_flag_bits flags ≡ dequeue.now.flags) }
+    ensures alone { IfOk result (λ _. has_flag dequeue.now.flags deqall ≡ false) }
 {
     deq_flags(dequeue.flags).ok_or(Cond::Badparam)
 }

@@ -22,7 +22,7 @@ withdraw-requires-clause-granted c =
 pub returns-clause-change : goal.returns-clause-change
 returns-clause-change c =
     ap (λ (m : MachineState). plain_state (record m { records = c.withdraw.new.store })) c.self.view_is
-    ∙ state_withdrawn c.args.self.now c.args.dequeue.now (plain_withdrawal c.args.admitted.now.withdrawal) c.withdraw.new.store c.requires.admitted.withdrawal (rw (← c.self.view_is) c.withdraw.ensures.resources)
+    ∙ state_withdrawn c.args.self.now c.args.dequeue.now (plain_withdrawal c.args.admitted.now.withdrawal) c.withdraw.new.store c.requires.admitted.alone c.requires.admitted.withdrawal (rw (← c.self.view_is) c.withdraw.ensures.resources)
     (rw (← c.self.view_is) c.withdraw.ensures.statuses)
 
 -- the other resources stay
