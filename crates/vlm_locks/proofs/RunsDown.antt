@@ -284,13 +284,15 @@ same_process_of : (olds news : List StoredProcess) → map but_notices news ≡ 
 same_process_of [] news same x there = absurd there
 same_process_of (y ∷ olds) [] same x there = cc
 same_process_of (y ∷ olds) (q ∷ news) same x there = elim there [
-  | inl here ↦
-      (q, (
-        inl refl,
-        ap (λ (ps : List StoredProcess). first_at ps) same ∙ ap (λ (z : StoredProcess). z.at) here,
-        ap (λ (ps : List StoredProcess). first_pid ps) same ∙ ap (λ (z : StoredProcess). z.process.pid) here,
-        ap (λ (ps : List StoredProcess). first_own ps) same ∙ ap (λ (z : StoredProcess). z.own) here,
-      ))
+  | inl here ↦ (
+    q,
+    (
+      inl refl,
+      ap (λ (ps : List StoredProcess). first_at ps) same ∙ ap (λ (z : StoredProcess). z.at) here,
+      ap (λ (ps : List StoredProcess). first_pid ps) same ∙ ap (λ (z : StoredProcess). z.process.pid) here,
+      ap (λ (ps : List StoredProcess). first_own ps) same ∙ ap (λ (z : StoredProcess). z.own) here,
+    ),
+  )
   | inr later ↦ let found = same_process_of olds news (ap rest_of same) x later in (found.0, (inr found.1.0, found.1.1, found.1.2, found.1.3))
 ]
   where
@@ -620,13 +622,15 @@ module _ (s new : Records) (sound : IsSound s) (sound_new : IsSound new) (f : St
           → (r : StoredResource) × (IsIn r new.resources × (r.at ≡ x.res) × (r.serial ≡ x.serial))
       of_old x old = elim (cases_eq old.0.at f.res) [
         | inl same ↦
-            (let r = now_at in
-            (r.0, (
-              r.1.0,
-              r.1.1 ∙ sym same ∙ old.1.1,
-              same_serial r.0 r.1.0 r.1.1
-                  ∙ sym (ap (λ (y : StoredResource). y.serial) (resource_alone f.res s.resources standing.resource old.0 sound.resources_apart standing.found old.1.0 same)) ∙ old.1.2,
-            )))
+            (let r = now_at in (
+              r.0,
+              (
+                r.1.0,
+                r.1.1 ∙ sym same ∙ old.1.1,
+                same_serial r.0 r.1.0 r.1.1
+                    ∙ sym (ap (λ (y : StoredResource). y.serial) (resource_alone f.res s.resources standing.resource old.0 sound.resources_apart standing.found old.1.0 same)) ∙ old.1.2,
+              ),
+            ))
         | inr differs ↦
             (old.0, (of_others f.res old.0 new.resources (subst (IsIn old.0) (sym beside.others) (other_resource f.res old.0 s.resources differs old.1.0)), old.1.1, old.1.2))
       ]

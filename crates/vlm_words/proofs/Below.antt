@@ -61,7 +61,7 @@ among_its_rows : (row : Row) (rows : List Row) → IsRowIn rows row → IsRowIn 
 among_its_rows row [] there = there
 among_its_rows row (x ∷ rows) there = elim (Any-cases (λ y. row ≡ y) x rows there) [
   | inl same ↦ (let named : (x.lkid == row.lkid) ≡ true = eq-eqb x.lkid row.lkid (ap (λ (y : Row). y.lkid) (sym same)) in
-    rw named (Any-here (λ y. row ≡ y) x (rows_of row.lkid rows) same))
+      rw named (Any-here (λ y. row ≡ y) x (rows_of row.lkid rows) same))
   | inr later ↦ (let behind = among_its_rows row rows later in of_test (x.lkid == row.lkid) behind)
 ]
   where

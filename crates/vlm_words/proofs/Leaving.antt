@@ -35,8 +35,8 @@ in_filter test n passes (x ∷ xs) there =
     elim (eqb_tells n x) [
       | inl same ↦ rw (sym (ap test same.1) ∙ passes, same.0) refl
       | inr other ↦ (let behind = in_filter test n passes xs (subst (λ (b : Bool). (b || list_any (λ y. n == y) xs) ≡ true) other.0 there) in
-        cond_both (test x) (x ∷ filter test xs) (filter test xs) (λ kept. list_any (λ y. n == y) kept ≡ true)
-        (λ _. rw (other.0) behind) (λ _. behind))
+          cond_both (test x) (x ∷ filter test xs) (filter test xs) (λ kept. list_any (λ y. n == y) kept ≡ true)
+          (λ _. rw (other.0) behind) (λ _. behind))
     ]
 
 -- each lock of the processes is listed

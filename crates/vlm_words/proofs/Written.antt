@@ -356,8 +356,7 @@ rundown_writes : (s : State) (step : Step) (is_one : ℕ → Bool) (nodes : List
 unfolding state_after_rundown
 rundown_writes s step is_one nodes apart nothing kept =
     let left : List Process = processes_but is_one s.processes in
-    let change : Stepped = end_of_processes is_one nodes s in
-    (
+    let change : Stepped = end_of_processes is_one nodes s in (
       kept (processes_after_service left change.state.resources) (kept_swept without_notices (λ _ _ _. refl) left change.state.resources),
       λ pid before there living.
           let still : process_of left pid ≡ process_of s.processes pid =
