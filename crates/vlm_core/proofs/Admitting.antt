@@ -11,7 +11,7 @@ use Rattle.vlm_words.specs.declared.steps.Conversion.{Conversion}
 use Rattle.vlm_words.specs.declared.steps.Dequeue.{Dequeue}
 use Rattle.vlm_words.specs.Convert.{ConversionAdmission, admission_among, admission_or, convert_admission, convert_lkid, convert_request}
 use Rattle.vlm_words.specs.Checks.{caller_refusal, lock_refusal, or_else, which_refusal}
-use Rattle.vlm_words.specs.Dequeue.{cancel_refusal, deq_flags_refusal, deq_refusal, dequeue_lkid, dequeued_lock_refusal, is_granted, leaves_none, sublocks_refusal}
+use Rattle.vlm_words.specs.Dequeue.{cancel_refusal, deq_flags_refusal, deq_refusal, dequeue_lkid, dequeued_lock_refusal, is_granted, sublocks_refusal}
 use Rattle.vlm_words.specs.Withdrawals.{Withdrawal}
 use Rattle.vlm_words.specs.Flags.{cancel, deqall, has_flag}
 use Rattle.vlm_words.specs.State.{State}

@@ -7,7 +7,7 @@ use Rattle.vlm_words.specs.declared.resources.ValueBlock.{ValueBlock}
 use Rattle.vlm_words.specs.declared.steps.Conversion.{Conversion}
 use Rattle.vlm_words.specs.declared.steps.Dequeue.{Dequeue}
 use Rattle.vlm_words.specs.Convert.{ConversionAdmission, conversion_blocks, convert_admission, convert_blocks, convert_change, convert_lkid, resource_after_conversion}
-use Rattle.vlm_words.specs.Dequeue.{deq_change, dequeue_lkid, dequeued_lkids, withdrawal_of, withdrawals_of}
+use Rattle.vlm_words.specs.Dequeue.{deq_change, dequeue_lkid, withdrawal_of, withdrawals_of}
 use Rattle.vlm_words.specs.Flags.{deqall, has_flag}
 use Rattle.vlm_words.specs.Withdrawals.{Withdrawal, processes_after, resource_after_withdrawals, withdrawal_endings, withdrawn_endings}
 use Rattle.vlm_words.specs.Effects.{Blocks}

@@ -1,14 +1,14 @@
 -- What an ended process leaves of a resource, lock by lock.
-use Rattle.std.proofs.Common.{◌≡◌, ℕ, Bool, true, false, not, List, [], ◌∷◌, ◌++◌, map, filter, cond, Option, None, Some, refl, sym, ap, ◌∙◌, subst}
+use Rattle.std.proofs.Common.{◌≡◌, ℕ, Bool, true, false, not, List, [], ◌∷◌, cond, refl, sym, ap, ◌∙◌}
 use Rattle.std.specs.Prelude.{◌==◌, ◌&&◌, ◌||◌}
-use Rattle.std.specs.List.{AllByRecursion, list_any}
+use Rattle.std.specs.List.{AllByRecursion}
 use Rattle.std.proofs.lemmas.Bool.{eqb-true}
 use Rattle.vlm_words.specs.declared.locks.Row.{Row}
 use Rattle.vlm_words.specs.declared.resources.ValueBlock.{ValueBlock}
 use Rattle.vlm_words.specs.Rows.{rows_without}
 use Rattle.vlm_words.specs.Rundown.{rundown_of}
 use Rattle.vlm_words.specs.State.{Resource}
-use Rattle.vlm_words.specs.Withdrawals.{Withdrawal, has_writer, is_held_by_writer, is_writer, resource_after_withdrawals, resource_without, value_block_after_writer}
+use Rattle.vlm_words.specs.Withdrawals.{has_writer, is_held_by_writer, is_writer, resource_after_withdrawals, resource_without, value_block_after_writer}
 use Rattle.vlm_locks.specs.RunningDown.{has_writer_of, resource_after_rundown, rows_but}
 
 -- a row of the lock is one of theirs

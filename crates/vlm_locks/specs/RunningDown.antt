@@ -1,5 +1,5 @@
 -- What becomes of the records where processes end.
-use Rattle.std.specs.Prelude.{◌≡◌, ◌==◌, ◌&&◌, ◌||◌, ◌+◌, ℕ, Bool, false, not, List, filter, length, sum_by, None, if◌then◌else◌}
+use Rattle.std.specs.Prelude.{◌≡◌, ◌&&◌, ◌||◌, ◌+◌, ℕ, Bool, false, not, List, filter, length, sum_by, None, if◌then◌else◌}
 use Rattle.std.specs.List.{list_any}
 use Rattle.vlm_words.specs.declared.locks.Row.{Row}
 use Rattle.vlm_words.specs.declared.resources.Queue.TheVariants.{Granted}
@@ -8,7 +8,7 @@ use Rattle.vlm_words.specs.Withdrawals.{is_writer}
 use Rattle.vlm_links.specs.Lists.{IsIn}
 use Rattle.vlm_store.specs.declared.handles.Place.{Place}
 use Rattle.vlm_store.specs.declared.handles.Place.TheVariants.{Queued}
-use Rattle.vlm_store.specs.Records.{Records, StoredLock, StoredResource, Stores, locks_at}
+use Rattle.vlm_store.specs.Records.{Records, StoredLock, Stores, locks_at}
 
 -- the rows but for those of these processes
 abbrev pub rows_but : (ℕ → Bool) → List Row → List Row

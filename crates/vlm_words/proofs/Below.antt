@@ -1,7 +1,7 @@
 -- The locks that stand below a lock, and that with the parent of a row its lock is given up too.
-use Rattle.std.proofs.Common.{◌≡◌, ◌≢◌, ◌≤◌, ◌<◌, ◌+◌, ◌-◌, ◌⊎◌, ℕ, Bool, zero, suc, true, false, not, List, [], ◌∷◌, ◌++◌, length, filter, flat_map, cond, Option, None, Some, refl, sym, subst, ap, ◌∙◌, inl, inr, arith}
-use Rattle.std.specs.Prelude.{◌==◌, ◌&&◌, ◌||◌, Any, slice_get, nat_lt}
-use Rattle.std.specs.List.{AllByRecursion, list_any, sum_by, range_with_len}
+use Rattle.std.proofs.Common.{◌≡◌, ◌≢◌, ◌≤◌, ◌<◌, ◌+◌, ◌⊎◌, ℕ, Bool, zero, suc, true, false, not, List, [], ◌∷◌, ◌++◌, length, cond, Option, Some, refl, sym, subst, ap, ◌∙◌, inl, inr, arith}
+use Rattle.std.specs.Prelude.{◌==◌, ◌&&◌, Any, slice_get, nat_lt}
+use Rattle.std.specs.List.{AllByRecursion, list_any, sum_by}
 use Rattle.std.specs.Option.{option_map_or}
 use Rattle.std.proofs.lemmas.Bool.{and_parts, eq-eqb, eqb-true, or_cases, or_right}
 use Rattle.std.proofs.lemmas.Bool.Decides.{nat_tests}
@@ -13,7 +13,7 @@ use Rattle.vlm_words.specs.Rows.{rows_of, is_lock_of}
 use Rattle.vlm_words.specs.OwnLocks.{all_rows_of, is_below, parent_of}
 use Rattle.vlm_words.proofs.Apart.{Apart, standing, stands}
 use Rattle.vlm_words.proofs.Each.{Any-behind, Any-cases, Any-here, Any-none, Any-there, Any-weaker, any_left, each_weaker}
-use Rattle.vlm_words.proofs.Rooted.{AllRooted, Position, is_rooted, is_up, loose, position, is_parent}
+use Rattle.vlm_words.proofs.Rooted.{AllRooted, is_rooted, is_up, loose, position, is_parent}
 use Rattle.vlm_words.proofs.Weights.{weigh}
 use Rattle.std.proofs.lemmas.List.Folds.{Any-from_list_any}
 use Rattle.vlm_words.proofs.NewlyRooted.{rooted_row}

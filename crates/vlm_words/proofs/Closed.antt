@@ -1,19 +1,18 @@
 -- Where locks are given up together, the locks below them are among them.
-use Rattle.std.proofs.Common.{◌≡◌, ◌≢◌, ◌≤◌, ◌<◌, ◌+◌, ◌-◌, ℕ, Bool, zero, suc, true, false, not, List, [], ◌∷◌, ◌++◌, map, filter, cond, refl, sym, subst, ap, ◌∙◌, inl, inr, arith, ◌⊎◌}
-use Rattle.std.specs.Prelude.{◌==◌, ◌&&◌, ◌||◌, Any, nat_lt}
+use Rattle.std.proofs.Common.{◌≡◌, ◌≤◌, ◌<◌, ◌-◌, ℕ, Bool, zero, suc, true, false, List, [], ◌∷◌, ◌++◌, map, filter, cond, refl, sym, subst, ap, ◌∙◌, inl, inr, arith}
+use Rattle.std.specs.Prelude.{◌==◌, ◌||◌, Any, nat_lt}
 use Rattle.std.specs.List.{AllByRecursion, list_any, sum_by, range_with_len}
-use Rattle.std.proofs.lemmas.Bool.{and_parts, cond_both, eqb-true, or_cases, or_right}
+use Rattle.std.proofs.lemmas.Bool.{and_parts, eqb-true, or_cases, or_right}
 use Rattle.std.proofs.lemmas.Bool.Decides.{nat_tests}
 use Rattle.std.proofs.lemmas.List.Sums.{sum_by-cons}
 use Rattle.vlm_words.specs.declared.locks.Row.{Row}
 use Rattle.vlm_words.specs.declared.steps.Dequeue.{Dequeue}
-use Rattle.vlm_words.specs.Flags.{deqall, has_flag}
 use Rattle.vlm_words.specs.State.{Resource, State}
-use Rattle.vlm_words.specs.Dequeue.{dequeue_lkid, dequeued_lkids, is_dequeued}
-use Rattle.vlm_words.specs.OwnLocks.{has_lock_among, is_below, own_lkids, parent_of, is_lock_among}
+use Rattle.vlm_words.specs.Dequeue.{dequeue_lkid, is_dequeued}
+use Rattle.vlm_words.specs.OwnLocks.{has_lock_among, is_below, own_lkids, is_lock_among}
 use Rattle.vlm_words.specs.Withdrawals.{Withdrawal, resource_after_withdrawals}
 use Rattle.vlm_words.proofs.Apart.{Apart}
-use Rattle.vlm_words.proofs.Below.{HasRoot, IsRowIn, StandsAtMost, as_many_levels, at_root, below_up, either, parent_is, root_of, rows_on, rows_rooted, up_at_most}
+use Rattle.vlm_words.proofs.Below.{HasRoot, IsRowIn, as_many_levels, at_root, below_up, either, parent_is, root_of, rows_on, rows_rooted, up_at_most}
 use Rattle.vlm_words.proofs.Each.{Any-behind, any_left, each_filter, each_member, each_weaker, Any-weaker}
 use Rattle.vlm_words.proofs.Holdings.{held_by, locks, others_go}
 use Rattle.vlm_words.proofs.Leaving.{AllGo, AllListed, IsListed, in_filter, row_found, row_listed, rows_left, rows_left_behind}

@@ -1,25 +1,23 @@
 -- Where processes end: how their requests end, and what becomes of the other processes.
-use Rattle.std.proofs.Common.{◌≡◌, ◌<◌, ◌+◌, ℕ, Bool, true, false, not, List, [], ◌∷◌, ◌++◌, map, filter, flat_map, length, cond, Option, None, Some, refl, sym, subst, ap, ◌∙◌, arith}
-use Rattle.std.specs.Prelude.{◌==◌, ◌&&◌, ◌||◌, is_some}
+use Rattle.std.proofs.Common.{◌≡◌, ◌<◌, ◌+◌, ℕ, Bool, true, false, not, List, [], ◌∷◌, map, flat_map, length, cond, Option, None, Some, refl, sym, ap, ◌∙◌, arith}
+use Rattle.std.specs.Prelude.{◌==◌, ◌||◌, is_some}
 use Rattle.std.specs.List.{AllByRecursion, list_any}
 use Rattle.std.specs.Option.{option_map_or}
 use Rattle.std.proofs.lemmas.Bool.{eqb-true}
-use Rattle.std.proofs.lemmas.Bool.Decides.{eqb_tells}
 use Rattle.vlm_words.specs.declared.blocks.Block.{Block}
 use Rattle.vlm_words.specs.declared.locks.Request.{Request}
 use Rattle.vlm_words.specs.declared.locks.Row.{Row}
 use Rattle.vlm_words.specs.State.{Process, Resource, State, process_of}
-use Rattle.vlm_words.specs.StatusBlocks.{status_blocks_of}
-use Rattle.vlm_words.specs.Endings.{Ending, How, row_endings, wanted_endings}
+use Rattle.vlm_words.specs.Endings.{Ending, row_endings, wanted_endings}
 use Rattle.vlm_words.specs.Endings.How.{by_rundown}
-use Rattle.vlm_words.specs.Asts.{Queued, completions, completions_of}
-use Rattle.vlm_words.specs.Effects.{Blocks, blocks_after, blocks_after_ending}
+use Rattle.vlm_words.specs.Asts.{completions_of}
+use Rattle.vlm_words.specs.Effects.{Blocks, blocks_after}
 use Rattle.vlm_words.specs.Rows.{rows_of}
 use Rattle.vlm_words.specs.Sweeps.{processes_after_service}
 use Rattle.vlm_words.specs.OwnLocks.{own_lkids}
-use Rattle.vlm_words.specs.Withdrawals.{Withdrawal, queue_endings, withdrawal_endings}
+use Rattle.vlm_words.specs.Withdrawals.{queue_endings, withdrawal_endings}
 use Rattle.vlm_words.specs.Rundown.{processes_but, rundown_endings, rundown_of, rundowns}
-use Rattle.vlm_words.specs.Written.{IsLeftByEnds, is_end_for, last_end, later_end}
+use Rattle.vlm_words.specs.Written.{IsLeftByEnds, last_end}
 use Rattle.vlm_words.proofs.Each.{each_append, each_map, each_so}
 use Rattle.vlm_words.proofs.EndWrites.{block_at, nothing_changed}
 use Rattle.vlm_words.proofs.Processes.{kept_swept}

@@ -24,7 +24,7 @@ use Rattle.vlm_words.specs.Trees.{enq_site}
 use Rattle.vlm_words.specs.Enqueue.{enq_at_once, enq_change, enq_row, resource_after_entry, resources_after_entry}
 use Rattle.vlm_words.specs.Convert.{ConversionAdmission, convert_blocks, convert_change, convert_lkid, resource_after_conversion, resource_after_conversion_of, resource_without_granted, wanting_row}
 use Rattle.vlm_words.specs.Withdrawals.{Withdrawal, is_held_by_writer, resource_after_cancel, resource_after_going, resource_after_withdrawals, resource_without, row_after_cancel, value_block_after_writer, resource_after_each, resource_after_writer}
-use Rattle.vlm_words.specs.Dequeue.{deq_change, dequeue_lkid, withdrawal_of, withdrawals_of, dequeued_lkids, is_dequeued}
+use Rattle.vlm_words.specs.Dequeue.{deq_change, dequeue_lkid, withdrawal_of, withdrawals_of, is_dequeued}
 use Rattle.vlm_words.specs.Runs.{History, Run}
 use Rattle.vlm_words.specs.Stepped.{IsChoice, conversion_change, step_change, step_refusal}
 use Rattle.vlm_words.specs.Joining.{ChangesKeepOrder, HasOwnAlone, JoinsBehind, KeepsOrder, is_own_lock, nobody_joins, one_joins, row_leaves, row_stays, is_lock_of_one}
@@ -34,7 +34,7 @@ use Rattle.vlm_words.proofs.Each.{Found, found_at, each_filter, each_map, each_s
 use Rattle.vlm_words.proofs.InOrder.{same_resource}
 use Rattle.vlm_words.proofs.Keys.{entry_keeps_place}
 use Rattle.vlm_words.proofs.Weights.{weigh}
-use Rattle.vlm_words.specs.Rundown.{is_ended_by, is_of_node, nodes_after_departure, rundown_of, rundowns, state_after_rundown}
+use Rattle.vlm_words.specs.Rundown.{is_ended_by, is_of_node, rundown_of, rundowns, state_after_rundown}
 use Rattle.vlm_words.specs.Flags.{cancel, deqall, has_flag}
 use Rattle.vlm_words.specs.OwnLocks.{own_lkids}
 use Rattle.vlm_words.specs.declared.steps.Dequeue.{Dequeue}

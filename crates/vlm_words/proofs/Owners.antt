@@ -1,7 +1,7 @@
 -- A step leaves the requests and locks of other processes alone.
-use Rattle.std.proofs.Common.{◌≡◌, ◌≤◌, ◌+◌, ℕ, Bool, true, false, not, List, [], ◌∷◌, ◌++◌, map, flat_map, cond, Option, None, Some, refl, sym, subst, ap, inl, inr, ◌∙◌, arith}
-use Rattle.std.specs.Prelude.{◌==◌, ◌&&◌, ◌||◌, ◌/◌, All}
-use Rattle.std.specs.List.{AllByRecursion, AllZip, filter, find, list_any, sum_by}
+use Rattle.std.proofs.Common.{◌≡◌, ◌≤◌, ◌+◌, ℕ, Bool, true, false, List, [], ◌∷◌, ◌++◌, map, cond, Option, None, Some, refl, sym, subst, ap, inl, inr, arith}
+use Rattle.std.specs.Prelude.{◌==◌, ◌/◌, All}
+use Rattle.std.specs.List.{AllByRecursion, filter, find, list_any, sum_by}
 use Rattle.std.proofs.lemmas.Bool.{cond_both, eqb-true}
 use Rattle.std.proofs.lemmas.List.{map-id}
 use Rattle.std.proofs.lemmas.Bool.Decides.{eqb_tells}
@@ -24,7 +24,7 @@ use Rattle.vlm_words.specs.Checks.{caller_refusal, holds_lock, lock_refusal, or_
 use Rattle.vlm_words.specs.Withdrawals.{Withdrawal, is_held_by_writer, resource_after_cancel, resource_after_going, resource_after_withdrawals, resource_without, row_after_cancel, value_block_after_writer}
 use Rattle.vlm_words.specs.Dequeue.{cancel_refusal, deq_change, deq_endings, deq_flags_refusal, deq_refusal, dequeue_lkid, dequeued_lkids, dequeued_lock_refusal, is_dequeued, is_for_all, leaves_none, sublocks_refusal, withdrawal_of, withdrawals_of}
 use Rattle.vlm_words.specs.Rundown.{is_ended_by, is_of_node, rundown_endings, rundowns, state_after_rundown}
-use Rattle.vlm_words.specs.Laws.{IsGrant, IsGrantOf, SweptInOrder, first_rows, goes, none, stays}
+use Rattle.vlm_words.specs.Laws.{IsGrant, SweptInOrder, first_rows, goes, none, stays}
 use Rattle.vlm_words.specs.declared.resources.ValueBlock.{ValueBlock}
 use Rattle.vlm_words.specs.Endings.How.{by_grant}
 use Rattle.vlm_words.specs.Effects.{with_value_block}

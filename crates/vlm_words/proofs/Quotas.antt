@@ -6,7 +6,6 @@ use Rattle.std.specs.Option.{option_map_or}
 use Rattle.std.proofs.lemmas.Bool.Decides.{nat_tests}
 use Rattle.std.proofs.lemmas.List.Sums.{sum_by-append, sum_by-cons}
 use Rattle.vlm_words.specs.declared.conditions.Cond.TheVariants.{Exenqlm}
-use Rattle.vlm_words.specs.declared.locks.Row.{Row}
 use Rattle.vlm_words.specs.declared.steps.NewRequest.{NewRequest}
 use Rattle.vlm_words.specs.State.{Process, Resource, State, process_of, Node}
 use Rattle.vlm_words.specs.Effects.{blocks_with}
@@ -27,7 +26,7 @@ use Rattle.vlm_words.proofs.Always.{always, kept_by_stepped}
 use Rattle.vlm_words.proofs.Passed.{both_pass, enq_passes, test_passes}
 use Rattle.vlm_words.proofs.Processes.{kept_converted, kept_ended, kept_entered, kept_set, kept_swept, kept_taken}
 use Rattle.vlm_words.proofs.Weights.{weigh}
-use Rattle.vlm_words.proofs.Moves.{IsByName, changed_named, converted_named, withdrawn_named, entered_named, swept_named}
+use Rattle.vlm_words.proofs.Moves.{changed_named, converted_named, withdrawn_named, entered_named, swept_named}
 use Rattle.vlm_words.proofs.WhoseLocks.{owned, owned_named, owning}
 use Rattle.vlm_words.proofs.Leaving.{no_lock_left}
 use Rattle.vlm_words.proofs.Ended.{found_still}

@@ -24,7 +24,7 @@ use Rattle.vlm_words.specs.State.{Process, Resource, State, process_of, Node}
 use Rattle.vlm_words.specs.ValueBlocks.{new_value_block}
 use Rattle.vlm_words.specs.StatusBlocks.{new_status_block, processes_after_acceptance, status_blocks_of}
 use Rattle.vlm_words.specs.Endings.{Ending, How, row_endings, wanted_endings}
-use Rattle.vlm_words.specs.Endings.How.{by_abort, by_cancel, by_grant}
+use Rattle.vlm_words.specs.Endings.How.{by_grant}
 use Rattle.vlm_words.specs.Effects.{blocks_after, blocks_with, with_value_block, Blocks}
 use Rattle.vlm_words.specs.Grants.{grant_act, grant_endings, granted_row, is_empty, resource_after_grant, service}
 use Rattle.vlm_words.specs.Rows.{is_lock_of, rows_of}

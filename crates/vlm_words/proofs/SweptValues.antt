@@ -23,7 +23,7 @@ use Rattle.vlm_words.specs.Runs.{History, Run}
 use Rattle.vlm_words.specs.Laws.{action_from, IsSameResource}
 use Rattle.vlm_words.proofs.Admissions.{admitted_request, found_lkid}
 use Rattle.vlm_words.proofs.Apart.{Apart, apart_always}
-use Rattle.vlm_words.proofs.Each.{Any-here, Any-there, Any-weaker, each_append, each_weaker, found_at, each_member}
+use Rattle.vlm_words.proofs.Each.{Any-weaker, each_append, each_weaker, found_at, each_member}
 use Rattle.vlm_words.proofs.HeldModes.{HoldersAgree, holders_agree_always}
 use Rattle.vlm_words.proofs.InOrder.{SameWaiting, conversions_leave_waiting, same_then, service_in_order}
 use Rattle.vlm_words.proofs.Refusals.{Any_found}

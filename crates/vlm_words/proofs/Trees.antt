@@ -1,6 +1,6 @@
 -- After every step each lock of a sub-resource has its parent, and each sub-resource stands below its parent resource.
 use Rattle.std.proofs.Common.{◌≡◌, ◌≢◌, ◌≤◌, ◌<◌, ◌+◌, inl, inr, ℕ, Bool, true, false, not, ◌&&◌, ◌||◌, List, [], ◌∷◌, ◌++◌, map, cond, Option, None, Some, refl, sym, ap, ◌∙◌, arith, subst}
-use Rattle.std.specs.Prelude.{◌==◌, Any, All, nat_lt}
+use Rattle.std.specs.Prelude.{◌==◌, All, nat_lt}
 use Rattle.std.specs.List.{AllByRecursion, list_any, sum_by, filter}
 use Rattle.std.proofs.lemmas.Bool.{and_parts, eq-eqb, eqb-true, or_cases}
 use Rattle.std.proofs.lemmas.Bool.Decides.{nat_tests}
@@ -17,20 +17,19 @@ use Rattle.vlm_words.specs.State.{Resource, State, Node}
 use Rattle.vlm_words.specs.Sweeps.{is_vacant, state_after_sweep}
 use Rattle.vlm_words.specs.Settled.{IsSettled}
 use Rattle.vlm_words.specs.Resources.{is_at, is_domain, new_resource}
-use Rattle.vlm_words.specs.Rows.{is_lock_of}
-use Rattle.vlm_words.specs.Checks.{caller_refusal, lock_refusal, which_refusal}
+use Rattle.vlm_words.specs.Checks.{caller_refusal, which_refusal}
 use Rattle.vlm_words.specs.Trees.{enq_site, root_domain, site_below}
 use Rattle.vlm_words.specs.Enqueue.{enq_at_once, enq_change, enq_key, enq_refusal, enq_row, resource_after_entry, resources_after_entry}
 use Rattle.vlm_words.specs.Declare.{declare_change}
 use Rattle.vlm_words.specs.SetValue.{set_change}
 use Rattle.vlm_words.specs.Take.{take_change}
 use Rattle.vlm_words.specs.Convert.{ConversionAdmission, convert_blocks, convert_change, convert_lkid, resource_after_conversion}
-use Rattle.vlm_words.specs.Dequeue.{cancel_refusal, deq_change, deq_flags_refusal, deq_refusal, dequeue_lkid, has_sublock, has_sublock_on, sublocks_refusal, withdrawal_of, withdrawals_of, dequeued_lock_refusal, is_dequeued, leaves_none}
+use Rattle.vlm_words.specs.Dequeue.{cancel_refusal, deq_change, deq_flags_refusal, deq_refusal, dequeue_lkid, has_sublock, has_sublock_on, sublocks_refusal, withdrawal_of, dequeued_lock_refusal, is_dequeued, leaves_none}
 use Rattle.vlm_words.specs.Withdrawals.{Withdrawal, resource_after_withdrawals}
 use Rattle.vlm_words.specs.Runs.{History, Run}
 use Rattle.vlm_words.specs.Laws.{HasItsLevel, HasItsParent, HoldsOn, ParentsOutliveTheirSublocks, TreesAreBounded}
 use Rattle.vlm_words.proofs.Always.{always, kept_by_stepped}
-use Rattle.vlm_words.proofs.Each.{Any-here, Any-there, Any-weaker, each_map, each_weaker, each_so}
+use Rattle.vlm_words.proofs.Each.{Any-weaker, each_map, each_weaker, each_so}
 use Rattle.vlm_words.proofs.Passed.{sixth_passes, test_fails, flags_go_together}
 use Rattle.vlm_words.proofs.EachResource.{each_entered_among, each_entered_at, each_swept}
 use Rattle.vlm_words.proofs.Settled.{settled_law}

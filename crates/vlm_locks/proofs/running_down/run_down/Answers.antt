@@ -1,5 +1,4 @@
-use Rattle.std.proofs.Common.{◌≡◌, ◌≤◌, ◌<◌, ◌+◌, length, sym, ap, ◌∙◌, subst, arith, map}
-use Rattle.vlm_words.specs.declared.resources.Queue.TheVariants.{Granted}
+use Rattle.std.proofs.Common.{sym, ap, ◌∙◌, subst, arith, map}
 use Rattle.vlm_links.specs.Lists.{IsIn}
 use Rattle.vlm_store.specs.declared.handles.Place.TheVariants.{Queued}
 use Rattle.vlm_store.specs.Records.{locks_at, own_handles_at, but_notices}

@@ -1,8 +1,6 @@
-use Rattle.std.proofs.Common.{◌+◌, sym, ap, ◌∙◌}
-use Rattle.vlm_store.specs.Plain.{plain_processes}
+use Rattle.std.proofs.Common.{◌+◌, sym, ap}
 use Rattle.vlm_store.specs.Records.{due_of}
 use Rattle.vlm_locks.proofs.Owing.{nothing_wanted}
-use Rattle.vlm_locks.proofs.WithdrawnEnds.{end_written, none_written}
 use Rattle.vlm_locks.proofs.withdrawing.end_request.Goals as goal
 
 pub returns-in_default-clause-owed : goal.returns-in_default-clause-owed

@@ -1,13 +1,11 @@
-use Rattle.std.proofs.Common.{◌≤◌, ◌+◌, ◌-◌, false, sym, ap, subst, ◌∙◌, arith}
+use Rattle.std.proofs.Common.{◌≤◌, ◌-◌, false, ap, subst, ◌∙◌, arith}
 use Rattle.vlm_words.specs.Asts.{completion_asts, processes_after_asts}
 use Rattle.vlm_words.specs.Dues.{one_where}
-use Rattle.vlm_store.specs.Plain.{plain_processes}
 use Rattle.vlm_store.specs.Records.{DueChanges, due_of}
 use Rattle.vlm_locks.specs.Owing.{completions_queued}
 use Rattle.vlm_locks.proofs.Found.{process_still, process_there}
-use Rattle.vlm_locks.proofs.Owing.{blocking_fits, changes_then, due_before, ended_owed, nothing_wanted, notices_twice, same_process}
+use Rattle.vlm_locks.proofs.Owing.{blocking_fits, changes_then, due_before, ended_owed, notices_twice, same_process}
 use Rattle.vlm_locks.proofs.Stood.{owner_is, stored}
-use Rattle.vlm_locks.proofs.WithdrawnEnds.{end_written}
 use Rattle.vlm_locks.proofs.withdrawing.end_told.Goals as goal
 
 pub lock_record-requires : goal.lock_record-requires

@@ -1,5 +1,4 @@
-use Rattle.std.proofs.Common.{◌≤◌, ◌-◌, sym, subst, arith}
-use Rattle.vlm_words.specs.Dues.{routines_of}
+use Rattle.std.proofs.Common.{◌≤◌, ◌-◌, subst, arith}
 use Rattle.vlm_store.specs.Records.{DueChanges, due_of}
 use Rattle.vlm_locks.proofs.Found.{process_there}
 use Rattle.vlm_locks.proofs.Owing.{one_process, untold_owed}
