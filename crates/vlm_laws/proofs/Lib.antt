@@ -5,3 +5,4 @@ pub mod Falling
 pub mod Raising
 pub mod Warning
 pub mod WarnedOnce
+pub mod InTheWay

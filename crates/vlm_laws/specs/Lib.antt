@@ -3,3 +3,4 @@ pub mod Accounting
 pub mod Raising
 pub mod Warning
 pub mod WarnedOnce
+pub mod InTheWay
