@@ -62,12 +62,14 @@ pub fn law_no_more_is_queued_than_was_named()
 /// that is still to come while it is armed, are together no more than the grants to it that name a blocking routine. So
 /// a lock that was never granted with such a routine is never warned.
 pub fn law_a_grant_is_warned_at_most_once()
-    ensures { (history : History) (last : State) → Run history last → EachGrantIsWarnedAtMostOnce history last }
+    ensures { (history : History) (last : State) → Run history last
+        → EachGrantIsWarnedAtMostOnce history last }
 {}
 
 /// No lock is warned for nothing: each blocking AST that a step queues goes to the process of the lock that it tells
 /// of. Once the step is done that lock stands granted in a mode that keeps out some request that is queued on its
 /// resource.
 pub fn law_a_warned_lock_is_in_the_way()
-    ensures { (s : State) (step : Step) (choice : Option Row) → WarnedLocksAreInTheWay (stepped s step choice) }
+    ensures { (s : State) (step : Step) (choice : Option Row)
+        → WarnedLocksAreInTheWay (stepped s step choice) }
 {}
