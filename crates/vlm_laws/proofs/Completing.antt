@@ -1,6 +1,6 @@
 -- The completions that are queued are those of the endings.
 use Rattle.std.proofs.Common.{◌≡◌, ◌++◌, ◌||◌, ℕ, Bool, true, false, List, [], ◌∷◌, cond, Option, None, Some, inl, inr, refl, sym, ap, ◌∙◌}
-use Rattle.std.specs.List.{filter, flat_map}
+use Rattle.std.specs.List.{AllByRecursion, filter, flat_map}
 use Rattle.std.proofs.lemmas.Bool.{cond_both}
 use Rattle.std.proofs.lemmas.List.{append-nil}
 use Rattle.std.proofs.lemmas.List.Elements.{filter-append}
@@ -21,6 +21,7 @@ use Rattle.vlm_words.specs.Sweeps.{service_asts, sweep_asts, sweep_endings}
 use Rattle.vlm_words.specs.Convert.{ConversionAdmission, convert_admission}
 use Rattle.vlm_words.specs.Stepped.{Outcome, Stepped, conversion_change, outcome_endings, outcome_queued, refused_or, step_change, step_refusal}
 use Rattle.vlm_words.specs.Runs.{History, Run, begin, next}
+use Rattle.vlm_words.proofs.Each.{each_append}
 use Rattle.vlm_laws.specs.Completing.{EachRequestCompletesOnce, call_of, completion_of, ends_with_its_process, is_completion}
 
 -- among what was queued the completions are those of the endings
@@ -64,6 +65,27 @@ ends_match (ending ∷ endings) =
     filter-append is_completion (completions ending) (completions_of endings)
     ∙ ap (λ (xs : List Queued). xs ++ filter is_completion (completions_of endings)) (one_matches ending)
     ∙ ap (λ (xs : List Queued). completion_of ending ++ xs) (ends_match endings)
+
+-- what holds of each completion holds of each that is queued for endings
+pub each_completion : (P : Queued → Type 0) → ((q : Queued) → q.ast.kind ≡ Completion → P q) → (endings : List Ending)
+    → AllByRecursion P (completions_of endings)
+unfolding completion_asts
+each_completion P holds [] = tt
+each_completion P holds (ending ∷ endings) =
+    each_append P (completions ending) (completions_of endings) here (each_completion P holds endings)
+  where
+    of_routine : (routine : Option ℕ) → AllByRecursion P (asts_for Completion routine ending.request ending.lkid ending.pid)
+    of_routine None = tt
+    of_routine (Some routine) =
+        (holds (record { pid = ending.pid; ast = record { kind = Completion; routine = routine; param = ending.request.param; lkid = ending.lkid } }) refl, tt)
+
+    here : AllByRecursion P (completions ending)
+    here =
+        let told : List Queued =
+        cond (is_synchronous ending.at_once ending.request) [] (asts_for Completion ending.request.completion ending.request ending.lkid ending.pid) in
+        cond_both (is_told ending.how) told [] (AllByRecursion P)
+        (λ _. cond_both (is_synchronous ending.at_once ending.request) [] (asts_for Completion ending.request.completion ending.request ending.lkid ending.pid)
+        (AllByRecursion P) (λ _. tt) (λ _. of_routine ending.request.completion)) (λ _. tt)
 
 -- ---- warnings
 

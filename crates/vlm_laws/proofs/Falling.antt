@@ -164,7 +164,7 @@ served_falls pid r =
 -- ---- warnings
 
 -- who is to be warned is armed
-is_armed : (converting waiting : List Row) (row : Row) → is_to_warn converting waiting row ≡ true → row.armed ≡ true
+pub is_armed : (converting waiting : List Row) (row : Row) → is_to_warn converting waiting row ≡ true → row.armed ≡ true
 unfolding is_to_warn
 is_armed converting waiting row warned = (and_parts row.armed (is_in_the_way row.held converting waiting) warned).0
 
@@ -218,7 +218,7 @@ warned_falls pid block r = omega (arith, rows_fall pid r.converting r.waiting r.
 
 -- ---- sweeps
 
-dropped_is_due : (f : Row → ℕ) (r : Resource) (rest : List Resource)
+pub dropped_is_due : (f : Row → ℕ) (r : Resource) (rest : List Resource)
     → sum_by (weigh f) (cond (not (is_vacant r)) (r ∷ rest) rest) ≡ weigh f r + sum_by (weigh f) rest
 dropped_is_due f r rest =
     elim (is_vacant r) as (λ b. is_vacant r ≡ b → sum_by (weigh f) (cond (not b) (r ∷ rest) rest) ≡ weigh f r + sum_by (weigh f) rest) [

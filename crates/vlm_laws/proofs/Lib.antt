@@ -4,3 +4,5 @@ pub mod Accounting
 pub mod Falling
 pub mod Raising
 pub mod Warning
+pub mod WarnedOnce
+pub mod InTheWay

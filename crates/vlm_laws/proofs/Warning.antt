@@ -12,8 +12,8 @@ use Rattle.vlm_words.specs.declared.resources.ValueBlock.{ValueBlock}
 use Rattle.vlm_words.specs.declared.steps.Answer.{Answer}
 use Rattle.vlm_words.specs.declared.steps.Step.{Step}
 use Rattle.vlm_words.specs.State.{Process, Resource, State}
-use Rattle.vlm_words.specs.Endings.{Ending, is_told}
-use Rattle.vlm_words.specs.Asts.{Queued, asts_for, blocking_asts, completion_asts, completions, completions_of, is_synchronous, is_to_warn, resource_after_warning, row_after_warning, row_warnings, warnings}
+use Rattle.vlm_words.specs.Endings.{Ending}
+use Rattle.vlm_words.specs.Asts.{Queued, asts_for, blocking_asts, completions_of, is_to_warn, resource_after_warning, row_after_warning, row_warnings, warnings}
 use Rattle.vlm_words.specs.Effects.{with_value_block}
 use Rattle.vlm_words.specs.Grants.{is_empty, service}
 use Rattle.vlm_words.specs.Sweeps.{blocks_after_service, is_vacant, resource_after_service, resources_after_sweep, service_asts, sweep_asts}
@@ -24,7 +24,7 @@ use Rattle.vlm_words.proofs.Each.{Any-weaker, any_left, each_append, each_weaker
 use Rattle.vlm_words.proofs.Granted.{granted_always}
 use Rattle.vlm_words.proofs.NothingLeft.{is_empty-true}
 use Rattle.vlm_laws.specs.Warning.{IsNamedByGrant, NamesTheRoutine, WarningsAreOfGrants}
-use Rattle.vlm_laws.proofs.Completing.{change_queues}
+use Rattle.vlm_laws.proofs.Completing.{change_queues, each_completion}
 
 -- what a lock holds was granted to it
 abbrev Was : List Ending → Row → Type 0
@@ -39,24 +39,8 @@ AllWere endings resources = AllByRecursion (λ r. AllByRecursion (Was endings) r
 no_warning : (endings : List Ending) (q : Queued) → q.ast.kind ≡ Completion → IsNamedByGrant endings q
 no_warning endings q is warns = cc
 
-completes : (endings : List Ending) (ending : Ending) → AllByRecursion (IsNamedByGrant endings) (completions ending)
-unfolding completion_asts
-completes endings ending =
-    let told : List Queued =
-    cond (is_synchronous ending.at_once ending.request) [] (asts_for Completion ending.request.completion ending.request ending.lkid ending.pid) in
-    cond_both (is_told ending.how) told [] (AllByRecursion (IsNamedByGrant endings))
-    (λ _. cond_both (is_synchronous ending.at_once ending.request) [] (asts_for Completion ending.request.completion ending.request ending.lkid ending.pid)
-    (AllByRecursion (IsNamedByGrant endings)) (λ _. tt) (λ _. of_routine ending.request.completion)) (λ _. tt)
-  where
-    of_routine : (routine : Option ℕ) → AllByRecursion (IsNamedByGrant endings) (asts_for Completion routine ending.request ending.lkid ending.pid)
-    of_routine None = tt
-    of_routine (Some routine) =
-        (no_warning endings (record { pid = ending.pid; ast = record { kind = Completion; routine = routine; param = ending.request.param; lkid = ending.lkid } }) refl, tt)
-
 all_complete : (endings ended : List Ending) → AllByRecursion (IsNamedByGrant endings) (completions_of ended)
-all_complete endings [] = tt
-all_complete endings (ending ∷ ended) =
-    each_append (IsNamedByGrant endings) (completions ending) (completions_of ended) (completes endings ending) (all_complete endings ended)
+all_complete endings ended = each_completion (IsNamedByGrant endings) (no_warning endings) ended
 
 -- ---- warnings are of what is held
 

@@ -2,3 +2,5 @@ pub mod Completing
 pub mod Accounting
 pub mod Raising
 pub mod Warning
+pub mod WarnedOnce
+pub mod InTheWay

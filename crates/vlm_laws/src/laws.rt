@@ -6,11 +6,13 @@ ghost use Rattle.vlm_words.specs.declared.locks.Row.{Row};
 ghost use Rattle.vlm_words.specs.declared.steps.Step.{Step};
 ghost use Rattle.vlm_words.specs.State.{State};
 ghost use Rattle.vlm_words.specs.Runs.{History, Run};
-ghost use Rattle.vlm_words.specs.Stepped.{IsChoice};
+ghost use Rattle.vlm_words.specs.Stepped.{IsChoice, stepped};
 ghost use Rattle.vlm_laws.specs.Accounting.{WhatIsQueuedIsTakenOrPending};
 ghost use Rattle.vlm_laws.specs.Completing.{EachRequestCompletesOnce};
 ghost use Rattle.vlm_laws.specs.Raising.{NoMoreIsQueuedThanNamed, OnlyOwnRequestsRaiseDues};
 ghost use Rattle.vlm_laws.specs.Warning.{WarningsAreOfGrants};
+ghost use Rattle.vlm_laws.specs.WarnedOnce.{EachGrantIsWarnedAtMostOnce};
+ghost use Rattle.vlm_laws.specs.InTheWay.{WarnedLocksAreInTheWay};
 
 use vlm_words::laws::law_asts_are_taken_in_order;
 
@@ -54,4 +56,20 @@ pub fn law_a_warning_calls_what_a_granted_request_named()
 /// were accepted.
 pub fn law_no_more_is_queued_than_was_named()
     ensures { (history : History) (last : State) → Run history last → NoMoreIsQueuedThanNamed history }
+{}
+
+/// Each grant is warned at most once. The warnings of a lock that were queued, from the start of the run, and the one
+/// that is still to come while it is armed, are together no more than the grants to it that name a blocking routine. So
+/// a lock that was never granted with such a routine is never warned.
+pub fn law_a_grant_is_warned_at_most_once()
+    ensures { (history : History) (last : State) → Run history last
+        → EachGrantIsWarnedAtMostOnce history last }
+{}
+
+/// No lock is warned for nothing: each blocking AST that a step queues goes to the process of the lock that it tells
+/// of. Once the step is done that lock stands granted in a mode that keeps out some request that is queued on its
+/// resource.
+pub fn law_a_warned_lock_is_in_the_way()
+    ensures { (s : State) (step : Step) (choice : Option Row)
+        → WarnedLocksAreInTheWay (stepped s step choice) }
 {}
