@@ -14,6 +14,7 @@ pub mod Made
 pub mod Moved
 pub mod OtherLocks
 pub mod Named
+pub mod InOrder
 pub mod Rising
 pub mod Replaced
 pub mod Stood

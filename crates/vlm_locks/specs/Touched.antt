@@ -1,5 +1,6 @@
 -- The resources that a step touches.
-use Rattle.std.specs.Prelude.{◌≡◌, ℕ, List, map}
+use Rattle.std.specs.Prelude.{◌≡◌, ◌<◌, ⊤, ℕ, List, [], ◌∷◌, map}
+use Rattle.std.specs.List.{AllByRecursion}
 use Rattle.vlm_links.specs.Lists.{IsIn}
 use Rattle.vlm_store.specs.Records.{Records, StoredResource}
 use Rattle.vlm_locks.specs.declared.touched.Touch.{Touch}
@@ -13,11 +14,29 @@ pub record Touches : Type 0 where
 abbrev pub touched_handles : List Touch → List ℕ
 touched_handles touches = map (λ t. t.res) touches
 
--- each touched resource is there, with its serial
+-- each touched resource is among these, with its serial
+abbrev pub AreAmong : List Touch → List StoredResource → Type 0
+AreAmong touches resources = (t : Touch) → IsIn t touches
+    → (r : StoredResource) × (IsIn r resources × (r.at ≡ t.res) × (r.serial ≡ t.serial))
+
+-- each touched resource is there
 abbrev pub AreThere : List Touch → Records → Type 0
-AreThere touches s = (t : Touch) → IsIn t touches
-    → (r : StoredResource) × (IsIn r s.resources × (r.at ≡ t.res) × (r.serial ≡ t.serial))
+AreThere touches s = AreAmong touches s.resources
+
+-- each stands behind those of lower serials alone, so each serial is there once
+abbrev pub RiseBySerial : List Touch → Type 0
+RiseBySerial [] = ⊤
+RiseBySerial (t ∷ touches) = AllByRecursion (λ later. t.serial < later.serial) touches × RiseBySerial touches
+
+-- a resource of this serial is noted
+abbrev pub IsNoted : ℕ → List Touch → Type 0
+IsNoted serial touches = (t : Touch) × (IsIn t touches × (t.serial ≡ serial))
 
 -- each resource that is not touched is as it was
 abbrev pub OnlyTouched : List Touch → Records → Records → Type 0
 OnlyTouched touches old new = (r : StoredResource) → IsIn r new.resources → (IsIn r.at (touched_handles touches) → ⊥) → IsIn r old.resources
+
+-- resources stand by rising serial
+abbrev pub SerialsRise : List StoredResource → Type 0
+SerialsRise [] = ⊤
+SerialsRise (r ∷ resources) = AllByRecursion (λ later. r.serial < later.serial) resources × SerialsRise resources

@@ -2,6 +2,10 @@
 
 ghost use Rattle.std.specs.Prelude.{◌≡◌, ◌<◌, ◌≤◌, [], ◌∷◌, ◌++◌, length, vec_capacity, OnErr, OnOk};
 
+ghost use Rattle.vlm_links.specs.Lists.{IsIn};
+ghost use Rattle.vlm_locks.specs.Touched.{IsNoted, RiseBySerial};
+ghost use Rattle.vlm_locks.specs.declared.touched.Touch.{Touch};
+
 use std::alloc::{AllocError, Global};
 use std::marker::Model;
 use vlm_store::ResAt;
@@ -61,6 +65,24 @@ impl Touched {
         ensures room { self.new.room ≡ self.old.room }
     {
         self.touches.push_reserved(touch);
+    }
+
+    /// Brings them in the order of their making, each resource once. It takes no memory.
+    pub fn in_order(&mut self)
+        ensures rising { RiseBySerial self.new.noted }
+        ensures within { (t : Touch) → IsIn t self.new.noted → IsIn t self.old.noted }
+        ensures each { (t : Touch) → IsIn t self.old.noted → IsNoted t.serial self.new.noted }
+        ensures room { self.new.room ≡ self.old.room }
+    {
+        self.touches.sort_unstable_by_key(|touch| touch.serial);
+        self.touches.dedup_by_key(|touch| touch.serial);
+    }
+
+    /// Those that are noted.
+    pub fn touches(&self) -> &[Touch]
+        ensures { result.now ≡ self.now.noted }
+    {
+        &self.touches
     }
 
     /// Forgets all, and keeps the room.
