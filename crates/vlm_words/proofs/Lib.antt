@@ -29,6 +29,7 @@ mod NothingToWarn
 pub mod Processes
 pub mod Declarations
 pub mod Quotas
+pub mod Totals
 pub mod Holdings
 pub mod Rooted
 pub mod NewlyRooted
