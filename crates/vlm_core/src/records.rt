@@ -12,7 +12,7 @@ ghost use Rattle.vlm_core.specs.Machine.{plain_state};
 use crate::nodes::{NODES, Node};
 use std::alloc::Global;
 use std::marker::Model;
-use vlm_locks::sweep;
+use vlm_locks::{Touch, sweep};
 use vlm_store::{ResAt, Store};
 use vlm_words::conditions::Cond;
 use vlm_words::steps::{Answer, Step};
@@ -79,6 +79,7 @@ impl Machine {
         requires settled { AreSettledBut (res ∷ []) self.old.records.resources }
         ensures { plain_state self.new ≡ state_after_sweep (plain_state self.old) }
     {
-        sweep(&mut self.store, &[res]);
+        let touch = Touch::of(&self.store, res);
+        sweep(&mut self.store, &[touch]);
     }
 }

@@ -2,7 +2,7 @@
 use Rattle.std.proofs.Common.{◌≡◌, ◌<◌, ◌+◌, ℕ, true, false, not, cond, List, [], ◌∷◌, ◌++◌, length, get_or, drop, map, refl, sym, ap, ◌∙◌, subst, inl, inr, eq-eqb, arith}
 use Rattle.std.specs.Prelude.{◌==◌}
 use Rattle.std.specs.List.{AllByRecursion, list_any}
-use Rattle.std.proofs.lemmas.List.{drop_all, drop_more, map-append}
+use Rattle.std.proofs.lemmas.List.{drop_all, drop_more, get_or-map, length-map, map-append}
 use Rattle.std.proofs.lemmas.List.Folds.{list_any_at}
 use Rattle.vlm_words.specs.Resources.{IsKeyed}
 use Rattle.vlm_words.specs.Settled.{IsSettled, IsSweptNext, IsUnswept, unless_vacant}
@@ -14,6 +14,8 @@ use Rattle.vlm_store.specs.Records.{IsSound, Records, StoredResource, but_notice
 use Rattle.vlm_locks.specs.Rest.{IsAtRest}
 use Rattle.vlm_locks.specs.Sweeping.{AreSettledBut, IsSwept, Parted, StandInOrder, but_touched}
 use Rattle.vlm_locks.specs.Staying.{LocksStayAmong}
+use Rattle.vlm_locks.specs.declared.touched.Touch.{Touch}
+use Rattle.vlm_locks.specs.Touched.{touched_handles}
 use Rattle.vlm_locks.proofs.Rising.{all_rise_still, none_joined}
 use Rattle.vlm_locks.proofs.Staying.{stay_all_among, stay_parts, stay_twice_among}
 use Rattle.vlm_locks.proofs.Parting.{AreToSweep, among_after, among_before, to_sweep, to_sweep_behind}
@@ -180,3 +182,11 @@ module _ (touched : List ℕ) (old s : Records) (so_far : IsSweeping touched [] 
 
   pub swept_statuses : plain_processes s ≡ processes_after_service (plain_processes old) (plain_resources old)
   swept_statuses = sym (done (plain_processes s) (plain_resources s) so_far.left).statuses ∙ so_far.statuses
+
+-- the next of the touched, by its handle
+pub handle_at : (touches : List Touch) (i : ℕ) (t : Touch) → i < length touches → t ≡ get_or touches i t
+    → (i < length (touched_handles touches)) × (t.res ≡ get_or (touched_handles touches) i t.res)
+handle_at touches i t within here = (
+  omega (arith, within, length-map touches (λ (x : Touch). x.res)),
+  ap (λ (x : Touch). x.res) here ∙ sym (get_or-map (λ (x : Touch). x.res) touches i t t.res within),
+)

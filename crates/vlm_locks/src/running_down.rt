@@ -46,10 +46,6 @@ pub fn run_down(store: &mut Store, touched: &mut Touched, owner: ProcAt, pid: u3
         law_records_are_sound(store);
         withdraw(store, &standing, &Withdrawal::rundown(standing.row.lkid));
         law_records_are_sound(store);
-        let serial = store.resource_record(standing.res).serial;
-        touched.note(Touch {
-            serial,
-            res: standing.res,
-        });
+        touched.note(Touch::of(store, standing.res));
     }
 }

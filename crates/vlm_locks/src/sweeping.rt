@@ -8,8 +8,10 @@ ghost use Rattle.vlm_locks.specs.Owing.{IsPaid};
 ghost use Rattle.vlm_locks.specs.Rest.{IsAtRest, OwnLocksStay};
 ghost use Rattle.vlm_locks.specs.Staying.{LocksStayAmong};
 ghost use Rattle.vlm_locks.specs.Sweeping.{AreSettledBut, IsSwept, Parted, StandInOrder, but_touched};
+ghost use Rattle.vlm_locks.specs.Touched.{touched_handles};
 
 use crate::serving::serve;
+use crate::touched::Touch;
 use vlm_queue::is_idle;
 use vlm_store::laws::law_records_are_sound;
 use vlm_store::{ResAt, Store};
@@ -33,19 +35,19 @@ fn sweep_one(store: &mut Store, res: ResAt)
 }
 
 /// Ends a step that touched these resources, in the order of their making: what is queued on each is granted as
-/// far as it can be, who is in the way of the rest is warned, and it goes if no lock is left on it. On the others nothing is to be done. The cost grows with
-/// what is touched and granted.
-pub fn sweep(store: &mut Store, touched: &[ResAt])
+/// far as it can be, who is in the way of the rest is warned, and it goes if no lock is left on it. On the others
+/// nothing is to be done. The cost grows with what is touched and granted.
+pub fn sweep(store: &mut Store, touches: &[Touch])
     requires rest { IsAtRest store.old }
-    requires in_order { StandInOrder touched.now store.old.resources }
-    requires settled { AreSettledBut touched.now store.old.resources }
+    requires in_order { StandInOrder (touched_handles touches.now) store.old.resources }
+    requires settled { AreSettledBut (touched_handles touches.now) store.old.resources }
     requires paid { IsPaid store.old }
     ensures resources { plain_resources store.new
         ≡ resources_after_sweep (plain_processes store.old) (plain_resources store.old) }
     ensures statuses { plain_processes store.new
         ≡ processes_after_service (plain_processes store.old) (plain_resources store.old) }
-    ensures others { but_touched touched.now store.new.resources
-        ≡ but_touched touched.now store.old.resources }
+    ensures others { but_touched (touched_handles touches.now) store.new.resources
+        ≡ but_touched (touched_handles touches.now) store.old.resources }
     ensures locks { LocksStayAmong store.old.resources store.new.resources }
     ensures none_join { LocksStayAmong store.new.resources store.old.resources }
     ensures own_locks { OwnLocksStay store.old store.new }
@@ -54,7 +56,7 @@ pub fn sweep(store: &mut Store, touched: &[ResAt])
 {
     law_a_sweep_touches_only_what_is_not_settled();
     law_records_are_sound(store);
-    for res in touched {
-        sweep_one(store, *res);
+    for touch in touches {
+        sweep_one(store, touch.res);
     }
 }

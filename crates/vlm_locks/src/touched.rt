@@ -1,14 +1,15 @@
 //! The resources that a step touches, for its sweep.
 
-ghost use Rattle.std.specs.Prelude.{◌≡◌, ◌<◌, ◌≤◌, [], ◌∷◌, ◌++◌, length, vec_capacity, OnErr, OnOk};
+ghost use Rattle.std.specs.Prelude.{◌≡◌, ◌<◌, ◌≤◌, [], ◌∷◌, ◌++◌, length, vec_capacity, IfSome, OnErr, OnOk};
 
 ghost use Rattle.vlm_links.specs.Lists.{IsIn};
+ghost use Rattle.vlm_store.specs.Records.{HasResource, resource_at};
 ghost use Rattle.vlm_locks.specs.Touched.{IsNoted, RiseBySerial};
 ghost use Rattle.vlm_locks.specs.declared.touched.Touch.{Touch};
 
 use std::alloc::{AllocError, Global};
 use std::marker::Model;
-use vlm_store::ResAt;
+use vlm_store::{ResAt, Store};
 
 /// A resource that a step has touched.
 #[derive(Clone, Copy)]
@@ -17,6 +18,21 @@ pub struct Touch {
     pub serial: u32,
     /// Its handle.
     pub res: ResAt,
+}
+
+impl Touch {
+    /// That of a resource.
+    pub fn of(store: &Store, res: ResAt) -> Touch
+        requires { HasResource res store.now }
+        ensures res { result.res ≡ res }
+        ensures serial { IfSome (resource_at res store.now.resources)
+            (λ r. result.serial ≡ r.serial) }
+    {
+        Touch {
+            serial: store.resource_record(res).serial,
+            res,
+        }
+    }
 }
 
 /// The resources that a step has touched, in the order in which it came to them, with room for more.

@@ -1,4 +1,4 @@
-use Rattle.std.proofs.Common.{sym, ap, ◌∙◌, subst, arith, map}
+use Rattle.std.proofs.Common.{ℕ, [], ◌∷◌, ◌++◌, sym, ap, ◌∙◌, subst, arith, map}
 use Rattle.vlm_links.specs.Lists.{IsIn}
 use Rattle.vlm_store.specs.declared.handles.Place.TheVariants.{Queued}
 use Rattle.vlm_store.specs.Records.{locks_at, own_handles_at, but_notices}
@@ -55,9 +55,11 @@ loop-lock-smaller c =
           c.withdraw.ensures.own_locks
           ∙ ap (λ stays. map but_notices (owned_after (goes stays f.queue) f.lock s.processes)) (ap (λ (w : Withdrawal). w.stays) c.rundown.ensures);
       paid = c.withdraw.ensures.paid;
-      serial = c.resource_record.result.now.serial;
-      its_serial = c.resource_record.ensures.serial;
-      notes = c.note.ensures.noted;
+      serial = c.of.result.serial;
+      its_serial = c.of.ensures.serial;
+      notes =
+          c.note.ensures.noted
+          ∙ ap (λ (res : ℕ). c.loop-lock.touched.noted ++ record { serial = c.of.result.serial; res = res } ∷ []) c.of.ensures.res;
       room = c.note.ensures.room;
     } in
     omega (arith, fewer_own c.args.owner c.args.pid c.args.store.now s c.withdraw.new.store c.loop-lock.touched c.note.new.self f (plain_withdrawal c.rundown.result) c.loop-lock.invariant turn)
@@ -80,9 +82,11 @@ loop-lock-preserved c =
           c.withdraw.ensures.own_locks
           ∙ ap (λ stays. map but_notices (owned_after (goes stays f.queue) f.lock s.processes)) (ap (λ (w : Withdrawal). w.stays) c.rundown.ensures);
       paid = c.withdraw.ensures.paid;
-      serial = c.resource_record.result.now.serial;
-      its_serial = c.resource_record.ensures.serial;
-      notes = c.note.ensures.noted;
+      serial = c.of.result.serial;
+      its_serial = c.of.ensures.serial;
+      notes =
+          c.note.ensures.noted
+          ∙ ap (λ (res : ℕ). c.loop-lock.touched.noted ++ record { serial = c.of.result.serial; res = res } ∷ []) c.of.ensures.res;
       room = c.note.ensures.room;
     })
 

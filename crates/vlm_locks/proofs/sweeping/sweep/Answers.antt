@@ -1,50 +1,55 @@
-use Rattle.std.proofs.Common.{arith, drop, ◌+◌}
+use Rattle.std.proofs.lemmas.List.{length-map}
+use Rattle.vlm_locks.specs.declared.touched.Touch.{Touch}
+use Rattle.std.proofs.Common.{arith, rules, drop, ◌+◌}
 use Rattle.vlm_locks.proofs.Parting.{parted_there}
-use Rattle.vlm_locks.proofs.Sweeps.{is_touched_at, swept_resources, swept_statuses, sweeping_at, sweeping_begun, sweeping_next, sweeping_over}
+use Rattle.vlm_locks.proofs.Sweeps.{handle_at, is_touched_at, swept_resources, swept_statuses, sweeping_at, sweeping_begun, sweeping_next, sweeping_over}
+use Rattle.vlm_locks.specs.Touched.{touched_handles}
 use Rattle.vlm_locks.proofs.sweeping.sweep.Goals as goal
 
-pub loop-res-init : goal.loop-res-init
-loop-res-init c =
-    (sweeping_begun c.args.touched.now c.args.store.now c.law_records_are_sound.ensures c.requires.in_order c.requires.settled c.requires.rest, c.requires.paid)
+pub loop-touch-init : goal.loop-touch-init
+loop-touch-init c =
+    (sweeping_begun (touched_handles c.args.touches.now) c.args.store.now c.law_records_are_sound.ensures c.requires.in_order c.requires.settled c.requires.rest, c.requires.paid)
 
 pub sweep_one-requires-clause-there : goal.sweep_one-requires-clause-there
 sweep_one-requires-clause-there c =
-    let so_far = sweeping_at c.args.touched.now c.loop-res.res-index c.res-item.result c.args.store.now c.loop-res.store c.loop-res-test.true c.res-item.is c.loop-res.invariant.0 in
-    parted_there c.res-item.result c.loop-res.store so_far.left.0
+    let at = handle_at c.args.touches.now c.loop-touch.touch-index c.touch-item.result c.loop-touch-test.true c.touch-item.is in
+    let so_far = sweeping_at (touched_handles c.args.touches.now) c.loop-touch.touch-index c.touch-item.result.res c.args.store.now c.loop-touch.store at.0 at.1 c.loop-touch.invariant.0 in
+    parted_there c.touch-item.result.res c.loop-touch.store so_far.left.0
 
-pub loop-res-preserved : goal.loop-res-preserved
-loop-res-preserved c =
-    let touched = c.args.touched.now in
-    let so_far = sweeping_at touched c.loop-res.res-index c.res-item.result c.args.store.now c.loop-res.store c.loop-res-test.true c.res-item.is c.loop-res.invariant.0 in (
-      sweeping_next touched c.res-item.result (drop (c.loop-res.res-index + 1) touched) c.args.store.now c.loop-res.store c.sweep_one.new.store so_far
-          (c.sweep_one.ensures.swept so_far.left.0) c.law_a_sweep_touches_only_what_is_not_settled.ensures.next (is_touched_at touched c.loop-res.res-index c.res-item.result c.loop-res-test.true c.res-item.is) c.law_records_are_sound.ensures c.requires.rest,
+pub loop-touch-preserved : goal.loop-touch-preserved
+loop-touch-preserved c =
+    let touched = touched_handles c.args.touches.now in
+    let at = handle_at c.args.touches.now c.loop-touch.touch-index c.touch-item.result c.loop-touch-test.true c.touch-item.is in
+    let so_far = sweeping_at touched c.loop-touch.touch-index c.touch-item.result.res c.args.store.now c.loop-touch.store at.0 at.1 c.loop-touch.invariant.0 in (
+      sweeping_next touched c.touch-item.result.res (drop (c.loop-touch.touch-index + 1) touched) c.args.store.now c.loop-touch.store c.sweep_one.new.store so_far
+          (c.sweep_one.ensures.swept so_far.left.0) c.law_a_sweep_touches_only_what_is_not_settled.ensures.next (is_touched_at touched c.loop-touch.touch-index c.touch-item.result.res at.0 at.1) c.law_records_are_sound.ensures c.requires.rest,
       c.sweep_one.ensures.paid,
     )
 
 pub returns-clause-resources : goal.returns-clause-resources
 returns-clause-resources c =
-    let so_far = sweeping_over c.args.touched.now c.loop-res.res-index c.args.store.now c.loop-res.store (omega arith) c.loop-res.invariant.0 in
-    swept_resources c.args.touched.now c.args.store.now c.loop-res.store so_far c.law_a_sweep_touches_only_what_is_not_settled.ensures.done
+    let so_far = sweeping_over (touched_handles c.args.touches.now) c.loop-touch.touch-index c.args.store.now c.loop-touch.store (omega (arith, length-map c.args.touches.now (λ (x : Touch). x.res))) c.loop-touch.invariant.0 in
+    swept_resources (touched_handles c.args.touches.now) c.args.store.now c.loop-touch.store so_far c.law_a_sweep_touches_only_what_is_not_settled.ensures.done
 
 pub returns-clause-statuses : goal.returns-clause-statuses
 returns-clause-statuses c =
-    let so_far = sweeping_over c.args.touched.now c.loop-res.res-index c.args.store.now c.loop-res.store (omega arith) c.loop-res.invariant.0 in
-    swept_statuses c.args.touched.now c.args.store.now c.loop-res.store so_far c.law_a_sweep_touches_only_what_is_not_settled.ensures.done
+    let so_far = sweeping_over (touched_handles c.args.touches.now) c.loop-touch.touch-index c.args.store.now c.loop-touch.store (omega (arith, length-map c.args.touches.now (λ (x : Touch). x.res))) c.loop-touch.invariant.0 in
+    swept_statuses (touched_handles c.args.touches.now) c.args.store.now c.loop-touch.store so_far c.law_a_sweep_touches_only_what_is_not_settled.ensures.done
 
 pub returns-clause-others : goal.returns-clause-others
-returns-clause-others c = c.loop-res.invariant.0.others
+returns-clause-others c = c.loop-touch.invariant.0.others
 
 pub returns-clause-own_locks : goal.returns-clause-own_locks
-returns-clause-own_locks c = c.loop-res.invariant.0.processes
+returns-clause-own_locks c = c.loop-touch.invariant.0.processes
 
 pub returns-clause-rest : goal.returns-clause-rest
-returns-clause-rest c = c.loop-res.invariant.0.rest
+returns-clause-rest c = c.loop-touch.invariant.0.rest
 
 pub returns-clause-locks : goal.returns-clause-locks
-returns-clause-locks c = c.loop-res.invariant.0.stay
+returns-clause-locks c = c.loop-touch.invariant.0.stay
 
 pub returns-clause-none_join : goal.returns-clause-none_join
-returns-clause-none_join c = c.loop-res.invariant.0.none_join
+returns-clause-none_join c = c.loop-touch.invariant.0.none_join
 
 pub returns-clause-paid : goal.returns-clause-paid
-returns-clause-paid c = c.loop-res.invariant.1
+returns-clause-paid c = c.loop-touch.invariant.1
