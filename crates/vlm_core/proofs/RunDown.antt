@@ -1,12 +1,13 @@
 -- What a rundown needs of the records follows from what holds between two steps.
-use Rattle.std.proofs.Common.{◌≡◌, ◌≢◌, ℕ, List, [], ◌∷◌, ◌++◌, map, Option, None, Some, refl, sym, ap, ◌∙◌, subst, inl, inr, arith}
+use Rattle.std.proofs.Common.{◌≡◌, ◌≢◌, ◌<◌, ℕ, List, [], ◌∷◌, ◌++◌, map, Option, None, Some, refl, sym, ap, ◌∙◌, subst, inl, inr, arith}
 use Rattle.std.specs.Prelude.{All, Any}
 use Rattle.std.specs.List.{AllByRecursion, sum_by}
 use Rattle.std.specs.Option.{option_map_or}
 use Rattle.vlm_words.specs.declared.locks.Row.{Row}
 use Rattle.vlm_words.specs.declared.resources.Queue.TheVariants.{Granted}
-use Rattle.vlm_words.specs.Laws.{HasItsParent, HoldsOn, IsHeld, RowsFit, rows_on}
-use Rattle.vlm_words.specs.State.{Resource}
+use Rattle.vlm_words.specs.Laws.{HasItsParent, HoldsOn, IdentificationsAreApart, IsHeld, RowsFit, rows_on}
+use Rattle.vlm_words.specs.State.{Resource, State}
+use Rattle.vlm_words.proofs.Apart.{Apart}
 use Rattle.vlm_words.proofs.Each.{Any-cases, Any-none}
 use Rattle.vlm_links.specs.Lists.{IsIn}
 use Rattle.vlm_store.specs.Plain.{plain_resource, plain_resources}
@@ -26,6 +27,10 @@ some_of f P (x ∷ rest) any =
       | inl here ↦ (x, (inl refl, here))
       | inr there ↦ let found = some_of f P rest there in (found.0, (inr found.1.0, found.1.1))
     ]
+
+-- identifications are apart between two steps, so that what becomes of the resources may be said row by row
+pub is_apart : (s : State) → IdentificationsAreApart s → 0 < s.next_lkid → Apart s
+is_apart s apart first = record { one_row = apart.one_row; none_is_0 = apart.none_is_0; none_to_come = apart.none_to_come; first = first }
 
 -- granted locks want nothing, where each lock stands in the queue that fits it
 pub granted_want_nothing : (s : Records) → All RowsFit (plain_resources s) → GrantedWantNothing s
