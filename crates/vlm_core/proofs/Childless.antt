@@ -46,6 +46,56 @@ in_queue s none_loose at row stored = by_place stored.0 stored.1
         of_found None is here = absurd here
         of_found (Some r) is here = record { resource = r; there = resource_among res s.resources r is; queue = queue; among = here }
 
+-- what holds on a resource stands in its granted or its conversion queue
+pub held_stands : (r : StoredResource) (lkid pid : ℕ) → HoldsOn lkid pid (plain_resource r)
+    → (k : StoredLock) × (queue : Queue) × (IsIn k (queued queue r) × (queue ≢ Waiting) × (k.row.lkid ≡ lkid) × (k.row.pid ≡ pid))
+held_stands r lkid pid holds = of_granted r.granted (λ k here. here) holds
+  where
+    of_converting : (locks : List StoredLock) → ((k : StoredLock) → IsIn k locks → IsIn k r.converting)
+        → Any (λ (row : Row). (row.lkid ≡ lkid) × (row.pid ≡ pid)) (rows_of_locks locks)
+        → (k : StoredLock) × (queue : Queue) × (IsIn k (queued queue r) × (queue ≢ Waiting) × (k.row.lkid ≡ lkid) × (k.row.pid ≡ pid))
+    of_converting [] within any = absurd (Any-none (λ (row : Row). (row.lkid ≡ lkid) × (row.pid ≡ pid)) any)
+    of_converting (k ∷ rest) within any =
+        elim (Any-cases (λ (row : Row). (row.lkid ≡ lkid) × (row.pid ≡ pid)) k.row (rows_of_locks rest) any) [
+          | inl here ↦ (k, Conversion, (within k (inl refl), (λ e. cc), here.0, here.1))
+          | inr there ↦ of_converting rest (λ x later. within x (inr later)) there
+        ]
+
+    of_granted : (locks : List StoredLock) → ((k : StoredLock) → IsIn k locks → IsIn k r.granted)
+        → Any (λ (row : Row). (row.lkid ≡ lkid) × (row.pid ≡ pid)) (rows_of_locks locks ++ rows_of_locks r.converting)
+        → (k : StoredLock) × (queue : Queue) × (IsIn k (queued queue r) × (queue ≢ Waiting) × (k.row.lkid ≡ lkid) × (k.row.pid ≡ pid))
+    of_granted [] within any = of_converting r.converting (λ k here. here) any
+    of_granted (k ∷ rest) within any =
+        elim (Any-cases (λ (row : Row). (row.lkid ≡ lkid) × (row.pid ≡ pid)) k.row (rows_of_locks rest ++ rows_of_locks r.converting) any) [
+          | inl here ↦ (k, Granted, (within k (inl refl), (λ e. cc), here.0, here.1))
+          | inr there ↦ of_granted rest (λ x later. within x (inr later)) there
+        ]
+
+-- what holds of each row of a resource holds of the row of a lock in one of its queues
+pub of_queue : (r : StoredResource) (queue : Queue) (k : StoredLock) (P : Row → Type 0)
+    → AllByRecursion P (rows_of_locks r.granted ++ rows_of_locks r.converting ++ rows_of_locks r.waiting) → IsIn k (queued queue r) → P k.row
+of_queue r queue k P each = of_its queue
+  where
+    in_rows : (locks : List StoredLock) → AllByRecursion P (rows_of_locks locks) → IsIn k locks → P k.row
+    in_rows [] all is = absurd is
+    in_rows (x ∷ rest) all is =
+        elim is [
+          | inl first ↦ subst (λ (y : StoredLock). P y.row) first all.0
+          | inr later ↦ in_rows rest all.1 later
+        ]
+
+    parts : (xs ys : List Row) → AllByRecursion P (xs ++ ys) → AllByRecursion P xs × AllByRecursion P ys
+    parts [] ys all = (tt, all)
+    parts (x ∷ xs) ys all = let rest = parts xs ys all.1 in ((all.0, rest.0), rest.1)
+
+    held : AllByRecursion P (rows_of_locks r.granted ++ rows_of_locks r.converting)
+    held = (parts (rows_of_locks r.granted ++ rows_of_locks r.converting) (rows_of_locks r.waiting) each).0
+
+    of_its : (its : Queue) → IsIn k (queued its r) → P k.row
+    of_its Granted is = in_rows r.granted (parts (rows_of_locks r.granted) (rows_of_locks r.converting) held).0 is
+    of_its Conversion is = in_rows r.converting (parts (rows_of_locks r.granted) (rows_of_locks r.converting) held).1 is
+    of_its Waiting is = in_rows r.waiting (parts (rows_of_locks r.granted ++ rows_of_locks r.converting) (rows_of_locks r.waiting) each).1 is
+
 -- ---- the sublocks of a lock
 
 -- rows of which none is a sublock
@@ -148,38 +198,13 @@ module _ (s : Records) (sound : IsSound s) (none_loose : s.loose ≡ []) (f : St
 
   -- ---- a lock that waits has no sublocks: a parent holds a mode
 
-  -- what holds on a resource stands in its granted or its conversion queue
-  held_stands : (r : StoredResource) → IsIn r s.resources → (lkid pid : ℕ) → HoldsOn lkid pid (plain_resource r)
-      → (k : StoredLock) × (queue : Queue) × (IsIn k (queued queue r) × (queue ≢ Waiting) × (k.row.lkid ≡ lkid))
-  held_stands r among lkid pid holds = of_granted r.granted (λ k here. here) holds
-    where
-      of_converting : (locks : List StoredLock) → ((k : StoredLock) → IsIn k locks → IsIn k r.converting)
-          → Any (λ (row : Row). (row.lkid ≡ lkid) × (row.pid ≡ pid)) (rows_of_locks locks)
-          → (k : StoredLock) × (queue : Queue) × (IsIn k (queued queue r) × (queue ≢ Waiting) × (k.row.lkid ≡ lkid))
-      of_converting [] within any = absurd (Any-none (λ (row : Row). (row.lkid ≡ lkid) × (row.pid ≡ pid)) any)
-      of_converting (k ∷ rest) within any =
-          elim (Any-cases (λ (row : Row). (row.lkid ≡ lkid) × (row.pid ≡ pid)) k.row (rows_of_locks rest) any) [
-            | inl here ↦ (k, Conversion, (within k (inl refl), (λ e. cc), here.0))
-            | inr there ↦ of_converting rest (λ x later. within x (inr later)) there
-          ]
-
-      of_granted : (locks : List StoredLock) → ((k : StoredLock) → IsIn k locks → IsIn k r.granted)
-          → Any (λ (row : Row). (row.lkid ≡ lkid) × (row.pid ≡ pid)) (rows_of_locks locks ++ rows_of_locks r.converting)
-          → (k : StoredLock) × (queue : Queue) × (IsIn k (queued queue r) × (queue ≢ Waiting) × (k.row.lkid ≡ lkid))
-      of_granted [] within any = of_converting r.converting (λ k here. here) any
-      of_granted (k ∷ rest) within any =
-          elim (Any-cases (λ (row : Row). (row.lkid ≡ lkid) × (row.pid ≡ pid)) k.row (rows_of_locks rest ++ rows_of_locks r.converting) any) [
-            | inl here ↦ (k, Granted, (within k (inl refl), (λ e. cc), here.0))
-            | inr there ↦ of_granted rest (λ x later. within x (inr later)) there
-          ]
-
   -- on some resource a lock of the identification holds a mode: then the lock that waits is another
   none_waits : f.queue ≡ Waiting → (rs : List StoredResource) → ((r : StoredResource) → IsIn r rs → IsIn r s.resources) → (serial pid : ℕ)
       → Any (λ up. (up.serial ≡ serial) × HoldsOn f.row.lkid pid up) (map plain_resource rs) → ⊥
   none_waits waits [] within serial pid any = Any-none (λ (up : Resource). (up.serial ≡ serial) × HoldsOn f.row.lkid pid up) any
   none_waits waits (r ∷ rest) within serial pid any =
       elim (Any-cases (λ (up : Resource). (up.serial ≡ serial) × HoldsOn f.row.lkid pid up) (plain_resource r) (map plain_resource rest) any) [
-        | inl here ↦ (let held = held_stands r (within r (inl refl)) f.row.lkid pid here.1 in
+        | inl here ↦ (let held = held_stands r f.row.lkid pid here.1 in
             let k : StoredLock = held.0 in
             let is_stored : Stores s k.at k.row = queued_stored s sound r (within r (inl refl)) held.1 k held.2.0 in
             let same : k.at ≡ f.lock = sound.lkids_apart k.at f.lock k.row f.row is_stored (stored s f standing) held.2.2 in
@@ -200,26 +225,6 @@ module _ (s : Records) (sound : IsSound s) (none_loose : s.loose ≡ []) (f : St
       → f.queue ≡ Waiting → HasNoSublocks f.lock s
   waiting_childless no_lkid_0 parents waits p own among here same = of_list own.sublocks refl
     where
-      in_rows : (locks : List StoredLock) (k : StoredLock) (P : Row → Type 0) → AllByRecursion P (rows_of_locks locks) → IsIn k locks → P k.row
-      in_rows [] k P each is = absurd is
-      in_rows (x ∷ rest) k P each is =
-          elim is [
-            | inl first ↦ subst (λ (y : StoredLock). P y.row) first each.0
-            | inr later ↦ in_rows rest k P each.1 later
-          ]
-
-      parts : (P : Row → Type 0) (xs ys : List Row) → AllByRecursion P (xs ++ ys) → AllByRecursion P xs × AllByRecursion P ys
-      parts P [] ys each = (tt, each)
-      parts P (x ∷ xs) ys each = let rest = parts P xs ys each.1 in ((each.0, rest.0), rest.1)
-
-      of_queue : (r : StoredResource) (queue : Queue) (k : StoredLock) (P : Row → Type 0)
-          → AllByRecursion P (rows_of_locks r.granted ++ rows_of_locks r.converting ++ rows_of_locks r.waiting) → IsIn k (queued queue r) → P k.row
-      of_queue r Granted k P each is =
-          in_rows r.granted k P (parts P (rows_of_locks r.granted) (rows_of_locks r.converting) (parts P (rows_of_locks r.granted ++ rows_of_locks r.converting) (rows_of_locks r.waiting) each).0).0 is
-      of_queue r Conversion k P each is =
-          in_rows r.converting k P (parts P (rows_of_locks r.granted) (rows_of_locks r.converting) (parts P (rows_of_locks r.granted ++ rows_of_locks r.converting) (rows_of_locks r.waiting) each).0).1 is
-      of_queue r Waiting k P each is = in_rows r.waiting k P (parts P (rows_of_locks r.granted ++ rows_of_locks r.converting) (rows_of_locks r.waiting) each).1 is
-
       of_list : (sublocks : List ℕ) → own.sublocks ≡ sublocks → sublocks ≡ []
       of_list [] is = refl
       of_list (at ∷ rest) is =

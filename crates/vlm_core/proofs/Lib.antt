@@ -12,3 +12,4 @@ pub mod ToCome
 pub mod Siting
 pub mod Childless
 pub mod Wanting
+pub mod RunDown

@@ -28,5 +28,6 @@ pub mod Swept
 pub mod Sweeps
 pub mod Withdrawn
 pub mod PlainRundown
+pub mod TogetherDown
 pub mod RunsDown
 pub mod WithdrawnEnds

@@ -220,7 +220,7 @@ all_owned_less is_one pid ends (r ∷ rest) =
     )
 
 -- the row is of one of the processes
-abbrev is_theirs : (ℕ → Bool) → Row → Bool
+abbrev pub is_theirs : (ℕ → Bool) → Row → Bool
 is_theirs is_one row = is_one row.pid
 
 module _ (is_one : ℕ → Bool) (s : State) (apart : Apart s) where
@@ -246,7 +246,7 @@ module _ (is_one : ℕ → Bool) (s : State) (apart : Apart s) where
       each_weaker (λ row. Any (λ y. row ≡ y) all) (IsListed (is_theirs is_one) (rundowns is_one s))
       (λ row there theirs. listed_as row.lkid (own_lkids is_one s) ∙ row_listed r among row.lkid (holds row.lkid (row_found row all there theirs))) rows each
 
-  resource_listed : (r : Resource) → Any (λ x. r ≡ x) s.resources → AllListed (is_theirs is_one) (rundowns is_one s) r
+  pub resource_listed : (r : Resource) → Any (λ x. r ≡ x) s.resources → AllListed (is_theirs is_one) (rundowns is_one s) r
   resource_listed r among = record {
     granted = queue_listed r among r.granted r.granted (λ lkid held. rw held refl) (each_member r.granted);
     converting = queue_listed r among r.converting r.converting

@@ -130,7 +130,7 @@ lkids_of_writers f named (lkid ∷ lkids) r = rw (named lkid, lkids_of_writers f
 -- ---- the locks of processes that end
 
 -- a row of the lock that is no stranger's is theirs
-no_stranger : (is_one : ℕ → Bool) (lkid : ℕ) (row : Row) → strangers is_one lkid row ≡ 0 → row.lkid ≡ lkid → is_one row.pid ≡ true
+pub no_stranger : (is_one : ℕ → Bool) (lkid : ℕ) (row : Row) → strangers is_one lkid row ≡ 0 → row.lkid ≡ lkid → is_one row.pid ≡ true
 no_stranger is_one lkid row none same = of_tests (row.lkid == lkid) (is_one row.pid) (eq-eqb row.lkid lkid same) none
   where
     of_tests : (a b : Bool) → a ≡ true → cond {A = ℕ} (a && not b) 1 0 ≡ 0 → b ≡ true
