@@ -1,7 +1,6 @@
 //! The resources that a step touches, for its sweep.
 
 ghost use Rattle.std.specs.Prelude.{◌≡◌, ◌<◌, ◌≤◌, [], ◌∷◌, ◌++◌, length, vec_capacity, IfSome, OnErr, OnOk};
-
 ghost use Rattle.vlm_links.specs.Lists.{IsIn};
 ghost use Rattle.vlm_store.specs.Records.{HasResource, resource_at};
 ghost use Rattle.vlm_locks.specs.Touched.{IsNoted, RiseBySerial};
