@@ -1,120 +1,62 @@
 -- What was queued was taken or is pending.
-use Rattle.std.proofs.Common.{◌≡◌, ◌++◌, ◌||◌, ℕ, Bool, true, false, List, [], ◌∷◌, map, cond, length, length-append, Option, None, Some, inl, inr, append_assoc, refl, sym, subst, ap, ◌∙◌, arith}
+use Rattle.std.proofs.Common.{◌≡◌, ◌≢◌, ◌++◌, ℕ, Bool, true, false, List, [], ◌∷◌, map, cond, length, length-append, Option, None, Some, inl, inr, append_assoc, refl, sym, subst, ap, ◌∙◌, arith}
 use Rattle.std.specs.Prelude.{◌==◌, is_some}
-use Rattle.std.specs.List.{list_any}
-use Rattle.std.specs.Option.{option_map_or}
+use Rattle.std.specs.List.{AllByRecursion}
 use Rattle.std.proofs.lemmas.Bool.{eqb-true}
 use Rattle.std.proofs.lemmas.List.{append-nil}
+use Rattle.std.proofs.lemmas.List.Elements.{recursion_from_All}
 use Rattle.vlm_words.specs.declared.asts.Ast.{Ast}
 use Rattle.vlm_words.specs.declared.conditions.Cond.{Cond}
-use Rattle.vlm_words.specs.declared.conditions.Cond.TheVariants.{Insfmem}
+use Rattle.vlm_words.specs.declared.conditions.Cond.TheVariants.{Insfmem, Normal}
 use Rattle.vlm_words.specs.declared.locks.Row.{Row}
 use Rattle.vlm_words.specs.declared.steps.Answer.TheVariants.{Process as process_answer, Lock, Plain, Taken, Victim}
 use Rattle.vlm_words.specs.declared.steps.Answer.{Answer}
 use Rattle.vlm_words.specs.declared.steps.Declaration.{Declaration}
 use Rattle.vlm_words.specs.declared.steps.Step.TheVariants.{Declare, SetValue, Enq, Convert, Deq, Rundown, Leave, Search, Take}
 use Rattle.vlm_words.specs.declared.steps.Step.{Step}
-use Rattle.vlm_words.specs.State.{Process, State, process_of}
+use Rattle.vlm_words.specs.State.{Node, Process, State, process_of}
 use Rattle.vlm_words.specs.ValueBlocks.{new_value_block}
 use Rattle.vlm_words.specs.Effects.{blocks_with}
 use Rattle.vlm_words.specs.Endings.{Ending}
 use Rattle.vlm_words.specs.Asts.{Queued, asts_of, oldest}
 use Rattle.vlm_words.specs.Sweeps.{processes_after_service, sweep_asts}
-use Rattle.vlm_words.specs.Quotas.{quota_of}
 use Rattle.vlm_words.specs.Declare.{declare_change, declared_process}
 use Rattle.vlm_words.specs.SetValue.{set_change}
 use Rattle.vlm_words.specs.Take.{take_change}
 use Rattle.vlm_words.specs.Convert.{ConversionAdmission}
 use Rattle.vlm_words.specs.Dequeue.{deq_change, deq_endings}
+use Rattle.vlm_words.specs.Rundown.{is_ended_by, is_of_node, nodes_after_departure}
 use Rattle.vlm_words.specs.Taking.{AstsAfter, AstsAfterTake, AstsAreTakenInOrder, AstsLeft, queued_to}
-use Rattle.vlm_words.specs.Stepped.{IsChoice, Outcome, Stepped, conversion_change, outcome_endings, outcome_queued, refused_or, step_change, step_refusal, stepped, stepped_after_sweep}
+use Rattle.vlm_words.specs.Stepped.{IsChoice, Outcome, Stepped, conversion_change, end_of_processes, outcome_endings, outcome_queued, refused_or, step_change, step_refusal, stepped, stepped_after_sweep}
 use Rattle.vlm_words.specs.Runs.{History, Run, begin, history_after, next}
 use Rattle.vlm_words.proofs.Always.{admission_of}
-use Rattle.vlm_words.proofs.Processes.{kept_converted, kept_ended, kept_entered, kept_set, kept_swept, kept_taken}
+use Rattle.vlm_words.proofs.Declarations.{IsGiven, given_always}
+use Rattle.vlm_words.proofs.Each.{each_append, each_at, each_weaker}
+use Rattle.vlm_words.proofs.Ended.{swept_living}
+use Rattle.vlm_words.proofs.Processes.{kept_converted, kept_ended, kept_entered, kept_set, kept_taken}
 use Rattle.vlm_words.proofs.Queueing.{asts_are, queued_to-append, sweep_queues}
 use Rattle.vlm_words.proofs.WhoseLocks.{owning}
-use Rattle.vlm_laws.specs.Accounting.{WhatIsQueuedIsTakenOrPending, taken_by, taken_in}
-use Rattle.vlm_laws.proofs.Strangers.{NoneOf, none_converted, none_dequeued, none_owned, none_requested, none_swept}
-
--- ---- who lives
-
--- the identification of a process
-abbrev named : Process → ℕ
-named p = p.pid
-
--- a process of this identification lives
-abbrev lives : List Process → ℕ → Bool
-lives processes pid = is_some (process_of processes pid)
-
--- which is told by the identifications alone
-lives_named : (processes : List Process) (pid : ℕ) → lives processes pid ≡ list_any (λ n. n == pid) (map named processes)
-lives_named [] pid = refl
-lives_named (p ∷ rest) pid = of_test (p.pid == pid) (lives_named rest pid)
-  where
-    of_test : (b : Bool) → lives rest pid ≡ list_any (λ n. n == pid) (map named rest)
-        → is_some (cond b (Some p) (process_of rest pid)) ≡ (b || list_any (λ n. n == pid) (map named rest))
-    of_test true behind = refl
-    of_test false behind = behind
-
--- so who lives does where the identifications are kept
-lives_still : (before after : List Process) → map named after ≡ map named before → (pid : ℕ) → lives after pid ≡ lives before pid
-lives_still before after same pid =
-    lives_named after pid ∙ ap (λ (all : List ℕ). list_any (λ n. n == pid) all) same ∙ sym (lives_named before pid)
-
-no : {A : Type 0} → true ≡ false → A
-no e = cc
-
--- who lives is there
-who : (o : Option Process) → is_some o ≡ true → (p : Process) × (o ≡ Some p)
-who None is = no (sym is)
-who (Some p) is = (p, refl)
-
--- who does not is not, and has no ASTs and no quota
-nobody : (o : Option Process) → is_some o ≡ false → o ≡ None
-nobody None is = refl
-nobody (Some p) is = no is
-
-no_asts : (processes : List Process) (pid : ℕ) → lives processes pid ≡ false → asts_of processes pid ≡ []
-no_asts processes pid out = ap (λ (o : Option Process). option_map_or (λ p. p.asts) o []) (nobody (process_of processes pid) out)
-
-no_quota : (processes : List Process) (pid : ℕ) → lives processes pid ≡ false → quota_of processes pid ≡ 0
-no_quota processes pid out = ap (λ (o : Option Process). option_map_or (λ p. p.quota) o 0) (nobody (process_of processes pid) out)
-
--- a new process behind the others: who lived lives, and who did not has no ASTs
-more_live : (processes : List Process) (p : Process) (pid : ℕ) → lives processes pid ≡ true → lives (processes ++ p ∷ []) pid ≡ true
-more_live [] p pid is = no (sym is)
-more_live (q ∷ rest) p pid is = of_test (q.pid == pid) (more_live rest p pid) is
-  where
-    of_test : (b : Bool) → (lives rest pid ≡ true → lives (rest ++ p ∷ []) pid ≡ true) → is_some (cond b (Some q) (process_of rest pid)) ≡ true
-        → is_some (cond b (Some q) (process_of (rest ++ p ∷ []) pid)) ≡ true
-    of_test true behind is = refl
-    of_test false behind is = behind is
-
-new_has_none : (processes : List Process) (p : Process) (pid : ℕ) → p.asts ≡ [] → lives processes pid ≡ false → asts_of (processes ++ p ∷ []) pid ≡ []
-new_has_none [] p pid none out = of_test (p.pid == pid)
-  where
-    of_test : (b : Bool) → option_map_or (λ q. q.asts) (cond b (Some p) None) [] ≡ []
-    of_test true = none
-    of_test false = refl
-new_has_none (q ∷ rest) p pid none out = of_test (q.pid == pid) (new_has_none rest p pid none) out
-  where
-    of_test : (b : Bool) → (lives rest pid ≡ false → asts_of (rest ++ p ∷ []) pid ≡ []) → is_some (cond b (Some q) (process_of rest pid)) ≡ false
-        → option_map_or (λ x. x.asts) (cond b (Some q) (process_of (rest ++ p ∷ []) pid)) [] ≡ []
-    of_test true behind out = no out
-    of_test false behind out = behind out
+use Rattle.vlm_laws.specs.Accounting.{IsTakenButFor, WhatIsQueuedIsTakenOrPending, taken_by, taken_in}
+use Rattle.vlm_laws.proofs.Living.{GivesAnew, lived_before, lives, named, new_has_none, no, no_asts, no_quota, none_given_refused, step_gives, swept_still, who}
+use Rattle.vlm_laws.proofs.Strangers.{NoneOf, none_converted, none_dequeued, none_ended, none_owned, none_requested, none_swept}
 
 -- ---- what a step does
 
--- the ASTs of each process before the step, and behind them what the step queues to it, are what the step answers it,
--- and behind that those after the step; who lived lives, and nothing is queued to who did not
+-- the ASTs of each process before the step that lives behind it, and behind them what the step queues to it, are what
+-- the step answers it, and behind that those after the step; who does not live after it is answered none, and to who
+-- did not live before it none is queued, and it has none
 record IsAccountedStep (s t : State) (step : Step) (answer : Answer) (queued : List Queued) : Type 0 where
-  asts : (pid : ℕ) → asts_of s.processes pid ++ queued_to pid queued ≡ taken_in pid step answer ++ asts_of t.processes pid
-  there : (pid : ℕ) → lives s.processes pid ≡ true → lives t.processes pid ≡ true
+  living : (pid : ℕ) → lives s.processes pid ≡ true → lives t.processes pid ≡ true
+      → asts_of s.processes pid ++ queued_to pid queued ≡ taken_in pid step answer ++ asts_of t.processes pid
+  gone : (pid : ℕ) → lives t.processes pid ≡ false → taken_in pid step answer ≡ []
   others : (pid : ℕ) → lives s.processes pid ≡ false → queued_to pid queued ≡ []
+  untaken : (pid : ℕ) → lives s.processes pid ≡ false → taken_in pid step answer ≡ []
+  asts : (pid : ℕ) → lives s.processes pid ≡ false → asts_of t.processes pid ≡ []
+  gives : GivesAnew s t answer
 
 -- the same, but for the ASTs of those who lived
 record IsAccountedForOthers (s t : State) (step : Step) (answer : Answer) (queued : List Queued) : Type 0 where
-  there : (pid : ℕ) → lives s.processes pid ≡ true → lives t.processes pid ≡ true
+  gone : (pid : ℕ) → lives t.processes pid ≡ false → taken_in pid step answer ≡ []
   others : (pid : ℕ) → lives s.processes pid ≡ false → queued_to pid queued ≡ []
   untaken : (pid : ℕ) → lives s.processes pid ≡ false → taken_in pid step answer ≡ []
   asts : (pid : ℕ) → lives s.processes pid ≡ false → asts_of t.processes pid ≡ []
@@ -170,25 +112,25 @@ none_taken pid process processes none = of_test (process == pid) refl
         ap (λ (asts : List Ast). taken_in pid (Take process) (Taken (oldest asts))) (ap (asts_of processes) (eqb-true process pid same) ∙ none)
     of_test false other = of_oldest (oldest (asts_of processes process)) other
 
+-- what a change and its sweep queue to a process to which the change queues none, and which has no lock then
+change_queues_none : (pid : ℕ) (change : Stepped) → NoneOf pid change.queued change.state.resources
+    → queued_to pid (stepped_after_sweep change).queued ≡ []
+change_queues_none pid change none =
+    queued_to-append pid change.queued (sweep_asts change.state.resources)
+    ∙ ap (λ (asts : List Ast). asts ++ queued_to pid (sweep_asts change.state.resources)) none.queued
+    ∙ none_swept pid change.state.resources none.locks
+
 -- a change that keeps the identifications, and its sweep
 swept_for_others : (s : State) (step : Step) (change : Stepped) → map named change.state.processes ≡ map named s.processes
     → ((pid : ℕ) → lives s.processes pid ≡ false → NoneOf pid change.queued change.state.resources)
     → ((pid : ℕ) → lives s.processes pid ≡ false → taken_in pid step change.answer ≡ [])
     → IsAccountedForOthers s (stepped_after_sweep change).state step change.answer (stepped_after_sweep change).queued
 swept_for_others s step change same none untaken = record {
-  there = λ pid is. still pid ∙ is;
-  others = λ pid out.
-      queued_to-append pid change.queued (sweep_asts change.state.resources)
-      ∙ ap (λ (asts : List Ast). asts ++ queued_to pid (sweep_asts change.state.resources)) (none pid out).queued
-      ∙ none_swept pid change.state.resources (none pid out).locks;
+  gone = λ pid out. untaken pid (sym (swept_still s change same pid) ∙ out);
+  others = λ pid out. change_queues_none pid change (none pid out);
   untaken = untaken;
-  asts = λ pid out. no_asts (stepped_after_sweep change).state.processes pid (still pid ∙ out);
+  asts = λ pid out. no_asts (stepped_after_sweep change).state.processes pid (swept_still s change same pid ∙ out);
 }
-  where
-    still : (pid : ℕ) → lives (stepped_after_sweep change).state.processes pid ≡ lives s.processes pid
-    still pid =
-        lives_still s.processes (stepped_after_sweep change).state.processes
-        (kept_swept named (λ _ _ _. refl) change.state.processes change.state.resources ∙ same) pid
 
 -- a declaration
 declared_for_others : (s : State) (d : Declaration) (choice : Option Row)
@@ -197,17 +139,12 @@ declared_for_others : (s : State) (d : Declaration) (choice : Option Row)
     (stepped_after_sweep (step_change s (Declare d) choice)).queued
 unfolding declare_change
 declared_for_others s d choice none = record {
-  there = λ pid is. still pid ∙ more_live s.processes (declared_process s d) pid is;
+  gone = λ pid out. refl;
   others = λ pid out. none_swept pid s.resources (none pid out);
   untaken = λ pid out. refl;
   asts = λ pid out. of_lives pid out (lives (s.processes ++ declared_process s d ∷ []) pid) refl;
 }
   where
-    still : (pid : ℕ) → lives (processes_after_service (s.processes ++ declared_process s d ∷ []) s.resources) pid ≡ lives (s.processes ++ declared_process s d ∷ []) pid
-    still pid =
-        lives_still (s.processes ++ declared_process s d ∷ []) (processes_after_service (s.processes ++ declared_process s d ∷ []) s.resources)
-        (kept_swept named (λ _ _ _. refl) (s.processes ++ declared_process s d ∷ []) s.resources) pid
-
     of_lives : (pid : ℕ) → lives s.processes pid ≡ false → (b : Bool) → lives (s.processes ++ declared_process s d ∷ []) pid ≡ b
         → asts_of (processes_after_service (s.processes ++ declared_process s d ∷ []) s.resources) pid ≡ []
     of_lives pid out true is =
@@ -215,7 +152,28 @@ declared_for_others s d choice none = record {
         ∙ ap (λ (asts : List Ast). asts ++ queued_to pid (sweep_asts s.resources)) (new_has_none s.processes (declared_process s d) pid refl out)
         ∙ none_swept pid s.resources (none pid out)
     of_lives pid out false none_there =
-        no_asts (processes_after_service (s.processes ++ declared_process s d ∷ []) s.resources) pid (still pid ∙ none_there)
+        no_asts (processes_after_service (s.processes ++ declared_process s d ∷ []) s.resources) pid
+        (swept_living (s.processes ++ declared_process s d ∷ []) s.resources pid ∙ none_there)
+
+-- the end of processes
+ended_for_others : (s : State) (step : Step) (is_one : ℕ → Bool) (nodes : List Node)
+    → ((pid : ℕ) → lives s.processes pid ≡ false → owning pid s.resources ≡ 0)
+    → ((pid : ℕ) → taken_in pid step (Plain Normal) ≡ [])
+    → IsAccountedForOthers s (stepped_after_sweep (end_of_processes is_one nodes s)).state step (Plain Normal)
+    (stepped_after_sweep (end_of_processes is_one nodes s)).queued
+ended_for_others s step is_one nodes none untaken = record {
+  gone = λ pid out. untaken pid;
+  others = λ pid out. change_queues_none pid (end_of_processes is_one nodes s) (none_ended s is_one nodes pid (none pid out));
+  untaken = λ pid out. untaken pid;
+  asts = λ pid out. no_asts after pid (of_lives pid out (lives after pid) refl);
+}
+  where
+    after : List Process
+    after = (stepped_after_sweep (end_of_processes is_one nodes s)).state.processes
+
+    of_lives : (pid : ℕ) → lives s.processes pid ≡ false → (b : Bool) → lives after pid ≡ b → lives after pid ≡ false
+    of_lives pid out true is = no (sym (lived_before is_one nodes s pid is) ∙ out)
+    of_lives pid out false is = is
 
 -- a step that no check refuses
 made_for_others : (s : State) (step : Step) (choice : Option Row) → ((pid : ℕ) → lives s.processes pid ≡ false → owning pid s.resources ≡ 0)
@@ -240,8 +198,9 @@ made_for_others s (Convert c) choice none passed =
 made_for_others s (Deq d) choice none passed =
     swept_for_others s (Deq d) (step_change s (Deq d) choice) (kept_ended named (λ _ _ _. refl) (deq_endings s d) (blocks_with new_value_block s.processes))
     (λ pid out. none_dequeued s d pid (none pid out)) (λ pid out. refl)
-made_for_others s (Rundown pid) choice none passed = cc
-made_for_others s (Leave node) choice none passed = cc
+made_for_others s (Rundown process) choice none passed = ended_for_others s (Rundown process) (is_ended_by process) s.nodes none (λ pid. refl)
+made_for_others s (Leave node) choice none passed =
+    ended_for_others s (Leave node) (is_of_node node) (nodes_after_departure s.nodes node) none (λ pid. refl)
 made_for_others s (Search node) choice none passed = cc
 made_for_others s (Take process) choice none passed =
     swept_for_others s (Take process) (step_change s (Take process) choice) (kept_taken named (λ _ _. refl) process s.processes)
@@ -255,7 +214,7 @@ step_for_others : (s : State) (step : Step) (choice : Option Row) → ((pid : �
     (refused_or refusal s (step_change s step choice)).queued
 step_for_others s step choice none None passed = made_for_others s step choice none passed
 step_for_others s step choice none (Some refusal) is = record {
-  there = λ pid is. is;
+  gone = λ pid out. none_refused pid step refusal;
   others = λ pid out. refl;
   untaken = λ pid out. none_refused pid step refusal;
   asts = λ pid out. no_asts s.processes pid out;
@@ -265,36 +224,34 @@ step_for_others s step choice none (Some refusal) is = record {
 all_accounted : (s t : State) (step : Step) (answer : Answer) (queued : List Queued)
     → ((pid : ℕ) (before after : Process) → process_of s.processes pid ≡ Some before → process_of t.processes pid ≡ Some after
     → AstsAfter step answer queued pid before.asts after.asts)
-    → IsAccountedForOthers s t step answer queued → IsAccountedStep s t step answer queued
-all_accounted s t step answer queued in_order out = record {
-  asts = λ pid. of_lives pid (lives s.processes pid) refl;
-  there = out.there;
+    → IsAccountedForOthers s t step answer queued → GivesAnew s t answer → IsAccountedStep s t step answer queued
+all_accounted s t step answer queued in_order out gives = record {
+  living = λ pid lived living.
+      let before = who (process_of s.processes pid) lived in
+      let after = who (process_of t.processes pid) living in
+      let order : AstsAfter step answer queued pid before.0.asts after.0.asts = in_order pid before.0 after.0 before.1 after.1 in
+      ap (λ (asts : List Ast). asts ++ queued_to pid queued)
+      (asts_are s.processes pid before.0 before.1 ∙ taken_and_left step answer pid before.0.asts order.left order.taken)
+      ∙ append_assoc (taken_in pid step answer) order.left (queued_to pid queued)
+      ∙ ap (λ (asts : List Ast). taken_in pid step answer ++ asts) (sym order.behind ∙ sym (asts_are t.processes pid after.0 after.1));
+  gone = out.gone;
   others = out.others;
+  untaken = out.untaken;
+  asts = out.asts;
+  gives = gives;
 }
-  where
-    of_lives : (pid : ℕ) (b : Bool) → lives s.processes pid ≡ b
-        → asts_of s.processes pid ++ queued_to pid queued ≡ taken_in pid step answer ++ asts_of t.processes pid
-    of_lives pid true is =
-        let before = who (process_of s.processes pid) is in
-        let after = who (process_of t.processes pid) (out.there pid is) in
-        let order : AstsAfter step answer queued pid before.0.asts after.0.asts = in_order pid before.0 after.0 before.1 after.1 in
-        ap (λ (asts : List Ast). asts ++ queued_to pid queued)
-        (asts_are s.processes pid before.0 before.1 ∙ taken_and_left step answer pid before.0.asts order.left order.taken)
-        ∙ append_assoc (taken_in pid step answer) order.left (queued_to pid queued)
-        ∙ ap (λ (asts : List Ast). taken_in pid step answer ++ asts) (sym order.behind ∙ sym (asts_are t.processes pid after.0 after.1))
-    of_lives pid false is =
-        ap (λ (asts : List Ast). asts ++ queued_to pid queued) (no_asts s.processes pid is)
-        ∙ out.others pid is
-        ∙ sym (ap (λ (asts : List Ast). asts ++ asts_of t.processes pid) (out.untaken pid is) ∙ out.asts pid is)
 
 -- where nothing is changed and nothing is queued, all is accounted for
 unchanged_accounted : (s : State) (step : Step) (refusal : Cond) → IsAccountedStep s s step (Plain refusal) []
 unchanged_accounted s step refusal = record {
-  asts = λ pid.
+  living = λ pid lived living.
       append-nil (asts_of s.processes pid)
       ∙ ap (λ (asts : List Ast). asts ++ asts_of s.processes pid) (sym (none_refused pid step refusal));
-  there = λ pid is. is;
+  gone = λ pid out. none_refused pid step refusal;
   others = λ pid out. refl;
+  untaken = λ pid out. none_refused pid step refusal;
+  asts = λ pid out. no_asts s.processes pid out;
+  gives = none_given_refused s refusal;
 }
 
 -- that takes answer in the order of queueing, after every run
@@ -302,6 +259,12 @@ abbrev pub TakesInOrder : Type 0
 TakesInOrder =
     (history : History) (old : State) → Run history old → (step : Step) (choice : Option Row)
     → IsChoice old step choice → AstsAreTakenInOrder old step choice
+
+-- after every run a step is accounted for, but for the ASTs of those who lived
+others_accounted : (history : History) (old : State) → Run history old → (step : Step) (choice : Option Row)
+    → IsAccountedForOthers old (stepped old step choice).state step (stepped old step choice).answer (stepped old step choice).queued
+others_accounted history old run step choice =
+    step_for_others old step choice (λ pid out. none_owned history old run pid (no_quota old.processes pid out)) (step_refusal old step) refl
 
 -- an outcome
 outcome_accounted : TakesInOrder → (history : History) (old new : State) (step : Step) (answer : Answer) → Run history old
@@ -311,7 +274,8 @@ outcome_accounted in_order history old new step answer run (inl made) =
     subst (λ (t : State). IsAccountedStep old t step answer X.queued) (sym made.state)
     (subst (λ (a : Answer). IsAccountedStep old X.state step a X.queued) (sym made.answered)
     (all_accounted old X.state step X.answer X.queued (in_order history old run step made.choice made.chosen).asts
-    (step_for_others old step made.choice (λ pid out. none_owned history old run pid (no_quota old.processes pid out)) (step_refusal old step) refl)))
+    (others_accounted history old run step made.choice)
+    (step_gives old step made.choice (given_always history old run) (step_refusal old step) refl)))
 outcome_accounted in_order history old new step answer run (inr short) =
     subst (λ (t : State). IsAccountedStep old t step answer []) (sym short.state)
     (subst (λ (a : Answer). IsAccountedStep old old step a []) (sym short.answered) (unchanged_accounted old step Insfmem))
@@ -328,36 +292,142 @@ taken_more pid (x ∷ steps) (a ∷ answers) step answer long =
     ap (λ (asts : List Ast). taken_in pid x a ++ asts) (taken_more pid steps answers step answer (omega (arith, long)))
     ∙ sym (append_assoc (taken_in pid x a) (taken_by pid steps answers) (taken_in pid step answer))
 
+-- the answer is of no declaration that gives this identification
+abbrev IsOfAnother : ℕ → Answer → Type 0
+IsOfAnother pid answer = answer ≢ process_answer pid
+
+-- the answer gives no identification but one that is given
+abbrev AnswersGiven : List Node → Answer → Type 0
+AnswersGiven nodes answer = (pid : ℕ) → answer ≡ process_answer pid → IsGiven nodes pid
+
+-- to a process that was never declared nothing was queued, it took nothing, and it does not live
+record HasNothing (pid : ℕ) (history : History) (s : State) : Type 0 where
+  queued : queued_to pid history.queued ≡ []
+  taken : taken_by pid history.steps history.answers ≡ []
+  out : lives s.processes pid ≡ false
+
 -- all that happened is accounted for
 record IsAccounted (history : History) (s : State) : Type 0 where
   long : length history.answers ≡ length history.steps
-  asts : (pid : ℕ) → queued_to pid history.queued ≡ taken_by pid history.steps history.answers ++ asts_of s.processes pid
-  others : (pid : ℕ) → lives s.processes pid ≡ false → queued_to pid history.queued ≡ []
+  given : AllByRecursion (AnswersGiven s.nodes) history.answers
+  living : (pid : ℕ) → lives s.processes pid ≡ true
+      → queued_to pid history.queued ≡ taken_by pid history.steps history.answers ++ asts_of s.processes pid
+  ended : (pid : ℕ) → lives s.processes pid ≡ false
+      → IsTakenButFor (queued_to pid history.queued) (taken_by pid history.steps history.answers)
+  undeclared : (pid : ℕ) → AllByRecursion (IsOfAnother pid) history.answers → HasNothing pid history s
 
-more_accounted : (history : History) (s t : State) (step : Step) (answer : Answer) (endings : List Ending) (queued : List Queued)
-    → IsAccounted history s → IsAccountedStep s t step answer queued → IsAccounted (history_after history step answer endings queued) t
-more_accounted history s t step answer endings queued all one = record {
-  long = omega (arith, all.long, length-append history.answers (answer ∷ []), length-append history.steps (step ∷ []));
-  asts = λ pid.
-      let taken : List Ast = taken_by pid history.steps history.answers in
+-- a part of what holds of each of two lists
+each_first : {X : Type 0} (P : X → Type 0) (xs ys : List X) → AllByRecursion P (xs ++ ys) → AllByRecursion P xs
+each_first P [] ys each = tt
+each_first P (x ∷ xs) ys each = (each.0, each_first P xs ys each.1)
+
+-- one step more, with what it queues
+module _ (history : History) (s t : State) (step : Step) (answer : Answer) (endings : List Ending) (queued : List Queued)
+    (all : IsAccounted history s) (one : IsAccountedStep s t step answer queued) where
+  abbrev after : History
+  after = history_after history step answer endings queued
+
+  abbrev before : List Ast → ℕ → List Ast
+  before asts pid = taken_by pid history.steps history.answers ++ asts
+
+  -- what was queued to a process of which this is what was not taken before
+  queued_more : (pid : ℕ) (left : List Ast) → queued_to pid history.queued ≡ before left pid
+      → queued_to pid after.queued ≡ before (left ++ queued_to pid queued) pid
+  queued_more pid left is =
       queued_to-append pid history.queued queued
-      ∙ ap (λ (asts : List Ast). asts ++ queued_to pid queued) (all.asts pid)
-      ∙ append_assoc taken (asts_of s.processes pid) (queued_to pid queued)
-      ∙ ap (λ (asts : List Ast). taken ++ asts) (one.asts pid)
-      ∙ sym (append_assoc taken (taken_in pid step answer) (asts_of t.processes pid))
-      ∙ ap (λ (asts : List Ast). asts ++ asts_of t.processes pid) (sym (taken_more pid history.steps history.answers step answer all.long));
-  others = λ pid out.
-      let before : lives s.processes pid ≡ false = of_lives pid out (lives s.processes pid) refl in
-      queued_to-append pid history.queued queued
-      ∙ ap (λ (asts : List Ast). asts ++ queued_to pid queued) (all.others pid before) ∙ one.others pid before;
-}
-  where
-    of_lives : (pid : ℕ) → lives t.processes pid ≡ false → (b : Bool) → lives s.processes pid ≡ b → lives s.processes pid ≡ false
-    of_lives pid out true is = no (sym (one.there pid is) ∙ out)
-    of_lives pid out false is = is
+      ∙ ap (λ (asts : List Ast). asts ++ queued_to pid queued) is
+      ∙ append_assoc (taken_by pid history.steps history.answers) left (queued_to pid queued)
+
+  -- and what it has taken
+  taken_with : (pid : ℕ) (left : List Ast)
+      → before (taken_in pid step answer ++ left) pid ≡ taken_by pid after.steps after.answers ++ left
+  taken_with pid left =
+      sym (append_assoc (taken_by pid history.steps history.answers) (taken_in pid step answer) left)
+      ∙ ap (λ (asts : List Ast). asts ++ left) (sym (taken_more pid history.steps history.answers step answer all.long))
+
+  -- a process that lived before
+  lived_on : (pid : ℕ) → lives s.processes pid ≡ true → lives t.processes pid ≡ true
+      → queued_to pid after.queued ≡ taken_by pid after.steps after.answers ++ asts_of t.processes pid
+  lived_on pid lived is =
+      queued_more pid (asts_of s.processes pid) (all.living pid lived)
+      ∙ ap (λ (asts : List Ast). before asts pid) (one.living pid lived is)
+      ∙ taken_with pid (asts_of t.processes pid)
+
+  -- a process that was never declared, not by this step either, or whom this step declares
+  nothing_yet : (pid : ℕ) → HasNothing pid history s
+      → (queued_to pid after.queued ≡ []) × (taken_by pid after.steps after.answers ≡ [])
+  nothing_yet pid none = (
+    queued_to-append pid history.queued queued
+        ∙ ap (λ (asts : List Ast). asts ++ queued_to pid queued) none.queued ∙ one.others pid none.out,
+    taken_more pid history.steps history.answers step answer all.long
+        ∙ ap (λ (asts : List Ast). asts ++ taken_in pid step answer) none.taken ∙ one.untaken pid none.out,
+  )
+
+  -- a process that did not live before
+  declared_now : (pid : ℕ) → lives s.processes pid ≡ false → lives t.processes pid ≡ true
+      → queued_to pid after.queued ≡ taken_by pid after.steps after.answers ++ asts_of t.processes pid
+  declared_now pid out is =
+      let fresh : IsGiven s.nodes pid → ⊥ = (one.gives.new pid out is).1 in
+      let none : HasNothing pid history s =
+      all.undeclared pid (each_weaker (AnswersGiven s.nodes) (IsOfAnother pid) (λ a given same. fresh (given pid same)) history.answers all.given) in
+      let nothing = nothing_yet pid none in
+      nothing.0 ∙ sym (ap (λ (asts : List Ast). asts ++ asts_of t.processes pid) nothing.1 ∙ one.asts pid out)
+
+  -- a process that does not live any more, or still not
+  gone_with : (pid : ℕ) → lives t.processes pid ≡ false → (left : List Ast) → queued_to pid history.queued ≡ before left pid
+      → IsTakenButFor (queued_to pid after.queued) (taken_by pid after.steps after.answers)
+  gone_with pid out left is = record {
+    lost = left ++ queued_to pid queued;
+    all =
+        queued_more pid left is
+        ∙ ap (λ (asts : List Ast). before (asts ++ (left ++ queued_to pid queued)) pid) (sym (one.gone pid out))
+        ∙ taken_with pid (left ++ queued_to pid queued);
+  }
+
+  more_accounted : IsAccounted after t
+  more_accounted = record {
+    long = omega (arith, all.long, length-append history.answers (answer ∷ []), length-append history.steps (step ∷ []));
+    given =
+        each_append (AnswersGiven t.nodes) history.answers (answer ∷ [])
+        (each_weaker (AnswersGiven s.nodes) (AnswersGiven t.nodes) (λ a given pid same. one.gives.kept pid (given pid same)) history.answers all.given)
+        (one.gives.given, tt);
+    living = λ pid is. of_lived pid is (lives s.processes pid) refl;
+    ended = λ pid out. of_lives pid out (lives s.processes pid) refl;
+    undeclared = λ pid never.
+        let none : HasNothing pid history s = all.undeclared pid (each_first (IsOfAnother pid) history.answers (answer ∷ []) never) in
+        let nothing = nothing_yet pid none in
+        record {
+          queued = nothing.0;
+          taken = nothing.1;
+          out = still_out pid none.out (each_at (IsOfAnother pid) history.answers answer [] never) (lives t.processes pid) refl;
+        };
+  }
+    where
+      of_lived : (pid : ℕ) → lives t.processes pid ≡ true → (b : Bool) → lives s.processes pid ≡ b
+          → queued_to pid after.queued ≡ taken_by pid after.steps after.answers ++ asts_of t.processes pid
+      of_lived pid is true lived = lived_on pid lived is
+      of_lived pid is false out = declared_now pid out is
+
+      of_lives : (pid : ℕ) → lives t.processes pid ≡ false → (b : Bool) → lives s.processes pid ≡ b
+          → IsTakenButFor (queued_to pid after.queued) (taken_by pid after.steps after.answers)
+      of_lives pid out true lived = gone_with pid out (asts_of s.processes pid) (all.living pid lived)
+      of_lives pid out false before_out =
+          let some : IsTakenButFor (queued_to pid history.queued) (taken_by pid history.steps history.answers) = all.ended pid before_out in
+          gone_with pid out some.lost some.all
+
+      still_out : (pid : ℕ) → lives s.processes pid ≡ false → IsOfAnother pid answer → (b : Bool) → lives t.processes pid ≡ b
+          → lives t.processes pid ≡ false
+      still_out pid out other true is = absurd (other (one.gives.new pid out is).0)
+      still_out pid out other false is = is
 
 accounted_always : TakesInOrder → (history : History) (last : State) → Run history last → IsAccounted history last
-accounted_always in_order _ _ begin = record { long = refl; asts = λ pid. refl; others = λ pid out. refl }
+accounted_always in_order _ _ begin = record {
+  long = refl;
+  given = tt;
+  living = λ pid is. refl;
+  ended = λ pid out. record { lost = []; all = refl };
+  undeclared = λ pid never. record { queued = refl; taken = refl; out = refl };
+}
 accounted_always in_order _ last (next {history} {old} {new} {step} {answer} run outcome) =
     more_accounted history old new step answer (outcome_endings outcome) (outcome_queued outcome)
     (accounted_always in_order history old run) (outcome_accounted in_order history old new step answer run outcome)
@@ -368,6 +438,10 @@ taken_or_pending_always in_order history last run =
     let all : IsAccounted history last = accounted_always in_order history last run in
     record {
       living = λ pid p is.
-          all.asts pid ∙ ap (λ (asts : List Ast). taken_by pid history.steps history.answers ++ asts) (asts_are last.processes pid p is);
-      others = λ pid out. all.others pid (ap (λ (o : Option Process). is_some o) out);
+          all.living pid (ap (λ (o : Option Process). is_some o) is)
+          ∙ ap (λ (asts : List Ast). taken_by pid history.steps history.answers ++ asts) (asts_are last.processes pid p is);
+      ended = λ pid out. all.ended pid (ap (λ (o : Option Process). is_some o) out);
+      no_more = λ pid out step choice chosen.
+          (others_accounted history last run step choice).others pid (ap (λ (o : Option Process). is_some o) out);
+      undeclared = λ pid never. (all.undeclared pid (recursion_from_All (IsOfAnother pid) history.answers never)).queued;
     }

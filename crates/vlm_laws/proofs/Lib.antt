@@ -1,5 +1,6 @@
 pub mod Completing
 pub mod Strangers
+pub mod Living
 pub mod Accounting
 pub mod Falling
 pub mod Raising

@@ -15,7 +15,7 @@ use Rattle.vlm_words.specs.declared.steps.Dequeue.{Dequeue}
 use Rattle.vlm_words.specs.declared.steps.NewRequest.{NewRequest}
 use Rattle.vlm_words.specs.declared.steps.Step.TheVariants.{Declare, SetValue, Enq, Convert, Deq, Rundown, Leave, Search, Take}
 use Rattle.vlm_words.specs.declared.steps.Step.{Step}
-use Rattle.vlm_words.specs.State.{Resource, State}
+use Rattle.vlm_words.specs.State.{Node, Resource, State}
 use Rattle.vlm_words.specs.Effects.{with_value_block}
 use Rattle.vlm_words.specs.Grants.{grant_endings, granted_row, resource_after_grant}
 use Rattle.vlm_words.specs.Sweeps.{sweep_asts}
@@ -27,9 +27,10 @@ use Rattle.vlm_words.specs.Trees.{enq_site}
 use Rattle.vlm_words.specs.Enqueue.{enq_at_once, enq_change, enq_endings, enq_row}
 use Rattle.vlm_words.specs.Convert.{ConversionAdmission, admission_among, admission_or, conversion_endings, convert_admission, convert_blocks, convert_change, convert_lkid, convert_request, converts_at_once, resource_after_conversion, resource_after_conversion_of, resource_without_granted, wanting_row}
 use Rattle.vlm_words.specs.Dequeue.{deq_change, deq_endings, withdrawals_of}
+use Rattle.vlm_words.specs.Rundown.{is_ended_by, is_of_node, nodes_after_departure, rundown_endings, rundowns, state_after_rundown}
 use Rattle.vlm_words.specs.Dues.{due, due_to, one_where, routines_named, routines_of}
 use Rattle.vlm_words.specs.Taking.{AstsAfter, queued_to}
-use Rattle.vlm_words.specs.Stepped.{IsChoice, Outcome, Stepped, conversion_change, outcome_queued, refused_or, step_change, step_refusal, stepped, stepped_after_sweep}
+use Rattle.vlm_words.specs.Stepped.{IsChoice, Outcome, Stepped, conversion_change, end_of_processes, outcome_queued, refused_or, step_change, step_refusal, stepped, stepped_after_sweep}
 use Rattle.vlm_words.specs.Runs.{History, Run, begin, next}
 use Rattle.vlm_words.proofs.Admissions.{admitted_request, some_same}
 use Rattle.vlm_words.proofs.Always.{admission_of}
@@ -38,7 +39,7 @@ use Rattle.vlm_words.proofs.Counts.{found_stands}
 use Rattle.vlm_words.proofs.Each.{Found, found_at}
 use Rattle.vlm_words.proofs.Sums.{sum_filter_but-le}
 use Rattle.vlm_words.proofs.Weights.{weigh}
-use Rattle.vlm_words.proofs.Together.{dequeues_apart}
+use Rattle.vlm_words.proofs.Together.{dequeues_apart, rundowns_apart}
 use Rattle.vlm_laws.specs.Accounting.{taken_in}
 use Rattle.vlm_laws.specs.Raising.{NoMoreIsQueuedThanNamed, OnlyOwnRequestsRaiseDues, routines_asked, routines_named_in}
 use Rattle.vlm_laws.proofs.Accounting.{TakesInOrder, taken_and_left}
@@ -208,6 +209,16 @@ dequeue_as_asked s d choice pid =
       withdrawals_fall pid (withdrawals_of s d) (dequeues_apart s d) s.resources,
     )
 
+-- the end of processes
+end_as_asked : (s : State) (step : Step) (is_one : ℕ → Bool) (nodes : List Node) → RisesAsAsked s step (end_of_processes is_one nodes s)
+unfolding state_after_rundown
+end_as_asked s step is_one nodes pid =
+    omega (
+      arith,
+      calls_many pid (rundown_endings is_one s),
+      withdrawals_fall pid (rundowns is_one s) (rundowns_apart is_one s) s.resources,
+    )
+
 -- a step that no check refuses
 made_as_asked : (s : State) (step : Step) (choice : Option Row) → Apart s → step_refusal s step ≡ None → RisesAsAsked s step (stepped_after_sweep (step_change s step choice))
 unfolding declare_change set_change take_change
@@ -219,8 +230,11 @@ made_as_asked s (Convert c) choice apart passed =
     subst (λ (a : Option ConversionAdmission). RisesAsAsked s (Convert c) (stepped_after_sweep (conversion_change s c a))) (sym admitted.1)
     (swept_as_asked s (Convert c) (conversion_change s c (Some admitted.0)) (conversion_as_asked s c admitted.0 apart admitted.1))
 made_as_asked s (Deq d) choice apart passed = swept_as_asked s (Deq d) (step_change s (Deq d) choice) (dequeue_as_asked s d choice)
-made_as_asked s (Rundown process) choice apart passed = cc
-made_as_asked s (Leave node) choice apart passed = cc
+made_as_asked s (Rundown process) choice apart passed =
+    swept_as_asked s (Rundown process) (step_change s (Rundown process) choice) (end_as_asked s (Rundown process) (is_ended_by process) s.nodes)
+made_as_asked s (Leave node) choice apart passed =
+    swept_as_asked s (Leave node) (step_change s (Leave node) choice)
+    (end_as_asked s (Leave node) (is_of_node node) (nodes_after_departure s.nodes node))
 made_as_asked s (Search node) choice apart passed = cc
 made_as_asked s (Take process) choice apart passed = swept_as_asked s (Take process) (step_change s (Take process) choice) (λ pid. omega arith)
 

@@ -11,7 +11,7 @@ use Rattle.vlm_words.specs.declared.locks.Row.{Row}
 use Rattle.vlm_words.specs.declared.steps.Conversion.{Conversion}
 use Rattle.vlm_words.specs.declared.steps.Dequeue.{Dequeue}
 use Rattle.vlm_words.specs.declared.steps.NewRequest.{NewRequest}
-use Rattle.vlm_words.specs.State.{Resource, State}
+use Rattle.vlm_words.specs.State.{Node, Resource, State}
 use Rattle.vlm_words.specs.Endings.{Ending, How, is_told, row_endings, wanted_endings}
 use Rattle.vlm_words.specs.Endings.How.{by_grant}
 use Rattle.vlm_words.specs.Asts.{Queued, asts_for, blocking_asts, completion_asts, completions, completions_of, is_synchronous, is_to_warn, row_warnings, warnings}
@@ -24,6 +24,7 @@ use Rattle.vlm_words.specs.Enqueue.{enq_at_once, enq_change, enq_endings, enq_re
 use Rattle.vlm_words.specs.Convert.{ConversionAdmission, admission_among, admission_or, conversion_endings, convert_admission, convert_blocks, convert_change, convert_lkid, convert_request, converts_at_once, resource_after_conversion, wanting_row}
 use Rattle.vlm_words.specs.Withdrawals.{Withdrawal, queue_endings, resource_after_withdrawals, withdrawal_endings, withdrawn_endings}
 use Rattle.vlm_words.specs.Dequeue.{deq_change, deq_endings, withdrawals_of}
+use Rattle.vlm_words.specs.Rundown.{rundown_endings, rundowns, state_after_rundown}
 use Rattle.vlm_words.specs.Runs.{History, Run}
 use Rattle.vlm_words.specs.Taking.{queued_to}
 use Rattle.vlm_words.proofs.Admissions.{some_same}
@@ -312,6 +313,19 @@ none_dequeued s d pid none = record {
     arith,
     none,
     sum_changed-le (weigh (owned pid)) (resource_after_withdrawals (withdrawals_of s d)) (withdrawn_named (owned pid) (owned_named pid) (withdrawals_of s d)) s.resources,
+  );
+}
+
+-- the end of processes
+pub none_ended : (s : State) (is_one : ℕ → Bool) (nodes : List Node) (pid : ℕ) → owning pid s.resources ≡ 0
+    → NoneOf pid (completions_of (rundown_endings is_one s)) (state_after_rundown is_one nodes s).resources
+unfolding state_after_rundown
+none_ended s is_one nodes pid none = record {
+  queued = none_completes pid (rundown_endings is_one s) (none_end pid (rundowns is_one s) s.resources none);
+  locks = omega (
+    arith,
+    none,
+    sum_changed-le (weigh (owned pid)) (resource_after_withdrawals (rundowns is_one s)) (withdrawn_named (owned pid) (owned_named pid) (rundowns is_one s)) s.resources,
   );
 }
 

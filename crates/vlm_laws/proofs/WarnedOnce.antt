@@ -17,7 +17,7 @@ use Rattle.vlm_words.specs.declared.steps.Dequeue.{Dequeue}
 use Rattle.vlm_words.specs.declared.steps.NewRequest.{NewRequest}
 use Rattle.vlm_words.specs.declared.steps.Step.TheVariants.{Declare, SetValue, Enq, Convert, Deq, Rundown, Leave, Search, Take}
 use Rattle.vlm_words.specs.declared.steps.Step.{Step}
-use Rattle.vlm_words.specs.State.{Process, Resource, State}
+use Rattle.vlm_words.specs.State.{Node, Process, Resource, State}
 use Rattle.vlm_words.specs.Endings.{Ending}
 use Rattle.vlm_words.specs.Endings.How.{by_grant}
 use Rattle.vlm_words.specs.Asts.{Queued, asts_for, blocking_asts, completions_of, is_to_warn, resource_after_warning, row_after_warning, row_warnings, warnings}
@@ -34,7 +34,8 @@ use Rattle.vlm_words.specs.Enqueue.{enq_at_once, enq_change, enq_endings, enq_ro
 use Rattle.vlm_words.specs.Convert.{ConversionAdmission, admission_among, admission_or, conversion_endings, convert_admission, convert_blocks, convert_change, convert_lkid, convert_request, converts_at_once, resource_after_conversion, resource_after_conversion_of, resource_without_granted, wanting_row}
 use Rattle.vlm_words.specs.Withdrawals.{Withdrawal, is_held_by_writer, resource_after_cancel, resource_after_going, resource_after_withdrawals, resource_after_writer, resource_without, row_after_cancel, value_block_after_writer}
 use Rattle.vlm_words.specs.Dequeue.{deq_change, deq_endings, withdrawals_of}
-use Rattle.vlm_words.specs.Stepped.{Outcome, Stepped, conversion_change, outcome_endings, outcome_queued, refused_or, step_change, step_refusal, stepped_after_sweep}
+use Rattle.vlm_words.specs.Rundown.{is_ended_by, is_of_node, nodes_after_departure, rundown_endings, rundowns, state_after_rundown}
+use Rattle.vlm_words.specs.Stepped.{Outcome, Stepped, conversion_change, end_of_processes, outcome_endings, outcome_queued, refused_or, step_change, step_refusal, stepped_after_sweep}
 use Rattle.vlm_words.specs.Runs.{History, Run, begin, next}
 use Rattle.vlm_words.proofs.Admissions.{admitted_request, some_same}
 use Rattle.vlm_words.proofs.Always.{admission_of}
@@ -428,6 +429,16 @@ dequeue_given lkid s d choice =
       sum_changed-le (weigh (armed lkid)) (resource_after_withdrawals (withdrawals_of s d)) (withdrawn_armed lkid (withdrawals_of s d)) s.resources,
     )
 
+-- the end of processes
+end_given : (lkid : ℕ) (s : State) (is_one : ℕ → Bool) (nodes : List Node) → IsWithinGiven lkid s (end_of_processes is_one nodes s)
+unfolding state_after_rundown
+end_given lkid s is_one nodes =
+    omega (
+      arith,
+      all_complete lkid (rundown_endings is_one s),
+      sum_changed-le (weigh (armed lkid)) (resource_after_withdrawals (rundowns is_one s)) (withdrawn_armed lkid (rundowns is_one s)) s.resources,
+    )
+
 -- a step that no check refuses
 made_given : (lkid : ℕ) (s : State) (step : Step) (choice : Option Row) → Apart s → step_refusal s step ≡ None
     → IsWithinGiven lkid s (stepped_after_sweep (step_change s step choice))
@@ -440,8 +451,10 @@ made_given lkid s (Convert c) choice apart passed =
     subst (λ (a : Option ConversionAdmission). IsWithinGiven lkid s (stepped_after_sweep (conversion_change s c a))) (sym admitted.1)
     (swept_given lkid s (conversion_change s c (Some admitted.0)) (conversion_given lkid s c admitted.0 apart admitted.1))
 made_given lkid s (Deq d) choice apart passed = swept_given lkid s (step_change s (Deq d) choice) (dequeue_given lkid s d choice)
-made_given lkid s (Rundown process) choice apart passed = cc
-made_given lkid s (Leave node) choice apart passed = cc
+made_given lkid s (Rundown process) choice apart passed =
+    swept_given lkid s (step_change s (Rundown process) choice) (end_given lkid s (is_ended_by process) s.nodes)
+made_given lkid s (Leave node) choice apart passed =
+    swept_given lkid s (step_change s (Leave node) choice) (end_given lkid s (is_of_node node) (nodes_after_departure s.nodes node))
 made_given lkid s (Search node) choice apart passed = cc
 made_given lkid s (Take process) choice apart passed = swept_given lkid s (step_change s (Take process) choice) (omega arith)
 

@@ -1,12 +1,14 @@
 -- What becomes of the ASTs that are queued.
-use Rattle.std.specs.Prelude.{◌≡◌, ◌==◌, ◌++◌, ℕ, List, [], ◌∷◌, None, Some, if◌then◌else◌}
+use Rattle.std.specs.Prelude.{◌≡◌, ◌≢◌, ◌==◌, ◌++◌, ℕ, List, [], ◌∷◌, All, Option, None, Some, if◌then◌else◌}
 use Rattle.vlm_words.specs.declared.asts.Ast.{Ast}
-use Rattle.vlm_words.specs.declared.steps.Answer.TheVariants.{Taken}
+use Rattle.vlm_words.specs.declared.locks.Row.{Row}
+use Rattle.vlm_words.specs.declared.steps.Answer.TheVariants.{Process as process_answer, Taken}
 use Rattle.vlm_words.specs.declared.steps.Answer.{Answer}
 use Rattle.vlm_words.specs.declared.steps.Step.TheVariants.{Take}
 use Rattle.vlm_words.specs.declared.steps.Step.{Step}
 use Rattle.vlm_words.specs.State.{Process, State, process_of}
 use Rattle.vlm_words.specs.Taking.{queued_to}
+use Rattle.vlm_words.specs.Stepped.{IsChoice, stepped}
 use Rattle.vlm_words.specs.Runs.{History}
 
 -- the AST that a step with this answer gives to the process: that which a take of the process answers
@@ -19,9 +21,25 @@ abbrev pub taken_by : ℕ → List Step → List Answer → List Ast
 taken_by pid (step ∷ steps) (answer ∷ answers) = taken_in pid step answer ++ taken_by pid steps answers
 taken_by pid steps answers = []
 
+-- no declaration was answered with this identification
+abbrev pub IsNeverDeclared : ℕ → List Answer → Type 0
+IsNeverDeclared pid answers = All (λ answer. answer ≢ process_answer pid) answers
+
+-- what was taken is a first part of what was queued, and these are the others, which are lost
+pub record IsTakenButFor (queued taken : List Ast) : Type 0 where
+  pub lost : List Ast
+  pub all : queued ≡ taken ++ lost
+
 -- the ASTs that were queued to a living process are those that it took, and behind them those that are pending, in
--- the order in which they were queued; none was queued to any other process
+-- the order in which they were queued; of those that were queued to a process that has ended it took the first, the
+-- others went with it, and no step queues it one more; none was queued to a process that was never declared
 pub record WhatIsQueuedIsTakenOrPending (history : History) (last : State) : Type 0 where
   pub living : (pid : ℕ) (p : Process) → process_of last.processes pid ≡ Some p
       → queued_to pid history.queued ≡ taken_by pid history.steps history.answers ++ p.asts
-  pub others : (pid : ℕ) → process_of last.processes pid ≡ None → queued_to pid history.queued ≡ []
+  pub ended : (pid : ℕ) → process_of last.processes pid ≡ None
+      → IsTakenButFor (queued_to pid history.queued) (taken_by pid history.steps history.answers)
+  pub no_more : (pid : ℕ) → process_of last.processes pid ≡ None
+      → (step : Step) (choice : Option Row) → IsChoice last step choice
+      → queued_to pid (stepped last step choice).queued ≡ []
+  pub undeclared : (pid : ℕ) → IsNeverDeclared pid history.answers
+      → queued_to pid history.queued ≡ []

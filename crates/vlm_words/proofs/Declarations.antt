@@ -65,7 +65,7 @@ swept_given : (s : State) → AllGiven s → AllGiven (state_after_sweep s)
 swept_given s given = same_given s (state_after_sweep s) refl (kept_swept (λ p. p.pid) (λ _ _ _. refl) s.processes s.resources) given
 
 -- where one node has declared more, no node has declared less
-none_less : (nodes : List Node) (place at : ℕ) (node : Node) → (get_or nodes place new_node).declared ≤ node.declared
+pub none_less : (nodes : List Node) (place at : ℕ) (node : Node) → (get_or nodes place new_node).declared ≤ node.declared
     → (get_or nodes at new_node).declared ≤ (get_or (set nodes place node) at new_node).declared
 none_less [] place at node more = omega arith
 none_less (x ∷ xs) zero zero node more = more
@@ -80,7 +80,7 @@ pub record HasOrdinal (s : State) (d : Declaration) : Type 0 where
   pub left : (node_at s.nodes d.node).declared < 65535
 
 -- where the checks of a declaration pass, its node has an ordinal left
-ordinal_left : (s : State) (d : Declaration) → declare_refusal s d ≡ None → HasOrdinal s d
+pub ordinal_left : (s : State) (d : Declaration) → declare_refusal s d ≡ None → HasOrdinal s d
 unfolding declare_refusal
 ordinal_left s d passed = of_tests (is_node d.node) (has_departed s.nodes d.node) (nat_lt (node_at s.nodes d.node).declared 65535) refl refl passed
   where
@@ -98,7 +98,7 @@ ordinal_left s d passed = of_tests (is_node d.node) (has_departed s.nodes d.node
     of_tests false departed left is_named is_left passed = cc
 
 -- the next ordinal of a node is not given yet
-next_is_new : (nodes : List Node) (node pid : ℕ) → (node_at nodes node).declared < 65535
+pub next_is_new : (nodes : List Node) (node pid : ℕ) → (node_at nodes node).declared < 65535
     → IsGiven nodes pid → pid ≢ node * 65536 + ((node_at nodes node).declared + 1)
 next_is_new nodes node pid left given is =
     let upper : pid / 65536 ≡ node = omega arith in
@@ -108,7 +108,7 @@ next_is_new nodes node pid left given is =
     omega arith
 
 -- after a declaration the new identification is given too
-declared_given : (s : State) (d : Declaration) → HasOrdinal s d → AllGiven s → AllGiven (declare_change s d)
+pub declared_given : (s : State) (d : Declaration) → HasOrdinal s d → AllGiven s → AllGiven (declare_change s d)
 unfolding declare_change
 declared_given s d has given =
     let node : Node = record (node_at s.nodes d.node) { declared = (node_at s.nodes d.node).declared + 1 } in
@@ -131,7 +131,7 @@ record DeclareAsMany (nodes after : List Node) : Type 0 where
   many : length after ≡ length nodes
   each : (node : ℕ) → (node_at after node).declared ≡ (node_at nodes node).declared
 
-same_declared : (nodes : List Node) (place at : ℕ)
+pub same_declared : (nodes : List Node) (place at : ℕ)
     → (get_or (set nodes place (record (get_or nodes place new_node) { departed = true })) at new_node).declared ≡ (get_or nodes at new_node).declared
 same_declared [] place at = refl
 same_declared (x ∷ xs) zero zero = refl
@@ -166,7 +166,7 @@ ended_given s is_one nodes same given = record {
 }
 
 -- after every run each living process has an identification that its node has given
-given_always : (history : History) (last : State)
+pub given_always : (history : History) (last : State)
     → Run history last → AllGiven last
 unfolding set_change take_change enq_change convert_change deq_change
 given_always =
