@@ -13,3 +13,4 @@ pub mod Siting
 pub mod Childless
 pub mod Wanting
 pub mod RunDown
+pub mod EndOfProcess
