@@ -1,4 +1,4 @@
--- What was queued was taken or is pending.
+-- What was queued was taken, is pending, or went with its process.
 use Rattle.std.proofs.Common.{◌≡◌, ◌≢◌, ◌++◌, ℕ, Bool, true, false, List, [], ◌∷◌, map, cond, length, length-append, Option, None, Some, inl, inr, append_assoc, refl, sym, subst, ap, ◌∙◌, arith}
 use Rattle.std.specs.Prelude.{◌==◌, is_some}
 use Rattle.std.specs.List.{AllByRecursion}
@@ -42,24 +42,21 @@ use Rattle.vlm_laws.proofs.Strangers.{NoneOf, none_converted, none_dequeued, non
 
 -- ---- what a step does
 
--- the ASTs of each process before the step that lives behind it, and behind them what the step queues to it, are what
--- the step answers it, and behind that those after the step; who does not live after it is answered none, and to who
--- did not live before it none is queued, and it has none
-record IsAccountedStep (s t : State) (step : Step) (answer : Answer) (queued : List Queued) : Type 0 where
-  living : (pid : ℕ) → lives s.processes pid ≡ true → lives t.processes pid ≡ true
-      → asts_of s.processes pid ++ queued_to pid queued ≡ taken_in pid step answer ++ asts_of t.processes pid
-  gone : (pid : ℕ) → lives t.processes pid ≡ false → taken_in pid step answer ≡ []
-  others : (pid : ℕ) → lives s.processes pid ≡ false → queued_to pid queued ≡ []
-  untaken : (pid : ℕ) → lives s.processes pid ≡ false → taken_in pid step answer ≡ []
-  asts : (pid : ℕ) → lives s.processes pid ≡ false → asts_of t.processes pid ≡ []
-  gives : GivesAnew s t answer
-
--- the same, but for the ASTs of those who lived
+-- who does not live after the step is answered no AST; to who did not live before it none is queued, and none is
+-- answered, and it has none after
 record IsAccountedForOthers (s t : State) (step : Step) (answer : Answer) (queued : List Queued) : Type 0 where
   gone : (pid : ℕ) → lives t.processes pid ≡ false → taken_in pid step answer ≡ []
   others : (pid : ℕ) → lives s.processes pid ≡ false → queued_to pid queued ≡ []
   untaken : (pid : ℕ) → lives s.processes pid ≡ false → taken_in pid step answer ≡ []
   asts : (pid : ℕ) → lives s.processes pid ≡ false → asts_of t.processes pid ≡ []
+
+-- and of each process that lives before the step and after it, the ASTs before, and behind them what the step queues
+-- to it, are what the step answers it, and behind that those after the step
+record IsAccountedStep (s t : State) (step : Step) (answer : Answer) (queued : List Queued) : Type 0 where
+  living : (pid : ℕ) → lives s.processes pid ≡ true → lives t.processes pid ≡ true
+      → asts_of s.processes pid ++ queued_to pid queued ≡ taken_in pid step answer ++ asts_of t.processes pid
+  rest : IsAccountedForOthers s t step answer queued
+  gives : GivesAnew s t answer
 
 -- what a step leaves, behind what it takes, is what was there
 pub taken_and_left : (step : Step) (answer : Answer) (pid : ℕ) (before left : List Ast) → AstsLeft step answer pid before left
@@ -207,18 +204,22 @@ made_for_others s (Take process) choice none passed =
     (λ pid out. record { queued = refl; locks = none pid out })
     (λ pid out. none_taken pid process s.processes (no_asts s.processes pid out))
 
+-- a step that changes nothing and queues nothing
+refused_for_others : (s : State) (step : Step) (refusal : Cond) → IsAccountedForOthers s s step (Plain refusal) []
+refused_for_others s step refusal = record {
+  gone = λ pid out. none_refused pid step refusal;
+  others = λ pid out. refl;
+  untaken = λ pid out. none_refused pid step refusal;
+  asts = λ pid out. no_asts s.processes pid out;
+}
+
 -- a step, with its refusal
 step_for_others : (s : State) (step : Step) (choice : Option Row) → ((pid : ℕ) → lives s.processes pid ≡ false → owning pid s.resources ≡ 0)
     → (refusal : Option Cond) → step_refusal s step ≡ refusal
     → IsAccountedForOthers s (refused_or refusal s (step_change s step choice)).state step (refused_or refusal s (step_change s step choice)).answer
     (refused_or refusal s (step_change s step choice)).queued
 step_for_others s step choice none None passed = made_for_others s step choice none passed
-step_for_others s step choice none (Some refusal) is = record {
-  gone = λ pid out. none_refused pid step refusal;
-  others = λ pid out. refl;
-  untaken = λ pid out. none_refused pid step refusal;
-  asts = λ pid out. no_asts s.processes pid out;
-}
+step_for_others s step choice none (Some refusal) is = refused_for_others s step refusal
 
 -- with the ASTs of those who lived, all is accounted for
 all_accounted : (s t : State) (step : Step) (answer : Answer) (queued : List Queued)
@@ -234,10 +235,7 @@ all_accounted s t step answer queued in_order out gives = record {
       (asts_are s.processes pid before.0 before.1 ∙ taken_and_left step answer pid before.0.asts order.left order.taken)
       ∙ append_assoc (taken_in pid step answer) order.left (queued_to pid queued)
       ∙ ap (λ (asts : List Ast). taken_in pid step answer ++ asts) (sym order.behind ∙ sym (asts_are t.processes pid after.0 after.1));
-  gone = out.gone;
-  others = out.others;
-  untaken = out.untaken;
-  asts = out.asts;
+  rest = out;
   gives = gives;
 }
 
@@ -247,10 +245,7 @@ unchanged_accounted s step refusal = record {
   living = λ pid lived living.
       append-nil (asts_of s.processes pid)
       ∙ ap (λ (asts : List Ast). asts ++ asts_of s.processes pid) (sym (none_refused pid step refusal));
-  gone = λ pid out. none_refused pid step refusal;
-  others = λ pid out. refl;
-  untaken = λ pid out. none_refused pid step refusal;
-  asts = λ pid out. no_asts s.processes pid out;
+  rest = refused_for_others s step refusal;
   gives = none_given_refused s refusal;
 }
 
@@ -316,7 +311,7 @@ record IsAccounted (history : History) (s : State) : Type 0 where
       → IsTakenButFor (queued_to pid history.queued) (taken_by pid history.steps history.answers)
   undeclared : (pid : ℕ) → AllByRecursion (IsOfAnother pid) history.answers → HasNothing pid history s
 
--- a part of what holds of each of two lists
+-- what holds of each of two lists, of the first
 each_first : {X : Type 0} (P : X → Type 0) (xs ys : List X) → AllByRecursion P (xs ++ ys) → AllByRecursion P xs
 each_first P [] ys each = tt
 each_first P (x ∷ xs) ys each = (each.0, each_first P xs ys each.1)
@@ -358,9 +353,9 @@ module _ (history : History) (s t : State) (step : Step) (answer : Answer) (endi
       → (queued_to pid after.queued ≡ []) × (taken_by pid after.steps after.answers ≡ [])
   nothing_yet pid none = (
     queued_to-append pid history.queued queued
-        ∙ ap (λ (asts : List Ast). asts ++ queued_to pid queued) none.queued ∙ one.others pid none.out,
+        ∙ ap (λ (asts : List Ast). asts ++ queued_to pid queued) none.queued ∙ one.rest.others pid none.out,
     taken_more pid history.steps history.answers step answer all.long
-        ∙ ap (λ (asts : List Ast). asts ++ taken_in pid step answer) none.taken ∙ one.untaken pid none.out,
+        ∙ ap (λ (asts : List Ast). asts ++ taken_in pid step answer) none.taken ∙ one.rest.untaken pid none.out,
   )
 
   -- a process that did not live before
@@ -371,7 +366,7 @@ module _ (history : History) (s t : State) (step : Step) (answer : Answer) (endi
       let none : HasNothing pid history s =
       all.undeclared pid (each_weaker (AnswersGiven s.nodes) (IsOfAnother pid) (λ a given same. fresh (given pid same)) history.answers all.given) in
       let nothing = nothing_yet pid none in
-      nothing.0 ∙ sym (ap (λ (asts : List Ast). asts ++ asts_of t.processes pid) nothing.1 ∙ one.asts pid out)
+      nothing.0 ∙ sym (ap (λ (asts : List Ast). asts ++ asts_of t.processes pid) nothing.1 ∙ one.rest.asts pid out)
 
   -- a process that does not live any more, or still not
   gone_with : (pid : ℕ) → lives t.processes pid ≡ false → (left : List Ast) → queued_to pid history.queued ≡ before left pid
@@ -380,7 +375,7 @@ module _ (history : History) (s t : State) (step : Step) (answer : Answer) (endi
     lost = left ++ queued_to pid queued;
     all =
         queued_more pid left is
-        ∙ ap (λ (asts : List Ast). before (asts ++ (left ++ queued_to pid queued)) pid) (sym (one.gone pid out))
+        ∙ ap (λ (asts : List Ast). before (asts ++ (left ++ queued_to pid queued)) pid) (sym (one.rest.gone pid out))
         ∙ taken_with pid (left ++ queued_to pid queued);
   }
 

@@ -16,9 +16,10 @@ ghost use Rattle.vlm_laws.specs.InTheWay.{WarnedLocksAreInTheWay};
 
 use vlm_words::laws::law_asts_are_taken_in_order;
 
-/// No AST is lost, and none comes from nowhere: what was queued to a living process, from the start of the run, is
-/// what its takes answered, and behind it what is pending, in the order of queueing. Nothing was queued to any other
-/// process.
+/// No AST is lost but with its process, and none comes from nowhere: what was queued to a living process, from the
+/// start of the run, is what its takes answered, and behind it what is pending, in the order of queueing. Of what was
+/// queued to a process that has ended its takes answered the first, and no step queues it any more. Nothing was queued
+/// to a process that was never declared.
 pub fn law_what_is_queued_is_taken_or_pending()
     ensures { (history : History) (last : State) → Run history last
         → WhatIsQueuedIsTakenOrPending history last }
