@@ -1,11 +1,12 @@
 -- Who lives, and that nobody lives twice: a declaration gives an identification that was never given before.
-use Rattle.std.proofs.Common.{◌≡◌, ◌++◌, ◌+◌, ◌-◌, ◌/◌, ℕ, Bool, true, false, List, [], ◌∷◌, map, cond, Option, None, Some, refl, sym, subst, ap, ◌∙◌, arith}
+use Rattle.std.proofs.Common.{◌≡◌, ◌≢◌, ◌++◌, ◌+◌, ◌-◌, ◌/◌, ℕ, Bool, true, false, List, [], ◌∷◌, map, cond, Option, None, Some, inl, inr, refl, sym, subst, ap, ◌∙◌, arith}
 use Rattle.std.specs.Prelude.{◌==◌, is_some}
 use Rattle.std.specs.List.{AllByRecursion}
 use Rattle.std.specs.Option.{option_map_or}
 use Rattle.std.proofs.lemmas.Bool.{eqb-true}
+use Rattle.std.proofs.lemmas.List.Elements.{All-from_recursion}
 use Rattle.vlm_words.specs.declared.conditions.Cond.{Cond}
-use Rattle.vlm_words.specs.declared.conditions.Cond.TheVariants.{Normal}
+use Rattle.vlm_words.specs.declared.conditions.Cond.TheVariants.{Insfmem, Normal}
 use Rattle.vlm_words.specs.declared.locks.Row.{Row}
 use Rattle.vlm_words.specs.declared.steps.Answer.TheVariants.{Process as process_answer, Plain}
 use Rattle.vlm_words.specs.declared.steps.Answer.{Answer}
@@ -24,9 +25,12 @@ use Rattle.vlm_words.specs.Enqueue.{enq_change}
 use Rattle.vlm_words.specs.Convert.{ConversionAdmission, convert_change}
 use Rattle.vlm_words.specs.Dequeue.{deq_change, deq_endings}
 use Rattle.vlm_words.specs.Rundown.{is_ended_by, is_of_node, nodes_after_departure, processes_but, state_after_rundown}
-use Rattle.vlm_words.specs.Stepped.{Stepped, conversion_change, end_of_processes, refused_or, step_change, step_refusal, stepped_after_sweep}
+use Rattle.vlm_words.specs.Stepped.{Outcome, Stepped, conversion_change, end_of_processes, refused_or, step_change, step_refusal, stepped, stepped_after_sweep}
+use Rattle.vlm_words.specs.Runs.{History, Run, begin, next}
+use Rattle.vlm_words.proofs.Each.{each_append, each_weaker}
+use Rattle.vlm_laws.specs.Anew.{GivesNoneTwice}
 use Rattle.vlm_words.proofs.Always.{admission_of}
-use Rattle.vlm_words.proofs.Declarations.{AllGiven, HasOrdinal, IsGiven, declared_given, next_is_new, none_less, ordinal_left, pids, same_declared}
+use Rattle.vlm_words.proofs.Declarations.{AllGiven, HasOrdinal, IsGiven, declared_given, given_always, next_is_new, none_less, ordinal_left, pids, same_declared}
 use Rattle.vlm_words.proofs.Ended.{found_still, is_left, same_living, swept_living}
 use Rattle.vlm_words.proofs.Processes.{kept_converted, kept_ended, kept_entered, kept_set, kept_taken}
 
@@ -111,6 +115,7 @@ lived_before is_one nodes s pid is =
 pub record GivesAnew (s t : State) (answer : Answer) : Type 0 where
   pub kept : (pid : ℕ) → IsGiven s.nodes pid → IsGiven t.nodes pid
   pub given : (pid : ℕ) → answer ≡ process_answer pid → IsGiven t.nodes pid
+  pub anew : (pid : ℕ) → answer ≡ process_answer pid → IsGiven s.nodes pid → ⊥
   pub new : (pid : ℕ) → lives s.processes pid ≡ false → lives t.processes pid ≡ true
       → (answer ≡ process_answer pid) × (IsGiven s.nodes pid → ⊥)
 
@@ -120,6 +125,7 @@ none_given : (s : State) (change : Stepped) → change.state.nodes ≡ s.nodes �
 none_given s change nodes same other = record {
   kept = λ pid is. subst (λ (all : List Node). IsGiven all pid) (sym nodes) is;
   given = λ pid is. absurd (other pid is);
+  anew = λ pid is. absurd (other pid is);
   new = λ pid out is. no (sym is ∙ swept_still s change same pid ∙ out);
 }
 
@@ -128,6 +134,7 @@ pub none_given_refused : (s : State) (refusal : Cond) → GivesAnew s s (Plain r
 none_given_refused s refusal = record {
   kept = λ pid is. is;
   given = λ pid is. cc;
+  anew = λ pid is. cc;
   new = λ pid out is. no (sym is ∙ out);
 }
 
@@ -151,6 +158,7 @@ declaration_gives s d choice given has = record {
   given = λ pid is.
       subst (IsGiven (declare_change s d).nodes) (same_answer (next_pid s d.node) pid is)
       (last_given (declare_change s d).nodes s.processes (declared_process s d) (declared_given s d has given).living);
+  anew = λ pid is before. next_is_new s.nodes d.node pid has.left before (sym (same_answer (next_pid s d.node) pid is));
   new = λ pid out is.
       let next : next_pid s d.node ≡ pid =
       is_the_new_one s.processes (declared_process s d) pid out (sym (swept_living (s.processes ++ declared_process s d ∷ []) s.resources pid) ∙ is) in
@@ -167,6 +175,7 @@ unfolding state_after_rundown
 end_gives s is_one nodes kept = record {
   kept = kept;
   given = λ pid is. cc;
+  anew = λ pid is. cc;
   new = λ pid out is. no (sym (lived_before is_one nodes s pid is) ∙ out);
 }
 
@@ -199,3 +208,32 @@ pub step_gives : (s : State) (step : Step) (choice : Option Row) → AllGiven s 
     → GivesAnew s (refused_or refusal s (step_change s step choice)).state (refused_or refusal s (step_change s step choice)).answer
 step_gives s step choice given None passed = made_gives s step choice given passed
 step_gives s step choice given (Some refusal) is = none_given_refused s refusal
+
+-- an outcome
+outcome_gives : (s t : State) (step : Step) (answer : Answer) → AllGiven s → Outcome s step t answer → GivesAnew s t answer
+outcome_gives s t step answer given (inl made) =
+    subst (λ (after : State). GivesAnew s after answer) (sym made.state)
+    (subst (GivesAnew s (stepped s step made.choice).state) (sym made.answered) (step_gives s step made.choice given (step_refusal s step) refl))
+outcome_gives s t step answer given (inr short) =
+    subst (λ (after : State). GivesAnew s after answer) (sym short.state)
+    (subst (GivesAnew s s) (sym short.answered) (none_given_refused s Insfmem))
+
+-- what was answered as an identification is given after every run
+answers_given : (history : History) (last : State) → Run history last
+    → AllByRecursion (λ answer. (pid : ℕ) → answer ≡ process_answer pid → IsGiven last.nodes pid) history.answers
+answers_given _ _ begin = tt
+answers_given _ last (next {history} {old} {new} {step} {answer} run outcome) =
+    let gives : GivesAnew old new answer = outcome_gives old new step answer (given_always history old run) outcome in
+    each_append (λ told. (pid : ℕ) → told ≡ process_answer pid → IsGiven new.nodes pid) history.answers (answer ∷ [])
+    (each_weaker (λ told. (pid : ℕ) → told ≡ process_answer pid → IsGiven old.nodes pid) (λ told. (pid : ℕ) → told ≡ process_answer pid → IsGiven new.nodes pid)
+    (λ told given pid same. gives.kept pid (given pid same)) history.answers (answers_given history old run))
+    (gives.given, tt)
+
+-- so none is given twice
+pub none_given_twice : (history : History) (last : State) → Run history last → GivesNoneTwice history last
+none_given_twice history last run step choice chosen pid is =
+    let gives : GivesAnew last (stepped last step choice).state (stepped last step choice).answer =
+    step_gives last step choice (given_always history last run) (step_refusal last step) refl in
+    All-from_recursion (λ answer. answer ≢ process_answer pid) history.answers
+    (each_weaker (λ told. (other : ℕ) → told ≡ process_answer other → IsGiven last.nodes other) (λ told. told ≢ process_answer pid)
+    (λ told given same. gives.anew pid is (given pid same)) history.answers (answers_given history last run))

@@ -1,5 +1,6 @@
 pub mod Completing
 pub mod Accounting
+pub mod Anew
 pub mod Raising
 pub mod Warning
 pub mod WarnedOnce

@@ -8,6 +8,7 @@ ghost use Rattle.vlm_words.specs.State.{State};
 ghost use Rattle.vlm_words.specs.Runs.{History, Run};
 ghost use Rattle.vlm_words.specs.Stepped.{IsChoice, stepped};
 ghost use Rattle.vlm_laws.specs.Accounting.{WhatIsQueuedIsTakenOrPending};
+ghost use Rattle.vlm_laws.specs.Anew.{GivesNoneTwice};
 ghost use Rattle.vlm_laws.specs.Completing.{EachRequestCompletesOnce};
 ghost use Rattle.vlm_laws.specs.Raising.{NoMoreIsQueuedThanNamed, OnlyOwnRequestsRaiseDues};
 ghost use Rattle.vlm_laws.specs.Warning.{WarningsAreOfGrants};
@@ -26,6 +27,13 @@ pub fn law_what_is_queued_is_taken_or_pending()
 {
     law_asts_are_taken_in_order();
 }
+
+/// No process gets the identification of another of the run, also not of one that has ended: what a declaration
+/// answers, no declaration before it answered.
+pub fn law_no_identification_is_given_twice()
+    ensures { (history : History) (last : State) → Run history last
+        → GivesNoneTwice history last }
+{}
 
 /// Each request that ends has its completion once: the completions that were queued, in their order, are those of
 /// the endings, in theirs. An ending has one where its request names a completion routine, unless it is granted at
