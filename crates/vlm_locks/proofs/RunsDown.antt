@@ -4,7 +4,8 @@ use Rattle.vlm_store.specs.Plain.{plain_processes, plain_resources, plain_resour
 use Rattle.vlm_store.specs.Records.{IsProcess, IsSound, Records, AreProcessesApart, HasNoLocks, HasNoSublocks, IsStored, OwnLock, StoredLock, StoredProcess, StoredResource, Stores, own_at, own_handles_at, process_at, rows_of_locks, but_notices, locks_at, process_without_lock, without_lock, without_resource, AreResourcesApart, queued, resource_at, AreOwnApart}
 use Rattle.vlm_locks.specs.Owing.{IsPaid}
 use Rattle.vlm_locks.specs.Rest.{IsAtRest, LeavesOthers}
-use Rattle.vlm_locks.specs.RunningDown.{GrantedWantNothing, SublocksAreOwn, WereThere, lock_total, resource_after_rundown}
+use Rattle.vlm_locks.specs.RunningDown.{GrantedWantNothing, SublocksAreOwn, WereThere, resource_after_rundown}
+use Rattle.vlm_store.specs.Total.{lock_total}
 use Rattle.vlm_locks.specs.Touched.{AreThere, OnlyTouched, Touches, touched_handles}
 use Rattle.std.specs.List.{AllByRecursion, sum_by}
 use Rattle.std.specs.Option.{option_map_or}

@@ -40,7 +40,3 @@ GrantedWantNothing s = (res : ℕ) (lock : StoredLock) → IsIn lock (locks_at (
 -- each lock was there, in its place and with its row
 abbrev pub WereThere : Records → Records → Type 0
 WereThere old new = (place : Place) (lock : StoredLock) → IsIn lock (locks_at place new) → IsIn lock (locks_at place old)
-
--- how many locks there are
-abbrev pub lock_total : Records → ℕ
-lock_total s = sum_by (λ r. length r.granted + length r.converting + length r.waiting) s.resources + length s.loose

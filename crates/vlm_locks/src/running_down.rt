@@ -3,9 +3,10 @@
 ghost use Rattle.std.specs.Prelude.{◌≡◌, ◌==◌, ◌≤◌, ◌+◌, ℕ, ◌++◌, [], length, map};
 ghost use Rattle.vlm_store.specs.Plain.{plain_processes, plain_resources};
 ghost use Rattle.vlm_store.specs.Records.{HasNoLocks, IsProcess};
+ghost use Rattle.vlm_store.specs.Total.{lock_total};
 ghost use Rattle.vlm_locks.specs.Owing.{IsPaid};
 ghost use Rattle.vlm_locks.specs.Rest.{IsAtRest};
-ghost use Rattle.vlm_locks.specs.RunningDown.{GrantedWantNothing, SublocksAreOwn, WereThere, lock_total, resource_after_rundown};
+ghost use Rattle.vlm_locks.specs.RunningDown.{GrantedWantNothing, SublocksAreOwn, WereThere, resource_after_rundown};
 ghost use Rattle.vlm_locks.specs.Touched.{AreThere, OnlyTouched};
 
 use crate::finding::standing_of;

@@ -1,6 +1,7 @@
 pub mod ArmedSeen
 pub mod Arming
 pub mod Counted
+pub mod Totals
 pub mod Counting
 pub mod Declaring
 pub mod Dues

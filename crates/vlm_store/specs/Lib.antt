@@ -8,3 +8,4 @@ pub mod Plain
 pub mod Records
 pub mod Shown
 pub mod Store
+pub mod Total

@@ -9,6 +9,7 @@ ghost use Rattle.vlm_store.specs.declared.handles.Place.{Place};
 ghost use Rattle.vlm_words.specs.Asts.{has_to_warn, keeps_out};
 ghost use Rattle.vlm_store.specs.Plain.{plain_resource};
 ghost use Rattle.vlm_store.specs.Records.{FindsLock, FindsResource, HasNoSublocks, HasPlace, HasResource, HasRoomForLock, HasRoomForResource, IsGivenBack, IsTaken, IsUnchanged, IsParentOf, IsProcess, at_after, disarming, first_at, first_resource_at, fits_beside, resource_at_after, resource_at, rows_of_locks, IsIdle, IsNewKey, IsNewLock, IsRowOf, IsSound, IsStored, Stores, locks_at, moving, new_stored_resource, nothing, on_resource, with_lists, with_lock_room, with_new_lock, with_resource_room, without_resource, without_stored_lock};
+ghost use Rattle.vlm_store.specs.Total.{lock_total};
 
 use crate::handles::{LockAt, Place, ProcAt, ResAt};
 use crate::kin::{join_parent, join_process, leave_parent, leave_process};
@@ -258,6 +259,13 @@ impl Store {
         ensures { result ≡ length self.now.resources }
     {
         self.order.len(&self.queues.resources)
+    }
+
+    /// How many locks there are, of all processes.
+    pub fn total_locks(&self) -> usize
+        ensures { result ≡ lock_total self.now }
+    {
+        self.queues.locks.len()
     }
 
     /// The handle of the first resource in order of making, if there is one.

@@ -1,0 +1,10 @@
+use Rattle.std.proofs.Common.{◌∙◌, sym}
+use Rattle.vlm_store.specs.Kept.{beside_shown}
+use Rattle.vlm_store.proofs.Totals.{all_counted}
+use Rattle.vlm_store.proofs.store.Store.total_locks.Goals as goal
+
+pub returns : goal.returns
+returns c =
+    let kept = c.self.invariant in
+    let s = c.self.inside in
+    rw (← c.self.view_is) (c.len.ensures ∙ sym (all_counted s.queues s.order (beside_shown s) kept.placed kept.linked kept.ordered))
