@@ -1,5 +1,5 @@
 -- What stays as processes come, go and are written.
-use Rattle.std.proofs.Common.{◌≡◌, ◌≢◌, ℕ, [], map, Option, None, Some, IsSome, refl, sym, ap, ◌∙◌, subst, inl, inr, nat_eq}
+use Rattle.std.proofs.Common.{◌≡◌, ◌≢◌, ℕ, List, Bool, [], map, Option, None, Some, IsSome, refl, sym, ap, ◌∙◌, subst, inl, inr, nat_eq}
 use Rattle.std.proofs.lemmas.Bool.{cases_eq}
 use Rattle.std.proofs.lemmas.Option.{none-some}
 use Rattle.std.specs.Option.{option_map}
@@ -16,13 +16,14 @@ use Rattle.vlm_store.specs.declared.resources.InOrder.{InOrder}
 use Rattle.vlm_store.specs.Shown.{no_list}
 use Rattle.vlm_store.specs.Holdings.{IsBelow, IsNamed, IsOwned, OwnerFits, ParentFits, below_links, below_list, but_order, holding, own_in, own_handles, own_links, own_list, owner_in, parent_in, pid_at, pid_of, process_face, process_face_in, process_links, process_under, processes_of}
 use Rattle.vlm_store.specs.Kept.{IsKept}
-use Rattle.vlm_store.specs.Pending.{waits_in}
+use Rattle.vlm_store.specs.Pending.{is_of_nodes, waits_in}
 use Rattle.vlm_store.specs.declared.store.Store.TheInside.{Inside}
 use Rattle.vlm_store.proofs.Indexing.{Indexes-same}
 use Rattle.vlm_store.proofs.Families.{family-empty, family-kept}
 use Rattle.vlm_store.proofs.Kinship.{by_part}
 use Rattle.vlm_store.proofs.Making.{no_list_has}
-use Rattle.vlm_store.proofs.Marked.{kept_marked}
+use Rattle.vlm_marks.specs.Nodes.{Grows}
+use Rattle.vlm_store.proofs.Marked.{grown_marked, kept_marked}
 use Rattle.vlm_store.proofs.OwnLocks.{written_same}
 
 -- ---- nothing is there yet
@@ -187,5 +188,26 @@ module _ (s : Inside) (kept : IsKept s) (processes : Slab Process) (process_inde
     processes_linked = same-linked process_links s.processes processes s.process_order kept.processes_linked (λ p _. same p);
     processes_ordered = λ p there. rw (same-handles process_links s.processes processes s.process_order kept.processes_linked (λ x _. same x)) (kept.processes_ordered p (rw (same p) at there));
     processes = Indexes-same (found nat_eq s.process_index) (found nat_eq process_index) (pid_at s.processes) (pid_at processes) finds (λ p. ap (option_map pid_of) (same p)) kept.processes;
-    marked = kept_marked s.processes processes s.pending (λ p. ap (option_map pid_of) (same p)) (λ p. ap waits_in (same p)) kept.marked;
+    marked = kept_marked waits_in s.processes processes s.pending (λ p. ap (option_map pid_of) (same p)) (λ p. ap waits_in (same p)) kept.marked;
+    living = kept_marked is_of_nodes s.processes processes s.living (λ p. ap (option_map pid_of) (same p)) (λ p. ap is_of_nodes (same p)) kept.living;
   }
+
+-- more room for marks does so too
+pub more_marks : (s : Inside) → IsKept s → (marks : List (List Bool)) → Grows s.living marks → IsKept (record s { living = marks })
+more_marks s kept marks grows = record {
+  placed = kept.placed;
+  tallied = kept.tallied;
+  armed = kept.armed;
+  linked = kept.linked;
+  ordered = kept.ordered;
+  locks = kept.locks;
+  resources = kept.resources;
+  owned = kept.owned;
+  below = kept.below;
+  named = kept.named;
+  processes_linked = kept.processes_linked;
+  processes_ordered = kept.processes_ordered;
+  processes = kept.processes;
+  marked = kept.marked;
+  living = grown_marked is_of_nodes s.processes s.living marks grows kept.living;
+}

@@ -6,7 +6,7 @@ pub mod Counting
 pub mod Declaring
 pub mod Dues
 pub mod Families
-pub mod FirstPending
+pub mod FirstOf
 pub mod Fitting
 pub mod Indexing
 pub mod Joining

@@ -9,13 +9,13 @@ use Rattle.vlm_store.specs.declared.processes.Process.{Process}
 use Rattle.vlm_store.specs.declared.store.Store.TheInside.{Inside}
 use Rattle.vlm_store.specs.Holdings.{faced, holding, pid_at, plain_process, process_face, process_face_in}
 use Rattle.vlm_store.specs.Kept.{IsKept, beside_shown, records_shown, rooms_shown}
-use Rattle.vlm_store.specs.Pending.{IsMarked, IsToldOf, OthersStay, waits_in}
-use Rattle.vlm_store.specs.Records.{OwnLock, StoredProcess, changed_process, on_process, on_stored, owed_more}
+use Rattle.vlm_store.specs.Pending.{IsMarked, IsToldOf, OthersStay, is_of_nodes, waits_in}
+use Rattle.vlm_store.specs.Records.{OwnLock, StoredProcess, changed_process, on_stored, owed_more}
 use Rattle.vlm_store.specs.Store.{tables}
 use Rattle.vlm_store.proofs.Declaring.{process_named, process_own_handles, process_owned, rewritten, written_face, written_handles, written_linked, written_others, written_owns, written_pids, written_whole}
 use Rattle.vlm_store.proofs.Indexing.{Indexes-same}
 use Rattle.vlm_store.proofs.Kinship.{processes_changed}
-use Rattle.vlm_store.proofs.Marked.{kept_marked, pids_apart, waits_same, written_marked}
+use Rattle.vlm_store.proofs.Marked.{kept_marked, nodes_same, pids_apart, waits_same, written_marked}
 use Rattle.vlm_store.proofs.Members.{process_written}
 use Rattle.vlm_store.proofs.OwnLocks.{written_same}
 use Rattle.vlm_store.proofs.Plain.{on_stored-same}
@@ -31,7 +31,7 @@ changed_face change was now plain due at locks =
 module _ (s : Inside) (kept : IsKept s) (at : ℕ) (was now : Process) (here : get s.processes at ≡ Some was) (own : now.own ≡ was.own) (order : now.in_order ≡ was.in_order)
     (pid : now.pid ≡ was.pid) where
   -- the store keeps what it kept, with these marks
-  pub remarked_kept : (marks : List (List Bool)) → IsMarked (rewritten s.processes at was now here own order pid) marks
+  pub remarked_kept : (marks : List (List Bool)) → IsMarked waits_in (rewritten s.processes at was now here own order pid) marks
       → IsKept (record s { processes = rewritten s.processes at was now here own order pid; pending = marks })
   remarked_kept marks marked =
       let owns = written_owns s.processes at was now here own order pid in
@@ -52,13 +52,14 @@ module _ (s : Inside) (kept : IsKept s) (at : ℕ) (was now : Process) (here : g
         processes_ordered = written_whole s.processes at was now here own order pid s.process_order kept.processes_linked kept.processes_ordered;
         processes = Indexes-same (found nat_eq s.process_index) (found nat_eq s.process_index) (pid_at s.processes) (pid_at processes) (λ k. refl) pids kept.processes;
         marked = marked;
+        living = kept_marked is_of_nodes s.processes processes s.living pids (λ p. nodes_same (get processes p) (get s.processes p) (pids p)) kept.living;
       }
 
   -- with its own, where as many ASTs are pending
   pub rewritten_kept : now.asts.pending ≡ was.asts.pending → IsKept (record s { processes = rewritten s.processes at was now here own order pid })
   rewritten_kept pending =
       remarked_kept s.pending
-      (kept_marked s.processes (rewritten s.processes at was now here own order pid) s.pending (written_pids s.processes at was now here own order pid)
+      (kept_marked waits_in s.processes (rewritten s.processes at was now here own order pid) s.pending (written_pids s.processes at was now here own order pid)
       (written_same s.processes at was now waits_in here (waits_same was now pid pending)) kept.marked)
 
   -- and where the process's mark is written with it

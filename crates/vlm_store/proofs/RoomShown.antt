@@ -143,6 +143,7 @@ lock_room_kept s kept locks index is entries =
       processes_ordered = kept.processes_ordered;
       processes = kept.processes;
       marked = kept.marked;
+      living = kept.living;
     }
 
 -- more room for resources does so too
@@ -167,6 +168,7 @@ resource_room_kept s kept resources index is entries =
       processes_ordered = kept.processes_ordered;
       processes = kept.processes;
       marked = kept.marked;
+      living = kept.living;
     }
 
 -- a caller sees the room that was made

@@ -1,10 +1,10 @@
 -- As many locks stand in the queues, and loose, as the slab has.
-use Rattle.std.proofs.Common.{◌⊎◌, ◌≡◌, ◌≢◌, ◌≤◌, ◌<◌, ◌+◌, ℕ, zero, suc, Bool, true, false, cond, List, [], ◌∷◌, ◌++◌, map, length, length-append, get_or, set, Option, None, Some, inl, inr, refl, sym, ap, subst, ◌∙◌, arith, nat_eq}
+use Rattle.std.proofs.Common.{◌⊎◌, ◌≡◌, ◌≢◌, ◌+◌, ℕ, zero, suc, Bool, true, false, cond, List, [], ◌∷◌, ◌++◌, map, length, length-append, get_or, set, Option, None, Some, inl, inr, refl, sym, subst, ◌∙◌, arith}
 use Rattle.std.specs.Prelude.{◌==◌, is_some, IsSome, count_by}
 use Rattle.std.specs.List.{flat_map, sum_by}
 use Rattle.std.proofs.lemmas.Bool.{eqb-false, eqb-true}
 use Rattle.std.proofs.lemmas.List.Sums.{sum_by-cons}
-use Rattle.std.proofs.lemmas.List.{get_or-set_other, get_or-set_same, length-map}
+use Rattle.std.proofs.lemmas.List.{get_or-set_other, length-map}
 use Rattle.slab.specs.Slab.{ContainsKey, get, slab_len}
 use Rattle.vlm_links.specs.declared.lists.LinkedList.{LinkedList}
 use Rattle.vlm_links.specs.Lists.{IsApart, IsIn, IsLinked, handles_of}
@@ -14,9 +14,9 @@ use Rattle.vlm_store.specs.declared.handles.Place.{Place}
 use Rattle.vlm_store.specs.declared.handles.Place.TheVariants.{Loose, Queued}
 use Rattle.vlm_store.specs.declared.queues.Queues.{Queues}
 use Rattle.vlm_store.specs.declared.resources.InOrder.{InOrder}
-use Rattle.vlm_store.specs.Records.{Records, StoredResource}
+use Rattle.vlm_store.specs.Records.{StoredResource}
 use Rattle.vlm_store.specs.Total.{lock_total}
-use Rattle.vlm_store.specs.Shown.{IsPlaced, IsThere, handles_at, order_links}
+use Rattle.vlm_store.specs.Shown.{IsPlaced, handles_at, order_links}
 use Rattle.vlm_store.specs.Store.{Beside, Layout, records_of, resource_of, tables, under_handle}
 use Rattle.std.proofs.lemmas.Option.{none-some}
 use Rattle.vlm_store.proofs.Places.{noted_there, one_place, stands_there}

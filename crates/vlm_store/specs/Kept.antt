@@ -7,7 +7,7 @@ use Rattle.vlm_store.specs.declared.store.Store.TheInside.{Inside}
 use Rattle.vlm_store.specs.Armed.{IsArmed}
 use Rattle.vlm_store.specs.Index.{Indexes}
 use Rattle.vlm_words.specs.Keys.{is_same_key}
-use Rattle.vlm_store.specs.Pending.{IsMarked}
+use Rattle.vlm_store.specs.Pending.{IsMarked, is_of_nodes, waits_in}
 use Rattle.vlm_store.specs.Records.{Records, Rooms, StoredProcess}
 use Rattle.vlm_store.specs.Holdings.{IsBelow, IsNamed, IsOwned, holding, pid_at, process_links, processes_of}
 use Rattle.vlm_store.specs.Shown.{IsPlaced, IsTallied, order_links}
@@ -35,7 +35,7 @@ records_shown s = records_of (tables s.queues s.order (beside_shown s))
 
 -- each lock stands in the three lists that it notes, each resource counts its locks and has the armed ones among the
 -- granted, resources and processes stand in their orders, each index finds just what is there, and marked are just the
--- processes with an AST pending
+-- processes that live, and those with an AST pending
 pub record IsKept (s : Inside) : Type 0 where
   pub placed : IsPlaced s.queues None
   pub tallied : IsTallied s.queues None
@@ -50,4 +50,5 @@ pub record IsKept (s : Inside) : Type 0 where
   pub processes_linked : IsLinked process_links s.processes s.process_order
   pub processes_ordered : (at : ℕ) → ContainsKey s.processes at → IsIn at (handles_of process_links s.processes s.process_order)
   pub processes : Indexes (get nat_eq s.process_index) (pid_at s.processes)
-  pub marked : IsMarked s.processes s.pending
+  pub marked : IsMarked waits_in s.processes s.pending
+  pub living : IsMarked is_of_nodes s.processes s.living

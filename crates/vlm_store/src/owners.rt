@@ -5,6 +5,7 @@ ghost use Rattle.std.specs.Bool.{OnFalse, OnTrue};
 ghost use Rattle.vlm_words.specs.Asts.{oldest, without_oldest_ast};
 ghost use Rattle.vlm_words.specs.Declare.{new_process};
 ghost use Rattle.vlm_words.specs.StatusBlocks.{new_status_block, process_with_block};
+ghost use Rattle.vlm_store.specs.Pending.{IsFirstLiving};
 ghost use Rattle.vlm_store.specs.Records.{FindsProcess, HasNoLocks, HasNoSublocks, HasProcess, HasRoomForProcess, IsGivenBack, IsNewProcess, IsProcess, IsSound, IsStored, IsTaken, IsUnchanged, authorization_of, new_stored_process, on_process, on_stored, owed_less, owed_more, own_at, owned_by, process_at, with_owed_ast, with_process_room, without_process};
 
 use crate::handles::{LockAt, ProcAt};
@@ -24,6 +25,13 @@ impl Store {
         ensures sound { IsSound self.now }
     {
         self.process_index.get(&pid).copied()
+    }
+
+    /// The least identification of the processes of a node, 1 to 8, that live, if one does.
+    pub fn first_of(&self, node: u8) -> Option<u32>
+        ensures { IsFirstLiving node self.now.processes result }
+    {
+        self.living.first(node)
     }
 
     /// So many new status blocks, for a process that is to be added.
@@ -53,10 +61,12 @@ impl Store {
         ensures err { OnErr result (IsUnchanged self.old self.new) }
     {
         reserve_one(&mut self.processes, &mut self.process_index)?;
+        self.living.make_room(pid)?;
         self.pending.make_room(pid)?;
         let process = Process::new(pid, declaration, blocks);
         let at = ProcAt::of(put_in(&mut self.processes, &mut self.process_order, process));
         let _ = self.process_index.insert(pid, at);
+        self.living.mark(pid);
         Ok(at)
     }
 
@@ -71,6 +81,7 @@ impl Store {
         let pid = self.processes[at.slot()].pid;
         take_out(&mut self.processes, &mut self.process_order, at.slot());
         self.process_index.swap_remove(&pid);
+        self.living.unmark(pid);
         self.pending.unmark(pid);
     }
 

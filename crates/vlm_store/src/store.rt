@@ -45,7 +45,9 @@ pub struct Store {
     resource_index: IndexMap<Key, ResAt>,
     // where the process of each identification is
     pub(crate) process_index: IndexMap<u32, ProcAt>,
-    // the processes that have an AST pending, node by node
+    // the processes that live, node by node
+    pub(crate) living: NodeMarks,
+    // those that have an AST pending, node by node
     pub(crate) pending: NodeMarks,
 }
 
@@ -61,6 +63,7 @@ impl Drop for Store {
             lock_index: _,
             resource_index: _,
             process_index: _,
+            living: _,
             pending: _,
         } = self;
     }
@@ -96,6 +99,7 @@ impl Store {
             lock_index: IndexMap::new(alloc),
             resource_index: IndexMap::new(alloc),
             process_index: IndexMap::new(alloc),
+            living: NodeMarks::new(alloc),
             pending: NodeMarks::new(alloc),
         }
     }

@@ -20,7 +20,8 @@ use Rattle.vlm_store.proofs.Arming.{armed_kin, armed_reserved}
 use Rattle.vlm_store.proofs.Indexing.{Indexes-added, Indexes-same}
 use Rattle.vlm_store.proofs.Joining.{new_lkid, other_lkids, joined_kin, joined_lkids, joined_named, joined_owned, joined_processes, linked_parent_there, new_below, new_owned, owner_was_there}
 use Rattle.vlm_store.proofs.Kept.{faces_same, no_lock, on_err, on_ok, reserved_handles, reserved_placed, stored_there}
-use Rattle.vlm_store.proofs.Marked.{own_marked}
+use Rattle.vlm_store.specs.Pending.{is_of_nodes, waits_in}
+use Rattle.vlm_store.proofs.Marked.{nodes-own, own_marked, waits-own}
 use Rattle.vlm_store.proofs.Kinship.{kin_handles, kin_placed, kin_rows, kin_tallied, own_below, own_pids, own_process_linked, own_process_whole, records_processes}
 use Rattle.vlm_store.proofs.Layouts.{loose_joined}
 use Rattle.vlm_store.proofs.store.Store.add_lock.Goals as goal
@@ -125,7 +126,8 @@ invariant_of-self-2 c =
       processes_linked = own_process_linked s.processes c.join_process.new.processes process.rest s.process_order kept.processes_linked;
       processes_ordered = own_process_whole s.processes c.join_process.new.processes process.rest s.process_order kept.processes_linked kept.processes_ordered;
       processes = Indexes-same (get nat_eq s.process_index) (get nat_eq s.process_index) (pid_at s.processes) (pid_at c.join_process.new.processes) (λ k. refl) (own_pids s.processes c.join_process.new.processes process.rest) kept.processes;
-      marked = own_marked s.processes c.join_process.new.processes s.pending process.rest kept.marked;
+      marked = own_marked waits_in waits-own s.processes c.join_process.new.processes s.pending process.rest kept.marked;
+      living = own_marked is_of_nodes nodes-own s.processes c.join_process.new.processes s.living process.rest kept.living;
     }
 
 pub returns-clause-added : goal.returns-clause-added

@@ -1,6 +1,6 @@
 use Rattle.vlm_store.specs.Store.{tables, records_of}
 use Rattle.vlm_store.proofs.RoomShown.{has_room, shown_room, room_shown, is_taken, process_room_made}
-use Rattle.std.proofs.Common.{◌≡◌, ◌≢◌, ◌∙◌, ◌++◌, ◌∷◌, ℕ, List, [], length, map, None, Some, IsSome, ap, sym, refl, arith, nat_eq}
+use Rattle.std.proofs.Common.{◌≡◌, ◌≢◌, ◌∙◌, ◌++◌, ◌∷◌, ◌/◌, ℕ, true, List, [], length, map, None, Some, IsSome, ap, sym, refl, arith, nat_eq}
 use Rattle.std.proofs.lemmas.Option.{none-some}
 use Rattle.std.specs.Cmp.{unsigned_Decides}
 use Rattle.std.specs.Map.{lookup}
@@ -17,12 +17,14 @@ use Rattle.vlm_store.specs.declared.processes.Process.{Process}
 use Rattle.vlm_store.specs.Holdings.{but_order, faced, holding, own_in, own_links, own_of, pid_at, pid_of, process_links, process_under}
 use Rattle.vlm_store.specs.Kept.{beside_shown}
 use Rattle.vlm_store.specs.Records.{HasRoom, StoredProcess, new_stored_process, IsTaken}
-use Rattle.vlm_store.proofs.Declaring.{names_stay, owner_is_there, owns_stay, own_by_order, pid_by_order, face_by_order, process_own_handles, process_owned, roomier}
+use Rattle.vlm_store.proofs.Declaring.{names_stay, owner_is_there, owns_stay, more_marks, own_by_order, pid_by_order, face_by_order, process_own_handles, process_owned, roomier}
 use Rattle.vlm_store.proofs.Indexing.{Indexes-added, Indexes-same}
 use Rattle.vlm_store.proofs.Kept.{on_ok, on_err}
 use Rattle.vlm_store.proofs.Kinship.{processes_changed, there_by_part}
 use Rattle.vlm_store.proofs.Living.{no_process_found, process_named, process_there}
-use Rattle.vlm_store.proofs.Marked.{added_marked, grown_marked, waits_by_order, waits_not}
+use Rattle.vlm_store.proofs.Marked.{added_marked, and_true, grown_marked, nodes_of_pid, nodes_same, none_written, unmarked, waits_by_order, waits_not, written_others}
+use Rattle.vlm_marks.specs.Nodes.{is_node}
+use Rattle.vlm_store.specs.Pending.{is_of_nodes, waits_in}
 use Rattle.vlm_store.proofs.Making.{whole_grown}
 use Rattle.vlm_store.proofs.Members.{process_made}
 use Rattle.vlm_store.proofs.Places.{no_list_is}
@@ -56,6 +58,10 @@ invariant_of-self-2 c =
     let handles1 = same-handles process_links s.processes roomy s.process_order kept.processes_linked (λ p _. same p) in
     let indexes1 = Indexes-same (found nat_eq s.process_index) (found nat_eq c.reserve_one.new.index) (pid_at s.processes) (pid_at roomy) (λ k. ap (λ es. lookup (nat_eq k) es) c.reserve_one.ensures.index)
     (λ p. ap (option_map pid_of) (same p)) kept.processes in
+    let pids : (p : ℕ) → p ≢ at → pid_at new p ≡ pid_at s.processes p = λ p differs. pid_by_order (get new p) (get s.processes p) (others p differs) in
+    let here : pid_at new at ≡ Some c.args.pid = pid_by_order (get new at) (Some process) entered.here ∙ ap (λ (p : PlainProcess). Some p.pid) c.new-process.ensures.plain in
+    let unknown : (k : ℕ) → pid_at s.processes k ≢ Some c.args.pid =
+    λ k is. none-some k (sym (no_process_found s kept c.args.pid (rw (← c.self.view_is) at c.requires.new)) ∙ kept.processes.complete c.args.pid k is) in
     let fresh : found nat_eq c.reserve_one.new.index c.args.pid ≡ None =
     ap (λ es. lookup (nat_eq c.args.pid) es) c.reserve_one.ensures.index ∙ no_process_found s kept c.args.pid (rw (← c.self.view_is) at c.requires.new) in
     record {
@@ -76,12 +82,18 @@ invariant_of-self-2 c =
           (rw c.of-at.ensures at (on_ok c.insert.result _ (c.insert.ensures.succeeds (omega (arith, c.in_ok-reserve_one.ensures.find))) c.insert.ensures.updates))
           (ap (option_map pid_of) entered.fresh) (pid_by_order (get new at) (Some process) entered.here ∙ ap (λ (p : PlainProcess). Some p.pid) c.new-process.ensures.plain)
           (λ p differs. pid_by_order (get new p) (get roomy p) (entered.others p differs)) fresh indexes1;
-      marked = added_marked s.processes new at (λ p differs. pid_by_order (get new p) (get s.processes p) (others p differs))
-          (λ p differs. waits_by_order (get new p) (get s.processes p) (others p differs)) c.make_room.new.self c.args.pid vacant
-          (pid_by_order (get new at) (Some process) entered.here ∙ ap (λ (p : PlainProcess). Some p.pid) c.new-process.ensures.plain)
-          (waits_by_order (get new at) (Some process) entered.here ∙ waits_not process (ap (λ (p : PlainProcess). length p.asts) c.new-process.ensures.plain))
-          (λ k is. none-some k (sym (no_process_found s kept c.args.pid (rw (← c.self.view_is) at c.requires.new)) ∙ kept.processes.complete c.args.pid k is))
-          c.in_ok-make_room.ensures.room (grown_marked s.processes s.pending c.make_room.new.self c.in_ok-make_room.ensures.kept kept.marked);
+      marked = added_marked waits_in s.processes new at pids (λ p differs. waits_by_order (get new p) (get s.processes p) (others p differs))
+          c.make_room-2.new.self c.make_room-2.new.self c.args.pid vacant here unknown
+          (unmarked waits_in s.processes new at pids (λ p differs. waits_by_order (get new p) (get s.processes p) (others p differs)) c.make_room-2.new.self c.args.pid unknown
+          (grown_marked waits_in s.processes s.pending c.make_room-2.new.self c.in_ok-make_room-2.ensures.kept kept.marked)
+          ∙ sym (waits_by_order (get new at) (Some process) entered.here ∙ waits_not process (ap (λ (p : PlainProcess). length p.asts) c.new-process.ensures.plain)))
+          c.in_ok-make_room-2.ensures.room (none_written c.args.pid c.make_room-2.new.self)
+          (grown_marked waits_in s.processes s.pending c.make_room-2.new.self c.in_ok-make_room-2.ensures.kept kept.marked);
+      living = added_marked is_of_nodes s.processes new at pids (λ p differs. nodes_same (get new p) (get s.processes p) (pids p differs))
+          c.make_room.new.self c.mark.new.self c.args.pid vacant here unknown
+          (c.mark.ensures.this ∙ and_true (is_node (c.args.pid / 65536)) ∙ sym (nodes_of_pid (get new at) c.args.pid here))
+          c.in_ok-make_room.ensures.room (written_others c.args.pid true c.make_room.new.self c.mark.new.self c.mark.ensures)
+          (grown_marked is_of_nodes s.processes s.living c.make_room.new.self c.in_ok-make_room.ensures.kept kept.living);
     }
 
 pub returns-clause-added : goal.returns-clause-added
@@ -107,7 +119,7 @@ returns-clause-added c =
     ∙ ap (λ due. record { at = at; process = new_process c.args.pid c.args.declaration.now; due = due; own = map (own_of h') (h'.own at) }) c.new-process.ensures.due
     ∙ ap (λ l. record { at = at; process = new_process c.args.pid c.args.declaration.now; due = 0; own = map (own_of h') (handles_of own_links s.queues.locks l) }) after in
     rw (← c.self.view_is, c.of-at.ensures)
-    (processes_changed s.queues s.order (beside_shown s) (beside_shown (record s { processes = new; process_order = c.put_in.new.order; process_index = c.insert.new.self; pending = c.make_room.new.self })) (λ (ps : List StoredProcess). ps ++ new_stored_process at c.args.pid c.args.declaration.now ∷ [])
+    (processes_changed s.queues s.order (beside_shown s) (beside_shown (record s { processes = new; process_order = c.put_in.new.order; process_index = c.insert.new.self; living = c.mark.new.self; pending = c.make_room-2.new.self })) (λ (ps : List StoredProcess). ps ++ new_stored_process at c.args.pid c.args.declaration.now ∷ [])
     (process_made h h' (λ k. refl) at (new_stored_process at c.args.pid c.args.declaration.now) (λ p differs. face_by_order (get new p) (get s.processes p) (others p differs))
     (λ p _. process_own_handles s.processes new s.queues.locks owns p) (vacant_unlisted process_links s.processes s.process_order kept.processes_linked at vacant)
     (entered.order ∙ ap (λ ks. ks ++ at ∷ []) handles1) made))
@@ -123,7 +135,7 @@ returns-clause-fresh c has =
 pub returns-clause-taken : goal.returns-clause-taken
 returns-clause-taken c =
     let s = c.self.inside in
-    let s' = record s { processes = c.put_in.new.processes; process_order = c.put_in.new.order; process_index = c.insert.new.self; pending = c.make_room.new.self } in
+    let s' = record s { processes = c.put_in.new.processes; process_order = c.put_in.new.order; process_index = c.insert.new.self; living = c.mark.new.self; pending = c.make_room-2.new.self } in
     rw (← c.self.view_is)
     (room_shown (λ a b. IsTaken a.processes b.processes) (tables s.queues s.order (beside_shown s)) (tables s.queues s.order (beside_shown s'))
     (is_taken s.processes c.reserve_one.new.records c.put_in.new.processes (spare s.process_index) (spare c.reserve_one.new.index) (spare c.insert.new.self) c.reserve_one.ensures.records c.reserve_one.ensures.capacity
@@ -142,11 +154,18 @@ returns-in_err-reserve_one-clause-succeeds c has =
     let never = c.in_err-reserve_one.ensures.succeeds room.0 room.1 room.2 in
     cc
 
--- where memory is refused for the mark no more than room was made
+-- where memory is refused for a mark no more than room was made
 pub invariant_of-self-in_err-make_room : goal.invariant_of-self-in_err-make_room
 invariant_of-self-in_err-make_room c =
     rw c.in_err-make_room.ensures.refused
     (roomier c.self.inside c.self.invariant c.reserve_one.new.records c.reserve_one.new.index (λ p. ap (λ x. get x p) c.reserve_one.ensures.records) (λ k. ap (λ es. lookup (nat_eq k) es) c.reserve_one.ensures.index))
+
+pub invariant_of-self-in_err-make_room-2 : goal.invariant_of-self-in_err-make_room-2
+invariant_of-self-in_err-make_room-2 c =
+    rw c.in_err-make_room-2.ensures.refused
+    (more_marks (record c.self.inside { processes = c.reserve_one.new.records; process_index = c.reserve_one.new.index })
+    (roomier c.self.inside c.self.invariant c.reserve_one.new.records c.reserve_one.new.index (λ p. ap (λ x. get x p) c.reserve_one.ensures.records) (λ k. ap (λ es. lookup (nat_eq k) es) c.reserve_one.ensures.index))
+    c.make_room.new.self c.in_ok-make_room.ensures.kept)
 
 pub returns-in_err-make_room-clause-err : goal.returns-in_err-make_room-clause-err
 returns-in_err-make_room-clause-err c =
@@ -159,5 +178,18 @@ returns-in_err-make_room-clause-succeeds c has =
     let beside = rw (← c.self.view_is) at has.mark in
     let p = beside.0 in
     let named = process_named c.self.inside c.self.invariant p.at p.process.pid (p, (beside.1.0, refl, refl)) in
-    let never = c.in_err-make_room.ensures.succeeds p.process.pid beside.1.1 beside.1.2 (c.self.invariant.marked.room p.at p.process.pid named.1) in
+    let never = c.in_err-make_room.ensures.succeeds p.process.pid beside.1.1 beside.1.2 (c.self.invariant.living.room p.at p.process.pid named.1) in
+    cc
+
+pub returns-in_err-make_room-2-clause-err : goal.returns-in_err-make_room-2-clause-err
+returns-in_err-make_room-2-clause-err c =
+    rw (← c.self.view_is)
+    (on_err c.from_residual-in_err-make_room-2.result _ (process_room_made c.self.inside c.reserve_one.new.records (spare c.reserve_one.new.index) c.reserve_one.ensures.records c.reserve_one.ensures.capacity c.reserve_one.ensures.finds))
+
+pub returns-in_err-make_room-2-clause-succeeds : goal.returns-in_err-make_room-2-clause-succeeds
+returns-in_err-make_room-2-clause-succeeds c has =
+    let beside = rw (← c.self.view_is) at has.mark in
+    let p = beside.0 in
+    let named = process_named c.self.inside c.self.invariant p.at p.process.pid (p, (beside.1.0, refl, refl)) in
+    let never = c.in_err-make_room-2.ensures.succeeds p.process.pid beside.1.1 beside.1.2 (c.self.invariant.marked.room p.at p.process.pid named.1) in
     cc

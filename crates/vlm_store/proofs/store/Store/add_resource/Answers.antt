@@ -81,6 +81,7 @@ invariant_of-self-2 c =
       processes_ordered = kept.processes_ordered;
       processes = kept.processes;
       marked = kept.marked;
+      living = kept.living;
     }
 
 pub returns-clause-added : goal.returns-clause-added

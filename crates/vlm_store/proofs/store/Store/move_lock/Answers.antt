@@ -57,6 +57,7 @@ invariant_of-self c =
       processes_ordered = kept.processes_ordered;
       processes = kept.processes;
       marked = kept.marked;
+      living = kept.living;
     }
 
 pub returns : goal.returns

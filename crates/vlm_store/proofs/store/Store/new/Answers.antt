@@ -12,6 +12,7 @@ use Rattle.vlm_store.proofs.Declaring.{empty_below, empty_named, empty_owned, em
 use Rattle.vlm_store.specs.Store.{key_at, lkid_at}
 use Rattle.vlm_store.proofs.Arming.{empty_armed}
 use Rattle.vlm_store.proofs.Kept.{Indexes-empty, empty_handles, empty_linked, empty_ordered, empty_placed, empty_records, empty_tallied}
+use Rattle.vlm_store.specs.Pending.{is_of_nodes, waits_in}
 use Rattle.vlm_store.proofs.Marked.{empty_marked}
 use Rattle.vlm_store.proofs.store.Store.new.Goals as goal
 
@@ -35,7 +36,8 @@ invariant_of-result c =
       processes_linked = empty_processes_linked c.new-5.result q.locks no_processes no_locks c.new-6.result c.new-6.ensures;
       processes_ordered = empty_processes_ordered c.new-5.result q.locks no_processes no_locks c.new-6.result c.new-6.ensures;
       processes = Indexes-empty (found nat_eq c.new-9.result) (pid_at c.new-5.result) (λ k. ap (lookup (nat_eq k)) c.new-9.ensures.empty) (λ p. ap (option_map pid_of) (no_processes p));
-      marked = empty_marked c.new-5.result c.new-10.result no_processes c.new-10.ensures;
+      marked = empty_marked waits_in c.new-5.result c.new-11.result no_processes c.new-11.ensures;
+      living = empty_marked is_of_nodes c.new-5.result c.new-10.result no_processes c.new-10.ensures;
     }
 
 pub returns : goal.returns

@@ -1,5 +1,5 @@
-use Rattle.vlm_store.proofs.FirstPending.{first_shown}
+use Rattle.vlm_store.proofs.FirstOf.{first_pending_shown}
 use Rattle.vlm_store.proofs.store.Store.pending_of.Goals as goal
 
 pub returns : goal.returns
-returns c = rw (← c.self.view_is) (first_shown c.self.inside c.self.invariant c.args.node c.first.result c.first.ensures)
+returns c = rw (← c.self.view_is) (first_pending_shown c.self.inside c.self.invariant c.args.node c.first.result c.first.ensures)

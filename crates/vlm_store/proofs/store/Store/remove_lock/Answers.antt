@@ -13,7 +13,8 @@ use Rattle.vlm_store.specs.Store.{key_at, lkid_at, records_of, tables}
 use Rattle.vlm_store.proofs.Arming.{armed_kin}
 use Rattle.vlm_store.proofs.Indexing.{Indexes-removed, Indexes-same}
 use Rattle.vlm_store.proofs.Kept.{faces_same}
-use Rattle.vlm_store.proofs.Marked.{own_marked}
+use Rattle.vlm_store.specs.Pending.{is_of_nodes, waits_in}
+use Rattle.vlm_store.proofs.Marked.{nodes-own, own_marked, waits-own}
 use Rattle.vlm_store.proofs.Kinship.{below_kin, below_owned, kin_handles, kin_placed, kin_rows, kin_tallied, own_kin, own_pids, own_process_linked, own_process_whole, records_processes}
 use Rattle.vlm_store.proofs.Layouts.{leaving-under_handle, lists_changed_beside}
 use Rattle.vlm_store.proofs.Leaving.{left_below, left_kin, left_lkids, left_named, left_owned, left_processes}
@@ -88,7 +89,8 @@ invariant_of-self c =
       processes_linked = own_process_linked s.processes c.leave_process.new.processes process.rest s.process_order kept.processes_linked;
       processes_ordered = own_process_whole s.processes c.leave_process.new.processes process.rest s.process_order kept.processes_linked kept.processes_ordered;
       processes = Indexes-same (get nat_eq s.process_index) (get nat_eq s.process_index) (pid_at s.processes) (pid_at c.leave_process.new.processes) (λ k. refl) (own_pids s.processes c.leave_process.new.processes process.rest) kept.processes;
-      marked = own_marked s.processes c.leave_process.new.processes s.pending process.rest kept.marked;
+      marked = own_marked waits_in waits-own s.processes c.leave_process.new.processes s.pending process.rest kept.marked;
+      living = own_marked is_of_nodes nodes-own s.processes c.leave_process.new.processes s.living process.rest kept.living;
     }
 
 pub returns-clause-removed : goal.returns-clause-removed

@@ -16,7 +16,8 @@ use Rattle.vlm_store.proofs.Indexing.{Indexes-removed}
 use Rattle.vlm_store.proofs.Kinship.{processes_changed, there_by_part}
 use Rattle.vlm_store.proofs.Living.{held, own_is, process_listed, process_there}
 use Rattle.vlm_store.proofs.Making.{map-nil, whole_left}
-use Rattle.vlm_store.proofs.Marked.{pids_apart, removed_marked, waits_by_order}
+use Rattle.vlm_store.specs.Pending.{is_of_nodes, waits_in}
+use Rattle.vlm_store.proofs.Marked.{nodes_same, pids_apart, removed_marked, waits_by_order}
 use Rattle.vlm_store.proofs.Members.{process_removed}
 use Rattle.vlm_store.proofs.store.Store.remove_process.Goals as goal
 
@@ -27,7 +28,10 @@ pub take_out-requires-clause-listed : goal.take_out-requires-clause-listed
 take_out-requires-clause-listed c = rw c.slot-2.ensures (process_listed c.self.inside c.self.invariant c.args.at (rw (← c.self.view_is) at c.requires.there))
 
 pub unmark-requires : goal.unmark-requires
-unmark-requires c = c.self.invariant.marked.room c.args.at c.index.result.now.pid (ap (option_map pid_of) (rw c.slot.ensures at c.index.ensures))
+unmark-requires c = c.self.invariant.living.room c.args.at c.index.result.now.pid (ap (option_map pid_of) (rw c.slot.ensures at c.index.ensures))
+
+pub unmark-requires-2 : goal.unmark-requires-2
+unmark-requires-2 c = c.self.invariant.marked.room c.args.at c.index.result.now.pid (ap (option_map pid_of) (rw c.slot.ensures at c.index.ensures))
 
 pub invariant_of-self : goal.invariant_of-self
 invariant_of-self c =
@@ -40,6 +44,7 @@ invariant_of-self c =
     (sym (own_is s kept c.args.at (rw (← c.self.view_is) at c.requires.there)) ∙ (rw (← c.self.view_is) at c.requires.idle)) in
     let before = no_own s.processes s.queues.locks c.args.at kept.owned none in
     let after = ap own_in left.gone in
+    let pids : (p : ℕ) → p ≢ c.args.at → pid_at new p ≡ pid_at s.processes p = λ p differs. pid_by_order (get new p) (get s.processes p) (left.others p differs) in
     let apart : (k : ℕ) (l : Lock) → get s.queues.locks k ≡ Some l → l.owner ≢ c.args.at =
     λ k l here same. subst (IsIn k) none (kept.owned.stands c.args.at k (λ e. none-some k (sym e)) (ap owner_in here ∙ ap Some same)) in
     record {
@@ -58,10 +63,13 @@ invariant_of-self c =
           (λ p differs. there_by_part but_order (get s.processes p) (get new p) (sym (left.others p differs)));
       processes = Indexes-removed nat_eq unsigned_Decides s.process_index c.swap_remove.new.self c.index.result.now.pid (pid_at s.processes) (pid_at new) c.args.at c.swap_remove.ensures.updates
           (ap (option_map pid_of) (rw c.slot.ensures at c.index.ensures)) (ap (option_map pid_of) left.gone) (λ p differs. pid_by_order (get new p) (get s.processes p) (left.others p differs)) kept.processes;
-      marked = removed_marked s.processes new c.args.at (λ p differs. pid_by_order (get new p) (get s.processes p) (left.others p differs))
-          (λ p differs. waits_by_order (get new p) (get s.processes p) (left.others p differs)) s.pending c.unmark.new.self c.index.result.now.pid
-          (ap (option_map pid_of) (rw c.slot.ensures at c.index.ensures)) left.gone c.unmark.ensures
+      marked = removed_marked waits_in s.processes new c.args.at pids
+          (λ p differs. waits_by_order (get new p) (get s.processes p) (left.others p differs)) s.pending c.unmark-2.new.self c.index.result.now.pid
+          (ap (option_map pid_of) (rw c.slot.ensures at c.index.ensures)) left.gone c.unmark-2.ensures
           (pids_apart s.processes (found nat_eq s.process_index) kept.processes) kept.marked;
+      living = removed_marked is_of_nodes s.processes new c.args.at pids (λ p differs. nodes_same (get new p) (get s.processes p) (pids p differs)) s.living c.unmark.new.self c.index.result.now.pid
+          (ap (option_map pid_of) (rw c.slot.ensures at c.index.ensures)) left.gone c.unmark.ensures
+          (pids_apart s.processes (found nat_eq s.process_index) kept.processes) kept.living;
     }
 
 pub returns-clause-removed : goal.returns-clause-removed
@@ -78,7 +86,7 @@ returns-clause-removed c =
     let after = ap own_in left.gone in
     let owns = owns_stay s.processes new c.args.at left.others before after in
     rw (← c.self.view_is)
-    (processes_changed s.queues s.order (beside_shown s) (beside_shown (record s { processes = new; process_order = c.take_out.new.order; process_index = c.swap_remove.new.self; pending = c.unmark.new.self })) (without_process c.args.at)
+    (processes_changed s.queues s.order (beside_shown s) (beside_shown (record s { processes = new; process_order = c.take_out.new.order; process_index = c.swap_remove.new.self; living = c.unmark.new.self; pending = c.unmark-2.new.self })) (without_process c.args.at)
     (process_removed (holding s.processes s.queues.locks s.process_order) (holding new s.queues.locks c.take_out.new.order) (λ k. refl) c.args.at
     (λ p differs. face_by_order (get new p) (get s.processes p) (left.others p differs)) (λ p _. process_own_handles s.processes new s.queues.locks owns p) left.order))
 
@@ -86,7 +94,7 @@ pub returns-clause-given_back : goal.returns-clause-given_back
 returns-clause-given_back c =
     let s = c.self.inside in
     let left = rw c.slot-2.ensures at c.take_out.ensures in
-    let s' = record s { processes = c.take_out.new.processes; process_order = c.take_out.new.order; process_index = c.swap_remove.new.self; pending = c.unmark.new.self } in
+    let s' = record s { processes = c.take_out.new.processes; process_order = c.take_out.new.order; process_index = c.swap_remove.new.self; living = c.unmark.new.self; pending = c.unmark-2.new.self } in
     rw (← c.self.view_is)
     (room_shown (λ a b. IsGivenBack a.processes b.processes) (tables s.queues s.order (beside_shown s)) (tables s.queues s.order (beside_shown s'))
     (is_given_back s.processes c.take_out.new.processes c.args.at (spare s.process_index) (spare c.swap_remove.new.self) left.given_back
