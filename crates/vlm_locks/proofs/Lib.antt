@@ -30,4 +30,6 @@ pub mod Withdrawn
 pub mod PlainRundown
 pub mod TogetherDown
 pub mod RunsDown
+pub mod ProcessGone
+pub mod NodeGone
 pub mod WithdrawnEnds

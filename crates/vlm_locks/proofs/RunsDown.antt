@@ -6,7 +6,7 @@ use Rattle.vlm_locks.specs.Owing.{IsPaid}
 use Rattle.vlm_locks.specs.Rest.{IsAtRest, LeavesOthers}
 use Rattle.vlm_locks.specs.RunningDown.{GrantedWantNothing, SublocksAreOwn, WereThere, resource_after_rundown}
 use Rattle.vlm_store.specs.Total.{lock_total}
-use Rattle.vlm_locks.specs.Touched.{AreThere, OnlyTouched, Touches, touched_handles}
+use Rattle.vlm_locks.specs.Touched.{AreStillNoted, AreThere, OnlyTouched, Touches, touched_handles}
 use Rattle.std.specs.List.{AllByRecursion, sum_by}
 use Rattle.std.specs.Option.{option_map_or}
 use Rattle.std.proofs.lemmas.Option.{none-some, same_Some}
@@ -41,7 +41,7 @@ use Rattle.vlm_locks.proofs.Found.{resource_alone, resource_at-at}
 use Rattle.std.proofs.lemmas.List.{length-append}
 
 -- the process is run down so far: what it leaves is the same as at first
-pub record IsRunningDown (owner pid : ℕ) (old s : Records) (touched : Touches) : Type 0 where
+pub record IsRunningDown (owner pid : ℕ) (old s : Records) (before touched : Touches) : Type 0 where
   pub resources : map (resource_after_rundown (λ p. p == pid)) (plain_resources s) ≡ map (resource_after_rundown (λ p. p == pid)) (plain_resources old)
   pub statuses : plain_processes s ≡ plain_processes old
   pub lives : IsProcess owner pid s
@@ -54,6 +54,8 @@ pub record IsRunningDown (owner pid : ℕ) (old s : Records) (touched : Touches)
   pub noted : AreThere touched.noted s
   pub only_touched : OnlyTouched touched.noted old s
   pub room : length touched.noted + lock_total s ≤ touched.room
+  pub kept : AreStillNoted before.noted touched.noted
+  pub same_room : touched.room ≡ before.room
 
 -- ---- the own locks of the process
 
@@ -115,6 +117,32 @@ of_own (x ∷ owns) own there = elim there [
   | inl here ↦ inl (ap (λ (o : OwnLock). o.at) here)
   | inr later ↦ inr (of_own owns own later)
 ]
+
+-- where no row is one of theirs, what they leave is what is there
+module _ (s : Records) (sound : IsSound s) (is_one : ℕ → Bool) (none : (at : ℕ) (row : Row) → Stores s at row → is_one row.pid ≡ false) where
+  each_other : (locks : List StoredLock) → ((k : StoredLock) → IsIn k locks → Stores s k.at k.row) → AllByRecursion (IsOthers is_one) (rows_of_locks locks)
+  each_other [] each = tt
+  each_other (k ∷ locks) each = (none k.at k.row (each k (inl refl)), each_other locks (λ x there. each x (inr there)))
+
+  pub none_goes : map (resource_after_rundown is_one) (plain_resources s) ≡ plain_resources s
+  none_goes = of_list s.resources (λ r there. there)
+    where
+      here : (r : StoredResource) → IsIn r s.resources → resource_after_rundown is_one (plain_resource r) ≡ plain_resource r
+      here r among =
+          nothing_left is_one (plain_resource r)
+          (record {
+            granted = each_other r.granted (λ k there. queued_stored s sound r among Granted k there);
+            converting = each_other r.converting (λ k there. queued_stored s sound r among Conversion k there);
+            waiting = each_other r.waiting (λ k there. queued_stored s sound r among Waiting k there);
+          })
+
+      of_list : (rs : List StoredResource) → ((r : StoredResource) → IsIn r rs → IsIn r s.resources)
+          → map (resource_after_rundown is_one) (map plain_resource rs) ≡ map plain_resource rs
+      of_list [] among = refl
+      of_list (r ∷ rs) among =
+          let first = here r (among r (inl refl)) in
+          let behind = of_list rs (λ x there. among x (inr there)) in
+          cc
 
 module _ (owner pid : ℕ) (s : Records) (sound : IsSound s) (lives : IsProcess owner pid s) where
   -- the process
@@ -208,31 +236,9 @@ module _ (owner pid : ℕ) (s : Records) (sound : IsSound s) (lives : IsProcess 
   pub no_locks : own_handles_at owner s ≡ [] → HasNoLocks owner s
   no_locks none = no_own (own_at owner s) none
 
-  each_other : own_handles_at owner s ≡ [] → (locks : List StoredLock) → ((k : StoredLock) → IsIn k locks → Stores s k.at k.row)
-      → AllByRecursion (IsOthers (λ q. q == pid)) (rows_of_locks locks)
-  each_other none [] each = tt
-  each_other none (k ∷ locks) each = (none_is_own none k.at k.row (each k (inl refl)), each_other none locks (λ x there. each x (inr there)))
-
   -- then what it leaves is what is there
   pub all_left : own_handles_at owner s ≡ [] → map (resource_after_rundown (λ q. q == pid)) (plain_resources s) ≡ plain_resources s
-  all_left none = of_list s.resources (λ r there. there)
-    where
-      here : (r : StoredResource) → IsIn r s.resources → resource_after_rundown (λ q. q == pid) (plain_resource r) ≡ plain_resource r
-      here r among =
-          nothing_left (λ q. q == pid) (plain_resource r)
-          (record {
-            granted = each_other none r.granted (λ k there. queued_stored s sound r among Granted k there);
-            converting = each_other none r.converting (λ k there. queued_stored s sound r among Conversion k there);
-            waiting = each_other none r.waiting (λ k there. queued_stored s sound r among Waiting k there);
-          })
-
-      of_list : (rs : List StoredResource) → ((r : StoredResource) → IsIn r rs → IsIn r s.resources)
-          → map (resource_after_rundown (λ q. q == pid)) (map plain_resource rs) ≡ map plain_resource rs
-      of_list [] among = refl
-      of_list (r ∷ rs) among =
-          let first = here r (among r (inl refl)) in
-          let behind = of_list rs (λ x there. among x (inr there)) in
-          cc
+  all_left none = none_goes s sound (λ q. q == pid) (none_is_own none)
 
 -- ---- one lock goes
 
@@ -646,6 +652,14 @@ module _ (s new : Records) (sound : IsSound s) (sound_new : IsSound new) (f : St
         ]
       ]
 
+-- what was noted is noted with another behind it
+noted_before : (t : Touch) (touches : List Touch) (last : Touch) → IsIn t touches → IsIn t (touches ++ last ∷ [])
+noted_before t [] last none = absurd none
+noted_before t (x ∷ touches) last there = elim there [
+  | inl here ↦ inl here
+  | inr behind ↦ inr (noted_before t touches last behind)
+]
+
 -- ---- a turn
 
 -- the own locks of a process are apart by their handles
@@ -672,8 +686,8 @@ pub record IsTurn (owner pid : ℕ) (s new : Records) (touched noted : Touches) 
   pub notes : noted.noted ≡ touched.noted ++ record { serial = serial; res = f.res } ∷ []
   pub room : noted.room ≡ touched.room
 
-module _ (owner pid : ℕ) (old s new : Records) (touched noted : Touches) (f : Standing) (w : Withdrawal)
-    (so_far : IsRunningDown owner pid old s touched) (turn : IsTurn owner pid s new touched noted f w) where
+module _ (owner pid : ℕ) (old s new : Records) (before touched noted : Touches) (f : Standing) (w : Withdrawal)
+    (so_far : IsRunningDown owner pid old s before touched) (turn : IsTurn owner pid s new touched noted f w) where
   mine : f.row.pid ≡ pid
   mine =
       let here = stored_here owner pid s so_far.sound so_far.lives f.lock turn.mine in
@@ -689,7 +703,7 @@ module _ (owner pid : ℕ) (old s new : Records) (touched noted : Touches) (f : 
         length-without f.lock (own_handles_at owner s) apart turn.mine,
       )
 
-  pub next_turn : IsRunningDown owner pid old new noted
+  pub next_turn : IsRunningDown owner pid old new before noted
   next_turn = record {
     resources = one_left s so_far.sound f turn.standing pid mine new w turn.withdrawal turn.resources ∙ so_far.resources;
     statuses = one_untold new s f.row.lkid w turn.withdrawal turn.statuses ∙ so_far.statuses;
@@ -716,6 +730,10 @@ module _ (owner pid : ℕ) (old s new : Records) (touched noted : Touches) (f : 
           length-append touched.noted (record { serial = turn.serial; res = f.res } ∷ []),
           turn.room,
         );
+    kept = λ t there.
+        subst (λ (touches : List Touch). IsIn t touches) (sym turn.notes)
+        (noted_before t touched.noted (record { serial = turn.serial; res = f.res }) (so_far.kept t there));
+    same_room = turn.room ∙ so_far.same_room;
   }
 
 -- a lock that stands is counted: there is room to note its resource

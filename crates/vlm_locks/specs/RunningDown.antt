@@ -1,5 +1,5 @@
 -- What becomes of the records where processes end.
-use Rattle.std.specs.Prelude.{◌≡◌, ◌&&◌, ◌||◌, ◌+◌, ℕ, Bool, false, not, List, filter, length, sum_by, None, if◌then◌else◌}
+use Rattle.std.specs.Prelude.{◌≡◌, ◌≤◌, ◌&&◌, ◌||◌, ◌+◌, ℕ, Bool, false, not, List, filter, length, map, None, if◌then◌else◌}
 use Rattle.std.specs.List.{list_any}
 use Rattle.vlm_words.specs.declared.locks.Row.{Row}
 use Rattle.vlm_words.specs.declared.resources.Queue.TheVariants.{Granted}
@@ -8,7 +8,13 @@ use Rattle.vlm_words.specs.Withdrawals.{is_writer}
 use Rattle.vlm_links.specs.Lists.{IsIn}
 use Rattle.vlm_store.specs.declared.handles.Place.{Place}
 use Rattle.vlm_store.specs.declared.handles.Place.TheVariants.{Queued}
+use Rattle.vlm_store.specs.Plain.{plain_processes, plain_resources}
 use Rattle.vlm_store.specs.Records.{Records, StoredLock, Stores, locks_at}
+use Rattle.vlm_store.specs.Total.{lock_total}
+use Rattle.vlm_words.specs.Rundown.{processes_but}
+use Rattle.vlm_locks.specs.Owing.{IsPaid}
+use Rattle.vlm_locks.specs.Rest.{IsAtRest}
+use Rattle.vlm_locks.specs.Touched.{AreStillNoted, AreThere, OnlyTouched, Touches}
 
 -- the rows but for those of these processes
 abbrev pub rows_but : (ℕ → Bool) → List Row → List Row
@@ -40,3 +46,21 @@ GrantedWantNothing s = (res : ℕ) (lock : StoredLock) → IsIn lock (locks_at (
 -- each lock was there, in its place and with its row
 abbrev pub WereThere : Records → Records → Type 0
 WereThere old new = (place : Place) (lock : StoredLock) → IsIn lock (locks_at place new) → IsIn lock (locks_at place old)
+
+-- processes can be ended: sublocks are of their parents' processes, granted locks want nothing, each process is owed what is
+-- due to it, what is noted is there, and there is room to note the resource of each lock
+pub record CanEndProcesses (touched : Touches) (s : Records) : Type 0 where
+  pub rest : IsAtRest s
+  pub together : SublocksAreOwn s
+  pub granted : GrantedWantNothing s
+  pub paid : IsPaid s
+  pub noted : AreThere touched.noted s
+  pub room : length touched.noted + lock_total s ≤ touched.room
+
+-- these processes are gone with their locks, and each resource that is not as it was is noted
+pub record AreEnded (is_one : ℕ → Bool) (old new : Records) (before after : Touches) : Type 0 where
+  pub resources : plain_resources new ≡ map (resource_after_rundown is_one) (plain_resources old)
+  pub processes : plain_processes new ≡ processes_but is_one (plain_processes old)
+  pub kept : AreStillNoted before.noted after.noted
+  pub only_touched : OnlyTouched after.noted old new
+  pub same_room : after.room ≡ before.room

@@ -28,6 +28,10 @@ abbrev pub RiseBySerial : List Touch → Type 0
 RiseBySerial [] = ⊤
 RiseBySerial (t ∷ touches) = AllByRecursion (λ later. t.serial < later.serial) touches × RiseBySerial touches
 
+-- what was noted is noted still
+abbrev pub AreStillNoted : List Touch → List Touch → Type 0
+AreStillNoted old new = (t : Touch) → IsIn t old → IsIn t new
+
 -- a resource of this serial is noted
 abbrev pub IsNoted : ℕ → List Touch → Type 0
 IsNoted serial touches = (t : Touch) × (IsIn t touches × (t.serial ≡ serial))

@@ -22,7 +22,7 @@ mod withdrawing;
 pub use converting::{convert, converts_at_once};
 pub use entering::{Entry, enter, enters_at_once};
 pub use finding::{Standing, find_lock, standing_of};
-pub use running_down::run_down;
+pub use running_down::{end_process, end_processes_of};
 pub use sweeping::sweep;
 pub use touched::{Touch, Touched};
 pub use withdrawals::{End, Withdrawal};

@@ -4,10 +4,11 @@ ghost use Rattle.std.specs.Prelude.{◌≡◌, ◌==◌, ◌≤◌, ◌+◌, ℕ
 ghost use Rattle.vlm_store.specs.Plain.{plain_processes, plain_resources};
 ghost use Rattle.vlm_store.specs.Records.{HasNoLocks, IsProcess};
 ghost use Rattle.vlm_store.specs.Total.{lock_total};
+ghost use Rattle.vlm_words.specs.Rundown.{is_of_node};
 ghost use Rattle.vlm_locks.specs.Owing.{IsPaid};
 ghost use Rattle.vlm_locks.specs.Rest.{IsAtRest};
-ghost use Rattle.vlm_locks.specs.RunningDown.{GrantedWantNothing, SublocksAreOwn, WereThere, resource_after_rundown};
-ghost use Rattle.vlm_locks.specs.Touched.{AreThere, OnlyTouched};
+ghost use Rattle.vlm_locks.specs.RunningDown.{AreEnded, CanEndProcesses, GrantedWantNothing, SublocksAreOwn, WereThere, resource_after_rundown};
+ghost use Rattle.vlm_locks.specs.Touched.{AreStillNoted, AreThere, OnlyTouched};
 
 use crate::finding::standing_of;
 use crate::touched::{Touch, Touched};
@@ -16,10 +17,10 @@ use crate::withdrawing::withdraw;
 use vlm_store::laws::law_records_are_sound;
 use vlm_store::{ProcAt, Store};
 
-/// Withdraws all locks of a process that ends: the requests end and nobody is told; where a lock is held at PW or EX its
-/// value block is marked invalid. Sublocks go before their parents, since these were made before them. What it touches is
-/// noted. The cost grows with the locks that go.
-pub fn run_down(store: &mut Store, touched: &mut Touched, owner: ProcAt, pid: u32)
+// Withdraws all locks of a process that ends: the requests end and nobody is told; where a lock is held at PW or EX its
+// value block is marked invalid. Sublocks go before their parents, since these were made before them. What it touches is
+// noted. The cost grows with the locks that go.
+fn run_down(store: &mut Store, touched: &mut Touched, owner: ProcAt, pid: u32)
     requires rest { IsAtRest store.old }
     requires owner { IsProcess owner pid store.old }
     requires together { SublocksAreOwn store.old }
@@ -37,7 +38,11 @@ pub fn run_down(store: &mut Store, touched: &mut Touched, owner: ProcAt, pid: u3
     ensures paid { IsPaid store.new }
     ensures noted { AreThere touched.new.noted store.new }
     ensures only_touched { OnlyTouched touched.new.noted store.old store.new }
+    ensures kept { AreStillNoted touched.old.noted touched.new.noted }
+    ensures together { SublocksAreOwn store.new }
+    ensures granted { GrantedWantNothing store.new }
     ensures room { length touched.new.noted + lock_total store.new ≤ touched.new.room }
+    ensures same_room { touched.new.room ≡ touched.old.room }
 {
     law_records_are_sound(store);
     while let Some(lock) = store.last_own(owner) {
@@ -49,4 +54,35 @@ pub fn run_down(store: &mut Store, touched: &mut Touched, owner: ProcAt, pid: u3
         law_records_are_sound(store);
         touched.note(Touch::of(store, standing.res));
     }
+}
+
+/// Ends a process. All its locks are withdrawn: their requests end and nobody is told, and where one is held at PW or EX its
+/// value block is marked invalid. Then the process goes, with its status blocks and its ASTs. What it touches is noted. The
+/// cost grows with the locks that go.
+pub fn end_process(store: &mut Store, touched: &mut Touched, owner: ProcAt, pid: u32)
+    requires owner { IsProcess owner pid store.old }
+    requires can_end { CanEndProcesses touched.old store.old }
+    ensures ended { AreEnded (λ p. p == pid) store.old store.new touched.old touched.new }
+    ensures can_end { CanEndProcesses touched.new store.new }
+{
+    run_down(store, touched, owner, pid);
+    law_records_are_sound(store);
+    store.remove_process(owner);
+}
+
+/// Ends all processes of a node, 1 to 8, as [`end_process`] ends one. The cost grows with the processes and the locks that go.
+pub fn end_processes_of(store: &mut Store, touched: &mut Touched, node: u8)
+    requires first { 1 ≤ node }
+    requires last { node ≤ 8 }
+    requires can_end { CanEndProcesses touched.old store.old }
+    ensures ended { AreEnded (is_of_node node) store.old store.new touched.old touched.new }
+    ensures can_end { CanEndProcesses touched.new store.new }
+{
+    while let Some(pid) = store.first_of(node) {
+        let Some(owner) = store.process(pid) else {
+            break;
+        };
+        end_process(store, touched, owner, pid);
+    }
+    law_records_are_sound(store);
 }

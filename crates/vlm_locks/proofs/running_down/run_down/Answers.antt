@@ -62,13 +62,13 @@ loop-lock-smaller c =
           ∙ ap (λ (res : ℕ). c.loop-lock.touched.noted ++ record { serial = c.of.result.serial; res = res } ∷ []) c.of.ensures.res;
       room = c.note.ensures.room;
     } in
-    omega (arith, fewer_own c.args.owner c.args.pid c.args.store.now s c.withdraw.new.store c.loop-lock.touched c.note.new.self f (plain_withdrawal c.rundown.result) c.loop-lock.invariant turn)
+    omega (arith, fewer_own c.args.owner c.args.pid c.args.store.now s c.withdraw.new.store c.args.touched.now c.loop-lock.touched c.note.new.self f (plain_withdrawal c.rundown.result) c.loop-lock.invariant turn)
 
 pub loop-lock-preserved : goal.loop-lock-preserved
 loop-lock-preserved c =
     let f = c.in-Some-standing_of.standing in
     let s = c.loop-lock.store in
-    next_turn c.args.owner c.args.pid c.args.store.now s c.withdraw.new.store c.loop-lock.touched c.note.new.self f (plain_withdrawal c.rundown.result) c.loop-lock.invariant
+    next_turn c.args.owner c.args.pid c.args.store.now s c.withdraw.new.store c.args.touched.now c.loop-lock.touched c.note.new.self f (plain_withdrawal c.rundown.result) c.loop-lock.invariant
     (record {
       sound = c.law_records_are_sound-in-Some-2.ensures;
       standing = c.in-Some-standing_of.ensures.standing;

@@ -5,7 +5,7 @@ use Rattle.vlm_locks.proofs.running_down.run_down.Given as goal
 
 -- the process is run down so far
 abbrev pub invariant-loop-lock : goal.invariant-loop-lock
-invariant-loop-lock l = IsRunningDown l.owner l.pid l.initial.store l.store l.touched
+invariant-loop-lock l = IsRunningDown l.owner l.pid l.initial.store l.store l.initial.touched l.touched
 
 -- each turn takes a lock of the process
 abbrev pub decreases-loop-lock : goal.decreases-loop-lock

@@ -1,6 +1,6 @@
 use Rattle.std.proofs.lemmas.List.{length-map}
 use Rattle.vlm_locks.specs.declared.touched.Touch.{Touch}
-use Rattle.std.proofs.Common.{arith, rules, drop, ◌+◌}
+use Rattle.std.proofs.Common.{arith, drop, ◌+◌}
 use Rattle.vlm_locks.proofs.Parting.{parted_there}
 use Rattle.vlm_locks.proofs.Sweeps.{handle_at, is_touched_at, swept_resources, swept_statuses, sweeping_at, sweeping_begun, sweeping_next, sweeping_over}
 use Rattle.vlm_locks.specs.Touched.{touched_handles}
