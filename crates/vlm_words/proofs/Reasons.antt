@@ -80,7 +80,7 @@ declaration_breaks s d = of_node (is_node d.node) refl
     of_node false is = says_some (DeclarationBreaks s d) Badparam (elim (no_node d.node is) [ inl none ↦ inl none | inr past ↦ inr (inl past) ])
 
 -- an accepted declaration breaks none
-declaration_keeps : (s : State) (d : Declaration) → declare_refusal s d ≡ None → (c : Cond) → DeclarationBreaks s d c → ⊥
+pub declaration_keeps : (s : State) (d : Declaration) → declare_refusal s d ≡ None → (c : Cond) → DeclarationBreaks s d c → ⊥
 unfolding declare_refusal
 declaration_keeps s d passed = of_tests (is_node d.node) (has_departed s.nodes d.node) (nat_lt (node_at s.nodes d.node).declared 65535) refl refl refl passed
   where

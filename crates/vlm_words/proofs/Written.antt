@@ -179,7 +179,7 @@ end_not_normal s pid refusal is = of_tests (has_departed s.nodes (node_of_pid pi
     of_tests false true told normal = cc
     of_tests false false told normal = cc
 
-departure_not_normal : (s : State) (node : ℕ) (refusal : Cond) → leave_refusal s node ≡ Some refusal → (refusal ≡ Normal → ⊥)
+pub departure_not_normal : (s : State) (node : ℕ) (refusal : Cond) → leave_refusal s node ≡ Some refusal → (refusal ≡ Normal → ⊥)
 unfolding leave_refusal
 departure_not_normal s node refusal is = of_tests (not (is_node node)) (has_departed s.nodes node) is
   where
