@@ -7,3 +7,4 @@ pub mod Raising
 pub mod Warning
 pub mod WarnedOnce
 pub mod InTheWay
+pub mod Departing

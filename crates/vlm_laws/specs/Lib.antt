@@ -5,3 +5,4 @@ pub mod Raising
 pub mod Warning
 pub mod WarnedOnce
 pub mod InTheWay
+pub mod Departing

@@ -10,6 +10,7 @@ ghost use Rattle.vlm_words.specs.Stepped.{IsChoice, stepped};
 ghost use Rattle.vlm_laws.specs.Accounting.{WhatIsQueuedIsTakenOrPending};
 ghost use Rattle.vlm_laws.specs.Anew.{GivesNoneTwice};
 ghost use Rattle.vlm_laws.specs.Completing.{EachRequestCompletesOnce};
+ghost use Rattle.vlm_laws.specs.Departing.{DepartedNodesAreToldSo, NoneLivesOnDepartedNodes};
 ghost use Rattle.vlm_laws.specs.Raising.{NoMoreIsQueuedThanNamed, OnlyOwnRequestsRaiseDues};
 ghost use Rattle.vlm_laws.specs.Warning.{WarningsAreOfGrants};
 ghost use Rattle.vlm_laws.specs.WarnedOnce.{EachGrantIsWarnedAtMostOnce};
@@ -81,4 +82,20 @@ pub fn law_a_grant_is_warned_at_most_once()
 pub fn law_a_warned_lock_is_in_the_way()
     ensures { (s : State) (step : Step) (choice : Option Row)
         → WarnedLocksAreInTheWay (stepped s step choice) }
+{}
+
+/// A node that has departed does not come back: from its accepted departure on, to the end of the run, each step of the
+/// node or of a process of it, a second departure too, is answered DEPARTED. Such a step changes nothing, ends no
+/// request and queues nothing. No step is answered DEPARTED but that of a node whose departure was accepted. A search,
+/// which is not built, is of no node here.
+pub fn law_a_departed_node_is_answered_departed()
+    ensures { (history : History) (last : State) → Run history last
+        → DepartedNodesAreToldSo history last }
+{}
+
+/// No process of a departed node lives: from the accepted departure of a node on, to the end of the run, no living
+/// process is of that node.
+pub fn law_no_process_of_a_departed_node_lives()
+    ensures { (history : History) (last : State) → Run history last
+        → NoneLivesOnDepartedNodes history last }
 {}

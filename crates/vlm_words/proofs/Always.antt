@@ -96,7 +96,7 @@ kept_by_stepped P endings s held declare set take enq convert deq end step choic
     each_kind (Enq e) passed = enq e passed
     each_kind (Convert c) passed = converts c passed
     each_kind (Deq d) passed = deq d passed
-    each_kind (Rundown pid) passed = cc
-    each_kind (Leave node) passed = cc
+    each_kind (Rundown pid) passed = end (is_ended_by pid) s.nodes (run_down pid passed)
+    each_kind (Leave node) passed = end (is_of_node node) (nodes_after_departure s.nodes node) (departs node passed)
     each_kind (Search node) passed = cc
     each_kind (Take pid) passed = take pid passed

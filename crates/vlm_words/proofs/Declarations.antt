@@ -47,7 +47,7 @@ pub record AllGiven (s : State) : Type 0 where
   pub living : AllByRecursion (IsGiven s.nodes) (pids s.processes)
 
 -- a process that is added
-pids_added : (processes : List Process) (p : Process) → pids (processes ++ p ∷ []) ≡ pids processes ++ p.pid ∷ []
+pub pids_added : (processes : List Process) (p : Process) → pids (processes ++ p ∷ []) ≡ pids processes ++ p.pid ∷ []
 pids_added [] p = refl
 pids_added (q ∷ rest) p = ap (λ (others : List ℕ). q.pid ∷ others) (pids_added rest p)
 

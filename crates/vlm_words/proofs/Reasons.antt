@@ -80,7 +80,7 @@ declaration_breaks s d = of_node (is_node d.node) refl
     of_node false is = says_some (DeclarationBreaks s d) Badparam (elim (no_node d.node is) [ inl none ↦ inl none | inr past ↦ inr (inl past) ])
 
 -- an accepted declaration breaks none
-declaration_keeps : (s : State) (d : Declaration) → declare_refusal s d ≡ None → (c : Cond) → DeclarationBreaks s d c → ⊥
+pub declaration_keeps : (s : State) (d : Declaration) → declare_refusal s d ≡ None → (c : Cond) → DeclarationBreaks s d c → ⊥
 unfolding declare_refusal
 declaration_keeps s d passed = of_tests (is_node d.node) (has_departed s.nodes d.node) (nat_lt (node_at s.nodes d.node).declared 65535) refl refl refl passed
   where
@@ -303,8 +303,8 @@ step_breaks s apart placed (SetValue v) = setting_breaks s v
 step_breaks s apart placed (Enq e) = request_breaks s e apart placed
 step_breaks s apart placed (Convert c) = conversion_breaks s c apart
 step_breaks s apart placed (Deq d) = dequeue_breaks s d
-step_breaks s apart placed (Rundown pid) = says_some (Breaks s (Rundown pid)) Badparam tt
-step_breaks s apart placed (Leave node) = says_some (Breaks s (Leave node)) Badparam tt
+step_breaks s apart placed (Rundown pid) = says_caller (CallerBreaks s pid) s pid (λ departed. departed) (λ none. none)
+step_breaks s apart placed (Leave node) = departure_breaks s node
 step_breaks s apart placed (Search node) = says_some (Breaks s (Search node)) Badparam tt
 step_breaks s apart placed (Take pid) = says_caller (CallerBreaks s pid) s pid (λ departed. departed) (λ none. none)
 
@@ -316,8 +316,8 @@ step_keeps s apart placed (Enq e) passed = request_keeps s e apart placed passed
 step_keeps s apart placed (Convert c) passed =
     let admitted = admission_of s c passed in conversion_keeps s c apart passed admitted.0 admitted.1
 step_keeps s apart placed (Deq d) passed = dequeue_keeps s d passed
-step_keeps s apart placed (Rundown pid) passed = cc
-step_keeps s apart placed (Leave node) passed = cc
+step_keeps s apart placed (Rundown pid) passed = caller_keeps s pid (caller_passes s pid passed)
+step_keeps s apart placed (Leave node) passed = departure_keeps s node passed
 step_keeps s apart placed (Search node) passed = cc
 step_keeps s apart placed (Take pid) passed = caller_keeps s pid (caller_passes s pid passed)
 

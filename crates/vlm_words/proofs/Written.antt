@@ -179,7 +179,7 @@ end_not_normal s pid refusal is = of_tests (has_departed s.nodes (node_of_pid pi
     of_tests false true told normal = cc
     of_tests false false told normal = cc
 
-departure_not_normal : (s : State) (node : ℕ) (refusal : Cond) → leave_refusal s node ≡ Some refusal → (refusal ≡ Normal → ⊥)
+pub departure_not_normal : (s : State) (node : ℕ) (refusal : Cond) → leave_refusal s node ≡ Some refusal → (refusal ≡ Normal → ⊥)
 unfolding leave_refusal
 departure_not_normal s node refusal is = of_tests (not (is_node node)) (has_departed s.nodes node) is
   where
@@ -188,10 +188,6 @@ departure_not_normal s node refusal is = of_tests (not (is_node node)) (has_depa
     of_tests false true told normal = cc
     of_tests false false told normal = cc
 
--- a kind of step that is not built is refused
-unbuilt_not_normal : (refusal : Cond) → Some Badparam ≡ Some refusal → refusal ≡ Normal → ⊥
-unbuilt_not_normal refusal is normal = cc
-
 refused_leaves : (s : State) (kind : Step) (refusal : Cond) → step_refusal s kind ≡ Some refusal → (processes : List Process)
     → ProcessesAfter kind (Plain refusal) processes processes
 refused_leaves s (Declare d) refusal is processes = refl
@@ -199,12 +195,12 @@ refused_leaves s (SetValue v) refusal is processes = refl
 refused_leaves s (Enq e) refusal is processes = refl
 refused_leaves s (Convert c) refusal is processes = refl
 refused_leaves s (Deq d) refusal is processes = refl
-refused_leaves s (Rundown pid) refusal is processes = of_told refusal (unbuilt_not_normal refusal is)
+refused_leaves s (Rundown pid) refusal is processes = of_told refusal (end_not_normal s pid refusal is)
   where
     of_told : (told : Cond) → (told ≡ Normal → ⊥) → ProcessesAfter (Rundown pid) (Plain told) processes processes
     of_told Normal other = absurd (other refl)
     of_told told other = refl
-refused_leaves s (Leave node) refusal is processes = of_told refusal (unbuilt_not_normal refusal is)
+refused_leaves s (Leave node) refusal is processes = of_told refusal (departure_not_normal s node refusal is)
   where
     of_told : (told : Cond) → (told ≡ Normal → ⊥) → ProcessesAfter (Leave node) (Plain told) processes processes
     of_told Normal other = absurd (other refl)

@@ -173,7 +173,7 @@ DepartureBreaks s node Badparam = (node ≡ 0) ⊎ (8 < node)
 DepartureBreaks s node Departed = HasDeparted s node
 DepartureBreaks s node cond = ⊥
 
--- a kind of step that is not built breaks the rule that it be built
+-- a kind of step that is not built, as a search, breaks the rule that it be built
 abbrev pub UnbuiltBreaks : Cond → Type 0
 UnbuiltBreaks Badparam = ⊤
 UnbuiltBreaks cond = ⊥
@@ -185,8 +185,8 @@ Breaks s (SetValue v) cond = SettingBreaks s v cond
 Breaks s (Enq e) cond = RequestBreaks s e cond
 Breaks s (Convert c) cond = ConversionBreaks s c cond
 Breaks s (Deq d) cond = DequeueBreaks s d cond
-Breaks s (Rundown pid) cond = UnbuiltBreaks cond
-Breaks s (Leave node) cond = UnbuiltBreaks cond
+Breaks s (Rundown pid) cond = CallerBreaks s pid cond
+Breaks s (Leave node) cond = DepartureBreaks s node cond
 Breaks s (Search node) cond = UnbuiltBreaks cond
 Breaks s (Take pid) cond = CallerBreaks s pid cond
 

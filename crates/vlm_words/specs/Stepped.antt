@@ -20,7 +20,7 @@ use Rattle.vlm_words.specs.Take.{take_change, take_refusal, taken_ast}
 use Rattle.vlm_words.specs.Enqueue.{enq_at_once, enq_change, enq_endings, enq_refusal}
 use Rattle.vlm_words.specs.Convert.{ConversionAdmission, conversion_endings, convert_admission, convert_change, convert_lkid, convert_refusal}
 use Rattle.vlm_words.specs.Dequeue.{deq_change, deq_endings, deq_refusal}
-use Rattle.vlm_words.specs.Rundown.{is_ended_by, is_of_node, nodes_after_departure, rundown_endings, state_after_rundown}
+use Rattle.vlm_words.specs.Rundown.{is_ended_by, is_of_node, leave_refusal, nodes_after_departure, rundown_endings, rundown_refusal, state_after_rundown}
 
 -- what a step comes to: the state that it leaves, its answer, the requests that end in it, and the ASTs that it
 -- queues
@@ -53,15 +53,15 @@ end_of_processes is_one nodes s = record {
   queued = completions_of (rundown_endings is_one s);
 }
 
--- why the checks of a step refuse it, if they do; a kind that is not built yet is refused
+-- why the checks of a step refuse it, if they do; a search, which is not built yet, is refused
 abbrev pub step_refusal : State → Step → Option Cond
 step_refusal s (Declare d) = declare_refusal s d
 step_refusal s (SetValue v) = set_refusal s v
 step_refusal s (Enq e) = enq_refusal s e
 step_refusal s (Convert c) = convert_refusal s c
 step_refusal s (Deq d) = deq_refusal s d
-step_refusal s (Rundown pid) = Some Badparam
-step_refusal s (Leave node) = Some Badparam
+step_refusal s (Rundown pid) = rundown_refusal s pid
+step_refusal s (Leave node) = leave_refusal s node
 step_refusal s (Search node) = Some Badparam
 step_refusal s (Take pid) = take_refusal s pid
 

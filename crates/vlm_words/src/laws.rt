@@ -126,8 +126,8 @@ pub fn law_changes_keep_the_order_of_queues()
         → step_refusal old step ≡ None → ChangesKeepOrder old step choice }
 {}
 
-/// A step leaves the requests and locks of other processes alone: what it ends but by a grant is of its caller,
-/// and so is each lock that leaves.
+/// A step leaves the requests and locks of other processes alone: what it ends but by a grant is of its caller, or of
+/// a process of the node that departs, and so is each lock that leaves.
 pub fn law_others_are_left_alone()
     ensures { (history : History) (old : State) → Run history old
         → (step : Step) (choice : Option Row) → IsChoice old step choice
@@ -196,7 +196,8 @@ pub fn law_noqueue_is_kept()
 
 /// A step writes the status blocks that it names, and those that the requests name that end in it, and no other. An
 /// accepted request makes its block that of a pending request for its lock. The status of a block tells how the
-/// last request ended that names it. A declaration adds its process; no other step adds one or takes one away.
+/// last request ended that names it. A declaration adds its process, a rundown takes its process away and a departure
+/// those of its node; no other step adds one or takes one away.
 pub fn law_a_step_writes_the_status_blocks_that_are_named()
     ensures { (history : History) (old : State) → Run history old
         → (step : Step) (choice : Option Row)
@@ -224,7 +225,8 @@ pub fn law_a_lock_stands_as_asked_for()
 
 /// A step that no check refuses changes the value block of a resource only by its own lock, which is held there at PW
 /// or EX before: by a conversion with VALBLK that gives PW or EX up or keeps it, which is granted at once, or as
-/// the lock is given up. A new resource's value block is zeros and valid. So no sweep changes one.
+/// the lock is given up or goes with its process. A new resource's value block is zeros and valid. So no sweep changes
+/// one.
 pub fn law_only_writers_change_value_blocks()
     ensures { (history : History) (old : State) → Run history old
         → (step : Step) (choice : Option Row)
