@@ -1,73 +1,85 @@
--- A process that goes from the records goes from the plain machine, with all its locks.
-use Rattle.std.proofs.Common.{◌≡◌, ◌≢◌, ℕ, Bool, true, false, not, cond, List, [], ◌∷◌, map, filter, refl, sym, ap, ◌∙◌, inl, inr, ne_eqb}
-use Rattle.std.specs.Prelude.{◌==◌}
-use Rattle.std.proofs.lemmas.Bool.{eq-eqb}
-use Rattle.vlm_words.specs.Rundown.{is_ended_by, processes_but, rundowns, state_after_rundown}
-use Rattle.vlm_words.specs.State.{Process, Resource, State}
+-- Processes that go from the records go from the plain machine, with all their locks.
+use Rattle.std.proofs.Common.{◌≡◌, ◌<◌, ℕ, Bool, List, [], ◌∷◌, length, map, sym, ap, ◌∙◌, subst, arith}
+use Rattle.std.specs.List.{AllByRecursion}
+use Rattle.vlm_words.specs.Rundown.{rundowns, state_after_rundown}
+use Rattle.vlm_words.specs.State.{Node, Process, Resource, State}
 use Rattle.vlm_words.specs.Withdrawals.{resource_after_withdrawals}
 use Rattle.vlm_words.proofs.Apart.{Apart}
+use Rattle.vlm_words.proofs.Pairs.{EachPair}
 use Rattle.vlm_links.specs.Lists.{IsIn}
-use Rattle.vlm_store.specs.Plain.{plain_processes, plain_resources}
-use Rattle.vlm_store.specs.Records.{AreProcessesApart, IsProcess, IsSound, Records, StoredProcess, without_process}
-use Rattle.vlm_locks.specs.RunningDown.{resource_after_rundown}
+use Rattle.vlm_store.specs.Plain.{plain_processes, plain_resource, plain_resources}
+use Rattle.vlm_store.specs.Records.{IsSound, Records, StoredResource}
+use Rattle.vlm_locks.specs.Owing.{IsPaid}
+use Rattle.vlm_locks.specs.Rest.{IsAtRest}
+use Rattle.vlm_locks.specs.RunningDown.{AreEnded, CanEndProcesses, resource_after_rundown}
+use Rattle.vlm_locks.specs.declared.touched.Touch.{Touch}
+use Rattle.vlm_locks.specs.Touched.{SerialsRise, Touches}
 use Rattle.vlm_locks.proofs.TogetherDown.{rundown_by_rows}
+use Rattle.vlm_core.specs.Between.{IsBetweenSteps}
 use Rattle.vlm_core.specs.Machine.{MachineState, plain_state}
+use Rattle.vlm_core.specs.Notes.{HasRoomToNote, IsToSweep}
+use Rattle.vlm_core.proofs.FirstPending.{pairs_by_recursion}
+use Rattle.vlm_core.proofs.Noting.{as_many_stored}
+use Rattle.vlm_core.proofs.RunDown.{granted_want_nothing, sublocks_are_own}
+use Rattle.vlm_core.proofs.Settling.{settled_one}
 
-one_and_the_same : (p q : StoredProcess) → p ≡ q → (p.at == q.at) ≡ (p.process.pid == q.process.pid)
-one_and_the_same p q same =
-    eq-eqb p.at q.at (ap (λ (y : StoredProcess). y.at) same) ∙ sym (eq-eqb p.process.pid q.process.pid (ap (λ (y : StoredProcess). y.process.pid) same))
+-- ---- before
 
-neither : (p q : StoredProcess) → p.at ≢ q.at → p.process.pid ≢ q.process.pid → (p.at == q.at) ≡ (p.process.pid == q.process.pid)
-neither p q first second = ne_eqb p.at q.at first ∙ sym (ne_eqb p.process.pid q.process.pid second)
+-- between two steps processes can be ended
+pub can_end : (m : MachineState) (touched : Touches) → IsSound m.records → IsAtRest m.records → IsPaid m.records → IsBetweenSteps (plain_state m) → HasRoomToNote touched m
+    → CanEndProcesses touched m.records
+can_end m touched sound rest paid between notes = record {
+  rest = rest;
+  together = sublocks_are_own m.records sound rest.none_loose between.identifications.none_is_0 between.parents;
+  granted = granted_want_nothing m.records between.rows_fit;
+  paid = paid;
+  noted = λ t there. absurd (subst (IsIn t) notes.none there);
+  room = omega (arith, notes.room, as_many_stored m.records rest.none_loose, ap (λ (touches : List Touch). length touches) notes.none);
+}
 
--- the process of a handle has its identification, and no other process has it
-same_process : (ps : List StoredProcess) → AreProcessesApart ps → (p q : StoredProcess) → IsIn p ps → IsIn q ps
-    → (p.at == q.at) ≡ (p.process.pid == q.process.pid)
-same_process [] apart p q none second = absurd none
-same_process (x ∷ ps) apart p q (inl here) (inl there) =
-    let same : p ≡ q = sym here ∙ there in
-    one_and_the_same p q same
-same_process (x ∷ ps) apart p q (inl here) (inr there) =
-    let differs = apart.0 q there in
-    neither p q (λ same. differs.0 (sym same ∙ sym (ap (λ (y : StoredProcess). y.at) here)))
-    (λ same. differs.1 (sym same ∙ sym (ap (λ (y : StoredProcess). y.process.pid) here)))
-same_process (x ∷ ps) apart p q (inr there) (inl here) =
-    let differs = apart.0 p there in
-    neither p q (λ same. differs.0 (same ∙ sym (ap (λ (y : StoredProcess). y.at) here)))
-    (λ same. differs.1 (same ∙ sym (ap (λ (y : StoredProcess). y.process.pid) here)))
-same_process (x ∷ ps) apart p q (inr first) (inr second) = same_process ps apart.1 p q first second
+-- ---- after
 
--- the processes that are left
-left : (at pid : ℕ) (ps : List StoredProcess) → ((p : StoredProcess) → IsIn p ps → (p.at == at) ≡ (p.process.pid == pid))
-    → map (λ p. p.process) (without_process at ps) ≡ processes_but (is_ended_by pid) (map (λ p. p.process) ps)
-left at pid [] each = refl
-left at pid (p ∷ ps) each =
-    of_test (p.at == at) (p.process.pid == pid) (each p (inl refl)) (left at pid ps (λ q there. each q (inr there)))
-  where
-    of_test : (a b : Bool) → a ≡ b → map (λ (q : StoredProcess). q.process) (without_process at ps) ≡ processes_but (is_ended_by pid) (map (λ q. q.process) ps)
-        → map (λ (q : StoredProcess). q.process) (cond (not a) (p ∷ without_process at ps) (without_process at ps))
-        ≡ cond (not b) (p.process ∷ processes_but (is_ended_by pid) (map (λ q. q.process) ps)) (processes_but (is_ended_by pid) (map (λ q. q.process) ps))
-    of_test true true same rest = rest
-    of_test false false same rest = ap (λ (qs : List Process). p.process ∷ qs) rest
-    of_test true false same rest = cc
-    of_test false true same rest = cc
-
--- the state once the locks of a process are gone, and the process too
-pub state_ended : (old : MachineState) (at pid : ℕ) (mid new : Records) → IsSound mid → IsProcess at pid mid → Apart (plain_state old)
-    → plain_resources mid ≡ map (resource_after_rundown (λ p. p == pid)) (plain_resources old.records)
-    → plain_processes mid ≡ plain_processes old.records
-    → plain_resources new ≡ plain_resources mid
-    → new.processes ≡ without_process at mid.processes
-    → plain_state (record old { records = new }) ≡ state_after_rundown (is_ended_by pid) old.nodes (plain_state old)
+-- the state once these processes are gone with their locks
+pub state_ended : (old : MachineState) (is_one : ℕ → Bool) (nodes : List Node) (new : Records) (before after : Touches) → Apart (plain_state old)
+    → AreEnded is_one old.records new before after
+    → plain_state (record old { nodes = nodes; records = new }) ≡ state_after_rundown is_one nodes (plain_state old)
 unfolding state_after_rundown
-state_ended old at pid mid new sound lives apart rows statuses resources processes =
-    ap (λ rs. with_parts (plain_processes new) rs) (resources ∙ rows ∙ sym (rundown_by_rows (plain_state old) (is_ended_by pid) apart))
-    ∙ ap (λ ps. with_parts ps (map (resource_after_withdrawals (rundowns (is_ended_by pid) (plain_state old))) (plain_resources old.records)))
-    (ap (map (λ p. p.process)) processes
-    ∙ left at pid mid.processes
-    (λ p there.
-    ap (λ handle. p.at == handle) (sym lives.1.1) ∙ same_process mid.processes sound.processes_apart p lives.0 there lives.1.0 ∙ ap (λ other. p.process.pid == other) lives.1.2)
-    ∙ ap (processes_but (is_ended_by pid)) statuses)
+state_ended old is_one nodes new before after apart ended =
+    ap (λ rs. with_parts (plain_processes new) rs) (ended.resources ∙ sym (rundown_by_rows (plain_state old) is_one apart))
+    ∙ ap (λ ps. with_parts ps (map (resource_after_withdrawals (rundowns is_one (plain_state old))) (plain_resources old.records))) ended.processes
   where
     with_parts : List Process → List Resource → State
-    with_parts ps rs = record (plain_state old) { processes = ps; resources = rs }
+    with_parts ps rs = record (plain_state old) { nodes = nodes; processes = ps; resources = rs }
+
+-- serials rise among the records as among the plain resources
+rise_plain : (rs : List StoredResource) → EachPair (λ a b. a.serial < b.serial) (map plain_resource rs) → SerialsRise rs
+rise_plain [] pairs = tt
+rise_plain (r ∷ rs) pairs = (each_above rs pairs.0, rise_plain rs pairs.1)
+  where
+    each_above : (later : List StoredResource) → AllByRecursion (λ (x : Resource). r.serial < x.serial) (map plain_resource later)
+        → AllByRecursion (λ (x : StoredResource). r.serial < x.serial) later
+    each_above [] all = tt
+    each_above (x ∷ later) all = (all.0, each_above later all.1)
+
+-- and where processes end they stay
+rise_still : (is_one : ℕ → Bool) (rs : List Resource) → EachPair (λ a b. a.serial < b.serial) rs → EachPair (λ a b. a.serial < b.serial) (map (resource_after_rundown is_one) rs)
+unfolding resource_after_rundown
+rise_still is_one [] pairs = tt
+rise_still is_one (r ∷ rs) pairs = (each_above rs pairs.0, rise_still is_one rs pairs.1)
+  where
+    each_above : (later : List Resource) → AllByRecursion (λ (x : Resource). r.serial < x.serial) later
+        → AllByRecursion (λ (x : Resource). r.serial < x.serial) (map (resource_after_rundown is_one) later)
+    each_above [] all = tt
+    each_above (x ∷ later) all = (all.0, each_above later all.1)
+
+-- what is left to sweep is noted
+pub to_sweep : (old new : MachineState) (is_one : ℕ → Bool) (before after : Touches) → IsBetweenSteps (plain_state old) → AreEnded is_one old.records new.records before after
+    → CanEndProcesses after new.records → IsToSweep after new
+to_sweep old new is_one before after between ended left = record {
+  noted = left.noted;
+  rise =
+      rise_plain new.records.resources
+      (subst (EachPair (λ (a b : Resource). a.serial < b.serial)) (sym ended.resources)
+      (rise_still is_one (plain_resources old.records) (pairs_by_recursion (λ (a b : Resource). a.serial < b.serial) (plain_resources old.records) between.serials_rise)));
+  settled = λ r there untouched. settled_one old.records.resources between.settled r (ended.only_touched r there untouched);
+}

@@ -23,7 +23,7 @@ abbrev Rises : Process → Process → Type 0
 Rises a b = node_of_pid a.pid ≡ node_of_pid b.pid → a.pid < b.pid
 
 -- by recursion each pair has what it has by places
-pairs_by_recursion : {X : Type 0} (R : X → X → Type 0) (xs : List X) → AllPairs R xs → EachPair R xs
+pub pairs_by_recursion : {X : Type 0} (R : X → X → Type 0) (xs : List X) → AllPairs R xs → EachPair R xs
 pairs_by_recursion R [] pairs = tt
 pairs_by_recursion R (x ∷ xs) pairs = (
   recursion_from_All (R x) xs (λ i d within. pairs 0 (suc i) d (omega arith) (omega (arith, within))),

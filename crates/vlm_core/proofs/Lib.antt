@@ -14,3 +14,4 @@ pub mod Childless
 pub mod Wanting
 pub mod RunDown
 pub mod EndOfProcess
+pub mod Noting

@@ -13,7 +13,7 @@ use Rattle.vlm_locks.specs.Rest.{OthersStay}
 use Rattle.vlm_locks.specs.Sweeping.{AreSettledBut}
 
 -- what is settled together is settled one by one
-settled_one : (rs : List StoredResource) → AllByRecursion IsSettled (map plain_resource rs) → (r : StoredResource) → IsIn r rs → IsSettled (plain_resource r)
+pub settled_one : (rs : List StoredResource) → AllByRecursion IsSettled (map plain_resource rs) → (r : StoredResource) → IsIn r rs → IsSettled (plain_resource r)
 settled_one [] settled r among = absurd among
 settled_one (x ∷ rs) settled r among =
     elim among [

@@ -1,5 +1,6 @@
 pub mod Admissions
 pub mod Between
 pub mod Machine
+pub mod Notes
 pub mod Parents
 pub mod Running

@@ -15,6 +15,7 @@ ghost use Rattle.vlm_locks.specs.Rest.{IsAtRest, OthersStay};
 ghost use Rattle.vlm_core.specs.Admissions.{IsAdmitted, IsAskedBy, IsCaller, IsEntry, IsForm};
 ghost use Rattle.vlm_core.specs.Between.{IsBetweenSteps};
 ghost use Rattle.vlm_core.specs.Machine.{plain_state};
+ghost use Rattle.vlm_core.specs.Notes.{HasRoomToNote};
 
 use crate::checks::{acceptance, check_queue};
 use crate::flags::enq_flags;
@@ -22,7 +23,7 @@ use crate::parents::lock_of;
 use crate::processes::Caller;
 use crate::records::Machine;
 use std::alloc::AllocError;
-use vlm_locks::{Entry, Standing, enter, enters_at_once};
+use vlm_locks::{Entry, Standing, Touched, enter, enters_at_once};
 use vlm_store::{ResAt, Store};
 use vlm_words::conditions::Cond;
 use vlm_words::flags::EnqFlags;
@@ -88,14 +89,21 @@ fn last_given(last_serial: u32, entry: &Entry) -> u32
 }
 
 impl Machine {
-    /// Asks for a new lock: its checks, its change, and the sweep of its resource.
-    pub(crate) fn enq(&mut self, request: NewRequest) -> Answer
-        requires { IsBetweenSteps (plain_state self.old) }
-        ensures { Outcome (plain_state self.old) (Step.Enq request) (plain_state self.new) result }
+    /// Asks for a new lock: its checks, its change, and the sweep of its resource. An ending of the lock is to find room
+    /// to note its resource: that is made here.
+    pub(crate) fn enq(&mut self, touched: &mut Touched, request: NewRequest) -> Answer
+        requires between { IsBetweenSteps (plain_state self.old) }
+        requires notes { HasRoomToNote touched.old self.old }
+        ensures outcome { Outcome (plain_state self.old) (Step.Enq request)
+            (plain_state self.new) result }
+        ensures notes { HasRoomToNote touched.new self.new }
     {
         let admitted = match self.checked_request(&request) {
             Ok(admitted) => admitted,
             Err(refusal) => return Answer::Plain(refusal),
+        };
+        let Ok(()) = touched.make_room_beyond(self.store.total_locks()) else {
+            return Answer::Plain(Cond::Insfmem);
         };
         match self.enq_change(&request, &admitted) {
             Ok(res) => {

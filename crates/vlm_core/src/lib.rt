@@ -2,7 +2,7 @@
 //!
 //! Each step is made in three parts. Its checks only read, look up the records that it needs once, and
 //! answer the first refusal in the stated order. Then every growth is made, so that a refused one leaves
-//! all as it was. Then the change is made, which refuses nothing, and the resource that it touched is
+//! all as it was. Then the change is made, which refuses nothing, and the resources that it touched are
 //! swept. Inside, a machine of records makes the parts; outside, [`Core`] makes whole steps, so that every law of
 //! the plain machine holds of every core.
 #![tactic(auto)]
@@ -11,6 +11,7 @@ mod checks;
 mod converting;
 mod declaring;
 mod dequeuing;
+mod ending;
 mod enqueuing;
 mod flags;
 mod nodes;

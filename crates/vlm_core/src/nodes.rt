@@ -1,7 +1,8 @@
 //! The nodes.
 
-ghost use Rattle.std.specs.Prelude.{◌≡◌, ◌+◌, ◌<◌};
+ghost use Rattle.std.specs.Prelude.{◌≡◌, ◌+◌, ◌<◌, ◌≤◌, true};
 ghost use Rattle.vlm_words.specs.Checks.{has_departed};
+ghost use Rattle.vlm_words.specs.Rundown.{nodes_after_departure};
 ghost use Rattle.vlm_words.specs.State.{new_node};
 
 use std::marker::Model;
@@ -51,6 +52,15 @@ impl Node {
         self.departed
     }
 
+    fn after_departure(&self) -> Self
+        ensures { result ≡ record self.now { departed = true } }
+    {
+        Node {
+            declared: self.declared,
+            departed: true,
+        }
+    }
+
     /// The node with one declaration more.
     pub(crate) fn counted(&self) -> Self
         requires { self.now.declared < 65535 }
@@ -68,4 +78,14 @@ pub(crate) fn has_departed(nodes: &[Node; NODES], node: u32) -> bool
     ensures { result ≡ has_departed nodes.now node }
 {
     0 < node && node as usize <= NODES && nodes[node as usize - 1].departed()
+}
+
+/// The node departs.
+pub(crate) fn depart(nodes: &mut [Node; NODES], node: u8)
+    requires first { 1 ≤ node }
+    requires last { node ≤ 8 }
+    ensures { nodes.new ≡ nodes_after_departure nodes.old node }
+{
+    let place = usize::from(node) - 1;
+    nodes[place] = nodes[place].after_departure();
 }

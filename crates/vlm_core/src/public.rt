@@ -14,6 +14,7 @@ ghost use Rattle.vlm_core.specs.Between.{IsBetweenSteps};
 use crate::records::Machine;
 use std::alloc::Global;
 use std::marker::Model;
+use vlm_locks::Touched;
 use vlm_store::Store;
 use vlm_store::laws::law_records_are_sound;
 use vlm_words::laws::{
@@ -27,12 +28,17 @@ use vlm_words::steps::{Answer, Conversion, Declaration, Dequeue, NewRequest, Ste
 /// state, so that each law of such runs holds of it.
 pub struct Core {
     pub(crate) machine: Machine,
+    // what a step touches, for its sweep, with room for all that an ending can touch
+    touched: Touched,
 }
 
 // Written out, a drop is one call to each owner of a core.
 impl Drop for Core {
     fn drop(self) {
-        let Core { machine: _ } = self;
+        let Core {
+            machine: _,
+            touched: _,
+        } = self;
     }
 }
 
@@ -41,12 +47,12 @@ impl Model for Core {
 
     ghost Value = { State };
 
-    ghost use Rattle.vlm_core.specs.Between.{IsReachable};
     ghost use Rattle.vlm_core.specs.Machine.{plain_state};
+    ghost use Rattle.vlm_core.specs.Notes.{IsCore};
 
     ghost view = { λ c. plain_state c.machine };
 
-    ghost invariant = { λ c. IsReachable (plain_state c.machine) };
+    ghost invariant = { IsCore };
 }
 
 impl Core {
@@ -56,6 +62,7 @@ impl Core {
     {
         Core {
             machine: Machine::new(alloc),
+            touched: Touched::new(alloc),
         }
     }
 
@@ -94,13 +101,13 @@ impl Core {
     /// ends in it queues an AST for its completion routine, if it names one; a grant at once with SYNCSTS
     /// does not, since the answer tells of it. Then each granted lock that is in the way of a queued request
     /// is warned, once for each grant of it: an AST for its blocking routine is queued, if its request names
-    /// one. Its cost grows with what it grants, where it warns also with the armed locks of that resource,
-    /// and with nothing else that is held.
+    /// one. Its cost grows with the locks that it takes away and what it grants, where it warns also with the armed
+    /// locks of that resource, and with nothing else that is held.
     pub fn step(&mut self, step: Step) -> Answer
         ensures { Outcome self.old step self.new result }
     {
         self.between_steps();
-        self.machine.step(step)
+        self.machine.step(&mut self.touched, step)
     }
 
     /// Declares a process (this project's own). Refused by BADPARAM where the node is not 1 to 8,
@@ -181,5 +188,28 @@ impl Core {
         ensures answer { result ≡ (stepped self.old (Step.Deq dequeue) None).answer }
     {
         self.step(Step::Deq(dequeue))
+    }
+
+    /// Ends a process (process rundown). All its locks are given up together: its requests end without a status or an
+    /// AST, and on each resource on which it held PW or EX, granted or converting, the value block is marked invalid.
+    /// Then it is gone, with its status blocks and all its ASTs, and what its locks were in the way of is granted. It
+    /// takes no memory and answers NORMAL. Refused by DEPARTED, NONEXPR. Its cost grows with the locks that go and, for
+    /// the order of what is swept, with the resources that these stood on times their logarithm.
+    pub fn rundown(&mut self, pid: u32) -> Answer
+        ensures state { self.new ≡ (stepped self.old (Step.Rundown pid) None).state }
+        ensures answer { result ≡ (stepped self.old (Step.Rundown pid) None).answer }
+    {
+        self.step(Step::Rundown(pid))
+    }
+
+    /// A node departs (this project's own). All its processes end as by a rundown, all their locks before anything is
+    /// granted, and from then on each step of the node is answered DEPARTED. It takes no memory and answers NORMAL.
+    /// Refused by BADPARAM where the node is not 1 to 8, DEPARTED where it has departed before. Its cost grows with the
+    /// processes and the locks that go, as that of a rundown.
+    pub fn leave(&mut self, node: u8) -> Answer
+        ensures state { self.new ≡ (stepped self.old (Step.Leave node) None).state }
+        ensures answer { result ≡ (stepped self.old (Step.Leave node) None).answer }
+    {
+        self.step(Step::Leave(node))
     }
 }

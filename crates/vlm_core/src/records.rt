@@ -8,11 +8,12 @@ ghost use Rattle.vlm_store.specs.Records.{HasResource};
 ghost use Rattle.vlm_locks.specs.Sweeping.{AreSettledBut};
 ghost use Rattle.vlm_core.specs.Between.{IsBetweenSteps};
 ghost use Rattle.vlm_core.specs.Machine.{plain_state};
+ghost use Rattle.vlm_core.specs.Notes.{HasRoomToNote, IsToSweep};
 
 use crate::nodes::{NODES, Node};
 use std::alloc::Global;
 use std::marker::Model;
-use vlm_locks::{Touch, sweep};
+use vlm_locks::{Touch, Touched, sweep};
 use vlm_store::{ResAt, Store};
 use vlm_words::conditions::Cond;
 use vlm_words::steps::{Answer, Step};
@@ -57,18 +58,22 @@ impl Machine {
     }
 
     /// Makes one step, of whichever kind. A kind that is not built yet answers BADPARAM.
-    pub(crate) fn step(&mut self, step: Step) -> Answer
-        requires { IsBetweenSteps (plain_state self.old) }
-        ensures { Outcome (plain_state self.old) step (plain_state self.new) result }
+    pub(crate) fn step(&mut self, touched: &mut Touched, step: Step) -> Answer
+        requires between { IsBetweenSteps (plain_state self.old) }
+        requires notes { HasRoomToNote touched.old self.old }
+        ensures outcome { Outcome (plain_state self.old) step (plain_state self.new) result }
+        ensures notes { HasRoomToNote touched.new self.new }
     {
         match step {
             Step::Declare(declaration) => self.declare(declaration),
             Step::SetValue(setting) => self.set_value(setting),
-            Step::Enq(request) => self.enq(request),
+            Step::Enq(request) => self.enq(touched, request),
             Step::Convert(conversion) => self.convert(conversion),
             Step::Deq(dequeue) => self.deq(dequeue),
+            Step::Rundown(pid) => self.rundown(touched, pid),
+            Step::Leave(node) => self.leave(touched, node),
+            Step::Search(_) => Answer::Plain(Cond::Badparam),
             Step::Take(pid) => self.take(pid),
-            Step::Rundown(_) | Step::Leave(_) | Step::Search(_) => Answer::Plain(Cond::Badparam),
         }
     }
 
@@ -81,5 +86,17 @@ impl Machine {
     {
         let touch = Touch::of(&self.store, res);
         sweep(&mut self.store, &[touch]);
+    }
+
+    /// Ends a step that touched the resources that are noted, in the order of their making, and forgets the notes.
+    pub(crate) fn sweep_touched(&mut self, touched: &mut Touched)
+        requires { IsToSweep touched.old self.old }
+        ensures swept { plain_state self.new ≡ state_after_sweep (plain_state self.old) }
+        ensures none { touched.new.noted ≡ [] }
+        ensures room { touched.new.room ≡ touched.old.room }
+    {
+        touched.in_order();
+        sweep(&mut self.store, touched.touches());
+        touched.clear();
     }
 }

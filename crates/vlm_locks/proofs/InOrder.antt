@@ -185,20 +185,27 @@ one_of_serial (x ∷ xs) rise r q (inr here) (inl there) same =
     absurd (omega (arith, same, ap (λ (y : StoredResource). y.serial) there, resource_among (λ later. x.serial < later.serial) xs rise.0 r here))
 one_of_serial (x ∷ xs) rise r q (inr here) (inr there) same = one_of_serial xs rise.1 r q here there same
 
+-- a touched resource's handle is among theirs, and each of these is that of one
+pub handle_among : (xs : List Touch) (u : Touch) → IsIn u xs → IsIn u.res (touched_handles xs)
+handle_among [] u none = absurd none
+handle_among (x ∷ xs) u (inl here) = inl (ap (λ (y : Touch). y.res) here)
+handle_among (x ∷ xs) u (inr there) = inr (handle_among xs u there)
+
+pub touch_of : (handle : ℕ) (xs : List Touch) → IsIn handle (touched_handles xs) → (t : Touch) × (IsIn t xs × (t.res ≡ handle))
+touch_of handle [] none = absurd none
+touch_of handle (x ∷ xs) (inl here) = (x, (inl refl, here))
+touch_of handle (x ∷ xs) (inr there) = let found = touch_of handle xs there in (found.0, (inr found.1.0, found.1.1))
+
 -- the handle of a noted resource is there still where of each serial one is left
 pub handles_left : (old new : List Touch) (resources : List StoredResource) → SerialsRise resources → AreAmong old resources
     → ((t : Touch) → IsIn t new → IsIn t old) → ((t : Touch) → IsIn t old → IsNoted t.serial new)
-    → (t : Touch) → IsIn t old → IsIn t.res (touched_handles new)
-handles_left old new resources rise among within each t there =
-    let left : IsNoted t.serial new = each t there in
-    let one = among t there in
+    → (handle : ℕ) → IsIn handle (touched_handles old) → IsIn handle (touched_handles new)
+handles_left old new resources rise among within each handle there =
+    let t = touch_of handle old there in
+    let left : IsNoted t.0.serial new = each t.0 t.1.0 in
+    let one = among t.0 t.1.0 in
     let other = among left.0 (within left.0 left.1.0) in
     let same : other.0 ≡ one.0 =
     one_of_serial resources rise other.0 one.0 other.1.0 one.1.0 (other.1.2 ∙ left.1.1 ∙ sym one.1.2) in
-    subst (λ (handle : ℕ). IsIn handle (touched_handles new)) (sym other.1.1 ∙ ap (λ (y : StoredResource). y.at) same ∙ one.1.1)
+    subst (λ (h : ℕ). IsIn h (touched_handles new)) (sym other.1.1 ∙ ap (λ (y : StoredResource). y.at) same ∙ one.1.1 ∙ t.1.1)
     (handle_among new left.0 left.1.0)
-  where
-    handle_among : (xs : List Touch) (u : Touch) → IsIn u xs → IsIn u.res (touched_handles xs)
-    handle_among [] u none = absurd none
-    handle_among (x ∷ xs) u (inl here) = inl (ap (λ (y : Touch). y.res) here)
-    handle_among (x ∷ xs) u (inr there) = inr (handle_among xs u there)

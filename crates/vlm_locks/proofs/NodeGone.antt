@@ -14,8 +14,8 @@ use Rattle.vlm_words.specs.Declare.{is_node}
 use Rattle.vlm_store.specs.Pending.{IsFirstLiving}
 use Rattle.vlm_store.specs.Records.{FindsProcess, IsSound, Records, StoredProcess, Stores}
 use Rattle.vlm_locks.specs.RunningDown.{AreEnded, CanEndProcesses, has_writer_of, resource_after_rundown, rows_but}
-use Rattle.vlm_locks.specs.declared.touched.Touch.{Touch}
 use Rattle.vlm_locks.specs.Touched.{AreStillNoted, OnlyTouched, Touches, touched_handles}
+use Rattle.vlm_locks.proofs.InOrder.{handle_among, touch_of}
 use Rattle.vlm_locks.proofs.RunsDown.{none_goes}
 
 -- the processes end so far: what is left without theirs is what was there without theirs
@@ -130,16 +130,6 @@ module _ (is_one is_first : ℕ → Bool) (within : (pid : ℕ) → is_first pid
     can_end = can_end;
   }
     where
-      handle_among : (touches : List Touch) (t : Touch) → IsIn t touches → IsIn t.res (touched_handles touches)
-      handle_among [] t none = absurd none
-      handle_among (x ∷ touches) t (inl here) = inl (ap (λ (y : Touch). y.res) here)
-      handle_among (x ∷ touches) t (inr there) = inr (handle_among touches t there)
-
-      touch_of : (handle : ℕ) (touches : List Touch) → IsIn handle (touched_handles touches) → (t : Touch) × (IsIn t touches × (t.res ≡ handle))
-      touch_of handle [] none = absurd none
-      touch_of handle (x ∷ touches) (inl here) = (x, (inl refl, here))
-      touch_of handle (x ∷ touches) (inr there) = let found = touch_of handle touches there in (found.0, (inr found.1.0, found.1.1))
-
       noted_still : (handle : ℕ) → IsIn handle (touched_handles touched.noted) → IsIn handle (touched_handles noted.noted)
       noted_still handle among =
           let found = touch_of handle touched.noted among in

@@ -444,7 +444,7 @@ ones : (locks : List StoredLock) → sum_by (λ (row : Row). 1) (rows_of_locks l
 ones [] = refl
 ones (k ∷ locks) = omega (arith, ones locks, sum_by-cons (λ (row : Row). 1) k.row (rows_of_locks locks))
 
-total_is : (rs : List StoredResource) → sum_by (λ r. length r.granted + length r.converting + length r.waiting) rs ≡ sum_by (weigh (λ row. 1)) (map plain_resource rs)
+pub total_is : (rs : List StoredResource) → sum_by (λ r. length r.granted + length r.converting + length r.waiting) rs ≡ sum_by (weigh (λ row. 1)) (map plain_resource rs)
 total_is [] = refl
 total_is (r ∷ rs) =
     omega (

@@ -61,16 +61,19 @@ impl Touched {
         }
     }
 
-    /// Makes room for so many. Where memory is refused nothing is changed. The memory grows to twice its size, so many
-    /// calls seldom move it.
-    pub fn make_room(&mut self, count: usize) -> Result<(), AllocError>
+    /// Makes room for one more than so many. Where memory is refused nothing is changed. The memory grows to twice its
+    /// size, so many calls seldom move it.
+    pub fn make_room_beyond(&mut self, count: usize) -> Result<(), AllocError>
         requires { self.old.noted ≡ [] }
         ensures none { self.new.noted ≡ [] }
-        ensures room { OnOk result (count ≤ self.new.room) }
+        ensures room { OnOk result (count < self.new.room) }
         ensures no_less { self.old.room ≤ self.new.room }
         ensures refused { OnErr result (self.new.room ≡ self.old.room) }
     {
-        self.touches.reserve(count)
+        match count.checked_add(1) {
+            Some(more) => self.touches.reserve(more),
+            None => Err(AllocError),
+        }
     }
 
     /// Notes a resource. There is room for it.

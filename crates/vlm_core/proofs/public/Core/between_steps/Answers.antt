@@ -5,11 +5,12 @@ use Rattle.vlm_core.proofs.public.Core.between_steps.Goals as goal
 -- some run leads here, and each law holds after it
 pub returns : goal.returns
 returns c = subst IsBetweenSteps c.self.view_is (record {
-  settled = c.law_each_resource_is_settled.ensures c.self.invariant.history _ c.self.invariant.run;
-  identifications = c.law_identifications_are_apart.ensures c.self.invariant.history _ c.self.invariant.run;
-  serials_from_1 = (c.law_serials_rise.ensures c.self.invariant.history _ c.self.invariant.run).from_1;
-  few_serials = (c.law_serials_rise.ensures c.self.invariant.history _ c.self.invariant.run).few;
-  new_processes = c.law_a_declaration_gives_a_new_identification.ensures c.self.invariant.history _ c.self.invariant.run;
-  parents = c.law_a_parent_outlives_its_sublocks.ensures c.self.invariant.history _ c.self.invariant.run;
-  rows_fit = c.law_rows_fit_their_queues.ensures c.self.invariant.history _ c.self.invariant.run;
+  settled = c.law_each_resource_is_settled.ensures c.self.invariant.reachable.history _ c.self.invariant.reachable.run;
+  identifications = c.law_identifications_are_apart.ensures c.self.invariant.reachable.history _ c.self.invariant.reachable.run;
+  serials_rise = (c.law_serials_rise.ensures c.self.invariant.reachable.history _ c.self.invariant.reachable.run).rising;
+  serials_from_1 = (c.law_serials_rise.ensures c.self.invariant.reachable.history _ c.self.invariant.reachable.run).from_1;
+  few_serials = (c.law_serials_rise.ensures c.self.invariant.reachable.history _ c.self.invariant.reachable.run).few;
+  new_processes = c.law_a_declaration_gives_a_new_identification.ensures c.self.invariant.reachable.history _ c.self.invariant.reachable.run;
+  parents = c.law_a_parent_outlives_its_sublocks.ensures c.self.invariant.reachable.history _ c.self.invariant.reachable.run;
+  rows_fit = c.law_rows_fit_their_queues.ensures c.self.invariant.reachable.history _ c.self.invariant.reachable.run;
 })

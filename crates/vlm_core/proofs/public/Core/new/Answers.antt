@@ -1,8 +1,12 @@
 use Rattle.std.proofs.Common.{sym, subst}
 use Rattle.vlm_core.specs.Between.{IsReachable}
 use Rattle.vlm_core.proofs.Reaching.{start_reachable}
+use Rattle.vlm_core.proofs.Noting.{none_at_start}
 use Rattle.vlm_core.proofs.public.Core.new.Goals as goal
 
--- the start is reached by no step
+-- the start is reached by no step, and no lock is there
 pub invariant_of-result : goal.invariant_of-result
-invariant_of-result c = subst IsReachable (sym c.new.ensures) start_reachable
+invariant_of-result c = record {
+  reachable = subst IsReachable (sym c.new.ensures) start_reachable;
+  notes = none_at_start c.new.result c.new-2.result c.new.ensures c.new-2.ensures;
+}

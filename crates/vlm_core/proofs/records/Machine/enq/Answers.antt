@@ -1,4 +1,8 @@
-use Rattle.std.proofs.Common.{ap, ◌∙◌}
+use Rattle.std.proofs.Common.{◌≡◌, ap, sym, arith, ◌∙◌}
+use Rattle.vlm_store.specs.Plain.{plain_resources}
+use Rattle.vlm_core.specs.Machine.{MachineState}
+use Rattle.vlm_core.specs.Notes.{locks_on}
+use Rattle.vlm_core.proofs.Noting.{as_many_stored, room_after}
 use Rattle.vlm_words.specs.declared.locks.Row.{Row}
 use Rattle.vlm_words.specs.declared.steps.Answer.TheVariants.{Lock}
 use Rattle.vlm_words.specs.declared.steps.Step.TheVariants.{Enq}
@@ -12,11 +16,11 @@ use Rattle.vlm_core.proofs.records.Machine.enq.Goals as goal
 
 pub sweep-requires-clause-settled : goal.sweep-requires-clause-settled
 sweep-requires-clause-settled c =
-    settled_but c.args.self.now.records c.enq_change.new.self.records c.in-Ok-enq_change.res c.requires.settled c.in-Ok-enq_change.ensures.others
+    settled_but c.args.self.now.records c.enq_change.new.self.records c.in-Ok-enq_change.res c.requires.between.settled c.in-Ok-enq_change.ensures.others
 
-pub returns-in-Ok-enq_change : goal.returns-in-Ok-enq_change
+pub returns-in-Ok-enq_change-clause-outcome : goal.returns-in-Ok-enq_change-clause-outcome
 unfolding enq_change
-returns-in-Ok-enq_change c =
+returns-in-Ok-enq_change-clause-outcome c =
     let s = plain_state c.args.self.now in
     let e = c.args.request in
     let a = c.in-Ok.admitted in
@@ -25,3 +29,13 @@ returns-in-Ok-enq_change c =
     (c.sweep.ensures ∙ ap state_after_sweep c.in-Ok-enq_change.ensures.change)
     (ap (λ answer. Lock answer a.entry.row.lkid) admitted.answer
     ∙ ap (λ (row : Row). Lock (acceptance e.flags (enq_at_once s e)) row.lkid) admitted.entry.row)
+
+-- room to note its resource was made before the lock entered
+pub returns-in-Ok-enq_change-clause-notes : goal.returns-in-Ok-enq_change-clause-notes
+returns-in-Ok-enq_change-clause-notes c =
+    let stored = as_many_stored c.self.inside.store c.self.invariant.rest.none_loose in
+    let same : locks_on (plain_state c.args.self.now).resources ≡ locks_on (plain_resources c.self.inside.store) =
+    ap (λ (m : MachineState). locks_on (plain_state m).resources) (sym c.self.view_is) in
+    room_after c.args.self.now c.sweep.new.self c.make_room_beyond.new.self (Enq c.args.request) (Lock c.in-Ok.admitted.answer c.in-Ok.admitted.entry.row.lkid)
+    (returns-in-Ok-enq_change-clause-outcome c) c.make_room_beyond.ensures.none
+    (omega (arith, stored, same, c.in-Ok-make_room_beyond.ensures.room, c.total_locks.ensures))
