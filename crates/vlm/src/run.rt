@@ -34,6 +34,8 @@ Commands of a script, one a line:
   cvt NAME LOCK MODE block=N [ast=N] [bast=N] [param=N] [flags]
   deq NAME LOCK [value=HEX] [cancel] [invvalblk]
   set NAME block=N value=HEX
+  end NAME
+  leave node=N
   ast NAME
   block NAME N
   show

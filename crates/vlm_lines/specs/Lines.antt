@@ -14,8 +14,9 @@ use Rattle.vlm_lines.specs.declared.keyed.DeclareWords.{DeclareWords}
 use Rattle.vlm_lines.specs.declared.keyed.RequestWords.{RequestWords}
 use Rattle.vlm_lines.specs.declared.keyed.EnqWords.{EnqWords}
 use Rattle.vlm_lines.specs.declared.keyed.SetWords.{SetWords}
+use Rattle.vlm_lines.specs.declared.keyed.NodeWords.{NodeWords}
 use Rattle.vlm_lines.specs.declared.lines.Line.{Line}
-use Rattle.vlm_lines.specs.declared.lines.Line.TheVariants.{Empty, Declare, Enq, Cvt, Deq, Set, Ast, Block as block_words, Show}
+use Rattle.vlm_lines.specs.declared.lines.Line.TheVariants.{Empty, Declare, Enq, Cvt, Deq, Set, End, Leave, Ast, Block as block_words, Show}
 use Rattle.vlm_lines.specs.declared.faults.LineFault.{LineFault}
 use Rattle.vlm_lines.specs.declared.faults.LineFault.TheVariants.{TooLong, UnknownCommand, WrongWord, NumberOutOfRange}
 use Rattle.vlm_words.specs.Flags.{cancel, expedite, has_flag, invvalblk, noqueue, quecvt, syncsts, system, valblk}
@@ -349,6 +350,31 @@ set_line words =
     given s.value >>= λ value.
     Ok (Set name (record { pid = no_process; block = block; value = value }))
 
+-- end NAME
+unfoldable pub end_line : List (List ℕ) → Result Line LineFault
+end_line words =
+    next_word words >>= λ first.
+    process_name first.0 >>= λ name.
+    no_more (End name) first.1
+
+-- nothing of a leave line's keyed word is read yet
+abbrev pub no_node_words : NodeWords
+no_node_words = record { node = None }
+
+-- one more keyed word of a leave line
+unfoldable pub node_word : NodeWords → List ℕ → Result NodeWords LineFault
+node_word w word =
+    if has_key (codes "node=") word then
+    once w.node (number_within 255 (behind (codes "node=") word)) >>= (λ n. Ok (record w { node = n }))
+    else Err WrongWord
+
+-- leave node=N
+unfoldable pub leave_line : List (List ℕ) → Result Line LineFault
+leave_line words =
+    all_words node_word no_node_words words >>= λ w.
+    given w.node >>= λ node.
+    Ok (Leave node)
+
 -- ast NAME
 unfoldable pub ast_line : List (List ℕ) → Result Line LineFault
 ast_line words =
@@ -373,6 +399,8 @@ command_line command words =
     else if is_text command (codes "cvt") then cvt_line words
     else if is_text command (codes "deq") then deq_line words
     else if is_text command (codes "set") then set_line words
+    else if is_text command (codes "end") then end_line words
+    else if is_text command (codes "leave") then leave_line words
     else if is_text command (codes "ast") then ast_line words
     else if is_text command (codes "block") then block_command words
     else if is_text command (codes "show") then no_more Show words

@@ -1,7 +1,7 @@
 //! The keyed words and flags behind the places of a line.
 
 ghost use Rattle.std.specs.Prelude.{◌≡◌};
-ghost use Rattle.vlm_lines.specs.Lines.{all_words, declare_word, deq_word, enq_word, no_declare_words, no_enq_words, no_request_words, no_set_words, once, request_word, set_word, words_of};
+ghost use Rattle.vlm_lines.specs.Lines.{all_words, declare_word, deq_word, enq_word, no_declare_words, no_enq_words, no_node_words, no_request_words, no_set_words, node_word, once, request_word, set_word, words_of};
 
 use crate::cuts::next_word;
 use crate::faults::LineFault;
@@ -232,6 +232,35 @@ impl Keyed for SetWords {
         } else if let Some(digits) = behind_key(b"value=", word) {
             let value = once(self.value, value_of(digits))?;
             Ok(SetWords { value, ..self })
+        } else {
+            Err(LineFault::WrongWord)
+        }
+    }
+}
+
+/// The keyed word of a leave line.
+#[derive(Clone, Copy)]
+pub(crate) struct NodeWords {
+    // 0 to 255
+    pub(crate) node: Option<u8>,
+}
+
+impl NodeWords {
+    pub(crate) fn new() -> Self
+        ensures { result ≡ no_node_words }
+    {
+        NodeWords { node: None }
+    }
+}
+
+impl Keyed for NodeWords {
+    ghost with_word = { node_word };
+
+    #[tactic(auto, unfolding(crate::specs::Lines::node_word))]
+    fn with_word(self, word: &[u8]) -> Result<Self, LineFault> {
+        if let Some(digits) = behind_key(b"node=", word) {
+            let node = once(self.node, byte(digits))?;
+            Ok(NodeWords { node })
         } else {
             Err(LineFault::WrongWord)
         }

@@ -25,6 +25,10 @@ pub enum Line {
     Cvt(ProcessName, Conversion),
     /// A lock is given up, or its request is cancelled.
     Deq(ProcessName, Dequeue),
+    /// The process ends, with all that it has.
+    End(ProcessName),
+    /// The node departs, with all its processes.
+    Leave(u8),
     /// The AST that has been pending longest is taken.
     Ast(ProcessName),
     /// The status block of this number is printed.

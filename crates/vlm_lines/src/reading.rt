@@ -1,11 +1,11 @@
 //! Lines by their commands.
 
 ghost use Rattle.std.specs.Prelude.{◌≡◌, MatchResult};
-ghost use Rattle.vlm_lines.specs.Lines.{ast_line, block_command, line_read, line_of, command_line, declare_line, enq_line, cvt_line, deq_line, set_line, declaration_of, words_of, next_word, no_more};
+ghost use Rattle.vlm_lines.specs.Lines.{ast_line, block_command, line_read, line_of, command_line, declare_line, enq_line, cvt_line, deq_line, set_line, end_line, leave_line, declaration_of, words_of, next_word, no_more};
 
 use crate::cuts;
 use crate::faults::LineFault;
-use crate::keyed::{DeclareWords, EnqWords, Keyed, RequestWords, SetWords};
+use crate::keyed::{DeclareWords, EnqWords, Keyed, NodeWords, RequestWords, SetWords};
 use crate::lines::{Line, NO_PROCESS};
 use crate::locks::lock;
 use crate::numbers::byte;
@@ -60,6 +60,10 @@ fn command_line(command: &[u8], rest: &[u8]) -> Result<Line, LineFault>
         deq_line(rest)
     } else if is_text(command, b"set") {
         set_line(rest)
+    } else if is_text(command, b"end") {
+        end_line(rest)
+    } else if is_text(command, b"leave") {
+        leave_line(rest)
     } else if is_text(command, b"ast") {
         ast_line(rest)
     } else if is_text(command, b"block") {
@@ -189,6 +193,26 @@ fn set_line(line: &[u8]) -> Result<Line, LineFault>
         value,
     };
     Ok(Line::Set(name, setting))
+}
+
+// The word of an end line: NAME.
+#[tactic(auto, unfolding(crate::specs::Lines::end_line))]
+fn end_line(line: &[u8]) -> Result<Line, LineFault>
+    ensures { result ≡ end_line (words_of line.now) }
+{
+    let (first, rest) = needed_word(line)?;
+    let name = process_name(first)?;
+    no_more(Line::End(name), rest)
+}
+
+// The word of a leave line: node=N.
+#[tactic(auto, unfolding(crate::specs::Lines::leave_line))]
+fn leave_line(line: &[u8]) -> Result<Line, LineFault>
+    ensures { result ≡ leave_line (words_of line.now) }
+{
+    let words = NodeWords::new().with_words(line)?;
+    let node = words.node.ok_or(LineFault::WrongWord)?;
+    Ok(Line::Leave(node))
 }
 
 // The word of an ast line: NAME.

@@ -64,6 +64,10 @@ answer_text (Plain cond) = condition_name cond
 unfoldable pub answer_line : List ℕ → Answer → List ℕ
 answer_line name answer = name ++ codes ": " ++ answer_text answer ++ line_feed
 
+-- the line that tells a node's answer under its number
+unfoldable pub node_line : ℕ → Answer → List ℕ
+node_line node answer = codes "node " ++ decimal node ++ codes ": " ++ answer_text answer ++ line_feed
+
 -- a status block under its process's name: what stands in it, or that the process has no such block
 unfoldable pub status_block_line : List ℕ → ℕ → Option Block → List ℕ
 status_block_line name number None = name ++ codes ": block " ++ decimal number ++ codes " none" ++ line_feed

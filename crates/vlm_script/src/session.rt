@@ -6,7 +6,7 @@ ghost use Rattle.vlm_script.specs.Texts.{answer_line};
 ghost use Rattle.vlm_script.specs.Sessions.{IsMade, IsRun, IsPrinted, StopsBytes, StopsLine, StopsName};
 
 use crate::bindings::{Bindings, bind_reserved, bound_to};
-use crate::printing::{answer_line, status_block_line};
+use crate::printing::{answer_line, node_line, status_block_line};
 use crate::show::show;
 use crate::stops::Stop;
 use std::alloc::Global;
@@ -67,6 +67,8 @@ impl Session {
             Line::Enq(name, request) => self.make(name, Step::Enq(request), out),
             Line::Cvt(name, conversion) => self.make(name, Step::Convert(conversion), out),
             Line::Deq(name, dequeue) => self.make(name, Step::Deq(dequeue), out),
+            Line::End(name) => self.make(name, Step::Rundown(NO_PROCESS), out),
+            Line::Leave(node) => self.leave(node, out),
             Line::Ast(name) => self.make(name, Step::Take(NO_PROCESS), out),
             Line::Block(name, number) => self.show_status_block(name, number, out),
             Line::Show => Ok(show(&self.core, out)?),
@@ -115,6 +117,17 @@ impl Session {
         let pid = self.process(&name)?;
         let answer = self.core.step(of_process(pid, step));
         print_answer(name, answer, out)
+    }
+
+    // Makes a node depart, and prints the answer.
+    fn leave(&mut self, node: u8, out: &mut Vec<u8>) -> Result<(), Stop>
+        ensures { MatchResult result
+            (λ _. IsRun self.old (Line.Leave node) self.new out.old.items out.new.items)
+            (λ stop. StopsLine self.old.names (Line.Leave node) stop) }
+    {
+        let answer = self.core.step(Step::Leave(node));
+        node_line(out, node, answer)?;
+        Ok(())
     }
 
     // Prints a status block of the process that the name is bound to.

@@ -1,7 +1,7 @@
-//! Answers under the names of their processes.
+//! Answers under the names of their processes, and under the numbers of their nodes.
 
 ghost use Rattle.std.specs.Prelude.{◌≡◌, ◌++◌, codes, decimal, OnOk};
-ghost use Rattle.vlm_script.specs.Texts.{answer_line, answer_text, ast_text};
+ghost use Rattle.vlm_script.specs.Texts.{answer_line, answer_text, ast_text, node_line};
 
 use super::texts::{decimal, text};
 use std::alloc::AllocError;
@@ -14,6 +14,18 @@ pub(crate) fn answer_line(out: &mut Vec<u8>, name: &[u8], answer: Answer) -> Res
     ensures { OnOk result (out.new.items ≡ out.old.items ++ answer_line name.now answer) }
 {
     text(out, name)?;
+    text(out, b": ")?;
+    answer_text(out, answer)?;
+    text(out, b"\n")
+}
+
+/// The line that tells a node's answer under its number.
+#[tactic(auto, unfolding(crate::specs::Texts::node_line))]
+pub(crate) fn node_line(out: &mut Vec<u8>, node: u8, answer: Answer) -> Result<(), AllocError>
+    ensures { OnOk result (out.new.items ≡ out.old.items ++ node_line node answer) }
+{
+    text(out, b"node ")?;
+    decimal(out, u32::from(node))?;
     text(out, b": ")?;
     answer_text(out, answer)?;
     text(out, b"\n")
