@@ -5,6 +5,7 @@ use std::process::Abort;
 use vlm_core::Core;
 use vlm_words::conditions::Cond;
 use vlm_words::modes::Mode;
+use vlm_words::resources::Queue;
 use vlm_words::steps::{
     Answer, Conversion, Declaration, Dequeue, NewRequest, Step, ValueSetting, Which,
 };
@@ -352,15 +353,40 @@ fn takes(rt: HostRuntime) {
     check(&rt, &[(Step::Take(STRANGER), Cond::Nonexpr)]);
 }
 
-// BADPARAM for each kind that is not built, whoever the caller is.
+// NONEXPR for a process that nobody declared, BADPARAM for a node that is none. Once P has ended and its node has
+// departed, DEPARTED comes before NONEXPR, and the lock that waited is granted.
 #[test]
-fn kinds_not_built(rt: HostRuntime) {
-    check(
+fn endings(rt: HostRuntime) {
+    let mut core = machine(&rt);
+    refuses(
         &rt,
+        &mut core,
         &[
-            (Step::Rundown(STRANGER), Cond::Badparam),
+            (Step::Rundown(STRANGER), Cond::Nonexpr),
+            (Step::Leave(0), Cond::Badparam),
             (Step::Leave(9), Cond::Badparam),
-            (Step::Search(0), Cond::Badparam),
         ],
     );
+    assert!(rt; core.rundown(P) == Answer::Plain(Cond::Normal));
+    refuses(&rt, &mut core, &[(Step::Rundown(P), Cond::Nonexpr)]);
+    assert!(rt; core.leave(1) == Answer::Plain(Cond::Normal));
+    refuses(
+        &rt,
+        &mut core,
+        &[
+            (Step::Rundown(P), Cond::Departed),
+            (Step::Leave(1), Cond::Departed),
+            (Step::Declare(DECLARATION), Cond::Departed),
+        ],
+    );
+    assert!(rt;
+        core.row_at(0, Queue::Granted, 0)
+            .is_some_and(|row| row.lkid == 2)
+    );
+}
+
+// BADPARAM: the search is not built.
+#[test]
+fn searches(rt: HostRuntime) {
+    check(&rt, &[(Step::Search(0), Cond::Badparam)]);
 }
