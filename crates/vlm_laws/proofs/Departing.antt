@@ -1,10 +1,10 @@
 -- What a departed node is told, and that none of its processes lives.
-use Rattle.std.proofs.Common.{◌≡◌, ◌≢◌, ◌≤◌, ◌<◌, ◌+◌, ◌-◌, ◌/◌, ◌⊎◌, ℕ, zero, suc, Bool, true, false, not, cond, List, [], ◌∷◌, ◌++◌, length, get_or, set, Option, None, Some, inl, inr, refl, sym, ap, subst, ◌∙◌, arith}
+use Rattle.std.proofs.Common.{◌≡◌, ◌≢◌, ◌≤◌, ◌<◌, ◌+◌, ◌-◌, ◌/◌, ◌⊎◌, ℕ, zero, suc, Bool, true, false, not, cond, List, [], ◌∷◌, length, get_or, set, Option, None, Some, inl, inr, refl, sym, ap, subst, ◌∙◌, arith}
 use Rattle.std.specs.Prelude.{◌==◌, is_some, replicate}
 use Rattle.std.specs.List.{AllByRecursion}
 use Rattle.std.proofs.lemmas.Bool.{eqb-false, eqb-true, true≢false}
 use Rattle.std.proofs.lemmas.Bool.Decides.{nat_tests}
-use Rattle.std.proofs.lemmas.List.{get_or-set_other, get_or-set_same, length-append}
+use Rattle.std.proofs.lemmas.List.{get_or-set_other, get_or-set_same}
 use Rattle.std.proofs.lemmas.List.Elements.{All-from_recursion}
 use Rattle.vlm_words.specs.declared.conditions.Cond.TheVariants.{Badparam, Departed, Insfmem, Nonexpr, Normal}
 use Rattle.vlm_words.specs.declared.conditions.Cond.{Cond}
@@ -26,7 +26,7 @@ use Rattle.vlm_words.specs.Enqueue.{enq_change, enq_refusal}
 use Rattle.vlm_words.specs.Convert.{ConversionAdmission, convert_change, convert_refusal}
 use Rattle.vlm_words.specs.Dequeue.{deq_change, deq_endings, deq_refusal}
 use Rattle.vlm_words.specs.Rundown.{leave_refusal, nodes_after_departure, processes_but, state_after_rundown}
-use Rattle.vlm_words.specs.Stepped.{Outcome, Stepped, conversion_change, refused, refused_or, step_change, step_refusal, stepped, stepped_after_sweep}
+use Rattle.vlm_words.specs.Stepped.{Outcome, conversion_change, refused_or, step_change, step_refusal, stepped, stepped_after_sweep}
 use Rattle.vlm_words.specs.Runs.{History, Run, begin, next}
 use Rattle.vlm_words.specs.Reasons.{Breaks, IsAcceptance}
 use Rattle.vlm_words.proofs.Always.{EndsNow, admission_of, always, departs, kept_by_stepped, run_down}
@@ -36,7 +36,8 @@ use Rattle.vlm_words.proofs.Processes.{kept_converted, kept_ended, kept_entered,
 use Rattle.vlm_words.proofs.Reasons.{declaration_keeps, reasons_always}
 use Rattle.vlm_words.proofs.Refusals.{node_departed}
 use Rattle.vlm_words.proofs.Written.{departure_not_normal}
-use Rattle.vlm_laws.specs.Departing.{DepartedNodesAreToldSo, HasLeft, IsDeparture, IsStepOf, IsToldDeparted, NoneLivesOnDepartedNodes}
+use Rattle.vlm_laws.specs.Departing.{DepartedNodesAreToldSo, HasLeft, IsDeparture, IsStepOf, NoneLivesOnDepartedNodes}
+use Rattle.vlm_laws.proofs.Happened.{all_answered, happened_before, happened_either, happened_now, refused_outcome}
 
 -- ---- what a step makes of the nodes
 
@@ -180,39 +181,8 @@ outcome_departs s t step answer eight (inr short) =
 
 -- ---- what happened, and which nodes have departed
 
--- a departure among the steps is one among more of them
-left_before : (node : ℕ) (steps : List Step) (answers : List Answer) (step : Step) (answer : Answer) → HasLeft node steps answers
-    → HasLeft node (steps ++ step ∷ []) (answers ++ answer ∷ [])
-left_before node [] answers step answer left = absurd left
-left_before node (x ∷ steps) [] step answer left = absurd left
-left_before node (x ∷ steps) (a ∷ answers) step answer (inl here) = inl here
-left_before node (x ∷ steps) (a ∷ answers) step answer (inr there) = inr (left_before node steps answers step answer there)
-
--- and so is the last of them
-left_now : (node : ℕ) (steps : List Step) (answers : List Answer) (step : Step) (answer : Answer) → length answers ≡ length steps
-    → IsDeparture node step answer → HasLeft node (steps ++ step ∷ []) (answers ++ answer ∷ [])
-left_now node [] [] step answer long is = inl is
-left_now node [] (a ∷ answers) step answer long is = absurd (omega (arith, long))
-left_now node (x ∷ steps) [] step answer long is = absurd (omega (arith, long))
-left_now node (x ∷ steps) (a ∷ answers) step answer long is = inr (left_now node steps answers step answer (omega (arith, long)) is)
-
--- a departure among all of them is the last, or one before
-left_either : (node : ℕ) (steps : List Step) (answers : List Answer) (step : Step) (answer : Answer) → length answers ≡ length steps
-    → HasLeft node (steps ++ step ∷ []) (answers ++ answer ∷ []) → HasLeft node steps answers ⊎ IsDeparture node step answer
-left_either node [] [] step answer long (inl is) = inr is
-left_either node [] [] step answer long (inr none) = absurd none
-left_either node [] (a ∷ answers) step answer long left = absurd (omega (arith, long))
-left_either node (x ∷ steps) [] step answer long left = absurd (omega (arith, long))
-left_either node (x ∷ steps) (a ∷ answers) step answer long (inl here) = inl (inl here)
-left_either node (x ∷ steps) (a ∷ answers) step answer long (inr there) =
-    elim (left_either node steps answers step answer (omega (arith, long)) there) [
-      | inl before ↦ inl (inr before)
-      | inr last ↦ inr last
-    ]
-
 -- the nodes that have departed are those whose departure was accepted
 record IsFollowed (history : History) (s : State) : Type 0 where
-  long : length history.answers ≡ length history.steps
   gone : (node : ℕ) → HasLeft node history.steps history.answers → HasGone s.nodes node
   only : (node : ℕ) → HasGone s.nodes node → HasLeft node history.steps history.answers
 
@@ -230,25 +200,24 @@ none_at_start node gone =
 -- after every run it is so
 followed_always : (history : History) (last : State) → Run history last → IsFollowed history last
 followed_always _ _ begin = record {
-  long = refl;
   gone = λ node left. absurd left;
   only = λ node gone. absurd (none_at_start node gone);
 }
 followed_always _ last (next {history} {old} {new} {step} {answer} run outcome) =
     let before : IsFollowed history old = followed_always history old run in
+    let long : length history.answers ≡ length history.steps = all_answered history old run in
     let departs_so : Departs old.nodes new.nodes step answer =
     outcome_departs old new step answer (given_always history old run).eight outcome in
     record {
-      long = length-append history.answers (answer ∷ []) ∙ ap (λ (n : ℕ). n + 1) before.long ∙ sym (length-append history.steps (step ∷ []));
       gone = λ node left.
-          elim (left_either node history.steps history.answers step answer before.long left) [
+          elim (happened_either (IsDeparture node) history.steps history.answers step answer long left) [
             | inl earlier ↦ departs_so.kept node (before.gone node earlier)
             | inr now ↦ departs_so.left node now
           ];
       only = λ node gone.
           elim (departs_so.only node gone) [
-            | inl earlier ↦ left_before node history.steps history.answers step answer (before.only node earlier)
-            | inr now ↦ left_now node history.steps history.answers step answer before.long now
+            | inl earlier ↦ happened_before (IsDeparture node) history.steps history.answers step answer (before.only node earlier)
+            | inr now ↦ happened_now (IsDeparture node) history.steps history.answers step answer long now
           ];
     }
 
@@ -304,20 +273,6 @@ told_by_checks s node eight gone (Leave other) of_node =
 told_by_checks s node eight gone (Search other) of_node = absurd of_node
 told_by_checks s node eight gone (Take pid) of_node = told_caller s pid (subst (HasGone s.nodes) (sym of_node) gone)
 
--- an outcome that the checks refuse so
-told_outcome : (s t : State) (step : Step) (answer : Answer) → step_refusal s step ≡ Some Departed
-    → (outcome : Outcome s step t answer) → IsToldDeparted s step t answer outcome
-told_outcome s t step answer is (inl made) =
-    let so : stepped s step made.choice ≡ refused s Departed =
-    ap (λ (refusal : Option Cond). refused_or refusal s (step_change s step made.choice)) is in
-    record {
-      answered = made.answered ∙ ap (λ (x : Stepped). x.answer) so;
-      state = made.state ∙ ap (λ (x : Stepped). x.state) so;
-      none_ends = ap (λ (x : Stepped). x.endings) so;
-      none_queued = ap (λ (x : Stepped). x.queued) so;
-    }
-told_outcome s t step answer is (inr short) = let accepted = short.accepted in cc
-
 -- which node breaks the rule of DEPARTED
 broken_by : (s : State) (step : Step) → Breaks s step Departed → (node : ℕ) × IsStepOf node step × HasGone s.nodes node
 broken_by s (Declare d) broken = (d.node, refl, broken)
@@ -361,7 +316,7 @@ told_always history last run =
     let followed : IsFollowed history last = followed_always history last run in
     record {
       told = λ node left step of_node new answer outcome.
-          told_outcome last new step answer
+          refused_outcome Departed last new step answer
           (told_by_checks last node (given_always history last run).eight (followed.gone node left) step of_node) outcome;
       only = λ step new outcome.
           let gone = told_is_gone history last run step new outcome in

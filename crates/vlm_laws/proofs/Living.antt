@@ -210,7 +210,7 @@ step_gives s step choice given None passed = made_gives s step choice given pass
 step_gives s step choice given (Some refusal) is = none_given_refused s refusal
 
 -- an outcome
-outcome_gives : (s t : State) (step : Step) (answer : Answer) → AllGiven s → Outcome s step t answer → GivesAnew s t answer
+pub outcome_gives : (s t : State) (step : Step) (answer : Answer) → AllGiven s → Outcome s step t answer → GivesAnew s t answer
 outcome_gives s t step answer given (inl made) =
     subst (λ (after : State). GivesAnew s after answer) (sym made.state)
     (subst (GivesAnew s (stepped s step made.choice).state) (sym made.answered) (step_gives s step made.choice given (step_refusal s step) refl))

@@ -1,13 +1,14 @@
 -- Which nodes have departed, and what is so from then on.
-use Rattle.std.specs.Prelude.{◌≡◌, ◌≢◌, ◌/◌, ◌⊎◌, ℕ, List, [], ◌∷◌, All}
+use Rattle.std.specs.Prelude.{◌≡◌, ◌≢◌, ◌/◌, ℕ, List, All}
 use Rattle.vlm_words.specs.declared.conditions.Cond.TheVariants.{Departed, Normal}
 use Rattle.vlm_words.specs.declared.steps.Answer.TheVariants.{Plain}
 use Rattle.vlm_words.specs.declared.steps.Answer.{Answer}
 use Rattle.vlm_words.specs.declared.steps.Step.TheVariants.{Declare, SetValue, Enq, Convert, Deq, Rundown, Leave, Search, Take}
 use Rattle.vlm_words.specs.declared.steps.Step.{Step}
 use Rattle.vlm_words.specs.State.{State}
-use Rattle.vlm_words.specs.Stepped.{Outcome, outcome_endings, outcome_queued}
+use Rattle.vlm_words.specs.Stepped.{Outcome}
 use Rattle.vlm_words.specs.Runs.{History}
+use Rattle.vlm_laws.specs.Happened.{HasHappened, IsRefusal}
 
 -- the step is one of the node: it names the node, or a process of it; a search, which is not built, is one of none
 abbrev pub IsStepOf : ℕ → Step → Type 0
@@ -27,22 +28,14 @@ IsDeparture node step answer = (step ≡ Leave node) × (answer ≡ Plain Normal
 
 -- among these steps, which got these answers, is the departure of the node
 abbrev pub HasLeft : ℕ → List Step → List Answer → Type 0
-HasLeft node (step ∷ steps) (answer ∷ answers) = IsDeparture node step answer ⊎ HasLeft node steps answers
-HasLeft node steps answers = ⊥
-
--- the outcome is a refusal by DEPARTED: nothing is changed, no request ends, and nothing is queued
-pub record IsToldDeparted (old : State) (step : Step) (new : State) (answer : Answer) (outcome : Outcome old step new answer) : Type 0 where
-  pub answered : answer ≡ Plain Departed
-  pub state : new ≡ old
-  pub none_ends : outcome_endings outcome ≡ []
-  pub none_queued : outcome_queued outcome ≡ []
+HasLeft node steps answers = HasHappened (IsDeparture node) steps answers
 
 -- each step of a node that has departed is answered DEPARTED, and no other step is
 pub record DepartedNodesAreToldSo (history : History) (last : State) : Type 0 where
   pub told : (node : ℕ) → HasLeft node history.steps history.answers
       → (step : Step) → IsStepOf node step
       → (new : State) (answer : Answer) (outcome : Outcome last step new answer)
-      → IsToldDeparted last step new answer outcome
+      → IsRefusal Departed last step new answer outcome
   pub only : (step : Step) (new : State) → Outcome last step new (Plain Departed)
       → (node : ℕ) × IsStepOf node step × HasLeft node history.steps history.answers
 

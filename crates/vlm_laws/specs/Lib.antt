@@ -6,3 +6,5 @@ pub mod Warning
 pub mod WarnedOnce
 pub mod InTheWay
 pub mod Departing
+pub mod EndedProcesses
+pub mod Happened

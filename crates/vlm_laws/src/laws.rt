@@ -11,6 +11,7 @@ ghost use Rattle.vlm_laws.specs.Accounting.{WhatIsQueuedIsTakenOrPending};
 ghost use Rattle.vlm_laws.specs.Anew.{GivesNoneTwice};
 ghost use Rattle.vlm_laws.specs.Completing.{EachRequestCompletesOnce};
 ghost use Rattle.vlm_laws.specs.Departing.{DepartedNodesAreToldSo, NoneLivesOnDepartedNodes};
+ghost use Rattle.vlm_laws.specs.EndedProcesses.{EndedProcessesAreToldNoMore};
 ghost use Rattle.vlm_laws.specs.Raising.{NoMoreIsQueuedThanNamed, OnlyOwnRequestsRaiseDues};
 ghost use Rattle.vlm_laws.specs.Warning.{WarningsAreOfGrants};
 ghost use Rattle.vlm_laws.specs.WarnedOnce.{EachGrantIsWarnedAtMostOnce};
@@ -99,3 +100,14 @@ pub fn law_no_process_of_a_departed_node_lives()
     ensures { (history : History) (last : State) → Run history last
         → NoneLivesOnDepartedNodes history last }
 {}
+
+/// A process that has ended is told no more: from its accepted rundown, or the accepted departure of its node, to the end
+/// of the run, no living process has its identification, and so nothing is pending to it. Each step of it is answered
+/// NONEXPR or DEPARTED, changes nothing, ends no request and queues nothing; a take of it answers no AST. And no step of
+/// others queues anything to it.
+pub fn law_an_ended_process_is_told_no_more()
+    ensures { (history : History) (last : State) → Run history last
+        → EndedProcessesAreToldNoMore history last }
+{
+    law_what_is_queued_is_taken_or_pending();
+}

@@ -113,7 +113,7 @@ says_departed B s node departed later at_later = of_test (has_departed s.nodes n
     of_test false is = at_later is
 
 -- the caller that is none
-nobody : (s : State) (pid : ℕ) → is_some (process_of s.processes pid) ≡ false → IsNobody s pid
+pub nobody : (s : State) (pid : ℕ) → is_some (process_of s.processes pid) ≡ false → IsNobody s pid
 nobody s pid is =
     All-from_recursion (λ p. p.pid ≢ pid) s.processes
     (of_found (process_of s.processes pid) is refl)

@@ -170,7 +170,7 @@ refused_makes_nothing s (Search node) refusal is block = refl
 refused_makes_nothing s (Take pid) refusal is block = refl
 
 -- the end of a process, or of a node's, is never refused by NORMAL
-end_not_normal : (s : State) (pid : ℕ) (refusal : Cond) → rundown_refusal s pid ≡ Some refusal → (refusal ≡ Normal → ⊥)
+pub end_not_normal : (s : State) (pid : ℕ) (refusal : Cond) → rundown_refusal s pid ≡ Some refusal → (refusal ≡ Normal → ⊥)
 unfolding caller_refusal
 end_not_normal s pid refusal is = of_tests (has_departed s.nodes (node_of_pid pid)) (is_some (process_of s.processes pid)) is
   where
