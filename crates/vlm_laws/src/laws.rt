@@ -101,10 +101,10 @@ pub fn law_no_process_of_a_departed_node_lives()
         → NoneLivesOnDepartedNodes history last }
 {}
 
-/// A process that has ended is told no more: from its accepted rundown, or the accepted departure of its node, to the end
-/// of the run, no living process has its identification, and so nothing is pending to it. Each step of it is answered
-/// NONEXPR or DEPARTED, changes nothing, ends no request and queues nothing; a take of it answers no AST. And no step of
-/// others queues anything to it.
+/// A process that has ended is told no more: from its accepted rundown, or the accepted departure of its node, to the
+/// end of the run, no living process has its identification, and so nothing is pending to it. Each step of it is
+/// answered NONEXPR or DEPARTED, changes nothing, ends no request and queues nothing; a take of it answers no AST. No
+/// step of another queues anything to it.
 pub fn law_an_ended_process_is_told_no_more()
     ensures { (history : History) (last : State) → Run history last
         → EndedProcessesAreToldNoMore history last }
