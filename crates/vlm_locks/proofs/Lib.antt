@@ -27,7 +27,7 @@ pub mod Ready
 pub mod Swept
 pub mod Sweeps
 pub mod Withdrawn
-pub mod PlainRundown
+pub mod Left
 pub mod TogetherDown
 pub mod RunsDown
 pub mod ProcessGone

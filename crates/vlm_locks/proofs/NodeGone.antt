@@ -13,7 +13,8 @@ use Rattle.std.proofs.lemmas.Option.{none-some, same_Some}
 use Rattle.vlm_words.specs.Declare.{is_node}
 use Rattle.vlm_store.specs.Pending.{IsFirstLiving}
 use Rattle.vlm_store.specs.Records.{FindsProcess, IsSound, Records, StoredProcess, Stores}
-use Rattle.vlm_locks.specs.RunningDown.{AreEnded, CanEndProcesses, has_writer_of, resource_after_rundown, rows_but}
+use Rattle.vlm_locks.specs.GivingUp.{has_writer_among, resource_left, rows_left}
+use Rattle.vlm_locks.specs.RunningDown.{AreEnded, CanEndProcesses, resource_after_rundown}
 use Rattle.vlm_locks.specs.Touched.{AreStillNoted, OnlyTouched, Touches, touched_handles}
 use Rattle.vlm_locks.proofs.InOrder.{handle_among, touch_of}
 use Rattle.vlm_locks.proofs.RunsDown.{none_goes}
@@ -39,20 +40,20 @@ none_ended is_one s touched can_end = record {
 
 -- ---- one more ends
 
-module _ (is_one is_first : ℕ → Bool) (within : (pid : ℕ) → is_first pid ≡ true → is_one pid ≡ true) where
-  but_both : (rows : List Row) → rows_but is_one (rows_but is_first rows) ≡ rows_but is_one rows
+module _ (goes first : Row → Bool) (within : (row : Row) → first row ≡ true → goes row ≡ true) where
+  but_both : (rows : List Row) → rows_left goes (rows_left first rows) ≡ rows_left goes rows
   but_both [] = refl
-  but_both (row ∷ rows) = of_test (is_first row.pid) refl (but_both rows)
+  but_both (row ∷ rows) = of_test (first row) refl (but_both rows)
     where
-      of_test : (b : Bool) → is_first row.pid ≡ b → rows_but is_one (rows_but is_first rows) ≡ rows_but is_one rows → rows_but is_one (cond (not b) (row ∷ rows_but is_first rows) (rows_but is_first rows))
-          ≡ cond (not (is_one row.pid)) (row ∷ rows_but is_one rows) (rows_but is_one rows)
-      of_test true is rest = rw (within row.pid is) rest
-      of_test false is rest = ap (λ (kept : List Row). cond (not (is_one row.pid)) (row ∷ kept) kept) rest
+      of_test : (b : Bool) → first row ≡ b → rows_left goes (rows_left first rows) ≡ rows_left goes rows → rows_left goes (cond (not b) (row ∷ rows_left first rows) (rows_left first rows))
+          ≡ cond (not (goes row)) (row ∷ rows_left goes rows) (rows_left goes rows)
+      of_test true is rest = rw (within row is) rest
+      of_test false is rest = ap (λ (kept : List Row). cond (not (goes row)) (row ∷ kept) kept) rest
 
-  -- a writer of theirs is one of the first or of the others
-  writer_of_both : (rows : List Row) → has_writer_of is_one rows ≡ (has_writer_of is_first rows || has_writer_of is_one (rows_but is_first rows))
+  -- a writer that goes is one of the first or of the others
+  writer_of_both : (rows : List Row) → has_writer_among goes rows ≡ (has_writer_among first rows || has_writer_among goes (rows_left first rows))
   writer_of_both [] = refl
-  writer_of_both (row ∷ rows) = of_test (is_first row.pid) refl (writer_of_both rows)
+  writer_of_both (row ∷ rows) = of_test (first row) refl (writer_of_both rows)
     where
       assoc : (a b c : Bool) → (a || (b || c)) ≡ ((a || b) || c)
       assoc true b c = refl
@@ -63,26 +64,26 @@ module _ (is_one is_first : ℕ → Bool) (within : (pid : ℕ) → is_first pid
       swap true false c = refl
       swap false b c = refl
 
-      of_test : (b : Bool) → is_first row.pid ≡ b → has_writer_of is_one rows ≡ (has_writer_of is_first rows || has_writer_of is_one (rows_but is_first rows))
-          → ((is_one row.pid && is_writer row.held) || has_writer_of is_one rows)
-          ≡ (((b && is_writer row.held) || has_writer_of is_first rows)
-          || has_writer_of is_one (cond (not b) (row ∷ rows_but is_first rows) (rows_but is_first rows)))
+      of_test : (b : Bool) → first row ≡ b → has_writer_among goes rows ≡ (has_writer_among first rows || has_writer_among goes (rows_left first rows))
+          → ((goes row && is_writer row.held) || has_writer_among goes rows)
+          ≡ (((b && is_writer row.held) || has_writer_among first rows)
+          || has_writer_among goes (cond (not b) (row ∷ rows_left first rows) (rows_left first rows)))
       of_test true is rest =
-          rw (within row.pid is, rest) (assoc (is_writer row.held) (has_writer_of is_first rows) (has_writer_of is_one (rows_but is_first rows)))
+          rw (within row is, rest) (assoc (is_writer row.held) (has_writer_among first rows) (has_writer_among goes (rows_left first rows)))
       of_test false is rest =
-          rw rest (swap (is_one row.pid && is_writer row.held) (has_writer_of is_first rows) (has_writer_of is_one (rows_but is_first rows)))
+          rw rest (swap (goes row && is_writer row.held) (has_writer_among first rows) (has_writer_among goes (rows_left first rows)))
 
-  resource_of_both : (r : Resource) → resource_after_rundown is_one (resource_after_rundown is_first r) ≡ resource_after_rundown is_one r
-  unfolding resource_after_rundown
+  resource_of_both : (r : Resource) → resource_left goes true (resource_left first true r) ≡ resource_left goes true r
+  unfolding resource_left
   resource_of_both r =
       rw (but_both r.granted, but_both r.converting, but_both r.waiting, writer_of_both r.granted, writer_of_both r.converting)
       (ap (λ (block : ValueBlock). record r {
         value_block = block;
-        granted = rows_but is_one r.granted;
-        converting = rows_but is_one r.converting;
-        waiting = rows_but is_one r.waiting;
+        granted = rows_left goes r.granted;
+        converting = rows_left goes r.converting;
+        waiting = rows_left goes r.waiting;
       })
-      (of_tests (has_writer_of is_first r.granted) (has_writer_of is_first r.converting) (has_writer_of is_one (rows_but is_first r.granted)) (has_writer_of is_one (rows_but is_first r.converting))))
+      (of_tests (has_writer_among first r.granted) (has_writer_among first r.converting) (has_writer_among goes (rows_left first r.granted)) (has_writer_among goes (rows_left first r.converting))))
     where
       invalid : ValueBlock
       invalid = record r.value_block { valid = false }
@@ -102,13 +103,14 @@ module _ (is_one is_first : ℕ → Bool) (within : (pid : ℕ) → is_first pid
       of_tests false false false true = refl
       of_tests false false false false = refl
 
-  each_of_both : (rs : List Resource) → map (resource_after_rundown is_one) (map (resource_after_rundown is_first) rs) ≡ map (resource_after_rundown is_one) rs
+  each_of_both : (rs : List Resource) → map (resource_left goes true) (map (resource_left first true) rs) ≡ map (resource_left goes true) rs
   each_of_both [] = refl
   each_of_both (r ∷ rs) =
-      let first = resource_of_both r in
+      let here = resource_of_both r in
       let behind = each_of_both rs in
       cc
 
+module _ (is_one is_first : ℕ → Bool) (within : (pid : ℕ) → is_first pid ≡ true → is_one pid ≡ true) where
   processes_of_both : (ps : List Process) → processes_but is_one (processes_but is_first ps) ≡ processes_but is_one ps
   processes_of_both [] = refl
   processes_of_both (p ∷ ps) = of_test (is_first p.pid) refl (processes_of_both ps)
@@ -121,7 +123,7 @@ module _ (is_one is_first : ℕ → Bool) (within : (pid : ℕ) → is_first pid
   pub one_more_ends : (old s new : Records) (before touched noted : Touches) → AreEnding is_one old s before touched → AreEnded is_first s new touched noted
       → CanEndProcesses noted new → AreEnding is_one old new before noted
   one_more_ends old s new before touched noted so_far ended can_end = record {
-    resources = ap (map (resource_after_rundown is_one)) ended.resources ∙ each_of_both (plain_resources s) ∙ so_far.resources;
+    resources = ap (map (resource_after_rundown is_one)) ended.resources ∙ each_of_both (λ row. is_one row.pid) (λ row. is_first row.pid) (λ row. within row.pid) (plain_resources s) ∙ so_far.resources;
     processes = ap (processes_but is_one) ended.processes ∙ processes_of_both (plain_processes s) ∙ so_far.processes;
     kept = λ t there. ended.kept t (so_far.kept t there);
     only_touched = λ r there untouched.
@@ -179,7 +181,7 @@ fewer_left pid s new left p there its =
 pub all_ended : (is_one : ℕ → Bool) (old s : Records) (before touched : Touches) → IsSound s → AreEnding is_one old s before touched
     → ((p : StoredProcess) → IsIn p s.processes → is_one p.process.pid ≡ false) → AreEnded is_one old s before touched
 all_ended is_one old s before touched sound so_far none = record {
-  resources = sym (none_goes s sound is_one none_stored) ∙ so_far.resources;
+  resources = sym (none_goes s sound (λ row. is_one row.pid) true none_stored) ∙ so_far.resources;
   processes = sym (none_out s.processes none) ∙ so_far.processes;
   kept = so_far.kept;
   only_touched = so_far.only_touched;

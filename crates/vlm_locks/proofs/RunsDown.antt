@@ -4,7 +4,10 @@ use Rattle.vlm_store.specs.Plain.{plain_processes, plain_resources, plain_resour
 use Rattle.vlm_store.specs.Records.{IsProcess, IsSound, Records, AreProcessesApart, HasNoLocks, HasNoSublocks, IsStored, OwnLock, StoredLock, StoredProcess, StoredResource, Stores, own_at, own_handles_at, process_at, rows_of_locks, but_notices, locks_at, process_without_lock, without_lock, without_resource, AreResourcesApart, queued, resource_at, AreOwnApart}
 use Rattle.vlm_locks.specs.Owing.{IsPaid}
 use Rattle.vlm_locks.specs.Rest.{IsAtRest, LeavesOthers}
-use Rattle.vlm_locks.specs.RunningDown.{GrantedWantNothing, SublocksAreOwn, WereThere, resource_after_rundown}
+use Rattle.vlm_locks.specs.GivingUp.{giving_up, resource_left}
+use Rattle.vlm_locks.specs.RunningDown.{GrantedWantNothing, SublocksAreOwn, WereThere}
+use Rattle.vlm_words.specs.Endings.{How}
+use Rattle.vlm_words.specs.Endings.How.{by_rundown}
 use Rattle.vlm_store.specs.Total.{lock_total}
 use Rattle.vlm_locks.specs.Touched.{AreStillNoted, AreThere, OnlyTouched, Touches, touched_handles}
 use Rattle.std.specs.List.{AllByRecursion, sum_by}
@@ -16,7 +19,7 @@ use Rattle.vlm_words.specs.declared.locks.Row.{Row}
 use Rattle.vlm_words.specs.declared.resources.Queue.TheVariants.{Granted, Conversion, Waiting}
 use Rattle.vlm_store.proofs.Plain.{process_at-stored}
 use Rattle.vlm_locks.specs.Rising.{ComesBefore, HasRisingLocks, StandByIdentification, own_handles}
-use Rattle.vlm_locks.proofs.PlainRundown.{IsOthers, nothing_left, IsOwnRow, OwnRows, one_withdrawn}
+use Rattle.vlm_locks.proofs.Left.{IsOthers, nothing_left, IsOwnRow, OwnRows, one_withdrawn}
 use Rattle.vlm_locks.proofs.Stood.{one_lock, queued_stored, only, own_among, resource_among, stored}
 use Rattle.vlm_links.proofs.HandleLists.{IsIn-without, length-without}
 use Rattle.vlm_store.specs.declared.handles.Place.TheVariants.{Queued}
@@ -40,9 +43,9 @@ use Rattle.vlm_words.proofs.Weights.{weigh}
 use Rattle.vlm_locks.proofs.Found.{resource_alone, resource_at-at}
 use Rattle.std.proofs.lemmas.List.{length-append}
 
--- the process is run down so far: what it leaves is the same as at first
-pub record IsRunningDown (owner pid : ℕ) (old s : Records) (before touched : Touches) : Type 0 where
-  pub resources : map (resource_after_rundown (λ p. p == pid)) (plain_resources s) ≡ map (resource_after_rundown (λ p. p == pid)) (plain_resources old)
+-- some locks of the process are gone so far: what is left without all that go is the same as at first
+pub record AreGoing (goes : Row → Bool) (invalidates : Bool) (owner pid : ℕ) (old s : Records) (before touched : Touches) : Type 0 where
+  pub resources : map (resource_left goes invalidates) (plain_resources s) ≡ map (resource_left goes invalidates) (plain_resources old)
   pub statuses : plain_processes s ≡ plain_processes old
   pub lives : IsProcess owner pid s
   pub sound : IsSound s
@@ -50,12 +53,20 @@ pub record IsRunningDown (owner pid : ℕ) (old s : Records) (before touched : T
   pub granted : GrantedWantNothing s
   pub were_there : WereThere old s
   pub rest : IsAtRest s
-  pub paid : IsPaid s
   pub noted : AreThere touched.noted s
   pub only_touched : OnlyTouched touched.noted old s
   pub room : length touched.noted + lock_total s ≤ touched.room
   pub kept : AreStillNoted before.noted touched.noted
   pub same_room : touched.room ≡ before.room
+
+-- the row is one of the process
+abbrev pub is_row_of : ℕ → Row → Bool
+is_row_of pid row = row.pid == pid
+
+-- the process is run down so far
+pub record IsRunningDown (owner pid : ℕ) (old s : Records) (before touched : Touches) : Type 0 where
+  pub so_far : AreGoing (is_row_of pid) true owner pid old s before touched
+  pub paid : IsPaid s
 
 -- ---- the own locks of the process
 
@@ -118,18 +129,18 @@ of_own (x ∷ owns) own there = elim there [
   | inr later ↦ inr (of_own owns own later)
 ]
 
--- where no row is one of theirs, what they leave is what is there
-module _ (s : Records) (sound : IsSound s) (is_one : ℕ → Bool) (none : (at : ℕ) (row : Row) → Stores s at row → is_one row.pid ≡ false) where
-  each_other : (locks : List StoredLock) → ((k : StoredLock) → IsIn k locks → Stores s k.at k.row) → AllByRecursion (IsOthers is_one) (rows_of_locks locks)
+-- where no row goes, what is left is what is there
+module _ (s : Records) (sound : IsSound s) (goes : Row → Bool) (invalidates : Bool) (none : (at : ℕ) (row : Row) → Stores s at row → goes row ≡ false) where
+  each_other : (locks : List StoredLock) → ((k : StoredLock) → IsIn k locks → Stores s k.at k.row) → AllByRecursion (IsOthers goes) (rows_of_locks locks)
   each_other [] each = tt
   each_other (k ∷ locks) each = (none k.at k.row (each k (inl refl)), each_other locks (λ x there. each x (inr there)))
 
-  pub none_goes : map (resource_after_rundown is_one) (plain_resources s) ≡ plain_resources s
+  pub none_goes : map (resource_left goes invalidates) (plain_resources s) ≡ plain_resources s
   none_goes = of_list s.resources (λ r there. there)
     where
-      here : (r : StoredResource) → IsIn r s.resources → resource_after_rundown is_one (plain_resource r) ≡ plain_resource r
+      here : (r : StoredResource) → IsIn r s.resources → resource_left goes invalidates (plain_resource r) ≡ plain_resource r
       here r among =
-          nothing_left is_one (plain_resource r)
+          nothing_left goes invalidates (plain_resource r)
           (record {
             granted = each_other r.granted (λ k there. queued_stored s sound r among Granted k there);
             converting = each_other r.converting (λ k there. queued_stored s sound r among Conversion k there);
@@ -137,7 +148,7 @@ module _ (s : Records) (sound : IsSound s) (is_one : ℕ → Bool) (none : (at :
           })
 
       of_list : (rs : List StoredResource) → ((r : StoredResource) → IsIn r rs → IsIn r s.resources)
-          → map (resource_after_rundown is_one) (map plain_resource rs) ≡ map plain_resource rs
+          → map (resource_left goes invalidates) (map plain_resource rs) ≡ map plain_resource rs
       of_list [] among = refl
       of_list (r ∷ rs) among =
           let first = here r (among r (inl refl)) in
@@ -237,8 +248,8 @@ module _ (owner pid : ℕ) (s : Records) (sound : IsSound s) (lives : IsProcess 
   no_locks none = no_own (own_at owner s) none
 
   -- then what it leaves is what is there
-  pub all_left : own_handles_at owner s ≡ [] → map (resource_after_rundown (λ q. q == pid)) (plain_resources s) ≡ plain_resources s
-  all_left none = none_goes s sound (λ q. q == pid) (none_is_own none)
+  pub all_left : own_handles_at owner s ≡ [] → map (resource_left (is_row_of pid) true) (plain_resources s) ≡ plain_resources s
+  all_left none = none_goes s sound (is_row_of pid) true (none_is_own none)
 
 -- ---- one lock goes
 
@@ -391,40 +402,40 @@ module _ (s new : Records) (sound : IsSound s) (sound_new : IsSound new) (f : St
 
 -- ---- what the plain machine makes of it
 
--- all rows of the lock are of its process
-module _ (s : Records) (sound : IsSound s) (f : Standing) (standing : IsStanding f s) (pid : ℕ) (mine : f.row.pid ≡ pid) where
+-- all rows of the lock go
+module _ (s : Records) (sound : IsSound s) (f : Standing) (standing : IsStanding f s) (goes : Row → Bool) (invalidates : Bool) (its : goes f.row ≡ true) where
   each_own : (r : StoredResource) → IsIn r s.resources → (queue : Queue) → (locks : List StoredLock) → ((k : StoredLock) → IsIn k locks → IsIn k (queued queue r))
-      → AllByRecursion (IsOwnRow (λ q. q == pid) f.row.lkid) (rows_of_locks locks)
+      → AllByRecursion (IsOwnRow goes f.row.lkid) (rows_of_locks locks)
   each_own r among queue [] there = tt
   each_own r among queue (k ∷ locks) there = (
-    λ same.
-        eq-eqb k.row.pid pid
-        (ap (λ (x : StoredLock). x.row.pid) ((only s sound f standing r among queue k (there k (inl refl))).0 same) ∙ mine),
+    λ same. ap (λ (x : StoredLock). goes x.row) ((only s sound f standing r among queue k (there k (inl refl))).0 same) ∙ its,
     each_own r among queue locks (λ x behind. there x (inr behind)),
   )
 
-  own_rows : (r : StoredResource) → IsIn r s.resources → OwnRows (λ q. q == pid) f.row.lkid (plain_resource r)
+  own_rows : (r : StoredResource) → IsIn r s.resources → OwnRows goes f.row.lkid (plain_resource r)
   own_rows r among = record {
     granted = each_own r among Granted r.granted (λ k there. there);
     converting = each_own r among Conversion r.converting (λ k there. there);
     waiting = each_own r among Waiting r.waiting (λ k there. there);
   }
 
-  -- what the process leaves is the same
-  leaves_same : (rs : List StoredResource) → ((r : StoredResource) → IsIn r rs → IsIn r s.resources)
-      → map (resource_after_rundown (λ q. q == pid)) (map (resource_after_withdrawals (rundown_of f.row.lkid ∷ [])) (map plain_resource rs))
-      ≡ map (resource_after_rundown (λ q. q == pid)) (map plain_resource rs)
-  leaves_same [] there = refl
-  leaves_same (r ∷ rs) there =
-      let here = one_withdrawn (λ q. q == pid) f.row.lkid (plain_resource r) (own_rows r (there r (inl refl))) in
-      let behind = leaves_same rs (λ x later. there x (inr later)) in
-      cc
+  -- what is left is the same
+  module _ (waiting converting : How) where
+    leaves_same : (rs : List StoredResource) → ((r : StoredResource) → IsIn r rs → IsIn r s.resources)
+        → map (resource_left goes invalidates) (map (resource_after_withdrawals (giving_up waiting converting invalidates f.row.lkid ∷ [])) (map plain_resource rs))
+        ≡ map (resource_left goes invalidates) (map plain_resource rs)
+    leaves_same [] there = refl
+    leaves_same (r ∷ rs) there =
+        let here = one_withdrawn goes waiting converting invalidates f.row.lkid (plain_resource r) (own_rows r (there r (inl refl))) in
+        let behind = leaves_same rs (λ x later. there x (inr later)) in
+        cc
 
-  pub one_left : (new : Records) (w : Withdrawal) → w ≡ rundown_of f.row.lkid → plain_resources new ≡ map (resource_after_withdrawals (w ∷ [])) (plain_resources s)
-      → map (resource_after_rundown (λ q. q == pid)) (plain_resources new) ≡ map (resource_after_rundown (λ q. q == pid)) (plain_resources s)
-  one_left new w is after =
-      ap (map (resource_after_rundown (λ q. q == pid))) (after ∙ ap (λ (v : Withdrawal). map (resource_after_withdrawals (v ∷ [])) (plain_resources s)) is)
-      ∙ leaves_same s.resources (λ r there. there)
+    pub one_left : (new : Records) (w : Withdrawal) → w ≡ giving_up waiting converting invalidates f.row.lkid
+        → plain_resources new ≡ map (resource_after_withdrawals (w ∷ [])) (plain_resources s)
+        → map (resource_left goes invalidates) (plain_resources new) ≡ map (resource_left goes invalidates) (plain_resources s)
+    one_left new w is after =
+        ap (map (resource_left goes invalidates)) (after ∙ ap (λ (v : Withdrawal). map (resource_after_withdrawals (v ∷ [])) (plain_resources s)) is)
+        ∙ leaves_same s.resources (λ r there. there)
 
 -- nobody is told
 pub one_untold : (new s : Records) (lkid : ℕ) (w : Withdrawal) → w ≡ rundown_of lkid
@@ -478,27 +489,31 @@ rows_parted lkid (row ∷ rows) = of_test (row.lkid == lkid) refl (rows_parted l
           sum_by-cons (λ (x : Row). 1) row (rows_without lkid rows),
         )
 
-resource_parted : (lkid : ℕ) (r : Resource) → weigh (λ row. 1) (resource_after_withdrawals (rundown_of lkid ∷ []) r) + weigh (stands lkid) r ≡ weigh (λ row. 1) r
-unfolding resource_without
-resource_parted lkid r = of_test (is_held_by_writer lkid r)
-  where
-    of_test : (b : Bool)
-        → weigh (λ row. 1) (resource_without lkid (cond b (record r { value_block = value_block_after_writer (rundown_of lkid) r.value_block }) r)) + weigh (stands lkid) r ≡ weigh (λ row. 1) r
-    of_test true = omega (arith, rows_parted lkid r.granted, rows_parted lkid r.converting, rows_parted lkid r.waiting)
-    of_test false = omega (arith, rows_parted lkid r.granted, rows_parted lkid r.converting, rows_parted lkid r.waiting)
+module _ (waiting converting : How) (invalidates : Bool) (lkid : ℕ) where
+  resource_parted : (r : Resource)
+      → weigh (λ row. 1) (resource_after_withdrawals (giving_up waiting converting invalidates lkid ∷ []) r) + weigh (stands lkid) r ≡ weigh (λ row. 1) r
+  unfolding resource_without
+  resource_parted r = of_test (is_held_by_writer lkid r)
+    where
+      of_test : (b : Bool)
+          → weigh (λ row. 1) (resource_without lkid (cond b (record r { value_block = value_block_after_writer (giving_up waiting converting invalidates lkid) r.value_block }) r))
+          + weigh (stands lkid) r ≡ weigh (λ row. 1) r
+      of_test true = omega (arith, rows_parted lkid r.granted, rows_parted lkid r.converting, rows_parted lkid r.waiting)
+      of_test false = omega (arith, rows_parted lkid r.granted, rows_parted lkid r.converting, rows_parted lkid r.waiting)
 
-all_parted : (lkid : ℕ) (rs : List Resource)
-    → sum_by (weigh (λ row. 1)) (map (resource_after_withdrawals (rundown_of lkid ∷ [])) rs) + standing lkid rs ≡ sum_by (weigh (λ row. 1)) rs
-all_parted lkid [] = refl
-all_parted lkid (r ∷ rs) =
-    omega (
-      arith,
-      all_parted lkid rs,
-      resource_parted lkid r,
-      sum_by-cons (weigh (λ row. 1)) r rs,
-      sum_by-cons (weigh (stands lkid)) r rs,
-      sum_by-cons (weigh (λ row. 1)) (resource_after_withdrawals (rundown_of lkid ∷ []) r) (map (resource_after_withdrawals (rundown_of lkid ∷ [])) rs),
-    )
+  all_parted : (rs : List Resource)
+      → sum_by (weigh (λ row. 1)) (map (resource_after_withdrawals (giving_up waiting converting invalidates lkid ∷ [])) rs) + standing lkid rs ≡ sum_by (weigh (λ row. 1)) rs
+  all_parted [] = refl
+  all_parted (r ∷ rs) =
+      omega (
+        arith,
+        all_parted rs,
+        resource_parted r,
+        sum_by-cons (weigh (λ row. 1)) r rs,
+        sum_by-cons (weigh (stands lkid)) r rs,
+        sum_by-cons (weigh (λ row. 1)) (resource_after_withdrawals (giving_up waiting converting invalidates lkid ∷ []) r)
+            (map (resource_after_withdrawals (giving_up waiting converting invalidates lkid ∷ [])) rs),
+      )
 
 -- a lock that stands is counted
 counted_in : (k : StoredLock) (locks : List StoredLock) → IsIn k locks → 1 ≤ sum_by (stands k.row.lkid) (rows_of_locks locks)
@@ -528,15 +543,16 @@ counted_among k r queue there (x ∷ rs) among = elim among [
 ]
 
 -- there is one lock less
-pub one_less : (s new : Records) (sound : IsSound s) (f : Standing) (standing : IsStanding f s) → IsAtRest s → IsAtRest new → (w : Withdrawal) → w ≡ rundown_of f.row.lkid
+pub one_less : (s new : Records) (sound : IsSound s) (f : Standing) (standing : IsStanding f s) → IsAtRest s → IsAtRest new
+    → (waiting converting : How) (invalidates : Bool) (w : Withdrawal) → w ≡ giving_up waiting converting invalidates f.row.lkid
     → plain_resources new ≡ map (resource_after_withdrawals (w ∷ [])) (plain_resources s) → lock_total new + 1 ≤ lock_total s
-one_less s new sound f standing rest rest_new w is after =
+one_less s new sound f standing rest rest_new waiting converting invalidates w is after =
     omega (
       arith,
       total_is s.resources,
       total_is new.resources,
       ap (sum_by (weigh (λ row. 1))) (after ∙ ap (λ (v : Withdrawal). map (resource_after_withdrawals (v ∷ [])) (plain_resources s)) is),
-      all_parted f.row.lkid (plain_resources s),
+      all_parted waiting converting invalidates f.row.lkid (plain_resources s),
       counted_among (record { at = f.lock; row = f.row }) standing.resource f.queue standing.among s.resources (own_among s sound f standing),
       ap (λ (locks : List StoredLock). length locks) rest.none_loose,
       ap (λ (locks : List StoredLock). length locks) rest_new.none_loose,
@@ -670,43 +686,48 @@ own_handles_apart (own ∷ owns) apart = (
   own_handles_apart owns apart.1,
 )
 
--- what a turn has, which withdraws a lock of the process and notes its resource
-pub record IsTurn (owner pid : ℕ) (s new : Records) (touched noted : Touches) (f : Standing) (w : Withdrawal) : Type 0 where
+-- what a turn has, which withdraws a lock of the process that goes, and notes its resource
+pub record IsTurn (goes : Row → Bool) (invalidates : Bool) (owner : ℕ) (s new : Records) (touched noted : Touches) (f : Standing) (w : Withdrawal) : Type 0 where
   pub sound : IsSound new
   pub standing : IsStanding f s
   pub mine : IsIn f.lock (own_handles_at owner s)
-  pub withdrawal : w ≡ rundown_of f.row.lkid
+  pub its : goes f.row ≡ true
+  pub waiting : How
+  pub converting : How
+  pub withdrawal : w ≡ giving_up waiting converting invalidates f.row.lkid
   pub resources : plain_resources new ≡ map (resource_after_withdrawals (w ∷ [])) (plain_resources s)
-  pub statuses : plain_processes new ≡ processes_after (flat_map (withdrawal_endings w) (plain_resources s)) (plain_processes s)
+  pub statuses : plain_processes new ≡ plain_processes s
   pub beside : LeavesOthers f.res f.lock s new
   pub own_locks : map but_notices new.processes ≡ map but_notices (map (process_without_lock f.lock) s.processes)
-  pub paid : IsPaid new
   pub serial : ℕ
   pub its_serial : IfSome (resource_at f.res new.resources) (λ r. serial ≡ r.serial)
   pub notes : noted.noted ≡ touched.noted ++ record { serial = serial; res = f.res } ∷ []
   pub room : noted.room ≡ touched.room
 
-module _ (owner pid : ℕ) (old s new : Records) (before touched noted : Touches) (f : Standing) (w : Withdrawal)
-    (so_far : IsRunningDown owner pid old s before touched) (turn : IsTurn owner pid s new touched noted f w) where
-  mine : f.row.pid ≡ pid
-  mine =
-      let here = stored_here owner pid s so_far.sound so_far.lives f.lock turn.mine in
-      ap (λ (row : Row). row.pid) (one_lock s so_far.sound f.lock f.row here.0 (stored s f turn.standing) here.1.0) ∙ here.1.1
+-- a lock of the process is a row of it
+pub its_row : (owner pid : ℕ) (s : Records) (sound : IsSound s) (lives : IsProcess owner pid s) (f : Standing) → IsStanding f s → IsIn f.lock (own_handles_at owner s)
+    → f.row.pid ≡ pid
+its_row owner pid s sound lives f standing there =
+    let here = stored_here owner pid s sound lives f.lock there in
+    ap (λ (row : Row). row.pid) (one_lock s sound f.lock f.row here.0 (stored s f standing) here.1.0) ∙ here.1.1
+
+module _ (goes : Row → Bool) (invalidates : Bool) (owner pid : ℕ) (old s new : Records) (before touched noted : Touches) (f : Standing) (w : Withdrawal)
+    (so_far : AreGoing goes invalidates owner pid old s before touched) (turn : IsTurn goes invalidates owner s new touched noted f w) where
+  pub own_left : own_handles_at owner new ≡ without f.lock (own_handles_at owner s)
+  own_left = handles_left s new so_far.sound turn.sound f turn.standing turn.beside turn.own_locks owner pid so_far.lives
+
+  pub own_apart : IsApart (own_handles_at owner s)
+  own_apart =
+      subst IsApart (sym (its_handles owner pid s so_far.sound so_far.lives)) (own_handles_apart so_far.lives.0.own (so_far.sound.own_apart so_far.lives.0 so_far.lives.1.0))
 
   pub fewer_own : length (own_handles_at owner new) + 1 ≡ length (own_handles_at owner s)
-  fewer_own =
-      let apart : IsApart (own_handles_at owner s) =
-      subst IsApart (sym (its_handles owner pid s so_far.sound so_far.lives)) (own_handles_apart so_far.lives.0.own (so_far.sound.own_apart so_far.lives.0 so_far.lives.1.0)) in
-      omega (
-        arith,
-        ap (λ (handles : List ℕ). length handles) (handles_left s new so_far.sound turn.sound f turn.standing turn.beside turn.own_locks owner pid so_far.lives),
-        length-without f.lock (own_handles_at owner s) apart turn.mine,
-      )
+  fewer_own = omega (arith, ap (λ (handles : List ℕ). length handles) own_left, length-without f.lock (own_handles_at owner s) own_apart turn.mine)
 
-  pub next_turn : IsRunningDown owner pid old new before noted
+  pub next_turn : AreGoing goes invalidates owner pid old new before noted
   next_turn = record {
-    resources = one_left s so_far.sound f turn.standing pid mine new w turn.withdrawal turn.resources ∙ so_far.resources;
-    statuses = one_untold new s f.row.lkid w turn.withdrawal turn.statuses ∙ so_far.statuses;
+    resources =
+        one_left s so_far.sound f turn.standing goes invalidates turn.its turn.waiting turn.converting new w turn.withdrawal turn.resources ∙ so_far.resources;
+    statuses = turn.statuses ∙ so_far.statuses;
     lives = lives_on s new so_far.sound turn.sound f turn.standing turn.beside turn.own_locks owner pid so_far.lives;
     sound = turn.sound;
     together = still_together s new so_far.sound turn.sound f turn.standing turn.beside turn.own_locks so_far.together;
@@ -714,7 +735,6 @@ module _ (owner pid : ℕ) (old s new : Records) (before touched noted : Touches
     were_there = λ place k there.
         so_far.were_there place k (one_were_there s new so_far.sound turn.sound f turn.standing turn.beside turn.own_locks place k there);
     rest = turn.beside.rest;
-    paid = turn.paid;
     noted =
         subst (λ (touches : List Touch). AreThere touches new) (sym turn.notes)
         (still_there s new so_far.sound turn.sound f turn.standing turn.beside w turn.resources touched.noted turn.serial so_far.noted turn.its_serial);
@@ -725,7 +745,7 @@ module _ (owner pid : ℕ) (old s new : Records) (before touched noted : Touches
         omega (
           arith,
           so_far.room,
-          one_less s new so_far.sound f turn.standing so_far.rest turn.beside.rest w turn.withdrawal turn.resources,
+          one_less s new so_far.sound f turn.standing so_far.rest turn.beside.rest turn.waiting turn.converting invalidates w turn.withdrawal turn.resources,
           ap (λ (touches : List Touch). length touches) turn.notes,
           length-append touched.noted (record { serial = turn.serial; res = f.res } ∷ []),
           turn.room,
@@ -742,6 +762,6 @@ one_at_least s sound f standing =
     omega (
       arith,
       total_is s.resources,
-      all_parted f.row.lkid (plain_resources s),
+      all_parted by_rundown by_rundown true f.row.lkid (plain_resources s),
       counted_among (record { at = f.lock; row = f.row }) standing.resource f.queue standing.among s.resources (own_among s sound f standing),
     )

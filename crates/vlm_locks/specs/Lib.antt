@@ -11,4 +11,5 @@ pub mod Converting
 pub mod Withdrawals
 pub mod Withdrawing
 pub mod Touched
+pub mod GivingUp
 pub mod RunningDown

@@ -1,5 +1,5 @@
 -- What becomes of the records where processes end.
-use Rattle.std.specs.Prelude.{◌≡◌, ◌≤◌, ◌&&◌, ◌||◌, ◌+◌, ℕ, Bool, false, not, List, filter, length, map, None, if◌then◌else◌}
+use Rattle.std.specs.Prelude.{◌≡◌, ◌≤◌, ◌&&◌, ◌||◌, ◌+◌, ℕ, Bool, true, List, filter, length, map, None, if◌then◌else◌}
 use Rattle.std.specs.List.{list_any}
 use Rattle.vlm_words.specs.declared.locks.Row.{Row}
 use Rattle.vlm_words.specs.declared.resources.Queue.TheVariants.{Granted}
@@ -12,28 +12,14 @@ use Rattle.vlm_store.specs.Plain.{plain_processes, plain_resources}
 use Rattle.vlm_store.specs.Records.{Records, StoredLock, Stores, locks_at}
 use Rattle.vlm_store.specs.Total.{lock_total}
 use Rattle.vlm_words.specs.Rundown.{processes_but}
+use Rattle.vlm_locks.specs.GivingUp.{resource_left}
 use Rattle.vlm_locks.specs.Owing.{IsPaid}
 use Rattle.vlm_locks.specs.Rest.{IsAtRest}
 use Rattle.vlm_locks.specs.Touched.{AreStillNoted, AreThere, OnlyTouched, Touches}
 
--- the rows but for those of these processes
-abbrev pub rows_but : (ℕ → Bool) → List Row → List Row
-rows_but is_one rows = filter (λ row. not (is_one row.pid)) rows
-
--- some row of these processes holds PW or EX
-abbrev pub has_writer_of : (ℕ → Bool) → List Row → Bool
-has_writer_of is_one rows = list_any (λ row. is_one row.pid && is_writer row.held) rows
-
 -- the resource without the locks of these processes; where one of them held PW or EX its value block is invalid
-unfoldable pub resource_after_rundown : (ℕ → Bool) → Resource → Resource
-resource_after_rundown is_one r = record r {
-  value_block =
-      if has_writer_of is_one r.granted || has_writer_of is_one r.converting
-      then record r.value_block { valid = false } else r.value_block;
-  granted = rows_but is_one r.granted;
-  converting = rows_but is_one r.converting;
-  waiting = rows_but is_one r.waiting;
-}
+abbrev pub resource_after_rundown : (ℕ → Bool) → Resource → Resource
+resource_after_rundown is_one = resource_left (λ row. is_one row.pid) true
 
 -- a sublock is one of its parent's process
 abbrev pub SublocksAreOwn : Records → Type 0

@@ -1,32 +1,33 @@
-use Rattle.std.proofs.Common.{ℕ, [], ◌∷◌, ◌++◌, sym, ap, ◌∙◌, subst, arith, map}
+use Rattle.std.proofs.Common.{ℕ, [], ◌∷◌, ◌++◌, sym, ap, ◌∙◌, subst, arith, map, true, eq-eqb}
 use Rattle.vlm_links.specs.Lists.{IsIn}
 use Rattle.vlm_store.specs.declared.handles.Place.TheVariants.{Queued}
 use Rattle.vlm_store.specs.Records.{locks_at, own_handles_at, but_notices}
 use Rattle.vlm_locks.specs.Withdrawals.{plain_withdrawal}
 use Rattle.vlm_locks.proofs.Found.{process_there}
-use Rattle.vlm_locks.proofs.RunsDown.{IsTurn, all_left, fewer_own, last_is_childless, last_stored, last_there, next_turn, no_locks, none_at_all, one_at_least}
+use Rattle.vlm_locks.proofs.RunsDown.{IsTurn, all_left, fewer_own, is_row_of, its_row, one_untold, last_is_childless, last_stored, last_there, next_turn, no_locks, none_at_all, one_at_least}
 use Rattle.vlm_locks.proofs.Stood.{stands}
 use Rattle.vlm_locks.proofs.running_down.run_down.Goals as goal
 use Rattle.vlm_locks.specs.Withdrawing.{goes, owned_after}
+use Rattle.vlm_words.specs.Endings.How.{by_rundown}
 use Rattle.vlm_words.specs.Withdrawals.{Withdrawal}
 
 pub last_own-requires : goal.last_own-requires
-last_own-requires c = process_there c.loop-lock.store c.args.owner c.args.pid c.loop-lock.invariant.lives
+last_own-requires c = process_there c.loop-lock.store c.args.owner c.args.pid c.loop-lock.invariant.so_far.lives
 
 pub standing_of-requires-clause-stored : goal.standing_of-requires-clause-stored
 standing_of-requires-clause-stored c =
-    last_stored c.args.owner c.args.pid c.loop-lock.store c.loop-lock.invariant.sound c.loop-lock.invariant.lives c.loop-lock.invariant.rest c.in-Some.lock
+    last_stored c.args.owner c.args.pid c.loop-lock.store c.loop-lock.invariant.so_far.sound c.loop-lock.invariant.so_far.lives c.loop-lock.invariant.so_far.rest c.in-Some.lock
     (sym c.last_own.ensures ∙ c.in-Some.is)
 
 pub withdraw-requires-clause-childless : goal.withdraw-requires-clause-childless
 withdraw-requires-clause-childless c goes p own among its same =
-    last_is_childless c.args.owner c.args.pid c.loop-lock.store c.loop-lock.invariant.sound c.loop-lock.invariant.lives c.loop-lock.invariant.rest c.in-Some.lock
-    (sym c.last_own.ensures ∙ c.in-Some.is) c.loop-lock.invariant.together p own among its (same ∙ c.in-Some-standing_of.ensures.lock)
+    last_is_childless c.args.owner c.args.pid c.loop-lock.store c.loop-lock.invariant.so_far.sound c.loop-lock.invariant.so_far.lives c.loop-lock.invariant.so_far.rest c.in-Some.lock
+    (sym c.last_own.ensures ∙ c.in-Some.is) c.loop-lock.invariant.so_far.together p own among its (same ∙ c.in-Some-standing_of.ensures.lock)
 
 pub withdraw-requires-clause-granted : goal.withdraw-requires-clause-granted
 withdraw-requires-clause-granted c is =
     let f = c.in-Some-standing_of.standing in
-    c.loop-lock.invariant.granted f.res (record { at = f.lock; row = f.row })
+    c.loop-lock.invariant.so_far.granted f.res (record { at = f.lock; row = f.row })
     (subst (λ queue. IsIn (record { at = f.lock; row = f.row }) (locks_at (Queued f.res queue) c.loop-lock.store)) is
     (stands c.loop-lock.store f c.in-Some-standing_of.ensures.standing))
 
@@ -34,27 +35,32 @@ pub note-requires : goal.note-requires
 note-requires c =
     omega (
       arith,
-      c.loop-lock.invariant.room,
-      one_at_least c.loop-lock.store c.loop-lock.invariant.sound c.in-Some-standing_of.standing c.in-Some-standing_of.ensures.standing,
+      c.loop-lock.invariant.so_far.room,
+      one_at_least c.loop-lock.store c.loop-lock.invariant.so_far.sound c.in-Some-standing_of.standing c.in-Some-standing_of.ensures.standing,
     )
 
 pub loop-lock-smaller : goal.loop-lock-smaller
 loop-lock-smaller c =
     let f = c.in-Some-standing_of.standing in
     let s = c.loop-lock.store in
-    let turn : IsTurn c.args.owner c.args.pid s c.withdraw.new.store c.loop-lock.touched c.note.new.self f (plain_withdrawal c.rundown.result) = record {
+    let so_far = c.loop-lock.invariant.so_far in
+    let mine : IsIn f.lock (own_handles_at c.args.owner s) =
+    subst (λ at. IsIn at (own_handles_at c.args.owner s)) (sym c.in-Some-standing_of.ensures.lock)
+    (last_there c.args.owner c.args.pid s so_far.sound so_far.lives so_far.rest c.in-Some.lock (sym c.last_own.ensures ∙ c.in-Some.is)) in
+    let turn : IsTurn (is_row_of c.args.pid) true c.args.owner s c.withdraw.new.store c.loop-lock.touched c.note.new.self f (plain_withdrawal c.rundown.result) = record {
       sound = c.law_records_are_sound-in-Some-2.ensures;
       standing = c.in-Some-standing_of.ensures.standing;
-      mine = subst (λ at. IsIn at (own_handles_at c.args.owner s)) (sym c.in-Some-standing_of.ensures.lock)
-          (last_there c.args.owner c.args.pid s c.loop-lock.invariant.sound c.loop-lock.invariant.lives c.loop-lock.invariant.rest c.in-Some.lock (sym c.last_own.ensures ∙ c.in-Some.is));
+      mine = mine;
+      its = eq-eqb f.row.pid c.args.pid (its_row c.args.owner c.args.pid s so_far.sound so_far.lives f c.in-Some-standing_of.ensures.standing mine);
+      waiting = by_rundown;
+      converting = by_rundown;
       withdrawal = c.rundown.ensures;
       resources = c.withdraw.ensures.resources;
-      statuses = c.withdraw.ensures.statuses;
+      statuses = one_untold c.withdraw.new.store s f.row.lkid (plain_withdrawal c.rundown.result) c.rundown.ensures c.withdraw.ensures.statuses;
       beside = c.withdraw.ensures.beside;
       own_locks =
           c.withdraw.ensures.own_locks
           ∙ ap (λ stays. map but_notices (owned_after (goes stays f.queue) f.lock s.processes)) (ap (λ (w : Withdrawal). w.stays) c.rundown.ensures);
-      paid = c.withdraw.ensures.paid;
       serial = c.of.result.serial;
       its_serial = c.of.ensures.serial;
       notes =
@@ -62,41 +68,49 @@ loop-lock-smaller c =
           ∙ ap (λ (res : ℕ). c.loop-lock.touched.noted ++ record { serial = c.of.result.serial; res = res } ∷ []) c.of.ensures.res;
       room = c.note.ensures.room;
     } in
-    omega (arith, fewer_own c.args.owner c.args.pid c.args.store.now s c.withdraw.new.store c.args.touched.now c.loop-lock.touched c.note.new.self f (plain_withdrawal c.rundown.result) c.loop-lock.invariant turn)
+    omega (arith, fewer_own (is_row_of c.args.pid) true c.args.owner c.args.pid c.args.store.now s c.withdraw.new.store c.args.touched.now c.loop-lock.touched c.note.new.self f (plain_withdrawal c.rundown.result) so_far turn)
 
 pub loop-lock-preserved : goal.loop-lock-preserved
 loop-lock-preserved c =
     let f = c.in-Some-standing_of.standing in
     let s = c.loop-lock.store in
-    next_turn c.args.owner c.args.pid c.args.store.now s c.withdraw.new.store c.args.touched.now c.loop-lock.touched c.note.new.self f (plain_withdrawal c.rundown.result) c.loop-lock.invariant
-    (record {
+    let so_far = c.loop-lock.invariant.so_far in
+    let mine : IsIn f.lock (own_handles_at c.args.owner s) =
+    subst (λ at. IsIn at (own_handles_at c.args.owner s)) (sym c.in-Some-standing_of.ensures.lock)
+    (last_there c.args.owner c.args.pid s so_far.sound so_far.lives so_far.rest c.in-Some.lock (sym c.last_own.ensures ∙ c.in-Some.is)) in
+    let turn : IsTurn (is_row_of c.args.pid) true c.args.owner s c.withdraw.new.store c.loop-lock.touched c.note.new.self f (plain_withdrawal c.rundown.result) = record {
       sound = c.law_records_are_sound-in-Some-2.ensures;
       standing = c.in-Some-standing_of.ensures.standing;
-      mine = subst (λ at. IsIn at (own_handles_at c.args.owner s)) (sym c.in-Some-standing_of.ensures.lock)
-          (last_there c.args.owner c.args.pid s c.loop-lock.invariant.sound c.loop-lock.invariant.lives c.loop-lock.invariant.rest c.in-Some.lock (sym c.last_own.ensures ∙ c.in-Some.is));
+      mine = mine;
+      its = eq-eqb f.row.pid c.args.pid (its_row c.args.owner c.args.pid s so_far.sound so_far.lives f c.in-Some-standing_of.ensures.standing mine);
+      waiting = by_rundown;
+      converting = by_rundown;
       withdrawal = c.rundown.ensures;
       resources = c.withdraw.ensures.resources;
-      statuses = c.withdraw.ensures.statuses;
+      statuses = one_untold c.withdraw.new.store s f.row.lkid (plain_withdrawal c.rundown.result) c.rundown.ensures c.withdraw.ensures.statuses;
       beside = c.withdraw.ensures.beside;
       own_locks =
           c.withdraw.ensures.own_locks
           ∙ ap (λ stays. map but_notices (owned_after (goes stays f.queue) f.lock s.processes)) (ap (λ (w : Withdrawal). w.stays) c.rundown.ensures);
-      paid = c.withdraw.ensures.paid;
       serial = c.of.result.serial;
       its_serial = c.of.ensures.serial;
       notes =
           c.note.ensures.noted
           ∙ ap (λ (res : ℕ). c.loop-lock.touched.noted ++ record { serial = c.of.result.serial; res = res } ∷ []) c.of.ensures.res;
       room = c.note.ensures.room;
-    })
+    } in
+    record {
+      so_far = next_turn (is_row_of c.args.pid) true c.args.owner c.args.pid c.args.store.now s c.withdraw.new.store c.args.touched.now c.loop-lock.touched c.note.new.self f (plain_withdrawal c.rundown.result) so_far turn;
+      paid = c.withdraw.ensures.paid;
+    }
 
 pub returns-in_default-clause-resources : goal.returns-in_default-clause-resources
 returns-in_default-clause-resources c =
-    sym (all_left c.args.owner c.args.pid c.loop-lock.store c.loop-lock.invariant.sound c.loop-lock.invariant.lives
+    sym (all_left c.args.owner c.args.pid c.loop-lock.store c.loop-lock.invariant.so_far.sound c.loop-lock.invariant.so_far.lives
     (none_at_all (own_handles_at c.args.owner c.loop-lock.store) (sym c.last_own.ensures ∙ c.in_default.is)))
-    ∙ c.loop-lock.invariant.resources
+    ∙ c.loop-lock.invariant.so_far.resources
 
 pub returns-in_default-clause-gone : goal.returns-in_default-clause-gone
 returns-in_default-clause-gone c =
-    no_locks c.args.owner c.args.pid c.loop-lock.store c.loop-lock.invariant.sound c.loop-lock.invariant.lives
+    no_locks c.args.owner c.args.pid c.loop-lock.store c.loop-lock.invariant.so_far.sound c.loop-lock.invariant.so_far.lives
     (none_at_all (own_handles_at c.args.owner c.loop-lock.store) (sym c.last_own.ensures ∙ c.in_default.is))
