@@ -20,11 +20,11 @@ use Rattle.vlm_words.specs.Grants.{grant_act, grant_endings, granted_row, is_arm
 use Rattle.vlm_store.specs.declared.handles.Place.TheVariants.{Queued}
 use Rattle.vlm_store.specs.Records.{DueChanges, DuesStay, HasResource, IsIdle, IsProcess, IsSound, Records, Room, SameButNotices, StoredLock, StoredProcess, Stores, due_of, leaving, moving, on_resource, process_at, process_without_lock, resource_with, with_lists, with_resource_room, without_lock, without_resource}
 use Rattle.vlm_store.proofs.Plain.{process_at-stored}
-use Rattle.vlm_locks.specs.Owing.{DueMoves, IsPaid, OwedMoves, blocks_written, completions_queued, completions_spared, due_for, row_after_end, row_at_end}
+use Rattle.vlm_locks.specs.Owing.{DueMoves, IsPaid, LosesOne, WeighsTheSame, weight_of, OwedMoves, blocks_written, completions_queued, completions_spared, due_for, row_after_end, row_at_end}
 use Rattle.vlm_locks.specs.Withdrawing.{owned_after}
 use Rattle.vlm_locks.proofs.Found.{process_still}
 use Rattle.vlm_words.specs.declared.resources.ValueBlock.{ValueBlock}
-use Rattle.vlm_locks.proofs.Weighing.{all, dropped_weighs, gone_weighs, kept_weighs, moved_weighs}
+use Rattle.vlm_locks.proofs.Weighing.{dropped_weighs, gone_weighs, kept_weighs, moved_weighs}
 
 -- a handle is that of one process
 pub one_process : (s : Records) → IsSound s → (at a b : ℕ) → IsProcess at a s → IsProcess at b s → a ≡ b
@@ -265,7 +265,7 @@ owed_by_locks false lock s t is pid = rw is refl
 
 -- a part of a withdrawal pays what it leaves due
 pub paid_withdrawn : (was now : Row) (gone : Bool) (lock : ℕ) (s t u v : Records) → IsPaid s → OwedMoves was now s t → SameButNotices s t
-    → u.processes ≡ owned_after false lock t.processes → ((pid : ℕ) → due_for pid u ≡ due_for pid t)
+    → u.processes ≡ owned_after false lock t.processes → WeighsTheSame t u
     → v.processes ≡ owned_after gone lock u.processes → DueMoves was now u v → IsPaid v
 paid_withdrawn was now gone lock s t u v paid owed same left left_due part part_due pid =
     omega (
@@ -274,32 +274,35 @@ paid_withdrawn was now gone lock s t u v paid owed same left left_due part part_
       owed pid,
       due_noticed s t same pid,
       owed_by_locks false lock t u left pid,
-      left_due pid,
+      left_due (weight pid),
       owed_by_locks gone lock u v part pid,
       part_due pid,
     )
 
--- a lock that goes leaves nothing due
-pub due_gone : (s : Records) → IsSound s → (at : ℕ) (row : Row) → Stores s at row → (t : Records) → t.resources ≡ map (resource_with (leaving at)) s.resources
-    → t.loose ≡ without_lock at s.loose → DueMoves row (row_at_end row) s t
-due_gone s sound at row stored t resources loose pid =
-    let none : due_to pid (row_at_end row) ≡ 0 = nothing (row.pid == pid) in
-    let gone : due_for pid t ≡ all (weight pid) (with_lists (leaving at) s) = rw (resources, loose) refl in
-    omega (arith, gone, gone_weighs (weight pid) s sound at row stored, none)
+-- a lock goes
+pub weighs_gone : (s : Records) → IsSound s → (at : ℕ) (row : Row) → Stores s at row → (t : Records) → t.resources ≡ map (resource_with (leaving at)) s.resources
+    → t.loose ≡ without_lock at s.loose → LosesOne (record { at = at; row = row }) s t
+weighs_gone s sound at row stored t resources loose measure =
+    let gone : weight_of measure t ≡ weight_of measure (with_lists (leaving at) s) = rw (resources, loose) refl in
+    omega (arith, gone, gone_weighs measure s sound at row stored)
+
+-- so nothing is due for it any more
+pub due_gone : (at : ℕ) (row : Row) (s t : Records) → LosesOne (record { at = at; row = row }) s t → DueMoves row (row_at_end row) s t
+due_gone at row s t loses pid = omega (arith, loses (weight pid), nothing (row.pid == pid))
   where
     nothing : (b : Bool) → cond b (row_due (row_at_end row)) 0 ≡ 0
     nothing true = refl
     nothing false = refl
 
 -- a value block that is written leaves the locks
-pub due_valued : (s : Records) → IsSound s → (res : ℕ) (block : ValueBlock) (pid : ℕ)
-    → due_for pid (record s { resources = on_resource res (λ r. record r { value_block = block }) s.resources }) ≡ due_for pid s
-due_valued s sound res block pid =
-    ap (λ (due : ℕ). due + sum_by (weight pid) s.loose) (kept_weighs (weight pid) s sound (λ r. record r { value_block = block }) res (λ r. refl))
+pub weighs_valued : (s : Records) → IsSound s → (res : ℕ) (block : ValueBlock)
+    → WeighsTheSame s (record s { resources = on_resource res (λ r. record r { value_block = block }) s.resources })
+weighs_valued s sound res block measure =
+    ap (λ (total : ℕ). total + sum_by measure s.loose) (kept_weighs measure s sound (λ r. record r { value_block = block }) res (λ r. refl))
 
 pub paid_valued : (s t : Records) → IsSound s → (res : ℕ) (block : ValueBlock) → t ≡ record s { resources = on_resource res (λ r. record r { value_block = block }) s.resources }
     → IsPaid s → IsPaid t
-paid_valued s t sound res block is paid pid = rw is (paid pid ∙ sym (due_valued s sound res block pid))
+paid_valued s t sound res block is paid pid = rw is (paid pid ∙ sym (weighs_valued s sound res block (weight pid)))
 
 -- a resource without locks that goes takes nothing that is due
 pub paid_dropped : (s t : Records) (room : Room) → IsSound s → (res : ℕ) → IsIdle res s

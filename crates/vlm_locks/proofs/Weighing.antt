@@ -11,22 +11,14 @@ use Rattle.vlm_words.specs.declared.resources.Queue.TheVariants.{Granted, Conver
 use Rattle.vlm_links.specs.Lists.{IsIn}
 use Rattle.vlm_store.specs.declared.handles.Place.{Place}
 use Rattle.vlm_store.specs.declared.handles.Place.TheVariants.{Loose, Queued}
+use Rattle.vlm_locks.specs.Owing.{weight_of as all, weight_on as on_one}
 use Rattle.vlm_store.specs.Records.{AreApart, AreResourcesApart, HasResource, IsIdle, IsSound, Records, StoredLock, StoredResource, Stores, disarmed, disarming, is_queue, leaving, locks_at, moving, on_resource, queued, resource_at, resource_with, with_lists, without_lock, without_resource}
 use Rattle.vlm_store.proofs.Records.{queue_at}
 use Rattle.vlm_locks.specs.Sweeping.{Parted}
 use Rattle.vlm_locks.proofs.Parting.{after_differ, before_differ, parted_at}
 
-module _ (g : StoredLock → ℕ) where
-  -- what the locks of a resource weigh
-  abbrev pub on_one : StoredResource → ℕ
-  on_one r = sum_by g r.granted + sum_by g r.converting + sum_by g r.waiting
-
-  -- what all locks weigh
-  abbrev pub all : Records → ℕ
-  all s = sum_by on_one s.resources + sum_by g s.loose
-
 -- what the lock of a handle weighs, and no other
-abbrev only : ℕ → (StoredLock → ℕ) → StoredLock → ℕ
+abbrev pub only : ℕ → (StoredLock → ℕ) → StoredLock → ℕ
 only at g k = cond (k.at == at) (g k) 0
 
 -- ---- sums over resources
@@ -37,7 +29,7 @@ sum_none h [] none = refl
 sum_none h (x ∷ xs) none = omega (arith, sum_by-cons h x xs, none x (inl refl), sum_none h xs (λ y there. none y (inr there)))
 
 -- two sums whose terms are the same
-sum_alike : {X : Type 0} (f h : X → ℕ) (xs : List X) → ((x : X) → IsIn x xs → f x ≡ h x) → sum_by f xs ≡ sum_by h xs
+pub sum_alike : {X : Type 0} (f h : X → ℕ) (xs : List X) → ((x : X) → IsIn x xs → f x ≡ h x) → sum_by f xs ≡ sum_by h xs
 sum_alike f h [] same = refl
 sum_alike f h (x ∷ xs) same =
     omega (arith, sum_by-cons f x xs, sum_by-cons h x xs, same x (inl refl), sum_alike f h xs (λ y there. same y (inr there)))
@@ -50,7 +42,7 @@ sum_mapped f h change (x ∷ xs) same =
     omega (arith, sum_by-cons f (change x) (map change xs), sum_by-cons h x xs, same x (inl refl), sum_mapped f h change xs (λ y there. same y (inr there)))
 
 -- a sum of two
-sum_both : {X : Type 0} (f h : X → ℕ) (xs : List X) → sum_by (λ x. f x + h x) xs ≡ sum_by f xs + sum_by h xs
+pub sum_both : {X : Type 0} (f h : X → ℕ) (xs : List X) → sum_by (λ x. f x + h x) xs ≡ sum_by f xs + sum_by h xs
 sum_both f h [] = refl
 sum_both f h (x ∷ xs) = omega (arith, sum_by-cons (λ y. f y + h y) x xs, sum_by-cons f x xs, sum_by-cons h x xs, sum_both f h xs)
 

@@ -1,10 +1,22 @@
 -- What is left of a resource where some of its locks are given up together.
-use Rattle.std.specs.Prelude.{ℕ, Bool, false, not, ◌&&◌, ◌||◌, ◌==◌, List, filter, None, if◌then◌else◌}
-use Rattle.std.specs.List.{list_any}
+use Rattle.std.specs.Prelude.{◌≡◌, ◌≤◌, ◌<◌, ⊤, ◌+◌, ℕ, Bool, true, false, not, ◌&&◌, ◌||◌, ◌==◌, List, [], ◌∷◌, filter, length, map, sum_by, None, if◌then◌else◌}
+use Rattle.std.specs.List.{AllByRecursion, list_any}
 use Rattle.vlm_words.specs.declared.locks.Row.{Row}
+use Rattle.vlm_words.specs.Dues.{due_to}
 use Rattle.vlm_words.specs.Endings.{How}
+use Rattle.vlm_words.specs.Endings.How.{by_abort}
+use Rattle.vlm_words.specs.OwnLocks.{is_below}
 use Rattle.vlm_words.specs.State.{Resource}
-use Rattle.vlm_words.specs.Withdrawals.{Withdrawal, is_writer}
+use Rattle.vlm_words.specs.Withdrawals.{Withdrawal, is_writer, processes_after, withdrawn_endings}
+use Rattle.vlm_links.specs.Lists.{IsIn}
+use Rattle.vlm_store.specs.Plain.{plain_processes, plain_resources}
+use Rattle.vlm_store.specs.Records.{Records, SameButNotices, StoredLock, StoredResource, Stores, due_of}
+use Rattle.vlm_store.specs.Total.{lock_total}
+use Rattle.vlm_locks.specs.declared.giving_up.Choice.{Choice}
+use Rattle.vlm_locks.specs.declared.giving_up.Choice.TheVariants.{All, Below}
+use Rattle.vlm_locks.specs.Rest.{IsAtRest}
+use Rattle.vlm_locks.specs.RunningDown.{GrantedWantNothing, SublocksAreOwn}
+use Rattle.vlm_locks.specs.Touched.{AreStillNoted, AreThere, OnlyTouched, Touches}
 
 -- a lock is given up: its request ends so where it waits and so where it converts, and it writes no value, but may
 -- mark the value block invalid
@@ -40,3 +52,88 @@ resource_left goes invalidates r = record r {
   converting = rows_left goes r.converting;
   waiting = rows_left goes r.waiting;
 }
+
+-- ---- which locks
+
+-- the lock is one of those that are chosen
+abbrev pub is_chosen : Choice → List Resource → ℕ → Bool
+is_chosen All resources lkid = true
+is_chosen (Below top) resources lkid = is_below 15 top resources lkid
+
+-- each stands before greater ones alone
+abbrev pub Rise : List ℕ → Type 0
+Rise [] = ⊤
+Rise (lkid ∷ lkids) = AllByRecursion (λ later. lkid < later) lkids × Rise lkids
+
+-- these are the identifications of the chosen locks of a process, rising
+pub record AreChosen (choice : Choice) (pid : ℕ) (s : Records) (lkids : List ℕ) : Type 0 where
+  pub rise : Rise lkids
+  pub each : (lkid : ℕ) → IsIn lkid lkids
+      → (at : ℕ) × (row : Row) × (Stores s at row × (row.lkid ≡ lkid) × (row.pid ≡ pid) × (is_chosen choice (plain_resources s) lkid ≡ true))
+  pub all : (at : ℕ) (row : Row) → Stores s at row → row.pid ≡ pid → is_chosen choice (plain_resources s) row.lkid ≡ true → IsIn row.lkid lkids
+
+-- with a chosen lock its sublocks are chosen
+abbrev pub SublocksGoToo : Choice → Records → Type 0
+SublocksGoToo choice s = (at other : ℕ) (row up : Row) → Stores s at row → Stores s other up → row.parent ≡ up.lkid
+    → is_chosen choice (plain_resources s) up.lkid ≡ true → is_chosen choice (plain_resources s) row.lkid ≡ true
+
+-- ---- what is owed on the way
+
+-- what is due to a process for a lock that is none of these
+abbrev pub due_but : List ℕ → ℕ → StoredLock → ℕ
+due_but lkids pid k = if is_among lkids k.row then 0 else due_to pid k.row
+
+-- what is due to it for those of these locks
+abbrev pub due_but_among : List ℕ → ℕ → List StoredLock → ℕ
+due_but_among lkids pid locks = sum_by (due_but lkids pid) locks
+
+-- and on a resource
+abbrev pub due_but_on : List ℕ → ℕ → StoredResource → ℕ
+due_but_on lkids pid r = due_but_among lkids pid r.granted + due_but_among lkids pid r.converting + due_but_among lkids pid r.waiting
+
+-- each process is owed what is due to it for its locks but for these, and no more
+abbrev pub IsPaidBut : List ℕ → Records → Type 0
+IsPaidBut lkids s = (pid : ℕ) → due_of pid s ≡ sum_by (due_but_on lkids pid) s.resources + due_but_among lkids pid s.loose
+
+-- ---- what becomes of them
+
+-- the requests of the chosen locks have ended, by rising identification, and nothing is owed for these locks
+pub record HaveEnded (choice : Choice) (invalidates : Bool) (pid : ℕ) (old new : Records) : Type 0 where
+  pub lkids : List ℕ
+  pub chosen : AreChosen choice pid old lkids
+  pub statuses : plain_processes new
+      ≡ processes_after (withdrawn_endings (map (giving_up by_abort by_abort invalidates) lkids) (plain_resources old)) (plain_processes old)
+  pub only_notices : SameButNotices old new
+  pub paid : IsPaidBut lkids new
+
+-- the chosen locks can go: their requests have ended, their sublocks go too, and there is room to note the resource of each lock
+pub record CanGo (choice : Choice) (pid : ℕ) (touched : Touches) (s : Records) : Type 0 where
+  pub lkids : List ℕ
+  pub chosen : AreChosen choice pid s lkids
+  pub paid : IsPaidBut lkids s
+  pub closed : SublocksGoToo choice s
+  pub rest : IsAtRest s
+  pub together : SublocksAreOwn s
+  pub granted : GrantedWantNothing s
+  pub noted : AreThere touched.noted s
+  pub room : length touched.noted + lock_total s ≤ touched.room
+
+-- these locks are gone, and each resource that is not as it was is noted
+pub record AreGone (lkids : List ℕ) (invalidates : Bool) (old new : Records) (before after : Touches) : Type 0 where
+  pub resources : plain_resources new ≡ map (resource_left (is_among lkids) invalidates) (plain_resources old)
+  pub statuses : plain_processes new ≡ plain_processes old
+  pub kept : AreStillNoted before.noted after.noted
+  pub only_touched : OnlyTouched after.noted old new
+  pub same_room : after.room ≡ before.room
+
+-- the chosen locks are given up together: their requests have ended, by rising identification, and they are gone; each
+-- resource that is not as it was is noted
+pub record AreGivenUp (choice : Choice) (invalidates : Bool) (pid : ℕ) (old new : Records) (before after : Touches) : Type 0 where
+  pub lkids : List ℕ
+  pub chosen : AreChosen choice pid old lkids
+  pub resources : plain_resources new ≡ map (resource_left (is_among lkids) invalidates) (plain_resources old)
+  pub statuses : plain_processes new
+      ≡ processes_after (withdrawn_endings (map (giving_up by_abort by_abort invalidates) lkids) (plain_resources old)) (plain_processes old)
+  pub kept : AreStillNoted before.noted after.noted
+  pub only_touched : OnlyTouched after.noted old new
+  pub same_room : after.room ≡ before.room

@@ -21,6 +21,22 @@ due_on pid r = due_among pid r.granted + due_among pid r.converting + due_among 
 abbrev pub due_for : ℕ → Records → ℕ
 due_for pid s = sum_by (due_on pid) s.resources + due_among pid s.loose
 
+-- what the locks of a resource come to, by a measure of each
+abbrev pub weight_on : (StoredLock → ℕ) → StoredResource → ℕ
+weight_on measure r = sum_by measure r.granted + sum_by measure r.converting + sum_by measure r.waiting
+
+-- what all locks come to
+abbrev pub weight_of : (StoredLock → ℕ) → Records → ℕ
+weight_of measure s = sum_by (weight_on measure) s.resources + sum_by measure s.loose
+
+-- by whichever measure, all locks come to less by this one, which is gone
+abbrev pub LosesOne : StoredLock → Records → Records → Type 0
+LosesOne lock old new = (measure : StoredLock → ℕ) → weight_of measure new + measure lock ≡ weight_of measure old
+
+-- by whichever measure, all locks come to the same
+abbrev pub WeighsTheSame : Records → Records → Type 0
+WeighsTheSame old new = (measure : StoredLock → ℕ) → weight_of measure new ≡ weight_of measure old
+
 -- each process is owed the ASTs that are due to it, and no more
 abbrev pub IsPaid : Records → Type 0
 IsPaid s = (pid : ℕ) → due_of pid s ≡ due_for pid s

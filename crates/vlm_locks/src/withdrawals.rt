@@ -2,7 +2,9 @@
 
 ghost use Rattle.std.specs.Prelude.{◌≡◌};
 ghost use Rattle.vlm_words.specs.Endings.{ending_status};
+ghost use Rattle.vlm_words.specs.Endings.How.{by_abort};
 ghost use Rattle.vlm_words.specs.Rundown.{rundown_of};
+ghost use Rattle.vlm_locks.specs.GivingUp.{giving_up};
 ghost use Rattle.vlm_locks.specs.Withdrawals.{how_ended, plain_withdrawal};
 
 use vlm_words::conditions::Cond;
@@ -61,6 +63,20 @@ impl Withdrawal {
             stays: false,
             value: None,
             invalidates: true,
+        }
+    }
+
+    /// That of a lock that is given up together with others.
+    pub(crate) fn together(lkid: u32, invalidates: bool) -> Self
+        ensures { plain_withdrawal result ≡ giving_up by_abort by_abort invalidates lkid }
+    {
+        Withdrawal {
+            lkid,
+            waiting: End::Aborted,
+            converting: End::Aborted,
+            stays: false,
+            value: None,
+            invalidates,
         }
     }
 }

@@ -9,7 +9,7 @@ ghost use Rattle.vlm_words.specs.Endings.{row_endings};
 ghost use Rattle.vlm_words.specs.declared.resources.Queue.{Queue};
 ghost use Rattle.vlm_store.specs.Plain.{plain_processes, plain_resources};
 ghost use Rattle.vlm_store.specs.Records.{HasNoSublocks, SameButNotices, but_notices, due_of};
-ghost use Rattle.vlm_locks.specs.Owing.{DueMoves, IsPaid, OwedMoves, due_for, left_row, row_after_end, row_at_end};
+ghost use Rattle.vlm_locks.specs.Owing.{DueMoves, IsPaid, LosesOne, OwedMoves, WeighsTheSame, left_row, row_after_end, row_at_end};
 ghost use Rattle.vlm_locks.specs.Rest.{IsAtRest, LeavesOthers};
 ghost use Rattle.vlm_locks.specs.Standing.{IsStanding};
 ghost use Rattle.vlm_locks.specs.Withdrawals.{how_ended, plain_withdrawal};
@@ -128,7 +128,7 @@ fn goes(stays: bool, queue: Queue) -> bool
 }
 
 // The request of the lock ends, and what is owed for the lock and does not come is forgiven.
-fn end_notices(store: &mut Store, standing: &Standing, withdrawal: &Withdrawal)
+pub(crate) fn end_notices(store: &mut Store, standing: &Standing, withdrawal: &Withdrawal)
     requires standing { IsStanding standing.now store.old }
     requires named { withdrawal.now.lkid ≡ standing.now.row.lkid }
     requires owed { row_due standing.now.row ≤ due_of standing.now.row.pid store.old }
@@ -190,7 +190,7 @@ fn leave_value(store: &mut Store, standing: &Standing, withdrawal: &Withdrawal)
     ensures left { IsPartDone standing.now (resource_after_writer (plain_withdrawal withdrawal.now))
         false store.old store.new }
     ensures standing { IsStanding standing.now store.new }
-    ensures due { (pid : ℕ) → due_for pid store.new ≡ due_for pid store.old }
+    ensures weighs { WeighsTheSame store.old store.new }
 {
     law_records_are_sound(store);
     if may_write(standing) {
@@ -206,7 +206,8 @@ fn remove(store: &mut Store, standing: &Standing)
     requires childless { HasNoSublocks standing.now.lock store.old }
     ensures done { IsPartDone standing.now (resource_without standing.now.row.lkid) true
         store.old store.new }
-    ensures due { DueMoves standing.now.row (row_at_end standing.now.row) store.old store.new }
+    ensures loses { LosesOne (record { at = standing.now.lock; row = standing.now.row })
+        store.old store.new }
 {
     law_records_are_sound(store);
     store.remove_lock(standing.lock);
@@ -253,6 +254,28 @@ fn cancel(store: &mut Store, standing: &Standing)
     }
 }
 
+// The lock leaves what it may leave in the value block, and goes. No lock stands below it.
+pub(crate) fn give_up(store: &mut Store, standing: &Standing, withdrawal: &Withdrawal)
+    requires rest { IsAtRest store.old }
+    requires standing { IsStanding standing.now store.old }
+    requires named { withdrawal.now.lkid ≡ standing.now.row.lkid }
+    requires goes { withdrawal.now.stays ≡ false }
+    requires childless { HasNoSublocks standing.now.lock store.old }
+    ensures resources { plain_resources store.new
+        ≡ map (resource_after_withdrawals (plain_withdrawal withdrawal.now ∷ []))
+        (plain_resources store.old) }
+    ensures statuses { plain_processes store.new ≡ plain_processes store.old }
+    ensures beside { LeavesOthers standing.now.res standing.now.lock store.old store.new }
+    ensures own_locks { store.new.processes
+        ≡ owned_after true standing.now.lock store.old.processes }
+    ensures loses { LosesOne (record { at = standing.now.lock; row = standing.now.row })
+        store.old store.new }
+{
+    law_records_are_sound(store);
+    leave_value(store, standing, withdrawal);
+    remove(store, standing);
+}
+
 /// Withdraws a lock. Its request ends, as the withdrawal says of one that waits and of one that converts, and its
 /// completion AST is queued. Held
 /// at PW or EX, granted or converting, it leaves a given value in the value block, and may then mark it invalid.
@@ -282,10 +305,10 @@ pub fn withdraw(store: &mut Store, standing: &Standing, withdrawal: &Withdrawal)
 {
     law_records_are_sound(store);
     end_notices(store, standing, withdrawal);
-    leave_value(store, standing, withdrawal);
     if withdrawal.stays {
+        leave_value(store, standing, withdrawal);
         cancel(store, standing);
     } else {
-        remove(store, standing);
+        give_up(store, standing, withdrawal);
     }
 }

@@ -3,7 +3,7 @@ use Rattle.vlm_words.specs.declared.resources.Queue.{Queue}
 use Rattle.vlm_words.specs.Dues.{due_to}
 use Rattle.vlm_locks.specs.Owing.{due_for, left_row}
 use Rattle.vlm_locks.specs.Withdrawing.{goes, owned_after}
-use Rattle.vlm_locks.proofs.Owing.{nothing_wanted}
+use Rattle.vlm_locks.proofs.Owing.{due_gone, nothing_wanted}
 use Rattle.vlm_locks.proofs.Withdrawn.{cancelled_none, cancelled_waiting}
 use Rattle.vlm_locks.proofs.withdrawing.cancel.Goals as goal
 
@@ -57,4 +57,4 @@ pub returns-in-Waiting-clause-due : goal.returns-in-Waiting-clause-due
 returns-in-Waiting-clause-due c pid =
     let f = c.args.standing.now in
     subst (λ (queue : Queue). due_for pid c.remove.new.store + due_to pid f.row ≡ due_for pid c.args.store.now + due_to pid (left_row (goes true queue) f.row)) (sym c.in-Waiting.is)
-    (c.remove.ensures.due pid)
+    (due_gone c.args.standing.now.lock c.args.standing.now.row c.args.store.now c.remove.new.store c.remove.ensures.loses pid)

@@ -6,7 +6,7 @@ use Rattle.vlm_words.specs.Withdrawals.{resource_after_writer}
 use Rattle.vlm_locks.specs.Standing.{IsStanding}
 use Rattle.vlm_locks.specs.Withdrawals.{plain_withdrawal}
 use Rattle.vlm_locks.specs.Withdrawing.{IsChange}
-use Rattle.vlm_locks.proofs.Owing.{due_valued}
+use Rattle.vlm_locks.proofs.Owing.{weighs_valued}
 use Rattle.vlm_locks.proofs.Withdrawn.{left_block, left_nothing, stands_left}
 use Rattle.vlm_locks.proofs.withdrawing.leave_value.Goals as goal
 
@@ -39,6 +39,6 @@ returns-else-may_write-clause-left c = record {
 }
 
 -- it leaves the locks as they are
-pub returns-then-may_write-clause-due : goal.returns-then-may_write-clause-due
-returns-then-may_write-clause-due c pid =
-    rw c.set_value_block.ensures (due_valued c.args.store.now c.law_records_are_sound.ensures c.args.standing.now.res c.block_after_writer.result pid)
+pub returns-then-may_write-clause-weighs : goal.returns-then-may_write-clause-weighs
+returns-then-may_write-clause-weighs c measure =
+    rw c.set_value_block.ensures (weighs_valued c.args.store.now c.law_records_are_sound.ensures c.args.standing.now.res c.block_after_writer.result measure)

@@ -5,7 +5,7 @@ use Rattle.vlm_words.specs.Withdrawals.{resource_without}
 use Rattle.vlm_locks.specs.Withdrawing.{IsChange}
 use Rattle.vlm_store.specs.Records.{Records, without_stored_lock}
 use Rattle.vlm_locks.proofs.Changed.{changed_room}
-use Rattle.vlm_locks.proofs.Owing.{due_gone}
+use Rattle.vlm_locks.proofs.Owing.{weighs_gone}
 use Rattle.vlm_locks.proofs.Stood.{stored}
 use Rattle.vlm_locks.proofs.Withdrawn.{removed}
 use Rattle.vlm_locks.proofs.withdrawing.remove.Goals as goal
@@ -28,10 +28,10 @@ returns-clause-done c =
       own_locks = ap (λ (x : Records). x.processes) c.remove_lock.ensures.removed;
     }
 
--- nothing is due for it any more
-pub returns-clause-due : goal.returns-clause-due
-returns-clause-due c =
+-- and it weighs nothing any more
+pub returns-clause-loses : goal.returns-clause-loses
+returns-clause-loses c =
     let s = c.args.store.now in
     let f = c.args.standing.now in
-    due_gone s c.law_records_are_sound.ensures f.lock f.row (stored s f c.requires.standing) c.remove_lock.new.self
+    weighs_gone s c.law_records_are_sound.ensures f.lock f.row (stored s f c.requires.standing) c.remove_lock.new.self
     (ap (λ (x : Records). x.resources) c.remove_lock.ensures.removed) (ap (λ (x : Records). x.loose) c.remove_lock.ensures.removed)
