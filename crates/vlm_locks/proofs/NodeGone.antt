@@ -13,7 +13,7 @@ use Rattle.std.proofs.lemmas.Option.{none-some, same_Some}
 use Rattle.vlm_words.specs.Declare.{is_node}
 use Rattle.vlm_store.specs.Pending.{IsFirstLiving}
 use Rattle.vlm_store.specs.Records.{FindsProcess, IsSound, Records, StoredProcess, Stores}
-use Rattle.vlm_locks.specs.GivingUp.{has_writer_among, resource_left, rows_left}
+use Rattle.vlm_locks.specs.Left.{has_writer_among, resource_left, rows_left}
 use Rattle.vlm_locks.specs.RunningDown.{AreEnded, CanEndProcesses, resource_after_rundown}
 use Rattle.vlm_locks.specs.Touched.{AreStillNoted, OnlyTouched, Touches, touched_handles}
 use Rattle.vlm_locks.proofs.InOrder.{handle_among, touch_of}

@@ -4,7 +4,7 @@ use Rattle.vlm_store.specs.Plain.{plain_processes, plain_resources, plain_resour
 use Rattle.vlm_store.specs.Records.{IsProcess, IsSound, Records, AreProcessesApart, HasNoLocks, HasNoSublocks, IsStored, OwnLock, StoredLock, StoredProcess, StoredResource, Stores, own_at, own_handles_at, process_at, rows_of_locks, but_notices, locks_at, process_without_lock, without_lock, without_resource, AreResourcesApart, queued, resource_at, AreOwnApart}
 use Rattle.vlm_locks.specs.Owing.{IsPaid}
 use Rattle.vlm_locks.specs.Rest.{IsAtRest, LeavesOthers}
-use Rattle.vlm_locks.specs.GivingUp.{giving_up, resource_left}
+use Rattle.vlm_locks.specs.Left.{giving_up, resource_left}
 use Rattle.vlm_locks.specs.RunningDown.{GrantedWantNothing, SublocksAreOwn, WereThere}
 use Rattle.vlm_words.specs.Endings.{How}
 use Rattle.vlm_words.specs.Endings.How.{by_rundown}

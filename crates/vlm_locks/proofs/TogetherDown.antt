@@ -18,7 +18,7 @@ use Rattle.vlm_words.proofs.LeftValues.{any_and_each, any_so, no_stranger}
 use Rattle.vlm_words.proofs.Together.{OfOneEach, one_after_another, rundowns_apart}
 use Rattle.vlm_words.proofs.Weights.{weigh}
 use Rattle.vlm_words.proofs.WhoseLocks.{NoStrangers, own_are_theirs, strangers}
-use Rattle.vlm_locks.specs.GivingUp.{giving_up, is_among, resource_left}
+use Rattle.vlm_locks.specs.Left.{giving_up, is_among, resource_left}
 use Rattle.vlm_locks.specs.RunningDown.{resource_after_rundown}
 use Rattle.vlm_locks.proofs.Left.{IsOthers, IsOwnRow, OthersAlone, OwnRows, nothing_left, one_withdrawn}
 

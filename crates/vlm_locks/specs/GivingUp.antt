@@ -1,4 +1,4 @@
--- What is left of a resource where some of its locks are given up together.
+-- Locks of a process that are given up together.
 use Rattle.std.specs.Prelude.{◌≡◌, ◌≤◌, ◌<◌, ⊤, ◌+◌, ℕ, Bool, true, false, not, ◌&&◌, ◌||◌, ◌==◌, List, [], ◌∷◌, filter, length, map, sum_by, None, if◌then◌else◌}
 use Rattle.std.specs.List.{AllByRecursion, list_any}
 use Rattle.vlm_words.specs.declared.locks.Row.{Row}
@@ -14,44 +14,11 @@ use Rattle.vlm_store.specs.Records.{Records, SameButNotices, StoredLock, StoredR
 use Rattle.vlm_store.specs.Total.{lock_total}
 use Rattle.vlm_locks.specs.declared.giving_up.Choice.{Choice}
 use Rattle.vlm_locks.specs.declared.giving_up.Choice.TheVariants.{All, Below}
+use Rattle.vlm_locks.specs.Left.{giving_up, is_among, resource_left}
+use Rattle.vlm_locks.specs.Owing.{weight_of}
 use Rattle.vlm_locks.specs.Rest.{IsAtRest}
 use Rattle.vlm_locks.specs.RunningDown.{GrantedWantNothing, SublocksAreOwn}
 use Rattle.vlm_locks.specs.Touched.{AreStillNoted, AreThere, OnlyTouched, Touches}
-
--- a lock is given up: its request ends so where it waits and so where it converts, and it writes no value, but may
--- mark the value block invalid
-abbrev pub giving_up : How → How → Bool → ℕ → Withdrawal
-giving_up waiting converting invalidates lkid = record {
-  lkid = lkid;
-  waiting = waiting;
-  converting = converting;
-  stays = false;
-  value = None;
-  invalidates = invalidates;
-}
-
--- the lock of the row is among these
-abbrev pub is_among : List ℕ → Row → Bool
-is_among lkids row = list_any (λ lkid. row.lkid == lkid) lkids
-
--- the rows but for those that go
-abbrev pub rows_left : (Row → Bool) → List Row → List Row
-rows_left goes rows = filter (λ row. not (goes row)) rows
-
--- some row that goes holds PW or EX
-abbrev pub has_writer_among : (Row → Bool) → List Row → Bool
-has_writer_among goes rows = list_any (λ row. goes row && is_writer row.held) rows
-
--- the resource without the rows that go; where they invalidate and one of them held PW or EX its value block is invalid
-unfoldable pub resource_left : (Row → Bool) → Bool → Resource → Resource
-resource_left goes invalidates r = record r {
-  value_block =
-      if invalidates && (has_writer_among goes r.granted || has_writer_among goes r.converting)
-      then record r.value_block { valid = false } else r.value_block;
-  granted = rows_left goes r.granted;
-  converting = rows_left goes r.converting;
-  waiting = rows_left goes r.waiting;
-}
 
 -- ---- which locks
 
@@ -83,17 +50,9 @@ SublocksGoToo choice s = (at other : ℕ) (row up : Row) → Stores s at row →
 abbrev pub due_but : List ℕ → ℕ → StoredLock → ℕ
 due_but lkids pid k = if is_among lkids k.row then 0 else due_to pid k.row
 
--- what is due to it for those of these locks
-abbrev pub due_but_among : List ℕ → ℕ → List StoredLock → ℕ
-due_but_among lkids pid locks = sum_by (due_but lkids pid) locks
-
--- and on a resource
-abbrev pub due_but_on : List ℕ → ℕ → StoredResource → ℕ
-due_but_on lkids pid r = due_but_among lkids pid r.granted + due_but_among lkids pid r.converting + due_but_among lkids pid r.waiting
-
 -- each process is owed what is due to it for its locks but for these, and no more
 abbrev pub IsPaidBut : List ℕ → Records → Type 0
-IsPaidBut lkids s = (pid : ℕ) → due_of pid s ≡ sum_by (due_but_on lkids pid) s.resources + due_but_among lkids pid s.loose
+IsPaidBut lkids s = (pid : ℕ) → due_of pid s ≡ weight_of (due_but lkids pid) s
 
 -- ---- what becomes of them
 

@@ -11,5 +11,6 @@ pub mod Converting
 pub mod Withdrawals
 pub mod Withdrawing
 pub mod Touched
-pub mod GivingUp
+pub mod Left
 pub mod RunningDown
+pub mod GivingUp

@@ -12,7 +12,7 @@ use Rattle.vlm_store.specs.Plain.{plain_processes, plain_resources}
 use Rattle.vlm_store.specs.Records.{Records, StoredLock, Stores, locks_at}
 use Rattle.vlm_store.specs.Total.{lock_total}
 use Rattle.vlm_words.specs.Rundown.{processes_but}
-use Rattle.vlm_locks.specs.GivingUp.{resource_left}
+use Rattle.vlm_locks.specs.Left.{resource_left}
 use Rattle.vlm_locks.specs.Owing.{IsPaid}
 use Rattle.vlm_locks.specs.Rest.{IsAtRest}
 use Rattle.vlm_locks.specs.Touched.{AreStillNoted, AreThere, OnlyTouched, Touches}

@@ -4,7 +4,7 @@ ghost use Rattle.std.specs.Prelude.{◌≡◌};
 ghost use Rattle.vlm_words.specs.Endings.{ending_status};
 ghost use Rattle.vlm_words.specs.Endings.How.{by_abort};
 ghost use Rattle.vlm_words.specs.Rundown.{rundown_of};
-ghost use Rattle.vlm_locks.specs.GivingUp.{giving_up};
+ghost use Rattle.vlm_locks.specs.Left.{giving_up};
 ghost use Rattle.vlm_locks.specs.Withdrawals.{how_ended, plain_withdrawal};
 
 use vlm_words::conditions::Cond;

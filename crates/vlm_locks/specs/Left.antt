@@ -1,0 +1,42 @@
+-- What is left of a resource where some of its locks are given up together.
+use Rattle.std.specs.Prelude.{ℕ, Bool, false, not, ◌&&◌, ◌||◌, ◌==◌, List, filter, None, if◌then◌else◌}
+use Rattle.std.specs.List.{list_any}
+use Rattle.vlm_words.specs.declared.locks.Row.{Row}
+use Rattle.vlm_words.specs.Endings.{How}
+use Rattle.vlm_words.specs.State.{Resource}
+use Rattle.vlm_words.specs.Withdrawals.{Withdrawal, is_writer}
+
+-- a lock is given up: its request ends so where it waits and so where it converts, and it writes no value, but may
+-- mark the value block invalid
+abbrev pub giving_up : How → How → Bool → ℕ → Withdrawal
+giving_up waiting converting invalidates lkid = record {
+  lkid = lkid;
+  waiting = waiting;
+  converting = converting;
+  stays = false;
+  value = None;
+  invalidates = invalidates;
+}
+
+-- the lock of the row is among these
+abbrev pub is_among : List ℕ → Row → Bool
+is_among lkids row = list_any (λ lkid. row.lkid == lkid) lkids
+
+-- the rows but for those that go
+abbrev pub rows_left : (Row → Bool) → List Row → List Row
+rows_left goes rows = filter (λ row. not (goes row)) rows
+
+-- some row that goes holds PW or EX
+abbrev pub has_writer_among : (Row → Bool) → List Row → Bool
+has_writer_among goes rows = list_any (λ row. goes row && is_writer row.held) rows
+
+-- the resource without the rows that go; where they invalidate and one of them held PW or EX its value block is invalid
+unfoldable pub resource_left : (Row → Bool) → Bool → Resource → Resource
+resource_left goes invalidates r = record r {
+  value_block =
+      if invalidates && (has_writer_among goes r.granted || has_writer_among goes r.converting)
+      then record r.value_block { valid = false } else r.value_block;
+  granted = rows_left goes r.granted;
+  converting = rows_left goes r.converting;
+  waiting = rows_left goes r.waiting;
+}
