@@ -1,8 +1,7 @@
 -- Locks without sublocks, in the records and in the plain machine.
-use Rattle.std.proofs.Common.{◌≡◌, ◌≢◌, ℕ, Bool, true, false, not, ◌||◌, ◌&&◌, cond, List, [], ◌∷◌, ◌++◌, map, Option, None, Some, refl, sym, ap, ◌∙◌, subst, inl, inr, eq-eqb, ne_eqb, arith}
+use Rattle.std.proofs.Common.{◌≡◌, ◌≢◌, ℕ, Bool, true, false, not, ◌||◌, ◌&&◌, cond, List, [], ◌∷◌, ◌++◌, map, None, Some, refl, sym, ap, ◌∙◌, subst, inl, inr, eq-eqb, ne_eqb, arith}
 use Rattle.std.specs.Prelude.{◌==◌, All, Any}
 use Rattle.std.specs.List.{AllByRecursion, list_any, sum_by}
-use Rattle.std.specs.Option.{option_map_or}
 use Rattle.std.proofs.lemmas.List.Elements.{recursion_from_All}
 use Rattle.std.proofs.lemmas.Bool.{or_right}
 use Rattle.vlm_words.specs.declared.conditions.Cond.TheVariants.{Sublocks}
@@ -14,37 +13,17 @@ use Rattle.vlm_words.specs.Laws.{HasItsParent, HoldsOn, rows_on}
 use Rattle.vlm_words.specs.State.{Resource}
 use Rattle.vlm_words.proofs.Each.{Any-cases, Any-none, each_weaker}
 use Rattle.vlm_links.specs.Lists.{IsIn}
-use Rattle.vlm_store.specs.declared.handles.Place.{Place}
-use Rattle.vlm_store.specs.declared.handles.Place.TheVariants.{Loose, Queued}
+use Rattle.vlm_store.specs.declared.handles.Place.TheVariants.{Queued}
 use Rattle.vlm_store.specs.Plain.{plain_resource, plain_resources}
-use Rattle.vlm_store.specs.Records.{HasNoSublocks, IsSound, OwnLock, Records, StoredLock, StoredProcess, StoredResource, Stores, locks_at, queued, resource_at, rows_of_locks}
+use Rattle.vlm_store.specs.Records.{HasNoSublocks, IsSound, OwnLock, Records, StoredLock, StoredProcess, StoredResource, Stores, locks_at, queued, rows_of_locks}
 use Rattle.vlm_locks.specs.declared.finding.Standing.{Standing}
 use Rattle.vlm_locks.specs.Standing.{IsStanding}
 use Rattle.vlm_locks.specs.Withdrawing.{goes}
-use Rattle.vlm_locks.proofs.Stood.{one_lock, queued_stored, resource_among, stands, stored}
+use Rattle.vlm_locks.proofs.Stood.{in_queue, one_lock, queued_stored, stands, stored}
 use Rattle.vlm_core.specs.Machine.{MachineState, plain_state}
 use Rattle.vlm_core.proofs.Siting.{each_resource}
 use Rattle.vlm_core.proofs.ToCome.{counted_all, counted_on}
 use Rattle.vlm_store.proofs.Records.{queue_at}
-
--- a stored lock in its queue
-pub record IsQueued (at : ℕ) (row : Row) (s : Records) : Type 0 where
-  pub resource : StoredResource
-  pub there : IsIn resource s.resources
-  pub queue : Queue
-  pub among : IsIn (record { at = at; row = row }) (queued queue resource)
-
--- where none is loose, each stored lock stands in a queue
-pub in_queue : (s : Records) → s.loose ≡ [] → (at : ℕ) (row : Row) → Stores s at row → IsQueued at row s
-in_queue s none_loose at row stored = by_place stored.0 stored.1
-  where
-    by_place : (place : Place) → IsIn (record { at = at; row = row }) (locks_at place s) → IsQueued at row s
-    by_place Loose among = absurd (subst (IsIn (record { at = at; row = row })) none_loose among)
-    by_place (Queued res queue) among = of_found (resource_at res s.resources) refl among
-      where
-        of_found : (found : Option StoredResource) → resource_at res s.resources ≡ found → IsIn (record { at = at; row = row }) (option_map_or (queued queue) found []) → IsQueued at row s
-        of_found None is here = absurd here
-        of_found (Some r) is here = record { resource = r; there = resource_among res s.resources r is; queue = queue; among = here }
 
 -- what holds on a resource stands in its granted or its conversion queue
 pub held_stands : (r : StoredResource) (lkid pid : ℕ) → HoldsOn lkid pid (plain_resource r)

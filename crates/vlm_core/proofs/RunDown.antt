@@ -13,8 +13,8 @@ use Rattle.vlm_links.specs.Lists.{IsIn}
 use Rattle.vlm_store.specs.Plain.{plain_resource, plain_resources}
 use Rattle.vlm_store.specs.Records.{IsSound, Records, StoredLock, StoredResource, Stores, queued, resource_at}
 use Rattle.vlm_locks.specs.RunningDown.{GrantedWantNothing, SublocksAreOwn}
-use Rattle.vlm_locks.proofs.Stood.{one_lock, queued_stored, resource_among}
-use Rattle.vlm_core.proofs.Childless.{by_recursion, held_stands, in_queue, of_queue}
+use Rattle.vlm_locks.proofs.Stood.{in_queue, one_lock, queued_stored, resource_among}
+use Rattle.vlm_core.proofs.Childless.{by_recursion, held_stands, of_queue}
 use Rattle.vlm_core.proofs.Siting.{each_resource}
 use Rattle.vlm_core.proofs.ToCome.{counted_all, counted_on}
 use Rattle.vlm_core.proofs.Wanting.{each_of}

@@ -18,6 +18,7 @@ pub mod InOrder
 pub mod Rising
 pub mod Replaced
 pub mod Stood
+pub mod ParentsNamed
 pub mod Parting
 pub mod Weighing
 pub mod Owing

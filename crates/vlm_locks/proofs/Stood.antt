@@ -1,5 +1,5 @@
 -- What is known of the records from one lock that stands in a queue.
-use Rattle.std.proofs.Common.{◌≡◌, ◌≢◌, ℕ, List, [], ◌∷◌, Some, refl, sym, ap, ◌∙◌, subst, inl, inr}
+use Rattle.std.proofs.Common.{◌≡◌, ◌≢◌, ℕ, List, [], ◌∷◌, Option, None, Some, refl, sym, ap, ◌∙◌, subst, inl, inr}
 use Rattle.std.specs.Option.{option_map_or}
 use Rattle.std.proofs.lemmas.Option.{none-some, same_Some}
 use Rattle.std.proofs.lemmas.Bool.{cases_eq}
@@ -7,7 +7,8 @@ use Rattle.std.proofs.Common.{eq-eqb, ne_eqb}
 use Rattle.vlm_words.specs.declared.locks.Row.{Row}
 use Rattle.vlm_words.specs.declared.resources.Queue.{Queue}
 use Rattle.vlm_links.specs.Lists.{IsIn}
-use Rattle.vlm_store.specs.declared.handles.Place.TheVariants.{Queued}
+use Rattle.vlm_store.specs.declared.handles.Place.{Place}
+use Rattle.vlm_store.specs.declared.handles.Place.TheVariants.{Loose, Queued}
 use Rattle.vlm_store.specs.Records.{AreApart, IsProcess, IsSound, Records, StoredLock, StoredResource, Stores, locks_at, queued, resource_at}
 use Rattle.vlm_store.proofs.Records.{queue_at}
 use Rattle.vlm_locks.specs.declared.finding.Standing.{Standing}
@@ -22,6 +23,25 @@ resource_among res (x ∷ rs) r found =
       | inl same ↦ inl (same_Some x r (rw (eq-eqb x.at res same) at found))
       | inr differs ↦ inr (resource_among res rs r (rw (ne_eqb x.at res differs) at found))
     ]
+
+-- a stored lock in its queue
+pub record IsQueued (at : ℕ) (row : Row) (s : Records) : Type 0 where
+  pub resource : StoredResource
+  pub there : IsIn resource s.resources
+  pub queue : Queue
+  pub among : IsIn (record { at = at; row = row }) (queued queue resource)
+
+-- where none is loose, each stored lock stands in a queue
+pub in_queue : (s : Records) → s.loose ≡ [] → (at : ℕ) (row : Row) → Stores s at row → IsQueued at row s
+in_queue s none_loose at row stored = by_place stored.0 stored.1
+  where
+    by_place : (place : Place) → IsIn (record { at = at; row = row }) (locks_at place s) → IsQueued at row s
+    by_place Loose among = absurd (subst (IsIn (record { at = at; row = row })) none_loose among)
+    by_place (Queued res queue) among = of_found (resource_at res s.resources) refl among
+      where
+        of_found : (found : Option StoredResource) → resource_at res s.resources ≡ found → IsIn (record { at = at; row = row }) (option_map_or (queued queue) found []) → IsQueued at row s
+        of_found None is here = absurd here
+        of_found (Some r) is here = record { resource = r; there = resource_among res s.resources r is; queue = queue; among = here }
 
 -- one handle stands once in a list
 one_row : (locks : List StoredLock) → AreApart locks → (a b : StoredLock) → IsIn a locks → IsIn b locks → a.at ≡ b.at → a ≡ b

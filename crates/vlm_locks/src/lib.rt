@@ -5,6 +5,7 @@
 //! names a routine: before anything is changed.
 #![tactic(auto)]
 
+mod below;
 mod converting;
 mod endings;
 mod entering;
@@ -19,6 +20,7 @@ mod warning;
 mod withdrawals;
 mod withdrawing;
 
+pub use below::is_below;
 pub use converting::{convert, converts_at_once};
 pub use entering::{Entry, enter, enters_at_once};
 pub use finding::{Standing, find_lock, standing_of};

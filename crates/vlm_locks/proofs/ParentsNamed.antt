@@ -1,0 +1,290 @@
+-- The parent lock of a stored lock is the one that its row names, and so are those above it.
+use Rattle.std.proofs.Common.{◌≡◌, ◌≢◌, ◌≤◌, ◌<◌, ◌⊎◌, ℕ, zero, suc, false, List, [], ◌∷◌, ◌++◌, map, refl, sym, ap, ◌∙◌, subst, inl, inr, eq-eqb, ne_eqb, arith}
+use Rattle.std.specs.Prelude.{◌==◌, ◌||◌, slice_get}
+use Rattle.std.specs.Option.{option_map_or}
+use Rattle.std.proofs.lemmas.Bool.{cases_eq}
+use Rattle.vlm_words.specs.declared.locks.Row.{Row}
+use Rattle.vlm_words.specs.declared.resources.Queue.{Queue}
+use Rattle.vlm_words.specs.declared.resources.Queue.TheVariants.{Granted, Conversion, Waiting}
+use Rattle.vlm_words.specs.OwnLocks.{all_rows_of, is_below, parent_of}
+use Rattle.vlm_words.specs.Rows.{rows_of}
+use Rattle.vlm_words.specs.State.{Resource}
+use Rattle.vlm_links.specs.Lists.{IsIn}
+use Rattle.vlm_store.specs.Plain.{plain_resource, plain_resources}
+use Rattle.vlm_store.specs.Records.{IsSound, Records, StoredLock, StoredResource, Stores, queued, rows_of_locks}
+use Rattle.vlm_locks.specs.Rest.{IsAtRest}
+use Rattle.vlm_locks.proofs.Named.{IsAbsent, rows-absent}
+use Rattle.vlm_locks.proofs.Stood.{in_queue, one_lock, queued_stored}
+
+-- the row stands first in the list
+abbrev IsFirst : Row → List Row → Type 0
+IsFirst row rows = (rest : List Row) × (rows ≡ row ∷ rest)
+
+-- the list is empty, or the row stands first in it
+abbrev IsFirstIfAny : Row → List Row → Type 0
+IsFirstIfAny row rows = (rows ≡ []) ⊎ IsFirst row rows
+
+-- ---- lists of which one is put behind another
+
+first_before : (row : Row) (xs ys : List Row) → IsFirst row xs → IsFirst row (xs ++ ys)
+first_before row xs ys first = (first.0 ++ ys, ap (λ (rows : List Row). rows ++ ys) first.1)
+
+first_behind : (row : Row) (xs ys : List Row) → IsFirstIfAny row xs → IsFirst row ys → IsFirst row (xs ++ ys)
+first_behind row xs ys (inl none) first = (first.0, ap (λ (rows : List Row). rows ++ ys) none ∙ first.1)
+first_behind row xs ys (inr before) first = first_before row xs ys before
+
+if_any_both : (row : Row) (xs ys : List Row) → IsFirstIfAny row xs → IsFirstIfAny row ys → IsFirstIfAny row (xs ++ ys)
+if_any_both row xs ys (inl none) (inl empty) = inl (ap (λ (rows : List Row). rows ++ ys) none ∙ empty)
+if_any_both row xs ys (inl none) (inr first) = inr (first_behind row xs ys (inl none) first)
+if_any_both row xs ys (inr first) any = inr (first_before row xs ys first)
+
+-- ---- the rows of one identification, where each of them is this row
+
+-- each lock of the list with the identification of the row has the row
+abbrev AreItsOwn : Row → List StoredLock → Type 0
+AreItsOwn row locks = (k : StoredLock) → IsIn k locks → k.row.lkid ≡ row.lkid → k.row ≡ row
+
+if_any_of : (row : Row) (locks : List StoredLock) → AreItsOwn row locks → IsFirstIfAny row (rows_of row.lkid (rows_of_locks locks))
+if_any_of row [] own = inl refl
+if_any_of row (k ∷ rest) own =
+    elim (cases_eq k.row.lkid row.lkid) [
+      | inl same ↦
+          rw (eq-eqb k.row.lkid row.lkid same)
+          (inr (rows_of row.lkid (rows_of_locks rest), ap (λ (x : Row). x ∷ rows_of row.lkid (rows_of_locks rest)) (own k (inl refl) same)))
+      | inr differs ↦ rw (ne_eqb k.row.lkid row.lkid differs) (if_any_of row rest (λ x there. own x (inr there)))
+    ]
+
+first_of : (row : Row) (locks : List StoredLock) (k : StoredLock) → AreItsOwn row locks → IsIn k locks → k.row ≡ row
+    → IsFirst row (rows_of row.lkid (rows_of_locks locks))
+first_of row [] k own among is = absurd among
+first_of row (x ∷ rest) k own among is =
+    elim (cases_eq x.row.lkid row.lkid) [
+      | inl same ↦
+          rw (eq-eqb x.row.lkid row.lkid same)
+          (rows_of row.lkid (rows_of_locks rest), ap (λ (y : Row). y ∷ rows_of row.lkid (rows_of_locks rest)) (own x (inl refl) same))
+      | inr differs ↦
+          rw (ne_eqb x.row.lkid row.lkid differs)
+          (elim among [
+            | inl here ↦ absurd (differs (ap (λ (y : StoredLock). y.row.lkid) here ∙ ap (λ (y : Row). y.lkid) is))
+            | inr there ↦ first_of row rest k (λ y later. own y (inr later)) there is
+          ])
+    ]
+
+-- the rows of one identification on a resource
+abbrev rows_here : ℕ → StoredResource → List Row
+rows_here lkid r = rows_of lkid (rows_of_locks r.granted) ++ rows_of lkid (rows_of_locks r.converting) ++ rows_of lkid (rows_of_locks r.waiting)
+
+-- each lock of the resource with the identification of the row has the row
+abbrev AreItsOwnOn : Row → StoredResource → Type 0
+AreItsOwnOn row r = (queue : Queue) → AreItsOwn row (queued queue r)
+
+module _ (row : Row) (r : StoredResource) (own : AreItsOwnOn row r) where
+  -- its rows in each queue, and in those that hold
+  abbrev granted : List Row
+  granted = rows_of row.lkid (rows_of_locks r.granted)
+
+  abbrev converting : List Row
+  converting = rows_of row.lkid (rows_of_locks r.converting)
+
+  abbrev waiting : List Row
+  waiting = rows_of row.lkid (rows_of_locks r.waiting)
+
+  if_any_held : IsFirstIfAny row (granted ++ converting)
+  if_any_held = if_any_both row granted converting (if_any_of row r.granted (own Granted)) (if_any_of row r.converting (own Conversion))
+
+  if_any_here : IsFirstIfAny row (rows_here row.lkid r)
+  if_any_here = if_any_both row (granted ++ converting) waiting if_any_held (if_any_of row r.waiting (own Waiting))
+
+  first_here : (queue : Queue) (k : StoredLock) → IsIn k (queued queue r) → k.row ≡ row → IsFirst row (rows_here row.lkid r)
+  first_here Granted k among is =
+      first_before row (granted ++ converting) waiting (first_before row granted converting (first_of row r.granted k (own Granted) among is))
+  first_here Conversion k among is =
+      first_before row (granted ++ converting) waiting
+      (first_behind row granted converting (if_any_of row r.granted (own Granted)) (first_of row r.converting k (own Conversion) among is))
+  first_here Waiting k among is = first_behind row (granted ++ converting) waiting if_any_held (first_of row r.waiting k (own Waiting) among is)
+
+first_among : (row : Row) (rs : List StoredResource) → ((r : StoredResource) → IsIn r rs → AreItsOwnOn row r)
+    → (r : StoredResource) → IsIn r rs → (queue : Queue) (k : StoredLock) → IsIn k (queued queue r) → k.row ≡ row
+    → IsFirst row (all_rows_of row.lkid (map plain_resource rs))
+first_among row [] own r among queue k here is = absurd among
+first_among row (x ∷ rest) own r among queue k here is =
+    elim among [
+      | inl same ↦
+          first_before row (rows_here row.lkid x) (all_rows_of row.lkid (map plain_resource rest))
+          (first_here row x (own x (inl refl)) queue k (subst (λ (y : StoredResource). IsIn k (queued queue y)) (sym same) here) is)
+      | inr there ↦
+          first_behind row (rows_here row.lkid x) (all_rows_of row.lkid (map plain_resource rest)) (if_any_here row x (own x (inl refl)))
+          (first_among row rest (λ y later. own y (inr later)) r there queue k here is)
+    ]
+
+-- where no lock has the identification there are none
+none_among : (lkid : ℕ) (rs : List StoredResource) → ((r : StoredResource) → IsIn r rs → (queue : Queue) → IsAbsent lkid (queued queue r))
+    → all_rows_of lkid (map plain_resource rs) ≡ []
+none_among lkid [] none = refl
+none_among lkid (r ∷ rest) none =
+    rw (
+      rows-absent lkid r.granted (none r (inl refl) Granted),
+      rows-absent lkid r.converting (none r (inl refl) Conversion),
+      rows-absent lkid r.waiting (none r (inl refl) Waiting),
+    ) (none_among lkid rest (λ x there. none x (inr there)))
+
+-- ---- the parent lock
+
+-- no stored lock has this identification
+abbrev pub IsNowhere : ℕ → Records → Type 0
+IsNowhere lkid s = (at : ℕ) (row : Row) → Stores s at row → row.lkid ≢ lkid
+
+-- some stored lock has this identification
+abbrev pub IsSomewhere : ℕ → Records → Type 0
+IsSomewhere lkid s = (at : ℕ) × (row : Row) × (Stores s at row × (row.lkid ≡ lkid))
+
+module _ (s : Records) (sound : IsSound s) where
+  -- the parent lock of a lock is the one that its row names
+  pub parent_named : s.loose ≡ [] → (at : ℕ) (row : Row) → Stores s at row → parent_of row.lkid (plain_resources s) ≡ row.parent
+  unfolding parent_of
+  parent_named none_loose at row stored =
+      ap (λ (rows : List Row). option_map_or (λ (x : Row). x.parent) (slice_get rows 0) 0) first.1
+    where
+      own : (r : StoredResource) → IsIn r s.resources → AreItsOwnOn row r
+      own r among queue k here same =
+          let there : Stores s k.at k.row = queued_stored s sound r among queue k here in
+          one_lock s sound at k.row row (subst (λ h. Stores s h k.row) (sound.lkids_apart k.at at k.row row there stored same) there) stored
+
+      first : IsFirst row (all_rows_of row.lkid (plain_resources s))
+      first =
+          let stands = in_queue s none_loose at row stored in
+          first_among row s.resources own stands.resource stands.there stands.queue (record { at = at; row = row }) stands.among refl
+
+  -- what is no lock has none
+  pub parent_nowhere : (lkid : ℕ) → IsNowhere lkid s → parent_of lkid (plain_resources s) ≡ 0
+  unfolding parent_of
+  parent_nowhere lkid none =
+      ap (λ (rows : List Row). option_map_or (λ (x : Row). x.parent) (slice_get rows 0) 0)
+      (none_among lkid s.resources (λ r among queue k here. none k.at k.row (queued_stored s sound r among queue k here)))
+
+-- what is its own parent is below no other
+pub below_no_other : (resources : List Resource) (levels top lkid : ℕ) → parent_of lkid resources ≡ lkid → lkid ≢ top → is_below levels top resources lkid ≡ false
+below_no_other resources zero top lkid own other = refl
+below_no_other resources (suc levels) top lkid own other =
+    ap (λ up. (up == top) || is_below levels top resources up) own ∙ ap (λ b. b || is_below levels top resources lkid) (ne_eqb lkid top other)
+    ∙ below_no_other resources levels top lkid own other
+
+-- ---- whether a lock has the identification
+
+in_locks : (lkid : ℕ) (locks : List StoredLock) → ((k : StoredLock) × (IsIn k locks × (k.row.lkid ≡ lkid))) ⊎ IsAbsent lkid locks
+in_locks lkid [] = inr (λ k none same. none)
+in_locks lkid (k ∷ rest) =
+    elim (cases_eq k.row.lkid lkid) [
+      | inl same ↦ inl (k, (inl refl, same))
+      | inr differs ↦ elim (in_locks lkid rest) [
+        | inl found ↦ inl (found.0, (inr found.1.0, found.1.1))
+        | inr none ↦ inr (none_of differs none)
+      ]
+    ]
+  where
+    none_of : k.row.lkid ≢ lkid → IsAbsent lkid rest → IsAbsent lkid (k ∷ rest)
+    none_of differs none x (inl here) same = differs (ap (λ (y : StoredLock). y.row.lkid) here ∙ same)
+    none_of differs none x (inr there) same = none x there same
+
+-- a lock with the identification, in a queue of the resource
+abbrev IsOnOne : ℕ → StoredResource → Type 0
+IsOnOne lkid r = (queue : Queue) × (k : StoredLock) × (IsIn k (queued queue r) × (k.row.lkid ≡ lkid))
+
+on_resource : (lkid : ℕ) (r : StoredResource) → IsOnOne lkid r ⊎ ((queue : Queue) → IsAbsent lkid (queued queue r))
+on_resource lkid r =
+    elim (in_locks lkid r.granted) [
+      | inl found ↦ inl (Granted, found.0, found.1)
+      | inr not_granted ↦ elim (in_locks lkid r.converting) [
+        | inl found ↦ inl (Conversion, found.0, found.1)
+        | inr not_converting ↦ elim (in_locks lkid r.waiting) [
+          | inl found ↦ inl (Waiting, found.0, found.1)
+          | inr not_waiting ↦ inr (none_of not_granted not_converting not_waiting)
+        ]
+      ]
+    ]
+  where
+    none_of : IsAbsent lkid r.granted → IsAbsent lkid r.converting → IsAbsent lkid r.waiting → (queue : Queue) → IsAbsent lkid (queued queue r)
+    none_of not_granted not_converting not_waiting Granted = not_granted
+    none_of not_granted not_converting not_waiting Conversion = not_converting
+    none_of not_granted not_converting not_waiting Waiting = not_waiting
+
+on_some : (lkid : ℕ) (rs : List StoredResource)
+    → ((r : StoredResource) × (IsIn r rs × IsOnOne lkid r)) ⊎ ((r : StoredResource) → IsIn r rs → (queue : Queue) → IsAbsent lkid (queued queue r))
+on_some lkid [] = inr (λ r none queue. absurd none)
+on_some lkid (r ∷ rest) =
+    elim (on_resource lkid r) [
+      | inl found ↦ inl (r, (inl refl, found))
+      | inr none ↦ elim (on_some lkid rest) [
+        | inl found ↦ inl (found.0, (inr found.1.0, found.1.1))
+        | inr later ↦ inr (none_of none later)
+      ]
+    ]
+  where
+    none_of : ((queue : Queue) → IsAbsent lkid (queued queue r)) → ((x : StoredResource) → IsIn x rest → (queue : Queue) → IsAbsent lkid (queued queue x))
+        → (x : StoredResource) → IsIn x (r ∷ rest) → (queue : Queue) → IsAbsent lkid (queued queue x)
+    none_of none later x (inl here) queue = subst (λ (y : StoredResource). IsAbsent lkid (queued queue y)) here (none queue)
+    none_of none later x (inr there) queue = later x there queue
+
+-- where none is loose, some lock has an identification or none has it
+pub somewhere_or_not : (s : Records) → IsSound s → s.loose ≡ [] → (lkid : ℕ) → IsSomewhere lkid s ⊎ IsNowhere lkid s
+somewhere_or_not s sound none_loose lkid =
+    elim (on_some lkid s.resources) [
+      | inl found ↦ (let k : StoredLock = found.1.1.1 in
+          inl (k.at, k.row, (queued_stored s sound found.0 found.1.0 found.1.1.0 k found.1.1.2.0, found.1.1.2.1)))
+      | inr none ↦ inr (λ at row stored same.
+          let stands = in_queue s none_loose at row stored in
+          none stands.resource stands.there stands.queue (record { at = at; row = row }) stands.among same)
+    ]
+
+-- ---- parents before their sublocks
+
+-- each stored parent has a lower identification than a lock that names it
+abbrev pub ParentsComeFirst : Records → Type 0
+ParentsComeFirst s = (at other : ℕ) (sub up : Row) → Stores s at sub → Stores s other up → sub.parent ≢ 0 → sub.parent ≡ up.lkid → up.lkid < sub.lkid
+
+-- between two steps they do
+pub parents_come_first : (s : Records) → IsSound s → IsAtRest s → ParentsComeFirst s
+parents_come_first s sound rest at other sub up stored stored_up has is =
+    let parent = sound.owned.named at sub stored has in
+    let same : parent.1.at ≡ other = sound.lkids_apart parent.1.at other parent.2 up parent.3.3 stored_up (parent.3.4 ∙ is) in
+    let up_there : Stores s parent.1.at up = subst (λ h. Stores s h up) (sym same) stored_up in
+    ((rest.rising parent.0 parent.3.0).sublocks parent.1 parent.3.1).0 at parent.3.2 up sub up_there stored
+
+-- ---- records that keep the locks up to one
+
+module _ (s t : Records) (sound : IsSound s) (sound_t : IsSound t) (none_loose : s.loose ≡ []) (none_loose_t : t.loose ≡ []) (last : ℕ)
+    (kept : (at : ℕ) (up : Row) → Stores s at up → up.lkid ≤ last → Stores t at up)
+    (were : (at : ℕ) (up : Row) → Stores t at up → Stores s at up)
+    (first : ParentsComeFirst s) where
+  -- up to there each lock has the parent lock that it had
+  same_parent : (lkid : ℕ) → lkid ≤ last → parent_of lkid (plain_resources t) ≡ parent_of lkid (plain_resources s)
+  same_parent lkid within =
+      elim (somewhere_or_not s sound none_loose lkid) [
+        | inl there ↦ (let at : ℕ = there.0 in
+            let row : Row = there.1 in
+            let still : Stores t at row = kept at row there.2.0 (omega (arith, there.2.1, within)) in
+            ap (λ n. parent_of n (plain_resources t)) (sym there.2.1) ∙ parent_named t sound_t none_loose_t at row still
+            ∙ sym (parent_named s sound none_loose at row there.2.0) ∙ ap (λ n. parent_of n (plain_resources s)) there.2.1)
+        | inr none ↦ parent_nowhere t sound_t lkid (λ at row stored. none at row (were at row stored)) ∙ sym (parent_nowhere s sound lkid none)
+      ]
+
+  -- and a parent lock is up to there too
+  parent_within : (lkid : ℕ) → lkid ≤ last → parent_of lkid (plain_resources s) ≤ last
+  parent_within lkid within =
+      elim (somewhere_or_not s sound none_loose lkid) [
+        | inl there ↦ (let is : parent_of lkid (plain_resources s) ≡ there.1.parent =
+            ap (λ n. parent_of n (plain_resources s)) (sym there.2.1) ∙ parent_named s sound none_loose there.0 there.1 there.2.0 in
+            elim (cases_eq there.1.parent 0) [
+              | inl root ↦ omega (arith, is, root)
+              | inr has ↦ (let parent = sound.owned.named there.0 there.1 there.2.0 has in
+                  omega (arith, is, parent.3.4, there.2.1, within, first there.0 parent.1.at there.1 parent.2 there.2.0 parent.3.3 has (sym parent.3.4)))
+            ])
+        | inr none ↦ omega (arith, parent_nowhere s sound lkid none)
+      ]
+
+  -- so it stands below the same locks
+  pub same_below : (levels top lkid : ℕ) → lkid ≤ last → is_below levels top (plain_resources t) lkid ≡ is_below levels top (plain_resources s) lkid
+  same_below zero top lkid within = refl
+  same_below (suc levels) top lkid within =
+      ap (λ up. (up == top) || is_below levels top (plain_resources t) up) (same_parent lkid within)
+      ∙ ap (λ b. (parent_of lkid (plain_resources s) == top) || b) (same_below levels top (parent_of lkid (plain_resources s)) (parent_within lkid within))
