@@ -31,6 +31,8 @@ pub mod Withdrawn
 pub mod Left
 pub mod TogetherDown
 pub mod RunsDown
+pub mod Chosen
+pub mod Unowed
 pub mod ProcessGone
 pub mod NodeGone
 pub mod WithdrawnEnds

@@ -1,0 +1,180 @@
+-- Locks that are chosen, by their identifications, and walks along the locks of a process.
+use Rattle.std.proofs.Common.{◌≡◌, ◌≢◌, ◌<◌, ◌⊎◌, ℕ, Bool, true, false, List, [], ◌∷◌, ◌++◌, cond, Option, None, Some, refl, sym, ap, ◌∙◌, subst, inl, inr, arith, eq-eqb, ne_eqb}
+use Rattle.std.specs.Prelude.{◌==◌, ◌||◌}
+use Rattle.std.specs.List.{AllByRecursion, list_any}
+use Rattle.std.proofs.lemmas.Bool.{eqb-true, or_right}
+use Rattle.std.proofs.lemmas.List.{append-assoc}
+use Rattle.vlm_words.specs.declared.locks.Row.{Row}
+use Rattle.vlm_links.specs.Lists.{IsApart, IsIn, Spot, before_from, first_handle, handle_before, last_from, last_handle, without}
+use Rattle.vlm_links.proofs.Walks.{last_handle-split}
+use Rattle.vlm_store.specs.Plain.{plain_resources}
+use Rattle.vlm_store.specs.Records.{Records}
+use Rattle.vlm_locks.specs.declared.giving_up.Choice.{Choice}
+use Rattle.vlm_locks.specs.GivingUp.{AreChosen, Rise, is_chosen}
+use Rattle.vlm_locks.specs.Left.{is_among}
+
+-- ---- rising numbers
+
+-- a greater one behind all
+pub rise_push : (lkids : List ℕ) (last : ℕ) → Rise lkids → ((n : ℕ) → IsIn n lkids → n < last) → Rise (lkids ++ last ∷ [])
+rise_push [] last rise below = (tt, tt)
+rise_push (n ∷ lkids) last rise below = (all_push lkids rise.0, rise_push lkids last rise.1 (λ m there. below m (inr there)))
+  where
+    all_push : (ns : List ℕ) → AllByRecursion (λ later. n < later) ns → AllByRecursion (λ later. n < later) (ns ++ last ∷ [])
+    all_push [] all = (below n (inl refl), tt)
+    all_push (m ∷ ns) all = (all.0, all_push ns all.1)
+
+above : (n m : ℕ) (ns : List ℕ) → AllByRecursion (λ later. n < later) ns → IsIn m ns → n < m
+above n m [] all there = absurd there
+above n m (x ∷ ns) all there = elim there [
+  | inl here ↦ subst (λ k. n < k) here all.0
+  | inr later ↦ above n m ns all.1 later
+]
+
+-- two rising lists of the same numbers are one
+pub same_rising : (xs ys : List ℕ) → Rise xs → Rise ys → ((n : ℕ) → IsIn n xs → IsIn n ys) → ((n : ℕ) → IsIn n ys → IsIn n xs) → xs ≡ ys
+same_rising [] [] rise_x rise_y to from = refl
+same_rising [] (y ∷ ys) rise_x rise_y to from = absurd (from y (inl refl))
+same_rising (x ∷ xs) [] rise_x rise_y to from = absurd (to x (inl refl))
+same_rising (x ∷ xs) (y ∷ ys) rise_x rise_y to from =
+    let first : x ≡ y = heads (to x (inl refl)) (from y (inl refl)) in
+    let rest : xs ≡ ys = same_rising xs ys rise_x.1 rise_y.1 (onward first) (back first) in
+    cc
+  where
+    heads : IsIn x (y ∷ ys) → IsIn y (x ∷ xs) → x ≡ y
+    heads there here = elim there [
+      | inl same ↦ sym same
+      | inr later ↦ elim here [
+        | inl same ↦ same
+        | inr behind ↦ absurd (omega (arith, above y x ys rise_y.0 later, above x y xs rise_x.0 behind))
+      ]
+    ]
+
+    onward : x ≡ y → (n : ℕ) → IsIn n xs → IsIn n ys
+    onward first n there = elim (to n (inr there)) [
+      | inl here ↦ absurd (omega (arith, above x n xs rise_x.0 there, here, first))
+      | inr later ↦ later
+    ]
+
+    back : x ≡ y → (n : ℕ) → IsIn n ys → IsIn n xs
+    back first n there = elim (from n (inr there)) [
+      | inl here ↦ absurd (omega (arith, above y n ys rise_y.0 there, here, first))
+      | inr later ↦ later
+    ]
+
+-- the identifications of the chosen locks are one list
+pub one_choice : (choice : Choice) (pid : ℕ) (s : Records) (xs ys : List ℕ) → AreChosen choice pid s xs → AreChosen choice pid s ys → xs ≡ ys
+one_choice choice pid s xs ys first second = same_rising xs ys first.rise second.rise (within xs ys first second) (within ys xs second first)
+  where
+    within : (these those : List ℕ) → AreChosen choice pid s these → AreChosen choice pid s those → (n : ℕ) → IsIn n these → IsIn n those
+    within these those a b n there =
+        let found = a.each n there in
+        subst (λ m. IsIn m those) found.2.1
+        (b.all found.0 found.1 found.2.0 found.2.2 (ap (is_chosen choice (plain_resources s)) found.2.1 ∙ found.2.3))
+
+-- ---- whether a lock is listed
+
+pub among_in : (row : Row) (lkids : List ℕ) → is_among lkids row ≡ true → IsIn row.lkid lkids
+among_in row [] is = cc
+among_in row (n ∷ lkids) is = of_test (row.lkid == n) refl is
+  where
+    of_test : (b : Bool) → (row.lkid == n) ≡ b → (b || is_among lkids row) ≡ true → IsIn row.lkid (n ∷ lkids)
+    of_test true here some = inl (sym (eqb-true row.lkid n here))
+    of_test false other some = inr (among_in row lkids some)
+
+pub in_among : (row : Row) (lkids : List ℕ) → IsIn row.lkid lkids → is_among lkids row ≡ true
+in_among row [] there = absurd there
+in_among row (n ∷ lkids) there = elim there [
+  | inl here ↦ rw (eq-eqb row.lkid n (sym here)) refl
+  | inr later ↦ or_right (row.lkid == n) (is_among lkids row) (in_among row lkids later)
+]
+
+pub among_push : (row : Row) (lkids : List ℕ) (last : ℕ) → is_among (lkids ++ last ∷ []) row ≡ (is_among lkids row || (row.lkid == last))
+among_push row [] last = or_none (row.lkid == last)
+  where
+    or_none : (b : Bool) → (b || false) ≡ b
+    or_none true = refl
+    or_none false = refl
+among_push row (n ∷ lkids) last = of_test (row.lkid == n) (among_push row lkids last)
+  where
+    of_test : (b : Bool) → is_among (lkids ++ last ∷ []) row ≡ (is_among lkids row || (row.lkid == last))
+        → (b || is_among (lkids ++ last ∷ []) row) ≡ ((b || is_among lkids row) || (row.lkid == last))
+    of_test true same = refl
+    of_test false same = same
+
+-- ---- walks
+
+-- the handles from a spot on
+pub on_from : Option ℕ → List ℕ → List ℕ
+on_from None handles = []
+on_from (Some at) [] = []
+on_from (Some at) (x ∷ handles) = cond (x == at) (x ∷ handles) (on_from (Some at) handles)
+
+-- those that a walk on has before it
+pub on_from_first : (done left : List ℕ) → IsApart (done ++ left) → on_from (first_handle left) (done ++ left) ≡ left
+on_from_first done [] apart = refl
+on_from_first [] (at ∷ rest) apart = rw (eq-eqb at at refl) refl
+on_from_first (d ∷ done) (at ∷ rest) apart =
+    rw (ne_eqb d at (λ same. apart.0 (among_parts done same))) (on_from_first done (at ∷ rest) apart.1)
+  where
+    among_parts : (ds : List ℕ) → d ≡ at → IsIn d (ds ++ at ∷ rest)
+    among_parts [] same = inl (sym same)
+    among_parts (x ∷ ds) same = inr (among_parts ds same)
+
+-- the handles up to a spot
+pub up_to : Option ℕ → List ℕ → List ℕ
+up_to None handles = []
+up_to (Some at) [] = []
+up_to (Some at) (x ∷ handles) = cond (x == at) (x ∷ []) (x ∷ up_to (Some at) handles)
+
+-- a handle that is listed once is not among those before it
+pub absent_before : (front : List ℕ) (at : ℕ) (rest : List ℕ) → IsApart (front ++ at ∷ rest) → ¬ IsIn at front
+absent_before [] at rest apart there = there
+absent_before (x ∷ front) at rest apart there = elim there [
+  | inl here ↦ apart.0 (subst (λ h. IsIn h (front ++ at ∷ rest)) (sym here) (listed front))
+  | inr later ↦ absent_before front at rest apart.1 later
+]
+  where
+    listed : (xs : List ℕ) → IsIn at (xs ++ at ∷ rest)
+    listed [] = inl refl
+    listed (y ∷ xs) = inr (listed xs)
+
+up_to_found : (front : List ℕ) (at : ℕ) (kept : List ℕ) → ¬ IsIn at front → up_to (Some at) (front ++ at ∷ kept) ≡ front ++ at ∷ []
+up_to_found [] at kept absent = rw (eq-eqb at at refl) refl
+up_to_found (x ∷ front) at kept absent =
+    rw (ne_eqb x at (λ same. absent (inl same))) (ap (λ hs. x ∷ hs) (up_to_found front at kept (λ there. absent (inr there))))
+
+-- those that a walk back has before it
+pub up_to_last : (front kept : List ℕ) → IsApart (front ++ kept) → up_to (last_handle front) (front ++ kept) ≡ front
+up_to_last front kept apart = of_last (last_handle front) refl
+  where
+    of_last : (last : Option ℕ) → last_handle front ≡ last → up_to last (front ++ kept) ≡ front
+    of_last None none = sym (no_last front none)
+      where
+        some_last : (xs : List ℕ) (first : ℕ) → last_from (Some first) xs ≡ None → ⊥
+        some_last [] first is = cc
+        some_last (y ∷ ys) first is = some_last ys y is
+
+        no_last : (xs : List ℕ) → last_handle xs ≡ None → xs ≡ []
+        no_last [] is = refl
+        no_last (x ∷ xs) is = absurd (some_last xs x is)
+    of_last (Some at) is =
+        let split = last_handle-split front at (sym is) in
+        let whole : front ++ kept ≡ split.0 ++ at ∷ kept = ap (λ hs. hs ++ kept) split.1 ∙ append-assoc split.0 (at ∷ []) kept in
+        ap (up_to (Some at)) whole ∙ up_to_found split.0 at kept (absent_before split.0 at kept (subst IsApart whole apart)) ∙ sym split.1
+
+-- a walk back goes on with the last of those before a handle
+pub before_among : (from : Spot) (front : List ℕ) (at : ℕ) (rest : List ℕ) → ¬ IsIn at front → before_from from at (front ++ at ∷ rest) ≡ last_from from front
+before_among from [] at rest absent = rw (eq-eqb at at refl) refl
+before_among from (x ∷ front) at rest absent =
+    rw (ne_eqb x at (λ same. absent (inl same))) (before_among (Some x) front at rest (λ there. absent (inr there)))
+
+-- without a handle the others are left
+pub without_one : (front : List ℕ) (at : ℕ) (rest : List ℕ) → IsApart (front ++ at ∷ rest) → without at (front ++ at ∷ rest) ≡ front ++ rest
+without_one [] at rest apart = rw (eq-eqb at at refl) (none_left rest (λ x there same. apart.0 (subst (λ h. IsIn h rest) same there)))
+  where
+    none_left : (xs : List ℕ) → ((x : ℕ) → IsIn x xs → x ≡ at → ⊥) → without at xs ≡ xs
+    none_left [] none = refl
+    none_left (x ∷ xs) none = rw (ne_eqb x at (none x (inl refl))) (ap (λ hs. x ∷ hs) (none_left xs (λ y there. none y (inr there))))
+without_one (x ∷ front) at rest apart =
+    rw (ne_eqb x at (λ same. absent_before (x ∷ front) at rest apart (inl same))) (ap (λ hs. x ∷ hs) (without_one front at rest apart.1))
