@@ -32,7 +32,7 @@ Commands of a script, one a line:
   declare NAME node=N group=N quota=N blocks=N [syslck]
   enq NAME MODE name=RES block=N [parent=LOCK] [ast=N] [bast=N] [param=N] [flags]
   cvt NAME LOCK MODE block=N [ast=N] [bast=N] [param=N] [flags]
-  deq NAME LOCK [value=HEX] [cancel] [invvalblk]
+  deq NAME LOCK [value=HEX] [deqall] [cancel] [invvalblk]
   set NAME block=N value=HEX
   end NAME
   leave node=N

@@ -5,6 +5,7 @@ pub mod Raising
 pub mod Warning
 pub mod WarnedOnce
 pub mod InTheWay
+pub mod TakenBelow
 pub mod Departing
 pub mod EndedProcesses
 pub mod Happened

@@ -1,9 +1,14 @@
 //! What holds of the ASTs of every run of the plain machine. The functions do nothing, but that some call a law that
 //! they rest on: their contracts are the laws.
 
-ghost use Rattle.std.specs.Prelude.{Option};
+ghost use Rattle.std.specs.Prelude.{◌≡◌, true, Option};
 ghost use Rattle.vlm_words.specs.declared.locks.Row.{Row};
+ghost use Rattle.vlm_words.specs.declared.conditions.Cond.TheVariants.{Normal};
+ghost use Rattle.vlm_words.specs.declared.steps.Answer.TheVariants.{Plain};
+ghost use Rattle.vlm_words.specs.declared.steps.Dequeue.{Dequeue};
+ghost use Rattle.vlm_words.specs.declared.steps.Step.TheVariants.{Deq};
 ghost use Rattle.vlm_words.specs.declared.steps.Step.{Step};
+ghost use Rattle.vlm_words.specs.Flags.{deqall, has_flag};
 ghost use Rattle.vlm_words.specs.State.{State};
 ghost use Rattle.vlm_words.specs.Runs.{History, Run};
 ghost use Rattle.vlm_words.specs.Stepped.{IsChoice, stepped};
@@ -16,6 +21,7 @@ ghost use Rattle.vlm_laws.specs.Raising.{NoMoreIsQueuedThanNamed, OnlyOwnRequest
 ghost use Rattle.vlm_laws.specs.Warning.{WarningsAreOfGrants};
 ghost use Rattle.vlm_laws.specs.WarnedOnce.{EachGrantIsWarnedAtMostOnce};
 ghost use Rattle.vlm_laws.specs.InTheWay.{WarnedLocksAreInTheWay};
+ghost use Rattle.vlm_laws.specs.TakenBelow.{TakesThoseBelowAlone};
 
 use vlm_words::laws::law_asts_are_taken_in_order;
 
@@ -111,3 +117,13 @@ pub fn law_an_ended_process_is_told_no_more()
 {
     law_what_is_queued_is_taken_or_pending();
 }
+
+/// A dequeue with DEQALL takes the locks that it is to take and no other: where it names no lock all of its caller, and
+/// else those from which a chain of parent locks leads to the one that it names, all of which are its caller's. What is
+/// left before the sweep stands where it stood, as it was and in its order.
+pub fn law_a_dequeue_of_all_takes_those_below_alone()
+    ensures { (history : History) (old : State) → Run history old
+        → (d : Dequeue) (choice : Option Row) → has_flag d.flags deqall ≡ true
+        → (stepped old (Deq d) choice).answer ≡ Plain Normal
+        → TakesThoseBelowAlone old d choice }
+{}

@@ -19,7 +19,7 @@ use Rattle.vlm_lines.specs.declared.lines.Line.{Line}
 use Rattle.vlm_lines.specs.declared.lines.Line.TheVariants.{Empty, Declare, Enq, Cvt, Deq, Set, End, Leave, Ast, Block as block_words, Show}
 use Rattle.vlm_lines.specs.declared.faults.LineFault.{LineFault}
 use Rattle.vlm_lines.specs.declared.faults.LineFault.TheVariants.{TooLong, UnknownCommand, WrongWord, NumberOutOfRange}
-use Rattle.vlm_words.specs.Flags.{cancel, expedite, has_flag, invvalblk, noqueue, quecvt, syncsts, system, valblk}
+use Rattle.vlm_words.specs.Flags.{cancel, deqall, expedite, has_flag, invvalblk, noqueue, quecvt, syncsts, system, valblk}
 
 -- the byte goes to the front of the first piece
 abbrev pub onto : ℕ → List (List ℕ) → List (List ℕ)
@@ -215,7 +215,8 @@ enq_flag word =
 -- the flag that a word of a deq line stands for
 unfoldable pub deq_flag : List ℕ → Option ℕ
 deq_flag word =
-    if is_text word (codes "cancel") then Some cancel
+    if is_text word (codes "deqall") then Some deqall
+    else if is_text word (codes "cancel") then Some cancel
     else if is_text word (codes "invvalblk") then Some invvalblk
     else None
 

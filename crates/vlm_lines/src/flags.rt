@@ -35,7 +35,9 @@ pub(crate) fn enq_flag(word: &[u8]) -> Option<u16>
 pub(crate) fn deq_flag(word: &[u8]) -> Option<u16>
     ensures { result ≡ deq_flag word.now }
 {
-    if is_text(word, b"cancel") {
+    if is_text(word, b"deqall") {
+        Some(DeqFlags::DEQALL.bits())
+    } else if is_text(word, b"cancel") {
         Some(DeqFlags::CANCEL.bits())
     } else if is_text(word, b"invvalblk") {
         Some(DeqFlags::INVVALBLK.bits())

@@ -130,7 +130,7 @@ parent_of_0 s apart = of_rows (all_rows_of 0 s.resources) (all_rows_count 0 s.re
     of_rows [] none = refl
     of_rows (row ∷ rows) none = absurd (omega (arith, none))
 
-nothing_is_above_0 : (s : State) → Apart s → (top levels : ℕ) → top ≢ 0 → is_below levels top s.resources 0 ≡ false
+pub nothing_is_above_0 : (s : State) → Apart s → (top levels : ℕ) → top ≢ 0 → is_below levels top s.resources 0 ≡ false
 nothing_is_above_0 s apart top zero some = refl
 nothing_is_above_0 s apart top (suc levels) some =
     let no : (0 == top) ≡ false = grind (arith, nat_tests, some) in
@@ -212,7 +212,7 @@ up_at_most all r row level low up =
 
 module _ (s : State) (apart : Apart s) (rooted : AllByRecursion (AllRooted s.resources) s.resources) where
   -- what is so of the row of a lock that stands somewhere, whichever it is, is so
-  stands_so : (C : Type 0) (level lkid : ℕ)
+  pub stands_so : (C : Type 0) (level lkid : ℕ)
       → ((row : Row) (r : Resource) → r.level ≤ level → IsRowIn (rows_on r) row → Any (λ x. r ≡ x) s.resources → row.lkid ≡ lkid → HasRoot s.resources r row → C)
       → StandsAtMost s.resources level lkid → C
   stands_so C level lkid so stands =

@@ -26,11 +26,11 @@ use Rattle.vlm_words.specs.Rows.{rows_without}
 -- ---- lists of identifications
 
 -- the number is listed
-abbrev is_in : ℕ → List ℕ → Bool
+abbrev pub is_in : ℕ → List ℕ → Bool
 is_in m lkids = list_any (λ n. m == n) lkids
 
 -- what is so of each listed number
-of_listed : (P : ℕ → Type 0) (m : ℕ) (lkids : List ℕ) → AllByRecursion P lkids → is_in m lkids ≡ true → P m
+pub of_listed : (P : ℕ → Type 0) (m : ℕ) (lkids : List ℕ) → AllByRecursion P lkids → is_in m lkids ≡ true → P m
 of_listed P m [] each listed = cc
 of_listed P m (n ∷ lkids) each listed = elim (or_cases (m == n) (is_in m lkids) listed) [
   | inl here ↦ subst P (sym (eqb-true m n here)) each.0
@@ -38,7 +38,7 @@ of_listed P m (n ∷ lkids) each listed = elim (or_cases (m == n) (is_in m lkids
 ]
 
 -- what a filter leaves was there
-was_listed : (test : ℕ → Bool) (m : ℕ) (lkids : List ℕ) → is_in m (filter test lkids) ≡ true → is_in m lkids ≡ true
+pub was_listed : (test : ℕ → Bool) (m : ℕ) (lkids : List ℕ) → is_in m (filter test lkids) ≡ true → is_in m lkids ≡ true
 was_listed test m [] listed = listed
 was_listed test m (n ∷ lkids) listed = of_test (test n) (was_listed test m lkids) listed
   where
@@ -90,7 +90,7 @@ module _ (s : State) (apart : Apart s) (rooted : AllByRecursion (AllRooted s.res
       of_test false other = absurd (no_up_of_strangers is_one row.pid row.parent other p s.resources none up)
 
   -- where a row stands
-  found_on : (row : Row) (r : Resource) → IsRowIn (rows_on r) row → is_one row.pid ≡ true → has_lock_among is_one row.lkid r ≡ true
+  pub found_on : (row : Row) (r : Resource) → IsRowIn (rows_on r) row → is_one row.pid ≡ true → has_lock_among is_one row.lkid r ≡ true
   found_on row r there theirs = elim (either (λ y. row ≡ y) (r.granted ++ r.converting) r.waiting there) [
     | inl first ↦ elim (either (λ y. row ≡ y) r.granted r.converting first) [
       | inl granted ↦ (let found = row_found is_one s apart row r.granted granted theirs in rw found refl)
@@ -166,7 +166,7 @@ taken_are_closed s apart rooted d row r there among root low listed =
 abbrev pub orphaned_by : List Withdrawal → Row → Bool
 orphaned_by withdrawals row = list_any (λ w. row.parent == w.lkid) withdrawals
 
-as_listed : (f : ℕ → Withdrawal) → ((lkid : ℕ) → (f lkid).lkid ≡ lkid) → (m : ℕ) (lkids : List ℕ)
+pub as_listed : (f : ℕ → Withdrawal) → ((lkid : ℕ) → (f lkid).lkid ≡ lkid) → (m : ℕ) (lkids : List ℕ)
     → list_any (λ w. m == w.lkid) (map f lkids) ≡ is_in m lkids
 as_listed f named m [] = refl
 as_listed f named m (lkid ∷ lkids) = rw (named lkid, as_listed f named m lkids) refl

@@ -9,7 +9,7 @@ use Rattle.std.proofs.lemmas.Bool.{eq-eqb, eqb-true, true≢false}
 use Rattle.std.proofs.lemmas.Bool.Decides.{nat_tests}
 use Rattle.std.proofs.lemmas.List.Elements.{All-from_recursion, recursion_from_All}
 use Rattle.std.proofs.lemmas.Nat.Bits.{bit_at-lt, bit_at_above, bit_at_and, same_from_bits}
-use Rattle.vlm_words.specs.Flags.{deq_bits, deqall, enq_bits, has_flag, is_known}
+use Rattle.vlm_words.specs.Flags.{deq_bits, enq_bits, is_known}
 use Rattle.vlm_words.specs.Reasons.{HasUnknownBit, dequeue_flags, request_flags}
 
 -- ---- bits
@@ -109,19 +109,20 @@ no_flag_place (suc (suc (suc (suc (suc (suc n)))))) each =
 
 -- a place where no flag of dequeues has its bit
 dequeue_places : (place : ℕ) → bit_at deq_bits place ≡ 0 → AllByRecursion (λ flag. bit_at flag place ≡ 0) dequeue_flags
-dequeue_places zero is = (refl, (refl, tt))
+dequeue_places zero is = cc
 dequeue_places (suc zero) is = cc
 dequeue_places (suc (suc zero)) is = cc
-dequeue_places (suc (suc (suc n))) is =
-    let above : 3 ≤ suc (suc (suc n)) = omega arith in
-    (bit_at_above 2 3 (suc (suc (suc n))) (omega arith) above, (bit_at_above 4 3 (suc (suc (suc n))) (omega arith) above, tt))
+dequeue_places (suc (suc (suc n))) is = (past 1 (omega arith), (past 2 (omega arith), (past 4 (omega arith), tt)))
+  where
+    past : (flag : ℕ) → flag < 2 ^ 3 → bit_at flag (suc (suc (suc n))) ≡ 0
+    past flag below = bit_at_above flag 3 (suc (suc (suc n))) below (omega arith)
 
--- and none of both has one there
+-- and none of all has one there
 no_dequeue_place : (place : ℕ) → AllByRecursion (λ flag. bit_at flag place ≡ 0) dequeue_flags → bit_at deq_bits place ≡ 0
-no_dequeue_place zero each = refl
-no_dequeue_place (suc zero) each = absurd (omega (arith, each.0))
-no_dequeue_place (suc (suc zero)) each = absurd (omega (arith, each.1.0))
-no_dequeue_place (suc (suc (suc n))) each = bit_at_above 6 3 (suc (suc (suc n))) (omega arith) (omega arith)
+no_dequeue_place zero each = absurd (omega (arith, each.0))
+no_dequeue_place (suc zero) each = absurd (omega (arith, each.1.0))
+no_dequeue_place (suc (suc zero)) each = absurd (omega (arith, each.1.1.0))
+no_dequeue_place (suc (suc (suc n))) each = bit_at_above 7 3 (suc (suc (suc n))) (omega arith) (omega arith)
 
 -- a bit outside all flags is no flag's
 some_flag : (bits : ℕ) → HasBitOutside enq_bits bits → HasUnknownBit request_flags bits
@@ -158,25 +159,6 @@ dequeue_known bits known bit =
       set = bit.set;
       unknown = no_dequeue_place bit.place (recursion_from_All (λ flag. bit_at flag bit.place ≡ 0) dequeue_flags bit.unknown);
     })
-
--- DEQALL is not built
-pub none_for_all : (bits : ℕ) → is_known deq_bits bits ≡ true → has_flag bits deqall ≡ false
-unfolding has_flag
-none_for_all bits known = of_test (bit_and bits deqall == deqall) refl
-  where
-    of_bit : (a : ℕ) → a < 2 → min a 1 ≡ 1 → a ≡ 1
-    of_bit zero below one = cc
-    of_bit (suc zero) below one = refl
-    of_bit (suc (suc a)) below one = absurd (omega (arith, below))
-
-    of_test : (b : Bool) → (bit_and bits deqall == deqall) ≡ b → b ≡ false
-    of_test false is = refl
-    of_test true is =
-        let same : bit_and bits deqall ≡ deqall = eqb-true (bit_and bits deqall) deqall is in
-        let least : bit_at (bit_and bits deqall) 0 ≡ min (bit_at bits 0) 1 = bit_at_and bits deqall 0 in
-        let one : bit_at (bit_and bits deqall) 0 ≡ 1 = ap (λ (n : ℕ). bit_at n 0) same in
-        absurd (known_bits deq_bits bits known
-        (record { place = 0; set = of_bit (bit_at bits 0) (bit_at-lt bits 0) (sym least ∙ one); unknown = refl }))
 
 -- ---- flags of requests
 

@@ -202,7 +202,7 @@ neither false true none = cc
 neither false false none = (refl, refl)
 
 -- a refused dequeue breaks the rule of its condition
-dequeue_breaks : (s : State) (d : Dequeue) → Says (DequeueBreaks s d) (deq_refusal s d)
+pub dequeue_breaks : (s : State) (d : Dequeue) → Says (DequeueBreaks s d) (deq_refusal s d)
 unfolding deq_refusal deq_flags_refusal cancel_refusal sublocks_refusal
 dequeue_breaks s d =
     says_either B (caller_refusal s d.pid) _ (says_caller B s d.pid (λ departed. departed) (λ none. none))

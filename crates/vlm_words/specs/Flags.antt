@@ -46,7 +46,7 @@ invvalblk = 4
 
 -- the bits of dequeues that are built
 abbrev pub deq_bits : ℕ
-deq_bits = cancel + invvalblk
+deq_bits = deqall + cancel + invvalblk
 
 -- the flag is among the bits
 unfoldable pub has_flag : ℕ → ℕ → Bool

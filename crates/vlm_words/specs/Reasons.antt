@@ -31,7 +31,7 @@ request_flags = valblk ∷ noqueue ∷ syncsts ∷ system ∷ expedite ∷ quecv
 
 -- the flags of dequeues that are built
 abbrev pub dequeue_flags : List ℕ
-dequeue_flags = cancel ∷ invvalblk ∷ []
+dequeue_flags = deqall ∷ cancel ∷ invvalblk ∷ []
 
 -- some bit is set that is none of these flags'
 pub record HasUnknownBit (flags : List ℕ) (bits : ℕ) : Type 0 where

@@ -1,7 +1,7 @@
 //! The flags of requests and dequeues, as far as they are built.
 
 ghost use Rattle.std.specs.Prelude.{◌≡◌, ⊤, [], ◌∷◌, codes};
-ghost use Rattle.vlm_words.specs.Flags.{cancel, deq_flag_bits, expedite, flag_bits, has_flag, invvalblk, noqueue, quecvt, syncsts, system, valblk};
+ghost use Rattle.vlm_words.specs.Flags.{cancel, deq_flag_bits, deqall, expedite, flag_bits, has_flag, invvalblk, noqueue, quecvt, syncsts, system, valblk};
 
 use bitflags::{Flag, Flags, bitflag_items};
 
@@ -66,6 +66,8 @@ pub struct DeqFlags(u16);
 
 bitflag_items! {
     impl DeqFlags: u16 {
+        /// All locks below a lock, or all of the caller, are given up.
+        const DEQALL = 1;
         /// A request is cancelled instead of its lock given up.
         const CANCEL = 2;
         /// The value block of a resource on which the lock holds PW or EX is marked invalid.
@@ -78,7 +80,7 @@ impl Flags for DeqFlags {
 
     ghost exact = { ⊤ };
 
-    ghost table = { (codes "CANCEL", cancel) ∷ (codes "INVVALBLK", invvalblk) ∷ [] };
+    ghost table = { (codes "DEQALL", deqall) ∷ (codes "CANCEL", cancel) ∷ (codes "INVVALBLK", invvalblk) ∷ [] };
 
     ghost set_of = { λ f. f.0 };
 

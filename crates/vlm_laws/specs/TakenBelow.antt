@@ -1,0 +1,46 @@
+-- Which locks a dequeue with DEQALL takes.
+use Rattle.std.specs.Prelude.{◌≡◌, ◌≢◌, ◌⊎◌, ◌++◌, ℕ, List, [], ◌∷◌, Any, Option}
+use Rattle.std.specs.List.{AllZip}
+use Rattle.vlm_words.specs.declared.locks.Row.{Row}
+use Rattle.vlm_words.specs.declared.steps.Dequeue.{Dequeue}
+use Rattle.vlm_words.specs.declared.steps.Step.TheVariants.{Deq}
+use Rattle.vlm_words.specs.State.{Resource, State}
+use Rattle.vlm_words.specs.Checks.{named_lkid}
+use Rattle.vlm_words.specs.Laws.{IsSameResource}
+use Rattle.vlm_words.specs.Stepped.{step_change}
+
+-- the lock stands in some queue, under this parent lock
+abbrev pub HasParent : State → ℕ → ℕ → Type 0
+HasParent s lkid parent =
+    Any (λ r. Any (λ row. (row.lkid ≡ lkid) × (row.parent ≡ parent)) (r.granted ++ r.converting ++ r.waiting)) s.resources
+
+-- a chain of parent locks leads from the lock to this one
+pub data IsBelow (s : State) (top : ℕ) : ℕ → Type 0 where
+  is_sublock : {lkid : ℕ} → HasParent s lkid top → IsBelow s top lkid
+  has_parent_below : {lkid parent : ℕ} → HasParent s lkid parent → IsBelow s top parent → IsBelow s top lkid
+
+-- the dequeue takes the lock: it names none and the lock is its caller's, or the lock is below the one that it names
+abbrev pub IsTaken : State → Dequeue → Row → Type 0
+IsTaken s d row =
+    ((named_lkid s d.pid d.lock ≡ 0) × (row.pid ≡ d.pid))
+    ⊎ ((named_lkid s d.pid d.lock ≢ 0) × IsBelow s (named_lkid s d.pid d.lock) row.lkid)
+
+-- row by row: each that is taken goes, and is the caller's; each other stays as it was, in its order
+pub data LosesRows (caller : ℕ) (Taken : Row → Type 0) : List Row → List Row → Type 0 where
+  none_left : LosesRows caller Taken [] []
+  row_goes : {row : Row} {before after : List Row} → Taken row → row.pid ≡ caller → LosesRows caller Taken before after
+      → LosesRows caller Taken (row ∷ before) after
+  row_stays : {row : Row} {before after : List Row} → (Taken row → ⊥) → LosesRows caller Taken before after
+      → LosesRows caller Taken (row ∷ before) (row ∷ after)
+
+-- the resource keeps its place, and each of its queues loses those that are taken
+pub record LosesLocks (caller : ℕ) (Taken : Row → Type 0) (before after : Resource) : Type 0 where
+  pub same : IsSameResource before after
+  pub granted : LosesRows caller Taken before.granted after.granted
+  pub converting : LosesRows caller Taken before.converting after.converting
+  pub waiting : LosesRows caller Taken before.waiting after.waiting
+
+-- the change of such a dequeue, before its sweep, takes these locks and no other, on each resource
+abbrev pub TakesThoseBelowAlone : State → Dequeue → Option Row → Type 0
+TakesThoseBelowAlone old d choice =
+    AllZip (LosesLocks d.pid (IsTaken old d)) old.resources (step_change old (Deq d) choice).state.resources
