@@ -8,6 +8,7 @@ pub mod Warning
 pub mod WarnedOnce
 pub mod InTheWay
 pub mod TakenBelow
+pub mod AbortedInOrder
 pub mod Departing
 pub mod EndedProcesses
 pub mod Happened

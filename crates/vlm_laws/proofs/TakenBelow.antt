@@ -190,11 +190,11 @@ is_theirs is_one s row r there among none = of_test (is_one row.pid) refl
 -- ---- which locks are listed
 
 -- the caller of a dequeue
-abbrev is_caller : Dequeue → ℕ → Bool
+abbrev pub is_caller : Dequeue → ℕ → Bool
 is_caller d pid = pid == d.pid
 
 -- the locks that a dequeue with DEQALL withdraws
-abbrev taken_lkids : State → Dequeue → List ℕ
+abbrev pub taken_lkids : State → Dequeue → List ℕ
 taken_lkids s d = filter (is_dequeued s d) (own_lkids (is_caller d) s)
 
 -- a lock that is named, and not 0, is one of the caller's
@@ -440,7 +440,7 @@ module _ (s : State) (d : Dequeue) (apart : Apart s) (tree : Tree s) (passed : d
 none_is_normal : (s : State) (d : Dequeue) → deq_refusal s d ≡ Some Normal → ⊥
 none_is_normal s d is = dequeue_breaks s d Normal is
 
-normal_passes : (s : State) (d : Dequeue) (choice : Option Row) → (stepped s (Deq d) choice).answer ≡ Plain Normal → deq_refusal s d ≡ None
+pub normal_passes : (s : State) (d : Dequeue) (choice : Option Row) → (stepped s (Deq d) choice).answer ≡ Plain Normal → deq_refusal s d ≡ None
 normal_passes s d choice answered = of_refusal (deq_refusal s d) refl answered
   where
     of_refusal : (refusal : Option Cond) → deq_refusal s d ≡ refusal

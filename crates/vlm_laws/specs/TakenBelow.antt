@@ -1,10 +1,11 @@
 -- Which locks a dequeue with DEQALL takes.
-use Rattle.std.specs.Prelude.{◌≡◌, ◌≢◌, ◌⊎◌, ◌++◌, ℕ, List, [], ◌∷◌, Any, Option}
+use Rattle.std.specs.Prelude.{◌≡◌, ◌≢◌, ◌<◌, ◌⊎◌, ◌++◌, ℕ, List, [], ◌∷◌, All, AllPairs, Any, Option}
 use Rattle.std.specs.List.{AllZip}
 use Rattle.vlm_words.specs.declared.locks.Row.{Row}
 use Rattle.vlm_words.specs.declared.steps.Dequeue.{Dequeue}
 use Rattle.vlm_words.specs.declared.steps.Step.TheVariants.{Deq}
 use Rattle.vlm_words.specs.State.{Resource, State}
+use Rattle.vlm_words.specs.Endings.How.{by_abort}
 use Rattle.vlm_words.specs.Checks.{named_lkid}
 use Rattle.vlm_words.specs.Laws.{IsSameResource}
 use Rattle.vlm_words.specs.Stepped.{step_change}
@@ -44,3 +45,8 @@ pub record LosesLocks (caller : ℕ) (Taken : Row → Type 0) (before after : Re
 abbrev pub TakesThoseBelowAlone : State → Dequeue → Option Row → Type 0
 TakesThoseBelowAlone old d choice =
     AllZip (LosesLocks d.pid (IsTaken old d)) old.resources (step_change old (Deq d) choice).state.resources
+
+-- the requests that end in it, before the sweep, are aborted, by rising identification of their locks
+pub record AbortsByRisingIdentification (old : State) (d : Dequeue) (choice : Option Row) : Type 0 where
+  pub aborts : All (λ ending. ending.how ≡ by_abort) (step_change old (Deq d) choice).endings
+  pub rises : AllPairs (λ a b. a.lkid < b.lkid) (step_change old (Deq d) choice).endings

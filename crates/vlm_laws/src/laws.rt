@@ -21,7 +21,7 @@ ghost use Rattle.vlm_laws.specs.Raising.{NoMoreIsQueuedThanNamed, OnlyOwnRequest
 ghost use Rattle.vlm_laws.specs.Warning.{WarningsAreOfGrants};
 ghost use Rattle.vlm_laws.specs.WarnedOnce.{EachGrantIsWarnedAtMostOnce};
 ghost use Rattle.vlm_laws.specs.InTheWay.{WarnedLocksAreInTheWay};
-ghost use Rattle.vlm_laws.specs.TakenBelow.{TakesThoseBelowAlone};
+ghost use Rattle.vlm_laws.specs.TakenBelow.{AbortsByRisingIdentification, TakesThoseBelowAlone};
 
 use vlm_words::laws::law_asts_are_taken_in_order;
 
@@ -126,4 +126,13 @@ pub fn law_a_dequeue_of_all_takes_those_below_alone()
         → (d : Dequeue) (choice : Option Row) → has_flag d.flags deqall ≡ true
         → (stepped old (Deq d) choice).answer ≡ Plain Normal
         → TakesThoseBelowAlone old d choice }
+{}
+
+/// A dequeue with DEQALL ends the requests of the locks that it takes by abort, those that convert too, and by rising
+/// identification of the locks. That comes before each grant of its sweep.
+pub fn law_a_dequeue_of_all_aborts_by_rising_identification()
+    ensures { (history : History) (old : State) → Run history old
+        → (d : Dequeue) (choice : Option Row) → has_flag d.flags deqall ≡ true
+        → (stepped old (Deq d) choice).answer ≡ Plain Normal
+        → AbortsByRisingIdentification old d choice }
 {}
