@@ -3,7 +3,7 @@ use Rattle.std.proofs.Common.{◌≡◌, ◌≢◌, ◌<◌, ◌⊎◌, ℕ, Boo
 use Rattle.std.specs.Prelude.{◌==◌, ◌||◌}
 use Rattle.std.specs.List.{AllByRecursion, list_any}
 use Rattle.std.proofs.lemmas.Bool.{eqb-true, or_right}
-use Rattle.std.proofs.lemmas.List.{append-assoc}
+use Rattle.std.proofs.lemmas.List.{append_assoc}
 use Rattle.vlm_words.specs.declared.locks.Row.{Row}
 use Rattle.vlm_links.specs.Lists.{IsApart, IsIn, Spot, before_from, first_handle, handle_before, last_from, last_handle, without}
 use Rattle.vlm_links.proofs.Walks.{last_handle-split}
@@ -76,11 +76,11 @@ one_choice choice pid s xs ys first second = same_rising xs ys first.rise second
 
 pub among_in : (row : Row) (lkids : List ℕ) → is_among lkids row ≡ true → IsIn row.lkid lkids
 among_in row [] is = cc
-among_in row (n ∷ lkids) is = of_test (row.lkid == n) refl is
+among_in row (n ∷ lkids) is = of_test (row.lkid == n) refl is (among_in row lkids)
   where
-    of_test : (b : Bool) → (row.lkid == n) ≡ b → (b || is_among lkids row) ≡ true → IsIn row.lkid (n ∷ lkids)
-    of_test true here some = inl (sym (eqb-true row.lkid n here))
-    of_test false other some = inr (among_in row lkids some)
+    of_test : (b : Bool) → (row.lkid == n) ≡ b → (b || is_among lkids row) ≡ true → (is_among lkids row ≡ true → IsIn row.lkid lkids) → IsIn row.lkid (n ∷ lkids)
+    of_test true here some later = inl (sym (eqb-true row.lkid n here))
+    of_test false other some later = inr (later some)
 
 pub in_among : (row : Row) (lkids : List ℕ) → IsIn row.lkid lkids → is_among lkids row ≡ true
 in_among row [] there = absurd there
@@ -105,7 +105,7 @@ among_push row (n ∷ lkids) last = of_test (row.lkid == n) (among_push row lkid
 -- ---- walks
 
 -- the handles from a spot on
-pub on_from : Option ℕ → List ℕ → List ℕ
+abbrev pub on_from : Option ℕ → List ℕ → List ℕ
 on_from None handles = []
 on_from (Some at) [] = []
 on_from (Some at) (x ∷ handles) = cond (x == at) (x ∷ handles) (on_from (Some at) handles)
@@ -122,7 +122,7 @@ on_from_first (d ∷ done) (at ∷ rest) apart =
     among_parts (x ∷ ds) same = inr (among_parts ds same)
 
 -- the handles up to a spot
-pub up_to : Option ℕ → List ℕ → List ℕ
+abbrev pub up_to : Option ℕ → List ℕ → List ℕ
 up_to None handles = []
 up_to (Some at) [] = []
 up_to (Some at) (x ∷ handles) = cond (x == at) (x ∷ []) (x ∷ up_to (Some at) handles)
@@ -160,7 +160,7 @@ up_to_last front kept apart = of_last (last_handle front) refl
         no_last (x ∷ xs) is = absurd (some_last xs x is)
     of_last (Some at) is =
         let split = last_handle-split front at (sym is) in
-        let whole : front ++ kept ≡ split.0 ++ at ∷ kept = ap (λ hs. hs ++ kept) split.1 ∙ append-assoc split.0 (at ∷ []) kept in
+        let whole : front ++ kept ≡ split.0 ++ at ∷ kept = ap (λ hs. hs ++ kept) split.1 ∙ append_assoc split.0 (at ∷ []) kept in
         ap (up_to (Some at)) whole ∙ up_to_found split.0 at kept (absent_before split.0 at kept (subst IsApart whole apart)) ∙ sym split.1
 
 -- a walk back goes on with the last of those before a handle

@@ -33,6 +33,7 @@ pub mod TogetherDown
 pub mod RunsDown
 pub mod Chosen
 pub mod Unowed
+pub mod EndsTogether
 pub mod ProcessGone
 pub mod NodeGone
 pub mod WithdrawnEnds

@@ -129,6 +129,14 @@ of_own (x ∷ owns) own there = elim there [
   | inr later ↦ inr (of_own owns own later)
 ]
 
+-- the own locks of a process are apart by their handles
+own_handles_apart : (owns : List OwnLock) → AreOwnApart owns → IsApart (own_handles owns)
+own_handles_apart [] apart = tt
+own_handles_apart (own ∷ owns) apart = (
+  λ there. let found = own_of owns own.at there in apart.0 found.0 found.1.0 found.1.1,
+  own_handles_apart owns apart.1,
+)
+
 -- where no row goes, what is left is what is there
 module _ (s : Records) (sound : IsSound s) (goes : Row → Bool) (invalidates : Bool) (none : (at : ℕ) (row : Row) → Stores s at row → goes row ≡ false) where
   each_other : (locks : List StoredLock) → ((k : StoredLock) → IsIn k locks → Stores s k.at k.row) → AllByRecursion (IsOthers goes) (rows_of_locks locks)
@@ -166,8 +174,16 @@ module _ (owner pid : ℕ) (s : Records) (sound : IsSound s) (lives : IsProcess 
   its_own : own_at owner s ≡ p.own
   its_own = ap (λ (o : Option StoredProcess). option_map_or (λ q. q.own) o []) found
 
-  its_handles : own_handles_at owner s ≡ own_handles p.own
+  pub its_handles : own_handles_at owner s ≡ own_handles p.own
   its_handles = ap own_handles its_own
+
+  -- each of its locks is there once
+  pub handles_apart : IsApart (own_handles_at owner s)
+  handles_apart = subst IsApart (sym its_handles) (own_handles_apart p.own (sound.own_apart p lives.1.0))
+
+  -- they stand by rising identification
+  pub they_rise : IsAtRest s → StandByIdentification s (own_handles_at owner s)
+  they_rise rest = subst (StandByIdentification s) (sym its_handles) (rest.rising p lives.1.0).own
 
   -- no other process has its identification
   only_it : (q : StoredProcess) → IsIn q s.processes → q.process.pid ≡ pid → q ≡ p
@@ -297,7 +313,7 @@ of_others res r (x ∷ rs) there = of_test (x.at == res) there (of_others res r 
     ]
 
 -- processes that are the same but for what tells them of requests
-same_process_of : (olds news : List StoredProcess) → map but_notices news ≡ map but_notices olds → (x : StoredProcess) → IsIn x olds
+pub same_process_of : (olds news : List StoredProcess) → map but_notices news ≡ map but_notices olds → (x : StoredProcess) → IsIn x olds
     → (q : StoredProcess) × (IsIn q news × (q.at ≡ x.at) × (q.process.pid ≡ x.process.pid) × (q.own ≡ x.own))
 same_process_of [] news same x there = absurd there
 same_process_of (y ∷ olds) [] same x there = cc
@@ -678,14 +694,6 @@ noted_before t (x ∷ touches) last there = elim there [
 
 -- ---- a turn
 
--- the own locks of a process are apart by their handles
-own_handles_apart : (owns : List OwnLock) → AreOwnApart owns → IsApart (own_handles owns)
-own_handles_apart [] apart = tt
-own_handles_apart (own ∷ owns) apart = (
-  λ there. let found = own_of owns own.at there in apart.0 found.0 found.1.0 found.1.1,
-  own_handles_apart owns apart.1,
-)
-
 -- what a turn has, which withdraws a lock of the process that goes, and notes its resource
 pub record IsTurn (goes : Row → Bool) (invalidates : Bool) (owner : ℕ) (s new : Records) (touched noted : Touches) (f : Standing) (w : Withdrawal) : Type 0 where
   pub sound : IsSound new
@@ -717,8 +725,7 @@ module _ (goes : Row → Bool) (invalidates : Bool) (owner pid : ℕ) (old s new
   own_left = handles_left s new so_far.sound turn.sound f turn.standing turn.beside turn.own_locks owner pid so_far.lives
 
   pub own_apart : IsApart (own_handles_at owner s)
-  own_apart =
-      subst IsApart (sym (its_handles owner pid s so_far.sound so_far.lives)) (own_handles_apart so_far.lives.0.own (so_far.sound.own_apart so_far.lives.0 so_far.lives.1.0))
+  own_apart = handles_apart owner pid s so_far.sound so_far.lives
 
   pub fewer_own : length (own_handles_at owner new) + 1 ≡ length (own_handles_at owner s)
   fewer_own = omega (arith, ap (λ (handles : List ℕ). length handles) own_left, length-without f.lock (own_handles_at owner s) own_apart turn.mine)

@@ -65,9 +65,9 @@ module _ (lkids : List ℕ) (s : Records) (sound : IsSound s) (at : ℕ) (row : 
       ]
 
       sums : (a b : Bool) (due : ℕ) → cond (a || b) 0 due + cond b (cond a 0 due) 0 ≡ cond a 0 due
-      sums true true due = refl
-      sums true false due = refl
-      sums false true due = refl
+      sums true true due = omega arith
+      sums true false due = omega arith
+      sums false true due = omega arith
       sums false false due = omega arith
 
       each : (k : StoredLock) → Stores s k.at k.row → due_but (lkids ++ row.lkid ∷ []) pid k + only at (due_but lkids pid) k ≡ due_but lkids pid k
