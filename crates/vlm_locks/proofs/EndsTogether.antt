@@ -56,7 +56,7 @@ stands_alike at row s t resources loose (Queued res queue) among =
     subst (λ rs. IsIn (record { at = at; row = row }) (option_map_or (queued queue) (resource_at res rs) [])) (sym resources) among
 
 -- each of the first stands before each of the others
-stand_before : (s : Records) (first second : List ℕ) → StandByIdentification s (first ++ second) → (a b : ℕ) → IsIn a first → IsIn b second → ComesBefore s a b
+pub stand_before : (s : Records) (first second : List ℕ) → StandByIdentification s (first ++ second) → (a b : ℕ) → IsIn a first → IsIn b second → ComesBefore s a b
 stand_before s [] second stand a b in_first in_second = absurd in_first
 stand_before s (x ∷ first) second stand a b in_first in_second = elim in_first [
   | inl here ↦ subst (λ h. ComesBefore s h b) here (stand.0 b (behind first))

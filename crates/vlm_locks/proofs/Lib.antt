@@ -34,6 +34,7 @@ pub mod RunsDown
 pub mod Chosen
 pub mod Unowed
 pub mod EndsTogether
+pub mod GoTogether
 pub mod ProcessGone
 pub mod NodeGone
 pub mod WithdrawnEnds

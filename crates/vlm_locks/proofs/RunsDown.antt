@@ -270,7 +270,7 @@ module _ (owner pid : ℕ) (s : Records) (sound : IsSound s) (lives : IsProcess 
 -- ---- one lock goes
 
 -- a lock of another handle is among the others
-among_others : (at : ℕ) (k : StoredLock) (locks : List StoredLock) → k.at ≢ at → IsIn k locks → IsIn k (without_lock at locks)
+pub among_others : (at : ℕ) (k : StoredLock) (locks : List StoredLock) → k.at ≢ at → IsIn k locks → IsIn k (without_lock at locks)
 among_others at k [] other there = there
 among_others at k (x ∷ locks) other there = of_test (x.at == at) refl (among_others at k locks other)
   where
