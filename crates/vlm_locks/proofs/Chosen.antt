@@ -1,11 +1,11 @@
 -- Locks that are chosen, by their identifications, and walks along the locks of a process.
-use Rattle.std.proofs.Common.{◌≡◌, ◌≢◌, ◌<◌, ◌⊎◌, ℕ, Bool, true, false, List, [], ◌∷◌, ◌++◌, cond, Option, None, Some, refl, sym, ap, ◌∙◌, subst, inl, inr, arith, eq-eqb, ne_eqb}
+use Rattle.std.proofs.Common.{◌≡◌, ◌<◌, ℕ, Bool, true, false, List, [], ◌∷◌, ◌++◌, cond, Option, None, Some, refl, sym, ap, ◌∙◌, subst, inl, inr, arith, eq-eqb, ne_eqb}
 use Rattle.std.specs.Prelude.{◌==◌, ◌||◌}
-use Rattle.std.specs.List.{AllByRecursion, list_any}
+use Rattle.std.specs.List.{AllByRecursion}
 use Rattle.std.proofs.lemmas.Bool.{eqb-true, or_right}
 use Rattle.std.proofs.lemmas.List.{append_assoc}
 use Rattle.vlm_words.specs.declared.locks.Row.{Row}
-use Rattle.vlm_links.specs.Lists.{IsApart, IsIn, Spot, before_from, first_handle, handle_before, last_from, last_handle, without}
+use Rattle.vlm_links.specs.Lists.{IsApart, IsIn, Spot, before_from, first_handle, last_from, last_handle, without}
 use Rattle.vlm_links.proofs.Walks.{last_handle-split}
 use Rattle.vlm_store.specs.Plain.{plain_resources}
 use Rattle.vlm_store.specs.Records.{Records}

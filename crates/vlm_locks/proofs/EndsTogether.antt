@@ -1,9 +1,7 @@
 -- The requests of locks that are given up together end, lock by lock.
-use Rattle.std.proofs.Common.{◌≡◌, ◌<◌, ◌+◌, ℕ, Bool, true, false, List, [], ◌∷◌, ◌++◌, map, flat_map, length, Option, None, Some, refl, sym, ap, ◌∙◌, subst, inl, inr, arith}
+use Rattle.std.proofs.Common.{◌≡◌, ◌+◌, ℕ, Bool, true, false, List, [], ◌∷◌, ◌++◌, map, flat_map, length, Option, None, Some, refl, sym, ap, ◌∙◌, subst, inl, inr, arith}
 use Rattle.std.proofs.lemmas.List.{append_assoc, append-nil}
 use Rattle.vlm_words.specs.declared.locks.Row.{Row}
-use Rattle.vlm_words.specs.declared.resources.Queue.{Queue}
-use Rattle.vlm_words.specs.declared.resources.Queue.TheVariants.{Granted}
 use Rattle.std.specs.List.{AllByRecursion}
 use Rattle.std.proofs.lemmas.Option.{same_Some}
 use Rattle.vlm_words.specs.declared.locks.Request.{Request}
@@ -23,9 +21,9 @@ use Rattle.std.specs.Option.{option_map_or}
 use Rattle.vlm_store.specs.declared.handles.Place.{Place}
 use Rattle.vlm_store.specs.declared.handles.Place.TheVariants.{Loose, Queued}
 use Rattle.vlm_store.specs.Plain.{plain_processes, plain_resource, plain_resources}
-use Rattle.vlm_store.specs.Records.{IsProcess, IsSound, IsStored, Records, SameButNotices, StoredProcess, Stores, locks_at, own_handles_at, queued, resource_at}
+use Rattle.vlm_store.specs.Records.{IsProcess, IsSound, IsStored, Records, SameButNotices, Stores, locks_at, own_handles_at, queued, resource_at}
 use Rattle.vlm_locks.specs.declared.giving_up.Choice.{Choice}
-use Rattle.vlm_locks.specs.GivingUp.{AreChosen, HaveEnded, IsPaidBut, Rise, is_chosen}
+use Rattle.vlm_locks.specs.GivingUp.{HaveEnded, IsPaidBut, Rise, is_chosen}
 use Rattle.vlm_locks.specs.Left.{giving_up, is_among}
 use Rattle.vlm_locks.specs.Owing.{IsPaid, OwedMoves, row_at_end}
 use Rattle.vlm_locks.specs.Rest.{IsAtRest}

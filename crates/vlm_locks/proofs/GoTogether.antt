@@ -1,5 +1,5 @@
 -- Locks that are given up together go, the last first.
-use Rattle.std.proofs.Common.{◌≡◌, ◌≢◌, ◌<◌, ◌≤◌, ◌+◌, ◌⊎◌, ℕ, Bool, true, false, List, [], ◌∷◌, ◌++◌, map, length, Option, None, Some, refl, sym, ap, ◌∙◌, subst, inl, inr, arith}
+use Rattle.std.proofs.Common.{◌≡◌, ◌≢◌, ◌<◌, ◌≤◌, ◌+◌, ◌⊎◌, ℕ, Bool, true, false, List, [], ◌∷◌, ◌++◌, length, Option, None, Some, refl, sym, ap, ◌∙◌, subst, inl, inr, arith}
 use Rattle.std.proofs.lemmas.List.{append_assoc, append-nil}
 use Rattle.std.proofs.lemmas.Bool.{cases_Bool}
 use Rattle.vlm_words.specs.declared.locks.Row.{Row}
@@ -7,17 +7,16 @@ use Rattle.vlm_words.specs.Withdrawals.{Withdrawal}
 use Rattle.vlm_links.specs.Lists.{IsApart, IsIn, handle_before, last_handle, without}
 use Rattle.vlm_links.proofs.HandleLists.{IsIn-push_kept, IsIn-push_last}
 use Rattle.vlm_links.proofs.Walks.{last_handle-split}
-use Rattle.vlm_store.specs.declared.handles.Place.{Place}
 use Rattle.vlm_store.specs.Plain.{plain_resources}
-use Rattle.vlm_store.specs.Records.{HasNoSublocks, IsProcess, IsSound, IsStored, OwnLock, Records, StoredProcess, Stores, locks_at, own_handles_at}
+use Rattle.vlm_store.specs.Records.{HasNoSublocks, IsProcess, IsSound, IsStored, Records, Stores, locks_at, own_handles_at}
 use Rattle.vlm_locks.specs.declared.finding.Standing.{Standing}
 use Rattle.vlm_locks.specs.declared.giving_up.Choice.{Choice}
 use Rattle.vlm_locks.specs.declared.giving_up.Choice.TheVariants.{All, Below}
-use Rattle.vlm_locks.specs.GivingUp.{AreChosen, AreGone, CanGo, IsPaidBut, SublocksGoToo, is_chosen}
+use Rattle.vlm_locks.specs.GivingUp.{AreChosen, AreGone, CanGo, IsPaidBut, is_chosen}
 use Rattle.vlm_locks.specs.Left.{is_among}
 use Rattle.vlm_locks.specs.Owing.{LosesOne}
 use Rattle.vlm_locks.specs.Rising.{ComesBefore, StandByIdentification}
-use Rattle.vlm_locks.specs.RunningDown.{CanEndProcesses, SublocksAreOwn}
+use Rattle.vlm_locks.specs.RunningDown.{CanEndProcesses}
 use Rattle.vlm_locks.specs.Touched.{Touches}
 use Rattle.vlm_locks.specs.Withdrawing.{owned_after}
 use Rattle.vlm_locks.proofs.Chosen.{absent_before, among_in, before_among, in_among, one_choice, up_to, up_to_last, without_one}

@@ -35,6 +35,7 @@ pub mod Chosen
 pub mod Unowed
 pub mod EndsTogether
 pub mod GoTogether
+pub mod GivenUp
 pub mod ProcessGone
 pub mod NodeGone
 pub mod WithdrawnEnds

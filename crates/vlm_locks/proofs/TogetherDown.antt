@@ -6,7 +6,7 @@ use Rattle.std.proofs.lemmas.Bool.{eq-eqb, or_right}
 use Rattle.std.proofs.lemmas.List.Sums.{sum_by-cons}
 use Rattle.vlm_words.specs.declared.locks.Row.{Row}
 use Rattle.vlm_words.specs.OwnLocks.{own_lkids}
-use Rattle.vlm_words.specs.Rundown.{rundown_of, rundowns}
+use Rattle.vlm_words.specs.Rundown.{rundowns}
 use Rattle.vlm_words.specs.State.{Resource, State}
 use Rattle.vlm_words.specs.Endings.{How}
 use Rattle.vlm_words.specs.Endings.How.{by_rundown}

@@ -1,14 +1,12 @@
 -- What is owed but for locks of which the requests have ended.
 use Rattle.std.proofs.Common.{◌≡◌, ◌≤◌, ◌+◌, ℕ, Bool, true, false, List, [], ◌∷◌, ◌++◌, cond, refl, sym, ap, ◌∙◌, subst, inl, inr, arith, eq-eqb, ne_eqb}
 use Rattle.std.specs.Prelude.{◌==◌, ◌||◌}
-use Rattle.std.specs.List.{sum_by}
 use Rattle.std.proofs.lemmas.Bool.{cases_eq}
 use Rattle.vlm_words.specs.declared.locks.Row.{Row}
 use Rattle.vlm_words.specs.declared.resources.Queue.TheVariants.{Granted, Conversion, Waiting}
 use Rattle.vlm_words.specs.Dues.{due_to, row_due}
-use Rattle.vlm_links.specs.Lists.{IsIn}
 use Rattle.vlm_store.specs.declared.handles.Place.TheVariants.{Loose}
-use Rattle.vlm_store.specs.Records.{IsSound, Records, SameButNotices, StoredLock, StoredResource, Stores, due_of}
+use Rattle.vlm_store.specs.Records.{IsSound, Records, SameButNotices, StoredLock, Stores, due_of}
 use Rattle.vlm_locks.specs.GivingUp.{IsPaidBut, due_but}
 use Rattle.vlm_locks.specs.Left.{is_among}
 use Rattle.vlm_locks.specs.Owing.{IsPaid, LosesOne, OwedMoves, row_at_end, weight_of, weight_on}

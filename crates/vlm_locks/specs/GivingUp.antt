@@ -1,16 +1,15 @@
 -- Locks of a process that are given up together.
-use Rattle.std.specs.Prelude.{◌≡◌, ◌≤◌, ◌<◌, ⊤, ◌+◌, ℕ, Bool, true, false, not, ◌&&◌, ◌||◌, ◌==◌, List, [], ◌∷◌, filter, length, map, sum_by, None, if◌then◌else◌}
-use Rattle.std.specs.List.{AllByRecursion, list_any}
+use Rattle.std.specs.Prelude.{◌≡◌, ◌≤◌, ◌<◌, ⊤, ◌+◌, ℕ, Bool, true, List, [], ◌∷◌, length, map, if◌then◌else◌}
+use Rattle.std.specs.List.{AllByRecursion}
 use Rattle.vlm_words.specs.declared.locks.Row.{Row}
 use Rattle.vlm_words.specs.Dues.{due_to}
-use Rattle.vlm_words.specs.Endings.{How}
 use Rattle.vlm_words.specs.Endings.How.{by_abort}
 use Rattle.vlm_words.specs.OwnLocks.{is_below}
 use Rattle.vlm_words.specs.State.{Resource}
-use Rattle.vlm_words.specs.Withdrawals.{Withdrawal, is_writer, processes_after, withdrawn_endings}
+use Rattle.vlm_words.specs.Withdrawals.{processes_after, withdrawn_endings}
 use Rattle.vlm_links.specs.Lists.{IsIn}
 use Rattle.vlm_store.specs.Plain.{plain_processes, plain_resources}
-use Rattle.vlm_store.specs.Records.{Records, SameButNotices, StoredLock, StoredResource, Stores, due_of}
+use Rattle.vlm_store.specs.Records.{Records, SameButNotices, StoredLock, Stores, due_of}
 use Rattle.vlm_store.specs.Total.{lock_total}
 use Rattle.vlm_locks.specs.declared.giving_up.Choice.{Choice}
 use Rattle.vlm_locks.specs.declared.giving_up.Choice.TheVariants.{All, Below}

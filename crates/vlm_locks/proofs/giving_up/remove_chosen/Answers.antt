@@ -1,8 +1,6 @@
-use Rattle.std.proofs.Common.{◌≡◌, ◌+◌, ◌<◌, ◌≤◌, ◌++◌, ℕ, [], ◌∷◌, Option, Some, length, map, true, sym, ap, ◌∙◌, subst, refl, arith}
+use Rattle.std.proofs.Common.{◌≡◌, ◌++◌, ℕ, [], ◌∷◌, Option, Some, length, map, sym, ap, ◌∙◌, subst, refl, arith}
 use Rattle.vlm_links.specs.Lists.{IsIn}
-use Rattle.vlm_words.specs.declared.resources.Queue.TheVariants.{Granted}
 use Rattle.vlm_words.specs.Endings.How.{by_abort}
-use Rattle.vlm_store.specs.declared.handles.Place.TheVariants.{Queued}
 use Rattle.vlm_store.specs.Records.{HasNoSublocks, Stores, but_notices, own_handles_at}
 use Rattle.vlm_locks.specs.Left.{is_among}
 use Rattle.vlm_locks.specs.Withdrawals.{plain_withdrawal}

@@ -1,6 +1,6 @@
 use Rattle.vlm_locks.proofs.OtherLocks.{locks_stay_over, owned_alike, statuses_alone}
 use Rattle.std.proofs.Common.{true, [], ◌∷◌, map, ap, ◌∙◌, refl, subst, sym}
-use Rattle.vlm_words.specs.Withdrawals.{resource_after_cancel, resource_after_withdrawals, resource_without}
+use Rattle.vlm_words.specs.Withdrawals.{resource_after_cancel, resource_after_withdrawals}
 use Rattle.vlm_links.specs.Lists.{IsIn}
 use Rattle.vlm_store.specs.Plain.{plain_resource, plain_resources}
 use Rattle.vlm_store.specs.Records.{HasNoSublocks, but_notices, without_resource}
@@ -11,7 +11,7 @@ use Rattle.vlm_locks.proofs.Owing.{due_fits, due_gone, paid_withdrawn}
 use Rattle.vlm_locks.proofs.Replaced.{no_sublocks_still}
 use Rattle.vlm_locks.proofs.Stood.{stored}
 use Rattle.vlm_locks.proofs.Changed.{rests_still, stay_over}
-use Rattle.vlm_locks.proofs.Withdrawn.{left_staying, left_without}
+use Rattle.vlm_locks.proofs.Withdrawn.{left_staying}
 use Rattle.vlm_locks.proofs.withdrawing.withdraw.Goals as goal
 
 pub leave_value-requires-clause-rest : goal.leave_value-requires-clause-rest
