@@ -1,6 +1,7 @@
 -- Processes that go from the records go from the plain machine, with all their locks.
-use Rattle.std.proofs.Common.{◌≡◌, ◌<◌, ℕ, Bool, List, [], ◌∷◌, length, map, sym, ap, ◌∙◌, subst, arith}
+use Rattle.std.proofs.Common.{◌≡◌, ◌<◌, ℕ, Bool, true, List, [], ◌∷◌, length, map, sym, ap, ◌∙◌, subst, arith}
 use Rattle.std.specs.List.{AllByRecursion}
+use Rattle.vlm_words.specs.declared.locks.Row.{Row}
 use Rattle.vlm_words.specs.Rundown.{rundowns, state_after_rundown}
 use Rattle.vlm_words.specs.State.{Node, Process, Resource, State}
 use Rattle.vlm_words.specs.Withdrawals.{resource_after_withdrawals}
@@ -9,11 +10,12 @@ use Rattle.vlm_words.proofs.Pairs.{EachPair}
 use Rattle.vlm_links.specs.Lists.{IsIn}
 use Rattle.vlm_store.specs.Plain.{plain_processes, plain_resource, plain_resources}
 use Rattle.vlm_store.specs.Records.{IsSound, Records, StoredResource}
+use Rattle.vlm_locks.specs.Left.{resource_left}
 use Rattle.vlm_locks.specs.Owing.{IsPaid}
 use Rattle.vlm_locks.specs.Rest.{IsAtRest}
-use Rattle.vlm_locks.specs.RunningDown.{AreEnded, CanEndProcesses, resource_after_rundown}
+use Rattle.vlm_locks.specs.RunningDown.{AreEnded, CanEndProcesses}
 use Rattle.vlm_locks.specs.declared.touched.Touch.{Touch}
-use Rattle.vlm_locks.specs.Touched.{SerialsRise, Touches}
+use Rattle.vlm_locks.specs.Touched.{AreThere, OnlyTouched, SerialsRise, Touches}
 use Rattle.vlm_locks.proofs.TogetherDown.{rundown_by_rows}
 use Rattle.vlm_core.specs.Between.{IsBetweenSteps}
 use Rattle.vlm_core.specs.Machine.{MachineState, plain_state}
@@ -61,25 +63,33 @@ rise_plain (r ∷ rs) pairs = (each_above rs pairs.0, rise_plain rs pairs.1)
     each_above [] all = tt
     each_above (x ∷ later) all = (all.0, each_above later all.1)
 
--- and where processes end they stay
-rise_still : (is_one : ℕ → Bool) (rs : List Resource) → EachPair (λ a b. a.serial < b.serial) rs → EachPair (λ a b. a.serial < b.serial) (map (resource_after_rundown is_one) rs)
-unfolding resource_after_rundown
-rise_still is_one [] pairs = tt
-rise_still is_one (r ∷ rs) pairs = (each_above rs pairs.0, rise_still is_one rs pairs.1)
+-- and where locks go they stay
+rise_still : (goes : Row → Bool) (invalidates : Bool) (rs : List Resource) → EachPair (λ a b. a.serial < b.serial) rs
+    → EachPair (λ a b. a.serial < b.serial) (map (resource_left goes invalidates) rs)
+unfolding resource_left
+rise_still goes invalidates [] pairs = tt
+rise_still goes invalidates (r ∷ rs) pairs = (each_above rs pairs.0, rise_still goes invalidates rs pairs.1)
   where
     each_above : (later : List Resource) → AllByRecursion (λ (x : Resource). r.serial < x.serial) later
-        → AllByRecursion (λ (x : Resource). r.serial < x.serial) (map (resource_after_rundown is_one) later)
+        → AllByRecursion (λ (x : Resource). r.serial < x.serial) (map (resource_left goes invalidates) later)
     each_above [] all = tt
     each_above (x ∷ later) all = (all.0, each_above later all.1)
 
--- what is left to sweep is noted
-pub to_sweep : (old new : MachineState) (is_one : ℕ → Bool) (before after : Touches) → IsBetweenSteps (plain_state old) → AreEnded is_one old.records new.records before after
-    → CanEndProcesses after new.records → IsToSweep after new
-to_sweep old new is_one before after between ended left = record {
-  noted = left.noted;
+-- where locks are gone, what is left to sweep is noted
+pub to_sweep_left : (old new : MachineState) (goes : Row → Bool) (invalidates : Bool) (after : Touches) → IsBetweenSteps (plain_state old)
+    → plain_resources new.records ≡ map (resource_left goes invalidates) (plain_resources old.records)
+    → OnlyTouched after.noted old.records new.records → AreThere after.noted new.records → IsToSweep after new
+to_sweep_left old new goes invalidates after between left only_touched noted = record {
+  noted = noted;
   rise =
       rise_plain new.records.resources
-      (subst (EachPair (λ (a b : Resource). a.serial < b.serial)) (sym ended.resources)
-      (rise_still is_one (plain_resources old.records) (pairs_by_recursion (λ (a b : Resource). a.serial < b.serial) (plain_resources old.records) between.serials_rise)));
-  settled = λ r there untouched. settled_one old.records.resources between.settled r (ended.only_touched r there untouched);
+      (subst (EachPair (λ (a b : Resource). a.serial < b.serial)) (sym left)
+      (rise_still goes invalidates (plain_resources old.records) (pairs_by_recursion (λ (a b : Resource). a.serial < b.serial) (plain_resources old.records) between.serials_rise)));
+  settled = λ r there untouched. settled_one old.records.resources between.settled r (only_touched r there untouched);
 }
+
+-- and so it is where processes have ended
+pub to_sweep : (old new : MachineState) (is_one : ℕ → Bool) (before after : Touches) → IsBetweenSteps (plain_state old) → AreEnded is_one old.records new.records before after
+    → CanEndProcesses after new.records → IsToSweep after new
+to_sweep old new is_one before after between ended left =
+    to_sweep_left old new (λ row. is_one row.pid) true after between ended.resources ended.only_touched left.noted

@@ -14,4 +14,5 @@ pub mod Childless
 pub mod Wanting
 pub mod RunDown
 pub mod EndOfProcess
+pub mod AllTogether
 pub mod Noting

@@ -1,5 +1,5 @@
 -- What the checks of a step decide, for the change that follows.
-use Rattle.std.specs.Prelude.{◌≡◌, ◌<◌, ◌^◌, true, false, Option, Some}
+use Rattle.std.specs.Prelude.{◌≡◌, ◌<◌, ◌^◌, ℕ, zero, suc, true, false, Option, Some}
 use Rattle.vlm_words.specs.declared.resources.Queue.TheVariants.{Granted}
 use Rattle.vlm_words.specs.declared.steps.Conversion.{Conversion}
 use Rattle.vlm_words.specs.declared.steps.Dequeue.{Dequeue}
@@ -15,6 +15,8 @@ use Rattle.vlm_words.specs.Trees.{enq_site, parent_lkid}
 use Rattle.vlm_store.specs.Records.{FindsResource, HasNoSublocks, HasProcess, IsParentOf, IsProcess, Records}
 use Rattle.vlm_locks.specs.declared.entering.Entry.{Entry}
 use Rattle.vlm_locks.specs.declared.finding.Standing.{Standing}
+use Rattle.vlm_locks.specs.declared.giving_up.Choice.{Choice}
+use Rattle.vlm_locks.specs.declared.giving_up.Choice.TheVariants.{All, Below}
 use Rattle.vlm_locks.specs.Converting.{admission_on}
 use Rattle.vlm_locks.specs.Standing.{IsStandingOf}
 use Rattle.vlm_locks.specs.Withdrawals.{plain_withdrawal}
@@ -84,3 +86,8 @@ pub record IsAdmittedDequeue (m : MachineState) (d : Dequeue) (a : AdmittedDeque
 -- a lock that the dequeue gives up has no sublocks
 abbrev pub IsChildless : MachineState → AdmittedDequeue → Type 0
 IsChildless m a = goes a.withdrawal.stays a.standing.queue ≡ true → HasNoSublocks a.standing.lock m.records
+
+-- the locks that a dequeue with DEQALL gives up where this one is named: those below it, and with 0 all of the caller
+abbrev pub choice_of : ℕ → Choice
+choice_of zero = All
+choice_of (suc n) = Below (suc n)

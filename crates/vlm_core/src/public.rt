@@ -20,7 +20,8 @@ use vlm_store::laws::law_records_are_sound;
 use vlm_words::laws::{
     law_a_declaration_gives_a_new_identification, law_a_parent_outlives_its_sublocks,
     law_each_resource_is_settled, law_held_modes_are_compatible, law_identifications_are_apart,
-    law_nothing_is_left_to_grant, law_rows_fit_their_queues, law_serials_rise,
+    law_no_lock_is_more_than_15_levels_below, law_nothing_is_left_to_grant,
+    law_rows_fit_their_queues, law_serials_rise,
 };
 use vlm_words::steps::{Answer, Conversion, Declaration, Dequeue, NewRequest, Step, ValueSetting};
 
@@ -75,6 +76,7 @@ impl Core {
         law_serials_rise();
         law_a_declaration_gives_a_new_identification();
         law_a_parent_outlives_its_sublocks();
+        law_no_lock_is_more_than_15_levels_below();
         law_rows_fit_their_queues();
         let _machine = &self.machine;
     }

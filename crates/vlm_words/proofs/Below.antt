@@ -121,14 +121,18 @@ parent_is s apart row r there among =
     (only_one row (all_rows_of row.lkid s.resources) (omega (arith, all_rows_count row.lkid s.resources, apart.one_row row.lkid))
     (among_all_rows row r there s.resources among))
 
--- 0 is no lock, and has no parent
-pub parent_of_0 : (s : State) → Apart s → parent_of 0 s.resources ≡ 0
+-- what has no row has no parent
+pub parent_of_none : (lkid : ℕ) (resources : List Resource) → standing lkid resources ≡ 0 → parent_of lkid resources ≡ 0
 unfolding parent_of
-parent_of_0 s apart = of_rows (all_rows_of 0 s.resources) (all_rows_count 0 s.resources ∙ apart.none_is_0)
+parent_of_none lkid resources none = of_rows (all_rows_of lkid resources) (all_rows_count lkid resources ∙ none)
   where
     of_rows : (rows : List Row) → length rows ≡ 0 → option_map_or (λ (row : Row). row.parent) (slice_get rows 0) 0 ≡ 0
     of_rows [] none = refl
     of_rows (row ∷ rows) none = absurd (omega (arith, none))
+
+-- 0 is no lock, and has no parent
+pub parent_of_0 : (s : State) → Apart s → parent_of 0 s.resources ≡ 0
+parent_of_0 s apart = parent_of_none 0 s.resources apart.none_is_0
 
 pub nothing_is_above_0 : (s : State) → Apart s → (top levels : ℕ) → top ≢ 0 → is_below levels top s.resources 0 ≡ false
 nothing_is_above_0 s apart top zero some = refl
@@ -210,6 +214,41 @@ up_at_most all r row level low up =
               (omega (arith, some, sum_by-append (locks row.pid row.parent) x.granted x.converting)))),
         )
 
+-- a lock that is counted among rows has one of them
+counted_there : (lkid : ℕ) (rows : List Row) → 1 ≤ sum_by (stands lkid) rows → Any (λ row. row.lkid ≡ lkid) rows
+counted_there lkid [] some = absurd (omega (arith, some))
+counted_there lkid (row ∷ rows) some = of_test (row.lkid == lkid) refl (counted_there lkid rows)
+  where
+    of_test : (b : Bool) → (row.lkid == lkid) ≡ b
+        → (1 ≤ sum_by (stands lkid) rows → Any (λ (x : Row). x.lkid ≡ lkid) rows) → Any (λ (x : Row). x.lkid ≡ lkid) (row ∷ rows)
+    of_test true is later = Any-here (λ (x : Row). x.lkid ≡ lkid) row rows (eqb-true row.lkid lkid is)
+    of_test false is later =
+        let none : stands lkid row ≡ 0 = ap (λ (b : Bool). cond b 1 0) is in
+        Any-there (λ (x : Row). x.lkid ≡ lkid) row rows
+        (later (omega (arith, some, none, sum_by-cons (stands lkid) row rows)))
+
+-- and among resources of which none is below a level it stands on that at most
+counted_at_most : (level lkid : ℕ) (resources : List Resource) → AllByRecursion (λ r. r.level ≤ level) resources → 1 ≤ standing lkid resources
+    → StandsAtMost resources level lkid
+counted_at_most level lkid [] low some = absurd (omega (arith, some))
+counted_at_most level lkid (r ∷ rest) low some = of_weight (weigh (stands lkid) r) refl (counted_at_most level lkid rest low.1)
+  where
+    of_weight : (n : ℕ) → weigh (stands lkid) r ≡ n → (1 ≤ standing lkid rest → StandsAtMost rest level lkid) → StandsAtMost (r ∷ rest) level lkid
+    of_weight zero none later =
+        Any-there (λ (x : Resource). (x.level ≤ level) × Any (λ (row : Row). row.lkid ≡ lkid) (rows_on x)) r rest
+        (later (omega (arith, some, none, sum_by-cons (weigh (stands lkid)) r rest)))
+    of_weight (suc n) has later =
+        Any-here (λ (x : Resource). (x.level ≤ level) × Any (λ (row : Row). row.lkid ≡ lkid) (rows_on x)) r rest (
+          low.0,
+          counted_there lkid (rows_on r)
+              (omega (
+                arith,
+                has,
+                sum_by-append (stands lkid) (r.granted ++ r.converting) r.waiting,
+                sum_by-append (stands lkid) r.granted r.converting,
+              )),
+        )
+
 module _ (s : State) (apart : Apart s) (rooted : AllByRecursion (AllRooted s.resources) s.resources) where
   -- what is so of the row of a lock that stands somewhere, whichever it is, is so
   pub stands_so : (C : Type 0) (level lkid : ℕ)
@@ -271,3 +310,24 @@ module _ (s : State) (apart : Apart s) (rooted : AllByRecursion (AllRooted s.res
                 (subst (λ (n : ℕ). is_below level top s.resources n ≡ true) (sym is)
                 (higher (up_at_most s.resources r row level low up) (subst (λ (n : ℕ). is_below (suc level) top s.resources n ≡ true) is above)))
           ]
+
+  -- where no resource is below a level, no lock is below another by more levels than that
+  module _ (lowest : ℕ) (low : AllByRecursion (λ r. r.level ≤ suc lowest) s.resources) (top : ℕ) (some : top ≢ 0) where
+    one_level_less : (lkid : ℕ) → is_below (suc (suc lowest)) top s.resources lkid ≡ true → is_below (suc lowest) top s.resources lkid ≡ true
+    one_level_less lkid below = of_standing (standing lkid s.resources) refl
+      where
+        of_standing : (n : ℕ) → standing lkid s.resources ≡ n → is_below (suc lowest) top s.resources lkid ≡ true
+        of_standing zero none = absurd (none_above top (suc lowest) lkid some (parent_of_none lkid s.resources none) below)
+        of_standing (suc n) has =
+            as_many_levels top some (suc lowest) lkid (counted_at_most (suc lowest) lkid s.resources low (omega (arith, has))) below
+
+    pub no_more_levels : (levels lkid : ℕ) → is_below levels top s.resources lkid ≡ true → is_below (suc lowest) top s.resources lkid ≡ true
+    no_more_levels zero lkid below = let no : false ≡ true = below in cc
+    no_more_levels (suc levels) lkid below =
+        elim (or_cases (parent_of lkid s.resources == top) (is_below levels top s.resources (parent_of lkid s.resources)) below) [
+          | inl here ↦ rw here refl
+          | inr above ↦
+              one_level_less lkid
+              (or_right (parent_of lkid s.resources == top) (is_below (suc lowest) top s.resources (parent_of lkid s.resources))
+              (no_more_levels levels (parent_of lkid s.resources) above))
+        ]

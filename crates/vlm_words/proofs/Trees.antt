@@ -27,7 +27,7 @@ use Rattle.vlm_words.specs.Convert.{ConversionAdmission, convert_blocks, convert
 use Rattle.vlm_words.specs.Dequeue.{cancel_refusal, deq_change, deq_flags_refusal, deq_refusal, dequeue_lkid, has_sublock, has_sublock_on, sublocks_refusal, withdrawal_of, dequeued_lock_refusal, is_dequeued, leaves_none}
 use Rattle.vlm_words.specs.Withdrawals.{Withdrawal, resource_after_withdrawals}
 use Rattle.vlm_words.specs.Runs.{History, Run}
-use Rattle.vlm_words.specs.Laws.{HasItsLevel, HasItsParent, HoldsOn, ParentsOutliveTheirSublocks, TreesAreBounded}
+use Rattle.vlm_words.specs.Laws.{ChainsAreBounded, HasItsLevel, HasItsParent, HoldsOn, ParentsOutliveTheirSublocks, TreesAreBounded}
 use Rattle.vlm_words.proofs.Always.{always, kept_by_stepped}
 use Rattle.vlm_words.proofs.Each.{Any-weaker, each_map, each_weaker, each_so}
 use Rattle.vlm_words.proofs.Passed.{sixth_passes, test_fails, flags_go_together}
@@ -41,7 +41,7 @@ use Rattle.vlm_words.proofs.Holdings.{converted_held, held_by, locks, withdrawn_
 use Rattle.vlm_words.proofs.Sums.{sum_of_zero}
 use Rattle.vlm_words.proofs.Rooted.{Position, position, is_parent, is_up, is_rooted, loose, loose_named, AllRooted, up_mapped, still_rooted, weigh_le_both, rooted_changed, rooted_swept, NoneOrphaned, rooted_mapped}
 use Rattle.vlm_words.proofs.NewlyRooted.{parent_of, up_entered, rooted_row, stands_well, own_rooted}
-use Rattle.vlm_words.proofs.Below.{each_weightless, held_there}
+use Rattle.vlm_words.proofs.Below.{each_weightless, held_there, no_more_levels}
 use Rattle.vlm_words.proofs.Closed.{Closed, each_closed, held_stays, or_fails, orphaned_by, own_are_closed, taken_are_closed}
 use Rattle.vlm_words.proofs.Leaving.{AllGo, AllListed, all_go, none_left_here}
 use Rattle.vlm_words.specs.OwnLocks.{own_lkids}
@@ -410,3 +410,10 @@ trees_always history last run =
         → AllByRecursion (λ r. r.level ≤ 15) rs → AllByRecursion (λ r. HasItsLevel last.resources r × (r.level ≤ 15)) rs
     each_level [] busy rooted low = tt
     each_level (r ∷ rest) busy rooted low = ((its_level r busy.0 rooted.0, low.0), each_level rest busy.1 rooted.1 low.1)
+
+-- after every run no lock is more than 15 levels below another
+pub chains_always : (history : History) (last : State)
+    → Run history last → ChainsAreBounded last
+chains_always history last run top levels lkid some below =
+    let tree : Tree last = tree_always history last run in
+    no_more_levels last (apart_always history last run) tree.rooted 14 tree.low top some levels lkid below

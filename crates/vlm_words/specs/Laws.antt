@@ -24,6 +24,7 @@ use Rattle.vlm_words.specs.State.{Process, Resource, State, process_of}
 use Rattle.vlm_words.specs.Endings.{Ending, How}
 use Rattle.vlm_words.specs.Endings.How.{by_abort, by_cancel, by_grant, by_rundown}
 use Rattle.vlm_words.specs.Checks.{named_lkid}
+use Rattle.vlm_words.specs.OwnLocks.{is_below}
 use Rattle.vlm_words.specs.Stepped.{IsChoice, step_change, stepped}
 
 -- the mode may be held beside what is held, if anything is
@@ -348,6 +349,11 @@ HasItsLevel resources r =
 -- no resource is below level 15, or below a resource that is not there
 abbrev pub TreesAreBounded : State → Type 0
 TreesAreBounded s = All (λ r. HasItsLevel s.resources r × (r.level ≤ 15)) s.resources
+
+-- a lock that is below another, by however many parent locks, is below it by 15 at most
+abbrev pub ChainsAreBounded : State → Type 0
+ChainsAreBounded s = (top levels lkid : ℕ) → top ≢ 0 → is_below levels top s.resources lkid ≡ true
+    → is_below 15 top s.resources lkid ≡ true
 
 -- how many locks of the process stand on the resource, in any queue
 abbrev pub locks_on : ℕ → Resource → ℕ

@@ -22,7 +22,7 @@ ghost use Rattle.vlm_words.specs.Written.{WritesNamedBlocks};
 ghost use Rattle.vlm_words.specs.Taking.{AstsAreTakenInOrder};
 ghost use Rattle.vlm_words.specs.Standing.{ConvertedLocksStandAsAskedFor, NewLocksStandAsAskedFor};
 ghost use Rattle.vlm_words.specs.Reasons.{RefusalHasItsReason};
-ghost use Rattle.vlm_words.specs.Laws.{DeclarationsGiveNewIdentifications, EachRequestEndsOnce, GrantsFollowQueueOrder, HeldModesAreCompatible, IdentificationsAreApart, KeysAreApart, NoResourceIsVacant, NothingIsLeftToGrant, NothingIsLeftToWarn, ParentsOutliveTheirSublocks, QuotasAreKept, RowsFitTheirQueues, SerialsRise, TreesAreBounded, WritesAreGrantedAtOnce};
+ghost use Rattle.vlm_words.specs.Laws.{ChainsAreBounded, DeclarationsGiveNewIdentifications, EachRequestEndsOnce, GrantsFollowQueueOrder, HeldModesAreCompatible, IdentificationsAreApart, KeysAreApart, NoResourceIsVacant, NothingIsLeftToGrant, NothingIsLeftToWarn, ParentsOutliveTheirSublocks, QuotasAreKept, RowsFitTheirQueues, SerialsRise, TreesAreBounded, WritesAreGrantedAtOnce};
 
 /// In each resource the held modes of any two locks are compatible.
 pub fn law_held_modes_are_compatible()
@@ -100,6 +100,12 @@ pub fn law_a_parent_outlives_its_sublocks()
 /// same domain. None is below level 15.
 pub fn law_trees_are_bounded()
     ensures { (history : History) (last : State) → Run history last → TreesAreBounded last }
+{}
+
+/// No lock is more than 15 levels below another: where a chain of parent locks leads from it to the other, however long
+/// that may be, 15 of its parent locks reach the other.
+pub fn law_no_lock_is_more_than_15_levels_below()
+    ensures { (history : History) (last : State) → Run history last → ChainsAreBounded last }
 {}
 
 /// A living process has no more locks than its quota, waiting ones too, and no other has any.
