@@ -2,6 +2,8 @@
 use Rattle.std.proofs.Common.{◌≡◌, ◌≢◌, Bool, true, false, ◌||◌, ◌&&◌, cond, List, [], ◌∷◌, map, find, Option, None, Some, refl, sym, ap, ◌∙◌, subst, inl, inr}
 use Rattle.std.specs.List.{list_any}
 use Rattle.std.proofs.lemmas.Bool.{cases_eq, or_right}
+use Rattle.std.specs.Prelude.{◌==◌, is_some}
+use Rattle.vlm_words.specs.declared.conditions.Cond.{Cond}
 use Rattle.vlm_words.specs.declared.conditions.Cond.TheVariants.{Cancelgrant}
 use Rattle.vlm_words.specs.declared.locks.Request.{Request}
 use Rattle.vlm_words.specs.declared.locks.Row.{Row}
@@ -11,7 +13,7 @@ use Rattle.vlm_words.specs.declared.steps.Conversion.{Conversion}
 use Rattle.vlm_words.specs.declared.steps.Dequeue.{Dequeue}
 use Rattle.vlm_words.specs.Convert.{ConversionAdmission, admission_among, admission_or, convert_admission, convert_lkid, convert_request}
 use Rattle.vlm_words.specs.Checks.{caller_refusal, lock_refusal, or_else, which_refusal}
-use Rattle.vlm_words.specs.Dequeue.{cancel_refusal, deq_flags_refusal, deq_refusal, dequeue_lkid, dequeued_lock_refusal, is_granted, sublocks_refusal}
+use Rattle.vlm_words.specs.Dequeue.{cancel_refusal, deq_flags_refusal, deq_refusal, dequeue_lkid, dequeued_lock_refusal, is_granted, is_mixed, sublocks_refusal}
 use Rattle.vlm_words.specs.Withdrawals.{Withdrawal}
 use Rattle.vlm_words.specs.Flags.{cancel, deqall, has_flag}
 use Rattle.vlm_words.specs.State.{State}
@@ -176,3 +178,30 @@ refusal_alone s d alone =
     or_false : (b : Bool) → (b || false) ≡ b
     or_false true = refl
     or_false false = refl
+
+-- the checks of a dequeue with DEQALL that cancels nothing, in their order
+pub refusal_of_all : (s : State) (d : Dequeue) → has_flag d.flags deqall ≡ true → has_flag d.flags cancel ≡ false
+    → deq_refusal s d
+    ≡ or_else (caller_refusal s d.pid) (or_else (deq_flags_refusal d) (or_else (which_refusal s d.pid d.lock)
+    (cond (dequeue_lkid s d == 0) None (lock_refusal s d.pid (dequeue_lkid s d)))))
+unfolding deq_refusal dequeued_lock_refusal cancel_refusal sublocks_refusal
+refusal_of_all s d all goes = rw (all, goes) (last (caller_refusal s d.pid) (deq_flags_refusal d) (which_refusal s d.pid d.lock))
+  where
+    nothing_more : (o : Option Cond) → or_else o None ≡ o
+    nothing_more None = refl
+    nothing_more (Some refusal) = refl
+
+    chosen : Option Cond
+    chosen = cond (dequeue_lkid s d == 0) None (lock_refusal s d.pid (dequeue_lkid s d))
+
+    last : (a b c : Option Cond) → or_else a (or_else b (or_else c (or_else chosen None))) ≡ or_else a (or_else b (or_else c chosen))
+    last a b c = ap (λ (o : Option Cond). or_else a (or_else b (or_else c o))) (nothing_more chosen)
+
+-- where DEQALL comes with what it goes with, it cancels nothing
+pub cancels_nothing : (d : Dequeue) → has_flag d.flags deqall ≡ true → is_mixed d ≡ false → has_flag d.flags cancel ≡ false
+cancels_nothing d all fitting = of_tests (has_flag d.flags deqall) (has_flag d.flags cancel) (is_some d.value) all fitting
+  where
+    of_tests : (a b c : Bool) → a ≡ true → (a && (b || c)) ≡ false → b ≡ false
+    of_tests true true c is none = cc
+    of_tests true false c is none = refl
+    of_tests false b c is none = cc

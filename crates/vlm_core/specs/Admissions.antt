@@ -1,5 +1,5 @@
 -- What the checks of a step decide, for the change that follows.
-use Rattle.std.specs.Prelude.{◌≡◌, ◌<◌, ◌^◌, ℕ, zero, suc, true, false, Option, Some}
+use Rattle.std.specs.Prelude.{◌≡◌, ◌<◌, ◌^◌, ℕ, zero, suc, true, false, Option, None, Some}
 use Rattle.vlm_words.specs.declared.resources.Queue.TheVariants.{Granted}
 use Rattle.vlm_words.specs.declared.steps.Conversion.{Conversion}
 use Rattle.vlm_words.specs.declared.steps.Dequeue.{Dequeue}
@@ -8,7 +8,7 @@ use Rattle.vlm_words.specs.Convert.{convert_admission, convert_lkid, convert_req
 use Rattle.vlm_words.specs.Dequeue.{dequeue_lkid, withdrawal_of}
 use Rattle.vlm_words.specs.Checks.{acceptance}
 use Rattle.vlm_words.specs.Enqueue.{enq_at_once, enq_row}
-use Rattle.vlm_words.specs.Flags.{deqall, flag_bits, has_flag}
+use Rattle.vlm_words.specs.Flags.{cancel, deqall, flag_bits, has_flag, invvalblk}
 use Rattle.vlm_words.specs.Resources.{IsKeyed}
 use Rattle.vlm_words.specs.State.{State}
 use Rattle.vlm_words.specs.Trees.{enq_site, parent_lkid}
@@ -23,6 +23,7 @@ use Rattle.vlm_locks.specs.Withdrawals.{plain_withdrawal}
 use Rattle.vlm_locks.specs.Withdrawing.{goes}
 use Rattle.vlm_core.specs.declared.converting.AdmittedConversion.{AdmittedConversion}
 use Rattle.vlm_core.specs.declared.dequeuing.AdmittedDequeue.{AdmittedDequeue}
+use Rattle.vlm_core.specs.declared.dequeuing.AdmittedDequeueOfAll.{AdmittedDequeueOfAll}
 use Rattle.vlm_core.specs.declared.enqueuing.AdmittedRequest.{AdmittedRequest}
 use Rattle.vlm_core.specs.declared.enqueuing.Form.{Form}
 use Rattle.vlm_core.specs.declared.processes.Caller.{Caller}
@@ -83,11 +84,21 @@ pub record IsAdmittedDequeue (m : MachineState) (d : Dequeue) (a : AdmittedDeque
   pub alone : has_flag d.flags deqall ≡ false
   pub withdrawal : plain_withdrawal a.withdrawal ≡ withdrawal_of d (dequeue_lkid (plain_state m) d)
 
--- a lock that the dequeue gives up has no sublocks
-abbrev pub IsChildless : MachineState → AdmittedDequeue → Type 0
-IsChildless m a = goes a.withdrawal.stays a.standing.queue ≡ true → HasNoSublocks a.standing.lock m.records
-
 -- the locks that a dequeue with DEQALL gives up where this one is named: those below it, and with 0 all of the caller
 abbrev pub choice_of : ℕ → Choice
 choice_of zero = All
 choice_of (suc n) = Below (suc n)
+
+-- the dequeue with DEQALL is admitted so: it is this caller's, and which of the caller's locks go, and whether they
+-- invalidate; it cancels nothing and gives no value
+pub record IsAdmittedDequeueOfAll (m : MachineState) (d : Dequeue) (a : AdmittedDequeueOfAll) : Type 0 where
+  pub caller : IsCaller a.caller m.records
+  pub pid : a.caller.pid ≡ d.pid
+  pub choice : a.choice ≡ choice_of (dequeue_lkid (plain_state m) d)
+  pub invalidates : a.invalidates ≡ has_flag d.flags invvalblk
+  pub goes : has_flag d.flags cancel ≡ false
+  pub plain : d.value ≡ None
+
+-- a lock that the dequeue gives up has no sublocks
+abbrev pub IsChildless : MachineState → AdmittedDequeue → Type 0
+IsChildless m a = goes a.withdrawal.stays a.standing.queue ≡ true → HasNoSublocks a.standing.lock m.records

@@ -69,7 +69,7 @@ impl Machine {
             Step::SetValue(setting) => self.set_value(setting),
             Step::Enq(request) => self.enq(touched, request),
             Step::Convert(conversion) => self.convert(conversion),
-            Step::Deq(dequeue) => self.deq(dequeue),
+            Step::Deq(dequeue) => self.deq(touched, dequeue),
             Step::Rundown(pid) => self.rundown(touched, pid),
             Step::Leave(node) => self.leave(touched, node),
             Step::Search(_) => Answer::Plain(Cond::Badparam),

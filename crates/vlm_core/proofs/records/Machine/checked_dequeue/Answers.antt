@@ -14,13 +14,13 @@ returns-clause-childless c =
     λ takes. c.in_ok-check_sublocks.ensures.childless (ap (λ b. goes b c.in_ok-standing.standing.queue) same ∙ takes)
 
 pub returns-in_err-standing-clause-refusal : goal.returns-in_err-standing-clause-refusal
-returns-in_err-standing-clause-refusal c = rw (refusal_alone (plain_state c.args.self.now) c.args.dequeue.now c.in_ok-flags.ensures.alone) (search rules)
+returns-in_err-standing-clause-refusal c = rw (refusal_alone (plain_state c.args.self.now) c.args.dequeue.now c.requires.alone) (search rules)
 
 pub returns-in_err-check_cancel-clause-refusal : goal.returns-in_err-check_cancel-clause-refusal
-returns-in_err-check_cancel-clause-refusal c = rw (refusal_alone (plain_state c.args.self.now) c.args.dequeue.now c.in_ok-flags.ensures.alone) (search rules)
+returns-in_err-check_cancel-clause-refusal c = rw (refusal_alone (plain_state c.args.self.now) c.args.dequeue.now c.requires.alone) (search rules)
 
 pub returns-in_err-check_sublocks-clause-refusal : goal.returns-in_err-check_sublocks-clause-refusal
-returns-in_err-check_sublocks-clause-refusal c = rw (refusal_alone (plain_state c.args.self.now) c.args.dequeue.now c.in_ok-flags.ensures.alone) (search rules)
+returns-in_err-check_sublocks-clause-refusal c = rw (refusal_alone (plain_state c.args.self.now) c.args.dequeue.now c.requires.alone) (search rules)
 
 pub returns-clause-refusal : goal.returns-clause-refusal
-returns-clause-refusal c = rw (refusal_alone (plain_state c.args.self.now) c.args.dequeue.now c.in_ok-flags.ensures.alone) (search rules)
+returns-clause-refusal c = rw (refusal_alone (plain_state c.args.self.now) c.args.dequeue.now c.requires.alone) (search rules)

@@ -18,7 +18,8 @@ returns-in-Convert-clause-notes c =
 
 pub returns-in-Deq-clause-notes : goal.returns-in-Deq-clause-notes
 returns-in-Deq-clause-notes c =
-    room_after c.args.self.now c.deq.new.self c.args.touched.now (Deq c.in-Deq.dequeue) c.deq.result c.deq.ensures c.requires.notes.none (omega (arith, c.requires.notes.room))
+    room_after c.args.self.now c.deq.new.self c.deq.new.touched (Deq c.in-Deq.dequeue) c.deq.result c.deq.ensures.outcome c.deq.ensures.none
+    (omega (arith, c.requires.notes.room, c.deq.ensures.room))
 
 pub returns-in-Take-clause-notes : goal.returns-in-Take-clause-notes
 returns-in-Take-clause-notes c =
