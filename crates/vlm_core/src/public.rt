@@ -179,12 +179,16 @@ impl Core {
 
     /// Gives a lock up, or with CANCEL ends its request ($DEQ). A lock that is held at PW or EX writes a
     /// given value to the value block, and with INVVALBLK then marks it invalid; with CANCEL, at lower
-    /// modes and for a waiting lock both are ignored (this project's own). A request that ends with it, by
-    /// abort or cancel, queues an AST for its completion routine, if it names one; of its blocking routine
-    /// nothing comes, and a lock that goes is not warned any more. It takes no memory. Refused by DEPARTED,
-    /// NONEXPR, BADPARAM for an unknown flag, ACCVIO where the lock is named by a status block that is not
-    /// there, IVLOCKID, CANCELGRANT where a granted lock is to be cancelled, SUBLOCKS where one that has
-    /// sublocks is to be given up.
+    /// modes and for a waiting lock both are ignored (this project's own). With DEQALL several locks are given
+    /// up together: all of the caller where 0 is named, else all that are below the named one, which stays. A
+    /// request that ends with its lock, by abort or cancel, queues an AST for its completion routine, if it names
+    /// one, those of one step by rising identification; of its blocking routine nothing comes, and a lock that goes
+    /// is not warned any more. It takes no memory. Refused by DEPARTED, NONEXPR, BADPARAM for an unknown flag and
+    /// for DEQALL with CANCEL or with a value, ACCVIO where the lock is named by a status block that is not
+    /// there, IVLOCKID, but not for DEQALL of 0, CANCELGRANT where a granted lock is to be cancelled, SUBLOCKS
+    /// where one that has sublocks is to be given up without DEQALL. With DEQALL its cost grows with the locks of
+    /// the caller and, for the order of what is swept, with the resources that those stood on that go times their
+    /// logarithm.
     pub fn deq(&mut self, dequeue: Dequeue) -> Answer
         ensures state { self.new ≡ (stepped self.old (Step.Deq dequeue) None).state }
         ensures answer { result ≡ (stepped self.old (Step.Deq dequeue) None).answer }

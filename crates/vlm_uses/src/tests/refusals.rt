@@ -20,6 +20,8 @@ const QUECVT: u16 = 32;
 
 const CANCEL: u16 = 2;
 
+const DEQALL: u16 = 1;
+
 // No flag has this bit.
 const UNKNOWN: u16 = 256;
 
@@ -243,6 +245,59 @@ fn dequeues(rt: HostRuntime) {
             },
             Cond::Cancelgrant,
         ),
+    ];
+    check(
+        &rt,
+        &cases.map(|(dequeue, want)| (Step::Deq(dequeue), want)),
+    );
+}
+
+// BADPARAM, ACCVIO, IVLOCKID. With 0 no lock is named, and where none is below the named one none goes.
+#[test]
+fn dequeues_of_all(rt: HostRuntime) {
+    let late = Dequeue {
+        lock: Which::Block(5),
+        flags: DEQALL,
+        ..DEQUEUE
+    };
+    let cases = [
+        (
+            Dequeue {
+                flags: DEQALL + CANCEL,
+                ..late
+            },
+            Cond::Badparam,
+        ),
+        (
+            Dequeue {
+                value: Some([7; 16]),
+                ..late
+            },
+            Cond::Badparam,
+        ),
+        (late, Cond::Accvio),
+        (
+            Dequeue {
+                lock: Which::Id(2),
+                ..late
+            },
+            Cond::Ivlockid,
+        ),
+        (
+            Dequeue {
+                lock: Which::Id(1),
+                ..late
+            },
+            Cond::Normal,
+        ),
+        (
+            Dequeue {
+                lock: Which::Id(0),
+                ..late
+            },
+            Cond::Normal,
+        ),
+        (DEQUEUE, Cond::Ivlockid),
     ];
     check(
         &rt,
