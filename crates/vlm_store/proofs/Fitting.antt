@@ -1,23 +1,17 @@
 -- The counts of a resource say which modes fit, and whether some lock is to be warned.
-use Rattle.std.proofs.Common.{◌≡◌, ℕ, List, [], ◌∷◌, ◌++◌, map, Bool, true, false, not, ◌&&◌, ◌||◌, Option, None, Some, refl, sym, ap, ◌∙◌, if◌then◌else◌, arith}
-use Rattle.std.proofs.Math.Path.{fun_ext}
+use Rattle.std.proofs.Common.{◌≡◌, ℕ, List, [], ◌∷◌, map, not, ◌&&◌, ◌||◌, Option, None, Some, refl, sym, ap, ◌∙◌}
 use Rattle.std.specs.List.{list_all, list_any}
-use Rattle.std.proofs.lemmas.List.Folds.{list_all-append}
-use Rattle.vlm_words.specs.declared.locks.Request.{Request}
 use Rattle.vlm_words.specs.declared.modes.Mode.{Mode}
 use Rattle.vlm_words.specs.Asts.{has_to_warn, is_in_the_way, is_to_warn, keeps_out}
 use Rattle.vlm_words.specs.Grants.{fits, is_beside}
 use Rattle.vlm_words.specs.declared.locks.Row.{Row}
 use Rattle.vlm_words.specs.declared.resources.Queue.TheVariants.{Granted, Conversion, Waiting}
-use Rattle.vlm_words.specs.Modes.{is_compatible}
-use Rattle.vlm_words.proofs.Compatible.{is_compatible-comm}
 use Rattle.vlm_links.specs.Lists.{without}
-use Rattle.vlm_tallies.specs.Tallies.{armed_request, counts_fit, counts_warn, each_counted, is_mode, one_if, total, weight_of}
-use Rattle.vlm_tallies.specs.Tallies.Count.{of_armed, of_held, of_wanted}
-use Rattle.vlm_tallies.proofs.ModesThatFit.{counts_fit-rows, each_counted-rows, passes}
-use Rattle.vlm_tallies.proofs.Totals.{total-both, total-nothing}
+use Rattle.vlm_tallies.specs.Tallies.{counts_fit, weight_of}
+use Rattle.vlm_tallies.specs.Tallies.Count.{of_wanted}
 use Rattle.vlm_records.specs.declared.handles.Place.TheVariants.{Queued}
 use Rattle.vlm_records.specs.declared.queues.Queues.{Queues}
+use Rattle.vlm_records.proofs.Fitting.{in_the_way, wanted-rows}
 use Rattle.vlm_store.specs.Plain.{plain_resource}
 use Rattle.vlm_store.specs.Records.{fits_beside, rows_of_locks}
 use Rattle.vlm_records.specs.Shown.{handles_at, handles_but, handles_fit, rows, shares}

@@ -24,7 +24,7 @@ use Rattle.vlm_tallies.specs.Tallies.{weight_of}
 use Rattle.vlm_records.proofs.Counting.{shares_same}
 use Rattle.vlm_records.proofs.Families.{family-kept, family-handles}
 use Rattle.vlm_store.proofs.Members.{processes_same}
-use Rattle.vlm_records.proofs.Places.{kept_handles, kept_placed, lists_same, lkid_told, named-queued, there_through, through}
+use Rattle.vlm_records.proofs.Places.{by_part, kept_handles, kept_placed, lists_same, lkid_told, named-queued, there_through, through}
 
 -- the processes that a caller sees
 pub records_processes : (l : Layout) → (records_of l).processes ≡ l.processes

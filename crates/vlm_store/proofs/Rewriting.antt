@@ -8,7 +8,7 @@ use Rattle.vlm_asts.specs.Asts.{Asts}
 use Rattle.vlm_records.specs.declared.processes.Process.{Process}
 use Rattle.vlm_store.specs.declared.store.Store.TheInside.{Inside}
 use Rattle.vlm_store.specs.Holdings.{faced, holding, process_face, process_face_in}
-use Rattle.vlm_records.specs.Kin.{pid_at, plain_process}
+use Rattle.vlm_records.specs.Kin.{pid_at, plain_process, process_links}
 use Rattle.vlm_store.specs.Kept.{IsKept, beside_shown, records_shown, rooms_shown}
 use Rattle.vlm_store.specs.Pending.{IsMarked, is_of_nodes, waits_in}
 use Rattle.vlm_records.specs.Pending.{IsToldOf, OthersStay}

@@ -1,5 +1,5 @@
 -- Which processes live and which have an AST pending, and how they are marked.
-use Rattle.std.specs.Prelude.{◌≡◌, ℕ, ◌/◌, ◌≤◌, ◌&&◌, Bool, true, false, nat_lt, length, List, Option, None, Some}
+use Rattle.std.specs.Prelude.{◌≡◌, ℕ, ◌/◌, ◌≤◌, ◌&&◌, Bool, true, false, List, Option, None, Some}
 use Rattle.slab.specs.Slab.{Slab, get}
 use Rattle.vlm_links.specs.Lists.{IsIn}
 use Rattle.vlm_marks.specs.Nodes.{HasRoomFor, is_marked, is_node}

@@ -23,4 +23,7 @@ mod pending;
 mod store;
 
 pub use store::Store;
-pub use vlm_records::{Authorization, Lock, LockAt, LockKind, Place, ProcAt, Process, ProcessKind, ResAt, Resource, ResourceKind};
+pub use vlm_records::{
+    Authorization, Lock, LockAt, LockKind, Place, ProcAt, Process, ProcessKind, ResAt, Resource,
+    ResourceKind,
+};

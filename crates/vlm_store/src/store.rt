@@ -17,7 +17,10 @@ use std::alloc::{AllocError, Global};
 use std::marker::Model;
 use vlm_links::{LinkedList, reserve_one};
 use vlm_marks::NodeMarks;
-use vlm_records::{InOrder, Lock, LockAt, Place, ProcAt, Process, Queues, ResAt, Resource, join_parent, join_process, leave_parent, leave_process};
+use vlm_records::{
+    InOrder, Lock, LockAt, Place, ProcAt, Process, Queues, ResAt, Resource, join_parent,
+    join_process, leave_parent, leave_process,
+};
 use vlm_words::locks::Row;
 use vlm_words::modes::Mode;
 use vlm_words::resources::{Key, Site, ValueBlock};

@@ -1,4 +1,5 @@
 use Rattle.std.proofs.Common.{◌<◌, ap, subst}
+use Rattle.vlm_records.specs.Kin.{process_links}
 use Rattle.vlm_records.specs.declared.processes.Process.{Process}
 use Rattle.vlm_store.specs.Holdings.{faced, process_face, process_face_in}
 use Rattle.vlm_store.specs.Records.{with_owed_ast}
