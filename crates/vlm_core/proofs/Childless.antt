@@ -13,7 +13,7 @@ use Rattle.vlm_words.specs.Laws.{HasItsParent, HoldsOn, rows_on}
 use Rattle.vlm_words.specs.State.{Resource}
 use Rattle.vlm_words.proofs.Each.{Any-cases, Any-none, each_weaker}
 use Rattle.vlm_links.specs.Lists.{IsIn}
-use Rattle.vlm_store.specs.declared.handles.Place.TheVariants.{Queued}
+use Rattle.vlm_records.specs.declared.handles.Place.TheVariants.{Queued}
 use Rattle.vlm_store.specs.Plain.{plain_resource, plain_resources}
 use Rattle.vlm_store.specs.Records.{HasNoSublocks, IsSound, OwnLock, Records, StoredLock, StoredProcess, StoredResource, Stores, locks_at, queued, rows_of_locks}
 use Rattle.vlm_locks.specs.declared.finding.Standing.{Standing}

@@ -22,7 +22,7 @@ use Rattle.vlm_words.specs.declared.steps.NewRequest.{NewRequest}
 use Rattle.vlm_words.specs.Trees.{depth_refusal, enq_site, parent_refusal, parent_resource, root_domain, site_below, waiting_refusal}
 use Rattle.vlm_words.proofs.Passed.{both_pass, test_passes}
 use Rattle.vlm_links.specs.Lists.{IsIn}
-use Rattle.vlm_store.specs.declared.handles.Place.TheVariants.{Queued}
+use Rattle.vlm_records.specs.declared.handles.Place.TheVariants.{Queued}
 use Rattle.vlm_store.specs.Plain.{plain_resource, plain_resources}
 use Rattle.vlm_store.specs.Records.{IsParentOf, IsSound, Records, StoredResource, queued, resource_at, rows_of_locks}
 use Rattle.vlm_locks.proofs.Found.{resource_alone, resource_at-at}

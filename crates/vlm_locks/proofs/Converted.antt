@@ -11,7 +11,7 @@ use Rattle.vlm_words.specs.Effects.{Blocks, blocks_after, blocks_with}
 use Rattle.vlm_words.specs.Grants.{fits, grant_endings, granted_row}
 use Rattle.vlm_words.specs.Rows.{is_lock_of, rows_without}
 use Rattle.vlm_links.specs.Lists.{IsIn}
-use Rattle.vlm_store.specs.declared.handles.Place.TheVariants.{Queued}
+use Rattle.vlm_records.specs.declared.handles.Place.TheVariants.{Queued}
 use Rattle.vlm_store.specs.Plain.{plain_processes, plain_resource, plain_resources}
 use Rattle.vlm_store.specs.Records.{IsSound, Records, SameButNotices, StoredLock, StoredResource, but_notices, fits_beside, moving, on_resource, queued, resource_at, rows_of_locks, with_lists, without_lock}
 use Rattle.vlm_locks.proofs.Found.{on_resource-put, resource_at-at}

@@ -8,7 +8,7 @@ use Rattle.vlm_words.specs.Effects.{Blocks, blocks_after, blocks_with, with_valu
 use Rattle.vlm_words.specs.Grants.{Service, is_empty, no_service, service, service_of_conversions, service_of_new_requests, service_of_waiting, service_then}
 use Rattle.vlm_words.specs.State.{Resource}
 use Rattle.vlm_words.specs.Sweeps.{blocks_after_service}
-use Rattle.vlm_store.specs.declared.handles.Place.TheVariants.{Queued}
+use Rattle.vlm_records.specs.declared.handles.Place.TheVariants.{Queued}
 use Rattle.vlm_store.specs.Plain.{plain_processes, plain_resource}
 use Rattle.vlm_store.specs.Records.{HasResource, IsSound, Records, StoredLock, StoredResource, but_notices, first_at, locks_at, on_resource, resource_at, rows_of_locks}
 use Rattle.vlm_locks.specs.Serving.{IsLeft, IsServed, IsServiceOf, service_from, blocks_granted_from, HasGranted}

@@ -18,8 +18,8 @@ use Rattle.vlm_links.specs.Lists.{IsApart, IsIn, first_handle, handle_after}
 use Rattle.vlm_links.proofs.HandleLists.{IsIn-push, IsIn-push_kept, IsIn-push_last}
 use Rattle.vlm_links.proofs.Walks.{handle_after-among}
 use Rattle.std.specs.Option.{option_map_or}
-use Rattle.vlm_store.specs.declared.handles.Place.{Place}
-use Rattle.vlm_store.specs.declared.handles.Place.TheVariants.{Loose, Queued}
+use Rattle.vlm_records.specs.declared.handles.Place.{Place}
+use Rattle.vlm_records.specs.declared.handles.Place.TheVariants.{Loose, Queued}
 use Rattle.vlm_store.specs.Plain.{plain_processes, plain_resource, plain_resources}
 use Rattle.vlm_store.specs.Records.{IsProcess, IsSound, IsStored, Records, SameButNotices, Stores, locks_at, own_handles_at, queued, resource_at}
 use Rattle.vlm_locks.specs.declared.giving_up.Choice.{Choice}

@@ -9,7 +9,7 @@ use Rattle.vlm_words.specs.declared.resources.ValueBlock.{ValueBlock}
 use Rattle.vlm_words.specs.Effects.{Blocks, blocks_after, blocks_after_ending, blocks_with}
 use Rattle.vlm_words.specs.Endings.{Ending}
 use Rattle.vlm_words.specs.Grants.{Service, grant_endings, granted_row, no_service, service_after_grant, wanted_fits}
-use Rattle.vlm_store.specs.declared.handles.Place.TheVariants.{Queued}
+use Rattle.vlm_records.specs.declared.handles.Place.TheVariants.{Queued}
 use Rattle.vlm_store.specs.Plain.{plain_processes, plain_resource}
 use Rattle.vlm_store.specs.Records.{HasResource, IsSound, Records, SameButNotices, StoredLock, StoredResource, Stores, first_at, locks_at, moving, queued, resource_at, rows_of_locks, with_lists}
 use Rattle.vlm_locks.specs.Serving.{IsLeft, IsServiceOf, service_from, wanted_fits_beside}

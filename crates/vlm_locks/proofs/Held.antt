@@ -9,7 +9,7 @@ use Rattle.vlm_words.specs.declared.resources.Queue.TheVariants.{Granted, Conver
 use Rattle.vlm_words.specs.Checks.{holds_lock}
 use Rattle.vlm_words.specs.Rows.{is_lock_of}
 use Rattle.vlm_links.specs.Lists.{IsIn}
-use Rattle.vlm_store.specs.declared.handles.Place.TheVariants.{Queued}
+use Rattle.vlm_records.specs.declared.handles.Place.TheVariants.{Queued}
 use Rattle.vlm_store.specs.Plain.{plain_resource, plain_resources}
 use Rattle.vlm_store.specs.Records.{IsSound, Records, StoredResource, Stores, locks_at, queued, resource_at, rows_of_locks}
 use Rattle.vlm_locks.specs.declared.finding.Standing.{Standing}

@@ -8,8 +8,8 @@ use Rattle.vlm_words.specs.declared.resources.Queue.TheVariants.{Granted, Conver
 use Rattle.vlm_words.specs.Enqueue.{resources_after_entry}
 use Rattle.vlm_words.specs.Resources as plain
 use Rattle.vlm_links.specs.Lists.{IsIn}
-use Rattle.vlm_store.specs.declared.handles.Place.{Place}
-use Rattle.vlm_store.specs.declared.handles.Place.TheVariants.{Loose, Queued}
+use Rattle.vlm_records.specs.declared.handles.Place.{Place}
+use Rattle.vlm_records.specs.declared.handles.Place.TheVariants.{Loose, Queued}
 use Rattle.vlm_store.specs.Plain.{plain_resource, plain_resources}
 use Rattle.vlm_store.specs.Records.{FindsResource, IsNewKey, IsParentOf, Records, Rooms, StoredResource, Stores, locks_at, new_stored_resource, queued, resource_at, with_resource_room, without_lock, without_resource}
 use Rattle.vlm_words.specs.declared.locks.Row.{Row}

@@ -8,11 +8,10 @@ use Rattle.vlm_words.specs.declared.resources.Queue.{Queue}
 use Rattle.vlm_words.specs.declared.resources.Queue.TheVariants.{Granted, Conversion, Waiting}
 use Rattle.vlm_words.specs.Rows.{rows_without}
 use Rattle.vlm_links.specs.Lists.{IsIn}
-use Rattle.vlm_store.specs.declared.handles.Place.{Place}
-use Rattle.vlm_store.specs.declared.handles.Place.TheVariants.{Loose, Queued}
+use Rattle.vlm_records.specs.declared.handles.Place.{Place}
+use Rattle.vlm_records.specs.declared.handles.Place.TheVariants.{Loose, Queued}
 use Rattle.vlm_store.specs.Records.{IsSameLock, IsSound, Records, StoredLock, StoredResource, but_notices, is_place, moving, on_resource, queued, rows_of_locks, with_lists, without_lock}
-use Rattle.vlm_store.proofs.Records.{is_place-other, is_place-same}
-use Rattle.vlm_store.proofs.Records.{map_on, queue_at, unmoved}
+use Rattle.vlm_store.proofs.Records.{is_place-other, is_place-same, map_on, queue_at, unmoved}
 use Rattle.vlm_locks.specs.declared.finding.Standing.{Standing}
 use Rattle.vlm_locks.specs.Converting.{moved_in}
 use Rattle.vlm_locks.specs.Rest.{IsReplaced}

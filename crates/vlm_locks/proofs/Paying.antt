@@ -13,7 +13,7 @@ use Rattle.vlm_words.specs.Convert.{wanting_row}
 use Rattle.vlm_words.specs.Dues.{due_to, routines_of, row_due}
 use Rattle.vlm_words.specs.Grants.{granted_row}
 use Rattle.vlm_links.specs.Lists.{IsIn}
-use Rattle.vlm_store.specs.declared.handles.Place.TheVariants.{Loose, Queued}
+use Rattle.vlm_records.specs.declared.handles.Place.TheVariants.{Loose, Queued}
 use Rattle.vlm_store.specs.Records.{DueChanges, DuesStay, HasResource, IsSound, Records, Room, SameButNotices, StoredProcess, StoredResource, Stores, due_of, moving, on_resource, process_with_lock, with_lists, with_lock_room, with_new_lock}
 use Rattle.vlm_locks.specs.Entering.{IsDueMore, IsReady}
 use Rattle.vlm_locks.specs.declared.entering.Entry.{Entry}

@@ -11,8 +11,8 @@ use Rattle.vlm_words.specs.Dues.{due_to}
 use Rattle.vlm_words.specs.Rundown.{processes_but}
 use Rattle.vlm_words.specs.State.{Process}
 use Rattle.vlm_links.specs.Lists.{IsIn}
-use Rattle.vlm_store.specs.declared.handles.Place.{Place}
-use Rattle.vlm_store.specs.declared.handles.Place.TheVariants.{Loose, Queued}
+use Rattle.vlm_records.specs.declared.handles.Place.{Place}
+use Rattle.vlm_records.specs.declared.handles.Place.TheVariants.{Loose, Queued}
 use Rattle.vlm_store.specs.Plain.{plain_processes, plain_resources}
 use Rattle.vlm_store.specs.Records.{AreProcessesApart, HasNoLocks, IsProcess, IsSound, Records, Room, StoredLock, StoredProcess, StoredResource, Stores, due_of, locks_at, own_handles_at, with_process_room, without_process}
 use Rattle.vlm_locks.specs.Owing.{IsPaid, due_among, due_for, due_on}

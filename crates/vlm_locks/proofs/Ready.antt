@@ -6,8 +6,8 @@ use Rattle.std.specs.Option.{option_map_or}
 use Rattle.vlm_words.specs.declared.locks.Row.{Row}
 use Rattle.vlm_words.specs.Dues.{routines_of}
 use Rattle.vlm_links.specs.Lists.{IsIn}
-use Rattle.vlm_store.specs.declared.handles.Place.{Place}
-use Rattle.vlm_store.specs.declared.handles.Place.TheVariants.{Loose, Queued}
+use Rattle.vlm_records.specs.declared.handles.Place.{Place}
+use Rattle.vlm_records.specs.declared.handles.Place.TheVariants.{Loose, Queued}
 use Rattle.vlm_store.specs.Plain.{plain_processes}
 use Rattle.vlm_store.specs.Records.{DueChanges, FindsResource, HasRoom, HasRoomForLock, HasRoomForResource, IsParentOf, IsProcess, IsUnchanged, Records, Rooms, SameButNotices, StoredProcess, Stores, but_notices, due_of, locks_at, process_with_lock, queued, resource_at, without_lock}
 use Rattle.vlm_locks.specs.declared.entering.Entry.{Entry}

@@ -7,8 +7,8 @@ use Rattle.vlm_words.specs.State.{Resource}
 use Rattle.vlm_words.specs.declared.locks.Row.{Row}
 use Rattle.vlm_words.specs.declared.resources.Queue.{Queue}
 use Rattle.vlm_links.specs.Lists.{IsIn}
-use Rattle.vlm_store.specs.declared.handles.Place.{Place}
-use Rattle.vlm_store.specs.declared.handles.Place.TheVariants.{Loose, Queued}
+use Rattle.vlm_records.specs.declared.handles.Place.{Place}
+use Rattle.vlm_records.specs.declared.handles.Place.TheVariants.{Loose, Queued}
 use Rattle.vlm_store.specs.Plain.{plain_resource, plain_resources}
 use Rattle.vlm_store.specs.Records.{HasNoSublocks, HasResource, IsRowOf, IsSound, Records, StoredLock, StoredResource, Stores, but_notices, locks_at, on_resource, queued, resource_at, without_resource}
 use Rattle.vlm_words.specs.Resources.{IsKeyed}

@@ -22,7 +22,7 @@ use Rattle.vlm_locks.specs.Rising.{ComesBefore, HasRisingLocks, StandByIdentific
 use Rattle.vlm_locks.proofs.Left.{IsOthers, nothing_left, IsOwnRow, OwnRows, one_withdrawn}
 use Rattle.vlm_locks.proofs.Stood.{one_lock, queued_stored, only, own_among, resource_among, stored}
 use Rattle.vlm_links.proofs.HandleLists.{IsIn-without, length-without}
-use Rattle.vlm_store.specs.declared.handles.Place.TheVariants.{Queued}
+use Rattle.vlm_records.specs.declared.handles.Place.TheVariants.{Queued}
 use Rattle.vlm_locks.specs.declared.finding.Standing.{Standing}
 use Rattle.vlm_locks.specs.declared.touched.Touch.{Touch}
 use Rattle.vlm_locks.specs.Standing.{IsStanding}

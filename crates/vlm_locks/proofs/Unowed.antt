@@ -5,7 +5,7 @@ use Rattle.std.proofs.lemmas.Bool.{cases_eq}
 use Rattle.vlm_words.specs.declared.locks.Row.{Row}
 use Rattle.vlm_words.specs.declared.resources.Queue.TheVariants.{Granted, Conversion, Waiting}
 use Rattle.vlm_words.specs.Dues.{due_to, row_due}
-use Rattle.vlm_store.specs.declared.handles.Place.TheVariants.{Loose}
+use Rattle.vlm_records.specs.declared.handles.Place.TheVariants.{Loose}
 use Rattle.vlm_store.specs.Records.{IsSound, Records, SameButNotices, StoredLock, Stores, due_of}
 use Rattle.vlm_locks.specs.GivingUp.{IsPaidBut, due_but}
 use Rattle.vlm_locks.specs.Left.{is_among}

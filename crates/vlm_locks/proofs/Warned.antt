@@ -14,7 +14,7 @@ use Rattle.vlm_words.specs.Asts.{Queued as QueuedAst, blocking_asts, has_to_warn
 use Rattle.vlm_words.specs.Dues.{due_to, one_where, routines_of, row_due}
 use Rattle.vlm_words.proofs.Warned.{blind_warned}
 use Rattle.vlm_links.specs.Lists.{IsIn}
-use Rattle.vlm_store.specs.declared.handles.Place.TheVariants.{Loose, Queued}
+use Rattle.vlm_records.specs.declared.handles.Place.TheVariants.{Loose, Queued}
 use Rattle.vlm_store.specs.Armed.{IsArmedAt, armed_among, armed_at}
 use Rattle.vlm_store.specs.Plain.{plain_processes, plain_resource}
 use Rattle.vlm_store.specs.Records.{AreApart, DueChanges, HasResource, IsSameLock, IsSound, Records, SameButNotices, StoredLock, StoredResource, Stores, at_after, but_notices, disarmed, disarming, due_of, first_at, locks_at, on_resource, queued, resource_at, resource_with, rows_of_locks, with_lists}

@@ -12,7 +12,7 @@ use Rattle.vlm_words.specs.Rows.{rows_without}
 use Rattle.vlm_words.specs.Rows as plain
 use Rattle.vlm_words.specs.State.{Resource}
 use Rattle.vlm_links.specs.Lists.{IsIn}
-use Rattle.vlm_store.specs.declared.handles.Place.TheVariants.{Queued}
+use Rattle.vlm_records.specs.declared.handles.Place.TheVariants.{Queued}
 use Rattle.vlm_store.specs.Plain.{plain_processes, plain_resource}
 use Rattle.vlm_store.specs.Records.{AreApart, IsSound, Records, StoredResource, leaving, moving, on_resource, queued, resource_at, resource_with, rows_of_locks, with_lists, without_stored_lock}
 use Rattle.vlm_locks.proofs.Found.{on_resource-own, on_resource-put, resource_alone, resource_at-at, resource_at-put}

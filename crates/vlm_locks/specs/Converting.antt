@@ -9,7 +9,7 @@ use Rattle.vlm_words.specs.Effects.{Blocks, blocks_after, blocks_with}
 use Rattle.vlm_words.specs.Grants.{grant_endings, granted_row}
 use Rattle.vlm_words.specs.State.{Process}
 use Rattle.vlm_words.specs.StatusBlocks.{processes_after_acceptance}
-use Rattle.vlm_store.specs.declared.handles.Place.TheVariants.{Queued}
+use Rattle.vlm_records.specs.declared.handles.Place.TheVariants.{Queued}
 use Rattle.vlm_store.specs.Plain.{plain_processes, plain_resource, plain_resources}
 use Rattle.vlm_store.specs.Records.{Records, StoredResource, moving, resource_with}
 use Rattle.vlm_locks.specs.declared.finding.Standing.{Standing}

@@ -2,7 +2,7 @@
 use Rattle.std.proofs.Common.{◌≡◌, ℕ, Some, IfSome, sym, ap, ◌∙◌}
 use Rattle.std.specs.Option.{option_map_or}
 use Rattle.vlm_words.specs.State.{Process, process_of}
-use Rattle.vlm_store.specs.declared.processes.Authorization.{Authorization}
+use Rattle.vlm_records.specs.declared.processes.Authorization.{Authorization}
 use Rattle.vlm_store.specs.Plain.{plain_processes}
 use Rattle.vlm_store.specs.Records.{IsProcess, IsSound, Records, authorization_of, process_at}
 use Rattle.vlm_store.proofs.Plain.{process_at-stored, process_of-stored}

@@ -6,7 +6,7 @@ ghost use Rattle.std.specs.Option.{ForSome};
 ghost use Rattle.vlm_words.specs.declared.locks.Row.{Row};
 ghost use Rattle.vlm_words.specs.Grants.{is_empty};
 ghost use Rattle.vlm_links.specs.Lists.{IsIn};
-ghost use Rattle.vlm_store.specs.declared.handles.Place.{Place};
+ghost use Rattle.vlm_records.specs.declared.handles.Place.{Place};
 ghost use Rattle.vlm_store.specs.Records.{HasResource, IsIdle, IsSound, IsStored, Stores, at_after, first_at, fits_beside, locks_at, moving, queued, resource_at, rows_of_locks, with_lists};
 
 use vlm_store::{LockAt, Place, ResAt, Store};

@@ -2,7 +2,7 @@
 
 ghost use Rattle.std.specs.Prelude.{◌≡◌, ◌∷◌, IfSome, Some, slice_get};
 ghost use Rattle.std.specs.Option.{ForSome, option_map};
-ghost use Rattle.vlm_store.specs.declared.handles.Place.{Place};
+ghost use Rattle.vlm_records.specs.declared.handles.Place.{Place};
 ghost use Rattle.vlm_store.specs.Plain.{plain_resources};
 ghost use Rattle.vlm_store.specs.Records.{HasResource, IsSound, IsStored, locks_at};
 ghost use Rattle.vlm_queue.specs.Views.{resource_view, row_shown};

@@ -1,18 +1,28 @@
 -- What a caller sees of the armed locks of a resource.
-use Rattle.std.proofs.Common.{◌≡◌, ℕ, map, Some, sym, ap, ◌∙◌, subst}
+use Rattle.std.proofs.Common.{◌≡◌, ℕ, List, [], ◌∷◌, map, cond, true, false, Some, refl, sym, ap, ◌∙◌, subst}
 use Rattle.slab.specs.Slab.{get, ContainsKey}
 use Rattle.vlm_links.specs.Lists.{IsIn, handles_of}
+use Rattle.vlm_words.specs.declared.locks.Row.{Row}
 use Rattle.vlm_words.specs.declared.resources.Queue.TheVariants.{Granted}
-use Rattle.vlm_store.specs.declared.handles.Place.TheVariants.{Queued}
-use Rattle.vlm_store.specs.declared.resources.Resource.{Resource}
+use Rattle.vlm_records.specs.declared.handles.Place.TheVariants.{Queued}
+use Rattle.vlm_records.specs.declared.resources.Resource.{Resource}
 use Rattle.vlm_store.specs.declared.store.Store.TheInside.{Inside}
-use Rattle.vlm_store.specs.Armed.{IsArmedAt, armed_among, armed_at, armed_links, armed_list_handles, armed_list_in}
+use Rattle.vlm_store.specs.Armed.{IsArmedAt, armed_among, armed_at}
+use Rattle.vlm_records.specs.Armed.{armed_handles, armed_links, armed_list_handles, armed_list_in}
 use Rattle.vlm_store.specs.Kept.{IsKept, beside_shown, records_shown}
 use Rattle.vlm_store.specs.Records.{HasResource}
-use Rattle.vlm_store.specs.Shown.{handles_at, rows}
+use Rattle.vlm_records.specs.Shown.{handles_at, rows}
 use Rattle.vlm_store.specs.Store.{tables, under_handle}
-use Rattle.vlm_store.proofs.Arming.{armed-seen}
 use Rattle.vlm_store.proofs.Layouts.{HasResource-order, locks_at-seen, under_handle-among}
+
+-- those of the locks under these handles that are armed
+pub armed-seen : (rows : ℕ → Row) (ks : List ℕ) → armed_among (map (under_handle rows) ks) ≡ map (under_handle rows) (armed_handles rows ks)
+armed-seen rows [] = refl
+armed-seen rows (k ∷ ks) =
+    elim (rows k).armed as (λ b. cond b (under_handle rows k ∷ armed_among (map (under_handle rows) ks)) (armed_among (map (under_handle rows) ks)) ≡ map (under_handle rows) (cond b (k ∷ armed_handles rows ks) (armed_handles rows ks))) [
+      | true ↦ ap (λ rest. under_handle rows k ∷ rest) (armed-seen rows ks)
+      | false ↦ armed-seen rows ks
+    ]
 
 module _ (s : Inside) (kept : IsKept s) (res : ℕ) (has : HasResource res (records_shown s)) where
   pub resource_is_there : ContainsKey s.queues.resources res

@@ -11,11 +11,11 @@ use Rattle.vlm_links.proofs.HandleLists.{IsApart-without, IsIn-without_kept, len
 use Rattle.vlm_words.specs.declared.locks.Row.{Row}
 use Rattle.vlm_words.specs.declared.resources.Queue.{Queue}
 use Rattle.vlm_words.specs.declared.resources.Queue.TheVariants.{Granted, Conversion, Waiting}
-use Rattle.vlm_store.specs.declared.handles.Place.{Place}
-use Rattle.vlm_store.specs.declared.handles.Place.TheVariants.{Loose, Queued}
+use Rattle.vlm_records.specs.declared.handles.Place.{Place}
+use Rattle.vlm_records.specs.declared.handles.Place.TheVariants.{Loose, Queued}
 use Rattle.vlm_store.specs.Records.{AreApart, AreOwnApart, AreProcessesApart, AreResourcesApart, IsProcess, IsSound, OwnLock, Records, StoredLock, StoredProcess, StoredResource, Stores, locks_at, own_at, owned_among, owned_by, owned_on, process_at, queued, resource_at}
 use Rattle.vlm_store.proofs.Plain.{process_at-stored}
-use Rattle.vlm_store.proofs.Counting.{IsApart-append, IsIn-append}
+use Rattle.vlm_records.proofs.Counting.{IsApart-append, IsIn-append}
 use Rattle.vlm_store.proofs.Records.{queue_at}
 
 -- ---- handles

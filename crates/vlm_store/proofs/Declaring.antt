@@ -10,21 +10,22 @@ use Rattle.vlm_links.specs.declared.link.Links.{Links}
 use Rattle.vlm_links.specs.declared.lists.LinkedList.{LinkedList}
 use Rattle.vlm_links.specs.Lists.{IsIn, IsLinked, IsNoList, handles_of, next_in, prev_in}
 use Rattle.vlm_links.proofs.Rings.{kept-handles, kept-linked, no_list-linked, same-handles, same-linked}
-use Rattle.vlm_store.specs.declared.locks.Lock.{Lock}
-use Rattle.vlm_store.specs.declared.processes.Process.{Process}
-use Rattle.vlm_store.specs.declared.resources.InOrder.{InOrder}
-use Rattle.vlm_store.specs.Shown.{no_list}
-use Rattle.vlm_store.specs.Holdings.{IsBelow, IsNamed, IsOwned, OwnerFits, ParentFits, below_links, below_list, but_order, holding, own_in, own_handles, own_links, own_list, owner_in, parent_in, pid_at, pid_of, process_face, process_face_in, process_links, process_under, processes_of}
+use Rattle.vlm_records.specs.declared.locks.Lock.{Lock}
+use Rattle.vlm_records.specs.declared.processes.Process.{Process}
+use Rattle.vlm_records.specs.declared.resources.InOrder.{InOrder}
+use Rattle.vlm_records.specs.Shown.{no_list}
+use Rattle.vlm_records.specs.Kin.{IsBelow, IsNamed, IsOwned, OwnerFits, ParentFits, below_links, below_list, but_order, own_in, own_handles, own_links, own_list, owner_in, parent_in, pid_at, pid_of, process_links}
+use Rattle.vlm_store.specs.Holdings.{holding, process_face, process_face_in, process_under, processes_of}
 use Rattle.vlm_store.specs.Kept.{IsKept}
 use Rattle.vlm_store.specs.Pending.{is_of_nodes, waits_in}
 use Rattle.vlm_store.specs.declared.store.Store.TheInside.{Inside}
 use Rattle.vlm_store.proofs.Indexing.{Indexes-same}
-use Rattle.vlm_store.proofs.Families.{family-empty, family-kept}
-use Rattle.vlm_store.proofs.Kinship.{by_part}
-use Rattle.vlm_store.proofs.Making.{no_list_has}
+use Rattle.vlm_records.proofs.Families.{family-empty, family-kept}
+use Rattle.vlm_records.proofs.Places.{by_part}
+use Rattle.vlm_records.proofs.Making.{no_list_has}
 use Rattle.vlm_marks.specs.Nodes.{Grows}
 use Rattle.vlm_store.proofs.Marked.{grown_marked, kept_marked}
-use Rattle.vlm_store.proofs.OwnLocks.{written_same}
+use Rattle.vlm_records.proofs.OwnLocks.{written_same}
 
 -- ---- nothing is there yet
 
@@ -122,7 +123,7 @@ pub no_own : (processes : Slab Process) (locks : Slab Lock) (at : ℕ) → IsOwn
 no_own processes locks at owned none = no_list_has own_links locks (own_list processes at) (owned.linked at) none
 
 -- a process is written, but for its locks, its place in the order and its identification
-module _ (processes : Slab Process) (at : ℕ) (was now : Process) (here : get processes at ≡ Some was) (own : now.own ≡ was.own) (order : now.in_order ≡ was.in_order) (pid : now.pid ≡ was.pid) where
+module _ (processes : Slab Process) (at : ℕ) (was now : Process) (here : get processes at ≡ Some was) (own : now.own ≡ was.own) (order : process_links now ≡ process_links was) (pid : now.pid ≡ was.pid) where
   -- the processes as they are then
   abbrev pub rewritten : Slab Process
   rewritten = with_value processes at now

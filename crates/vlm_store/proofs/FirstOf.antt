@@ -6,7 +6,7 @@ use Rattle.slab.specs.Slab.{get}
 use Rattle.vlm_links.specs.Lists.{IsIn}
 use Rattle.vlm_marks.specs.Nodes.{IsFirstMarked, is_marked, is_node}
 use Rattle.vlm_words.specs.State.{Process as PlainProcess}
-use Rattle.vlm_store.specs.declared.processes.Process.{Process}
+use Rattle.vlm_records.specs.declared.processes.Process.{Process}
 use Rattle.vlm_store.specs.declared.store.Store.TheInside.{Inside}
 use Rattle.vlm_store.specs.Holdings.{process_face_in}
 use Rattle.vlm_store.specs.Kept.{IsKept, records_shown}

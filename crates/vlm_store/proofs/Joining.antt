@@ -7,18 +7,19 @@ use Rattle.slab.specs.Slab.{Slab, get, ContainsKey}
 use Rattle.vlm_links.specs.Lists.{IsIn, Relinks, handles_of, next_in, prev_in}
 use Rattle.vlm_links.proofs.Keeping.{vacant_unlisted}
 use Rattle.vlm_words.specs.declared.locks.Row.{Row}
-use Rattle.vlm_store.specs.declared.locks.Lock.{Lock}
-use Rattle.vlm_store.specs.declared.processes.Process.{Process}
+use Rattle.vlm_records.specs.declared.locks.Lock.{Lock}
+use Rattle.vlm_records.specs.declared.processes.Process.{Process}
 use Rattle.vlm_store.specs.declared.store.Store.TheInside.{Inside}
 use Rattle.vlm_store.specs.Kept.{IsKept, processes_shown, records_shown}
 use Rattle.vlm_store.specs.Records.{IsParentOf, IsProcess, process_with_lock}
-use Rattle.vlm_store.specs.Shown.{SameBut, but_kin, but_queued, lkid_of, new_lock}
-use Rattle.vlm_store.specs.Holdings.{IsBelow, IsNamed, IsOwned, NamesParent, below_in, below_handles, below_links, below_list, but_below, but_own, holding, named_lock, own_handles, own_links, own_list, owner_in, parent_in, processes_of, with_own_links}
-use Rattle.vlm_store.proofs.Families.{family-grown, family-other_handles}
-use Rattle.vlm_store.proofs.Kinship.{below-queued, below_kin, below_named, below_next-queued, below_own_handles, below_owned, below_prev-queued, by_part, lkid-named, lkid-queued, named-added, named-kept, own_below_handles, own_kin, own_named, own_next-queued, own_pids, own_faces, own_prev-queued, own_process_handles, owner-queued, owner_fits, parent-queued, parent_fits, queued_below, queued_below_handles, queued_own_handles, queued_owned, there_by_part}
+use Rattle.vlm_records.specs.Shown.{SameBut, but_kin, but_queued, lkid_of, new_lock}
+use Rattle.vlm_records.specs.Kin.{IsBelow, IsNamed, IsOwned, NamesParent, below_in, below_handles, below_links, below_list, but_below, but_own, named_lock, own_handles, own_links, own_list, owner_in, parent_in, with_own_links}
+use Rattle.vlm_store.specs.Holdings.{holding, processes_of}
+use Rattle.vlm_records.proofs.Families.{family-grown, family-other_handles}
+use Rattle.vlm_store.proofs.Kinship.{below-queued, below_kin, below_named, below_next-queued, below_own_handles, below_owned, below_prev-queued, lkid-named, lkid-queued, named-added, named-kept, own_below_handles, own_kin, own_named, own_next-queued, own_pids, own_faces, own_prev-queued, own_process_handles, owner-queued, owner_fits, parent-queued, parent_fits, queued_below, queued_below_handles, queued_own_handles, queued_owned}
+use Rattle.vlm_records.proofs.Places.{by_part, there_by_part, lkid_of_row, named-queued, same_then, there_through}
 use Rattle.vlm_store.proofs.Living.{lock_there, process_named}
 use Rattle.vlm_store.proofs.Members.{lock_joined}
-use Rattle.vlm_store.proofs.Places.{lkid_of_row, named-queued, same_then, there_through}
 
 parent-named : (slot : Option Lock) → parent_in (option_map named_lock slot) ≡ parent_in slot
 parent-named None = refl

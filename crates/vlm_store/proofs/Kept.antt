@@ -11,22 +11,22 @@ use Rattle.vlm_words.specs.declared.locks.Row.{Row}
 use Rattle.vlm_words.specs.declared.resources.Queue.{Queue}
 use Rattle.vlm_words.specs.declared.resources.Queue.TheVariants.{Granted, Conversion, Waiting}
 use Rattle.vlm_words.specs.declared.resources.Key.{Key}
-use Rattle.vlm_store.specs.declared.handles.Place.{Place}
-use Rattle.vlm_store.specs.declared.handles.Place.TheVariants.{Loose, Queued}
-use Rattle.vlm_store.specs.declared.locks.Lock.{Lock}
-use Rattle.vlm_store.specs.declared.queues.Queues.{Queues}
-use Rattle.vlm_store.specs.declared.resources.InOrder.{InOrder}
-use Rattle.vlm_store.specs.declared.resources.Resource.{Resource}
+use Rattle.vlm_records.specs.declared.handles.Place.{Place}
+use Rattle.vlm_records.specs.declared.handles.Place.TheVariants.{Loose, Queued}
+use Rattle.vlm_records.specs.declared.locks.Lock.{Lock}
+use Rattle.vlm_records.specs.declared.queues.Queues.{Queues}
+use Rattle.vlm_records.specs.declared.resources.InOrder.{InOrder}
+use Rattle.vlm_records.specs.declared.resources.Resource.{Resource}
 use Rattle.vlm_store.specs.Index.{Indexes}
 use Rattle.vlm_store.specs.Records.{FindsLock, FindsResource, HasPlace, HasResource, StoredResource, Stores, nothing}
-use Rattle.vlm_store.specs.Shown.{IsPlaced, IsTallied, IsThere, SameBut, but_queues, face_in, handles_at, list_at, noted_in, order_links, queue_links, row_in, rows, shares, tally_in}
+use Rattle.vlm_records.specs.Shown.{IsPlaced, IsTallied, IsThere, SameBut, but_queues, face_in, handles_at, list_at, noted_in, order_links, queue_links, row_in, rows, shares, tally_in}
 use Rattle.vlm_store.specs.Store.{Beside, key_at, under_handle, lkid_at, records_of, resource_of, tables}
 use Rattle.vlm_store.proofs.Layouts.{HasPlace-seen, IsSeen, Stores-listed, among_resource, listed-Stores, resource_at-found, resource_among}
 use Rattle.vlm_tallies.specs.Tallies.{how_many, total, weight_of}
 use Rattle.vlm_tallies.proofs.Totals.{none_counted}
-use Rattle.vlm_store.proofs.Counting.{shares_same}
-use Rattle.vlm_store.proofs.Families.{family-empty}
-use Rattle.vlm_store.proofs.Places.{kept_handles, kept_placed, lists_same, lkid_of_row, lkid_told, noted_there, stands_there, through}
+use Rattle.vlm_records.proofs.Counting.{shares_same}
+use Rattle.vlm_records.proofs.Families.{family-empty}
+use Rattle.vlm_records.proofs.Places.{kept_handles, kept_placed, lists_same, lkid_of_row, lkid_told, noted_there, stands_there, through}
 
 module _ (q : Queues) (order : LinkedList InOrder) (beside : Beside) (placed : IsPlaced q None) where
   -- a lock that a caller sees is there

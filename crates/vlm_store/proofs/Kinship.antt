@@ -10,20 +10,21 @@ use Rattle.vlm_links.specs.Lists.{IsIn, IsLinked, Relinks, handles_of, next_in, 
 use Rattle.vlm_links.proofs.Keeping.{relinked_same}
 use Rattle.vlm_links.proofs.Rings.{kept-handles, kept-linked}
 use Rattle.vlm_words.specs.declared.locks.Row.{Row}
-use Rattle.vlm_store.specs.declared.handles.Place.{Place}
-use Rattle.vlm_store.specs.declared.locks.Lock.{Lock}
-use Rattle.vlm_store.specs.declared.processes.Process.{Process}
-use Rattle.vlm_store.specs.declared.queues.Queues.{Queues}
-use Rattle.vlm_store.specs.declared.resources.InOrder.{InOrder}
+use Rattle.vlm_records.specs.declared.handles.Place.{Place}
+use Rattle.vlm_records.specs.declared.locks.Lock.{Lock}
+use Rattle.vlm_records.specs.declared.processes.Process.{Process}
+use Rattle.vlm_records.specs.declared.queues.Queues.{Queues}
+use Rattle.vlm_records.specs.declared.resources.InOrder.{InOrder}
 use Rattle.vlm_store.specs.Records.{IsSameLock, StoredProcess}
-use Rattle.vlm_store.specs.Shown.{IsPlaced, IsTallied, SameBut, but_kin, but_queued, handles_at, lkid_of, named_row, noted_in, queue_links, row_in}
-use Rattle.vlm_store.specs.Holdings.{IsBelow, IsNamed, IsOwned, NamesParent, OwnerFits, ParentFits, below_in, below_handles, below_links, below_list, but_below, but_own, holding, named_lock, own_handles, own_links, own_list, owner_in, parent_in, pid_of, process_face_in, process_links, processes_of, with_own_links}
+use Rattle.vlm_records.specs.Shown.{IsPlaced, IsTallied, SameBut, but_kin, but_queued, handles_at, lkid_of, named_row, noted_in, queue_links, row_in}
+use Rattle.vlm_records.specs.Kin.{IsBelow, IsNamed, IsOwned, NamesParent, OwnerFits, ParentFits, below_in, below_handles, below_links, below_list, but_below, but_own, named_lock, own_handles, own_links, own_list, owner_in, parent_in, pid_of, process_links, with_own_links}
+use Rattle.vlm_store.specs.Holdings.{holding, process_face_in, processes_of}
 use Rattle.vlm_store.specs.Store.{Beside, Layout, records_of, tables}
 use Rattle.vlm_tallies.specs.Tallies.{weight_of}
-use Rattle.vlm_store.proofs.Counting.{shares_same}
-use Rattle.vlm_store.proofs.Families.{family-kept, family-handles}
+use Rattle.vlm_records.proofs.Counting.{shares_same}
+use Rattle.vlm_records.proofs.Families.{family-kept, family-handles}
 use Rattle.vlm_store.proofs.Members.{processes_same}
-use Rattle.vlm_store.proofs.Places.{kept_handles, kept_placed, lists_same, lkid_told, named-queued, there_through, through}
+use Rattle.vlm_records.proofs.Places.{by_part, kept_handles, kept_placed, lists_same, lkid_told, named-queued, there_through, through}
 
 -- the processes that a caller sees
 pub records_processes : (l : Layout) → (records_of l).processes ≡ l.processes
@@ -35,15 +36,6 @@ pub processes_changed : (q : Queues) (order : LinkedList InOrder) (old new : Bes
     → records_of (tables q order new) ≡ record (records_of (tables q order old)) { processes = changed (records_of (tables q order old)).processes; room = (records_of (tables q order new)).room }
 unfolding records_of
 processes_changed q order old new changed is = ap (λ ps. records_of (tables q order (record { processes = ps; room = new.room }))) is
-
--- what a record shows that is not of the part that differs
-pub by_part : {T X : Type 0} (part : T → T) (shown : Option T → X) → ((slot : Option T) → shown (option_map part slot) ≡ shown slot) → (a b : Option T) → option_map part a ≡ option_map part b → shown a ≡ shown b
-by_part part shown apart a b same = sym (apart a) ∙ ap shown same ∙ apart b
-
-pub there_by_part : {T X : Type 0} (part : T → X) (a b : Option T) → option_map part a ≡ option_map part b → IsSome b → IsSome a
-there_by_part part None None same there = there
-there_by_part part None (Some r) same there = cc
-there_by_part part (Some l) b same there = refl
 
 -- ---- what does not depend on the queues
 

@@ -9,11 +9,11 @@ use Rattle.vlm_links.proofs.HandleLists.{IsIn-without, without_head, without_pas
 use Rattle.vlm_words.specs.declared.locks.Row.{Row}
 use Rattle.vlm_words.specs.declared.resources.Queue.{Queue}
 use Rattle.vlm_words.specs.declared.resources.Queue.TheVariants.{Granted, Conversion, Waiting}
-use Rattle.vlm_store.specs.declared.handles.Place.{Place}
-use Rattle.vlm_store.specs.declared.handles.Place.TheVariants.{Loose, Queued}
+use Rattle.vlm_records.specs.declared.handles.Place.{Place}
+use Rattle.vlm_records.specs.declared.handles.Place.TheVariants.{Loose, Queued}
 use Rattle.vlm_store.specs.Records.{AreOwnApart, StoredProcess, Records, StoredLock, StoredResource, AreApart, AreOwned, AreProcessesApart, AreResourcesApart, HasPlace, HasResource, IsSound, Stores, at_after, disarmed, disarming, first_at, first_resource_at, resource_at_after, is_place, leaving, locks_at, moving, on_resource, queued, resource_at, resource_with, with_lists, without_lock, without_resource}
 use Rattle.vlm_store.specs.Store.{Layout, under_handle, records_of, resource_of}
-use Rattle.vlm_store.proofs.Places.{place_cases}
+use Rattle.vlm_records.proofs.Places.{place_cases}
 use Rattle.vlm_store.proofs.Records.{is_place-other, is_place-same}
 
 -- ---- locks under their handles

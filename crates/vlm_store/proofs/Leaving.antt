@@ -5,18 +5,19 @@ use Rattle.std.proofs.lemmas.Option.{none-some}
 use Rattle.std.specs.Option.{option_map}
 use Rattle.slab.specs.Slab.{Slab, get, ContainsKey}
 use Rattle.vlm_links.specs.Lists.{IsIn, Relinks, next_in, prev_in, without}
-use Rattle.vlm_store.specs.declared.locks.Lock.{Lock}
-use Rattle.vlm_store.specs.declared.processes.Process.{Process}
+use Rattle.vlm_records.specs.declared.locks.Lock.{Lock}
+use Rattle.vlm_records.specs.declared.processes.Process.{Process}
 use Rattle.vlm_store.specs.declared.store.Store.TheInside.{Inside}
 use Rattle.vlm_store.specs.Kept.{IsKept, processes_shown}
 use Rattle.vlm_store.specs.Records.{process_without_lock}
-use Rattle.vlm_store.specs.Shown.{SameBut, but_kin, but_queued, lkid_of}
-use Rattle.vlm_store.specs.Holdings.{IsBelow, IsNamed, IsOwned, below_in, below_handles, below_links, below_list, but_below, but_own, holding, named_lock, own_handles, own_links, own_list, owner_in, parent_in, processes_of, with_own_links}
-use Rattle.vlm_store.proofs.Families.{family-other_handles, family-shrunk}
-use Rattle.vlm_store.proofs.Kinship.{below-queued, below_kin, below_named, below_next-queued, below_own_handles, below_prev-queued, by_part, lkid-named, named-removed, own_below, own_below_handles, own_kin, own_named, own_next-queued, own_pids, own_faces, own_prev-queued, own_process_handles, owner-queued, parent-queued, there_by_part}
-use Rattle.vlm_store.proofs.Making.{no_list_has}
+use Rattle.vlm_records.specs.Shown.{SameBut, but_kin, but_queued, lkid_of}
+use Rattle.vlm_records.specs.Kin.{IsBelow, IsNamed, IsOwned, below_in, below_handles, below_links, below_list, but_below, but_own, named_lock, own_handles, own_links, own_list, owner_in, parent_in, with_own_links}
+use Rattle.vlm_store.specs.Holdings.{holding, processes_of}
+use Rattle.vlm_records.proofs.Families.{family-other_handles, family-shrunk}
+use Rattle.vlm_store.proofs.Kinship.{below-queued, below_kin, below_named, below_next-queued, below_own_handles, below_prev-queued, lkid-named, named-removed, own_below, own_below_handles, own_kin, own_named, own_next-queued, own_pids, own_faces, own_prev-queued, own_process_handles, owner-queued, parent-queued}
+use Rattle.vlm_records.proofs.Places.{by_part, there_by_part, named-queued, same_then}
+use Rattle.vlm_records.proofs.Making.{no_list_has}
 use Rattle.vlm_store.proofs.Members.{lock_left}
-use Rattle.vlm_store.proofs.Places.{named-queued, same_then}
 
 module _ (s : Inside) (kept : IsKept s) (at : ℕ) (childless : below_handles s.queues.locks at ≡ []) (locks1 locks2 locks3 : Slab Lock) (processes2 : Slab Process)
     (below1 : IsBelow locks1 (Some at)) (left1 : (p : ℕ) → below_handles locks1 p ≡ without at (below_handles s.queues.locks p)) (rest1 : SameBut but_below s.queues.locks locks1)

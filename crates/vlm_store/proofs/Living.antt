@@ -9,18 +9,19 @@ use Rattle.indexmap.specs.IndexMap.{get as found}
 use Rattle.vlm_links.specs.declared.link.TheConstants.{LAST_HANDLE}
 use Rattle.vlm_links.specs.Lists.{IsApart, IsIn, handles_of}
 use Rattle.vlm_words.specs.declared.locks.Row.{Row}
-use Rattle.vlm_store.specs.declared.locks.Lock.{Lock}
-use Rattle.vlm_store.specs.declared.processes.Process.{Process}
+use Rattle.vlm_records.specs.declared.locks.Lock.{Lock}
+use Rattle.vlm_records.specs.declared.processes.Process.{Process}
 use Rattle.vlm_store.specs.declared.store.Store.TheInside.{Inside}
 use Rattle.vlm_store.specs.Records.{AreOwnApart, AreOwned, AreProcessesApart, FindsProcess, HasNoSublocks, HasProcess, IsProcess, IsSound, OwnLock, StoredProcess, Stores, own_at, process_at}
 use Rattle.vlm_store.specs.Kept.{IsKept, beside_shown, processes_shown, records_shown}
-use Rattle.vlm_store.specs.Shown.{lkid_of, row_in, rows}
-use Rattle.vlm_store.specs.Holdings.{Holding, NamesParent, OwnerFits, ParentFits, below_handles, holding, own_handles, own_of, owner_in, parent_in, pid_at, pid_of, process_face_in, process_links, process_under, processes_of}
+use Rattle.vlm_records.specs.Shown.{lkid_of, row_in, rows}
+use Rattle.vlm_store.specs.Holdings.{Holding, holding, own_of, process_face_in, process_under, processes_of}
+use Rattle.vlm_records.specs.Kin.{NamesParent, OwnerFits, ParentFits, below_handles, own_handles, owner_in, parent_in, pid_at, pid_of, process_links}
 use Rattle.vlm_store.specs.Store.{tables}
 use Rattle.vlm_words.specs.Keys.{is_same_key}
 use Rattle.vlm_store.proofs.Kept.{keys_apart, lkids_apart, stored_there, there_stored}
 use Rattle.vlm_store.proofs.Layouts.{IsSound-records_of}
-use Rattle.vlm_store.proofs.Places.{lkid_told, one_place}
+use Rattle.vlm_records.proofs.Places.{lkid_told, one_place}
 use Rattle.vlm_store.proofs.Kinship.{records_processes}
 use Rattle.vlm_store.proofs.Members.{AreProcessesApart-processes_of, HasProcess-order, among_own, own_among, process_at-found, process_seen, seen_process}
 

@@ -8,13 +8,14 @@ use Rattle.slab.specs.Slab.{Slab, get, ContainsKey, with_value}
 use Rattle.slab.proofs.SlabLemmas.{Updates-with_value}
 use Rattle.vlm_marks.specs.Nodes.{Grows, HasRoomFor, Writes, is_marked, is_node}
 use Rattle.vlm_words.specs.declared.asts.Ast.{Ast}
-use Rattle.vlm_store.specs.declared.processes.Process.{Process}
-use Rattle.vlm_store.specs.Holdings.{but_order, but_own, pid_at, pid_of}
+use Rattle.vlm_records.specs.declared.processes.Process.{Process}
+use Rattle.vlm_records.specs.Kin.{but_order, but_own, pid_at, pid_of}
 use Rattle.vlm_store.specs.Index.{Indexes}
-use Rattle.vlm_store.specs.Pending.{IsMarked, IsToldOf, OthersStay, is_of_nodes, is_waiting, waits_in}
-use Rattle.vlm_store.specs.Shown.{SameBut}
-use Rattle.vlm_store.proofs.Kinship.{by_part, own_pids}
-use Rattle.vlm_store.proofs.Places.{through}
+use Rattle.vlm_store.specs.Pending.{IsMarked, is_of_nodes, waits_in}
+use Rattle.vlm_records.specs.Pending.{IsToldOf, OthersStay, is_waiting}
+use Rattle.vlm_records.specs.Shown.{SameBut}
+use Rattle.vlm_records.proofs.Places.{by_part, through}
+use Rattle.vlm_store.proofs.Kinship.{own_pids}
 
 -- ---- one process
 

@@ -6,10 +6,10 @@ use Rattle.vlm_links.specs.declared.link.Links.{Links}
 use Rattle.vlm_links.specs.declared.lists.LinkedList.{LinkedList}
 use Rattle.vlm_links.specs.Lists.{IsIn, IsLinked, handles_of, next_in, prev_in}
 use Rattle.vlm_links.proofs.Rings.{kept-handles, kept-linked}
-use Rattle.vlm_store.specs.declared.resources.InOrder.{InOrder}
-use Rattle.vlm_store.specs.declared.resources.Resource.{Resource}
-use Rattle.vlm_store.specs.Shown.{SameBut, order_links}
-use Rattle.vlm_store.proofs.Places.{there_through, through}
+use Rattle.vlm_records.specs.declared.resources.InOrder.{InOrder}
+use Rattle.vlm_records.specs.declared.resources.Resource.{Resource}
+use Rattle.vlm_records.specs.Shown.{SameBut, order_links}
+use Rattle.vlm_records.proofs.Places.{there_through, through}
 
 module _ (part : Resource → Resource) (links : (r : Resource) → order_links (part r) ≡ order_links r) (old new : Slab Resource) (rest : SameBut part old new) where
   next_same : (k : ℕ) → next_in order_links (get new k) ≡ next_in order_links (get old k)

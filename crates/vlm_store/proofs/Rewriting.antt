@@ -5,11 +5,13 @@ use Rattle.indexmap.specs.IndexMap.{get as found, spare}
 use Rattle.vlm_words.specs.declared.asts.Ast.{Ast}
 use Rattle.vlm_words.specs.State.{Process as PlainProcess}
 use Rattle.vlm_asts.specs.Asts.{Asts}
-use Rattle.vlm_store.specs.declared.processes.Process.{Process}
+use Rattle.vlm_records.specs.declared.processes.Process.{Process}
 use Rattle.vlm_store.specs.declared.store.Store.TheInside.{Inside}
-use Rattle.vlm_store.specs.Holdings.{faced, holding, pid_at, plain_process, process_face, process_face_in}
+use Rattle.vlm_store.specs.Holdings.{faced, holding, process_face, process_face_in}
+use Rattle.vlm_records.specs.Kin.{pid_at, plain_process, process_links}
 use Rattle.vlm_store.specs.Kept.{IsKept, beside_shown, records_shown, rooms_shown}
-use Rattle.vlm_store.specs.Pending.{IsMarked, IsToldOf, OthersStay, is_of_nodes, waits_in}
+use Rattle.vlm_store.specs.Pending.{IsMarked, is_of_nodes, waits_in}
+use Rattle.vlm_records.specs.Pending.{IsToldOf, OthersStay}
 use Rattle.vlm_store.specs.Records.{OwnLock, StoredProcess, changed_process, on_stored, owed_more}
 use Rattle.vlm_store.specs.Store.{tables}
 use Rattle.vlm_store.proofs.Declaring.{process_named, process_own_handles, process_owned, rewritten, written_face, written_handles, written_linked, written_others, written_owns, written_pids, written_whole}
@@ -17,9 +19,9 @@ use Rattle.vlm_store.proofs.Indexing.{Indexes-same}
 use Rattle.vlm_store.proofs.Kinship.{processes_changed}
 use Rattle.vlm_store.proofs.Marked.{kept_marked, nodes_same, pids_apart, waits_same, written_marked}
 use Rattle.vlm_store.proofs.Members.{process_written}
-use Rattle.vlm_store.proofs.OwnLocks.{written_same}
+use Rattle.vlm_records.proofs.OwnLocks.{written_same}
 use Rattle.vlm_store.proofs.Plain.{on_stored-same}
-use Rattle.vlm_store.proofs.Rooms.{room_written}
+use Rattle.vlm_records.proofs.Rooms.{room_written}
 use Rattle.vlm_store.proofs.RoomShown.{room_shown, room_of_same}
 
 -- what a process tells is changed, and it is owed what it was
@@ -28,7 +30,7 @@ pub changed_face : (change : PlainProcess → PlainProcess) (was now : Process) 
 changed_face change was now plain due at locks =
     ap (λ p. record { at = at; process = p; due = now.asts.due; own = locks }) plain ∙ ap (λ n. record { at = at; process = change (plain_process was); due = n; own = locks }) due
 
-module _ (s : Inside) (kept : IsKept s) (at : ℕ) (was now : Process) (here : get s.processes at ≡ Some was) (own : now.own ≡ was.own) (order : now.in_order ≡ was.in_order)
+module _ (s : Inside) (kept : IsKept s) (at : ℕ) (was now : Process) (here : get s.processes at ≡ Some was) (own : now.own ≡ was.own) (order : process_links now ≡ process_links was)
     (pid : now.pid ≡ was.pid) where
   -- the store keeps what it kept, with these marks
   pub remarked_kept : (marks : List (List Bool)) → IsMarked waits_in (rewritten s.processes at was now here own order pid) marks

@@ -8,22 +8,22 @@ use Rattle.vlm_links.specs.declared.link.TheConstants.{LAST_HANDLE}
 use Rattle.vlm_links.proofs.Rings.{same-handles, same-linked}
 use Rattle.vlm_words.specs.Keys.{is_same_key}
 use Rattle.vlm_words.specs.declared.resources.Key.{Key}
-use Rattle.vlm_store.specs.declared.locks.Lock.{Lock}
-use Rattle.vlm_store.specs.declared.processes.Process.{Process}
-use Rattle.vlm_store.specs.declared.queues.Queues.{Queues}
-use Rattle.vlm_store.specs.declared.resources.Resource.{Resource}
+use Rattle.vlm_records.specs.declared.locks.Lock.{Lock}
+use Rattle.vlm_records.specs.declared.processes.Process.{Process}
+use Rattle.vlm_records.specs.declared.queues.Queues.{Queues}
+use Rattle.vlm_records.specs.declared.resources.Resource.{Resource}
 use Rattle.vlm_store.specs.declared.store.Store.TheInside.{Inside}
 use Rattle.vlm_store.specs.Records.{HasRoom, IsGivenBack, IsNoLess, IsTaken, IsUnchanged, Records, Room, Rooms}
-use Rattle.vlm_store.specs.Armed.{armed_list_in}
-use Rattle.vlm_store.specs.Shown.{but_queued, lkid_of, order_links, room_in, tally_in}
-use Rattle.vlm_store.proofs.Rooms.{room_has, room_handle, room_slot, room_reserved}
+use Rattle.vlm_records.specs.Armed.{armed_list_in}
+use Rattle.vlm_records.specs.Shown.{but_queued, lkid_of, order_links, room_in, tally_in}
+use Rattle.vlm_records.proofs.Rooms.{room_has, room_handle, room_slot, room_reserved}
 use Rattle.vlm_store.specs.Store.{Layout, key_at, lkid_at, records_of, room_of, tables}
 use Rattle.vlm_store.specs.Holdings.{holding, processes_of}
 use Rattle.vlm_store.specs.Kept.{IsKept, processes_shown, records_shown, rooms_shown}
 use Rattle.vlm_store.proofs.Indexing.{Indexes-same}
 use Rattle.vlm_store.proofs.Kept.{reserved_handles, reserved_placed, reserved_tallied}
-use Rattle.vlm_store.proofs.Arming.{armed_reserved, armed_resources}
-use Rattle.vlm_store.proofs.Making.{reserved_lists, resources_handles, resources_placed, resources_tallied}
+use Rattle.vlm_records.proofs.Arming.{armed_reserved, armed_resources}
+use Rattle.vlm_records.proofs.Making.{reserved_lists, resources_handles, resources_placed, resources_tallied}
 use Rattle.vlm_store.proofs.Kinship.{queued_below, queued_named, queued_owned}
 
 -- the rooms of the three kinds

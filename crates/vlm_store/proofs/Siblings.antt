@@ -6,15 +6,16 @@ use Rattle.std.proofs.lemmas.Bool.{cases_eq}
 use Rattle.std.proofs.lemmas.Option.{none-some, same_Some}
 use Rattle.slab.specs.Slab.{get}
 use Rattle.vlm_links.specs.Lists.{IsIn, handles_of}
-use Rattle.vlm_store.specs.declared.locks.Lock.{Lock}
-use Rattle.vlm_store.specs.declared.processes.Process.{Process}
+use Rattle.vlm_records.specs.declared.locks.Lock.{Lock}
+use Rattle.vlm_records.specs.declared.processes.Process.{Process}
 use Rattle.vlm_store.specs.declared.store.Store.TheInside.{Inside}
 use Rattle.vlm_store.specs.Records.{HasProcess, HasNoParent, IsStored, OwnLock, StoredProcess, own_handles_at, own_of_handle, process_at, sublocks_at}
 use Rattle.vlm_store.specs.Kept.{IsKept, records_shown}
-use Rattle.vlm_store.specs.Shown.{rows}
-use Rattle.vlm_store.specs.Holdings.{Holding, below_in, below_handles, below_links, own_in, own_handles, own_links, own_of, owner_in, parent_in}
+use Rattle.vlm_records.specs.Shown.{rows}
+use Rattle.vlm_store.specs.Holdings.{Holding, own_of}
+use Rattle.vlm_records.specs.Kin.{below_in, below_handles, below_links, own_in, own_handles, own_links, owner_in, parent_in}
 use Rattle.vlm_store.proofs.Living.{are_owned, held, lock_stored, own_among_shown, own_is}
-use Rattle.vlm_store.proofs.OwnLocks.{parent_there}
+use Rattle.vlm_records.proofs.OwnLocks.{parent_there}
 
 -- ---- the locks of all processes
 

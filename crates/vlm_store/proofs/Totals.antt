@@ -10,16 +10,16 @@ use Rattle.vlm_links.specs.declared.lists.LinkedList.{LinkedList}
 use Rattle.vlm_links.specs.Lists.{IsApart, IsIn, IsLinked, handles_of}
 use Rattle.vlm_words.specs.declared.resources.Queue.{Queue}
 use Rattle.vlm_words.specs.declared.resources.Queue.TheVariants.{Granted, Conversion, Waiting}
-use Rattle.vlm_store.specs.declared.handles.Place.{Place}
-use Rattle.vlm_store.specs.declared.handles.Place.TheVariants.{Loose, Queued}
-use Rattle.vlm_store.specs.declared.queues.Queues.{Queues}
-use Rattle.vlm_store.specs.declared.resources.InOrder.{InOrder}
+use Rattle.vlm_records.specs.declared.handles.Place.{Place}
+use Rattle.vlm_records.specs.declared.handles.Place.TheVariants.{Loose, Queued}
+use Rattle.vlm_records.specs.declared.queues.Queues.{Queues}
+use Rattle.vlm_records.specs.declared.resources.InOrder.{InOrder}
 use Rattle.vlm_store.specs.Records.{StoredResource}
 use Rattle.vlm_store.specs.Total.{lock_total}
-use Rattle.vlm_store.specs.Shown.{IsPlaced, handles_at, order_links}
+use Rattle.vlm_records.specs.Shown.{IsPlaced, handles_at, order_links}
 use Rattle.vlm_store.specs.Store.{Beside, Layout, records_of, resource_of, tables, under_handle}
 use Rattle.std.proofs.lemmas.Option.{none-some}
-use Rattle.vlm_store.proofs.Places.{noted_there, one_place, stands_there}
+use Rattle.vlm_records.proofs.Places.{noted_there, one_place, stands_there}
 
 -- ---- handles that are apart, and all that is there
 

@@ -4,13 +4,14 @@ use Rattle.slab.specs.Slab.{ContainsKey}
 use Rattle.indexmap.specs.IndexMap.{get, spare}
 use Rattle.vlm_links.specs.Lists.{IsIn, IsLinked, handles_of}
 use Rattle.vlm_store.specs.declared.store.Store.TheInside.{Inside}
-use Rattle.vlm_store.specs.Armed.{IsArmed}
+use Rattle.vlm_records.specs.Armed.{IsArmed}
 use Rattle.vlm_store.specs.Index.{Indexes}
 use Rattle.vlm_words.specs.Keys.{is_same_key}
 use Rattle.vlm_store.specs.Pending.{IsMarked, is_of_nodes, waits_in}
 use Rattle.vlm_store.specs.Records.{Records, Rooms, StoredProcess}
-use Rattle.vlm_store.specs.Holdings.{IsBelow, IsNamed, IsOwned, holding, pid_at, process_links, processes_of}
-use Rattle.vlm_store.specs.Shown.{IsPlaced, IsTallied, order_links}
+use Rattle.vlm_records.specs.Kin.{IsBelow, IsNamed, IsOwned, pid_at, process_links}
+use Rattle.vlm_store.specs.Holdings.{holding, processes_of}
+use Rattle.vlm_records.specs.Shown.{IsPlaced, IsTallied, order_links}
 use Rattle.vlm_store.specs.Store.{Beside, key_at, lkid_at, records_of, room_of, tables}
 
 -- the processes that the fields show

@@ -1,11 +1,9 @@
 pub mod Armed
-pub mod Families
 pub mod Holdings
 pub mod Index
 pub mod Kept
 pub mod Pending
 pub mod Plain
 pub mod Records
-pub mod Shown
 pub mod Store
 pub mod Total

@@ -1,20 +1,17 @@
 -- Which processes live and which have an AST pending, and how they are marked.
-use Rattle.std.specs.Prelude.{◌≡◌, ℕ, ◌/◌, ◌≤◌, ◌&&◌, Bool, true, false, nat_lt, length, List, Option, None, Some}
+use Rattle.std.specs.Prelude.{◌≡◌, ℕ, ◌/◌, ◌≤◌, ◌&&◌, Bool, true, false, List, Option, None, Some}
 use Rattle.slab.specs.Slab.{Slab, get}
 use Rattle.vlm_links.specs.Lists.{IsIn}
 use Rattle.vlm_marks.specs.Nodes.{HasRoomFor, is_marked, is_node}
 use Rattle.vlm_words.specs.State.{Process as PlainProcess}
 use Rattle.vlm_words.specs.Pending.{is_pending_on}
 use Rattle.vlm_words.specs.Rundown.{is_of_node}
-use Rattle.vlm_store.specs.declared.processes.Process.{Process}
-use Rattle.vlm_store.specs.Holdings.{pid_at}
+use Rattle.vlm_records.specs.declared.processes.Process.{Process}
+use Rattle.vlm_records.specs.Kin.{pid_at}
+use Rattle.vlm_records.specs.Pending.{is_waiting}
 use Rattle.vlm_store.specs.Records.{StoredProcess}
 
--- the process is of one of the eight nodes, and an AST is pending
-abbrev pub is_waiting : Process → Bool
-is_waiting p = is_node (p.pid / 65536) && nat_lt 0 (length p.asts.pending)
-
--- the same, where there is a process
+-- there is a process of one of the eight nodes, and it has an AST pending
 abbrev pub waits_in : Option Process → Bool
 waits_in None = false
 waits_in (Some p) = is_waiting p
@@ -23,16 +20,6 @@ waits_in (Some p) = is_waiting p
 abbrev pub is_of_nodes : Option Process → Bool
 is_of_nodes None = false
 is_of_nodes (Some p) = is_node (p.pid / 65536)
-
--- the process is marked just where it has an AST pending, and there is room for its mark
-pub record IsToldOf (p : Process) (marks : List (List Bool)) : Type 0 where
-  pub told : is_marked marks p.pid ≡ is_waiting p
-  pub room : HasRoomFor marks p.pid
-
--- no mark changes but that of the process with this identification, and no room goes
-pub record OthersStay (pid : ℕ) (old new : List (List Bool)) : Type 0 where
-  pub marks : (other : ℕ) → ¬ (other ≡ pid) → is_marked new other ≡ is_marked old other
-  pub room : (other : ℕ) → HasRoomFor old other → HasRoomFor new other
 
 -- marked are just the processes of which this is to be told, and there is room to mark each process
 pub record IsMarked (tells : Option Process → Bool) (processes : Slab Process) (marks : List (List Bool)) : Type 0 where

@@ -18,9 +18,9 @@ use Rattle.vlm_words.specs.State.{Process}
 use Rattle.vlm_words.specs.ValueBlocks.{new_value_block}
 use Rattle.vlm_words.specs.declared.resources.Key.{Key}
 use Rattle.vlm_words.specs.declared.resources.Site.{Site}
-use Rattle.vlm_store.specs.declared.handles.Place.{Place}
-use Rattle.vlm_store.specs.declared.handles.Place.TheVariants.{Loose, Queued}
-use Rattle.vlm_store.specs.declared.processes.Authorization.{Authorization}
+use Rattle.vlm_records.specs.declared.handles.Place.{Place}
+use Rattle.vlm_records.specs.declared.handles.Place.TheVariants.{Loose, Queued}
+use Rattle.vlm_records.specs.declared.processes.Authorization.{Authorization}
 use Rattle.vlm_words.specs.declared.resources.ValueBlock.{ValueBlock}
 
 -- a lock under its handle

@@ -7,12 +7,12 @@ use Rattle.vlm_links.specs.Lists.{handles_of}
 use Rattle.vlm_words.specs.declared.locks.Row.{Row}
 use Rattle.vlm_words.specs.declared.resources.Queue.TheVariants.{Granted, Conversion, Waiting}
 use Rattle.vlm_words.specs.declared.resources.Key.{Key}
-use Rattle.vlm_store.specs.declared.handles.Place.{Place}
-use Rattle.vlm_store.specs.declared.handles.Place.TheVariants.{Loose, Queued}
-use Rattle.vlm_store.specs.declared.queues.Queues.{Queues}
-use Rattle.vlm_store.specs.declared.resources.InOrder.{InOrder}
+use Rattle.vlm_records.specs.declared.handles.Place.{Place}
+use Rattle.vlm_records.specs.declared.handles.Place.TheVariants.{Loose, Queued}
+use Rattle.vlm_records.specs.declared.queues.Queues.{Queues}
+use Rattle.vlm_records.specs.declared.resources.InOrder.{InOrder}
 use Rattle.vlm_store.specs.Records.{Records, Room, Rooms, StoredLock, StoredProcess, StoredResource}
-use Rattle.vlm_store.specs.Shown.{Face, face_in, handles_at, lkid_of, order_links, room_in, rows}
+use Rattle.vlm_records.specs.Shown.{Face, face_in, handles_at, lkid_of, order_links, room_in, rows}
 
 -- what stands under each handle, the handles at each place, the resources in order of making, the processes, and what
 -- room there is

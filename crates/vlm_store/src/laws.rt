@@ -7,7 +7,7 @@ ghost use Rattle.vlm_words.specs.declared.resources.Queue.{Queue};
 ghost use Rattle.vlm_words.specs.declared.resources.Site.{Site};
 ghost use Rattle.vlm_words.specs.declared.steps.Declaration.{Declaration};
 ghost use Rattle.vlm_links.specs.Lists.{IsIn};
-ghost use Rattle.vlm_store.specs.declared.handles.Place.{Place};
+ghost use Rattle.vlm_records.specs.declared.handles.Place.{Place};
 ghost use Rattle.vlm_store.specs.Records.{Records, HasProcess, HasResource, IsSound, IsStored, joined_by, moving, new_stored_resource, new_stored_process, on_resource, with_lists, with_new_lock, without_lock, without_process, without_resource, without_stored_lock};
 
 use crate::store::Store;

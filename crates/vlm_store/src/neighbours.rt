@@ -4,8 +4,8 @@ ghost use Rattle.std.specs.Prelude.{◌≡◌, ℕ, None};
 ghost use Rattle.vlm_links.specs.Lists.{IsIn, first_handle, handle_after, handle_before, last_handle};
 ghost use Rattle.vlm_store.specs.Records.{HasNoParent, HasProcess, IsStored, own_handles_at, sublocks_at};
 
-use crate::handles::{LockAt, ProcAt};
 use crate::store::Store;
+use vlm_records::{LockAt, ProcAt};
 
 impl Store {
     /// The handle of the first lock that a process made, of those that it has, if it has any.

@@ -8,11 +8,10 @@ ghost use Rattle.vlm_words.specs.StatusBlocks.{new_status_block, process_with_bl
 ghost use Rattle.vlm_store.specs.Pending.{IsFirstLiving};
 ghost use Rattle.vlm_store.specs.Records.{FindsProcess, HasNoLocks, HasNoSublocks, HasProcess, HasRoomForProcess, IsGivenBack, IsNewProcess, IsProcess, IsSound, IsStored, IsTaken, IsUnchanged, authorization_of, new_stored_process, on_process, on_stored, owed_less, owed_more, own_at, owned_by, process_at, with_owed_ast, with_process_room, without_process};
 
-use crate::handles::{LockAt, ProcAt};
-use crate::processes::{Process, put_in, take_out};
 use crate::store::Store;
 use std::alloc::AllocError;
 use vlm_links::reserve_one;
+use vlm_records::{LockAt, ProcAt, Process, put_in, take_out};
 use vlm_words::asts::Ast;
 use vlm_words::blocks::Block;
 use vlm_words::steps::Declaration;

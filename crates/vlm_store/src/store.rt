@@ -5,24 +5,22 @@ ghost use Rattle.std.specs.List.{list_any};
 ghost use Rattle.std.specs.Option.{ForSome};
 ghost use Rattle.vlm_words.specs.declared.locks.Row.{Row};
 ghost use Rattle.vlm_links.specs.Lists.{IsIn};
-ghost use Rattle.vlm_store.specs.declared.handles.Place.{Place};
+ghost use Rattle.vlm_records.specs.declared.handles.Place.{Place};
 ghost use Rattle.vlm_words.specs.Asts.{has_to_warn, keeps_out};
 ghost use Rattle.vlm_store.specs.Plain.{plain_resource};
 ghost use Rattle.vlm_store.specs.Records.{FindsLock, FindsResource, HasNoSublocks, HasPlace, HasResource, HasRoomForLock, HasRoomForResource, IsGivenBack, IsTaken, IsUnchanged, IsParentOf, IsProcess, at_after, disarming, first_at, first_resource_at, fits_beside, resource_at_after, resource_at, rows_of_locks, IsIdle, IsNewKey, IsNewLock, IsRowOf, IsSound, IsStored, Stores, locks_at, moving, new_stored_resource, nothing, on_resource, with_lists, with_lock_room, with_new_lock, with_resource_room, without_resource, without_stored_lock};
 ghost use Rattle.vlm_store.specs.Total.{lock_total};
 
-use crate::handles::{LockAt, Place, ProcAt, ResAt};
-use crate::kin::{join_parent, join_process, leave_parent, leave_process};
-use crate::locks::Lock;
-use crate::processes::Process;
-use crate::queues::Queues;
-use crate::resources::{InOrder, Resource};
 use indexmap::IndexMap;
 use slab::Slab;
 use std::alloc::{AllocError, Global};
 use std::marker::Model;
 use vlm_links::{LinkedList, reserve_one};
 use vlm_marks::NodeMarks;
+use vlm_records::{
+    InOrder, Lock, LockAt, Place, ProcAt, Process, Queues, ResAt, Resource, join_parent,
+    join_process, leave_parent, leave_process,
+};
 use vlm_words::locks::Row;
 use vlm_words::modes::Mode;
 use vlm_words::resources::{Key, Site, ValueBlock};

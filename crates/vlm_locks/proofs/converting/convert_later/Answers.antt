@@ -1,4 +1,4 @@
-use Rattle.vlm_store.specs.declared.handles.Place.TheVariants.{Queued}
+use Rattle.vlm_records.specs.declared.handles.Place.TheVariants.{Queued}
 use Rattle.vlm_locks.proofs.OtherLocks.{moved_alone}
 use Rattle.std.proofs.Common.{IfSome, refl, sym, subst}
 use Rattle.vlm_words.specs.declared.resources.Queue.TheVariants.{Conversion}

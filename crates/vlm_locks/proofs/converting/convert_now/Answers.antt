@@ -3,7 +3,7 @@ use Rattle.vlm_locks.proofs.OtherLocks.{block_alone, locks_stay_over, moved_alon
 use Rattle.std.proofs.Common.{◌≡◌, ◌+◌, ℕ, IfSome, IsSome, sym, ap, ◌∙◌, subst}
 use Rattle.vlm_words.specs.declared.resources.Queue.TheVariants.{Granted}
 use Rattle.vlm_words.specs.declared.locks.Row.{Row}
-use Rattle.vlm_store.specs.declared.handles.Place.TheVariants.{Queued}
+use Rattle.vlm_records.specs.declared.handles.Place.TheVariants.{Queued}
 use Rattle.vlm_words.specs.Grants.{granted_row}
 use Rattle.vlm_store.specs.Records.{IsProcess, IsSameLock, moving, resource_at, with_lists}
 use Rattle.vlm_locks.specs.Converting.{IsConvertedAtOnce, moved_in}

@@ -1,7 +1,7 @@
 use Rattle.std.proofs.Common.{refl, ap, ◌∙◌}
 use Rattle.vlm_words.specs.declared.resources.Queue.TheVariants.{Granted, Waiting}
 use Rattle.vlm_words.specs.Grants.{granted_row}
-use Rattle.vlm_store.specs.declared.handles.Place.TheVariants.{Queued}
+use Rattle.vlm_records.specs.declared.handles.Place.TheVariants.{Queued}
 use Rattle.vlm_store.specs.Records.{moving, with_lists}
 use Rattle.vlm_locks.proofs.Entered.{entered_by, joins_granted, joins_waiting, there_still}
 use Rattle.vlm_locks.proofs.Paying.{due_entered}

@@ -2,7 +2,7 @@ use Rattle.std.proofs.Common.{ℕ, Option, Some, length, sym, ap, ◌∙◌, sub
 use Rattle.vlm_links.specs.Lists.{IsIn}
 use Rattle.vlm_words.specs.Withdrawals.{Withdrawal}
 use Rattle.vlm_words.specs.declared.resources.Queue.TheVariants.{Granted}
-use Rattle.vlm_store.specs.declared.handles.Place.TheVariants.{Queued}
+use Rattle.vlm_records.specs.declared.handles.Place.TheVariants.{Queued}
 use Rattle.vlm_store.specs.Records.{IsSound, SameButNotices, StoredLock, locks_at, own_handles_at}
 use Rattle.vlm_locks.specs.Owing.{OwedMoves, left_row}
 use Rattle.vlm_locks.specs.Withdrawing.{goes}

@@ -1,5 +1,5 @@
 use Rattle.std.proofs.Common.{length}
-use Rattle.vlm_store.specs.declared.handles.Place.TheVariants.{Queued}
+use Rattle.vlm_records.specs.declared.handles.Place.TheVariants.{Queued}
 use Rattle.vlm_store.specs.Records.{locks_at}
 use Rattle.vlm_locks.specs.Owing.{IsPaid}
 use Rattle.vlm_locks.proofs.Granting.{IsServing}

@@ -1,6 +1,6 @@
 use Rattle.vlm_words.specs.Withdrawals.{row_after_cancel}
 use Rattle.vlm_words.specs.declared.resources.Queue.TheVariants.{Granted}
-use Rattle.vlm_store.specs.declared.handles.Place.TheVariants.{Queued}
+use Rattle.vlm_records.specs.declared.handles.Place.TheVariants.{Queued}
 use Rattle.vlm_store.specs.Records.{Records}
 use Rattle.vlm_locks.specs.Rest.{OtherLocksStay}
 use Rattle.vlm_locks.proofs.OtherLocks.{moved_alone}

@@ -1,4 +1,4 @@
-use Rattle.vlm_store.specs.declared.processes.Authorization.{Authorization}
+use Rattle.vlm_records.specs.declared.processes.Authorization.{Authorization}
 use Rattle.vlm_procs.proofs.Authorized.{told_is}
 use Rattle.vlm_procs.proofs.authorizations.group_of.Goals as goal
 

@@ -1,5 +1,5 @@
 use Rattle.std.proofs.Common.{false}
-use Rattle.vlm_store.specs.declared.processes.Authorization.{Authorization}
+use Rattle.vlm_records.specs.declared.processes.Authorization.{Authorization}
 use Rattle.vlm_procs.proofs.Authorized.{told_is}
 use Rattle.vlm_procs.proofs.authorizations.has_syslck.Goals as goal
 

@@ -1,5 +1,5 @@
 use Rattle.std.proofs.Common.{sym, ◌∙◌}
-use Rattle.vlm_store.specs.declared.handles.Place.TheVariants.{Queued}
+use Rattle.vlm_records.specs.declared.handles.Place.TheVariants.{Queued}
 use Rattle.vlm_store.specs.Records.{IsStored, locks_at}
 use native.Mathlib.Numerals.{unary_clauses}
 use Rattle.vlm_queue.proofs.Indexed.{if_some, lock_after-index, lock_index-among}

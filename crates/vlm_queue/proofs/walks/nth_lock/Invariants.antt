@@ -1,5 +1,5 @@
 use Rattle.std.proofs.Common.{◌≡◌}
-use Rattle.vlm_store.specs.declared.handles.Place.TheVariants.{Queued}
+use Rattle.vlm_records.specs.declared.handles.Place.TheVariants.{Queued}
 use Rattle.vlm_store.specs.Records.{locks_at}
 use Rattle.vlm_queue.specs.Walks.{lock_at_index}
 use Rattle.vlm_queue.proofs.walks.nth_lock.Given as goal

@@ -8,15 +8,15 @@ use Rattle.indexmap.specs.IndexMap.{get, spare}
 use Rattle.vlm_links.proofs.Keeping.{vacant_unlisted}
 use Rattle.vlm_links.specs.Lists.{IsIn}
 use Rattle.vlm_words.specs.Keys.{is_same_key}
-use Rattle.vlm_store.specs.declared.handles.Place.{Place}
-use Rattle.vlm_store.specs.declared.handles.Place.TheVariants.{Loose}
-use Rattle.vlm_store.specs.declared.locks.Lock.{Lock}
-use Rattle.vlm_store.specs.Holdings.{pid_at}
+use Rattle.vlm_records.specs.declared.handles.Place.{Place}
+use Rattle.vlm_records.specs.declared.handles.Place.TheVariants.{Loose}
+use Rattle.vlm_records.specs.declared.locks.Lock.{Lock}
+use Rattle.vlm_records.specs.Kin.{pid_at}
 use Rattle.vlm_store.specs.Kept.{beside_shown}
 use Rattle.vlm_store.specs.Records.{process_with_lock, HasRoom, IsTaken, with_new_lock}
-use Rattle.vlm_store.specs.Shown.{but_queues, handles_at, list_at, lkid_of, queue_links, row_in}
+use Rattle.vlm_records.specs.Shown.{but_queues, handles_at, list_at, lkid_of, queue_links, row_in}
 use Rattle.vlm_store.specs.Store.{key_at, lkid_at, records_of, tables}
-use Rattle.vlm_store.proofs.Arming.{armed_kin, armed_reserved}
+use Rattle.vlm_records.proofs.Arming.{armed_kin, armed_reserved}
 use Rattle.vlm_store.proofs.Indexing.{Indexes-added, Indexes-same}
 use Rattle.vlm_store.proofs.Joining.{new_lkid, other_lkids, joined_kin, joined_lkids, joined_named, joined_owned, joined_processes, linked_parent_there, new_below, new_owned, owner_was_there}
 use Rattle.vlm_store.proofs.Kept.{faces_same, no_lock, on_err, on_ok, reserved_handles, reserved_placed, stored_there}

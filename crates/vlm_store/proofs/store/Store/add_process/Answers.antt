@@ -12,22 +12,23 @@ use Rattle.vlm_links.proofs.Keeping.{vacant_unlisted}
 use Rattle.vlm_links.proofs.Rings.{same-handles, same-linked}
 use Rattle.vlm_words.specs.Declare.{new_process}
 use Rattle.vlm_words.specs.State.{Process as PlainProcess}
-use Rattle.vlm_store.specs.declared.locks.Lock.{Lock}
-use Rattle.vlm_store.specs.declared.processes.Process.{Process}
-use Rattle.vlm_store.specs.Holdings.{but_order, faced, holding, own_in, own_links, own_of, pid_at, pid_of, process_links, process_under}
+use Rattle.vlm_records.specs.declared.locks.Lock.{Lock}
+use Rattle.vlm_records.specs.declared.processes.Process.{Process}
+use Rattle.vlm_records.specs.Kin.{but_order, own_in, own_links, pid_at, pid_of, process_links}
+use Rattle.vlm_store.specs.Holdings.{faced, holding, own_of, process_under}
 use Rattle.vlm_store.specs.Kept.{beside_shown}
 use Rattle.vlm_store.specs.Records.{HasRoom, StoredProcess, new_stored_process, IsTaken}
 use Rattle.vlm_store.proofs.Declaring.{names_stay, owner_is_there, owns_stay, more_marks, own_by_order, pid_by_order, face_by_order, process_own_handles, process_owned, roomier}
 use Rattle.vlm_store.proofs.Indexing.{Indexes-added, Indexes-same}
 use Rattle.vlm_store.proofs.Kept.{on_ok, on_err}
-use Rattle.vlm_store.proofs.Kinship.{processes_changed, there_by_part}
+use Rattle.vlm_store.proofs.Kinship.{processes_changed}
+use Rattle.vlm_records.proofs.Places.{there_by_part, no_list_is}
 use Rattle.vlm_store.proofs.Living.{no_process_found, process_named, process_there}
 use Rattle.vlm_store.proofs.Marked.{added_marked, and_true, grown_marked, nodes_of_pid, nodes_same, none_written, unmarked, waits_by_order, waits_not, written_others}
 use Rattle.vlm_marks.specs.Nodes.{is_node}
 use Rattle.vlm_store.specs.Pending.{is_of_nodes, waits_in}
-use Rattle.vlm_store.proofs.Making.{whole_grown}
+use Rattle.vlm_records.proofs.Making.{whole_grown}
 use Rattle.vlm_store.proofs.Members.{process_made}
-use Rattle.vlm_store.proofs.Places.{no_list_is}
 use Rattle.vlm_store.proofs.store.Store.add_process.Goals as goal
 
 pub invariant_of-self : goal.invariant_of-self

@@ -7,23 +7,21 @@ use Rattle.indexmap.specs.IndexMap.{get, spare}
 use Rattle.vlm_links.proofs.Keeping.{vacant_unlisted}
 use Rattle.vlm_links.proofs.Rings.{same-handles, same-linked}
 use Rattle.vlm_words.specs.declared.resources.Queue.TheVariants.{Granted, Conversion, Waiting}
-use Rattle.vlm_store.specs.declared.handles.Place.TheVariants.{Queued}
-use Rattle.vlm_store.specs.declared.resources.Resource.{Resource}
+use Rattle.vlm_records.specs.declared.handles.Place.TheVariants.{Queued}
+use Rattle.vlm_records.specs.declared.resources.Resource.{Resource}
 use Rattle.vlm_words.specs.Keys.{is_same_key, is_same_key-Decides}
 use Rattle.vlm_store.specs.Records.{new_stored_resource, HasRoom, IsTaken}
-use Rattle.vlm_store.specs.Shown.{Face, face_in, lkid_of, new_face, order_links, row_in, room_in}
+use Rattle.vlm_records.specs.Shown.{Face, face_in, lkid_of, new_face, order_links, row_in, room_in, but_queued}
 use Rattle.vlm_store.specs.Store.{key_at, lkid_at, resource_of, tables, records_of}
-use Rattle.vlm_store.specs.Armed.{armed_list_in}
-use Rattle.vlm_store.proofs.Arming.{armed_resources}
+use Rattle.vlm_records.specs.Armed.{armed_list_in}
+use Rattle.vlm_records.proofs.Arming.{armed_resources}
 use Rattle.vlm_store.proofs.Indexing.{Indexes-added, Indexes-same}
-use Rattle.vlm_store.proofs.Kept.{no_resource, on_ok}
+use Rattle.vlm_store.proofs.Kept.{no_resource, on_ok, on_err}
 use Rattle.vlm_store.proofs.Layouts.{HasResource-order, resource_made}
-use Rattle.vlm_store.proofs.Making.{face_by_face, face_is, key_by_face, none_handles, there_by_face, whole_grown, reserved_lists, resources_handles, resources_placed}
+use Rattle.vlm_records.proofs.Making.{face_by_face, face_is, key_by_face, none_handles, there_by_face, whole_grown, reserved_lists, resources_handles, resources_placed}
 use Rattle.vlm_store.specs.Kept.{beside_shown}
-use Rattle.vlm_store.specs.Shown.{but_queued}
 use Rattle.vlm_store.proofs.Kinship.{queued_below, queued_named, queued_owned, queued_processes}
-use Rattle.vlm_store.proofs.Places.{same_eq}
-use Rattle.vlm_store.proofs.Kept.{on_err}
+use Rattle.vlm_records.proofs.Places.{same_eq}
 use Rattle.vlm_store.proofs.store.Store.add_resource.Goals as goal
 
 pub invariant_of-self : goal.invariant_of-self

@@ -3,7 +3,7 @@ use Rattle.indexmap.specs.IndexMap.{get}
 use Rattle.vlm_words.specs.Keys.{is_same_key}
 use Rattle.vlm_store.specs.Kept.{beside_shown}
 use Rattle.vlm_store.specs.Records.{disarming}
-use Rattle.vlm_store.specs.Shown.{but_queues, handles_at, rows}
+use Rattle.vlm_records.specs.Shown.{but_queues, handles_at, rows}
 use Rattle.vlm_store.specs.Store.{key_at, lkid_at, tables, under_handle}
 use Rattle.vlm_store.proofs.Indexing.{Indexes-same}
 use Rattle.vlm_store.proofs.Kept.{faces_same}

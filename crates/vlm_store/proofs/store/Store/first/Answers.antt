@@ -1,6 +1,6 @@
 use Rattle.vlm_store.proofs.Living.{is_sound}
 use Rattle.std.proofs.Common.{◌∙◌, sym}
-use Rattle.vlm_store.specs.Shown.{handles_at, rows}
+use Rattle.vlm_records.specs.Shown.{handles_at, rows}
 use Rattle.vlm_store.specs.Store.{tables}
 use Rattle.vlm_links.proofs.Walks.{first_handle-in}
 use Rattle.vlm_store.proofs.Layouts.{HasPlace-seen, under_handle-first, locks_at-seen}

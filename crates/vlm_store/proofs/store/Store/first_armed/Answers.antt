@@ -1,9 +1,9 @@
 use Rattle.std.proofs.Common.{◌∙◌, ap, sym}
 use Rattle.vlm_links.specs.Lists.{first_handle}
 use Rattle.vlm_links.proofs.Walks.{first_handle-in}
-use Rattle.vlm_store.specs.Armed.{armed_list_handles}
+use Rattle.vlm_records.specs.Armed.{armed_list_handles}
 use Rattle.vlm_store.specs.Records.{first_at}
-use Rattle.vlm_store.specs.Shown.{rows}
+use Rattle.vlm_records.specs.Shown.{rows}
 use Rattle.vlm_store.proofs.ArmedSeen.{armed_listed, armed_shown, resource_is_there}
 use Rattle.vlm_store.proofs.Layouts.{under_handle-first}
 use Rattle.vlm_store.proofs.store.Store.first_armed.Goals as goal

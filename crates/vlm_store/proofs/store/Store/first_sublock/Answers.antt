@@ -1,7 +1,7 @@
 use Rattle.std.proofs.Common.{◌∙◌, ap, sym}
 use Rattle.vlm_links.specs.Lists.{first_handle}
 use Rattle.vlm_links.proofs.Walks.{first_handle-in}
-use Rattle.vlm_store.specs.Holdings.{below_handles}
+use Rattle.vlm_records.specs.Kin.{below_handles}
 use Rattle.vlm_store.proofs.Living.{lock_there}
 use Rattle.vlm_store.proofs.Siblings.{below_listed, sublocks_is}
 use Rattle.vlm_store.proofs.store.Store.first_sublock.Goals as goal

@@ -4,7 +4,7 @@ use Rattle.vlm_words.specs.declared.locks.Row.{Row}
 use Rattle.vlm_links.specs.Lists.{IsIn}
 use Rattle.vlm_store.specs.Kept.{beside_shown, records_shown}
 use Rattle.vlm_store.specs.Records.{IsProcess, Records, StoredLock, Stores, locks_at}
-use Rattle.vlm_store.specs.Shown.{noted_in, row_in}
+use Rattle.vlm_records.specs.Shown.{noted_in, row_in}
 use Rattle.vlm_store.specs.Store.{records_of, tables}
 use Rattle.vlm_store.proofs.Kept.{stored_there, there_stored}
 use Rattle.vlm_store.proofs.Layouts.{HasPlace-among, locks_at-among}

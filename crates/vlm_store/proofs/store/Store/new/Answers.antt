@@ -1,16 +1,16 @@
 use Rattle.std.proofs.Common.{◌≡◌, ℕ, None, refl, ap, nat_eq}
 use Rattle.slab.specs.Slab.{get}
-use Rattle.vlm_store.specs.Shown.{lkid_of}
+use Rattle.vlm_records.specs.Shown.{lkid_of}
 use Rattle.std.specs.Map.{lookup}
 use Rattle.std.specs.Option.{option_map}
 use Rattle.indexmap.specs.IndexMap.{get as found}
-use Rattle.vlm_store.specs.declared.queues.Queues.{Queues}
-use Rattle.vlm_store.specs.declared.resources.Resource.{Resource}
+use Rattle.vlm_records.specs.declared.queues.Queues.{Queues}
+use Rattle.vlm_records.specs.declared.resources.Resource.{Resource}
 use Rattle.vlm_words.specs.Keys.{is_same_key}
-use Rattle.vlm_store.specs.Holdings.{pid_at, pid_of}
+use Rattle.vlm_records.specs.Kin.{pid_at, pid_of}
 use Rattle.vlm_store.proofs.Declaring.{empty_below, empty_named, empty_owned, empty_processes, empty_processes_linked, empty_processes_ordered}
 use Rattle.vlm_store.specs.Store.{key_at, lkid_at}
-use Rattle.vlm_store.proofs.Arming.{empty_armed}
+use Rattle.vlm_records.proofs.Arming.{empty_armed}
 use Rattle.vlm_store.proofs.Kept.{Indexes-empty, empty_handles, empty_linked, empty_ordered, empty_placed, empty_records, empty_tallied}
 use Rattle.vlm_store.specs.Pending.{is_of_nodes, waits_in}
 use Rattle.vlm_store.proofs.Marked.{empty_marked}

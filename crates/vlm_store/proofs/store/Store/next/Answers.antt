@@ -2,7 +2,7 @@ use Rattle.std.proofs.Common.{◌≡◌, ◌∙◌, ap, sym, subst}
 use Rattle.std.proofs.lemmas.Option.{none-some, same_Some}
 use Rattle.vlm_links.specs.Lists.{IsIn}
 use Rattle.vlm_store.specs.Records.{Records, StoredLock, locks_at}
-use Rattle.vlm_store.specs.Shown.{handles_at, noted_in, rows}
+use Rattle.vlm_records.specs.Shown.{handles_at, noted_in, rows}
 use Rattle.vlm_store.specs.Store.{tables}
 use Rattle.vlm_store.proofs.Kept.{stored_there}
 use Rattle.vlm_links.proofs.Walks.{handle_after-in}

@@ -1,9 +1,9 @@
 use Rattle.std.proofs.Common.{◌∙◌, ap, subst, sym}
 use Rattle.vlm_links.specs.Lists.{IsIn, handle_after}
 use Rattle.vlm_links.proofs.Walks.{handle_after-in}
-use Rattle.vlm_store.specs.Armed.{armed_list_handles}
+use Rattle.vlm_records.specs.Armed.{armed_list_handles}
 use Rattle.vlm_store.specs.Records.{at_after}
-use Rattle.vlm_store.specs.Shown.{rows}
+use Rattle.vlm_records.specs.Shown.{rows}
 use Rattle.vlm_store.proofs.ArmedSeen.{armed_at_listed, armed_listed, armed_shown, resource_is_there}
 use Rattle.vlm_store.proofs.Layouts.{under_handle-after}
 use Rattle.vlm_store.proofs.store.Store.next_armed.Goals as goal

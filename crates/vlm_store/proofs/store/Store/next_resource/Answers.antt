@@ -1,6 +1,6 @@
 use Rattle.std.proofs.Common.{◌∙◌, sym}
 use Rattle.vlm_links.specs.Lists.{handles_of}
-use Rattle.vlm_store.specs.Shown.{order_links}
+use Rattle.vlm_records.specs.Shown.{order_links}
 use Rattle.vlm_store.specs.Store.{tables}
 use Rattle.vlm_links.proofs.Walks.{handle_after-in}
 use Rattle.vlm_store.proofs.Layouts.{HasResource-order, resource_after-is}

@@ -2,7 +2,7 @@ use Rattle.std.proofs.Common.{◌∙◌, ap, sym, subst}
 use Rattle.std.proofs.lemmas.Option.{none-some}
 use Rattle.vlm_links.specs.Lists.{IsIn, handle_before}
 use Rattle.vlm_links.proofs.Walks.{handle_before-in}
-use Rattle.vlm_store.specs.Holdings.{below_handles, parent_in}
+use Rattle.vlm_records.specs.Kin.{below_handles, parent_in}
 use Rattle.vlm_store.proofs.Living.{lock_there}
 use Rattle.vlm_store.proofs.Siblings.{below_listed, below_of_lock, seen_below, unseen_below}
 use Rattle.vlm_store.proofs.store.Store.previous_sublock.Goals as goal

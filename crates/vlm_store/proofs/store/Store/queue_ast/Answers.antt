@@ -1,5 +1,6 @@
 use Rattle.std.proofs.Common.{◌<◌, ap, subst}
-use Rattle.vlm_store.specs.declared.processes.Process.{Process}
+use Rattle.vlm_records.specs.Kin.{process_links}
+use Rattle.vlm_records.specs.declared.processes.Process.{Process}
 use Rattle.vlm_store.specs.Holdings.{faced, process_face, process_face_in}
 use Rattle.vlm_store.specs.Records.{with_owed_ast}
 use Rattle.vlm_store.proofs.Living.{process_is, process_there}
@@ -25,7 +26,7 @@ invariant_of-self c =
     let queued = c.queue_ast.ensures.queued in
     rw c.slot.ensures
     (written_kept c.self.inside c.self.invariant c.args.at c.index_mut.result.now c.queue_ast.new.self (rw c.slot.ensures at c.index_mut.ensures.value)
-    (ap (λ (p : Process). p.own) queued) (ap (λ (p : Process). p.in_order) queued) (ap (λ (p : Process). p.pid) queued)
+    (ap (λ (p : Process). p.own) queued) (ap process_links queued) (ap (λ (p : Process). p.pid) queued)
     c.queue_ast.new.pending c.queue_ast.ensures.told c.queue_ast.ensures.others)
 
 pub returns : goal.returns
@@ -33,5 +34,5 @@ returns c =
     let queued = c.queue_ast.ensures.queued in
     rw (← c.self.view_is, c.slot.ensures)
     (rewritten_shown c.self.inside c.self.invariant c.args.at c.index_mut.result.now c.queue_ast.new.self (rw c.slot.ensures at c.index_mut.ensures.value)
-    (ap (λ (p : Process). p.own) queued) (ap (λ (p : Process). p.in_order) queued) (ap (λ (p : Process). p.pid) queued)
+    (ap (λ (p : Process). p.own) queued) (ap process_links queued) (ap (λ (p : Process). p.pid) queued)
     (with_owed_ast c.args.ast) (λ locks. ap (λ (p : Process). faced c.args.at (process_face p) locks) queued))

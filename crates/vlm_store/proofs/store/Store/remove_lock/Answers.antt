@@ -5,12 +5,12 @@ use Rattle.std.specs.Option.{option_map}
 use Rattle.indexmap.specs.IndexMap.{get, spare}
 use Rattle.vlm_links.specs.Lists.{without}
 use Rattle.vlm_words.specs.Keys.{is_same_key}
-use Rattle.vlm_store.specs.Holdings.{below_handles, pid_at}
+use Rattle.vlm_records.specs.Kin.{below_handles, pid_at}
 use Rattle.vlm_store.specs.Kept.{beside_shown}
 use Rattle.vlm_store.specs.Records.{leaving, process_without_lock, with_lists, IsGivenBack, without_stored_lock}
-use Rattle.vlm_store.specs.Shown.{but_kin, but_queues, handles_at, lkid_of, rows}
+use Rattle.vlm_records.specs.Shown.{but_kin, but_queues, handles_at, lkid_of, rows}
 use Rattle.vlm_store.specs.Store.{key_at, lkid_at, records_of, tables}
-use Rattle.vlm_store.proofs.Arming.{armed_kin}
+use Rattle.vlm_records.proofs.Arming.{armed_kin}
 use Rattle.vlm_store.proofs.Indexing.{Indexes-removed, Indexes-same}
 use Rattle.vlm_store.proofs.Kept.{faces_same}
 use Rattle.vlm_store.specs.Pending.{is_of_nodes, waits_in}
@@ -19,7 +19,7 @@ use Rattle.vlm_store.proofs.Kinship.{below_kin, below_owned, kin_handles, kin_pl
 use Rattle.vlm_store.proofs.Layouts.{leaving-under_handle, lists_changed_beside}
 use Rattle.vlm_store.proofs.Leaving.{left_below, left_kin, left_lkids, left_named, left_owned, left_processes}
 use Rattle.vlm_store.proofs.Living.{childless, lock_there}
-use Rattle.vlm_store.proofs.Places.{same_then}
+use Rattle.vlm_records.proofs.Places.{same_then}
 use Rattle.vlm_store.proofs.store.Store.remove_lock.Goals as goal
 use Rattle.vlm_store.proofs.Order.{keys_same, order_handles, order_linked, order_whole}
 

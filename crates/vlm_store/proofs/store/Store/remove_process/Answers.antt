@@ -7,15 +7,17 @@ use Rattle.std.specs.Cmp.{unsigned_Decides}
 use Rattle.std.specs.Option.{option_map}
 use Rattle.slab.specs.Slab.{get}
 use Rattle.vlm_links.specs.Lists.{IsIn}
-use Rattle.vlm_store.specs.declared.locks.Lock.{Lock}
-use Rattle.vlm_store.specs.Holdings.{but_order, holding, own_in, own_handles, own_of, owner_in, pid_at, pid_of, process_links}
+use Rattle.vlm_records.specs.declared.locks.Lock.{Lock}
+use Rattle.vlm_records.specs.Kin.{but_order, own_in, own_handles, owner_in, pid_at, pid_of, process_links}
+use Rattle.vlm_store.specs.Holdings.{holding, own_of}
 use Rattle.vlm_store.specs.Kept.{beside_shown}
 use Rattle.vlm_store.specs.Records.{without_process, IsGivenBack}
 use Rattle.vlm_store.proofs.Declaring.{names_stay, no_own, owns_stay, pid_by_order, face_by_order, process_own_handles, process_owned}
 use Rattle.vlm_store.proofs.Indexing.{Indexes-removed}
-use Rattle.vlm_store.proofs.Kinship.{processes_changed, there_by_part}
+use Rattle.vlm_store.proofs.Kinship.{processes_changed}
+use Rattle.vlm_records.proofs.Places.{there_by_part}
 use Rattle.vlm_store.proofs.Living.{held, own_is, process_listed, process_there}
-use Rattle.vlm_store.proofs.Making.{map-nil, whole_left}
+use Rattle.vlm_records.proofs.Making.{map-nil, whole_left}
 use Rattle.vlm_store.specs.Pending.{is_of_nodes, waits_in}
 use Rattle.vlm_store.proofs.Marked.{nodes_same, pids_apart, removed_marked, waits_by_order}
 use Rattle.vlm_store.proofs.Members.{process_removed}

@@ -4,18 +4,17 @@ use Rattle.std.proofs.Common.{None, ◌∙◌, ap, sym, refl, nat_eq, ◌≡◌}
 use Rattle.std.specs.Option.{option_map}
 use Rattle.slab.specs.Slab.{get as slot_of}
 use Rattle.indexmap.specs.IndexMap.{get, spare}
-use Rattle.vlm_store.specs.declared.handles.Place.TheVariants.{Queued}
-use Rattle.vlm_store.specs.declared.resources.Resource.{Resource}
+use Rattle.vlm_records.specs.declared.handles.Place.TheVariants.{Queued}
+use Rattle.vlm_records.specs.declared.resources.Resource.{Resource}
 use Rattle.vlm_words.specs.Keys.{is_same_key, is_same_key-Decides}
-use Rattle.vlm_store.specs.Shown.{Face, handles_at, lkid_of, order_links, row_in, rows, room_in}
+use Rattle.vlm_records.specs.Shown.{Face, handles_at, lkid_of, order_links, row_in, rows, room_in, but_queued}
 use Rattle.vlm_store.specs.Store.{key_at, under_handle, lkid_at, tables}
 use Rattle.vlm_store.proofs.Indexing.{Indexes-removed, Indexes-same}
 use Rattle.vlm_store.proofs.Layouts.{HasResource-order, locks_at-seen, resource_removed}
-use Rattle.vlm_store.proofs.Making.{face_by_face, key_by_face, map-nil, there_by_face, whole_left}
+use Rattle.vlm_records.proofs.Making.{face_by_face, key_by_face, map-nil, there_by_face, whole_left}
 use Rattle.vlm_store.specs.Kept.{beside_shown, records_shown}
-use Rattle.vlm_store.specs.Shown.{but_queued}
 use Rattle.vlm_store.proofs.Kinship.{queued_below, queued_named, queued_owned, queued_processes}
-use Rattle.vlm_store.proofs.Places.{same_eq}
+use Rattle.vlm_records.proofs.Places.{same_eq}
 use Rattle.vlm_store.proofs.store.Store.remove_resource.Goals as goal
 
 pub index-requires : goal.index-requires

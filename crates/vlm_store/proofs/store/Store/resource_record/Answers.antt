@@ -1,7 +1,7 @@
 use Rattle.vlm_store.proofs.Living.{is_sound}
 use Rattle.std.proofs.Common.{sym, ap}
 use Rattle.vlm_store.specs.Kept.{beside_shown}
-use Rattle.vlm_store.specs.Shown.{face_in}
+use Rattle.vlm_records.specs.Shown.{face_in}
 use Rattle.vlm_store.specs.Store.{tables}
 use Rattle.vlm_store.proofs.Layouts.{HasResource-order, resource_at-found}
 use Rattle.vlm_store.proofs.store.Store.resource_record.Goals as goal

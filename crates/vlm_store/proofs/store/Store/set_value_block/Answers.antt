@@ -4,18 +4,17 @@ use Rattle.std.specs.Option.{option_map}
 use Rattle.slab.specs.Slab.{get as slot_of}
 use Rattle.indexmap.specs.IndexMap.{get}
 use Rattle.vlm_words.specs.declared.resources.Queue.TheVariants.{Granted, Conversion, Waiting}
-use Rattle.vlm_store.specs.declared.handles.Place.TheVariants.{Queued}
+use Rattle.vlm_records.specs.declared.handles.Place.TheVariants.{Queued}
 use Rattle.vlm_words.specs.Keys.{is_same_key}
 use Rattle.vlm_store.specs.Records.{StoredResource}
-use Rattle.vlm_store.specs.Shown.{but_value_block, face_in, lkid_of, room_in, row_in}
+use Rattle.vlm_records.specs.Shown.{but_value_block, face_in, lkid_of, room_in, row_in, but_queued}
 use Rattle.vlm_store.specs.Store.{key_at, lkid_at, tables}
 use Rattle.vlm_store.proofs.Indexing.{Indexes-same}
 use Rattle.vlm_store.proofs.Layouts.{HasResource-order, resource_written}
 use Rattle.vlm_store.proofs.Order.{keys_same, order_handles, order_linked, order_whole}
 use Rattle.vlm_store.specs.Kept.{beside_shown}
-use Rattle.vlm_store.specs.Shown.{but_queued}
 use Rattle.vlm_store.proofs.Kinship.{queued_below, queued_named, queued_owned, queued_processes}
-use Rattle.vlm_store.proofs.Places.{same_eq}
+use Rattle.vlm_records.proofs.Places.{same_eq}
 use Rattle.vlm_store.proofs.store.Store.set_value_block.Goals as goal
 
 pub set_value_block-requires-clause-there : goal.set_value_block-requires-clause-there

@@ -1,8 +1,9 @@
 use Rattle.std.proofs.Common.{◌∙◌, List, sym, ap}
 use Rattle.vlm_words.specs.declared.asts.Ast.{Ast}
 use Rattle.vlm_words.specs.Asts.{oldest, without_oldest_ast}
-use Rattle.vlm_store.specs.declared.processes.Process.{Process}
-use Rattle.vlm_store.specs.Holdings.{plain_process, process_face_in}
+use Rattle.vlm_records.specs.declared.processes.Process.{Process}
+use Rattle.vlm_records.specs.Kin.{plain_process, process_links}
+use Rattle.vlm_store.specs.Holdings.{process_face_in}
 use Rattle.vlm_store.specs.Records.{changed_process}
 use Rattle.vlm_store.proofs.Living.{process_is, process_there}
 use Rattle.vlm_store.proofs.Marked.{told_of}
@@ -21,7 +22,7 @@ invariant_of-self c =
     let rest = c.take_ast.ensures.rest in
     rw c.slot.ensures
     (written_kept c.self.inside c.self.invariant c.args.at c.index_mut.result.now c.take_ast.new.self (rw c.slot.ensures at c.index_mut.ensures.value)
-    (ap (λ (p : Process). p.own) rest) (ap (λ (p : Process). p.in_order) rest) (ap (λ (p : Process). p.pid) rest)
+    (ap (λ (p : Process). p.own) rest) (ap process_links rest) (ap (λ (p : Process). p.pid) rest)
     c.take_ast.new.pending c.take_ast.ensures.told c.take_ast.ensures.others)
 
 pub returns-clause-taken : goal.returns-clause-taken
@@ -36,7 +37,7 @@ returns-clause-left c =
     let rest = c.take_ast.ensures.rest in
     rw (← c.self.view_is, c.slot.ensures)
     (rewritten_shown c.self.inside c.self.invariant c.args.at was now (rw c.slot.ensures at c.index_mut.ensures.value)
-    (ap (λ (p : Process). p.own) rest) (ap (λ (p : Process). p.in_order) rest) (ap (λ (p : Process). p.pid) rest)
+    (ap (λ (p : Process). p.own) rest) (ap process_links rest) (ap (λ (p : Process). p.pid) rest)
     (changed_process without_oldest_ast)
     (changed_face without_oldest_ast was now
     (ap plain_process rest ∙ ap (λ (asts : List Ast). record (plain_process was) { asts = asts }) c.take_ast.ensures.left) c.take_ast.ensures.due c.args.at))

@@ -1,0 +1,46 @@
+use Rattle.vlm_records.proofs.Rooms.{room_relinked, room_taken}
+use Rattle.std.proofs.Common.{ap, ◌∙◌, ◌+◌, ℕ}
+use Rattle.vlm_links.proofs.Keeping.{updated-linked, vacant_unlisted}
+use Rattle.vlm_records.specs.Shown.{order_links, with_order_links}
+use Rattle.vlm_records.proofs.Arming.{armed_resources}
+use Rattle.vlm_records.proofs.Making.{added_armed, added_lists, added_tallies, resources_handles, resources_placed, resources_tallied}
+use Rattle.vlm_records.proofs.queues.Queues.add_resource.Goals as goal
+
+pub push_back-requires-clause-linked : goal.push_back-requires-clause-linked
+push_back-requires-clause-linked c =
+    updated-linked order_links c.args.self.now.resources c.insert_reserved-at.new.self c.insert_reserved-at.result _ c.insert_reserved-at.ensures.updates c.args.order.now c.requires.linked
+    (vacant_unlisted order_links c.args.self.now.resources c.args.order.now c.requires.linked c.insert_reserved-at.result c.insert_reserved-at.ensures.was_vacant)
+
+pub returns-clause-placed : goal.returns-clause-placed
+returns-clause-placed c =
+    resources_placed c.args.self.now c.push_back.new.nodes c.requires.placed
+    (added_lists c.args.self.now c.insert_reserved-at.new.self c.push_back.new.nodes c.insert_reserved-at.result _ c.insert_reserved-at.ensures.updates c.insert_reserved-at.ensures.was_vacant
+    c.push_back.ensures.relinks c.new-2.ensures c.new-3.ensures c.new-4.ensures)
+
+pub returns-clause-tallied : goal.returns-clause-tallied
+returns-clause-tallied c =
+    resources_tallied c.args.self.now c.push_back.new.nodes c.requires.placed
+    (added_lists c.args.self.now c.insert_reserved-at.new.self c.push_back.new.nodes c.insert_reserved-at.result _ c.insert_reserved-at.ensures.updates c.insert_reserved-at.ensures.was_vacant
+    c.push_back.ensures.relinks c.new-2.ensures c.new-3.ensures c.new-4.ensures)
+    (added_tallies c.args.self.now c.insert_reserved-at.new.self c.push_back.new.nodes c.insert_reserved-at.result _ c.insert_reserved-at.ensures.updates c.insert_reserved-at.ensures.was_vacant
+    c.push_back.ensures.relinks c.new-6.ensures) c.requires.tallied
+
+pub returns-clause-armed : goal.returns-clause-armed
+returns-clause-armed c =
+    let q = c.args.self.now in
+    let lists = added_lists q c.insert_reserved-at.new.self c.push_back.new.nodes c.insert_reserved-at.result _ c.insert_reserved-at.ensures.updates c.insert_reserved-at.ensures.was_vacant
+    c.push_back.ensures.relinks c.new-2.ensures c.new-3.ensures c.new-4.ensures in
+    armed_resources q c.push_back.new.nodes
+    (added_armed q c.insert_reserved-at.new.self c.push_back.new.nodes c.insert_reserved-at.result _ c.insert_reserved-at.ensures.updates c.insert_reserved-at.ensures.was_vacant c.push_back.ensures.relinks c.new-5.ensures)
+    (resources_handles q c.push_back.new.nodes c.requires.placed lists) c.requires.armed
+
+pub returns-clause-handles : goal.returns-clause-handles
+returns-clause-handles c =
+    resources_handles c.args.self.now c.push_back.new.nodes c.requires.placed
+    (added_lists c.args.self.now c.insert_reserved-at.new.self c.push_back.new.nodes c.insert_reserved-at.result _ c.insert_reserved-at.ensures.updates c.insert_reserved-at.ensures.was_vacant
+    c.push_back.ensures.relinks c.new-2.ensures c.new-3.ensures c.new-4.ensures)
+
+pub returns-clause-taken : goal.returns-clause-taken
+returns-clause-taken c =
+    ap (λ (p : ℕ × ℕ). p.0 + 1) (room_relinked with_order_links c.insert_reserved-at.new.self c.push_back.new.nodes c.push_back.ensures.relinks)
+    ∙ room_taken c.args.self.now.resources c.insert_reserved-at.new.self c.requires.room c.insert_reserved-at.ensures.len c.insert_reserved-at.ensures.capacity

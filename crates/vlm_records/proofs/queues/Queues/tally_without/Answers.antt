@@ -1,0 +1,31 @@
+use Rattle.std.proofs.Common.{◌∙◌, ap, sym, arith}
+use Rattle.vlm_records.specs.Shown.{tally_in}
+use Rattle.vlm_tallies.specs.Tallies.{how_many, weight_of}
+use Rattle.vlm_tallies.specs.Tallies.Count.{of_held}
+use Rattle.vlm_records.proofs.Counting.{own_weighs}
+use Rattle.vlm_records.proofs.queues.Queues.tally_without.Goals as goal
+
+pub counted_out-requires : goal.counted_out-requires
+counted_out-requires c count mode =
+    omega (
+      arith,
+      ap (λ slot. how_many count (tally_in slot) mode) (rw c.slot.ensures at c.index.ensures),
+      c.requires.tallied.counts count c.args.res mode,
+      own_weighs c.args.self.now (weight_of count mode) c.in-Some.asking c.index-in-Some.result.now c.requires.placed (rw c.slot-in-Some.ensures at c.index-in-Some.ensures) c.args.res,
+    )
+
+pub returns-in-None : goal.returns-in-None
+returns-in-None c mode =
+    rw c.in-None.is
+    (sym (ap (λ slot. how_many of_held (tally_in slot) mode) (rw c.slot.ensures at c.index.ensures)) ∙ c.requires.tallied.counts of_held c.args.res mode)
+
+pub returns-in-Some : goal.returns-in-Some
+returns-in-Some c mode =
+    rw c.in-Some.is
+    (omega (
+      arith,
+      ap (λ slot. how_many of_held (tally_in slot) mode) (rw c.slot.ensures at c.index.ensures),
+      c.requires.tallied.counts of_held c.args.res mode,
+      c.counted_out.ensures mode,
+      own_weighs c.args.self.now (weight_of of_held mode) c.in-Some.asking c.index-in-Some.result.now c.requires.placed (rw c.slot-in-Some.ensures at c.index-in-Some.ensures) c.args.res,
+    ))

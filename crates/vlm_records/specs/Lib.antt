@@ -1,0 +1,5 @@
+pub mod Armed
+pub mod Families
+pub mod Kin
+pub mod Pending
+pub mod Shown

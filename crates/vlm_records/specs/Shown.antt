@@ -1,0 +1,244 @@
+-- What the slabs of locks and resources show.
+use Rattle.std.specs.Prelude.{◌≡◌, ◌+◌, ◌-◌, ◌==◌, ◌&&◌, Bool, if◌then◌else◌, ℕ, false, replicate, List, Option, None, Some}
+use Rattle.std.specs.List.{list_all}
+use Rattle.std.specs.Option.{option_map}
+use Rattle.slab.specs.Slab.{Slab, get, slab_len, ContainsKey}
+use Rattle.vlm_links.specs.declared.link.Links.{Links}
+use Rattle.vlm_links.specs.declared.lists.LinkedList.{LinkedList}
+use Rattle.vlm_links.specs.Lists.{handles_of, without}
+use Rattle.vlm_words.specs.declared.locks.Row.{Row}
+use Rattle.vlm_words.specs.declared.modes.Mode.{Mode}
+use Rattle.vlm_words.specs.declared.resources.Domain.{Domain}
+use Rattle.vlm_words.specs.declared.resources.Domain.TheVariants.{System}
+use Rattle.vlm_words.specs.declared.resources.Queue.{Queue}
+use Rattle.vlm_words.specs.declared.resources.Queue.TheVariants.{Granted, Conversion, Waiting}
+use Rattle.vlm_words.specs.Grants.{is_beside}
+use Rattle.vlm_words.specs.ValueBlocks.{new_value_block}
+use Rattle.vlm_words.specs.declared.resources.Key.{Key}
+use Rattle.vlm_words.specs.declared.resources.Site.{Site}
+use Rattle.vlm_words.specs.declared.resources.Key.TheVariants.{Below}
+use Rattle.vlm_words.specs.declared.resources.ValueBlock.{ValueBlock}
+use Rattle.vlm_records.specs.declared.handles.Place.{Place}
+use Rattle.vlm_records.specs.declared.handles.Place.TheVariants.{Loose, Queued}
+use Rattle.vlm_records.specs.declared.locks.InQueue.{InQueue}
+use Rattle.vlm_records.specs.declared.locks.Lock.{Lock}
+use Rattle.vlm_records.specs.declared.queues.Queues.{Queues}
+use Rattle.vlm_records.specs.declared.resources.Resource.{Resource}
+use Rattle.vlm_tallies.specs.declared.tallies.Tally.{Tally}
+use Rattle.vlm_records.specs.Families.{IsFamily}
+use Rattle.vlm_tallies.specs.Tallies.{Count, how_many, no_tally, total, weight_of}
+
+-- an empty list
+abbrev pub no_list : {Kind : Type 0} → LinkedList Kind
+no_list = record { first = None; last = None; len = 0; kind = record {} }
+
+-- the list of a queue
+abbrev pub queue_list : Queue → Resource → LinkedList InQueue
+queue_list Granted r = r.granted
+queue_list Conversion r = r.converting
+queue_list Waiting r = r.waiting
+
+-- the resource with another list of a queue
+abbrev pub with_queue_list : Queue → LinkedList InQueue → Resource → Resource
+with_queue_list Granted list r = record r { granted = list }
+with_queue_list Conversion list r = record r { converting = list }
+with_queue_list Waiting list r = record r { waiting = list }
+
+-- what a look-up that finds nothing gives
+abbrev pub no_row : Row
+no_row = record { lkid = 0; pid = 0; parent = 0; held = None; want = None; armed = false }
+
+-- what stands under a handle, read off the record if there is one
+abbrev pub row_in : Option Lock → Row
+row_in None = no_row
+row_in (Some l) = l.row
+
+-- the place that the record of a lock notes
+abbrev pub noted_in : Option Lock → Option Place
+noted_in None = None
+noted_in (Some l) = Some l.place
+
+-- the list of a queue, an empty one where there is no resource
+abbrev pub list_in : Queue → Option Resource → LinkedList InQueue
+list_in queue None = no_list
+list_in queue (Some r) = queue_list queue r
+
+-- the counts of a resource, none where there is no resource
+abbrev pub tally_in : Option Resource → Tally
+tally_in None = no_tally
+tally_in (Some r) = r.tally
+
+-- the links of a lock in its list, and of a resource in the order of making
+abbrev pub queue_links : Lock → Links
+queue_links l = l.in_queue
+
+-- the links of a resource in the order of making
+abbrev pub order_links : Resource → Links
+order_links r = r.in_order
+
+-- the lock with other neighbours in its list
+abbrev pub with_queue_links : Lock → Links → Lock
+with_queue_links l pair = record l { in_queue = pair }
+
+-- the resource with other neighbours in the order of making
+abbrev pub with_order_links : Resource → Links → Resource
+with_order_links r pair = record r { in_order = pair }
+
+-- records but for a part of them
+abbrev pub but_lists : Resource → Resource
+but_lists r = record r { granted = no_list; converting = no_list; waiting = no_list }
+
+-- a resource but for its counts
+abbrev pub but_tally : Resource → Resource
+but_tally r = record r { tally = no_tally }
+
+-- a resource but for its value block
+abbrev pub but_value_block : Resource → Resource
+but_value_block r = record r { value_block = record { value = replicate 16 0; valid = false } }
+
+-- a resource but for its queues and counts
+abbrev pub but_counted : Resource → Resource
+but_counted r = but_tally (but_lists r)
+
+-- a resource but for the list of its armed locks
+abbrev pub but_armed : Resource → Resource
+but_armed r = record r { armed = no_list }
+
+-- a resource but for its lists and counts
+abbrev pub but_queues : Resource → Resource
+but_queues r = but_armed (but_counted r)
+
+-- the identification of a lock
+abbrev pub lkid_of : Lock → ℕ
+lkid_of l = l.row.lkid
+
+-- a lock but for the place that it notes
+abbrev pub but_place : Lock → Lock
+but_place l = record l { place = Loose }
+
+-- a lock but for what it holds and wants
+abbrev pub but_row : Lock → Lock
+but_row l = record l { row = no_row }
+
+-- no neighbours
+abbrev pub no_links : Links
+no_links = record { prev = None; next = None }
+
+-- what of a row never changes, as its lock is converted and granted
+abbrev pub named_row : Row → Row
+named_row row = record no_row { lkid = row.lkid; pid = row.pid; parent = row.parent }
+
+-- a lock but for its queue, and what it holds and wants there
+abbrev pub but_requeued : Lock → Lock
+but_requeued l = record l { row = named_row l.row; place = Loose; in_queue = no_links }
+
+-- a lock but for its neighbours among the armed locks of its resource
+abbrev pub but_in_armed : Lock → Lock
+but_in_armed l = record l { in_armed = no_links }
+
+-- a lock but for the lists of its resource in which it stands, and what it holds and wants there
+abbrev pub but_queued : Lock → Lock
+but_queued l = but_in_armed (but_requeued l)
+
+-- a lock but for its neighbours among those of its process and of its parent, and its sublocks
+abbrev pub but_kin : Lock → Lock
+but_kin l = record l { of_process = no_links; of_parent = no_links; sublocks = no_list }
+
+-- a lock at its making, but for the lists of a resource: in no list of its process or its parent, and without sublocks
+abbrev pub new_lock : Row → ℕ → Option ℕ → Lock
+new_lock row owner parent = record {
+  row = named_row row;
+  place = Loose;
+  in_queue = no_links;
+  in_armed = no_links;
+  owner = owner;
+  of_process = no_links;
+  parent = parent;
+  of_parent = no_links;
+  sublocks = no_list;
+}
+
+-- how many more records a slab takes with no allocation, and the handle that the next one gets
+unfoldable pub room_in : {T : Type 0} → Slab T → ℕ × ℕ
+room_in nodes = (nodes.capacity - slab_len nodes, nodes.vacant_key)
+
+-- every record shows what it showed
+abbrev pub SameBut : {T X : Type 0} → (T → X) → Slab T → Slab T → Type 0
+SameBut part old new = (handle : ℕ) → option_map part (get new handle) ≡ option_map part (get old handle)
+
+-- the place, if it is a queue, is that of a resource that is there
+abbrev pub IsThere : Slab Resource → Place → Type 0
+IsThere resources Loose = Unit {0}
+IsThere resources (Queued res queue) = ContainsKey resources res
+
+module _ (q : Queues) where
+  -- the row, and the place, that a lock's record notes
+  abbrev pub rows : ℕ → Row
+  rows at = row_in (get q.locks at)
+
+  -- the place that a lock's record notes
+  abbrev pub noted : ℕ → Option Place
+  noted at = noted_in (get q.locks at)
+
+  -- the list of a place
+  abbrev pub list_at : Place → LinkedList InQueue
+  list_at Loose = q.loose
+  list_at (Queued res queue) = list_in queue (get q.resources res)
+
+  -- the handles at a place, the first in line first
+  abbrev pub handles_at : Place → List ℕ
+  handles_at place = handles_of queue_links q.locks (list_at place)
+
+  -- the handles at a place, but for the lock that is out
+  abbrev pub handles_but : Option ℕ → Place → List ℕ
+  handles_but None place = handles_at place
+  handles_but (Some out) place = without out (handles_at place)
+
+  -- each list is linked, and holds those locks that note its place, but for one that is taken out
+  abbrev pub IsPlaced : Option ℕ → Type 0
+  IsPlaced out = IsFamily queue_links noted_in q.locks list_at out
+
+  -- what the locks in the queues of a resource weigh together, but for one
+  abbrev pub shares : (Queue → Row → ℕ) → Option ℕ → ℕ → ℕ
+  shares weight out res =
+      total (weight Granted) rows (handles_but out (Queued res Granted))
+      + (total (weight Conversion) rows (handles_but out (Queued res Conversion)) + total (weight Waiting) rows (handles_but out (Queued res Waiting)))
+
+  -- each resource counts its locks, mode by mode, but for one
+  pub record IsTallied (out : Option ℕ) : Type 0 where
+    pub counts : (count : Count) (res : ℕ) (mode : Mode) → how_many count (tally_in (get q.resources res)) mode ≡ shares (weight_of count mode) out res
+
+-- the mode is compatible with what each lock under these handles holds
+abbrev pub handles_fit : Mode → (ℕ → Row) → List ℕ → List ℕ → Bool
+handles_fit mode rows granted converting =
+    list_all (λ k. is_beside mode (rows k).held) granted && list_all (λ k. is_beside mode (rows k).held) converting
+
+-- what a lock at this place adds to the count of a resource
+abbrev pub share_of : (Queue → Row → ℕ) → Place → ℕ → Row → ℕ
+share_of weight Loose res row = 0
+share_of weight (Queued at queue) res row = if at == res then weight queue row else 0
+
+-- a resource without its queues
+pub record Face : Type 0 where
+  pub serial : ℕ
+  pub domain : Domain
+  pub key : Key
+  pub level : ℕ
+  pub value_block : ValueBlock
+
+-- what a resource shows besides its queues
+abbrev pub face_of : Resource → Face
+face_of r = record { serial = r.serial; domain = r.domain; key = r.key; level = r.level; value_block = r.value_block }
+
+-- what a look-up that finds nothing gives
+abbrev pub no_face : Face
+no_face = record { serial = 0; domain = System; key = Below 0 (replicate 1 0); level = 0; value_block = record { value = replicate 16 0; valid = false } }
+
+-- what stands under a handle, or what is told of nothing
+abbrev pub face_in : Option Resource → Face
+face_in None = no_face
+face_in (Some r) = face_of r
+
+-- a resource at its making
+abbrev pub new_face : ℕ → Site → Face
+new_face serial site = record { serial = serial; domain = site.domain; key = site.key; level = site.level; value_block = record { value = new_value_block.value; valid = new_value_block.valid } }

@@ -1,0 +1,105 @@
+//! The locks of each resource, counted by their modes.
+
+ghost use Rattle.std.specs.Prelude.{◌≡◌, ◌≤◌, ◌+◌, None, Some};
+ghost use Rattle.std.specs.Option.{ForSome};
+ghost use Rattle.slab.specs.Slab.{ContainsKey};
+ghost use Rattle.vlm_words.specs.declared.resources.Queue.{Queue};
+ghost use Rattle.vlm_records.specs.declared.handles.Place.{Place};
+ghost use Rattle.vlm_tallies.specs.Tallies.{Count, how_many, weight_of};
+ghost use Rattle.vlm_tallies.specs.Tallies.Count.{of_held};
+ghost use Rattle.vlm_records.specs.Shown.{IsPlaced, IsTallied, SameBut, but_tally, handles_but, handles_fit, room_in, rows, share_of, shares};
+
+use crate::handles::{LockAt, Place, ResAt};
+use crate::locks::Lock;
+use crate::queues::Queues;
+use vlm_tallies::Tally;
+use vlm_words::locks::Row;
+use vlm_words::modes::Mode;
+use vlm_words::resources::Queue;
+
+// The counts of a resource, without a lock that stands at this place.
+fn counted_out(mut tally: Tally, res: ResAt, place: Place, row: &Row) -> Tally
+    requires { (count : Count) (mode : Mode) → share_of (weight_of count mode) place res row.now
+        ≤ how_many count tally mode }
+    ensures { (mode : Mode) → how_many of_held result mode
+        + share_of (weight_of of_held mode) place res row.now ≡ how_many of_held tally mode }
+{
+    let Place::Queued(at, queue) = place else {
+        return tally;
+    };
+    if at != res {
+        return tally;
+    }
+    tally.remove(queue, row);
+    tally
+}
+
+impl Queues {
+    /// Counts a lock out of the queue in which it stands.
+    pub(crate) fn count_out(&mut self, at: usize)
+        requires placed { IsPlaced self.old None }
+        requires present { ContainsKey self.old.locks at }
+        requires tallied { IsTallied self.old None }
+        ensures tallied { IsTallied self.new (Some at) }
+        ensures locks { self.new.locks ≡ self.old.locks }
+        ensures loose { self.new.loose ≡ self.old.loose }
+        ensures rest { SameBut but_tally self.old.resources self.new.resources }
+        ensures resources_room { room_in self.new.resources ≡ room_in self.old.resources }
+    {
+        let Lock { row, place, .. } = self.locks[at];
+        if let Place::Queued(res, queue) = place {
+            self.resources[res.slot()].tally.remove(queue, &row);
+        }
+    }
+
+    /// Counts a lock into the queue in which it stands.
+    pub(crate) fn count_in(&mut self, at: usize)
+        requires placed { IsPlaced self.old None }
+        requires present { ContainsKey self.old.locks at }
+        requires tallied { IsTallied self.old (Some at) }
+        ensures tallied { IsTallied self.new None }
+        ensures locks { self.new.locks ≡ self.old.locks }
+        ensures loose { self.new.loose ≡ self.old.loose }
+        ensures rest { SameBut but_tally self.old.resources self.new.resources }
+        ensures resources_room { room_in self.new.resources ≡ room_in self.old.resources }
+    {
+        let Lock { row, place, .. } = self.locks[at];
+        if let Place::Queued(res, queue) = place {
+            self.resources[res.slot()].tally.add(queue, &row);
+        }
+    }
+
+    // The counts of a resource, without the lock that asks.
+    fn tally_without(&self, res: ResAt, asking: Option<LockAt>) -> Tally
+        requires placed { IsPlaced self.now None }
+        requires tallied { IsTallied self.now None }
+        requires there { ContainsKey self.now.resources res }
+        requires asking { ForSome asking (λ at. ContainsKey self.now.locks at) }
+        ensures { (mode : Mode) → how_many of_held result mode
+            ≡ shares self.now (weight_of of_held mode) asking res }
+    {
+        let tally = self.resources[res.slot()].tally;
+        match asking {
+            None => tally,
+            Some(asking) => {
+                let Lock { row, place, .. } = self.locks[asking.slot()];
+                counted_out(tally, res, place, &row)
+            }
+        }
+    }
+
+    /// Whether the mode is compatible with what each lock of a resource holds, but for the lock that
+    /// asks.
+    pub fn fits(&self, res: ResAt, mode: Mode, asking: Option<LockAt>) -> bool
+        requires placed { IsPlaced self.now None }
+        requires tallied { IsTallied self.now None }
+        requires there { ContainsKey self.now.resources res }
+        requires asking { ForSome asking (λ at. ContainsKey self.now.locks at) }
+        ensures { result
+            ≡ handles_fit mode (rows self.now)
+            (handles_but self.now asking (Place.Queued res Queue.Granted))
+            (handles_but self.now asking (Place.Queued res Queue.Conversion)) }
+    {
+        self.tally_without(res, asking).fits(mode)
+    }
+}

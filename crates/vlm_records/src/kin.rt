@@ -1,0 +1,98 @@
+//! The locks among those of their processes, and below their parents.
+
+ghost use Rattle.std.specs.Prelude.{◌≡◌, ◌≢◌, ◌≤◌, ℕ, Some, None, [], ◌∷◌, ◌++◌};
+ghost use Rattle.slab.specs.Slab.{get, ContainsKey};
+ghost use Rattle.vlm_links.specs.Lists.{Relinks, without};
+ghost use Rattle.vlm_records.specs.Shown.{SameBut, room_in};
+ghost use Rattle.vlm_records.specs.Kin.{IsBelow, IsOwned, below_handles, but_below, but_own, own_handles, owner_in, parent_in, with_own_links};
+
+use crate::handles::LockAt;
+use crate::locks::Lock;
+use crate::processes::Process;
+use slab::Slab;
+use vlm_links::LAST_HANDLE;
+
+/// Takes a lock off the locks of its process.
+pub fn leave_process(processes: &mut Slab<Process>, locks: &mut Slab<Lock>, at: usize)
+    requires owned { IsOwned processes.old locks.old None }
+    requires present { ContainsKey locks.old at }
+    ensures owned { IsOwned processes.new locks.new (Some at) }
+    ensures handles { (owner : ℕ) → own_handles processes.new locks.new owner
+        ≡ without at (own_handles processes.old locks.old owner) }
+    ensures relinks { Relinks with_own_links locks.old locks.new }
+    ensures rest { SameBut but_own processes.old processes.new }
+    ensures locks_room { room_in locks.new ≡ room_in locks.old }
+    ensures processes_room { room_in processes.new ≡ room_in processes.old }
+{
+    let owner = locks[at].owner.slot();
+    let mut own = processes[owner].own;
+    own.unlink(locks, at);
+    processes[owner].own = own;
+}
+
+/// Puts a new lock at the end of the locks of its process.
+pub fn join_process(processes: &mut Slab<Process>, locks: &mut Slab<Lock>, at: usize)
+    requires owned { IsOwned processes.old locks.old (Some at) }
+    requires present { ContainsKey locks.old at }
+    requires within { at ≤ LAST_HANDLE }
+    requires there { (owner : ℕ) → owner_in (get locks.old at) ≡ Some owner
+        → ContainsKey processes.old owner }
+    ensures owned { IsOwned processes.new locks.new None }
+    ensures here { (owner : ℕ) → owner_in (get locks.old at) ≡ Some owner
+        → own_handles processes.new locks.new owner
+        ≡ own_handles processes.old locks.old owner ++ at ∷ [] }
+    ensures elsewhere { (other : ℕ) → owner_in (get locks.old at) ≢ Some other
+        → own_handles processes.new locks.new other ≡ own_handles processes.old locks.old other }
+    ensures relinks { Relinks with_own_links locks.old locks.new }
+    ensures rest { SameBut but_own processes.old processes.new }
+    ensures locks_room { room_in locks.new ≡ room_in locks.old }
+    ensures processes_room { room_in processes.new ≡ room_in processes.old }
+{
+    let owner = locks[at].owner.slot();
+    let mut own = processes[owner].own;
+    own.push_back(locks, at);
+    processes[owner].own = own;
+}
+
+/// Takes a lock off the locks below its parent, if it has one.
+pub fn leave_parent(locks: &mut Slab<Lock>, at: usize)
+    requires below { IsBelow locks.old None }
+    requires present { ContainsKey locks.old at }
+    ensures below { IsBelow locks.new (Some at) }
+    ensures handles { (parent : ℕ) → below_handles locks.new parent
+        ≡ without at (below_handles locks.old parent) }
+    ensures rest { SameBut but_below locks.old locks.new }
+    ensures locks_room { room_in locks.new ≡ room_in locks.old }
+{
+    let Lock { parent, .. } = locks[at];
+    let Some(parent) = parent else {
+        return;
+    };
+    let mut sublocks = locks[parent.slot()].sublocks;
+    sublocks.unlink(locks, at);
+    locks[parent.slot()].sublocks = sublocks;
+}
+
+/// Puts a new lock at the end of the locks below its parent, if it has one.
+pub fn join_parent(locks: &mut Slab<Lock>, at: usize)
+    requires below { IsBelow locks.old (Some at) }
+    requires present { ContainsKey locks.old at }
+    requires within { at ≤ LAST_HANDLE }
+    requires there { (parent : ℕ) → parent_in (get locks.old at) ≡ Some parent
+        → ContainsKey locks.old parent }
+    ensures below { IsBelow locks.new None }
+    ensures here { (parent : ℕ) → parent_in (get locks.old at) ≡ Some parent
+        → below_handles locks.new parent ≡ below_handles locks.old parent ++ at ∷ [] }
+    ensures elsewhere { (other : ℕ) → parent_in (get locks.old at) ≢ Some other
+        → below_handles locks.new other ≡ below_handles locks.old other }
+    ensures rest { SameBut but_below locks.old locks.new }
+    ensures locks_room { room_in locks.new ≡ room_in locks.old }
+{
+    let Lock { parent, .. } = locks[at];
+    let Some(parent) = parent else {
+        return;
+    };
+    let mut sublocks = locks[parent.slot()].sublocks;
+    sublocks.push_back(locks, at);
+    locks[parent.slot()].sublocks = sublocks;
+}

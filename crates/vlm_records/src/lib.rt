@@ -1,0 +1,37 @@
+//! The records of the lock machine, and how their lists run through them.
+//!
+//! # Implementation
+//!
+//! Three slabs have the records of locks, resources and processes. A handle is a record's slot in its slab,
+//! in four bytes (`At`): it is good until the record is removed, and may then be given to another.
+//!
+//! A lock notes where it stands: its queue (`place`), its process (`owner`) and its parent, if it has one. In
+//! the list of each it is linked by a pair of links of its own; what is in no queue is in the list of the
+//! loose locks. The ends of these lists are in the records that have them: three queues in a resource, own
+//! locks in a process, sublocks in a lock. A granted lock that is armed stands in one list more, that of the armed locks of
+//! its resource, in the order of the granted queue. Resources and processes are linked in order of making. A resource
+//! counts its locks in a tally, so a lock that moves leaves the armed ones, is counted out, linked anew and counted in, and
+//! joins the armed ones at their end, if it is armed.
+//!
+//! `Queues` has the slabs of locks and resources, and the lists of a resource (`queues`, `counts`, `armed`). The lists
+//! of own locks and of sublocks are linked beside it (`kin`), since the slab of processes is its owner's, as are the two
+//! orders of making. Nothing here takes memory, and nothing finds a record by its identification or its key: there
+//! is room for what is added, and who calls has the handle.
+#![tactic(auto)]
+
+mod armed;
+mod counts;
+mod handles;
+mod kin;
+mod locks;
+mod pending;
+mod processes;
+mod queues;
+mod resources;
+
+pub use handles::{LockAt, LockKind, Place, ProcAt, ProcessKind, ResAt, ResourceKind};
+pub use kin::{join_parent, join_process, leave_parent, leave_process};
+pub use locks::{InArmed, InQueue, Lock, OfParent, OfProcess};
+pub use processes::{Authorization, Process, put_in, take_out};
+pub use queues::Queues;
+pub use resources::{InOrder, Resource};

@@ -1,0 +1,146 @@
+//! The record of a process.
+
+ghost use Rattle.std.specs.Prelude.{◌≡◌, ◌≢◌, ◌≤◌, ◌+◌, ℕ, None, Some, [], ◌∷◌, ◌++◌, refl};
+ghost use Rattle.std.specs.Option.{option_map};
+ghost use Rattle.slab.specs.Slab.{get, HasRoomFor};
+ghost use Rattle.vlm_links.specs.Lists.{IsIn, IsLinked, IsNoList, handles_of, without};
+ghost use Rattle.vlm_words.specs.Declare.{new_process};
+ghost use Rattle.vlm_words.specs.StatusBlocks.{process_with_block};
+ghost use Rattle.vlm_records.specs.Kin.{but_order, plain_process, process_links};
+ghost use Rattle.vlm_records.specs.Shown.{room_in};
+
+use crate::locks::OfProcess;
+use crate::resources::InOrder;
+use slab::Slab;
+use vlm_asts::AstQueue;
+use vlm_links::{LAST_HANDLE, Linked, LinkedList, Links};
+use vlm_words::blocks::Block;
+use vlm_words::steps::Declaration;
+
+/// What a process may do, as it was declared.
+#[derive(Clone, Copy)]
+pub struct Authorization {
+    /// Its UIC group.
+    pub group: u16,
+    /// How many locks it may have, those that wait too.
+    pub quota: u16,
+    /// Whether it has the privilege SYSLCK.
+    pub syslck: bool,
+}
+
+/// A living process.
+#[derive(Drop)]
+pub struct Process {
+    /// Its identification, by which it is found.
+    pub pid: u32,
+    /// What it may do.
+    pub authorization: Authorization,
+    /// Its status blocks: block n stands at n - 1.
+    pub blocks: Vec<Block>,
+    /// The ASTs that are queued to it and not yet taken, and room for those that it is owed.
+    pub asts: AstQueue,
+    /// Its locks in order of making, those that wait too.
+    pub own: LinkedList<OfProcess>,
+    // the processes declared before and after it
+    pub(crate) in_order: Links,
+}
+
+impl Process {
+    /// The process that a declaration makes, with these new status blocks and without locks.
+    pub fn new(pid: u32, declaration: &Declaration, blocks: Vec<Block>) -> Self
+        requires { blocks.items ≡ (new_process pid declaration.now).blocks }
+        ensures plain { plain_process result ≡ new_process pid declaration.now }
+        ensures due { result.asts.due ≡ 0 }
+        ensures own { IsNoList result.own }
+    {
+        Process {
+            pid,
+            authorization: Authorization {
+                group: declaration.group,
+                quota: declaration.quota,
+                syslck: declaration.syslck,
+            },
+            blocks,
+            asts: AstQueue::new(),
+            own: LinkedList::new(),
+            in_order: Links::none(),
+        }
+    }
+
+    /// Puts a status block in the place of the one with this number, from 1, if it is there.
+    pub fn put_status_block(&mut self, number: u8, block: Block)
+        ensures plain { plain_process self.new
+            ≡ process_with_block number block (plain_process self.old) }
+        ensures due { self.new.asts.due ≡ self.old.asts.due }
+        ensures own { self.new.own ≡ self.old.own }
+        ensures order { process_links self.new ≡ process_links self.old }
+    {
+        let Some(index) = usize::from(number).checked_sub(1) else {
+            return;
+        };
+        if let Some(old) = self.blocks.get_mut(index) {
+            *old = block;
+        }
+    }
+}
+
+/// Takes a new process in, the last in the order of making. There is room for it.
+pub fn put_in(
+    processes: &mut Slab<Process>,
+    order: &mut LinkedList<InOrder>,
+    process: Process,
+) -> usize
+    requires linked { IsLinked process_links processes.old order.old }
+    requires room { HasRoomFor processes.old 1 }
+    requires last { processes.old.vacant_key ≤ LAST_HANDLE }
+    ensures within { result ≤ LAST_HANDLE }
+    ensures fresh { get processes.old result ≡ None }
+    ensures linked { IsLinked process_links processes.new order.new }
+    ensures order { handles_of process_links processes.new order.new
+        ≡ handles_of process_links processes.old order.old ++ result ∷ [] }
+    ensures here { option_map but_order (get processes.new result) ≡ Some (but_order process) }
+    ensures others { (other : ℕ) → other ≢ result
+        → option_map but_order (get processes.new other)
+        ≡ option_map but_order (get processes.old other) }
+    ensures taken { (room_in processes.new).0 + 1 ≡ (room_in processes.old).0 }
+{
+    let at = processes.insert_reserved(process);
+    order.push_back(processes, at);
+    at
+}
+
+/// Removes a process, and takes it out of the order of making.
+pub fn take_out(processes: &mut Slab<Process>, order: &mut LinkedList<InOrder>, at: usize)
+    requires linked { IsLinked process_links processes.old order.old }
+    requires listed { IsIn at (handles_of process_links processes.old order.old) }
+    ensures linked { IsLinked process_links processes.new order.new }
+    ensures order { handles_of process_links processes.new order.new
+        ≡ without at (handles_of process_links processes.old order.old) }
+    ensures gone { get processes.new at ≡ None }
+    ensures others { (other : ℕ) → other ≢ at → option_map but_order (get processes.new other)
+        ≡ option_map but_order (get processes.old other) }
+    ensures given_back { room_in processes.new ≡ ((room_in processes.old).0 + 1, at) }
+{
+    order.unlink(processes, at);
+    processes.remove(at);
+}
+
+impl Linked<InOrder> for Process {
+    ghost links = { λ p. p.in_order };
+
+    ghost with_links = { λ p pair. record p { in_order = pair } };
+
+    ghost links_written = { λ p pair. refl };
+
+    ghost written_twice = { λ p a b. refl };
+
+    ghost written_as_was = { λ p. refl };
+
+    fn links(&self) -> Links {
+        self.in_order
+    }
+
+    fn set_links(&mut self, pair: Links) {
+        self.in_order = pair;
+    }
+}

@@ -1,0 +1,279 @@
+//! The locks in their lists.
+
+ghost use Rattle.std.specs.Prelude.{◌≡◌, ◌≢◌, ◌≤◌, ◌+◌, ℕ, false, None, Some, [], ◌∷◌, ◌++◌};
+ghost use Rattle.std.specs.Option.{option_map};
+ghost use Rattle.slab.specs.Slab.{get, ContainsKey, HasRoomFor};
+ghost use Rattle.vlm_links.specs.Lists.{Relinks, without};
+ghost use Rattle.vlm_records.specs.declared.handles.Place.{Place};
+ghost use Rattle.vlm_records.specs.Armed.{IsArmed};
+ghost use Rattle.vlm_records.specs.Shown.{IsPlaced, IsTallied, IsThere, SameBut, but_counted, but_lists, but_place, but_queued, but_queues, but_requeued, but_row, handles_at, list_at, named_row, new_lock, noted, room_in, rows, with_queue_links};
+
+use crate::handles::{LockAt, Place, ProcAt};
+use crate::locks::{InQueue, Lock};
+use crate::resources::Resource;
+use slab::Slab;
+use vlm_links::{LAST_HANDLE, LinkedList, Links};
+use vlm_words::locks::Row;
+
+/// The locks, each in one list: a queue of a resource, or that of the loose locks.
+#[derive(Drop)]
+pub struct Queues {
+    /// All locks, the loose ones too.
+    pub locks: Slab<Lock>,
+    /// All resources, those in whose queues no lock stands too.
+    pub resources: Slab<Resource>,
+    /// The locks that stand in no queue, in the order in which they joined.
+    pub loose: LinkedList<InQueue>,
+}
+
+impl Queues {
+    /// The list of a place, an empty one where its resource is not there.
+    pub fn list(&self, place: Place) -> LinkedList<InQueue>
+        ensures { result ≡ list_at self.now place }
+    {
+        match place {
+            Place::Loose => self.loose,
+            Place::Queued(res, queue) => match self.resources.get(res.slot()) {
+                Some(resource) => resource.list(queue),
+                None => LinkedList::new(),
+            },
+        }
+    }
+
+    // Writes the list of a place.
+    fn set_list(&mut self, place: &Place, list: LinkedList<InQueue>)
+        requires { IsThere self.old.resources place.now }
+        ensures here { list_at self.new place.now ≡ list }
+        ensures elsewhere { (other : Place) → other ≢ place.now
+            → list_at self.new other ≡ list_at self.old other }
+        ensures locks { self.new.locks ≡ self.old.locks }
+        ensures rest { SameBut but_lists self.old.resources self.new.resources }
+        ensures resources_room { room_in self.new.resources ≡ room_in self.old.resources }
+    {
+        match *place {
+            Place::Loose => self.loose = list,
+            Place::Queued(res, queue) => self.resources[res.slot()].set_list(queue, list),
+        }
+    }
+
+    // Takes a lock off the list in which it stands.
+    fn take_off(&mut self, at: usize)
+        requires placed { IsPlaced self.old None }
+        requires present { ContainsKey self.old.locks at }
+        ensures placed { IsPlaced self.new (Some at) }
+        ensures handles { (place : Place) → handles_at self.new place
+            ≡ without at (handles_at self.old place) }
+        ensures relinks { Relinks with_queue_links self.old.locks self.new.locks }
+        ensures kin { SameBut but_requeued self.old.locks self.new.locks }
+        ensures rest { SameBut but_lists self.old.resources self.new.resources }
+        ensures locks_room { room_in self.new.locks ≡ room_in self.old.locks }
+        ensures resources_room { room_in self.new.resources ≡ room_in self.old.resources }
+    {
+        let place = self.locks[at].place;
+        let mut list = self.list(place);
+        list.unlink(&mut self.locks, at);
+        self.set_list(&place, list);
+    }
+
+    // Puts a lock that is in no list at the end of one.
+    fn put_at(&mut self, at: usize, place: Place)
+        requires placed { IsPlaced self.old (Some at) }
+        requires present { ContainsKey self.old.locks at }
+        requires within { at ≤ LAST_HANDLE }
+        requires there { IsThere self.old.resources place }
+        ensures placed { IsPlaced self.new None }
+        ensures here { handles_at self.new place ≡ handles_at self.old place ++ at ∷ [] }
+        ensures elsewhere { (other : Place) → other ≢ place
+            → handles_at self.new other ≡ handles_at self.old other }
+        ensures rows { (other : ℕ) → rows self.new other ≡ rows self.old other }
+        ensures kin { SameBut but_requeued self.old.locks self.new.locks }
+        ensures rest { SameBut but_lists self.old.resources self.new.resources }
+        ensures locks_room { room_in self.new.locks ≡ room_in self.old.locks }
+        ensures resources_room { room_in self.new.resources ≡ room_in self.old.resources }
+    {
+        let mut list = self.list(place);
+        list.push_back(&mut self.locks, at);
+        self.set_list(&place, list);
+        self.set_place(at, place);
+    }
+
+    // Notes in its record where a lock stands.
+    fn set_place(&mut self, at: usize, place: Place)
+        requires { ContainsKey self.old.locks at }
+        ensures here { noted self.new at ≡ Some place }
+        ensures others { (other : ℕ) → other ≢ at → get self.new.locks other
+            ≡ get self.old.locks other }
+        ensures rest { SameBut but_place self.old.locks self.new.locks }
+        ensures kin { SameBut but_requeued self.old.locks self.new.locks }
+        ensures resources { self.new.resources ≡ self.old.resources }
+        ensures loose { self.new.loose ≡ self.old.loose }
+        ensures locks_room { room_in self.new.locks ≡ room_in self.old.locks }
+    {
+        self.locks[at].place = place;
+    }
+
+    // Writes what a lock holds and wants.
+    fn write_row(&mut self, at: usize, row: &Row)
+        requires present { ContainsKey self.old.locks at }
+        requires named { named_row (rows self.old at) ≡ named_row row.now }
+        ensures here { rows self.new at ≡ row.now }
+        ensures others { (other : ℕ) → other ≢ at → get self.new.locks other
+            ≡ get self.old.locks other }
+        ensures rest { SameBut but_row self.old.locks self.new.locks }
+        ensures kin { SameBut but_requeued self.old.locks self.new.locks }
+        ensures resources { self.new.resources ≡ self.old.resources }
+        ensures loose { self.new.loose ≡ self.old.loose }
+        ensures locks_room { room_in self.new.locks ≡ room_in self.old.locks }
+    {
+        self.locks[at].row = *row;
+    }
+
+    // Gives a lock another row, and puts it at the end of a list. It is not among the armed ones of its resource.
+    fn requeue(&mut self, at: usize, row: &Row, to: Place)
+        requires placed { IsPlaced self.old None }
+        requires tallied { IsTallied self.old None }
+        requires present { ContainsKey self.old.locks at }
+        requires within { at ≤ LAST_HANDLE }
+        requires there { IsThere self.old.resources to }
+        requires named { named_row (rows self.old at) ≡ named_row row.now }
+        ensures placed { IsPlaced self.new None }
+        ensures tallied { IsTallied self.new None }
+        ensures here { handles_at self.new to ≡ without at (handles_at self.old to) ++ at ∷ [] }
+        ensures elsewhere { (other : Place) → other ≢ to
+            → handles_at self.new other ≡ without at (handles_at self.old other) }
+        ensures row { rows self.new at ≡ row.now }
+        ensures rows { (other : ℕ) → other ≢ at → rows self.new other ≡ rows self.old other }
+        ensures kin { SameBut but_requeued self.old.locks self.new.locks }
+        ensures rest { SameBut but_counted self.old.resources self.new.resources }
+        ensures locks_room { room_in self.new.locks ≡ room_in self.old.locks }
+        ensures resources_room { room_in self.new.resources ≡ room_in self.old.resources }
+    {
+        self.count_out(at);
+        self.take_off(at);
+        self.write_row(at, row);
+        self.put_at(at, to);
+        self.count_in(at);
+    }
+
+    /// Gives a lock another row, and puts it at the end of a list.
+    pub fn move_to(&mut self, at: usize, row: &Row, to: Place)
+        requires placed { IsPlaced self.old None }
+        requires tallied { IsTallied self.old None }
+        requires armed { IsArmed self.old None }
+        requires present { ContainsKey self.old.locks at }
+        requires within { at ≤ LAST_HANDLE }
+        requires there { IsThere self.old.resources to }
+        requires named { named_row (rows self.old at) ≡ named_row row.now }
+        ensures placed { IsPlaced self.new None }
+        ensures tallied { IsTallied self.new None }
+        ensures armed { IsArmed self.new None }
+        ensures here { handles_at self.new to ≡ without at (handles_at self.old to) ++ at ∷ [] }
+        ensures elsewhere { (other : Place) → other ≢ to
+            → handles_at self.new other ≡ without at (handles_at self.old other) }
+        ensures row { rows self.new at ≡ row.now }
+        ensures rows { (other : ℕ) → other ≢ at → rows self.new other ≡ rows self.old other }
+        ensures kin { SameBut but_queued self.old.locks self.new.locks }
+        ensures rest { SameBut but_queues self.old.resources self.new.resources }
+        ensures locks_room { room_in self.new.locks ≡ room_in self.old.locks }
+        ensures resources_room { room_in self.new.resources ≡ room_in self.old.resources }
+    {
+        self.leave_armed(at);
+        self.requeue(at, row, to);
+        self.join_armed(at);
+    }
+
+    /// A lock is armed no more, and stays where it stands.
+    pub fn disarm(&mut self, at: usize)
+        requires placed { IsPlaced self.old None }
+        requires tallied { IsTallied self.old None }
+        requires armed { IsArmed self.old None }
+        requires present { ContainsKey self.old.locks at }
+        ensures placed { IsPlaced self.new None }
+        ensures tallied { IsTallied self.new None }
+        ensures armed { IsArmed self.new None }
+        ensures handles { (place : Place) → handles_at self.new place ≡ handles_at self.old place }
+        ensures row { rows self.new at ≡ record (rows self.old at) { armed = false } }
+        ensures rows { (other : ℕ) → other ≢ at → rows self.new other ≡ rows self.old other }
+        ensures kin { SameBut but_queued self.old.locks self.new.locks }
+        ensures rest { SameBut but_queues self.old.resources self.new.resources }
+        ensures locks_room { room_in self.new.locks ≡ room_in self.old.locks }
+        ensures resources_room { room_in self.new.resources ≡ room_in self.old.resources }
+    {
+        self.leave_armed(at);
+        self.count_out(at);
+        let row = Row {
+            armed: false,
+            ..self.locks[at].row
+        };
+        self.write_row(at, &row);
+        self.count_in(at);
+    }
+
+    /// Adds a lock that stands in no queue, and is not yet among those of its process and its parent. There
+    /// is room for it.
+    pub fn add(&mut self, row: &Row, owner: ProcAt, parent: Option<LockAt>) -> usize
+        requires placed { IsPlaced self.old None }
+        requires tallied { IsTallied self.old None }
+        requires armed { IsArmed self.old None }
+        requires room { HasRoomFor self.old.locks 1 }
+        requires within { self.old.locks.vacant_key ≤ LAST_HANDLE }
+        ensures within { result ≤ LAST_HANDLE }
+        ensures fresh { get self.old.locks result ≡ None }
+        ensures placed { IsPlaced self.new None }
+        ensures tallied { IsTallied self.new None }
+        ensures armed { IsArmed self.new None }
+        ensures here { handles_at self.new Place.Loose
+            ≡ handles_at self.old Place.Loose ++ result ∷ [] }
+        ensures elsewhere { (other : Place) → other ≢ Place.Loose
+            → handles_at self.new other ≡ handles_at self.old other }
+        ensures row { rows self.new result ≡ row.now }
+        ensures rows { (other : ℕ) → other ≢ result → rows self.new other ≡ rows self.old other }
+        ensures lock { option_map but_queued (get self.new.locks result)
+            ≡ Some (new_lock row.now owner parent) }
+        ensures kin { (other : ℕ) → other ≢ result
+            → option_map but_queued (get self.new.locks other)
+            ≡ option_map but_queued (get self.old.locks other) }
+        ensures rest { SameBut but_queues self.old.resources self.new.resources }
+        ensures taken { (room_in self.new.locks).0 + 1 ≡ (room_in self.old.locks).0 }
+        ensures resources_room { room_in self.new.resources ≡ room_in self.old.resources }
+    {
+        let at = self.locks.insert_reserved(Lock {
+            row: *row,
+            place: Place::Loose,
+            in_queue: Links::none(),
+            in_armed: Links::none(),
+            owner,
+            of_process: Links::none(),
+            parent,
+            of_parent: Links::none(),
+            sublocks: LinkedList::new(),
+        });
+        self.put_at(at, Place::Loose);
+        at
+    }
+
+    /// Removes a lock, wherever it stands.
+    pub fn remove(&mut self, at: usize)
+        requires placed { IsPlaced self.old None }
+        requires tallied { IsTallied self.old None }
+        requires armed { IsArmed self.old None }
+        requires present { ContainsKey self.old.locks at }
+        ensures placed { IsPlaced self.new None }
+        ensures tallied { IsTallied self.new None }
+        ensures armed { IsArmed self.new None }
+        ensures handles { (place : Place) → handles_at self.new place
+            ≡ without at (handles_at self.old place) }
+        ensures gone { get self.new.locks at ≡ None }
+        ensures rows { (other : ℕ) → other ≢ at → rows self.new other ≡ rows self.old other }
+        ensures kin { (other : ℕ) → other ≢ at → option_map but_queued (get self.new.locks other)
+            ≡ option_map but_queued (get self.old.locks other) }
+        ensures rest { SameBut but_queues self.old.resources self.new.resources }
+        ensures given_back { room_in self.new.locks ≡ ((room_in self.old.locks).0 + 1, at) }
+        ensures resources_room { room_in self.new.resources ≡ room_in self.old.resources }
+    {
+        self.leave_armed(at);
+        self.count_out(at);
+        self.take_off(at);
+        self.locks.remove(at);
+    }
+}

@@ -1,0 +1,188 @@
+//! The record of a resource, and how one is made and removed.
+
+ghost use Rattle.std.specs.Prelude.{◌≡◌, ◌≢◌, ◌≤◌, ◌+◌, ℕ, None, Some, [], ◌∷◌, ◌++◌, refl};
+ghost use Rattle.std.specs.Option.{option_map};
+ghost use Rattle.slab.specs.Slab.{get, ContainsKey, HasRoomFor};
+ghost use Rattle.vlm_links.specs.Lists.{IsIn, IsLinked, handles_of, without};
+ghost use Rattle.vlm_words.specs.declared.resources.Queue.{Queue};
+ghost use Rattle.vlm_records.specs.declared.handles.Place.{Place};
+ghost use Rattle.vlm_records.specs.Armed.{IsArmed};
+ghost use Rattle.vlm_records.specs.Shown.{IsPlaced, IsTallied, SameBut, but_value_block, face_in, face_of, handles_at, new_face, order_links, room_in};
+
+use crate::locks::{InArmed, InQueue};
+use crate::queues::Queues;
+use vlm_links::{LAST_HANDLE, Linked, LinkedList, Links};
+use vlm_tallies::Tally;
+use vlm_words::resources::{Domain, Key, Queue, Site, ValueBlock};
+
+/// The list of the resources, and that of the processes, in order of making.
+pub struct InOrder;
+
+/// A resource with its queues.
+#[derive(Clone, Copy)]
+pub struct Resource {
+    /// The number of its making, from 1.
+    pub serial: u32,
+    /// Its domain: a sub-resource is in its root's.
+    pub domain: Domain,
+    /// The key under which it is found.
+    pub key: Key,
+    /// Its level: 0 for a root, at most 15.
+    pub level: u8,
+    /// Its value block, which its locks hand on.
+    pub value_block: ValueBlock,
+    // the locks that hold a mode and want no other
+    pub(crate) granted: LinkedList<InQueue>,
+    // the locks that hold a mode and want another, the first in line first
+    pub(crate) converting: LinkedList<InQueue>,
+    // the locks that want a mode and hold none, the first in line first
+    pub(crate) waiting: LinkedList<InQueue>,
+    /// Those of the granted locks that are armed, in the order of the granted queue.
+    pub armed: LinkedList<InArmed>,
+    /// The locks of the three queues, counted by the modes that they hold and want.
+    pub tally: Tally,
+    // the resources made before and after it
+    pub(crate) in_order: Links,
+}
+
+impl Linked<InOrder> for Resource {
+    ghost links = { λ r. r.in_order };
+
+    ghost with_links = { λ r pair. record r { in_order = pair } };
+
+    ghost links_written = { λ r pair. refl };
+
+    ghost written_twice = { λ r a b. refl };
+
+    ghost written_as_was = { λ r. refl };
+
+    fn links(&self) -> Links {
+        self.in_order
+    }
+
+    fn set_links(&mut self, pair: Links) {
+        self.in_order = pair;
+    }
+}
+
+impl Resource {
+    ghost use Rattle.vlm_records.specs.Shown.{queue_list, with_queue_list};
+
+    /// The list of a queue.
+    pub(crate) fn list(&self, queue: Queue) -> LinkedList<InQueue>
+        ensures { result ≡ queue_list queue self.now }
+    {
+        match queue {
+            Queue::Granted => self.granted,
+            Queue::Conversion => self.converting,
+            Queue::Waiting => self.waiting,
+        }
+    }
+
+    /// Writes the list of a queue.
+    pub(crate) fn set_list(&mut self, queue: Queue, list: LinkedList<InQueue>)
+        ensures { self.new ≡ with_queue_list queue list self.old }
+    {
+        match queue {
+            Queue::Granted => self.granted = list,
+            Queue::Conversion => self.converting = list,
+            Queue::Waiting => self.waiting = list,
+        }
+    }
+}
+
+impl Queues {
+    /// Adds a resource without locks, the last in the order of making, for which there is room.
+    pub fn add_resource(
+        &mut self,
+        order: &mut LinkedList<InOrder>,
+        serial: u32,
+        site: &Site,
+    ) -> usize
+        requires placed { IsPlaced self.old None }
+        requires tallied { IsTallied self.old None }
+        requires armed { IsArmed self.old None }
+        requires linked { IsLinked order_links self.old.resources order.old }
+        requires room { HasRoomFor self.old.resources 1 }
+        requires within { self.old.resources.vacant_key ≤ LAST_HANDLE }
+        ensures within { result ≤ LAST_HANDLE }
+        ensures fresh { get self.old.resources result ≡ None }
+        ensures placed { IsPlaced self.new None }
+        ensures tallied { IsTallied self.new None }
+        ensures armed { IsArmed self.new None }
+        ensures handles { (place : Place) → handles_at self.new place ≡ handles_at self.old place }
+        ensures locks { self.new.locks ≡ self.old.locks }
+        ensures linked { IsLinked order_links self.new.resources order.new }
+        ensures order { handles_of order_links self.new.resources order.new
+            ≡ handles_of order_links self.old.resources order.old ++ result ∷ [] }
+        ensures face { option_map face_of (get self.new.resources result)
+            ≡ Some (new_face serial site.now) }
+        ensures faces { (res : ℕ) → res ≢ result → option_map face_of (get self.new.resources res)
+            ≡ option_map face_of (get self.old.resources res) }
+        ensures taken { (room_in self.new.resources).0 + 1 ≡ (room_in self.old.resources).0 }
+    {
+        let at = self.resources.insert_reserved(Resource {
+            serial,
+            domain: site.domain,
+            key: site.key,
+            level: site.level,
+            value_block: ValueBlock::new(),
+            granted: LinkedList::new(),
+            converting: LinkedList::new(),
+            waiting: LinkedList::new(),
+            armed: LinkedList::new(),
+            tally: Tally::new(),
+            in_order: Links::none(),
+        });
+        order.push_back(&mut self.resources, at);
+        at
+    }
+
+    /// Removes a resource in whose queues no lock stands.
+    pub fn remove_resource(&mut self, order: &mut LinkedList<InOrder>, res: usize)
+        requires placed { IsPlaced self.old None }
+        requires tallied { IsTallied self.old None }
+        requires armed { IsArmed self.old None }
+        requires linked { IsLinked order_links self.old.resources order.old }
+        requires listed { IsIn res (handles_of order_links self.old.resources order.old) }
+        requires idle { (queue : Queue) → handles_at self.old (Place.Queued res queue) ≡ [] }
+        ensures placed { IsPlaced self.new None }
+        ensures tallied { IsTallied self.new None }
+        ensures armed { IsArmed self.new None }
+        ensures handles { (place : Place) → handles_at self.new place ≡ handles_at self.old place }
+        ensures locks { self.new.locks ≡ self.old.locks }
+        ensures linked { IsLinked order_links self.new.resources order.new }
+        ensures order { handles_of order_links self.new.resources order.new
+            ≡ without res (handles_of order_links self.old.resources order.old) }
+        ensures gone { get self.new.resources res ≡ None }
+        ensures faces { (other : ℕ) → other ≢ res
+            → option_map face_of (get self.new.resources other)
+            ≡ option_map face_of (get self.old.resources other) }
+        ensures given_back { room_in self.new.resources
+            ≡ ((room_in self.old.resources).0 + 1, res) }
+    {
+        order.unlink(&mut self.resources, res);
+        self.resources.remove(res);
+    }
+
+    /// Writes the value block of a resource.
+    pub fn set_value_block(&mut self, res: usize, value_block: ValueBlock)
+        requires placed { IsPlaced self.old None }
+        requires tallied { IsTallied self.old None }
+        requires armed { IsArmed self.old None }
+        requires there { ContainsKey self.old.resources res }
+        ensures placed { IsPlaced self.new None }
+        ensures tallied { IsTallied self.new None }
+        ensures armed { IsArmed self.new None }
+        ensures handles { (place : Place) → handles_at self.new place ≡ handles_at self.old place }
+        ensures locks { self.new.locks ≡ self.old.locks }
+        ensures rest { SameBut but_value_block self.old.resources self.new.resources }
+        ensures face { face_in (get self.new.resources res)
+            ≡ record (face_in (get self.old.resources res)) { value_block = value_block } }
+        ensures faces { (other : ℕ) → other ≢ res
+            → get self.new.resources other ≡ get self.old.resources other }
+        ensures resources_room { room_in self.new.resources ≡ room_in self.old.resources }
+    {
+        self.resources[res].value_block = value_block;
+    }
+}
