@@ -49,7 +49,7 @@ last_from-push : (from : Spot) (before : List ℕ) (handle : ℕ) → last_from 
 last_from-push from [] handle = refl
 last_from-push from (first ∷ rest) handle = last_from-push (Some first) rest handle
 
-before_from-among : (from : Spot) (before : List ℕ) (handle : ℕ) (rest : List ℕ) → ¬ IsIn handle before → before_from from handle (before ++ handle ∷ rest) ≡ last_from from before
+pub before_from-among : (from : Spot) (before : List ℕ) (handle : ℕ) (rest : List ℕ) → ¬ IsIn handle before → before_from from handle (before ++ handle ∷ rest) ≡ last_from from before
 before_from-among from [] handle rest absent = rw (eq-eqb handle handle refl) refl
 before_from-among from (first ∷ before) handle rest absent =
     rw (ne_eqb first handle (λ same. absent (inl same))) (before_from-among (Some first) before handle rest (λ there. absent (inr there)))

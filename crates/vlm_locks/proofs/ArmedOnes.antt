@@ -5,6 +5,7 @@ use Rattle.std.proofs.lemmas.Bool.{cases_Bool}
 use Rattle.std.proofs.lemmas.List.Elements.{filter-append}
 use Rattle.vlm_links.specs.Lists.{IsIn}
 use Rattle.vlm_store.specs.Armed.{armed_among}
+use Rattle.vlm_store.proofs.Walks.{lock_among}
 use Rattle.vlm_store.specs.Records.{AreApart, StoredLock, at_after, first_at}
 
 -- the first is armed, if there is one
@@ -47,15 +48,10 @@ pub armed_split : (before : List StoredLock) (lock : StoredLock) (rest : List St
 armed_split before lock rest is =
     filter-append (λ (k : StoredLock). k.row.armed) before (lock ∷ rest) ∙ ap (λ b. armed_among before ++ cond b (lock ∷ armed_among rest) (armed_among rest)) is
 
--- a lock between others
-pub among_between : (lock : StoredLock) (xs ys : List StoredLock) → IsIn lock (xs ++ lock ∷ ys)
-among_between lock [] ys = inl refl
-among_between lock (x ∷ xs) ys = inr (among_between lock xs ys)
-
 -- the one before it has another handle
 other_before : (x lock : StoredLock) (xs ys : List StoredLock) → AreApart (x ∷ xs ++ lock ∷ ys) → x.at ≡ lock.at → ⊥
 other_before x lock xs ys apart same =
-    apart.0 lock.row (subst (λ (at : ℕ). IsIn (record { at = at; row = lock.row }) (xs ++ lock ∷ ys)) (sym same) (among_between lock xs ys))
+    apart.0 lock.row (subst (λ (at : ℕ). IsIn (record { at = at; row = lock.row }) (xs ++ lock ∷ ys)) (sym same) (lock_among lock xs ys))
 
 -- the one behind it
 pub behind : (lock : StoredLock) (ys xs : List StoredLock) → AreApart (xs ++ lock ∷ ys) → at_after lock.at (xs ++ lock ∷ ys) ≡ first_at ys

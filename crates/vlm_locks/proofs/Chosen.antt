@@ -12,6 +12,7 @@ use Rattle.vlm_store.specs.Records.{Records}
 use Rattle.vlm_locks.specs.declared.giving_up.Choice.{Choice}
 use Rattle.vlm_locks.specs.GivingUp.{AreChosen, Rise, is_chosen}
 use Rattle.vlm_locks.specs.Left.{is_among}
+use Rattle.vlm_locks.proofs.RunsDown.{none_at_all}
 
 -- ---- rising numbers
 
@@ -149,25 +150,11 @@ pub up_to_last : (front kept : List ℕ) → IsApart (front ++ kept) → up_to (
 up_to_last front kept apart = of_last (last_handle front) refl
   where
     of_last : (last : Option ℕ) → last_handle front ≡ last → up_to last (front ++ kept) ≡ front
-    of_last None none = sym (no_last front none)
-      where
-        some_last : (xs : List ℕ) (first : ℕ) → last_from (Some first) xs ≡ None → ⊥
-        some_last [] first is = cc
-        some_last (y ∷ ys) first is = some_last ys y is
-
-        no_last : (xs : List ℕ) → last_handle xs ≡ None → xs ≡ []
-        no_last [] is = refl
-        no_last (x ∷ xs) is = absurd (some_last xs x is)
+    of_last None none = sym (none_at_all front none)
     of_last (Some at) is =
         let split = last_handle-split front at (sym is) in
         let whole : front ++ kept ≡ split.0 ++ at ∷ kept = ap (λ hs. hs ++ kept) split.1 ∙ append_assoc split.0 (at ∷ []) kept in
         ap (up_to (Some at)) whole ∙ up_to_found split.0 at kept (absent_before split.0 at kept (subst IsApart whole apart)) ∙ sym split.1
-
--- a walk back goes on with the last of those before a handle
-pub before_among : (from : Spot) (front : List ℕ) (at : ℕ) (rest : List ℕ) → ¬ IsIn at front → before_from from at (front ++ at ∷ rest) ≡ last_from from front
-before_among from [] at rest absent = rw (eq-eqb at at refl) refl
-before_among from (x ∷ front) at rest absent =
-    rw (ne_eqb x at (λ same. absent (inl same))) (before_among (Some x) front at rest (λ there. absent (inr there)))
 
 -- without a handle the others are left
 pub without_one : (front : List ℕ) (at : ℕ) (rest : List ℕ) → IsApart (front ++ at ∷ rest) → without at (front ++ at ∷ rest) ≡ front ++ rest

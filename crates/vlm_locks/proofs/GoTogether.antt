@@ -6,7 +6,7 @@ use Rattle.vlm_words.specs.declared.locks.Row.{Row}
 use Rattle.vlm_words.specs.Withdrawals.{Withdrawal}
 use Rattle.vlm_links.specs.Lists.{IsApart, IsIn, handle_before, last_handle, without}
 use Rattle.vlm_links.proofs.HandleLists.{IsIn-push_kept, IsIn-push_last}
-use Rattle.vlm_links.proofs.Walks.{last_handle-split}
+use Rattle.vlm_links.proofs.Walks.{before_from-among, last_handle-split}
 use Rattle.vlm_store.specs.Plain.{plain_resources}
 use Rattle.vlm_store.specs.Records.{HasNoSublocks, IsProcess, IsSound, IsStored, Records, Stores, locks_at, own_handles_at}
 use Rattle.vlm_locks.specs.declared.finding.Standing.{Standing}
@@ -19,7 +19,7 @@ use Rattle.vlm_locks.specs.Rising.{ComesBefore, StandByIdentification}
 use Rattle.vlm_locks.specs.RunningDown.{CanEndProcesses}
 use Rattle.vlm_locks.specs.Touched.{Touches}
 use Rattle.vlm_locks.specs.Withdrawing.{owned_after}
-use Rattle.vlm_locks.proofs.Chosen.{absent_before, among_in, before_among, in_among, one_choice, up_to, up_to_last, without_one}
+use Rattle.vlm_locks.proofs.Chosen.{absent_before, among_in, in_among, one_choice, up_to, up_to_last, without_one}
 use Rattle.vlm_locks.proofs.EndsTogether.{stand_before}
 use Rattle.vlm_locks.proofs.ParentsNamed.{parents_come_first, same_below}
 use Rattle.vlm_locks.proofs.RunsDown.{AreGoing, IsTurn, among_others, handles_apart, next_turn, none_at_all, none_goes, one_were_there, own_left, owned_here, its_handles, stored_here, they_rise}
@@ -138,7 +138,7 @@ module _ (choice : Choice) (invalidates : Bool) (owner pid : ℕ) (old s : Recor
 
   -- the next is the last of those before
   pub previous_is : (next : Option ℕ) → ((process : ℕ) → IsIn lock (own_handles_at process s) → next ≡ handle_before lock (own_handles_at process s)) → next ≡ last_handle init
-  previous_is next told = told owner lock_in ∙ ap (handle_before lock) whole ∙ before_among None init lock so_far.kept absent
+  previous_is next told = told owner lock_in ∙ ap (handle_before lock) whole ∙ before_from-among None init lock so_far.kept absent
 
   -- up to this one
   all_up_to : up_to (Some lock) (own_handles_at owner s) ≡ init ++ lock ∷ []

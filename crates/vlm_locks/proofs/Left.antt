@@ -27,27 +27,28 @@ others_same goes lkid (row ∷ rows) own = of_test (row.lkid == lkid) refl (othe
     of_test true is same = rw (own.0 (eqb-true row.lkid lkid is)) same
     of_test false is same = ap (λ (kept : List Row). cond (not (goes row)) (row ∷ kept) kept) same
 
+-- of three tests that are or-ed, the order and the grouping are all one
+pub swap : (a b c : Bool) → (a || (b || c)) ≡ (b || (a || c))
+swap true true c = refl
+swap true false c = refl
+swap false b c = refl
+
+pub assoc : (a b c : Bool) → (a || (b || c)) ≡ ((a || b) || c)
+assoc true b c = refl
+assoc false b c = refl
+
 -- a writer that goes is this lock or another
 writers_parted : (goes : Row → Bool) (lkid : ℕ) (rows : List Row) → AllByRecursion (IsOwnRow goes lkid) rows
     → has_writer_among goes rows ≡ (has_writer lkid rows || has_writer_among goes (rows_without lkid rows))
 writers_parted goes lkid [] own = refl
 writers_parted goes lkid (row ∷ rows) own = of_test (row.lkid == lkid) refl (writers_parted goes lkid rows own.1)
   where
-    swap : (a b c : Bool) → (a || (b || c)) ≡ (b || (a || c))
-    swap true true c = refl
-    swap true false c = refl
-    swap false b c = refl
-
     of_test : (b : Bool) → (row.lkid == lkid) ≡ b
         → has_writer_among goes rows ≡ (has_writer lkid rows || has_writer_among goes (rows_without lkid rows))
         → ((goes row && is_writer row.held) || has_writer_among goes rows)
         ≡ (((b && is_writer row.held) || has_writer lkid rows)
         || has_writer_among goes (cond (not b) (row ∷ rows_without lkid rows) (rows_without lkid rows)))
     of_test true is same = rw (own.0 (eqb-true row.lkid lkid is), same) (assoc (is_writer row.held) (has_writer lkid rows) (has_writer_among goes (rows_without lkid rows)))
-      where
-        assoc : (a b c : Bool) → (a || (b || c)) ≡ ((a || b) || c)
-        assoc true b c = refl
-        assoc false b c = refl
     of_test false is same = rw same (swap (goes row && is_writer row.held) (has_writer lkid rows) (has_writer_among goes (rows_without lkid rows)))
 
 -- a value block that may be invalid

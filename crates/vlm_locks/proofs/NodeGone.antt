@@ -17,6 +17,7 @@ use Rattle.vlm_locks.specs.Left.{has_writer_among, resource_left, rows_left}
 use Rattle.vlm_locks.specs.RunningDown.{AreEnded, CanEndProcesses, resource_after_rundown}
 use Rattle.vlm_locks.specs.Touched.{AreStillNoted, OnlyTouched, Touches, touched_handles}
 use Rattle.vlm_locks.proofs.InOrder.{handle_among, touch_of}
+use Rattle.vlm_locks.proofs.Left.{assoc, swap}
 use Rattle.vlm_locks.proofs.RunsDown.{none_goes}
 
 -- the processes end so far: what is left without theirs is what was there without theirs
@@ -55,15 +56,6 @@ module _ (goes first : Row → Bool) (within : (row : Row) → first row ≡ tru
   writer_of_both [] = refl
   writer_of_both (row ∷ rows) = of_test (first row) refl (writer_of_both rows)
     where
-      assoc : (a b c : Bool) → (a || (b || c)) ≡ ((a || b) || c)
-      assoc true b c = refl
-      assoc false b c = refl
-
-      swap : (a b c : Bool) → (a || (b || c)) ≡ (b || (a || c))
-      swap true true c = refl
-      swap true false c = refl
-      swap false b c = refl
-
       of_test : (b : Bool) → first row ≡ b → has_writer_among goes rows ≡ (has_writer_among first rows || has_writer_among goes (rows_left first rows))
           → ((goes row && is_writer row.held) || has_writer_among goes rows)
           ≡ (((b && is_writer row.held) || has_writer_among first rows)

@@ -286,13 +286,17 @@ weighs_gone s sound at row stored t resources loose measure =
     let gone : weight_of measure t ≡ weight_of measure (with_lists (leaving at) s) = rw (resources, loose) refl in
     omega (arith, gone, gone_weighs measure s sound at row stored)
 
+-- for a lock at its end nothing is due
+pub nothing_due : (row : Row) (pid : ℕ) → due_to pid (row_at_end row) ≡ 0
+nothing_due row pid = of_test (row.pid == pid)
+  where
+    of_test : (b : Bool) → cond b (row_due (row_at_end row)) 0 ≡ 0
+    of_test true = refl
+    of_test false = refl
+
 -- so nothing is due for it any more
 pub due_gone : (at : ℕ) (row : Row) (s t : Records) → LosesOne (record { at = at; row = row }) s t → DueMoves row (row_at_end row) s t
-due_gone at row s t loses pid = omega (arith, loses (weight pid), nothing (row.pid == pid))
-  where
-    nothing : (b : Bool) → cond b (row_due (row_at_end row)) 0 ≡ 0
-    nothing true = refl
-    nothing false = refl
+due_gone at row s t loses pid = omega (arith, loses (weight pid), nothing_due row pid)
 
 -- a value block that is written leaves the locks
 pub weighs_valued : (s : Records) → IsSound s → (res : ℕ) (block : ValueBlock)

@@ -9,6 +9,7 @@ use Rattle.vlm_links.specs.Lists.{IsIn, without}
 use Rattle.vlm_links.proofs.HandleLists.{IsIn-push, IsIn-without}
 use Rattle.vlm_records.specs.declared.handles.Place.{Place}
 use Rattle.vlm_records.specs.declared.handles.Place.TheVariants.{Loose, Queued}
+use Rattle.vlm_store.proofs.Counted.{own_handle}
 use Rattle.vlm_store.specs.Records.{IsNewLock, IsRowOf, IsSound, IsStored, OwnLock, Records, StoredProcess, StoredResource, Stores, but_notices, locks_at, new_own, process_with_lock, process_without_lock, queued, resource_at, with_sublock, without_sublock}
 use Rattle.vlm_locks.specs.Staying.{LocksStayAmong}
 use Rattle.vlm_locks.specs.Rising.{ComesBefore, HasRisingLocks, IsAboveAll, StandByIdentification, own_handles}
@@ -179,14 +180,6 @@ all_rise_without s lock ps rising p among =
 pub new_above : (lkid : ℕ) (s : Records) → IsAboveAll lkid s → IsNewLock lkid s
 new_above lkid s above at row stored same = absurd (omega (arith, above at row stored, same))
 
-own_in : (owns : List OwnLock) (at : ℕ) → IsIn at (own_handles owns) → (o : OwnLock) × (IsIn o owns × (o.at ≡ at))
-own_in [] at there = absurd there
-own_in (x ∷ owns) at there =
-    elim there [
-      | inl here ↦ (x, (inl refl, here))
-      | inr later ↦ let found = own_in owns at later in (found.0, (inr found.1.0, found.1.1))
-    ]
-
 module _ (owner : ℕ) (parent : Option ℕ) (lock : ℕ) where
   -- a lock of a process with the one was there, or is the new one
   had_own : (mine : Bool) (owns : List OwnLock) (own : OwnLock) → IsIn own (map (with_sublock parent lock) owns ++ cond mine (new_own lock) [])
@@ -250,7 +243,7 @@ module _ (owner : ℕ) (parent : Option ℕ) (lock : ℕ) where
       where
         own_stored : (at : ℕ) → IsIn at (own_handles q.own) → IsStored at s
         own_stored at there =
-            let found = own_in q.own at there in
+            let found = own_handle q.own at there in
             let owned = sound.owned.owns q found.0 among found.1.0 in
             subst (λ k. IsStored k s) found.1.1 (owned.0, owned.1.0)
 

@@ -17,6 +17,7 @@ use Rattle.std.proofs.lemmas.Bool.{eqb-true, cases_eq, eqb-false}
 use Rattle.vlm_links.specs.Lists.{IsIn, last_from, last_handle, without, IsApart}
 use Rattle.vlm_words.specs.declared.locks.Row.{Row}
 use Rattle.vlm_words.specs.declared.resources.Queue.TheVariants.{Granted, Conversion, Waiting}
+use Rattle.vlm_store.proofs.Counted.{one_process, own_handle, own_handles-apart, own_under_handle}
 use Rattle.vlm_store.proofs.Plain.{process_at-stored}
 use Rattle.vlm_locks.specs.Rising.{ComesBefore, HasRisingLocks, StandByIdentification, own_handles}
 use Rattle.vlm_locks.proofs.Left.{IsOthers, nothing_left, IsOwnRow, OwnRows, one_withdrawn}
@@ -115,28 +116,6 @@ no_own : (owns : List OwnLock) → own_handles owns ≡ [] → owns ≡ []
 no_own [] is = refl
 no_own (own ∷ owns) is = cc
 
-own_of : (owns : List OwnLock) (at : ℕ) → IsIn at (own_handles owns) → (own : OwnLock) × (IsIn own owns × (own.at ≡ at))
-own_of [] at there = absurd there
-own_of (x ∷ owns) at there = elim there [
-  | inl here ↦ (x, (inl refl, here))
-  | inr later ↦ let found = own_of owns at later in (found.0, (inr found.1.0, found.1.1))
-]
-
-of_own : (owns : List OwnLock) (own : OwnLock) → IsIn own owns → IsIn own.at (own_handles owns)
-of_own [] own there = absurd there
-of_own (x ∷ owns) own there = elim there [
-  | inl here ↦ inl (ap (λ (o : OwnLock). o.at) here)
-  | inr later ↦ inr (of_own owns own later)
-]
-
--- the own locks of a process are apart by their handles
-own_handles_apart : (owns : List OwnLock) → AreOwnApart owns → IsApart (own_handles owns)
-own_handles_apart [] apart = tt
-own_handles_apart (own ∷ owns) apart = (
-  λ there. let found = own_of owns own.at there in apart.0 found.0 found.1.0 found.1.1,
-  own_handles_apart owns apart.1,
-)
-
 -- where no row goes, what is left is what is there
 module _ (s : Records) (sound : IsSound s) (goes : Row → Bool) (invalidates : Bool) (none : (at : ℕ) (row : Row) → Stores s at row → goes row ≡ false) where
   each_other : (locks : List StoredLock) → ((k : StoredLock) → IsIn k locks → Stores s k.at k.row) → AllByRecursion (IsOthers goes) (rows_of_locks locks)
@@ -179,7 +158,7 @@ module _ (owner pid : ℕ) (s : Records) (sound : IsSound s) (lives : IsProcess 
 
   -- each of its locks is there once
   pub handles_apart : IsApart (own_handles_at owner s)
-  handles_apart = subst IsApart (sym its_handles) (own_handles_apart p.own (sound.own_apart p lives.1.0))
+  handles_apart = subst IsApart (sym its_handles) (own_handles-apart p.own (sound.own_apart p lives.1.0))
 
   -- they stand by rising identification
   pub they_rise : IsAtRest s → StandByIdentification s (own_handles_at owner s)
@@ -187,32 +166,19 @@ module _ (owner pid : ℕ) (s : Records) (sound : IsSound s) (lives : IsProcess 
 
   -- no other process has its identification
   only_it : (q : StoredProcess) → IsIn q s.processes → q.process.pid ≡ pid → q ≡ p
-  only_it q among same = by_apart s.processes sound.processes_apart q p among lives.1.0 (same ∙ sym lives.1.2)
-    where
-      by_apart : (ps : List StoredProcess) → AreProcessesApart ps → (a b : StoredProcess) → IsIn a ps → IsIn b ps → a.process.pid ≡ b.process.pid → a ≡ b
-      by_apart [] apart a b in_a in_b same = absurd in_a
-      by_apart (x ∷ ps) apart a b in_a in_b same = elim in_a [
-        | inl here ↦ elim in_b [
-          | inl too ↦ sym here ∙ too
-          | inr there ↦ absurd ((apart.0 b there).1 (sym same ∙ ap (λ (y : StoredProcess). y.process.pid) (sym here)))
-        ]
-        | inr there ↦ elim in_b [
-          | inl here ↦ absurd ((apart.0 a there).1 (same ∙ ap (λ (y : StoredProcess). y.process.pid) (sym here)))
-          | inr too ↦ by_apart ps apart.1 a b there too same
-        ]
-      ]
+  only_it q among same = one_process s.processes sound.processes_apart q p among lives.1.0 (same ∙ sym lives.1.2)
 
   -- each of its locks is among its own
   pub owned_here : (at : ℕ) (row : Row) → Stores s at row → row.pid ≡ pid → IsIn at (own_handles p.own)
   owned_here at row stored mine =
       let owned = sound.owned.owned at row stored in
       let same : owned.0 ≡ p = only_it owned.0 owned.2.0 (owned.2.1 ∙ mine) in
-      subst (λ h. IsIn h (own_handles p.own)) owned.2.3 (of_own p.own owned.1 (subst (λ (q : StoredProcess). IsIn owned.1 q.own) same owned.2.2))
+      subst (λ h. IsIn h (own_handles p.own)) owned.2.3 (own_under_handle p.own owned.1 (subst (λ (q : StoredProcess). IsIn owned.1 q.own) same owned.2.2))
 
   -- and stands with its identification
   pub stored_here : (at : ℕ) → IsIn at (own_handles_at owner s) → (row : Row) × (Stores s at row × (row.pid ≡ pid))
   stored_here at there =
-      let own = own_of p.own at (subst (IsIn at) its_handles there) in
+      let own = own_handle p.own at (subst (IsIn at) its_handles there) in
       let owns = sound.owned.owns p own.0 lives.1.0 own.1.0 in
       (owns.0, (subst (λ h. Stores s h owns.0) own.1.1 owns.1.0, owns.1.1 ∙ lives.1.2))
 
@@ -286,7 +252,7 @@ among_others at k (x ∷ locks) other there = of_test (x.at == at) refl (among_o
     ]
 
 -- a resource of another handle is among the others
-other_resource : (res : ℕ) (r : StoredResource) (rs : List StoredResource) → r.at ≢ res → IsIn r rs → IsIn r (without_resource res rs)
+pub other_resource : (res : ℕ) (r : StoredResource) (rs : List StoredResource) → r.at ≢ res → IsIn r rs → IsIn r (without_resource res rs)
 other_resource res r [] other there = there
 other_resource res r (x ∷ rs) other there = of_test (x.at == res) refl (other_resource res r rs other)
   where
@@ -301,7 +267,7 @@ other_resource res r (x ∷ rs) other there = of_test (x.at == res) refl (other_
       | inr behind ↦ inr (later behind)
     ]
 
-of_others : (res : ℕ) (r : StoredResource) (rs : List StoredResource) → IsIn r (without_resource res rs) → IsIn r rs
+pub of_others : (res : ℕ) (r : StoredResource) (rs : List StoredResource) → IsIn r (without_resource res rs) → IsIn r rs
 of_others res r [] there = there
 of_others res r (x ∷ rs) there = of_test (x.at == res) there (of_others res r rs)
   where
@@ -361,7 +327,7 @@ module _ (s new : Records) (sound : IsSound s) (sound_new : IsSound new) (f : St
       let owned = sound_new.owned.owned f.lock row stored in
       let was = same_own (map (process_without_lock f.lock) s.processes) new.processes own_locks owned.0 owned.2.0 in
       let here : IsIn f.lock (own_handles was.0.own) =
-      subst (λ owns. IsIn f.lock (own_handles owns)) (sym was.1.1) (subst (λ h. IsIn h (own_handles owned.0.own)) owned.2.3 (of_own owned.0.own owned.1 owned.2.2)) in
+      subst (λ owns. IsIn f.lock (own_handles owns)) (sym was.1.1) (subst (λ h. IsIn h (own_handles owned.0.own)) owned.2.3 (own_under_handle owned.0.own owned.1 owned.2.2)) in
       let had = was_process (process_without_lock f.lock) s.processes was.0 was.1.0 in
       (IsIn-without f.lock f.lock (own_handles had.0.own)
       (subst (IsIn f.lock) (ap (λ (q : StoredProcess). own_handles q.own) (sym had.1.1) ∙ handles_without f.lock had.0.own) here)).1 refl

@@ -12,7 +12,7 @@ use Rattle.vlm_locks.specs.Left.{is_among}
 use Rattle.vlm_locks.specs.Owing.{IsPaid, LosesOne, OwedMoves, row_at_end, weight_of, weight_on}
 use Rattle.vlm_locks.specs.Withdrawing.{owned_after}
 use Rattle.vlm_locks.proofs.Chosen.{among_push}
-use Rattle.vlm_locks.proofs.Owing.{due_own, owed_by_locks}
+use Rattle.vlm_locks.proofs.Owing.{due_own, nothing_due, owed_by_locks}
 use Rattle.vlm_locks.proofs.Stood.{one_lock, queued_stored}
 use Rattle.vlm_locks.proofs.Weighing.{only, stored_weighs, sum_alike, sum_both}
 
@@ -82,11 +82,7 @@ module _ (lkids : List ℕ) (s : Records) (sound : IsSound s) (at : ℕ) (row : 
   pub paid_on : IsPaidBut lkids s → (t : Records) → SameButNotices s t → OwedMoves row (row_at_end row) s t → IsPaidBut (lkids ++ row.lkid ∷ []) t
   paid_on paid t same owed pid =
       let there : weight_of (due_but (lkids ++ row.lkid ∷ []) pid) t ≡ weight_of (due_but (lkids ++ row.lkid ∷ []) pid) s = rw (same.resources, same.loose) refl in
-      omega (arith, owed pid, paid pid, one_fewer pid, there, nothing (row.pid == pid))
-    where
-      nothing : (b : Bool) → cond b (row_due (row_at_end row)) 0 ≡ 0
-      nothing true = refl
-      nothing false = refl
+      omega (arith, owed pid, paid pid, one_fewer pid, there, nothing_due row pid)
 
 -- one of these goes
 pub paid_without : (lkids : List ℕ) (s t : Records) (at : ℕ) (row : Row) → is_among lkids row ≡ true → LosesOne (record { at = at; row = row }) s t

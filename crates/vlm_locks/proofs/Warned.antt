@@ -17,13 +17,15 @@ use Rattle.vlm_links.specs.Lists.{IsIn}
 use Rattle.vlm_records.specs.declared.handles.Place.TheVariants.{Loose, Queued}
 use Rattle.vlm_store.specs.Armed.{IsArmedAt, armed_among, armed_at}
 use Rattle.vlm_store.specs.Plain.{plain_processes, plain_resource}
+use Rattle.vlm_store.proofs.Walks.{lock_among}
+use Rattle.vlm_words.proofs.Settled.{unwarned_says_nothing, unwarned_stays}
 use Rattle.vlm_store.specs.Records.{AreApart, DueChanges, HasResource, IsSameLock, IsSound, Records, SameButNotices, StoredLock, StoredResource, Stores, at_after, but_notices, disarmed, disarming, due_of, first_at, locks_at, on_resource, queued, resource_at, resource_with, rows_of_locks, with_lists}
 use Rattle.vlm_store.proofs.Records.{map_on, queue_at}
 use Rattle.vlm_locks.specs.Owing.{DueMoves, IsPaid, OwedMoves, due_for}
 use Rattle.vlm_locks.specs.Rest.{IsReplaced}
 use Rattle.vlm_locks.specs.Staying.{LocksStay}
 use Rattle.vlm_locks.specs.Warning.{IsLockWarned, IsWarned, disarmed_if, disarmed_row, is_warned_on}
-use Rattle.vlm_locks.proofs.ArmedOnes.{StartsArmed, among_armed, among_between, armed_apart, armed_split, behind, from_armed, from_lock, handles, handles_from}
+use Rattle.vlm_locks.proofs.ArmedOnes.{StartsArmed, among_armed, armed_apart, armed_split, behind, from_armed, from_lock, handles, handles_from}
 use Rattle.vlm_locks.proofs.Found.{on_resource-own, on_resource-put, resource_alone, resource_at-put}
 use Rattle.vlm_locks.proofs.Owing.{due_noticed, owed_moves, owed_other, owed_own, paid_still, weight}
 use Rattle.vlm_locks.proofs.Replaced.{found_left, left_at}
@@ -227,12 +229,8 @@ disarm_among : (before rest : List StoredLock) (k : StoredLock) → AreApart (be
     → map (λ (x : StoredLock). cond (x.at == k.at) (disarmed x) x) (before ++ k ∷ rest) ≡ before ++ disarmed k ∷ rest
 disarm_among [] rest k apart = rw (eq-eqb k.at k.at refl) (ap (λ xs. disarmed k ∷ xs) (disarm_absent k.at rest apart.0))
 disarm_among (x ∷ before) rest k apart =
-    rw (ne_eqb x.at k.at (λ same. apart.0 k.row (subst (λ (y : ℕ). IsIn (record { at = y; row = k.row }) (before ++ k ∷ rest)) (sym same) (among k before rest))))
+    rw (ne_eqb x.at k.at (λ same. apart.0 k.row (subst (λ (y : ℕ). IsIn (record { at = y; row = k.row }) (before ++ k ∷ rest)) (sym same) (lock_among k before rest))))
     (ap (λ xs. x ∷ xs) (disarm_among before rest k apart.1))
-  where
-    among : (lock : StoredLock) (xs ys : List StoredLock) → IsIn lock (xs ++ lock ∷ ys)
-    among lock [] ys = inl refl
-    among lock (y ∷ xs) ys = inr (among lock xs ys)
 
 -- those that a walk of the granted locks has left
 abbrev pub left_to_warn : ℕ → Option ℕ → Records → List ℕ
@@ -326,7 +324,7 @@ disarmed_resources s sound res r lock row before rest found split then same gran
     in_granted = ap (λ o. option_map_or (queued Granted) o []) found
 
     stands : IsIn own (locks_at (Queued res Granted) s)
-    stands = subst (IsIn own) (sym (in_granted ∙ split)) (among_between own before rest)
+    stands = subst (IsIn own) (sym (in_granted ∙ split)) (lock_among own before rest)
 
     absent : (x : StoredResource) → IsIn x s.resources → (queue : Queue) → Queued x.at queue ≢ Queued res Granted
         → map (λ (k : StoredLock). cond (k.at == lock) (disarmed k) k) (queued queue x) ≡ queued queue x
@@ -421,7 +419,7 @@ module _ (res : ℕ) (old s : Records) (next : Option ℕ) (warning : IsWarning 
     granted_apart = subst AreApart granted_split (sound.locks_apart (Queued res Granted))
 
     pub next_stands : IsIn own (locks_at (Queued res Granted) s)
-    next_stands = subst (IsIn own) (sym granted_split) (among_between own before has_next.rest)
+    next_stands = subst (IsIn own) (sym granted_split) (lock_among own before has_next.rest)
 
     pub next_stored : Stores s lock has_next.row
     next_stored = (Queued res Granted, next_stands)
@@ -546,24 +544,6 @@ module _ (res : ℕ) (old s : Records) (next : Option ℕ) (warning : IsWarning 
 -- what is known of what is found
 pub if_found : (P : StoredResource → Type 0) (res : ℕ) (s : Records) (r : StoredResource) → resource_at res s.resources ≡ Some r → P r → IfSome (resource_at res s.resources) P
 if_found P res s r found holds = subst (λ o. IfSome o P) (sym found) holds
-
--- where no row is to be warned, none is
-rows_unwarned : (converting waiting rows : List Row) → list_any (is_to_warn converting waiting) rows ≡ false
-    → (map (row_after_warning converting waiting) rows ≡ rows) × (flat_map (row_warnings converting waiting) rows ≡ [])
-unfolding row_after_warning row_warnings
-rows_unwarned converting waiting [] none = (refl, refl)
-rows_unwarned converting waiting (row ∷ rows) none =
-    let parts = or_parts (is_to_warn converting waiting row) (list_any (is_to_warn converting waiting) rows) none in
-    let behind = rows_unwarned converting waiting rows parts.1 in
-    (rw parts.0 (ap (λ (all : List Row). row ∷ all) behind.0), rw parts.0 behind.1)
-
-unwarned_stays : (r : Resource) → has_to_warn r ≡ false → resource_after_warning r ≡ r
-unfolding has_to_warn resource_after_warning
-unwarned_stays r none = ap (λ (rows : List Row). record r { granted = rows }) (rows_unwarned r.converting r.waiting r.granted none).0
-
-unwarned_says_nothing : (r : Resource) → has_to_warn r ≡ false → warnings r ≡ []
-unfolding has_to_warn warnings
-unwarned_says_nothing r none = (rows_unwarned r.converting r.waiting r.granted none).1
 
 -- nobody is to be warned
 pub none_warned : (res : ℕ) (s : Records) → IsSound s → HasResource res s → IfSome (resource_at res s.resources) (λ r. false ≡ has_to_warn (plain_resource r))

@@ -43,16 +43,16 @@ as_long xs ys apart others within back = omega (arith, no_longer xs ys apart oth
 
 -- ---- the handles of a process's own locks
 
-abbrev own_handles : List OwnLock → List ℕ
+abbrev pub own_handles : List OwnLock → List ℕ
 own_handles own = map (λ (o : OwnLock). o.at) own
 
-own_handle : (own : List OwnLock) (k : ℕ) → IsIn k (own_handles own) → (o : OwnLock) × (IsIn o own × (o.at ≡ k))
+pub own_handle : (own : List OwnLock) (k : ℕ) → IsIn k (own_handles own) → (o : OwnLock) × (IsIn o own × (o.at ≡ k))
 own_handle = IsIn-of_image (λ (o : OwnLock). o.at)
 
-own_under_handle : (own : List OwnLock) (o : OwnLock) → IsIn o own → IsIn o.at (own_handles own)
+pub own_under_handle : (own : List OwnLock) (o : OwnLock) → IsIn o own → IsIn o.at (own_handles own)
 own_under_handle = IsIn-image (λ (o : OwnLock). o.at)
 
-own_handles-apart : (own : List OwnLock) → AreOwnApart own → IsApart (own_handles own)
+pub own_handles-apart : (own : List OwnLock) → AreOwnApart own → IsApart (own_handles own)
 own_handles-apart [] apart = tt
 own_handles-apart (o ∷ rest) apart = (
   λ found. let other = own_handle rest o.at found in apart.0 other.0 other.1.0 other.1.1,
@@ -226,7 +226,7 @@ module _ (pid : ℕ) where
         (λ loose. let stands = among_handles s.loose at loose in (stands.0, ((Loose, stands.1.0), stands.1.1))) found
 
 -- two processes with one identification are one
-one_process : (ps : List StoredProcess) → AreProcessesApart ps → (p q : StoredProcess) → IsIn p ps → IsIn q ps → p.process.pid ≡ q.process.pid → p ≡ q
+pub one_process : (ps : List StoredProcess) → AreProcessesApart ps → (p q : StoredProcess) → IsIn p ps → IsIn q ps → p.process.pid ≡ q.process.pid → p ≡ q
 one_process [] apart p q here there same = absurd here
 one_process (x ∷ ps) apart p q here there same =
     elim here [

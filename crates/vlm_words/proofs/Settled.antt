@@ -84,11 +84,11 @@ none_warned converting waiting (row ∷ rows) none =
     (rw parts.0 (ap (λ (all : List Row). row ∷ all) behind.0), rw parts.0 behind.1)
 
 -- so the resource stays, and nothing is queued
-unwarned_stays : (r : Resource) → has_to_warn r ≡ false → resource_after_warning r ≡ r
+pub unwarned_stays : (r : Resource) → has_to_warn r ≡ false → resource_after_warning r ≡ r
 unfolding has_to_warn resource_after_warning
 unwarned_stays r none = ap (λ (rows : List Row). record r { granted = rows }) (none_warned r.converting r.waiting r.granted none).0
 
-unwarned_says_nothing : (r : Resource) → has_to_warn r ≡ false → warnings r ≡ []
+pub unwarned_says_nothing : (r : Resource) → has_to_warn r ≡ false → warnings r ≡ []
 unfolding has_to_warn warnings
 unwarned_says_nothing r none = (none_warned r.converting r.waiting r.granted none).1
 
