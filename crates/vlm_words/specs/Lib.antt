@@ -28,6 +28,7 @@ pub mod Withdrawals
 pub mod OwnLocks
 pub mod Dequeue
 pub mod Rundown
+pub mod Deadlocks
 pub mod Dues
 pub mod Stepped
 pub mod Runs
