@@ -38,7 +38,7 @@ nodlckblk = 128
 
 -- the bits of new requests and conversions that are built
 abbrev pub enq_bits : ℕ
-enq_bits = valblk + noqueue + syncsts + system + expedite + quecvt
+enq_bits = valblk + noqueue + syncsts + system + expedite + quecvt + nodlckwt + nodlckblk
 
 -- all locks below a lock, or all of the caller, are given up
 abbrev pub deqall : ℕ

@@ -19,7 +19,7 @@ use Rattle.vlm_words.specs.declared.steps.ValueSetting.{ValueSetting}
 use Rattle.vlm_words.specs.declared.steps.Which.TheVariants.{Id, Block}
 use Rattle.vlm_words.specs.declared.steps.Which.{Which}
 use Rattle.vlm_words.specs.Modes.{is_queued_legally}
-use Rattle.vlm_words.specs.Flags.{cancel, deqall, expedite, has_flag, invvalblk, noqueue, quecvt, syncsts, system, valblk}
+use Rattle.vlm_words.specs.Flags.{cancel, deqall, expedite, has_flag, invvalblk, nodlckblk, nodlckwt, noqueue, quecvt, syncsts, system, valblk}
 use Rattle.vlm_words.specs.State.{Process, State, node_at, process_of}
 use Rattle.vlm_words.specs.Checks.{named_lkid}
 use Rattle.vlm_words.specs.Stepped.{stepped}
@@ -27,7 +27,7 @@ use Rattle.vlm_words.specs.Laws.{ConvertsInTurn, IsAskedFor, IsFreeFor, IsGrante
 
 -- the flags of new requests and conversions that are built
 abbrev pub request_flags : List ℕ
-request_flags = valblk ∷ noqueue ∷ syncsts ∷ system ∷ expedite ∷ quecvt ∷ []
+request_flags = valblk ∷ noqueue ∷ syncsts ∷ system ∷ expedite ∷ quecvt ∷ nodlckwt ∷ nodlckblk ∷ []
 
 -- the flags of dequeues that are built
 abbrev pub dequeue_flags : List ℕ
