@@ -29,6 +29,7 @@ pub mod OwnLocks
 pub mod Dequeue
 pub mod Rundown
 pub mod Deadlocks
+pub mod Search
 pub mod Dues
 pub mod Stepped
 pub mod Runs
