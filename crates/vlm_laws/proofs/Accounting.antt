@@ -24,7 +24,7 @@ use Rattle.vlm_words.specs.Declare.{declare_change, declared_process}
 use Rattle.vlm_words.specs.SetValue.{set_change}
 use Rattle.vlm_words.specs.Take.{take_change}
 use Rattle.vlm_words.specs.Convert.{ConversionAdmission}
-use Rattle.vlm_words.specs.Dequeue.{deq_change, deq_endings}
+use Rattle.vlm_words.specs.Dequeue.{deq_change, deq_endings, withdrawals_of}
 use Rattle.vlm_words.specs.Rundown.{is_ended_by, is_of_node, nodes_after_departure}
 use Rattle.vlm_words.specs.Taking.{AstsAfter, AstsAfterTake, AstsAreTakenInOrder, AstsLeft, queued_to}
 use Rattle.vlm_words.specs.Stepped.{IsChoice, Outcome, Stepped, conversion_change, end_of_processes, outcome_endings, outcome_queued, refused_or, step_change, step_refusal, stepped, stepped_after_sweep}
@@ -38,7 +38,8 @@ use Rattle.vlm_words.proofs.Queueing.{asts_are, queued_to-append, sweep_queues}
 use Rattle.vlm_words.proofs.WhoseLocks.{owning}
 use Rattle.vlm_laws.specs.Accounting.{IsTakenButFor, WhatIsQueuedIsTakenOrPending, taken_by, taken_in}
 use Rattle.vlm_laws.proofs.Living.{GivesAnew, lived_before, lives, named, new_has_none, no, no_asts, no_quota, none_given_refused, step_gives, swept_still, who}
-use Rattle.vlm_laws.proofs.Strangers.{NoneOf, none_converted, none_dequeued, none_ended, none_owned, none_requested, none_swept}
+use Rattle.vlm_laws.proofs.Strangers.{none_withdrawn, NoneOf, none_converted, none_ended, none_owned, none_requested, none_swept}
+use Rattle.vlm_words.specs.Search.{victim_withdrawals, search_change, search_endings}
 
 -- ---- what a step does
 
@@ -177,7 +178,7 @@ made_for_others : (s : State) (step : Step) (choice : Option Row) → ((pid : �
     → step_refusal s step ≡ None
     → IsAccountedForOthers s (stepped_after_sweep (step_change s step choice)).state step (step_change s step choice).answer
     (stepped_after_sweep (step_change s step choice)).queued
-unfolding set_change take_change deq_change
+unfolding set_change take_change deq_change search_change
 made_for_others s (Declare d) choice none passed = declared_for_others s d choice none
 made_for_others s (SetValue v) choice none passed =
     swept_for_others s (SetValue v) (step_change s (SetValue v) choice) (kept_set named (λ _ _. refl) v.pid v.block v.value s.processes)
@@ -194,11 +195,14 @@ made_for_others s (Convert c) choice none passed =
     (λ pid out. none_converted s c admitted.0 pid admitted.1 (none pid out)) (λ pid out. refl))
 made_for_others s (Deq d) choice none passed =
     swept_for_others s (Deq d) (step_change s (Deq d) choice) (kept_ended named (λ _ _ _. refl) (deq_endings s d) (blocks_with new_value_block s.processes))
-    (λ pid out. none_dequeued s d pid (none pid out)) (λ pid out. refl)
+    (λ pid out. none_withdrawn s (withdrawals_of s d) pid (none pid out)) (λ pid out. refl)
 made_for_others s (Rundown process) choice none passed = ended_for_others s (Rundown process) (is_ended_by process) s.nodes none (λ pid. refl)
 made_for_others s (Leave node) choice none passed =
     ended_for_others s (Leave node) (is_of_node node) (nodes_after_departure s.nodes node) none (λ pid. refl)
-made_for_others s (Search node) choice none passed = cc
+made_for_others s (Search node) choice none passed =
+    swept_for_others s (Search node) (step_change s (Search node) choice)
+    (kept_ended named (λ _ _ _. refl) (search_endings s choice) (blocks_with new_value_block s.processes))
+    (λ pid out. none_withdrawn s (victim_withdrawals choice) pid (none pid out)) (λ pid out. refl)
 made_for_others s (Take process) choice none passed =
     swept_for_others s (Take process) (step_change s (Take process) choice) (kept_taken named (λ _ _. refl) process s.processes)
     (λ pid out. record { queued = refl; locks = none pid out })

@@ -14,7 +14,7 @@ use Rattle.vlm_words.specs.declared.steps.Step.TheVariants.{Declare, SetValue, E
 use Rattle.vlm_words.specs.declared.steps.Step.{Step}
 use Rattle.vlm_words.specs.State.{Resource, State}
 use Rattle.vlm_words.specs.Endings.{Ending, How, is_told}
-use Rattle.vlm_words.specs.Endings.How.{by_abort, by_cancel, by_grant, by_rundown}
+use Rattle.vlm_words.specs.Endings.How.{by_abort, by_cancel, by_deadlock, by_grant, by_rundown}
 use Rattle.vlm_words.specs.Asts.{Queued, asts_for, blocking_asts, completion_asts, completions, completions_of, is_synchronous, is_to_warn, row_warnings, warnings}
 use Rattle.vlm_words.specs.Grants.{service}
 use Rattle.vlm_words.specs.Sweeps.{service_asts, sweep_asts, sweep_endings}
@@ -56,6 +56,7 @@ one_matches ending = of_how ending.how (is_synchronous ending.at_once ending.req
     of_how (by_grant act) told routine = of_tests told routine
     of_how by_abort told routine = of_tests told routine
     of_how by_cancel told routine = of_tests told routine
+    of_how by_deadlock told routine = of_tests told routine
     of_how by_rundown told routine = refl
 
 -- the completions of endings

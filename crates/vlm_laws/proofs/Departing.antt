@@ -24,7 +24,7 @@ use Rattle.vlm_words.specs.SetValue.{set_change, set_refusal}
 use Rattle.vlm_words.specs.Take.{take_change}
 use Rattle.vlm_words.specs.Enqueue.{enq_change, enq_refusal}
 use Rattle.vlm_words.specs.Convert.{ConversionAdmission, convert_change, convert_refusal}
-use Rattle.vlm_words.specs.Dequeue.{deq_change, deq_endings, deq_refusal}
+use Rattle.vlm_words.specs.Dequeue.{deq_change, deq_refusal}
 use Rattle.vlm_words.specs.Rundown.{leave_refusal, nodes_after_departure, processes_but, state_after_rundown}
 use Rattle.vlm_words.specs.Stepped.{Outcome, conversion_change, refused_or, step_change, step_refusal, stepped, stepped_after_sweep}
 use Rattle.vlm_words.specs.Runs.{History, Run, begin, next}
@@ -38,6 +38,8 @@ use Rattle.vlm_words.proofs.Refusals.{node_departed}
 use Rattle.vlm_words.proofs.Written.{departure_not_normal}
 use Rattle.vlm_laws.specs.Departing.{DepartedNodesAreToldSo, HasLeft, IsDeparture, IsStepOf, NoneLivesOnDepartedNodes}
 use Rattle.vlm_laws.proofs.Happened.{all_answered, happened_before, happened_either, happened_now, refused_outcome}
+use Rattle.vlm_words.specs.Withdrawals.{state_after_withdrawals, withdrawn_endings}
+use Rattle.vlm_words.specs.Search.{search_change}
 
 -- ---- what a step makes of the nodes
 
@@ -131,7 +133,7 @@ departure_departs s node eight of_node =
 -- a step that no check refuses
 made_departs : (s : State) (step : Step) (choice : Option Row) → length s.nodes ≡ 8 → step_refusal s step ≡ None
     → Departs s.nodes (stepped_after_sweep (step_change s step choice)).state.nodes step (step_change s step choice).answer
-unfolding declare_change set_change take_change enq_change convert_change deq_change state_after_rundown
+unfolding declare_change set_change take_change enq_change convert_change deq_change search_change state_after_rundown
 made_departs s (Declare d) choice eight passed =
     let same : (node : ℕ) → (node_at (declare_change s d).nodes node).departed ≡ (node_at s.nodes node).departed =
     λ node. same_departed s.nodes (d.node - 1) (node - 1) ((node_at s.nodes d.node).declared + 1) in
@@ -149,7 +151,8 @@ made_departs s (Deq d) choice eight passed =
 made_departs s (Rundown pid) choice eight passed =
     none_departs s.nodes s.nodes (Rundown pid) _ (λ node is. is) (λ node is. is) (λ node is. cc)
 made_departs s (Leave node) choice eight passed = departure_departs s node eight (leaver_is_node s node passed)
-made_departs s (Search node) choice eight passed = cc
+made_departs s (Search node) choice eight passed =
+    none_departs s.nodes s.nodes (Search node) _ (λ node is. is) (λ node is. is) (λ node is. cc)
 made_departs s (Take pid) choice eight passed =
     none_departs s.nodes s.nodes (Take pid) _ (λ node is. is) (λ node is. is) (λ node is. cc)
 
@@ -270,7 +273,9 @@ told_by_checks s node eight gone (Rundown pid) of_node = told_caller s pid (subs
 told_by_checks s node eight gone (Leave other) of_node =
     let here : HasGone s.nodes other = subst (HasGone s.nodes) (sym of_node) gone in
     rw (gone_is_node s other eight here, gone_is s other here) refl
-told_by_checks s node eight gone (Search other) of_node = absurd of_node
+told_by_checks s node eight gone (Search other) of_node =
+    let here : HasGone s.nodes other = subst (HasGone s.nodes) (sym of_node) gone in
+    rw (gone_is_node s other eight here, gone_is s other here) refl
 told_by_checks s node eight gone (Take pid) of_node = told_caller s pid (subst (HasGone s.nodes) (sym of_node) gone)
 
 -- which node breaks the rule of DEPARTED
@@ -282,7 +287,7 @@ broken_by s (Convert c) broken = (c.pid / 65536, refl, broken)
 broken_by s (Deq d) broken = (d.pid / 65536, refl, broken)
 broken_by s (Rundown pid) broken = (pid / 65536, refl, broken)
 broken_by s (Leave node) broken = (node, refl, broken)
-broken_by s (Search node) broken = absurd broken
+broken_by s (Search node) broken = (node, refl, broken)
 broken_by s (Take pid) broken = (pid / 65536, refl, broken)
 
 -- no accepted step is answered DEPARTED
@@ -380,7 +385,7 @@ ended_stay s is_one nodes ends stay = left_stay is_one s.nodes nodes (still_stay
 
 -- after every run no living process is of a node that has departed
 stay_always : (history : History) (last : State) → Run history last → AllStay last
-unfolding set_change take_change enq_change convert_change deq_change
+unfolding set_change take_change enq_change convert_change
 stay_always =
     always (λ _ s. AllStay s) tt
     (λ history s _ stay.
@@ -390,9 +395,10 @@ stay_always =
     (λ taker _. swept_stay (take_change s taker) (same_stay s (take_change s taker) refl (kept_taken (λ p. p.pid) (λ _ _. refl) taker s.processes) stay))
     (λ e _. swept_stay (enq_change s e) (same_stay s (enq_change s e) refl (kept_entered (λ p. p.pid) (λ _ _ _. refl) s e) stay))
     (λ c a _ _. swept_stay (convert_change s c a) (same_stay s (convert_change s c a) refl (kept_converted (λ p. p.pid) (λ _ _ _. refl) s c a) stay))
-    (λ d _.
-    swept_stay (deq_change s d)
-    (same_stay s (deq_change s d) refl (kept_ended (λ p. p.pid) (λ _ _ _. refl) (deq_endings s d) (blocks_with new_value_block s.processes)) stay))
+    (λ withdrawals _.
+    let after : State = state_after_withdrawals withdrawals s in
+    swept_stay after
+    (same_stay s after refl (kept_ended (λ p. p.pid) (λ _ _ _. refl) (withdrawn_endings withdrawals s.resources) (blocks_with new_value_block s.processes)) stay))
     (λ is_one nodes ends. swept_stay (state_after_rundown is_one nodes s) (ended_stay s is_one nodes ends stay)))
 
 -- so none is of this one

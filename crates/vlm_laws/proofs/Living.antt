@@ -33,6 +33,7 @@ use Rattle.vlm_words.proofs.Always.{admission_of}
 use Rattle.vlm_words.proofs.Declarations.{AllGiven, HasOrdinal, IsGiven, declared_given, given_always, next_is_new, none_less, ordinal_left, pids, same_declared}
 use Rattle.vlm_words.proofs.Ended.{found_still, is_left, same_living, swept_living}
 use Rattle.vlm_words.proofs.Processes.{kept_converted, kept_ended, kept_entered, kept_set, kept_taken}
+use Rattle.vlm_words.specs.Search.{search_change, search_endings}
 
 -- ---- who lives
 
@@ -182,7 +183,7 @@ end_gives s is_one nodes kept = record {
 -- a step that no check refuses
 made_gives : (s : State) (step : Step) (choice : Option Row) → AllGiven s → step_refusal s step ≡ None
     → GivesAnew s (stepped_after_sweep (step_change s step choice)).state (step_change s step choice).answer
-unfolding set_change take_change enq_change convert_change deq_change
+unfolding set_change take_change enq_change convert_change deq_change search_change
 made_gives s (Declare d) choice given passed = declaration_gives s d choice given (ordinal_left s d passed)
 made_gives s (SetValue v) choice given passed =
     none_given s (step_change s (SetValue v) choice) refl (kept_set named (λ _ _. refl) v.pid v.block v.value s.processes) (λ pid is. cc)
@@ -199,7 +200,9 @@ made_gives s (Rundown pid) choice given passed = end_gives s (is_ended_by pid) s
 made_gives s (Leave node) choice given passed =
     end_gives s (is_of_node node) (nodes_after_departure s.nodes node)
     (λ pid is. omega (arith, is, same_declared s.nodes (node - 1) (pid / 65536 - 1)))
-made_gives s (Search node) choice given passed = cc
+made_gives s (Search node) choice given passed =
+    none_given s (step_change s (Search node) choice) refl
+    (kept_ended named (λ _ _ _. refl) (search_endings s choice) (blocks_with new_value_block s.processes)) (λ pid is. cc)
 made_gives s (Take process) choice given passed =
     none_given s (step_change s (Take process) choice) refl (kept_taken named (λ _ _. refl) process s.processes) (λ pid is. cc)
 

@@ -44,6 +44,8 @@ use Rattle.vlm_laws.specs.Accounting.{taken_in}
 use Rattle.vlm_laws.specs.Raising.{NoMoreIsQueuedThanNamed, OnlyOwnRequestsRaiseDues, routines_asked, routines_named_in}
 use Rattle.vlm_laws.proofs.Accounting.{TakesInOrder, taken_and_left}
 use Rattle.vlm_laws.proofs.Falling.{calls, calls_many, entered_among_falls, grant_falls, many, many-append, own, swept_falls, withdrawals_fall}
+use Rattle.vlm_words.specs.Search.{victim_withdrawals, search_change, search_endings}
+use Rattle.vlm_words.proofs.Victims.{victims_apart}
 
 -- ---- conversions
 
@@ -209,6 +211,16 @@ dequeue_as_asked s d choice pid =
       withdrawals_fall pid (withdrawals_of s d) (dequeues_apart s d) s.resources,
     )
 
+-- a search
+search_as_asked : (s : State) (node : ℕ) (choice : Option Row) → RisesAsAsked s (Search node) (step_change s (Search node) choice)
+unfolding search_change
+search_as_asked s node choice pid =
+    omega (
+      arith,
+      calls_many pid (search_endings s choice),
+      withdrawals_fall pid (victim_withdrawals choice) (victims_apart choice) s.resources,
+    )
+
 -- the end of processes
 end_as_asked : (s : State) (step : Step) (is_one : ℕ → Bool) (nodes : List Node) → RisesAsAsked s step (end_of_processes is_one nodes s)
 unfolding state_after_rundown
@@ -235,7 +247,7 @@ made_as_asked s (Rundown process) choice apart passed =
 made_as_asked s (Leave node) choice apart passed =
     swept_as_asked s (Leave node) (step_change s (Leave node) choice)
     (end_as_asked s (Leave node) (is_of_node node) (nodes_after_departure s.nodes node))
-made_as_asked s (Search node) choice apart passed = cc
+made_as_asked s (Search node) choice apart passed = swept_as_asked s (Search node) (step_change s (Search node) choice) (search_as_asked s node choice)
 made_as_asked s (Take process) choice apart passed = swept_as_asked s (Take process) (step_change s (Take process) choice) (λ pid. omega arith)
 
 step_as_asked : (s : State) (step : Step) (choice : Option Row) → Apart s → (refusal : Option Cond) → step_refusal s step ≡ refusal

@@ -9,7 +9,6 @@ use Rattle.vlm_words.specs.declared.asts.AstKind.TheVariants.{Completion, Blocki
 use Rattle.vlm_words.specs.declared.locks.Request.{Request}
 use Rattle.vlm_words.specs.declared.locks.Row.{Row}
 use Rattle.vlm_words.specs.declared.steps.Conversion.{Conversion}
-use Rattle.vlm_words.specs.declared.steps.Dequeue.{Dequeue}
 use Rattle.vlm_words.specs.declared.steps.NewRequest.{NewRequest}
 use Rattle.vlm_words.specs.State.{Node, Resource, State}
 use Rattle.vlm_words.specs.Endings.{Ending, How, is_told, row_endings, wanted_endings}
@@ -22,8 +21,7 @@ use Rattle.vlm_words.specs.Rows.{is_lock_of, rows_of}
 use Rattle.vlm_words.specs.Trees.{enq_site}
 use Rattle.vlm_words.specs.Enqueue.{enq_at_once, enq_change, enq_endings, enq_refusal, enq_row}
 use Rattle.vlm_words.specs.Convert.{ConversionAdmission, admission_among, admission_or, conversion_endings, convert_admission, convert_blocks, convert_change, convert_lkid, convert_request, converts_at_once, resource_after_conversion, wanting_row}
-use Rattle.vlm_words.specs.Withdrawals.{Withdrawal, queue_endings, resource_after_withdrawals, withdrawal_endings, withdrawn_endings}
-use Rattle.vlm_words.specs.Dequeue.{deq_change, deq_endings, withdrawals_of}
+use Rattle.vlm_words.specs.Withdrawals.{Withdrawal, queue_endings, resource_after_withdrawals, withdrawal_endings, withdrawn_endings, state_after_withdrawals}
 use Rattle.vlm_words.specs.Rundown.{rundown_endings, rundowns, state_after_rundown}
 use Rattle.vlm_words.specs.Runs.{History, Run}
 use Rattle.vlm_words.specs.Taking.{queued_to}
@@ -303,16 +301,15 @@ none_end pid (w ∷ withdrawals) resources none =
       sum_by-append (mine pid) (flat_map (withdrawal_endings w) resources) (withdrawn_endings withdrawals resources),
     )
 
--- a dequeue
-pub none_dequeued : (s : State) (d : Dequeue) (pid : ℕ) → owning pid s.resources ≡ 0
-    → NoneOf pid (completions_of (deq_endings s d)) (deq_change s d).resources
-unfolding deq_change
-none_dequeued s d pid none = record {
-  queued = none_completes pid (deq_endings s d) (none_end pid (withdrawals_of s d) s.resources none);
+-- locks that are withdrawn
+pub none_withdrawn : (s : State) (withdrawals : List Withdrawal) (pid : ℕ) → owning pid s.resources ≡ 0
+    → NoneOf pid (completions_of (withdrawn_endings withdrawals s.resources)) (state_after_withdrawals withdrawals s).resources
+none_withdrawn s withdrawals pid none = record {
+  queued = none_completes pid (withdrawn_endings withdrawals s.resources) (none_end pid withdrawals s.resources none);
   locks = omega (
     arith,
     none,
-    sum_changed-le (weigh (owned pid)) (resource_after_withdrawals (withdrawals_of s d)) (withdrawn_named (owned pid) (owned_named pid) (withdrawals_of s d)) s.resources,
+    sum_changed-le (weigh (owned pid)) (resource_after_withdrawals withdrawals) (withdrawn_named (owned pid) (owned_named pid) withdrawals) s.resources,
   );
 }
 

@@ -11,9 +11,10 @@ use Rattle.vlm_words.specs.declared.locks.Request.{Request}
 use Rattle.vlm_words.specs.declared.locks.Row.{Row}
 use Rattle.vlm_words.specs.declared.resources.Site.{Site}
 use Rattle.vlm_words.specs.declared.resources.ValueBlock.{ValueBlock}
+use Rattle.vlm_words.specs.declared.conditions.Cond.TheVariants.{Normal}
+use Rattle.vlm_words.specs.declared.steps.Answer.TheVariants.{Plain, Victim}
 use Rattle.vlm_words.specs.declared.steps.Answer.{Answer}
 use Rattle.vlm_words.specs.declared.steps.Conversion.{Conversion}
-use Rattle.vlm_words.specs.declared.steps.Dequeue.{Dequeue}
 use Rattle.vlm_words.specs.declared.steps.NewRequest.{NewRequest}
 use Rattle.vlm_words.specs.declared.steps.Step.TheVariants.{Declare, SetValue, Enq, Convert, Deq, Rundown, Leave, Search, Take}
 use Rattle.vlm_words.specs.declared.steps.Step.{Step}
@@ -32,13 +33,13 @@ use Rattle.vlm_words.specs.Take.{take_change}
 use Rattle.vlm_words.specs.Trees.{enq_site}
 use Rattle.vlm_words.specs.Enqueue.{enq_at_once, enq_change, enq_endings, enq_row, resource_after_entry, resources_after_entry}
 use Rattle.vlm_words.specs.Convert.{ConversionAdmission, admission_among, admission_or, conversion_endings, convert_admission, convert_blocks, convert_change, convert_lkid, convert_request, converts_at_once, resource_after_conversion, resource_after_conversion_of, resource_without_granted, wanting_row}
-use Rattle.vlm_words.specs.Withdrawals.{Withdrawal, is_held_by_writer, resource_after_cancel, resource_after_going, resource_after_withdrawals, resource_after_writer, resource_without, row_after_cancel, value_block_after_writer}
-use Rattle.vlm_words.specs.Dequeue.{deq_change, deq_endings, withdrawals_of}
+use Rattle.vlm_words.specs.Withdrawals.{Withdrawal, is_held_by_writer, resource_after_cancel, resource_after_going, resource_after_withdrawals, resource_after_writer, resource_without, row_after_cancel, value_block_after_writer, withdrawn_endings}
+use Rattle.vlm_words.specs.Dequeue.{deq_change, withdrawals_of}
 use Rattle.vlm_words.specs.Rundown.{is_ended_by, is_of_node, nodes_after_departure, rundown_endings, rundowns, state_after_rundown}
 use Rattle.vlm_words.specs.Stepped.{Outcome, Stepped, conversion_change, end_of_processes, outcome_endings, outcome_queued, refused_or, step_change, step_refusal, stepped_after_sweep}
 use Rattle.vlm_words.specs.Runs.{History, Run, begin, next}
 use Rattle.vlm_words.proofs.Admissions.{admitted_request, some_same}
-use Rattle.vlm_words.proofs.Always.{admission_of}
+use Rattle.vlm_words.proofs.Always.{admission_of, withdrawal_of_all}
 use Rattle.vlm_words.proofs.Apart.{Apart, apart_always, standing, stands}
 use Rattle.vlm_words.proofs.Counts.{found_stands}
 use Rattle.vlm_words.proofs.Each.{Found, found_at}
@@ -49,6 +50,7 @@ use Rattle.vlm_laws.specs.WarnedOnce.{EachGrantIsWarnedAtMostOnce, is_armed_lock
 use Rattle.vlm_laws.proofs.Completing.{each_completion}
 use Rattle.vlm_laws.proofs.Falling.{dropped_is_due, is_armed}
 use Rattle.vlm_laws.proofs.Raising.{absent_unchanged}
+use Rattle.vlm_words.specs.Search.{victim_withdrawals, search_change, victim_lkid}
 
 -- 1 for a warning of the lock
 abbrev warned : ℕ → Queued → ℕ
@@ -419,14 +421,13 @@ conversion_given lkid s c a apart admitted =
     (all_converted_arm lkid (convert_request s c) c.pid named block a s.resources (apart.one_row named) admitted) in
     omega (arith, arms, all_complete lkid (conversion_endings a))
 
--- a dequeue
-dequeue_given : (lkid : ℕ) (s : State) (d : Dequeue) (choice : Option Row) → IsWithinGiven lkid s (step_change s (Deq d) choice)
-unfolding deq_change
-dequeue_given lkid s d choice =
+-- locks that are withdrawn
+withdrawn_given : (lkid : ℕ) (s : State) (answer : Answer) (withdrawals : List Withdrawal) → IsWithinGiven lkid s (withdrawal_of_all answer withdrawals s)
+withdrawn_given lkid s answer withdrawals =
     omega (
       arith,
-      all_complete lkid (deq_endings s d),
-      sum_changed-le (weigh (armed lkid)) (resource_after_withdrawals (withdrawals_of s d)) (withdrawn_armed lkid (withdrawals_of s d)) s.resources,
+      all_complete lkid (withdrawn_endings withdrawals s.resources),
+      sum_changed-le (weigh (armed lkid)) (resource_after_withdrawals withdrawals) (withdrawn_armed lkid withdrawals) s.resources,
     )
 
 -- the end of processes
@@ -442,7 +443,7 @@ end_given lkid s is_one nodes =
 -- a step that no check refuses
 made_given : (lkid : ℕ) (s : State) (step : Step) (choice : Option Row) → Apart s → step_refusal s step ≡ None
     → IsWithinGiven lkid s (stepped_after_sweep (step_change s step choice))
-unfolding declare_change set_change take_change
+unfolding declare_change set_change take_change deq_change search_change
 made_given lkid s (Declare d) choice apart passed = swept_given lkid s (step_change s (Declare d) choice) (omega arith)
 made_given lkid s (SetValue v) choice apart passed = swept_given lkid s (step_change s (SetValue v) choice) (omega arith)
 made_given lkid s (Enq e) choice apart passed = swept_given lkid s (step_change s (Enq e) choice) (request_given lkid s e choice)
@@ -450,12 +451,13 @@ made_given lkid s (Convert c) choice apart passed =
     let admitted = admission_of s c passed in
     subst (λ (a : Option ConversionAdmission). IsWithinGiven lkid s (stepped_after_sweep (conversion_change s c a))) (sym admitted.1)
     (swept_given lkid s (conversion_change s c (Some admitted.0)) (conversion_given lkid s c admitted.0 apart admitted.1))
-made_given lkid s (Deq d) choice apart passed = swept_given lkid s (step_change s (Deq d) choice) (dequeue_given lkid s d choice)
+made_given lkid s (Deq d) choice apart passed = swept_given lkid s (step_change s (Deq d) choice) (withdrawn_given lkid s (Plain Normal) (withdrawals_of s d))
 made_given lkid s (Rundown process) choice apart passed =
     swept_given lkid s (step_change s (Rundown process) choice) (end_given lkid s (is_ended_by process) s.nodes)
 made_given lkid s (Leave node) choice apart passed =
     swept_given lkid s (step_change s (Leave node) choice) (end_given lkid s (is_of_node node) (nodes_after_departure s.nodes node))
-made_given lkid s (Search node) choice apart passed = cc
+made_given lkid s (Search node) choice apart passed =
+    swept_given lkid s (step_change s (Search node) choice) (withdrawn_given lkid s (Victim (victim_lkid choice)) (victim_withdrawals choice))
 made_given lkid s (Take process) choice apart passed = swept_given lkid s (step_change s (Take process) choice) (omega arith)
 
 step_given : (lkid : ℕ) (s : State) (step : Step) (choice : Option Row) → Apart s → (refusal : Option Cond) → step_refusal s step ≡ refusal

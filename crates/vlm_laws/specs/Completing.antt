@@ -4,7 +4,7 @@ use Rattle.vlm_words.specs.declared.asts.AstKind.{AstKind}
 use Rattle.vlm_words.specs.declared.asts.AstKind.TheVariants.{Completion, Blocking}
 use Rattle.vlm_words.specs.Flags.{flag_bits, has_flag, syncsts}
 use Rattle.vlm_words.specs.Endings.{Ending, How}
-use Rattle.vlm_words.specs.Endings.How.{by_abort, by_cancel, by_grant, by_rundown}
+use Rattle.vlm_words.specs.Endings.How.{by_abort, by_cancel, by_deadlock, by_grant, by_rundown}
 use Rattle.vlm_words.specs.Asts.{Queued}
 
 -- the AST is a completion, and no warning
@@ -25,6 +25,7 @@ abbrev pub ends_with_its_process : How → Bool
 ends_with_its_process (by_grant act) = false
 ends_with_its_process by_abort = false
 ends_with_its_process by_cancel = false
+ends_with_its_process by_deadlock = false
 ends_with_its_process by_rundown = true
 
 -- the call of a routine for the end of a request, if one is named: queued to the process of the lock, with the

@@ -5,7 +5,7 @@ use Rattle.vlm_words.specs.declared.asts.AstKind.TheVariants.{Completion, Blocki
 use Rattle.vlm_words.specs.declared.locks.Row.{Row}
 use Rattle.vlm_words.specs.State.{Resource, State}
 use Rattle.vlm_words.specs.Endings.{Ending, How}
-use Rattle.vlm_words.specs.Endings.How.{by_abort, by_cancel, by_grant, by_rundown}
+use Rattle.vlm_words.specs.Endings.How.{by_abort, by_cancel, by_deadlock, by_grant, by_rundown}
 use Rattle.vlm_words.specs.Asts.{Queued}
 use Rattle.vlm_words.specs.Runs.{History}
 
@@ -33,6 +33,7 @@ abbrev pub is_granted_so : How → Bool
 is_granted_so (by_grant act) = true
 is_granted_so by_abort = false
 is_granted_so by_cancel = false
+is_granted_so by_deadlock = false
 is_granted_so by_rundown = false
 
 -- the end is a grant to the lock, of a request that names a blocking routine

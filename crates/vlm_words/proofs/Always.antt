@@ -3,6 +3,8 @@ use Rattle.std.proofs.Common.{ℕ, Bool, ◌≡◌, inl, inr, List, [], ◌++◌
 use Rattle.std.proofs.lemmas.List.{append-nil}
 use Rattle.vlm_words.specs.declared.conditions.Cond.{Cond}
 use Rattle.vlm_words.specs.declared.locks.Row.{Row}
+use Rattle.vlm_words.specs.declared.conditions.Cond.TheVariants.{Normal}
+use Rattle.vlm_words.specs.declared.steps.Answer.TheVariants.{Plain}
 use Rattle.vlm_words.specs.declared.steps.Answer.{Answer}
 use Rattle.vlm_words.specs.declared.steps.Conversion.{Conversion}
 use Rattle.vlm_words.specs.declared.steps.Declaration.{Declaration}
@@ -18,11 +20,16 @@ use Rattle.vlm_words.specs.SetValue.{set_refusal}
 use Rattle.vlm_words.specs.Take.{take_refusal}
 use Rattle.vlm_words.specs.Enqueue.{enq_refusal}
 use Rattle.vlm_words.specs.Convert.{ConversionAdmission, convert_admission, convert_refusal}
-use Rattle.vlm_words.specs.Dequeue.{deq_refusal}
+use Rattle.vlm_words.specs.Dequeue.{deq_change, deq_refusal, withdrawals_of}
+use Rattle.vlm_words.specs.Withdrawals.{Withdrawal, state_after_withdrawals, withdrawn_endings}
+use Rattle.vlm_words.specs.Deadlocks.{IsVictim}
+use Rattle.vlm_words.specs.Search.{search_change, search_refusal, victim_withdrawals}
 use Rattle.vlm_words.specs.Rundown.{is_ended_by, is_of_node, leave_refusal, nodes_after_departure, rundown_refusal}
 use Rattle.vlm_words.specs.Stepped.{IsChoice, Outcome, end_of_processes, Stepped, conversion_change, outcome_endings, refused_or, step_change, step_refusal, stepped, stepped_after_sweep}
 use Rattle.vlm_words.specs.Runs.{History, Run, begin, next}
+use Rattle.vlm_words.specs.Asts.{completions_of}
 use Rattle.vlm_words.proofs.Passed.{admission_passes, some_admission}
+use Rattle.vlm_words.proofs.Victims.{victim_of}
 
 -- what is said of a run: of the requests that have ended, and of the state
 abbrev pub Said : Type 1
@@ -70,6 +77,20 @@ pub data EndsNow (s : State) : (ℕ → Bool) → List Node → Type 0 where
   departs : (node : ℕ) → leave_refusal s node ≡ None
       → EndsNow s (is_of_node node) (nodes_after_departure s.nodes node)
 
+-- requests end, with their locks or without: those that a dequeue withdraws, or that of the victim of a search
+pub data WithdrawsNow (s : State) : List Withdrawal → Type 0 where
+  gives_up : (d : Dequeue) → deq_refusal s d ≡ None → WithdrawsNow s (withdrawals_of s d)
+  ends_deadlock : (choice : Option Row) → IsVictim s choice → WithdrawsNow s (victim_withdrawals choice)
+
+-- these withdrawals, with what is answered
+abbrev pub withdrawal_of_all : Answer → List Withdrawal → State → Stepped
+withdrawal_of_all answer withdrawals s = record {
+  state = state_after_withdrawals withdrawals s;
+  answer = answer;
+  endings = withdrawn_endings withdrawals s.resources;
+  queued = completions_of (withdrawn_endings withdrawals s.resources);
+}
+
 -- what is kept where each kind of step is made, every step keeps
 pub kept_by_stepped : (P : Said) (endings : List Ending) (s : State) → P endings s
     → ((d : Declaration) → declare_refusal s d ≡ None → HoldsAfter P endings (stepped_after_sweep (step_change s (Declare d) None)))
@@ -78,11 +99,13 @@ pub kept_by_stepped : (P : Said) (endings : List Ending) (s : State) → P endin
     → ((e : NewRequest) → enq_refusal s e ≡ None → HoldsAfter P endings (stepped_after_sweep (step_change s (Enq e) None)))
     → ((c : Conversion) (a : ConversionAdmission) → convert_refusal s c ≡ None → convert_admission s c ≡ Some a
     → HoldsAfter P endings (stepped_after_sweep (conversion_change s c (Some a))))
-    → ((d : Dequeue) → deq_refusal s d ≡ None → HoldsAfter P endings (stepped_after_sweep (step_change s (Deq d) None)))
+    → ((withdrawals : List Withdrawal) → WithdrawsNow s withdrawals
+    → HoldsAfter P endings (stepped_after_sweep (withdrawal_of_all (Plain Normal) withdrawals s)))
     → ((is_one : ℕ → Bool) (nodes : List Node) → EndsNow s is_one nodes → HoldsAfter P endings (stepped_after_sweep (end_of_processes is_one nodes s)))
     → (step : Step) (choice : Option Row) → IsChoice s step choice → HoldsAfter P endings (stepped s step choice)
-kept_by_stepped P endings s held declare set take enq convert deq end step choice chosen =
-    kept_by_refused_or P endings (step_refusal s step) s (step_change s step choice) held (each_kind step)
+unfolding deq_change search_change
+kept_by_stepped P endings s held declare set take enq convert withdraw end step choice chosen =
+    kept_by_refused_or P endings (step_refusal s step) s (step_change s step choice) held (each_kind step chosen)
   where
     converts : (c : Conversion) → convert_refusal s c ≡ None → HoldsAfter P endings (stepped_after_sweep (step_change s (Convert c) choice))
     converts c passed =
@@ -90,13 +113,14 @@ kept_by_stepped P endings s held declare set take enq convert deq end step choic
         subst (λ (a : Option ConversionAdmission). HoldsAfter P endings (stepped_after_sweep (conversion_change s c a))) (sym admitted.1)
         (convert c admitted.0 passed admitted.1)
 
-    each_kind : (kind : Step) → step_refusal s kind ≡ None → HoldsAfter P endings (stepped_after_sweep (step_change s kind choice))
-    each_kind (Declare d) passed = declare d passed
-    each_kind (SetValue v) passed = set v passed
-    each_kind (Enq e) passed = enq e passed
-    each_kind (Convert c) passed = converts c passed
-    each_kind (Deq d) passed = deq d passed
-    each_kind (Rundown pid) passed = end (is_ended_by pid) s.nodes (run_down pid passed)
-    each_kind (Leave node) passed = end (is_of_node node) (nodes_after_departure s.nodes node) (departs node passed)
-    each_kind (Search node) passed = cc
-    each_kind (Take pid) passed = take pid passed
+    each_kind : (kind : Step) → IsChoice s kind choice → step_refusal s kind ≡ None → HoldsAfter P endings (stepped_after_sweep (step_change s kind choice))
+    each_kind (Declare d) chosen passed = declare d passed
+    each_kind (SetValue v) chosen passed = set v passed
+    each_kind (Enq e) chosen passed = enq e passed
+    each_kind (Convert c) chosen passed = converts c passed
+    each_kind (Deq d) chosen passed = withdraw (withdrawals_of s d) (gives_up d passed)
+    each_kind (Rundown pid) chosen passed = end (is_ended_by pid) s.nodes (run_down pid passed)
+    each_kind (Leave node) chosen passed = end (is_of_node node) (nodes_after_departure s.nodes node) (departs node passed)
+    each_kind (Search node) chosen passed =
+        withdraw (victim_withdrawals choice) (ends_deadlock choice (victim_of s choice (search_refusal s node) passed chosen))
+    each_kind (Take pid) chosen passed = take pid passed

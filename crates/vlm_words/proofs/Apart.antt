@@ -10,9 +10,8 @@ use Rattle.vlm_words.specs.SetValue.{set_change}
 use Rattle.vlm_words.specs.Take.{take_change}
 use Rattle.vlm_words.specs.Enqueue.{enq_change}
 use Rattle.vlm_words.specs.Convert.{convert_blocks, convert_change, convert_lkid, resource_after_conversion}
-use Rattle.vlm_words.specs.Dequeue.{deq_change, withdrawals_of}
 use Rattle.vlm_words.specs.Rundown.{processes_but, rundowns, state_after_rundown}
-use Rattle.vlm_words.specs.Withdrawals.{resource_after_withdrawals}
+use Rattle.vlm_words.specs.Withdrawals.{resource_after_withdrawals, state_after_withdrawals}
 use Rattle.vlm_words.specs.Runs.{History, Run}
 use Rattle.vlm_words.specs.Laws.{IdentificationsAreApart}
 use Rattle.vlm_words.proofs.Always.{always, kept_by_stepped}
@@ -61,7 +60,7 @@ one_more_apart s t apart next more = record {
 -- after every run no two rows have the same identification
 pub apart_always : (history : History) (last : State)
     → Run history last → Apart last
-unfolding declare_change set_change take_change enq_change convert_change deq_change state_after_rundown
+unfolding declare_change set_change take_change enq_change convert_change state_after_rundown
 apart_always =
     always (λ _ s. Apart s) (record { one_row = λ lkid. omega arith; none_is_0 = refl; none_to_come = λ lkid _. refl; first = omega arith })
     (λ history s _ apart.
@@ -75,9 +74,9 @@ apart_always =
     (resource_after_conversion a.request a.at_once c.pid (convert_lkid s c) (convert_blocks s c a).value_block)
     (converted_named (stands lkid) (stands_named lkid) a.request a.at_once c.pid (convert_lkid s c) (convert_blocks s c a).value_block)
     (convert_change s c a).processes s.resources))
-    (λ d _. fewer_apart s _ apart refl
-    (λ lkid. changed_named (stands lkid) (stands_named lkid) (resource_after_withdrawals (withdrawals_of s d))
-    (withdrawn_named (stands lkid) (stands_named lkid) (withdrawals_of s d)) (deq_change s d).processes s.resources))
+    (λ withdrawals _. fewer_apart s _ apart refl
+    (λ lkid. changed_named (stands lkid) (stands_named lkid) (resource_after_withdrawals withdrawals)
+    (withdrawn_named (stands lkid) (stands_named lkid) withdrawals) (state_after_withdrawals withdrawals s).processes s.resources))
     (λ is_one nodes _. fewer_apart s _ apart refl
     (λ lkid. changed_named (stands lkid) (stands_named lkid) (resource_after_withdrawals (rundowns is_one s))
     (withdrawn_named (stands lkid) (stands_named lkid) (rundowns is_one s)) (processes_but is_one s.processes) s.resources)))

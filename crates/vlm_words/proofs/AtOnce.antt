@@ -49,6 +49,8 @@ use Rattle.vlm_words.proofs.Keys.{Placed, HaveTwoKeys, enq_keyed, one_key, place
 use Rattle.vlm_words.proofs.Withdrawing.{GrantsNothing, dequeues_grant_nothing, each_end, rundowns_grant_nothing}
 use Rattle.vlm_words.proofs.Holders.{IsHolder, only_holder}
 use Rattle.vlm_words.proofs.InOrder.{sweep_in_order}
+use Rattle.vlm_words.specs.Search.{victim_withdrawals}
+use Rattle.vlm_words.proofs.Victims.{victims_grant_nothing}
 
 -- what the step's own endings are to be
 abbrev pub InTurn : State → Step → Ending → Type 0
@@ -356,7 +358,8 @@ each_in_turn s apart placed (Rundown pid) choice passed =
     withdrawals_in_turn s (Rundown pid) (rundowns (is_ended_by pid) s) (rundowns_grant_nothing (is_ended_by pid) s) s.resources
 each_in_turn s apart placed (Leave node) choice passed =
     withdrawals_in_turn s (Leave node) (rundowns (is_of_node node) s) (rundowns_grant_nothing (is_of_node node) s) s.resources
-each_in_turn s apart placed (Search node) choice passed = tt
+each_in_turn s apart placed (Search node) choice passed =
+    withdrawals_in_turn s (Search node) (victim_withdrawals choice) (victims_grant_nothing choice) s.resources
 each_in_turn s apart placed (Take pid) choice passed = tt
 
 -- a step that is made grants in the order of the queues

@@ -22,7 +22,6 @@ use Rattle.vlm_words.specs.SetValue.{set_change}
 use Rattle.vlm_words.specs.Take.{take_change}
 use Rattle.vlm_words.specs.Enqueue.{enq_change}
 use Rattle.vlm_words.specs.Convert.{convert_change}
-use Rattle.vlm_words.specs.Dequeue.{deq_change, deq_endings}
 use Rattle.vlm_words.specs.Stepped.{refused_or, step_change}
 use Rattle.vlm_words.specs.Runs.{History, Run}
 use Rattle.vlm_words.specs.Laws.{DeclarationsGiveNewIdentifications}
@@ -32,6 +31,7 @@ use Rattle.vlm_words.proofs.Pairs.{AllPairs-from_recursion, EachPair}
 use Rattle.vlm_words.proofs.Processes.{kept_converted, kept_ended, kept_entered, kept_set, kept_swept, kept_taken}
 use Rattle.vlm_words.proofs.Always.{always, kept_by_stepped, EndsNow, departs, run_down}
 use Rattle.vlm_words.specs.Rundown.{processes_but, state_after_rundown}
+use Rattle.vlm_words.specs.Withdrawals.{state_after_withdrawals, withdrawn_endings}
 
 -- the identifications of living processes
 abbrev pub pids : List Process → List ℕ
@@ -168,7 +168,7 @@ ended_given s is_one nodes same given = record {
 -- after every run each living process has an identification that its node has given
 pub given_always : (history : History) (last : State)
     → Run history last → AllGiven last
-unfolding set_change take_change enq_change convert_change deq_change
+unfolding set_change take_change enq_change convert_change
 given_always =
     always (λ _ s. AllGiven s) (record { eight = refl; living = tt })
     (λ history s _ given.
@@ -178,9 +178,10 @@ given_always =
     (λ taker _. swept_given (take_change s taker) (same_given s (take_change s taker) refl (kept_taken (λ p. p.pid) (λ _ _. refl) taker s.processes) given))
     (λ e _. swept_given (enq_change s e) (same_given s (enq_change s e) refl (kept_entered (λ p. p.pid) (λ _ _ _. refl) s e) given))
     (λ c a _ _. swept_given (convert_change s c a) (same_given s (convert_change s c a) refl (kept_converted (λ p. p.pid) (λ _ _ _. refl) s c a) given))
-    (λ d _.
-    swept_given (deq_change s d)
-    (same_given s (deq_change s d) refl (kept_ended (λ p. p.pid) (λ _ _ _. refl) (deq_endings s d) (blocks_with new_value_block s.processes)) given))
+    (λ withdrawals _.
+    let after : State = state_after_withdrawals withdrawals s in
+    swept_given after
+    (same_given s after refl (kept_ended (λ p. p.pid) (λ _ _ _. refl) (withdrawn_endings withdrawals s.resources) (blocks_with new_value_block s.processes)) given))
     (λ is_one nodes ends. swept_given (state_after_rundown is_one nodes s) (ended_given s is_one nodes (declare_as_many s is_one nodes ends) given)))
 
 -- no living process has the next identification of a node
@@ -293,7 +294,7 @@ ended_rise s is_one nodes same rise = record {
 -- after every run each living process is of a node, and those of a node rise
 rise_always : (history : History) (last : State)
     → Run history last → AllRise last
-unfolding set_change take_change enq_change convert_change deq_change
+unfolding set_change take_change enq_change convert_change
 rise_always =
     always (λ _ s. AllRise s) (record { given = record { eight = refl; living = tt }; named = tt; rising = tt })
     (λ history s _ rise.
@@ -305,9 +306,10 @@ rise_always =
     (λ taker _. swept_rise (take_change s taker) (same_rise s (take_change s taker) refl (kept_taken (λ p. p.pid) (λ _ _. refl) taker s.processes) rise))
     (λ e _. swept_rise (enq_change s e) (same_rise s (enq_change s e) refl (kept_entered (λ p. p.pid) (λ _ _ _. refl) s e) rise))
     (λ c a _ _. swept_rise (convert_change s c a) (same_rise s (convert_change s c a) refl (kept_converted (λ p. p.pid) (λ _ _ _. refl) s c a) rise))
-    (λ d _.
-    swept_rise (deq_change s d)
-    (same_rise s (deq_change s d) refl (kept_ended (λ p. p.pid) (λ _ _ _. refl) (deq_endings s d) (blocks_with new_value_block s.processes)) rise))
+    (λ withdrawals _.
+    let after : State = state_after_withdrawals withdrawals s in
+    swept_rise after
+    (same_rise s after refl (kept_ended (λ p. p.pid) (λ _ _ _. refl) (withdrawn_endings withdrawals s.resources) (blocks_with new_value_block s.processes)) rise))
     (λ is_one nodes ends. swept_rise (state_after_rundown is_one nodes s) (ended_rise s is_one nodes (declare_as_many s is_one nodes ends) rise)))
 
 -- what holds of identifications, of the processes that have them

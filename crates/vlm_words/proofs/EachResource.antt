@@ -17,9 +17,8 @@ use Rattle.vlm_words.specs.Take.{take_change}
 use Rattle.vlm_words.specs.Trees.{enq_site}
 use Rattle.vlm_words.specs.Enqueue.{enq_at_once, enq_change, enq_refusal, enq_resource, enq_row, resource_after_entry, resources_after_entry}
 use Rattle.vlm_words.specs.Convert.{convert_admission, convert_blocks, convert_change, convert_lkid, resource_after_conversion}
-use Rattle.vlm_words.specs.Dequeue.{deq_change, withdrawals_of}
 use Rattle.vlm_words.specs.Rundown.{processes_but, rundowns, state_after_rundown}
-use Rattle.vlm_words.specs.Withdrawals.{Withdrawal, resource_after_withdrawals, resource_after_going, resource_after_writer}
+use Rattle.vlm_words.specs.Withdrawals.{Withdrawal, resource_after_withdrawals, resource_after_going, resource_after_writer, state_after_withdrawals}
 use Rattle.vlm_words.specs.Runs.{History, Run}
 use Rattle.vlm_words.proofs.Each.{each_filter, each_map, each_weaker}
 use Rattle.vlm_words.proofs.Always.{always, kept_by_stepped}
@@ -92,7 +91,7 @@ pub each_always : (P Q : Resource → Type 0) → ((r : Resource) → Q r → P 
     → ((block : ValueBlock) (r : Resource) → P r → Q (served_with block r)) → KeptByChanges P
     → (history : History) (last : State) → Run history last
     → AllByRecursion Q last.resources
-unfolding declare_change set_change take_change enq_change enq_resource convert_change deq_change state_after_rundown convert_admission
+unfolding declare_change set_change take_change enq_change enq_resource convert_change state_after_rundown convert_admission
 each_always P Q weaker serving kept =
     always (λ _ s. AllByRecursion Q s.resources) tt
     (λ history s _ each.
@@ -109,10 +108,9 @@ each_always P Q weaker serving kept =
     each_swept P Q serving (convert_change s c a).processes (convert_change s c a).resources
     (each_map P P (resource_after_conversion a.request a.at_once c.pid (convert_lkid s c) (convert_blocks s c a).value_block)
     (kept.conversion a.request a.at_once c.pid (convert_lkid s c) (convert_blocks s c a).value_block) s.resources changed))
-    (λ d _.
-    each_swept P Q serving (deq_change s d).processes (deq_change s d).resources
-    (each_map P P (resource_after_withdrawals (withdrawals_of s d)) (kept_withdrawn P kept.leaving kept.going (withdrawals_of s d))
-    s.resources changed))
+    (λ withdrawals _.
+    each_swept P Q serving (state_after_withdrawals withdrawals s).processes (state_after_withdrawals withdrawals s).resources
+    (each_map P P (resource_after_withdrawals withdrawals) (kept_withdrawn P kept.leaving kept.going withdrawals) s.resources changed))
     (λ is_one nodes _.
     each_swept P Q serving (processes_but is_one s.processes) (state_after_rundown is_one nodes s).resources
     (each_map P P (resource_after_withdrawals (rundowns is_one s)) (kept_withdrawn P kept.leaving kept.going (rundowns is_one s))

@@ -6,14 +6,14 @@ use Rattle.std.specs.Option.{option_map_or}
 use Rattle.std.proofs.lemmas.Bool.{cond_both, eqb-true, eqb-false, eq-eqb, lt-ltb, ltb-false, ltb-true, ne_eqb}
 use Rattle.std.proofs.lemmas.List.{length-set, get_or-set_same, get_or-set_other}
 use Rattle.vlm_words.specs.declared.blocks.Block.{Block}
-use Rattle.vlm_words.specs.declared.conditions.Cond.TheVariants.{Normal, Abort, Cancel}
+use Rattle.vlm_words.specs.declared.conditions.Cond.TheVariants.{Normal, Abort, Cancel, Deadlock}
 use Rattle.vlm_words.specs.declared.modes.Act.TheVariants.{Nothing, Return, Write}
 use Rattle.vlm_words.specs.declared.resources.ValueBlock.{ValueBlock}
 use Rattle.vlm_words.specs.Conditions.{condition_number}
 use Rattle.vlm_words.specs.State.{Process, Resource, process_of}
 use Rattle.vlm_words.specs.StatusBlocks.{block_after_return, new_status_block, process_after_write, process_with_block, with_block, processes_after_return, processes_after_status, processes_after_write, status_block_of, status_blocks_of}
 use Rattle.vlm_words.specs.Endings.{Ending, How, is_told}
-use Rattle.vlm_words.specs.Endings.How.{by_abort, by_cancel, by_grant, by_rundown}
+use Rattle.vlm_words.specs.Endings.How.{by_abort, by_cancel, by_deadlock, by_grant, by_rundown}
 use Rattle.vlm_words.specs.Effects.{Blocks, blocks_after_end, blocks_after_ending, blocks_after_return, blocks_after_writing}
 use Rattle.vlm_words.specs.Grants.{service}
 use Rattle.vlm_words.specs.Sweeps.{blocks_after_service, processes_after_service, sweep_endings}
@@ -125,6 +125,7 @@ block_after_how (by_grant Return) value block = block_after_return value block
 block_after_how (by_grant Write) value block = record block { status = condition_number Normal }
 block_after_how by_abort value block = record block { status = condition_number Abort }
 block_after_how by_cancel value block = record block { status = condition_number Cancel }
+block_after_how by_deadlock value block = record block { status = condition_number Deadlock }
 block_after_how by_rundown value block = block
 
 -- an end of which the process is told writes its status block so
@@ -137,6 +138,7 @@ end_writes (by_grant Return) told ending b = refl
 end_writes (by_grant Write) told ending b = refl
 end_writes by_abort told ending b = refl
 end_writes by_cancel told ending b = refl
+end_writes by_deadlock told ending b = refl
 end_writes by_rundown told ending b = cc
 
 -- at the end of a process nothing is written, and nobody is told
@@ -196,6 +198,7 @@ module _ (Leaves : ℕ → ℕ → List Ending → Block → Block → Type 0) w
       of_how (by_grant act) is = written (ap is_told is)
       of_how by_abort is = written (ap is_told is)
       of_how by_cancel is = written (ap is_told is)
+      of_how by_deadlock is = written (ap is_told is)
       of_how by_rundown is =
           subst (λ (after : List Process). AreLeft (ending ∷ []) b.processes after) (sym (nothing_written ending b is))
           (record {

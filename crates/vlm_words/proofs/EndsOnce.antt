@@ -20,18 +20,19 @@ use Rattle.vlm_words.specs.Take.{take_change}
 use Rattle.vlm_words.specs.Trees.{enq_site}
 use Rattle.vlm_words.specs.Enqueue.{enq_at_once, enq_change, enq_endings, enq_resource, enq_row}
 use Rattle.vlm_words.specs.Convert.{ConversionAdmission, admission_among, admission_or, conversion_endings, convert_admission, convert_blocks, convert_change, convert_lkid, convert_request, converts_at_once, resource_after_conversion, resource_after_conversion_of, wanting_row}
-use Rattle.vlm_words.specs.Dequeue.{deq_change, deq_endings, withdrawals_of}
 use Rattle.vlm_words.specs.Rundown.{processes_but, rundown_endings, rundowns, state_after_rundown}
 use Rattle.vlm_words.specs.Runs.{History, Run}
 use Rattle.vlm_words.specs.Laws.{EachRequestEndsOnce, times_ended, wanting, wanting_on}
-use Rattle.vlm_words.proofs.Always.{always, kept_by_stepped}
+use Rattle.vlm_words.proofs.Always.{WithdrawsNow, always, ends_deadlock, gives_up, kept_by_stepped}
+use Rattle.vlm_words.proofs.Victims.{victims_apart}
 use Rattle.vlm_words.proofs.Admissions.{admitted_request, some_same}
 use Rattle.vlm_words.proofs.Each.{Found, found_at}
 use Rattle.vlm_words.proofs.RowsFit.{Fit, fit_always}
 use Rattle.vlm_words.proofs.Weights.{weigh, swept_weighs, entered_among_weighs}
 use Rattle.vlm_words.proofs.Apart.{Apart, apart_always, stands, standing}
-use Rattle.vlm_words.proofs.Together.{dequeues_apart, rundowns_apart}
+use Rattle.vlm_words.proofs.Together.{dequeues_apart, rundowns_apart, OfOneEach}
 use Rattle.vlm_words.proofs.Counts.{hits, wants, ends, wants_kept, found_stands, converted_row_counts, all_withdrawn_count}
+use Rattle.vlm_words.specs.Withdrawals.{state_after_withdrawals, Withdrawal, withdrawn_endings}
 
 -- a lock that has no row is not found
 absent_same : (request : Request) (at_once : Bool) (pid lkid : ℕ) (block : ValueBlock) (r : Resource) (found : Option Row) → find (is_lock_of pid lkid) r.granted ≡ found
@@ -168,10 +169,15 @@ one_more_counts endings more s t counted next one_more = record {
       grind (arith, nat_tests, one_more number, counted.to_come number, sum_by-append (ends number) endings more);
 }
 
+-- each of the withdrawals is of a lock of its own
+withdrawn_apart : (s : State) (withdrawals : List Withdrawal) → WithdrawsNow s withdrawals → OfOneEach withdrawals
+withdrawn_apart s _ (gives_up d _) = dequeues_apart s d
+withdrawn_apart s _ (ends_deadlock choice _) = victims_apart choice
+
 -- after every run each accepted request is counted once
 pub counted_always : (history : History) (last : State)
     → Run history last → CountedOnce history.endings last
-unfolding declare_change set_change take_change enq_change convert_change deq_change state_after_rundown
+unfolding declare_change set_change take_change enq_change convert_change state_after_rundown
 counted_always =
     always CountedOnce (record { accepted = λ number some below. absurd (omega arith); to_come = λ number past. refl })
     (λ history s run counted.
@@ -189,9 +195,10 @@ counted_always =
     (λ c a _ admitted.
     one_more_counts history.endings (conversion_endings a ++ sweep_endings (convert_change s c a).resources) s (state_after_sweep (convert_change s c a))
     counted refl (λ number. converted_counts number s c a admitted fit apart))
-    (λ d _.
-    same_counts history.endings (deq_endings s d ++ sweep_endings (deq_change s d).resources) s (state_after_sweep (deq_change s d)) counted refl
-    (λ number. all_withdrawn_count number (withdrawals_of s d) (dequeues_apart s d) (deq_change s d).processes s.resources fit))
+    (λ withdrawals now.
+    let after : State = state_after_withdrawals withdrawals s in
+    same_counts history.endings (withdrawn_endings withdrawals s.resources ++ sweep_endings after.resources) s (state_after_sweep after) counted refl
+    (λ number. all_withdrawn_count number withdrawals (withdrawn_apart s withdrawals now) after.processes s.resources fit))
     (λ is_one nodes _.
     same_counts history.endings (rundown_endings is_one s ++ sweep_endings (state_after_rundown is_one nodes s).resources) s
     (state_after_sweep (state_after_rundown is_one nodes s)) counted refl

@@ -88,13 +88,27 @@ flag_places (suc (suc zero)) is = cc
 flag_places (suc (suc (suc zero))) is = cc
 flag_places (suc (suc (suc (suc zero)))) is = cc
 flag_places (suc (suc (suc (suc (suc zero))))) is = cc
-flag_places (suc (suc (suc (suc (suc (suc n)))))) is = (
+flag_places (suc (suc (suc (suc (suc (suc zero)))))) is = cc
+flag_places (suc (suc (suc (suc (suc (suc (suc zero))))))) is = cc
+flag_places (suc (suc (suc (suc (suc (suc (suc (suc n)))))))) is = (
   past 1 (omega arith),
-  (past 2 (omega arith), (past 4 (omega arith), (past 8 (omega arith), (past 16 (omega arith), (past 32 (omega arith), tt))))),
+  (
+    past 2 (omega arith),
+    (
+      past 4 (omega arith),
+      (
+        past 8 (omega arith),
+        (
+          past 16 (omega arith),
+          (past 32 (omega arith), (past 64 (omega arith), (past 128 (omega arith), tt))),
+        ),
+      ),
+    ),
+  ),
 )
   where
-    past : (flag : ℕ) → flag < 2 ^ 6 → bit_at flag (suc (suc (suc (suc (suc (suc n)))))) ≡ 0
-    past flag below = bit_at_above flag 6 (suc (suc (suc (suc (suc (suc n)))))) below (omega arith)
+    past : (flag : ℕ) → flag < 2 ^ 8 → bit_at flag (suc (suc (suc (suc (suc (suc (suc (suc n)))))))) ≡ 0
+    past flag below = bit_at_above flag 8 (suc (suc (suc (suc (suc (suc (suc (suc n)))))))) below (omega arith)
 
 -- and none of all has one there
 no_flag_place : (place : ℕ) → AllByRecursion (λ flag. bit_at flag place ≡ 0) request_flags → bit_at enq_bits place ≡ 0
@@ -104,8 +118,10 @@ no_flag_place (suc (suc zero)) each = absurd (omega (arith, each.1.1.0))
 no_flag_place (suc (suc (suc zero))) each = absurd (omega (arith, each.1.1.1.0))
 no_flag_place (suc (suc (suc (suc zero)))) each = absurd (omega (arith, each.1.1.1.1.0))
 no_flag_place (suc (suc (suc (suc (suc zero))))) each = absurd (omega (arith, each.1.1.1.1.1.0))
-no_flag_place (suc (suc (suc (suc (suc (suc n)))))) each =
-    bit_at_above 63 6 (suc (suc (suc (suc (suc (suc n)))))) (omega arith) (omega arith)
+no_flag_place (suc (suc (suc (suc (suc (suc zero)))))) each = absurd (omega (arith, each.1.1.1.1.1.1.0))
+no_flag_place (suc (suc (suc (suc (suc (suc (suc zero))))))) each = absurd (omega (arith, each.1.1.1.1.1.1.1.0))
+no_flag_place (suc (suc (suc (suc (suc (suc (suc (suc n)))))))) each =
+    bit_at_above 255 8 (suc (suc (suc (suc (suc (suc (suc (suc n)))))))) (omega arith) (omega arith)
 
 -- a place where no flag of dequeues has its bit
 dequeue_places : (place : ℕ) → bit_at deq_bits place ≡ 0 → AllByRecursion (λ flag. bit_at flag place ≡ 0) dequeue_flags

@@ -21,8 +21,7 @@ use Rattle.vlm_words.specs.Take.{take_change}
 use Rattle.vlm_words.specs.Trees.{enq_site}
 use Rattle.vlm_words.specs.Enqueue.{enq_at_once, enq_change, enq_endings, enq_resource, enq_row, resource_after_entry}
 use Rattle.vlm_words.specs.Convert.{ConversionAdmission, admission_among, admission_or, conversion_endings, convert_admission, convert_blocks, convert_change, convert_lkid, convert_request, resource_after_conversion, resource_after_conversion_of, resource_without_granted, wanting_row}
-use Rattle.vlm_words.specs.Withdrawals.{Withdrawal, is_held_by_writer, resource_after_cancel, resource_after_going, resource_after_withdrawals, resource_after_writer, resource_without, row_after_cancel, value_block_after_writer}
-use Rattle.vlm_words.specs.Dequeue.{deq_change, deq_endings, withdrawals_of}
+use Rattle.vlm_words.specs.Withdrawals.{Withdrawal, is_held_by_writer, resource_after_cancel, resource_after_going, resource_after_withdrawals, resource_after_writer, resource_without, row_after_cancel, value_block_after_writer, state_after_withdrawals, withdrawn_endings}
 use Rattle.vlm_words.specs.Rundown.{processes_but, rundown_endings, rundowns, state_after_rundown}
 use Rattle.vlm_words.specs.Runs.{History, Run}
 use Rattle.vlm_words.specs.Laws.{GrantsFirst, IsGranted, IsGrantOf, IsSameButArmed, SweptInOrder, first_rows, goes, none, stays}
@@ -284,7 +283,7 @@ conversion_hides_none endings s c a admitted each =
     (convert_blocks s c a).value_block s.resources (all_left endings (conversion_endings a) s.resources each)
 
 has_always : (history : History) (last : State) → Run history last → AllByRecursion (EachRow (Has history.endings)) last.resources
-unfolding declare_change set_change take_change enq_change enq_resource deq_change state_after_rundown
+unfolding declare_change set_change take_change enq_change enq_resource state_after_rundown
 has_always =
     always (λ endings s. AllByRecursion (EachRow (Has endings)) s.resources) tt
     (λ history s run each.
@@ -302,11 +301,12 @@ has_always =
     (λ c a _ admitted.
     changed_has endings (conversion_endings a) (convert_change s c a).processes (convert_change s c a).resources
     (conversion_hides_none endings s c a admitted each))
-    (λ d _.
-    changed_has endings (deq_endings s d) (deq_change s d).processes (deq_change s d).resources
-    (each_map (EachRow (Has (endings ++ deq_endings s d))) (EachRow (Has (endings ++ deq_endings s d))) (resource_after_withdrawals (withdrawals_of s d))
-    (kept_withdrawn (EachRow (Has (endings ++ deq_endings s d))) (left_has (endings ++ deq_endings s d)) (gone_has (endings ++ deq_endings s d)) (withdrawals_of s d))
-    s.resources (all_left endings (deq_endings s d) s.resources each)))
+    (λ withdrawals _.
+    let more : List Ending = withdrawn_endings withdrawals s.resources in
+    changed_has endings more (state_after_withdrawals withdrawals s).processes (state_after_withdrawals withdrawals s).resources
+    (each_map (EachRow (Has (endings ++ more))) (EachRow (Has (endings ++ more))) (resource_after_withdrawals withdrawals)
+    (kept_withdrawn (EachRow (Has (endings ++ more))) (left_has (endings ++ more)) (gone_has (endings ++ more)) withdrawals)
+    s.resources (all_left endings more s.resources each)))
     (λ is_one nodes _.
     let more : List Ending = rundown_endings is_one s in
     changed_has endings more (processes_but is_one s.processes) (state_after_rundown is_one nodes s).resources

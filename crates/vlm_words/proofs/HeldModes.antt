@@ -24,9 +24,8 @@ use Rattle.vlm_words.specs.Take.{take_change}
 use Rattle.vlm_words.specs.Trees.{enq_site}
 use Rattle.vlm_words.specs.Enqueue.{enq_at_once, enq_change, enq_refusal, enq_request, enq_resource, enq_row, is_at_once, is_free_for, resource_after_entry}
 use Rattle.vlm_words.specs.Convert.{ConversionAdmission, convert_admission, convert_blocks, convert_change, convert_lkid, convert_request, converts_at_once, resource_after_conversion, resource_after_conversion_of, resource_without_granted, wanting_row}
-use Rattle.vlm_words.specs.Dequeue.{deq_change, withdrawals_of}
 use Rattle.vlm_words.specs.Rundown.{processes_but, rundowns, state_after_rundown}
-use Rattle.vlm_words.specs.Withdrawals.{Withdrawal, is_held_by_writer, resource_after_cancel, resource_after_withdrawals, resource_after_writer, resource_without, row_after_cancel, value_block_after_writer, resource_after_going}
+use Rattle.vlm_words.specs.Withdrawals.{Withdrawal, is_held_by_writer, resource_after_cancel, resource_after_withdrawals, resource_after_writer, resource_without, row_after_cancel, value_block_after_writer, resource_after_going, state_after_withdrawals}
 use Rattle.vlm_words.specs.Runs.{History, Run}
 use Rattle.vlm_words.specs.Laws.{AreCompatible, HeldModesAreCompatible, Stands}
 use Rattle.vlm_words.proofs.Each.{Any-behind, Any-here, Found, found_at, each_append, each_map, each_passes, each_weaker}
@@ -297,7 +296,7 @@ warned_agrees r agree = of_rows r.granted agree
 -- after every run the held modes of each resource are compatible, by recursion
 pub holders_agree_always : (history : History) (last : State)
     → Run history last → AllByRecursion HoldersAgree last.resources
-unfolding declare_change set_change take_change enq_change enq_resource deq_change state_after_rundown
+unfolding declare_change set_change take_change enq_change enq_resource state_after_rundown
 holders_agree_always =
     always (λ _ s. AllByRecursion HoldersAgree s.resources) tt
     (λ history s run each.
@@ -312,9 +311,9 @@ holders_agree_always =
     (λ c a _ admitted.
     swept_agree (convert_change s c a).processes (convert_change s c a).resources
     (conversion_agrees s c a (apart_always history s run) admitted each))
-    (λ d _.
-    swept_agree (deq_change s d).processes (deq_change s d).resources
-    (each_map HoldersAgree HoldersAgree (resource_after_withdrawals (withdrawals_of s d)) (kept_withdrawn HoldersAgree left_agrees gone_agrees (withdrawals_of s d))
+    (λ withdrawals _.
+    swept_agree (state_after_withdrawals withdrawals s).processes (state_after_withdrawals withdrawals s).resources
+    (each_map HoldersAgree HoldersAgree (resource_after_withdrawals withdrawals) (kept_withdrawn HoldersAgree left_agrees gone_agrees withdrawals)
     s.resources each))
     (λ is_one nodes _.
     swept_agree (processes_but is_one s.processes) (state_after_rundown is_one nodes s).resources

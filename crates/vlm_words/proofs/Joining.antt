@@ -40,6 +40,7 @@ use Rattle.vlm_words.specs.OwnLocks.{own_lkids}
 use Rattle.vlm_words.specs.declared.steps.Dequeue.{Dequeue}
 use Rattle.vlm_words.proofs.WhoseLocks.{each_passing}
 use Rattle.vlm_words.proofs.Passed.{flags_go_together}
+use Rattle.vlm_words.specs.Search.{victim_withdrawals, search_change, deadlock_of}
 
 -- ---- one queue
 
@@ -319,7 +320,7 @@ rundown_in_order s is_one =
 
 -- the locks that a dequeue takes: one, or with DEQALL several, which go
 dequeued_in_order : (s : State) → Apart s → (d : Dequeue) → (has_flag d.flags deqall ≡ true → has_flag d.flags cancel ≡ false)
-    → AllByRecursion (λ r. KeepsOrder (is_own_lock s (Deq d)) r (resource_after_withdrawals (withdrawals_of s d) r)) s.resources
+    → AllByRecursion (λ r. KeepsOrder (is_own_lock s (Deq d) None) r (resource_after_withdrawals (withdrawals_of s d) r)) s.resources
 dequeued_in_order s apart d together = of_flag (has_flag d.flags deqall) refl
   where
     caller : ℕ → Bool
@@ -345,6 +346,14 @@ dequeued_in_order s apart d together = of_flag (has_flag d.flags deqall) refl
         subst at (sym is)
         (all_withdrawn (own false) (withdrawal_of d (dequeue_lkid s d)) (eq-eqb (dequeue_lkid s d) (dequeue_lkid s d) refl) s.resources (apart.one_row (dequeue_lkid s d)))
 
+-- the victim of a search
+victim_in_order : (s : State) → Apart s → (node : ℕ) (choice : Option Row)
+    → AllByRecursion (λ r. KeepsOrder (is_own_lock s (Search node) choice) r (resource_after_withdrawals (victim_withdrawals choice) r)) s.resources
+victim_in_order s apart node None =
+    each_so (λ r. KeepsOrder (is_own_lock s (Search node) None) r r) (kept (is_own_lock s (Search node) None)) s.resources
+victim_in_order s apart node (Some victim) =
+    all_withdrawn (is_own_lock s (Search node) (Some victim)) (deadlock_of victim.lkid) (eq-eqb victim.lkid victim.lkid refl) s.resources (apart.one_row victim.lkid)
+
 -- ---- the steps
 
 -- a change that leaves the resources
@@ -353,29 +362,29 @@ unchanged s step choice same = record {
   kept = s.resources;
   made = [];
   resources = same ∙ sym (append-nil s.resources);
-  order = all_kept (is_own_lock s step) s.resources;
-  own = All-from_recursion (HasOwnAlone (is_own_lock s step)) [] tt;
+  order = all_kept (is_own_lock s step choice) s.resources;
+  own = All-from_recursion (HasOwnAlone (is_own_lock s step choice)) [] tt;
   at_most_one = omega arith;
 }
 
 -- a change of each resource
 changed : (s : State) (step : Step) (choice : Option Row) (change : Resource → Resource) → (step_change s step choice).state.resources ≡ map change s.resources
-    → AllByRecursion (λ r. KeepsOrder (is_own_lock s step) r (change r)) s.resources → ChangesKeepOrder s step choice
+    → AllByRecursion (λ r. KeepsOrder (is_own_lock s step choice) r (change r)) s.resources → ChangesKeepOrder s step choice
 changed s step choice change is each = record {
   kept = map change s.resources;
   made = [];
   resources = is ∙ sym (append-nil (map change s.resources));
-  order = all_changed (is_own_lock s step) change s.resources each;
-  own = All-from_recursion (HasOwnAlone (is_own_lock s step)) [] tt;
+  order = all_changed (is_own_lock s step choice) change s.resources each;
+  own = All-from_recursion (HasOwnAlone (is_own_lock s step choice)) [] tt;
   at_most_one = omega arith;
 }
 
 changes_keep_order : (s : State) → Apart s → (step : Step) (choice : Option Row) → step_refusal s step ≡ None → ChangesKeepOrder s step choice
-unfolding declare_change set_change take_change enq_change convert_change deq_change state_after_rundown
+unfolding declare_change set_change take_change enq_change convert_change deq_change search_change state_after_rundown
 changes_keep_order s apart (Declare d) choice passed = unchanged s (Declare d) choice refl
 changes_keep_order s apart (SetValue v) choice passed = unchanged s (SetValue v) choice refl
 changes_keep_order s apart (Enq e) choice passed =
-    let own : ℕ → Bool = is_own_lock s (Enq e) in
+    let own : ℕ → Bool = is_own_lock s (Enq e) choice in
     let after = all_entered own s.next_serial (enq_site s e) (enq_row s e) (eq-eqb s.next_lkid s.next_lkid refl) (enq_at_once s e) s.resources in
     record {
       kept = after.kept;
@@ -392,7 +401,7 @@ changes_keep_order s apart (Convert c) choice passed =
     let block : ValueBlock = (convert_blocks s c a).value_block in
     changed s (Convert c) choice (resource_after_conversion a.request a.at_once c.pid lkid block)
     (ap (λ (there : Option ConversionAdmission). (conversion_change s c there).state.resources) admitted.1)
-    (all_converted (is_own_lock s (Convert c)) a.request a.at_once c.pid lkid (eq-eqb lkid lkid refl) block s.resources)
+    (all_converted (is_own_lock s (Convert c) choice) a.request a.at_once c.pid lkid (eq-eqb lkid lkid refl) block s.resources)
 changes_keep_order s apart (Deq d) choice passed =
     changed s (Deq d) choice (resource_after_withdrawals (withdrawals_of s d)) refl
     (dequeued_in_order s apart d (flags_go_together s d passed))
@@ -400,7 +409,8 @@ changes_keep_order s apart (Rundown pid) choice passed =
     changed s (Rundown pid) choice (resource_after_withdrawals (rundowns (is_ended_by pid) s)) refl (rundown_in_order s (is_ended_by pid))
 changes_keep_order s apart (Leave node) choice passed =
     changed s (Leave node) choice (resource_after_withdrawals (rundowns (is_of_node node) s)) refl (rundown_in_order s (is_of_node node))
-changes_keep_order s apart (Search node) choice passed = unchanged s (Search node) choice refl
+changes_keep_order s apart (Search node) choice passed =
+    changed s (Search node) choice (resource_after_withdrawals (victim_withdrawals choice)) refl (victim_in_order s apart node choice)
 changes_keep_order s apart (Take pid) choice passed = unchanged s (Take pid) choice refl
 
 -- after every run

@@ -28,9 +28,8 @@ use Rattle.vlm_words.specs.SetValue.{set_change}
 use Rattle.vlm_words.specs.Take.{take_change}
 use Rattle.vlm_words.specs.Enqueue.{enq_at_once, enq_change, enq_key, enq_row, has_resource, resource_after_entry, resources_after_entry}
 use Rattle.vlm_words.specs.Convert.{convert_blocks, convert_change, convert_lkid, resource_after_conversion, resource_after_conversion_of, resource_without_granted, wanting_row}
-use Rattle.vlm_words.specs.Dequeue.{deq_change, withdrawals_of}
 use Rattle.vlm_words.specs.Rundown.{rundowns, state_after_rundown}
-use Rattle.vlm_words.specs.Withdrawals.{Withdrawal, is_held_by_writer, resource_after_cancel, resource_after_withdrawals, resource_after_writer, resource_without, value_block_after_writer, resource_after_going}
+use Rattle.vlm_words.specs.Withdrawals.{Withdrawal, is_held_by_writer, resource_after_cancel, resource_after_withdrawals, resource_after_writer, resource_without, value_block_after_writer, resource_after_going, state_after_withdrawals}
 use Rattle.vlm_words.specs.Runs.{History, Run}
 use Rattle.vlm_words.specs.Laws.{HaveOneKey, IsSameResource, KeysAreApart, SerialsRise}
 use Rattle.vlm_words.proofs.Each.{Found, each_at, each_filter, each_map, each_weaker, found_at}
@@ -353,7 +352,7 @@ unchanged_placed s t resources same same_locks placed = record {
 -- after every run the resources are placed
 pub placed_always : (history : History) (last : State)
     → Run history last → Placed last
-unfolding declare_change set_change take_change convert_change deq_change state_after_rundown
+unfolding declare_change set_change take_change convert_change state_after_rundown
 placed_always =
     always (λ _ s. Placed s) (record { rising = tt; given = tt; first = omega arith; few = omega arith; two_keys = tt })
     (λ history s _ placed.
@@ -366,9 +365,10 @@ placed_always =
     swept_placed (convert_change s c a)
     (mapped_placed s (convert_change s c a) (resource_after_conversion a.request a.at_once c.pid (convert_lkid s c) (convert_blocks s c a).value_block)
     (conversion_keeps_place a.request a.at_once c.pid (convert_lkid s c) (convert_blocks s c a).value_block) refl refl refl placed))
-    (λ d _.
-    swept_placed (deq_change s d)
-    (mapped_placed s (deq_change s d) (resource_after_withdrawals (withdrawals_of s d)) (withdrawals_keep_place (withdrawals_of s d)) refl refl refl placed))
+    (λ withdrawals _.
+    let after : State = state_after_withdrawals withdrawals s in
+    swept_placed after
+    (mapped_placed s after (resource_after_withdrawals withdrawals) (withdrawals_keep_place withdrawals) refl refl refl placed))
     (λ is_one nodes _.
     swept_placed (state_after_rundown is_one nodes s)
     (mapped_placed s (state_after_rundown is_one nodes s) (resource_after_withdrawals (rundowns is_one s)) (withdrawals_keep_place (rundowns is_one s)) refl refl refl placed)))

@@ -6,6 +6,7 @@ pub mod Always
 pub mod EachResource
 pub mod Withdrawing
 pub mod Together
+pub mod Victims
 pub mod NothingLeft
 pub mod Compatible
 pub mod HeldModes

@@ -36,6 +36,7 @@ use Rattle.vlm_words.proofs.Moves.{IsByName, entered_named, grant_keeps}
 use Rattle.vlm_words.proofs.Apart.{Apart, apart_always, stands}
 use Rattle.vlm_words.proofs.Keys.{Placed, WasGiven, entry_keeps_place, placed_always, service_keeps_place}
 use Rattle.vlm_words.specs.Rundown.{is_ended_by, is_of_node, nodes_after_departure, state_after_rundown}
+use Rattle.vlm_words.specs.Search.{search_change}
 
 -- a row counts one
 abbrev one : Row → ℕ
@@ -165,7 +166,7 @@ record Taken (s : State) (step : Step) (made : Stepped) : Type 0 where
 -- an accepted step takes the numbers of what it makes
 accepted_takes : (s : State) → Apart s → (step : Step) (choice : Option Row) → step_refusal s step ≡ None
     → Placed (stepped_after_sweep (step_change s step choice)).state → Taken s step (stepped_after_sweep (step_change s step choice))
-unfolding declare_change set_change take_change enq_change convert_change deq_change state_after_rundown
+unfolding declare_change set_change take_change enq_change convert_change deq_change search_change state_after_rundown
 accepted_takes s apart (Declare d) choice passed placed = record {
   requests = record { next_lkid = refl; next_request = refl };
   serials = none_made s (state_after_sweep (declare_change s d)) placed refl;
@@ -204,7 +205,10 @@ accepted_takes s apart (Leave node) choice passed placed = record {
   requests = record { next_lkid = refl; next_request = refl };
   serials = none_made s (state_after_sweep (state_after_rundown (is_of_node node) (nodes_after_departure s.nodes node) s)) placed refl;
 }
-accepted_takes s apart (Search node) choice passed placed = cc
+accepted_takes s apart (Search node) choice passed placed = record {
+  requests = record { next_lkid = refl; next_request = refl };
+  serials = none_made s (state_after_sweep (search_change s choice)) placed refl;
+}
 accepted_takes s apart (Take pid) choice passed placed = record {
   requests = record { next_lkid = refl; next_request = refl };
   serials = none_made s (state_after_sweep (take_change s pid)) placed refl;

@@ -49,6 +49,9 @@ use Rattle.vlm_words.proofs.Sums.{sum_changed-le, sum_of_zero}
 use Rattle.vlm_words.proofs.Weights.{entered_among_weighs, weigh}
 use Rattle.vlm_words.proofs.Together.{OfOneEach, all_one_after_another, dequeues_apart, rundowns_apart}
 use Rattle.vlm_words.proofs.WhoseLocks.{IsTheirs, NoStrangers, none_strange, own_are_theirs, rundown_ends_are_theirs, rundowns_are_theirs, strangers, withdrawn_are_theirs, all_anothers}
+use Rattle.vlm_words.specs.Search.{victim_withdrawals, search_change, search_endings, search_refusal}
+use Rattle.vlm_words.specs.Deadlocks.{IsVictim}
+use Rattle.vlm_words.proofs.Victims.{victim_of, victims_apart, deadlocked_stands, is_owner}
 
 -- ---- whose locks a dequeue takes
 
@@ -211,10 +214,10 @@ withdrawals_keep is_one pid lkid differs (w ∷ withdrawals) apart resources not
 -- ---- the steps
 
 -- of endings that are all grants there is nothing to say
-grants_alone : (step : Step) (endings : List Ending) → AllByRecursion (λ ending. IsGrant ending.how) endings
-    → AllByRecursion (λ ending. (IsGrant ending.how → ⊥) → IsCaller step ending.pid) endings
-grants_alone step endings each =
-    each_weaker (λ ending. IsGrant ending.how) (λ ending. (IsGrant ending.how → ⊥) → IsCaller step ending.pid)
+grants_alone : (step : Step) (choice : Option Row) (endings : List Ending) → AllByRecursion (λ ending. IsGrant ending.how) endings
+    → AllByRecursion (λ ending. (IsGrant ending.how → ⊥) → IsCaller step choice ending.pid) endings
+grants_alone step choice endings each =
+    each_weaker (λ ending. IsGrant ending.how) (λ ending. (IsGrant ending.how → ⊥) → IsCaller step choice ending.pid)
     (λ ending grants no. absurd (no grants)) endings each
 
 -- the grant at once of a row, if it is granted at once
@@ -227,19 +230,19 @@ at_once_alone step true row = of_want row.want
 at_once_alone step false row = tt
 
 -- what is so of a step that is made is so of the step
-abbrev IsLeftAlone : State → Step → Stepped → Type 0
-IsLeftAlone s step made =
-    AllByRecursion (λ ending. (IsGrant ending.how → ⊥) → IsCaller step ending.pid) made.endings
-    × ((pid lkid : ℕ) → (IsCaller step pid → ⊥) → sum_by (weigh (locks pid lkid)) s.resources ≤ sum_by (weigh (locks pid lkid)) made.state.resources)
+abbrev IsLeftAlone : State → Step → Option Row → Stepped → Type 0
+IsLeftAlone s step choice made =
+    AllByRecursion (λ ending. (IsGrant ending.how → ⊥) → IsCaller step choice ending.pid) made.endings
+    × ((pid lkid : ℕ) → (IsCaller step choice pid → ⊥) → sum_by (weigh (locks pid lkid)) s.resources ≤ sum_by (weigh (locks pid lkid)) made.state.resources)
 
 -- a change whose endings and locks are left alone, once it is swept
-swept_alone : (s : State) (step : Step) (change : Stepped)
-    → AllByRecursion (λ ending. (IsGrant ending.how → ⊥) → IsCaller step ending.pid) change.endings
-    → ((pid lkid : ℕ) → (IsCaller step pid → ⊥) → sum_by (weigh (locks pid lkid)) s.resources ≤ sum_by (weigh (locks pid lkid)) change.state.resources)
-    → IsLeftAlone s step (stepped_after_sweep change)
-swept_alone s step change ends kept = (
-  each_append (λ ending. (IsGrant ending.how → ⊥) → IsCaller step ending.pid) change.endings (sweep_endings change.state.resources) ends
-      (grants_alone step (sweep_endings change.state.resources)
+swept_alone : (s : State) (step : Step) (choice : Option Row) (change : Stepped)
+    → AllByRecursion (λ ending. (IsGrant ending.how → ⊥) → IsCaller step choice ending.pid) change.endings
+    → ((pid lkid : ℕ) → (IsCaller step choice pid → ⊥) → sum_by (weigh (locks pid lkid)) s.resources ≤ sum_by (weigh (locks pid lkid)) change.state.resources)
+    → IsLeftAlone s step choice (stepped_after_sweep change)
+swept_alone s step choice change ends kept = (
+  each_append (λ ending. (IsGrant ending.how → ⊥) → IsCaller step choice ending.pid) change.endings (sweep_endings change.state.resources) ends
+      (grants_alone step choice (sweep_endings change.state.resources)
       (swept_ends change.state.resources (resources_after_sweep change.state.processes change.state.resources) (sweep_endings change.state.resources)
       (sweep_in_order change.state.processes change.state.resources))),
   λ pid lkid stranger.
@@ -253,58 +256,76 @@ no_caller a b differs = elim (eqb_tells a b) [
   | inr other ↦ other.0
 ]
 
-left_alone : (s : State) → Apart s → (step : Step) (choice : Option Row) → step_refusal s step ≡ None → IsLeftAlone s step (stepped_after_sweep (step_change s step choice))
+-- a search ends the request of its victim alone, and takes at most its lock away
+searched_alone : (s : State) → Apart s → (node : ℕ) (choice : Option Row) → IsVictim s choice
+    → IsLeftAlone s (Search node) choice (stepped_after_sweep (step_change s (Search node) choice))
+unfolding search_change
+searched_alone s apart node None nobody =
+    swept_alone s (Search node) None (step_change s (Search node) None) tt
+    (λ pid lkid stranger. withdrawals_keep (λ _. false) pid lkid refl [] tt s.resources tt)
+searched_alone s apart node (Some victim) deadlocked =
+    let is_its : ℕ → Bool = is_owner victim in
+    let withdrawals : List Withdrawal = victim_withdrawals (Some victim) in
+    let its : NoStrangers is_its s.resources victim.lkid = none_strange is_its s apart victim.lkid (deadlocked_stands s victim deadlocked.0) in
+    swept_alone s (Search node) (Some victim) (step_change s (Search node) (Some victim))
+    (each_weaker (IsTheirs is_its) (λ ending. (IsGrant ending.how → ⊥) → ending.pid ≡ victim.pid) (λ ending is _. eqb-true ending.pid victim.pid is)
+    (search_endings s (Some victim)) (withdrawn_are_theirs is_its withdrawals s.resources (its, tt)))
+    (λ pid lkid stranger. withdrawals_keep is_its pid lkid (no_caller pid victim.pid stranger) withdrawals (victims_apart (Some victim)) s.resources (its, tt))
+
+left_alone : (s : State) → Apart s → (step : Step) (choice : Option Row) → IsChoice s step choice → step_refusal s step ≡ None
+    → IsLeftAlone s step choice (stepped_after_sweep (step_change s step choice))
 unfolding declare_change set_change take_change enq_change enq_resource convert_change deq_change state_after_rundown
-left_alone s apart (Declare d) choice passed = swept_alone s (Declare d) (step_change s (Declare d) choice) tt (λ pid lkid stranger. omega arith)
-left_alone s apart (SetValue v) choice passed = swept_alone s (SetValue v) (step_change s (SetValue v) choice) tt (λ pid lkid stranger. omega arith)
-left_alone s apart (Enq e) choice passed =
-    swept_alone s (Enq e) (step_change s (Enq e) choice) (grants_alone (Enq e) (enq_endings s e) (at_once_alone (Enq e) (enq_at_once s e) (enq_row s e)))
+left_alone s apart (Declare d) choice chosen passed = swept_alone s (Declare d) choice (step_change s (Declare d) choice) tt (λ pid lkid stranger. omega arith)
+left_alone s apart (SetValue v) choice chosen passed = swept_alone s (SetValue v) choice (step_change s (SetValue v) choice) tt (λ pid lkid stranger. omega arith)
+left_alone s apart (Enq e) choice chosen passed =
+    swept_alone s (Enq e) choice (step_change s (Enq e) choice) (grants_alone (Enq e) choice (enq_endings s e) (at_once_alone (Enq e) (enq_at_once s e) (enq_row s e)))
     (λ pid lkid stranger.
     omega (
       arith,
       entered_among_weighs (locks pid lkid) (λ ending. 0) (grant_keeps (locks pid lkid) (locks_named pid lkid)) s.next_serial (enq_site s e) (enq_row s e) (enq_at_once s e) s.resources,
       sum_of_zero {X = Ending} (enq_endings s e),
     ))
-left_alone s apart (Convert c) choice passed =
+left_alone s apart (Convert c) choice chosen passed =
     let admitted = admission_of s c passed in
     let a : ConversionAdmission = admitted.0 in
-    subst (λ (there : Option ConversionAdmission). IsLeftAlone s (Convert c) (stepped_after_sweep (conversion_change s c there))) (sym admitted.1)
-    (swept_alone s (Convert c) (conversion_change s c (Some a)) (grants_alone (Convert c) (conversion_endings a) (at_once_alone (Convert c) a.at_once (wanting_row a.row a.request)))
+    subst (λ (there : Option ConversionAdmission). IsLeftAlone s (Convert c) choice (stepped_after_sweep (conversion_change s c there))) (sym admitted.1)
+    (swept_alone s (Convert c) choice (conversion_change s c (Some a)) (grants_alone (Convert c) choice (conversion_endings a) (at_once_alone (Convert c) a.at_once (wanting_row a.row a.request)))
     (λ pid lkid stranger. all_converted_keep pid lkid c.pid (convert_lkid s c) a.request a.at_once (convert_blocks s c a).value_block s.resources (apart.one_row (convert_lkid s c))))
-left_alone s apart (Deq d) choice passed =
+left_alone s apart (Deq d) choice chosen passed =
     let theirs = dequeued_are_theirs s d apart passed in
-    swept_alone s (Deq d) (step_change s (Deq d) choice)
+    swept_alone s (Deq d) choice (step_change s (Deq d) choice)
     (each_weaker (IsTheirs (is_caller d)) (λ ending. (IsGrant ending.how → ⊥) → ending.pid ≡ d.pid) (λ ending is _. eqb-true ending.pid d.pid is) (deq_endings s d)
     (withdrawn_are_theirs (is_caller d) (withdrawals_of s d) s.resources theirs))
     (λ pid lkid stranger. withdrawals_keep (is_caller d) pid lkid (no_caller pid d.pid stranger) (withdrawals_of s d) (dequeues_apart s d) s.resources theirs)
-left_alone s apart (Rundown pid) choice passed =
-    swept_alone s (Rundown pid) (step_change s (Rundown pid) choice)
+left_alone s apart (Rundown pid) choice chosen passed =
+    swept_alone s (Rundown pid) choice (step_change s (Rundown pid) choice)
     (each_weaker (IsTheirs (is_ended_by pid)) (λ ending. (IsGrant ending.how → ⊥) → ending.pid ≡ pid) (λ ending is _. eqb-true ending.pid pid is)
     (rundown_endings (is_ended_by pid) s) (rundown_ends_are_theirs (is_ended_by pid) s apart))
     (λ other lkid stranger. withdrawals_keep (is_ended_by pid) other lkid (no_caller other pid stranger) (rundowns (is_ended_by pid) s)
     (rundowns_apart (is_ended_by pid) s) s.resources (rundowns_are_theirs (is_ended_by pid) s apart))
-left_alone s apart (Leave node) choice passed =
-    swept_alone s (Leave node) (step_change s (Leave node) choice)
+left_alone s apart (Leave node) choice chosen passed =
+    swept_alone s (Leave node) choice (step_change s (Leave node) choice)
     (each_weaker (IsTheirs (is_of_node node)) (λ ending. (IsGrant ending.how → ⊥) → ending.pid / 65536 ≡ node)
     (λ ending is _. eqb-true (ending.pid / 65536) node is)
     (rundown_endings (is_of_node node) s) (rundown_ends_are_theirs (is_of_node node) s apart))
     (λ other lkid stranger. withdrawals_keep (is_of_node node) other lkid (no_caller (other / 65536) node stranger) (rundowns (is_of_node node) s)
     (rundowns_apart (is_of_node node) s) s.resources (rundowns_are_theirs (is_of_node node) s apart))
-left_alone s apart (Search node) choice passed = cc
-left_alone s apart (Take pid) choice passed = swept_alone s (Take pid) (step_change s (Take pid) choice) tt (λ process lkid stranger. omega arith)
+left_alone s apart (Search node) choice chosen passed =
+    searched_alone s apart node choice (victim_of s choice (search_refusal s node) passed chosen)
+left_alone s apart (Take pid) choice chosen passed = swept_alone s (Take pid) choice (step_change s (Take pid) choice) tt (λ process lkid stranger. omega arith)
 
 -- after every run
 pub left_alone_always : (history : History) (old : State) → Run history old → (step : Step) (choice : Option Row) → IsChoice old step choice → OthersAreLeftAlone old step choice
 left_alone_always history old run step choice chosen =
-    let so = of_refusal (step_refusal old step) (λ passed. left_alone old (apart_always history old run) step choice passed) in
+    let so = of_refusal (step_refusal old step) (λ passed. left_alone old (apart_always history old run) step choice chosen passed) in
     record { endings = so.0; locks = so.1 }
   where
-    told : (made : Stepped) → IsLeftAlone old step made → All (λ ending. (IsGrant ending.how → ⊥) → IsCaller step ending.pid) made.endings
-    told made so = All-from_recursion (λ ending. (IsGrant ending.how → ⊥) → IsCaller step ending.pid) made.endings so.0
+    told : (made : Stepped) → IsLeftAlone old step choice made → All (λ ending. (IsGrant ending.how → ⊥) → IsCaller step choice ending.pid) made.endings
+    told made so = All-from_recursion (λ ending. (IsGrant ending.how → ⊥) → IsCaller step choice ending.pid) made.endings so.0
 
-    of_refusal : (refusal : Option Cond) → (refusal ≡ None → IsLeftAlone old step (stepped_after_sweep (step_change old step choice)))
-        → (All (λ ending. (IsGrant ending.how → ⊥) → IsCaller step ending.pid) (refused_or refusal old (step_change old step choice)).endings)
-        × ((pid lkid : ℕ) → (IsCaller step pid → ⊥) → sum_by (weigh (locks pid lkid)) old.resources
+    of_refusal : (refusal : Option Cond) → (refusal ≡ None → IsLeftAlone old step choice (stepped_after_sweep (step_change old step choice)))
+        → (All (λ ending. (IsGrant ending.how → ⊥) → IsCaller step choice ending.pid) (refused_or refusal old (step_change old step choice)).endings)
+        × ((pid lkid : ℕ) → (IsCaller step choice pid → ⊥) → sum_by (weigh (locks pid lkid)) old.resources
         ≤ sum_by (weigh (locks pid lkid)) (refused_or refusal old (step_change old step choice)).state.resources)
     of_refusal None so = (told (stepped_after_sweep (step_change old step choice)) (so refl), (so refl).1)
-    of_refusal (Some refusal) so = (All-from_recursion (λ ending. (IsGrant ending.how → ⊥) → IsCaller step ending.pid) [] tt, λ pid lkid stranger. omega arith)
+    of_refusal (Some refusal) so = (All-from_recursion (λ ending. (IsGrant ending.how → ⊥) → IsCaller step choice ending.pid) [] tt, λ pid lkid stranger. omega arith)

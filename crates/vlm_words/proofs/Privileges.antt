@@ -35,6 +35,7 @@ use Rattle.vlm_words.proofs.Keys.{KeepsPlace, Placed, WasGiven, conversion_keeps
 use Rattle.vlm_words.proofs.Refusals.{IsCaller, caller_passes}
 use Rattle.vlm_words.proofs.NewlyRooted.{HasParent, parent_of}
 use Rattle.vlm_words.specs.Rundown.{is_ended_by, is_of_node, nodes_after_departure, rundowns, state_after_rundown}
+use Rattle.vlm_words.specs.Search.{victim_withdrawals, search_change}
 
 -- a root in the system's domain was one before, or the step may make one
 abbrev IsRightly : State → Type 0 → Resource → Type 0
@@ -135,7 +136,7 @@ rightly_ended s is_one nodes =
 -- after an accepted step each root in the system's domain is there rightly
 accepted_rightly : (s : State) → Placed s → (step : Step) (choice : Option Row) → step_refusal s step ≡ None
     → AllByRecursion (IsRightly s (IsPrivilegedStep s step)) (stepped_after_sweep (step_change s step choice)).state.resources
-unfolding declare_change set_change take_change convert_change deq_change
+unfolding declare_change set_change take_change convert_change deq_change search_change
 accepted_rightly s placed (Declare d) choice passed = rightly_swept s (declare_change s d) ⊥ (each_was s ⊥)
 accepted_rightly s placed (SetValue v) choice passed = rightly_swept s (set_change s v) ⊥ (each_was s ⊥)
 accepted_rightly s placed (Enq e) choice passed = rightly_swept s (enq_change s e) (IsPrivileged s e) (entered_rightly s e placed passed)
@@ -152,7 +153,9 @@ accepted_rightly s placed (Deq d) choice passed =
     (rightly_changed s ⊥ (resource_after_withdrawals (withdrawals_of s d)) (withdrawals_keep_place (withdrawals_of s d)))
 accepted_rightly s placed (Rundown pid) choice passed = rightly_ended s (is_ended_by pid) s.nodes
 accepted_rightly s placed (Leave node) choice passed = rightly_ended s (is_of_node node) (nodes_after_departure s.nodes node)
-accepted_rightly s placed (Search node) choice passed = cc
+accepted_rightly s placed (Search node) choice passed =
+    rightly_swept s (search_change s choice) ⊥
+    (rightly_changed s ⊥ (resource_after_withdrawals (victim_withdrawals choice)) (withdrawals_keep_place (victim_withdrawals choice)))
 accepted_rightly s placed (Take pid) choice passed = rightly_swept s (take_change s pid) ⊥ (each_was s ⊥)
 
 -- after every run a step makes a root in the system's domain only for a caller with the privilege

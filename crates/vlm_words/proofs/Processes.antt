@@ -13,7 +13,7 @@ use Rattle.vlm_words.specs.State.{Process, Resource, State, process_of}
 use Rattle.vlm_words.specs.StatusBlocks.{process_after_write, process_with_block, processes_after_acceptance, processes_after_return, processes_after_setting, processes_after_status, processes_after_write, status_blocks_of}
 use Rattle.vlm_words.specs.declared.resources.ValueBlock.{ValueBlock}
 use Rattle.vlm_words.specs.Endings.{Ending, How}
-use Rattle.vlm_words.specs.Endings.How.{by_grant, by_abort, by_cancel, by_rundown}
+use Rattle.vlm_words.specs.Endings.How.{by_grant, by_abort, by_cancel, by_deadlock, by_rundown}
 use Rattle.vlm_words.specs.Effects.{Blocks, blocks_after, blocks_after_end, blocks_after_ending, blocks_after_return, blocks_after_writing, blocks_with}
 use Rattle.vlm_words.specs.Grants.{service}
 use Rattle.vlm_words.specs.Sweeps.{blocks_after_service, processes_after_service}
@@ -65,6 +65,7 @@ module _ {X : Type 0} (shown : Process → X) (blind : (p : Process) (blocks : L
   ending_kept (by_grant Write) ending b = kept_status ending.pid ending.request.block _ b.processes
   ending_kept by_abort ending b = kept_status ending.pid ending.request.block _ b.processes
   ending_kept by_cancel ending b = kept_status ending.pid ending.request.block _ b.processes
+  ending_kept by_deadlock ending b = kept_status ending.pid ending.request.block _ b.processes
   ending_kept by_rundown ending b = refl
 
 -- ---- what does not show ASTs

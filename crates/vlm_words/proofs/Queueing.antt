@@ -7,7 +7,6 @@ use Rattle.std.proofs.lemmas.Bool.{cond_both, eq-eqb, eqb-false, eqb-true, ne_eq
 use Rattle.std.proofs.lemmas.List.{append-nil}
 use Rattle.vlm_words.specs.declared.asts.Ast.{Ast}
 use Rattle.vlm_words.specs.declared.steps.Conversion.{Conversion}
-use Rattle.vlm_words.specs.declared.steps.Dequeue.{Dequeue}
 use Rattle.vlm_words.specs.declared.steps.NewRequest.{NewRequest}
 use Rattle.vlm_words.specs.ValueBlocks.{new_value_block}
 use Rattle.vlm_words.specs.State.{Process, Resource, State, process_of}
@@ -19,10 +18,10 @@ use Rattle.vlm_words.specs.Grants.{service}
 use Rattle.vlm_words.specs.Sweeps.{blocks_after_service, processes_after_service, service_asts, sweep_asts}
 use Rattle.vlm_words.specs.Enqueue.{enq_change, enq_endings, enq_resource}
 use Rattle.vlm_words.specs.Convert.{ConversionAdmission, conversion_endings, convert_blocks, convert_change, convert_lkid}
-use Rattle.vlm_words.specs.Dequeue.{deq_change, deq_endings}
 use Rattle.vlm_words.specs.Taking.{queued_to}
 use Rattle.vlm_words.proofs.Each.{found_at}
 use Rattle.vlm_words.proofs.Processes.{ending_kept, kept_accepted}
+use Rattle.vlm_words.specs.Withdrawals.{state_after_withdrawals, Withdrawal, withdrawn_endings}
 
 -- ---- ASTs by the process's identification
 
@@ -232,7 +231,7 @@ conversion_queues s c a =
     (kept_accepted pending (λ _ _. refl) c.pid c.block (convert_lkid s c) s.processes)
     (ends_queue (conversion_endings a) (blocks_with a.resource.value_block accepted))
 
--- a dequeue
-pub dequeue_queues : (s : State) (d : Dequeue) → AreQueued (completions_of (deq_endings s d)) s.processes (deq_change s d).processes
-unfolding deq_change
-dequeue_queues s d = ends_queue (deq_endings s d) (blocks_with new_value_block s.processes)
+-- locks that are withdrawn
+pub withdrawn_queue : (s : State) (withdrawals : List Withdrawal)
+    → AreQueued (completions_of (withdrawn_endings withdrawals s.resources)) s.processes (state_after_withdrawals withdrawals s).processes
+withdrawn_queue s withdrawals = ends_queue (withdrawn_endings withdrawals s.resources) (blocks_with new_value_block s.processes)

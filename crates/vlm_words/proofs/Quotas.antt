@@ -18,8 +18,7 @@ use Rattle.vlm_words.specs.Take.{take_change}
 use Rattle.vlm_words.specs.Sweeps.{state_after_sweep, processes_after_service}
 use Rattle.vlm_words.specs.Enqueue.{enq_at_once, enq_change, enq_limit_refusal, enq_refusal}
 use Rattle.vlm_words.specs.Convert.{convert_blocks, convert_change, convert_lkid, resource_after_conversion}
-use Rattle.vlm_words.specs.Dequeue.{deq_change, deq_endings, withdrawals_of}
-use Rattle.vlm_words.specs.Withdrawals.{resource_after_withdrawals}
+use Rattle.vlm_words.specs.Withdrawals.{resource_after_withdrawals, state_after_withdrawals, withdrawn_endings}
 use Rattle.vlm_words.specs.Runs.{History, Run}
 use Rattle.vlm_words.specs.Laws.{QuotasAreKept, locks_on}
 use Rattle.vlm_words.proofs.Always.{always, kept_by_stepped}
@@ -153,7 +152,7 @@ ended_within s is_one nodes apart within pid = of_test (is_one pid) refl
 -- after every run all are within their quotas
 within_always : (history : History) (last : State)
     → Run history last → Within last
-unfolding declare_change set_change take_change convert_change deq_change
+unfolding declare_change set_change take_change convert_change
 within_always =
     always (λ _ s. Within s) (λ pid. omega arith)
     (λ history s run within.
@@ -179,12 +178,13 @@ within_always =
     (resource_after_conversion a.request a.at_once c.pid (convert_lkid s c) (convert_blocks s c a).value_block)
     (converted_named (owned pid) (owned_named pid) a.request a.at_once c.pid (convert_lkid s c) (convert_blocks s c a).value_block)
     (convert_change s c a).processes s.resources) within)
-    (λ d _.
-    still_within s (state_after_sweep (deq_change s d))
-    (kept_swept allowance (λ _ _ _. refl) (deq_change s d).processes (deq_change s d).resources
-    ∙ kept_ended allowance (λ _ _ _. refl) (deq_endings s d) (blocks_with new_value_block s.processes))
-    (λ pid. changed_named (owned pid) (owned_named pid) (resource_after_withdrawals (withdrawals_of s d))
-    (withdrawn_named (owned pid) (owned_named pid) (withdrawals_of s d)) (deq_change s d).processes s.resources) within)
+    (λ withdrawals _.
+    let after : State = state_after_withdrawals withdrawals s in
+    still_within s (state_after_sweep after)
+    (kept_swept allowance (λ _ _ _. refl) after.processes after.resources
+    ∙ kept_ended allowance (λ _ _ _. refl) (withdrawn_endings withdrawals s.resources) (blocks_with new_value_block s.processes))
+    (λ pid. changed_named (owned pid) (owned_named pid) (resource_after_withdrawals withdrawals)
+    (withdrawn_named (owned pid) (owned_named pid) withdrawals) after.processes s.resources) within)
     (λ is_one nodes _. ended_within s is_one nodes (apart_always history s run) within))
 
 -- the locks of a process on a resource, counted over its three queues at once

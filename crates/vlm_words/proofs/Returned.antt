@@ -14,7 +14,6 @@ use Rattle.vlm_words.specs.declared.modes.Mode.TheVariants.{Nl, Cr, Cw, Pr, Pw, 
 use Rattle.vlm_words.specs.declared.modes.Mode.{Mode}
 use Rattle.vlm_words.specs.declared.resources.ValueBlock.{ValueBlock}
 use Rattle.vlm_words.specs.declared.steps.Conversion.{Conversion}
-use Rattle.vlm_words.specs.declared.steps.Dequeue.{Dequeue}
 use Rattle.vlm_words.specs.declared.steps.NewRequest.{NewRequest}
 use Rattle.vlm_words.specs.declared.steps.Step.TheVariants.{Declare, SetValue, Enq, Convert, Deq, Rundown, Leave, Search, Take}
 use Rattle.vlm_words.specs.declared.steps.Step.{Step}
@@ -36,13 +35,13 @@ use Rattle.vlm_words.specs.Trees.{enq_site}
 use Rattle.vlm_words.specs.Enqueue.{enq_at_once, enq_change, enq_refusal, enq_request, enq_resource, enq_row, resource_after_entry}
 use Rattle.vlm_words.specs.Convert.{ConversionAdmission, convert_admission, convert_blocks, convert_change, convert_lkid, convert_refusal, convert_request, resource_after_conversion, resource_after_conversion_of, resource_without_granted, wanting_row}
 use Rattle.vlm_words.specs.Withdrawals.{Withdrawal, queue_endings, withdrawal_endings, withdrawn_endings}
-use Rattle.vlm_words.specs.Dequeue.{deq_change, deq_endings, withdrawals_of}
+use Rattle.vlm_words.specs.Dequeue.{deq_change, withdrawals_of}
 use Rattle.vlm_words.specs.Runs.{History, Run}
 use Rattle.vlm_words.specs.Stepped.{IsChoice, Stepped, conversion_change, refused_or, step_change, step_refusal, stepped, stepped_after_sweep, end_of_processes}
 use Rattle.vlm_words.specs.Laws.{IsGrant, IsGrantOf, IsGranted}
 use Rattle.vlm_words.specs.Returned.{ActsAsAskedFor, GrantsReturnValues, HeldBefore, HoldsGranted, IsItsValue, TellsMark, TellsValue, act_asked_for, conversion_act, last_return}
 use Rattle.vlm_words.specs.Written.{last_end}
-use Rattle.vlm_words.proofs.Always.{admission_of}
+use Rattle.vlm_words.proofs.Always.{admission_of, withdrawal_of_all}
 use Rattle.vlm_words.proofs.Apart.{Apart, apart_always}
 use Rattle.vlm_words.proofs.Each.{Any-behind, Any-cases, Any-here, Any-none, Any-there, Any-weaker, any_left, each_append, each_weaker, each_member}
 use Rattle.vlm_words.proofs.HeldModes.{HoldersAgree, holders_agree_always}
@@ -51,7 +50,7 @@ use Rattle.vlm_words.proofs.Refusals.{Any_found}
 use Rattle.vlm_words.proofs.Returning.{AreReturned, Its, Serves, StatusBy, ValueBy, none_returned, one_returned, all_returned, returned_swept}
 use Rattle.vlm_words.proofs.Standing.{admitted_there, any_entered, any_map, granted_stays}
 use Rattle.vlm_words.proofs.SweptValues.{IsHarmless, WritesNothing, conversion_is_harmless, harmless_always, new_is_harmless, service_each, service_harmless, served, served_leaves, swept_alone}
-use Rattle.vlm_words.proofs.Waiting.{EachConverting, Queued, conversion_queued, dequeue_queued, request_queued, rundown_queued}
+use Rattle.vlm_words.proofs.Waiting.{EachConverting, Queued, conversion_queued, request_queued, rundown_queued, withdrawn_queued}
 use Rattle.vlm_words.proofs.Withdrawing.{GrantsNothing, dequeues_grant_nothing, each_end, rundowns_grant_nothing}
 use Rattle.vlm_words.proofs.Writers.{kept_value}
 use Rattle.vlm_words.proofs.Written.{blocks_are}
@@ -59,6 +58,11 @@ use Rattle.vlm_words.proofs.Warned.{holds_warned}
 use Rattle.vlm_words.specs.Asts.{resource_after_warning, row_after_warning}
 use Rattle.vlm_words.specs.Rundown.{is_ended_by, is_of_node, nodes_after_departure, processes_but, rundown_endings, rundowns, state_after_rundown}
 use Rattle.vlm_words.proofs.Ended.{rundowns_write_nothing}
+use Rattle.vlm_words.specs.Search.{victim_withdrawals, search_change, victim_lkid}
+use Rattle.vlm_words.proofs.Victims.{victims_grant_nothing}
+use Rattle.vlm_words.specs.declared.steps.Answer.TheVariants.{Plain, Victim}
+use Rattle.vlm_words.specs.declared.conditions.Cond.TheVariants.{Normal}
+use Rattle.vlm_words.specs.declared.steps.Answer.{Answer}
 
 -- ---- what a grant does
 
@@ -391,26 +395,22 @@ all_grant_nothing withdrawals nothing resources =
     (each_weaker GrantsNothing (λ w. AllByRecursion IsNoGrant (flat_map (withdrawal_endings w) resources))
     (λ w none. withdrawn_grant_nothing w none.0 none.1 resources) withdrawals nothing)
 
-dequeue_grants_nothing : (s : State) (d : Dequeue) → AllByRecursion IsNoGrant (deq_endings s d)
-dequeue_grants_nothing s d =
-    all_grant_nothing (withdrawals_of s d) (dequeues_grant_nothing s d) s.resources
-
 -- an end that grants with some act is a grant
 by_act : (ending : Ending) (act : Act) → IsNoGrant ending → ending.how ≡ by_grant act → ⊥
 by_act ending act none is = none (subst IsGrant (sym is) tt)
 
-dequeue_returning : (s : State) (d : Dequeue) (choice : Option Row) → AllByRecursion (Queued IsHarmless) s.resources
-    → IsReturning s (stepped_after_sweep (step_change s (Deq d) choice))
-unfolding deq_change
-dequeue_returning s d choice harmless =
-    let change : Stepped = step_change s (Deq d) choice in
+withdrawn_returning : (s : State) (answer : Answer) (withdrawals : List Withdrawal) → AllByRecursion GrantsNothing withdrawals
+    → AllByRecursion (Queued IsHarmless) s.resources → IsReturning s (stepped_after_sweep (withdrawal_of_all answer withdrawals s))
+withdrawn_returning s answer withdrawals nothing harmless =
+    let change : Stepped = withdrawal_of_all answer withdrawals s in
     let P : Ending → ValueBlock → Type 0 = IsItsValue (stepped_after_sweep change).state in
-    let none : AllByRecursion IsNoGrant (deq_endings s d) = dequeue_grants_nothing s d in
-    swept_returning s change s.processes (dequeue_queued IsHarmless s d harmless) (dequeue_queued (HeldSo s) s d (queued_held s))
-    (each_weaker IsNoGrant (Acts s) (λ ending no grant. absurd (no grant)) (deq_endings s d) none)
-    (all_returned P (deq_endings s d) (blocks_with new_value_block s.processes)
-    (each_weaker IsNoGrant WritesNothing (λ ending no. by_act ending Write no) (deq_endings s d) none)
-    (each_weaker IsNoGrant (Its P new_value_block) (λ ending no returns. absurd (by_act ending Return no returns)) (deq_endings s d) none))
+    let endings : List Ending = withdrawn_endings withdrawals s.resources in
+    let none : AllByRecursion IsNoGrant endings = all_grant_nothing withdrawals nothing s.resources in
+    swept_returning s change s.processes (withdrawn_queued IsHarmless s withdrawals harmless) (withdrawn_queued (HeldSo s) s withdrawals (queued_held s))
+    (each_weaker IsNoGrant (Acts s) (λ ending no grant. absurd (no grant)) endings none)
+    (all_returned P endings (blocks_with new_value_block s.processes)
+    (each_weaker IsNoGrant WritesNothing (λ ending no. by_act ending Write no) endings none)
+    (each_weaker IsNoGrant (Its P new_value_block) (λ ending no returns. absurd (by_act ending Return no returns)) endings none))
 
 -- the ends of processes return nothing
 rundown_returning : (s : State) (is_one : ℕ → Bool) (nodes : List Node) → AllByRecursion (Queued IsHarmless) s.resources
@@ -431,7 +431,7 @@ rundown_returning s is_one nodes harmless =
 
 returning : (history : History) (s : State) → Run history s → (step : Step) (choice : Option Row) → step_refusal s step ≡ None
     → IsReturning s (stepped_after_sweep (step_change s step choice))
-unfolding declare_change set_change take_change
+unfolding declare_change set_change take_change deq_change search_change
 returning history s run (Declare d) choice passed =
     idle_returning s (step_change s (Declare d) choice) refl (harmless_always history s run) (queued_held s)
 returning history s run (SetValue v) choice passed =
@@ -442,11 +442,13 @@ returning history s run (Convert c) choice passed =
     subst (λ (there : Option ConversionAdmission). IsReturning s (stepped_after_sweep (conversion_change s c there))) (sym admitted.1)
     (conversion_returning s c admitted.0 (holders_agree_always history s run) (apart_always history s run) passed admitted.1
     (harmless_always history s run))
-returning history s run (Deq d) choice passed = dequeue_returning s d choice (harmless_always history s run)
+returning history s run (Deq d) choice passed =
+    withdrawn_returning s (Plain Normal) (withdrawals_of s d) (dequeues_grant_nothing s d) (harmless_always history s run)
 returning history s run (Rundown pid) choice passed = rundown_returning s (is_ended_by pid) s.nodes (harmless_always history s run)
 returning history s run (Leave node) choice passed =
     rundown_returning s (is_of_node node) (nodes_after_departure s.nodes node) (harmless_always history s run)
-returning history s run (Search node) choice passed = cc
+returning history s run (Search node) choice passed =
+    withdrawn_returning s (Victim (victim_lkid choice)) (victim_withdrawals choice) (victims_grant_nothing choice) (harmless_always history s run)
 returning history s run (Take pid) choice passed =
     idle_returning s (step_change s (Take pid) choice) refl (harmless_always history s run) (queued_held s)
 

@@ -10,7 +10,7 @@ use Rattle.vlm_words.specs.Conditions.{condition_number}
 use Rattle.vlm_words.specs.ValueBlocks.{return_status}
 use Rattle.vlm_words.specs.State.{Process, Resource}
 use Rattle.vlm_words.specs.Endings.{Ending, How}
-use Rattle.vlm_words.specs.Endings.How.{by_abort, by_cancel, by_grant, by_rundown}
+use Rattle.vlm_words.specs.Endings.How.{by_abort, by_cancel, by_deadlock, by_grant, by_rundown}
 use Rattle.vlm_words.specs.Effects.{Blocks, blocks_after, blocks_after_ending, blocks_with}
 use Rattle.vlm_words.specs.Grants.{service}
 use Rattle.vlm_words.specs.Sweeps.{blocks_after_service, processes_after_service, sweep_endings}
@@ -55,6 +55,7 @@ module _ (P : Ending → ValueBlock → Type 0) where
   own_value ending (by_grant Write) block before its = refl
   own_value ending by_abort block before its = refl
   own_value ending by_cancel block before its = refl
+  own_value ending by_deadlock block before its = refl
   own_value ending by_rundown block before its = refl
 
   own_status : (ending : Ending) (how : How) (block : ValueBlock) (before : Block) → (how ≡ by_grant Return → P ending block) → how ≡ by_grant Return
@@ -68,6 +69,7 @@ module _ (P : Ending → ValueBlock → Type 0) where
   own_status ending (by_grant Write) block before its is = cc
   own_status ending by_abort block before its is = cc
   own_status ending by_cancel block before its is = cc
+  own_status ending by_deadlock block before its is = cc
   own_status ending by_rundown block before its is = cc
 
   returns_one : (pid number : ℕ) (ending : Ending) (block : ValueBlock) (before : Block) → (ending.how ≡ by_grant Return → P ending block)

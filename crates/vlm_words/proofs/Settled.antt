@@ -12,7 +12,6 @@ use Rattle.vlm_words.specs.SetValue.{set_change}
 use Rattle.vlm_words.specs.Take.{take_change}
 use Rattle.vlm_words.specs.Enqueue.{enq_change}
 use Rattle.vlm_words.specs.Convert.{convert_change}
-use Rattle.vlm_words.specs.Dequeue.{deq_change}
 use Rattle.vlm_words.specs.Rundown.{state_after_rundown}
 use Rattle.vlm_words.specs.Runs.{History, Run}
 use Rattle.vlm_words.specs.Laws.{IsVacant, NoResourceIsVacant}
@@ -25,6 +24,7 @@ use Rattle.vlm_words.specs.Asts.{is_to_warn, row_after_warning, row_warnings, ha
 use Rattle.vlm_words.specs.Effects.{with_value_block}
 use Rattle.std.specs.Prelude.{⊤}
 use Rattle.vlm_words.proofs.EachResource.{each_always}
+use Rattle.vlm_words.specs.Withdrawals.{state_after_withdrawals}
 
 -- ---- some lock is left
 
@@ -54,7 +54,7 @@ occupied_always =
     (λ taker _. occupied_swept (take_change s taker).processes (take_change s taker).resources)
     (λ e _. occupied_swept (enq_change s e).processes (enq_change s e).resources)
     (λ c a _ _. occupied_swept (convert_change s c a).processes (convert_change s c a).resources)
-    (λ d _. occupied_swept (deq_change s d).processes (deq_change s d).resources)
+    (λ withdrawals _. occupied_swept (state_after_withdrawals withdrawals s).processes (state_after_withdrawals withdrawals s).resources)
     (λ is_one nodes _. occupied_swept (state_after_rundown is_one nodes s).processes (state_after_rundown is_one nodes s).resources))
 
 occupied_not_vacant : (r : Resource) → Occupied r → IsVacant r → ⊥

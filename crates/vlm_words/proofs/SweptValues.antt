@@ -12,7 +12,7 @@ use Rattle.vlm_words.specs.declared.steps.NewRequest.{NewRequest}
 use Rattle.vlm_words.specs.Flags.{flag_bits, has_flag, valblk}
 use Rattle.vlm_words.specs.State.{Process, Resource, State}
 use Rattle.vlm_words.specs.Endings.{Ending, How, wanted_endings}
-use Rattle.vlm_words.specs.Endings.How.{by_abort, by_cancel, by_grant, by_rundown}
+use Rattle.vlm_words.specs.Endings.How.{by_abort, by_cancel, by_deadlock, by_grant, by_rundown}
 use Rattle.vlm_words.specs.Effects.{Blocks, blocks_after, blocks_after_end, blocks_after_ending, blocks_after_return, blocks_with}
 use Rattle.vlm_words.specs.Grants.{grant_act, grant_endings, is_empty, no_service, resource_after_grant, service, service_after_grant, service_of_conversions, service_of_new_requests, service_of_waiting, valblk_act, wanted_fits}
 use Rattle.vlm_words.specs.Rows.{is_lock_of}
@@ -157,6 +157,7 @@ end_leaves (by_grant Return) ending b nothing = refl
 end_leaves (by_grant Write) ending b nothing = absurd (nothing refl)
 end_leaves by_abort ending b nothing = refl
 end_leaves by_cancel ending b nothing = refl
+end_leaves by_deadlock ending b nothing = refl
 end_leaves by_rundown ending b nothing = refl
 
 pub ends_leave : (endings : List Ending) (b : Blocks) → AllByRecursion WritesNothing endings → (blocks_after endings b).value_block ≡ b.value_block

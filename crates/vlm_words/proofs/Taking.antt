@@ -23,11 +23,13 @@ use Rattle.vlm_words.specs.Stepped.{IsChoice, Stepped, conversion_change, refuse
 use Rattle.vlm_words.specs.Taking.{AstsAfter, AstsAfterTake, AstsAreTakenInOrder, AstsLeft, IsTakenFrom, queued_to}
 use Rattle.vlm_words.proofs.Always.{admission_of}
 use Rattle.vlm_words.proofs.Processes.{kept_set}
-use Rattle.vlm_words.proofs.Queueing.{AreQueued, asts_are, both_queued, conversion_queues, dequeue_queues, none_queued, pending, request_queues, sweep_queues}
+use Rattle.vlm_words.proofs.Queueing.{AreQueued, asts_are, both_queued, conversion_queues, none_queued, pending, request_queues, sweep_queues, withdrawn_queue}
 use Rattle.vlm_words.proofs.Written.{as_taken, found_first}
 use Rattle.vlm_words.specs.declared.conditions.Cond.TheVariants.{Normal}
 use Rattle.vlm_words.specs.Rundown.{is_ended_by, is_of_node, nodes_after_departure, processes_but, state_after_rundown}
 use Rattle.vlm_words.proofs.Ended.{found_still, is_left, rundowns_tell_nobody, swept_living}
+use Rattle.vlm_words.specs.Search.{victim_withdrawals, search_change}
+use Rattle.vlm_words.specs.Dequeue.{deq_change, withdrawals_of}
 
 -- ---- what a take leaves
 
@@ -171,7 +173,7 @@ ending_takes s step is_one nodes left pid before is living =
     }
 
 takes : (s : State) (step : Step) (choice : Option Row) → step_refusal s step ≡ None → Takes s step (stepped_after_sweep (step_change s step choice))
-unfolding set_change
+unfolding set_change deq_change search_change
 takes s (Declare d) choice passed =
     leaves s (Declare d) (step_change s (Declare d) choice) (λ pid asts. refl) (declaring_leaves s d)
 takes s (SetValue v) choice passed =
@@ -182,11 +184,12 @@ takes s (Convert c) choice passed =
     let admitted = admission_of s c passed in
     subst (λ (there : Option ConversionAdmission). Takes s (Convert c) (stepped_after_sweep (conversion_change s c there))) (sym admitted.1)
     (leaves s (Convert c) (conversion_change s c (Some admitted.0)) (λ pid asts. refl) (conversion_queues s c admitted.0))
-takes s (Deq d) choice passed = leaves s (Deq d) (step_change s (Deq d) choice) (λ pid asts. refl) (dequeue_queues s d)
+takes s (Deq d) choice passed = leaves s (Deq d) (step_change s (Deq d) choice) (λ pid asts. refl) (withdrawn_queue s (withdrawals_of s d))
 takes s (Rundown pid) choice passed = ending_takes s (Rundown pid) (is_ended_by pid) s.nodes (λ process asts. refl)
 takes s (Leave node) choice passed =
     ending_takes s (Leave node) (is_of_node node) (nodes_after_departure s.nodes node) (λ process asts. refl)
-takes s (Search node) choice passed = cc
+takes s (Search node) choice passed =
+    leaves s (Search node) (step_change s (Search node) choice) (λ pid asts. refl) (withdrawn_queue s (victim_withdrawals choice))
 takes s (Take taker) choice passed = taking s taker choice
 
 -- a refused step

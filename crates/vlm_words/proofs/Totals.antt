@@ -35,6 +35,7 @@ use Rattle.vlm_words.proofs.Weights.{entered_among_weighs, weigh}
 use Rattle.vlm_words.proofs.Moves.{IsByName, converted_named, grant_keeps, swept_named, withdrawn_named}
 use Rattle.vlm_words.proofs.Apart.{Apart, standing, stands}
 use Rattle.vlm_words.proofs.Counts.{found_stands}
+use Rattle.vlm_words.specs.Search.{victim_withdrawals, search_change}
 
 -- 1 for each row
 abbrev pub one_each : Row → ℕ
@@ -237,7 +238,7 @@ conversion_total s c (Some a) =
 
 -- the change of a step adds no more
 change_total : (s : State) (step : Step) (choice : Option Row) → total (step_change s step choice).state.resources ≤ total s.resources + most_added step
-unfolding declare_change set_change take_change deq_change
+unfolding declare_change set_change take_change deq_change search_change
 change_total s (Declare d) choice = omega arith
 change_total s (SetValue v) choice = omega arith
 change_total s (Enq e) choice = omega (arith, entered_total s e)
@@ -245,7 +246,7 @@ change_total s (Convert c) choice = omega (arith, conversion_total s c (convert_
 change_total s (Deq d) choice = omega (arith, withdrawn_total (withdrawals_of s d) s.resources)
 change_total s (Rundown pid) choice = omega (arith, ended_total s (is_ended_by pid) s.nodes)
 change_total s (Leave node) choice = omega (arith, ended_total s (is_of_node node) (nodes_after_departure s.nodes node))
-change_total s (Search node) choice = omega arith
+change_total s (Search node) choice = omega (arith, withdrawn_total (victim_withdrawals choice) s.resources)
 change_total s (Take pid) choice = omega arith
 
 -- a step adds no more locks than its kind may, whether it is refused or made, and whatever it chooses

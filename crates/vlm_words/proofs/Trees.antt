@@ -25,10 +25,10 @@ use Rattle.vlm_words.specs.SetValue.{set_change}
 use Rattle.vlm_words.specs.Take.{take_change}
 use Rattle.vlm_words.specs.Convert.{ConversionAdmission, convert_blocks, convert_change, convert_lkid, resource_after_conversion}
 use Rattle.vlm_words.specs.Dequeue.{cancel_refusal, deq_change, deq_flags_refusal, deq_refusal, dequeue_lkid, has_sublock, has_sublock_on, sublocks_refusal, withdrawal_of, dequeued_lock_refusal, is_dequeued, leaves_none}
-use Rattle.vlm_words.specs.Withdrawals.{Withdrawal, resource_after_withdrawals}
+use Rattle.vlm_words.specs.Withdrawals.{Withdrawal, resource_after_withdrawals, state_after_withdrawals}
 use Rattle.vlm_words.specs.Runs.{History, Run}
 use Rattle.vlm_words.specs.Laws.{ChainsAreBounded, HasItsLevel, HasItsParent, HoldsOn, ParentsOutliveTheirSublocks, TreesAreBounded}
-use Rattle.vlm_words.proofs.Always.{always, kept_by_stepped}
+use Rattle.vlm_words.proofs.Always.{always, kept_by_stepped, WithdrawsNow, gives_up, ends_deadlock}
 use Rattle.vlm_words.proofs.Each.{Any-weaker, each_map, each_weaker, each_so}
 use Rattle.vlm_words.proofs.Passed.{sixth_passes, test_fails, flags_go_together}
 use Rattle.vlm_words.proofs.EachResource.{each_entered_among, each_entered_at, each_swept}
@@ -46,6 +46,7 @@ use Rattle.vlm_words.proofs.Closed.{Closed, each_closed, held_stays, or_fails, o
 use Rattle.vlm_words.proofs.Leaving.{AllGo, AllListed, all_go, none_left_here}
 use Rattle.vlm_words.specs.OwnLocks.{own_lkids}
 use Rattle.vlm_words.specs.Rundown.{rundown_of, state_after_rundown}
+use Rattle.vlm_words.specs.Search.{victim_withdrawals, deadlock_of}
 
 -- each row has its parent, and no resource is below the lowest level
 pub record Tree (s : State) : Type 0 where
@@ -299,6 +300,23 @@ tree_dequeued s d apart passed tree = of_flag (has_flag d.flags deqall) refl
         tree_dequeued_one s (deq_change s d) d passed is tree
         (ap (λ (all : Bool). map (resource_after_withdrawals (map (withdrawal_of d) (cond all lkids (dequeue_lkid s d ∷ [])))) s.resources) is)
 
+-- a search keeps the tree: a victim that waits has no sublocks, and one that converts stays
+tree_searched : (s : State) (choice : Option Row) → Tree s → Tree (state_after_withdrawals (victim_withdrawals choice) s)
+tree_searched s choice tree =
+    tree_withdrawn s (state_after_withdrawals (victim_withdrawals choice) s) (victim_withdrawals choice) refl tree (λ row. false)
+    (λ row _ r. stays choice row r) (none_orphaned (resource_after_withdrawals (victim_withdrawals choice)) s.resources)
+  where
+    stays : (chosen : Option Row) (row : Row) (r : Resource)
+        → held_by row.pid row.parent r ≤ held_by row.pid row.parent (resource_after_withdrawals (victim_withdrawals chosen) r)
+    stays None row r = omega arith
+    stays (Some victim) row r = withdrawn_held row.pid row.parent (deadlock_of victim.lkid) (λ goes. cc) r
+
+-- withdrawals of a step keep the tree
+tree_after : (s : State) (withdrawals : List Withdrawal) → Apart s → WithdrawsNow s withdrawals → Tree s → Tree (state_after_withdrawals withdrawals s)
+unfolding deq_change
+tree_after s _ apart (gives_up d passed) tree = tree_dequeued s d apart passed tree
+tree_after s _ apart (ends_deadlock choice _) tree = tree_searched s choice tree
+
 -- ends of processes keep the tree
 tree_ended : (s : State) (is_one : ℕ → Bool) (nodes : List Node) → Apart s → Tree s → Tree (state_after_rundown is_one nodes s)
 unfolding state_after_rundown
@@ -326,7 +344,7 @@ tree_always =
     tree_swept (enq_change s e)
     (tree_entered s e passed (placed_always history s run) (occupied_always history s run) tree))
     (λ c a _ _. tree_swept (convert_change s c a) (tree_converted s c a (apart_always history s run) tree))
-    (λ d passed. tree_swept (deq_change s d) (tree_dequeued s d (apart_always history s run) passed tree))
+    (λ withdrawals now. tree_swept (state_after_withdrawals withdrawals s) (tree_after s withdrawals (apart_always history s run) now tree))
     (λ is_one nodes _. tree_swept (state_after_rundown is_one nodes s) (tree_ended s is_one nodes (apart_always history s run) tree)))
 
 -- ---- the laws

@@ -5,7 +5,6 @@ use Rattle.std.proofs.lemmas.Bool.{cond_both}
 use Rattle.vlm_words.specs.declared.locks.Row.{Row}
 use Rattle.vlm_words.specs.declared.resources.ValueBlock.{ValueBlock}
 use Rattle.vlm_words.specs.declared.steps.Conversion.{Conversion}
-use Rattle.vlm_words.specs.declared.steps.Dequeue.{Dequeue}
 use Rattle.vlm_words.specs.declared.steps.NewRequest.{NewRequest}
 use Rattle.vlm_words.specs.State.{Node, Resource, State}
 use Rattle.vlm_words.specs.Effects.{with_value_block}
@@ -18,8 +17,7 @@ use Rattle.vlm_words.specs.SetValue.{set_change}
 use Rattle.vlm_words.specs.Take.{take_change}
 use Rattle.vlm_words.specs.Enqueue.{enq_at_once, enq_change, enq_refusal, enq_row, resource_after_entry}
 use Rattle.vlm_words.specs.Convert.{ConversionAdmission, convert_admission, convert_blocks, convert_change, convert_lkid, convert_refusal, resource_after_conversion, resource_after_conversion_of, resource_without_granted, wanting_row}
-use Rattle.vlm_words.specs.Withdrawals.{Withdrawal, is_held_by_writer, resource_after_cancel, resource_after_going, resource_after_withdrawals, resource_after_writer, resource_without, value_block_after_writer}
-use Rattle.vlm_words.specs.Dequeue.{deq_change, withdrawals_of}
+use Rattle.vlm_words.specs.Withdrawals.{Withdrawal, is_held_by_writer, resource_after_cancel, resource_after_going, resource_after_withdrawals, resource_after_writer, resource_without, value_block_after_writer, state_after_withdrawals}
 use Rattle.vlm_words.specs.Rundown.{rundowns, state_after_rundown}
 use Rattle.vlm_words.specs.Runs.{History, Run}
 use Rattle.vlm_words.proofs.Each.{each_append, each_drop, each_filter, each_map}
@@ -118,11 +116,11 @@ module _ (P : Row → Type 0) where
       (λ _. record { converting = each_filter P _ r.converting queued.converting; waiting = each_filter P _ r.waiting queued.waiting })
       (λ _. record { converting = each_filter P _ r.converting queued.converting; waiting = each_filter P _ r.waiting queued.waiting })
 
-  -- a dequeue
-  pub dequeue_queued : (s : State) (d : Dequeue) → AllByRecursion (Queued P) s.resources → AllByRecursion (Queued P) (deq_change s d).resources
-  unfolding deq_change
-  dequeue_queued s d each =
-      each_map (Queued P) (Queued P) (resource_after_withdrawals (withdrawals_of s d)) (kept_withdrawn (Queued P) left_queued gone_queued (withdrawals_of s d)) s.resources each
+  -- locks that are withdrawn
+  pub withdrawn_queued : (s : State) (withdrawals : List Withdrawal) → AllByRecursion (Queued P) s.resources
+      → AllByRecursion (Queued P) (state_after_withdrawals withdrawals s).resources
+  withdrawn_queued s withdrawals each =
+      each_map (Queued P) (Queued P) (resource_after_withdrawals withdrawals) (kept_withdrawn (Queued P) left_queued gone_queued withdrawals) s.resources each
 
   -- an end of processes
   pub rundown_queued : (s : State) (is_one : ℕ → Bool) (nodes : List Node) → AllByRecursion (Queued P) s.resources
@@ -146,5 +144,5 @@ module _ (P : Row → Type 0) where
       (λ taker _. swept_queued (take_change s taker) each)
       (λ e passed. swept_queued (enq_change s e) (request_queued s e (requests history s run e passed) each))
       (λ c a passed is. swept_queued (convert_change s c a) (conversion_queued s c a (conversions history s run c a passed is) each))
-      (λ d _. swept_queued (deq_change s d) (dequeue_queued s d each))
+      (λ withdrawals _. swept_queued (state_after_withdrawals withdrawals s) (withdrawn_queued s withdrawals each))
       (λ is_one nodes _. swept_queued (state_after_rundown is_one nodes s) (rundown_queued s is_one nodes each)))

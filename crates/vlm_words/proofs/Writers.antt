@@ -54,7 +54,7 @@ use Rattle.vlm_words.proofs.Keys.{Placed, WasGiven, conversion_keeps_place, entr
 use Rattle.vlm_words.proofs.Refusals.{Any_found}
 use Rattle.vlm_words.proofs.Standing.{admitted_there}
 use Rattle.vlm_words.proofs.SweptValues.{IsHarmless, WritesNothing, conversion_is_harmless, ends_leave, grant_harmless, harmless_always, new_is_harmless, served, served_leaves, served_same, swept_alone, table_writes, writes_by_table}
-use Rattle.vlm_words.proofs.Waiting.{Queued, conversion_queued, dequeue_queued, request_queued, rundown_queued}
+use Rattle.vlm_words.proofs.Waiting.{Queued, conversion_queued, request_queued, rundown_queued, withdrawn_queued}
 use Rattle.vlm_words.proofs.Writes.{only_row_among, write_at_once}
 use Rattle.vlm_words.proofs.Written.{blocks_are, conversion_names}
 use Rattle.vlm_words.proofs.EndWrites.{block_at, block_numbered, block_written, many_written}
@@ -62,6 +62,7 @@ use Rattle.vlm_words.specs.OwnLocks.{own_lkids}
 use Rattle.vlm_words.specs.Rundown.{is_ended_by, is_of_node, nodes_after_departure, rundown_of, rundowns, state_after_rundown}
 use Rattle.vlm_words.proofs.LeftValues.{IsPlain, LeftTogether, left_together, lkids_of_writers, writer_found, writer_of}
 use Rattle.vlm_words.proofs.Passed.{flags_go_together, no_value_goes}
+use Rattle.vlm_words.specs.Search.{victim_withdrawals, search_change, deadlock_of}
 
 -- ---- what is so of a resource
 
@@ -370,6 +371,26 @@ dequeue_has : (s : State) (d : Dequeue) → deq_refusal s d ≡ None → AllByRe
 unfolding deq_change
 dequeue_has s d passed = changed_has s (Deq d) (resource_after_withdrawals (withdrawals_of s d)) (λ r _. dequeue_has_its s d passed r)
 
+-- ---- a search
+
+-- the victim leaves the value block
+victim_leaves : (choice : Option Row) (r : Resource) → (resource_after_withdrawals (victim_withdrawals choice) r).value_block ≡ r.value_block
+victim_leaves None r = refl
+victim_leaves (Some victim) r =
+    withdrawn_value (deadlock_of victim.lkid) r
+    ∙ cond_both (is_held_by_writer victim.lkid r) (value_block_after_writer (deadlock_of victim.lkid) r.value_block) r.value_block
+    (λ block. block ≡ r.value_block) (λ _. refl) (λ _. refl)
+
+search_has : (s : State) (node : ℕ) (choice : Option Row) → AllByRecursion (Has s (Search node)) (search_change s choice).resources
+unfolding search_change
+search_has s node choice =
+    changed_has s (Search node) (resource_after_withdrawals (victim_withdrawals choice))
+    (λ r _. record {
+      serial = (withdrawals_keep_place (victim_withdrawals choice) r).serial;
+      written = λ writes. absurd writes;
+      kept = λ _. victim_leaves choice r;
+    })
+
 -- ---- a conversion
 
 -- the table of value blocks lets a conversion write from PW to another mode than EX, and from EX
@@ -574,7 +595,7 @@ swept_change s step change harmless each = swept_has s step change.state.process
 
 accepted_has : (history : History) (s : State) → Run history s → (step : Step) (choice : Option Row) → step_refusal s step ≡ None
     → AllByRecursion (Has s step) (stepped_after_sweep (step_change s step choice)).state.resources
-unfolding declare_change set_change take_change
+unfolding declare_change set_change take_change deq_change search_change
 accepted_has history s run (Declare d) choice passed =
     swept_change s (Declare d) (step_change s (Declare d) choice) (harmless_always history s run) (idle_has s (Declare d) (λ r writes. writes))
 accepted_has history s run (SetValue v) choice passed =
@@ -591,7 +612,7 @@ accepted_has history s run (Convert c) choice passed =
     (conversion_queued IsHarmless s c admitted.0 (conversion_is_harmless s c admitted.0 agree apart passed admitted.1) (harmless_always history s run))
     (conversion_has s c admitted.0 agree apart passed admitted.1))
 accepted_has history s run (Deq d) choice passed =
-    swept_change s (Deq d) (step_change s (Deq d) choice) (dequeue_queued IsHarmless s d (harmless_always history s run)) (dequeue_has s d passed)
+    swept_change s (Deq d) (step_change s (Deq d) choice) (withdrawn_queued IsHarmless s (withdrawals_of s d) (harmless_always history s run)) (dequeue_has s d passed)
 accepted_has history s run (Rundown pid) choice passed =
     swept_change s (Rundown pid) (step_change s (Rundown pid) choice) (rundown_queued IsHarmless s (is_ended_by pid) s.nodes (harmless_always history s run))
     (ending_has s (Rundown pid) (is_ended_by pid) s.nodes (apart_always history s run) (of_pid pid) (is_pid pid) (λ before after left. left))
@@ -599,7 +620,9 @@ accepted_has history s run (Leave node) choice passed =
     swept_change s (Leave node) (step_change s (Leave node) choice)
     (rundown_queued IsHarmless s (is_of_node node) (nodes_after_departure s.nodes node) (harmless_always history s run))
     (ending_has s (Leave node) (is_of_node node) (nodes_after_departure s.nodes node) (apart_always history s run) (of_node node) (is_node_of node) (λ before after left. left))
-accepted_has history s run (Search node) choice passed = cc
+accepted_has history s run (Search node) choice passed =
+    swept_change s (Search node) (step_change s (Search node) choice)
+    (withdrawn_queued IsHarmless s (victim_withdrawals choice) (harmless_always history s run)) (search_has s node choice)
 accepted_has history s run (Take pid) choice passed =
     swept_change s (Take pid) (step_change s (Take pid) choice) (harmless_always history s run) (idle_has s (Take pid) (λ r writes. writes))
 

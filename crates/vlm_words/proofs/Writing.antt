@@ -10,7 +10,7 @@ use Rattle.vlm_words.specs.Conditions.{condition_number}
 use Rattle.vlm_words.specs.ValueBlocks.{return_status}
 use Rattle.vlm_words.specs.State.{Process, Resource}
 use Rattle.vlm_words.specs.Endings.{Ending, How, is_told}
-use Rattle.vlm_words.specs.Endings.How.{by_abort, by_cancel, by_grant, by_rundown}
+use Rattle.vlm_words.specs.Endings.How.{by_abort, by_cancel, by_deadlock, by_grant, by_rundown}
 use Rattle.vlm_words.specs.Effects.{Blocks, blocks_after, blocks_after_ending, blocks_with}
 use Rattle.vlm_words.specs.Grants.{service}
 use Rattle.vlm_words.specs.Sweeps.{blocks_after_service, processes_after_service, sweep_endings}
@@ -32,6 +32,7 @@ tells (by_grant Return) told value block = of_mark value.valid
 tells (by_grant Write) told value block = refl
 tells by_abort told value block = refl
 tells by_cancel told value block = refl
+tells by_deadlock told value block = refl
 tells by_rundown told value block = cc
 
 keeps_lkid : (how : How) (value : ValueBlock) (block : Block) → (block_after_how how value block).lkid ≡ block.lkid
@@ -40,6 +41,7 @@ keeps_lkid (by_grant Return) value block = refl
 keeps_lkid (by_grant Write) value block = refl
 keeps_lkid by_abort value block = refl
 keeps_lkid by_cancel value block = refl
+keeps_lkid by_deadlock value block = refl
 keeps_lkid by_rundown value block = refl
 
 keeps_value : (how : How) (value : ValueBlock) (block : Block) → (how ≡ by_grant Return → ⊥) → (block_after_how how value block).value ≡ block.value
@@ -48,6 +50,7 @@ keeps_value (by_grant Return) value block other = absurd (other refl)
 keeps_value (by_grant Write) value block other = refl
 keeps_value by_abort value block other = refl
 keeps_value by_cancel value block other = refl
+keeps_value by_deadlock value block other = refl
 keeps_value by_rundown value block other = refl
 
 -- nothing ended
@@ -131,6 +134,7 @@ grant_told : (how : How) → IsGrant how → is_told how ≡ true
 grant_told (by_grant act) grants = refl
 grant_told by_abort grants = absurd grants
 grant_told by_cancel grants = absurd grants
+grant_told by_deadlock grants = absurd grants
 grant_told by_rundown grants = absurd grants
 
 service_tells : (r : Resource) → AllByRecursion IsTold (service r).endings

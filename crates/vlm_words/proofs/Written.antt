@@ -9,7 +9,7 @@ use Rattle.vlm_words.specs.declared.blocks.Block.{Block}
 use Rattle.vlm_words.specs.declared.conditions.Cond.TheVariants.{Normal, Departed, Nonexpr, Accvio, Badparam}
 use Rattle.vlm_words.specs.declared.conditions.Cond.{Cond}
 use Rattle.vlm_words.specs.declared.locks.Row.{Row}
-use Rattle.vlm_words.specs.declared.steps.Answer.TheVariants.{Plain}
+use Rattle.vlm_words.specs.declared.steps.Answer.TheVariants.{Plain, Victim}
 use Rattle.vlm_words.specs.declared.steps.Answer.{Answer}
 use Rattle.vlm_words.specs.declared.steps.Conversion.{Conversion}
 use Rattle.vlm_words.specs.declared.steps.Declaration.{Declaration}
@@ -56,6 +56,7 @@ use Rattle.vlm_words.proofs.Each.{each_append, each_map, each_so}
 use Rattle.vlm_words.proofs.Ended.{found_still, is_left, left_by_rundown, swept_living}
 use Rattle.vlm_words.proofs.WhoseLocks.{rundown_ends_are_theirs}
 use Rattle.vlm_words.proofs.Withdrawing.{each_end}
+use Rattle.vlm_words.specs.Search.{victim_withdrawals, search_change, search_endings, victim_lkid, deadlock_of}
 
 -- ---- status blocks are numbered from 1
 
@@ -333,6 +334,21 @@ conversion_writes s c a =
     (all_left (conversion_endings a) (blocks_with a.resource.value_block (processes_after_acceptance c.pid c.block lkid s.processes))
     (at_once_tells a.at_once (wanting_row a.row a.request)))
 
+-- a search
+victim_tells : (s : State) (choice : Option Row) → AllByRecursion IsTold (search_endings s choice)
+victim_tells s None = tt
+victim_tells s (Some victim) =
+    each_end IsTold (victim_withdrawals (Some victim)) s.resources (lock_tells (deadlock_of victim.lkid) refl refl s.resources, tt)
+
+search_writes : (s : State) (node : ℕ) (choice : Option Row) → Writes s (Search node) (stepped_after_sweep (step_change s (Search node) choice))
+unfolding search_change
+search_writes s node choice =
+    swept_writes s (Search node) (step_change s (Search node) choice)
+    (kept_swept without_notices (λ _ _ _. refl) (search_change s choice).processes (search_change s choice).resources
+    ∙ kept_ended without_notices (λ _ _ _. refl) (search_endings s choice) (blocks_with new_value_block s.processes))
+    s.processes (unmade (Search node) (Victim (victim_lkid choice)) s (λ _. refl))
+    (all_left (search_endings s choice) (blocks_with new_value_block s.processes) (victim_tells s choice))
+
 -- a dequeue
 dequeue_writes : (s : State) (d : Dequeue) (choice : Option Row) → Writes s (Deq d) (stepped_after_sweep (step_change s (Deq d) choice))
 unfolding deq_change
@@ -412,7 +428,7 @@ writes s apart settled (Rundown pid) choice passed =
     rundown_writes s (Rundown pid) (is_ended_by pid) s.nodes apart (λ _. refl) (λ processes kept. kept)
 writes s apart settled (Leave node) choice passed =
     rundown_writes s (Leave node) (is_of_node node) (nodes_after_departure s.nodes node) apart (λ _. refl) (λ processes kept. kept)
-writes s apart settled (Search node) choice passed = cc
+writes s apart settled (Search node) choice passed = search_writes s node choice
 writes s apart settled (Take pid) choice passed = taking_writes s pid choice
 
 -- after every run

@@ -11,7 +11,7 @@ use Rattle.vlm_words.specs.Endings.{Ending, How}
 use Rattle.vlm_words.specs.Endings.How.{by_abort, by_cancel}
 use Rattle.vlm_words.specs.OwnLocks.{is_below, own_lkids}
 use Rattle.vlm_words.specs.Rows.{is_lock_of}
-use Rattle.vlm_words.specs.Withdrawals.{Withdrawal, processes_after, resource_after_withdrawals, withdrawn_endings}
+use Rattle.vlm_words.specs.Withdrawals.{Withdrawal, state_after_withdrawals, withdrawn_endings}
 use Rattle.vlm_words.specs.Checks.{caller_refusal, lock_refusal, named_lkid, or_else, which_refusal}
 
 -- DEQALL goes with no cancel, and with no value
@@ -107,9 +107,6 @@ withdrawals_of s d = map (withdrawal_of d) (dequeued_lkids s d)
 abbrev pub deq_endings : State → Dequeue → List Ending
 deq_endings s d = withdrawn_endings (withdrawals_of s d) s.resources
 
--- the requests of the withdrawn locks end, and they are gone from every queue, or only their requests are
+-- its locks are withdrawn
 unfoldable pub deq_change : State → Dequeue → State
-deq_change s d = record s {
-  processes = processes_after (deq_endings s d) s.processes;
-  resources = map (resource_after_withdrawals (withdrawals_of s d)) s.resources;
-}
+deq_change s d = state_after_withdrawals (withdrawals_of s d) s

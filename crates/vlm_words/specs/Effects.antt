@@ -10,7 +10,7 @@ use Rattle.vlm_words.specs.State.{Process, Resource}
 use Rattle.vlm_words.specs.StatusBlocks.{processes_after_return, processes_after_status, status_block_of}
 use Rattle.vlm_words.specs.Endings.{Ending, How, ending_status}
 use Rattle.vlm_words.specs.Asts.{Queued, completions, processes_after_asts}
-use Rattle.vlm_words.specs.Endings.How.{by_abort, by_cancel, by_grant, by_rundown}
+use Rattle.vlm_words.specs.Endings.How.{by_abort, by_cancel, by_deadlock, by_grant, by_rundown}
 
 -- what the ends of requests on one resource change: its value block, and the processes' status blocks and
 -- ASTs
@@ -55,6 +55,7 @@ abbrev pub blocks_after_end : How → Ending → Blocks → Blocks
 blocks_after_end (by_grant act) ending b = blocks_after_grant act ending b
 blocks_after_end by_abort ending b = blocks_after_status ending (ending_status by_abort) b
 blocks_after_end by_cancel ending b = blocks_after_status ending (ending_status by_cancel) b
+blocks_after_end by_deadlock ending b = blocks_after_status ending (ending_status by_deadlock) b
 blocks_after_end by_rundown ending b = blocks_after_status ending (ending_status by_rundown) b
 
 -- ASTs are queued to processes; they touch no block

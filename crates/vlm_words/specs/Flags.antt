@@ -28,9 +28,17 @@ expedite = 16
 abbrev pub quecvt : ℕ
 quecvt = 32
 
+-- the request counts as waiting for nobody in a search for a deadlock
+abbrev pub nodlckwt : ℕ
+nodlckwt = 64
+
+-- nobody counts as waiting for the request in a search for a deadlock, while it is queued and once it is granted
+abbrev pub nodlckblk : ℕ
+nodlckblk = 128
+
 -- the bits of new requests and conversions that are built
 abbrev pub enq_bits : ℕ
-enq_bits = valblk + noqueue + syncsts + system + expedite + quecvt
+enq_bits = valblk + noqueue + syncsts + system + expedite + quecvt + nodlckwt + nodlckblk
 
 -- all locks below a lock, or all of the caller, are given up
 abbrev pub deqall : ℕ

@@ -1,5 +1,5 @@
 -- How a step's own change leaves the queues: in their order, and whoever joins one stands behind it.
-use Rattle.std.specs.Prelude.{◌≡◌, ◌≤◌, ◌/◌, ◌==◌, ◌++◌, ℕ, Bool, true, false, List, [], ◌∷◌, All, Option, length, if◌then◌else◌}
+use Rattle.std.specs.Prelude.{◌≡◌, ◌≤◌, ◌/◌, ◌==◌, ◌++◌, ℕ, Bool, true, false, List, [], ◌∷◌, All, Option, None, Some, length, if◌then◌else◌}
 use Rattle.std.specs.List.{AllZip, list_any}
 use Rattle.vlm_words.specs.declared.locks.Row.{Row}
 use Rattle.vlm_words.specs.declared.steps.Step.TheVariants.{Declare, SetValue, Enq, Convert, Deq, Rundown, Leave, Search, Take}
@@ -15,20 +15,25 @@ use Rattle.vlm_words.specs.Stepped.{step_change}
 abbrev pub is_lock_of_one : (ℕ → Bool) → State → ℕ → Bool
 is_lock_of_one is_one s lkid = list_any (has_lock_among is_one lkid) s.resources
 
+-- the lock is that of the row that is chosen, if one is
+abbrev pub is_chosen_lock : Option Row → ℕ → Bool
+is_chosen_lock None lkid = false
+is_chosen_lock (Some chosen) lkid = lkid == chosen.lkid
+
 -- the lock is one of the step's own: the one that it makes, or the one that it names, or one of the process that gives up
--- many or ends, or one of the node that departs
-abbrev pub is_own_lock : State → Step → ℕ → Bool
-is_own_lock s (Declare d) lkid = false
-is_own_lock s (SetValue v) lkid = false
-is_own_lock s (Enq e) lkid = lkid == s.next_lkid
-is_own_lock s (Convert c) lkid = lkid == named_lkid s c.pid c.lock
-is_own_lock s (Deq d) lkid =
+-- many or ends, or one of the node that departs, or the one that a search chooses
+abbrev pub is_own_lock : State → Step → Option Row → ℕ → Bool
+is_own_lock s (Declare d) choice lkid = false
+is_own_lock s (SetValue v) choice lkid = false
+is_own_lock s (Enq e) choice lkid = lkid == s.next_lkid
+is_own_lock s (Convert c) choice lkid = lkid == named_lkid s c.pid c.lock
+is_own_lock s (Deq d) choice lkid =
     if has_flag d.flags deqall then is_lock_of_one (λ pid. pid == d.pid) s lkid
     else lkid == named_lkid s d.pid d.lock
-is_own_lock s (Rundown process) lkid = is_lock_of_one (λ pid. pid == process) s lkid
-is_own_lock s (Leave node) lkid = is_lock_of_one (λ pid. pid / 65536 == node) s lkid
-is_own_lock s (Search node) lkid = false
-is_own_lock s (Take pid) lkid = false
+is_own_lock s (Rundown process) choice lkid = is_lock_of_one (λ pid. pid == process) s lkid
+is_own_lock s (Leave node) choice lkid = is_lock_of_one (λ pid. pid / 65536 == node) s lkid
+is_own_lock s (Search node) choice lkid = is_chosen_lock choice lkid
+is_own_lock s (Take pid) choice lkid = false
 
 -- row by row: each stays in its order, but own locks may leave; and at most one own lock joins, behind all
 pub data JoinsBehind (own : ℕ → Bool) : List Row → List Row → Type 0 where
@@ -58,6 +63,6 @@ pub record ChangesKeepOrder (old : State) (step : Step) (choice : Option Row) : 
   pub kept : List Resource
   pub made : List Resource
   pub resources : (step_change old step choice).state.resources ≡ kept ++ made
-  pub order : AllZip (KeepsOrder (is_own_lock old step)) old.resources kept
-  pub own : All (HasOwnAlone (is_own_lock old step)) made
+  pub order : AllZip (KeepsOrder (is_own_lock old step choice)) old.resources kept
+  pub own : All (HasOwnAlone (is_own_lock old step choice)) made
   pub at_most_one : length made ≤ 1

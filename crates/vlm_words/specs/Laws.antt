@@ -22,7 +22,7 @@ use Rattle.vlm_words.specs.Modes.{is_compatible, value_action}
 use Rattle.vlm_words.specs.Flags.{expedite, has_flag, quecvt, system}
 use Rattle.vlm_words.specs.State.{Process, Resource, State, process_of}
 use Rattle.vlm_words.specs.Endings.{Ending, How}
-use Rattle.vlm_words.specs.Endings.How.{by_abort, by_cancel, by_grant, by_rundown}
+use Rattle.vlm_words.specs.Endings.How.{by_abort, by_cancel, by_deadlock, by_grant, by_rundown}
 use Rattle.vlm_words.specs.Checks.{named_lkid}
 use Rattle.vlm_words.specs.OwnLocks.{is_below}
 use Rattle.vlm_words.specs.Stepped.{IsChoice, step_change, stepped}
@@ -111,6 +111,7 @@ abbrev pub IsGrant : How → Type 0
 IsGrant (by_grant act) = ⊤
 IsGrant by_abort = ⊥
 IsGrant by_cancel = ⊥
+IsGrant by_deadlock = ⊥
 IsGrant by_rundown = ⊥
 
 -- the end is that of what the lock of the row wanted: a grant from a queue

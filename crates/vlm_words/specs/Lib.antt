@@ -28,6 +28,8 @@ pub mod Withdrawals
 pub mod OwnLocks
 pub mod Dequeue
 pub mod Rundown
+pub mod Deadlocks
+pub mod Search
 pub mod Dues
 pub mod Stepped
 pub mod Runs

@@ -1,5 +1,5 @@
 -- Whose requests a step ends, and whose locks leave.
-use Rattle.std.specs.Prelude.{◌≡◌, ◌≤◌, ◌+◌, ◌/◌, ◌==◌, ◌&&◌, ℕ, All, Option, count_by, sum_by}
+use Rattle.std.specs.Prelude.{◌≡◌, ◌≤◌, ◌+◌, ◌/◌, ◌==◌, ◌&&◌, ℕ, All, Option, None, Some, count_by, sum_by}
 use Rattle.vlm_words.specs.declared.locks.Row.{Row}
 use Rattle.vlm_words.specs.declared.steps.Step.TheVariants.{Declare, SetValue, Enq, Convert, Deq, Rundown, Leave, Search, Take}
 use Rattle.vlm_words.specs.declared.steps.Step.{Step}
@@ -7,17 +7,22 @@ use Rattle.vlm_words.specs.State.{Resource, State}
 use Rattle.vlm_words.specs.Laws.{IsGrant}
 use Rattle.vlm_words.specs.Stepped.{stepped}
 
--- the process is the one that makes the step, or one of the node that departs
-abbrev pub IsCaller : Step → ℕ → Type 0
-IsCaller (Declare d) pid = ⊥
-IsCaller (SetValue v) pid = pid ≡ v.pid
-IsCaller (Enq e) pid = pid ≡ e.pid
-IsCaller (Convert c) pid = pid ≡ c.pid
-IsCaller (Deq d) pid = pid ≡ d.pid
-IsCaller (Rundown process) pid = pid ≡ process
-IsCaller (Leave node) pid = pid / 65536 ≡ node
-IsCaller (Search node) pid = ⊥
-IsCaller (Take process) pid = pid ≡ process
+-- the process is the owner of the row that is chosen, if one is
+abbrev pub IsChosenOwner : Option Row → ℕ → Type 0
+IsChosenOwner None pid = ⊥
+IsChosenOwner (Some chosen) pid = pid ≡ chosen.pid
+
+-- the process is the one that makes the step, or one of the node that departs, or the owner of what a search chooses
+abbrev pub IsCaller : Step → Option Row → ℕ → Type 0
+IsCaller (Declare d) choice pid = ⊥
+IsCaller (SetValue v) choice pid = pid ≡ v.pid
+IsCaller (Enq e) choice pid = pid ≡ e.pid
+IsCaller (Convert c) choice pid = pid ≡ c.pid
+IsCaller (Deq d) choice pid = pid ≡ d.pid
+IsCaller (Rundown process) choice pid = pid ≡ process
+IsCaller (Leave node) choice pid = pid / 65536 ≡ node
+IsCaller (Search node) choice pid = IsChosenOwner choice pid
+IsCaller (Take process) choice pid = pid ≡ process
 
 -- how many rows of a resource are those of this lock of this process
 abbrev pub lock_rows : ℕ → ℕ → Resource → ℕ
@@ -29,7 +34,7 @@ lock_rows pid lkid r =
 -- a step ends no request of another process but by a grant, and no lock of another process leaves
 pub record OthersAreLeftAlone (old : State) (step : Step) (choice : Option Row) : Type 0 where
   pub endings :
-      All (λ ending. (IsGrant ending.how → ⊥) → IsCaller step ending.pid) (stepped old step choice).endings
-  pub locks : (pid lkid : ℕ) → (IsCaller step pid → ⊥)
+      All (λ ending. (IsGrant ending.how → ⊥) → IsCaller step choice ending.pid) (stepped old step choice).endings
+  pub locks : (pid lkid : ℕ) → (IsCaller step choice pid → ⊥)
       → sum_by (lock_rows pid lkid) old.resources
       ≤ sum_by (lock_rows pid lkid) (stepped old step choice).state.resources

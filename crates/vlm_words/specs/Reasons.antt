@@ -7,7 +7,7 @@ use Rattle.vlm_words.specs.declared.locks.Request.{Request}
 use Rattle.vlm_words.specs.declared.locks.Row.{Row}
 use Rattle.vlm_words.specs.declared.modes.Mode.TheVariants.{Nl}
 use Rattle.vlm_words.specs.declared.modes.Mode.{Mode}
-use Rattle.vlm_words.specs.declared.steps.Answer.TheVariants.{Process as process_answer, Lock, Plain, Taken}
+use Rattle.vlm_words.specs.declared.steps.Answer.TheVariants.{Process as process_answer, Lock, Plain, Taken, Victim}
 use Rattle.vlm_words.specs.declared.steps.Answer.{Answer}
 use Rattle.vlm_words.specs.declared.steps.Conversion.{Conversion}
 use Rattle.vlm_words.specs.declared.steps.Declaration.{Declaration}
@@ -19,7 +19,7 @@ use Rattle.vlm_words.specs.declared.steps.ValueSetting.{ValueSetting}
 use Rattle.vlm_words.specs.declared.steps.Which.TheVariants.{Id, Block}
 use Rattle.vlm_words.specs.declared.steps.Which.{Which}
 use Rattle.vlm_words.specs.Modes.{is_queued_legally}
-use Rattle.vlm_words.specs.Flags.{cancel, deqall, expedite, has_flag, invvalblk, noqueue, quecvt, syncsts, system, valblk}
+use Rattle.vlm_words.specs.Flags.{cancel, deqall, expedite, has_flag, invvalblk, nodlckblk, nodlckwt, noqueue, quecvt, syncsts, system, valblk}
 use Rattle.vlm_words.specs.State.{Process, State, node_at, process_of}
 use Rattle.vlm_words.specs.Checks.{named_lkid}
 use Rattle.vlm_words.specs.Stepped.{stepped}
@@ -27,7 +27,7 @@ use Rattle.vlm_words.specs.Laws.{ConvertsInTurn, IsAskedFor, IsFreeFor, IsGrante
 
 -- the flags of new requests and conversions that are built
 abbrev pub request_flags : List ℕ
-request_flags = valblk ∷ noqueue ∷ syncsts ∷ system ∷ expedite ∷ quecvt ∷ []
+request_flags = valblk ∷ noqueue ∷ syncsts ∷ system ∷ expedite ∷ quecvt ∷ nodlckwt ∷ nodlckblk ∷ []
 
 -- the flags of dequeues that are built
 abbrev pub dequeue_flags : List ℕ
@@ -167,16 +167,11 @@ DequeueBreaks s d Sublocks =
     × Any (λ r. Any (λ row. row.parent ≡ named_by_dequeue s d) (r.granted ++ r.converting ++ r.waiting)) s.resources
 DequeueBreaks s d cond = CallerBreaks s d.pid cond
 
--- which rules a departure breaks: it names no node, or one that has departed
+-- which rules a departure breaks, or a search: it names no node, or one that has departed
 abbrev pub DepartureBreaks : State → ℕ → Cond → Type 0
 DepartureBreaks s node Badparam = (node ≡ 0) ⊎ (8 < node)
 DepartureBreaks s node Departed = HasDeparted s node
 DepartureBreaks s node cond = ⊥
-
--- a kind of step that is not built, as a search, breaks the rule that it be built
-abbrev pub UnbuiltBreaks : Cond → Type 0
-UnbuiltBreaks Badparam = ⊤
-UnbuiltBreaks cond = ⊥
 
 -- the step breaks the rule of the condition in this state
 abbrev pub Breaks : State → Step → Cond → Type 0
@@ -187,7 +182,7 @@ Breaks s (Convert c) cond = ConversionBreaks s c cond
 Breaks s (Deq d) cond = DequeueBreaks s d cond
 Breaks s (Rundown pid) cond = CallerBreaks s pid cond
 Breaks s (Leave node) cond = DepartureBreaks s node cond
-Breaks s (Search node) cond = UnbuiltBreaks cond
+Breaks s (Search node) cond = DepartureBreaks s node cond
 Breaks s (Take pid) cond = CallerBreaks s pid cond
 
 -- what an accepted request answers: SYNCH where it is granted at once and SYNCSTS asks for that, else NORMAL
@@ -205,6 +200,7 @@ IsAcceptance (Convert c) AtOnce (Lock cond lkid) = IsAcceptedWith c.flags AtOnce
 IsAcceptance (Deq d) AtOnce (Plain Normal) = ⊤
 IsAcceptance (Rundown pid) AtOnce (Plain Normal) = ⊤
 IsAcceptance (Leave node) AtOnce (Plain Normal) = ⊤
+IsAcceptance (Search node) AtOnce (Victim lkid) = ⊤
 IsAcceptance (Take pid) AtOnce (Taken ast) = ⊤
 IsAcceptance step AtOnce answer = ⊥
 

@@ -4,7 +4,7 @@ use Rattle.std.proofs.Common.{inl, inr}
 use Rattle.vlm_words.specs.declared.conditions.Cond.TheVariants.{Normal, Badparam, Insfmem}
 use Rattle.vlm_words.specs.declared.conditions.Cond.{Cond}
 use Rattle.vlm_words.specs.declared.locks.Row.{Row}
-use Rattle.vlm_words.specs.declared.steps.Answer.TheVariants.{Process as process_answer, Lock, Plain, Taken}
+use Rattle.vlm_words.specs.declared.steps.Answer.TheVariants.{Process as process_answer, Lock, Plain, Taken, Victim}
 use Rattle.vlm_words.specs.declared.steps.Answer.{Answer}
 use Rattle.vlm_words.specs.declared.steps.Conversion.{Conversion}
 use Rattle.vlm_words.specs.declared.steps.Step.TheVariants.{Declare, SetValue, Enq, Convert, Deq, Rundown, Leave, Search, Take}
@@ -20,6 +20,7 @@ use Rattle.vlm_words.specs.Take.{take_change, take_refusal, taken_ast}
 use Rattle.vlm_words.specs.Enqueue.{enq_at_once, enq_change, enq_endings, enq_refusal}
 use Rattle.vlm_words.specs.Convert.{ConversionAdmission, conversion_endings, convert_admission, convert_change, convert_lkid, convert_refusal}
 use Rattle.vlm_words.specs.Dequeue.{deq_change, deq_endings, deq_refusal}
+use Rattle.vlm_words.specs.Search.{IsSearchedFor, search_change, search_endings, search_refusal, victim_lkid}
 use Rattle.vlm_words.specs.Rundown.{is_ended_by, is_of_node, leave_refusal, nodes_after_departure, rundown_endings, rundown_refusal, state_after_rundown}
 
 -- what a step comes to: the state that it leaves, its answer, the requests that end in it, and the ASTs that it
@@ -53,7 +54,7 @@ end_of_processes is_one nodes s = record {
   queued = completions_of (rundown_endings is_one s);
 }
 
--- why the checks of a step refuse it, if they do; a search, which is not built yet, is refused
+-- why the checks of a step refuse it, if they do
 abbrev pub step_refusal : State → Step → Option Cond
 step_refusal s (Declare d) = declare_refusal s d
 step_refusal s (SetValue v) = set_refusal s v
@@ -62,11 +63,12 @@ step_refusal s (Convert c) = convert_refusal s c
 step_refusal s (Deq d) = deq_refusal s d
 step_refusal s (Rundown pid) = rundown_refusal s pid
 step_refusal s (Leave node) = leave_refusal s node
-step_refusal s (Search node) = Some Badparam
+step_refusal s (Search node) = search_refusal s node
 step_refusal s (Take pid) = take_refusal s pid
 
--- what a step chooses, where more than one thing may come of it: a row or none; no kind that is built chooses
+-- what a step chooses, a row or none: a search chooses the victim, and no other kind chooses
 abbrev pub IsChoice : State → Step → Option Row → Type 0
+IsChoice s (Search node) choice = IsSearchedFor (search_refusal s node) s choice
 IsChoice s step choice = choice ≡ None
 
 -- the change of a step that no check refuses, before its sweep, with its answer, the requests that it ends itself
@@ -100,7 +102,12 @@ step_change s (Deq d) choice = record {
 step_change s (Rundown pid) choice = end_of_processes (is_ended_by pid) s.nodes s
 step_change s (Leave node) choice =
     end_of_processes (is_of_node node) (nodes_after_departure s.nodes node) s
-step_change s (Search node) choice = refused s Badparam
+step_change s (Search node) choice = record {
+  state = search_change s choice;
+  answer = Victim (victim_lkid choice);
+  endings = search_endings s choice;
+  queued = completions_of (search_endings s choice);
+}
 step_change s (Take pid) choice = record {
   state = take_change s pid;
   answer = Taken (taken_ast s pid);

@@ -7,7 +7,7 @@ use Rattle.vlm_words.specs.declared.locks.Row.{Row}
 use Rattle.vlm_words.specs.declared.resources.ValueBlock.{ValueBlock}
 use Rattle.vlm_words.specs.Modes.{is_writing}
 use Rattle.vlm_words.specs.ValueBlocks.{new_value_block}
-use Rattle.vlm_words.specs.State.{Process, Resource}
+use Rattle.vlm_words.specs.State.{Process, Resource, State}
 use Rattle.vlm_words.specs.Endings.{Ending, How, row_endings}
 use Rattle.vlm_words.specs.Effects.{blocks_after, blocks_with}
 use Rattle.vlm_words.specs.Rows.{rows_of, rows_without}
@@ -113,3 +113,10 @@ abbrev pub resource_after_withdrawals : List Withdrawal → Resource → Resourc
 resource_after_withdrawals withdrawals r =
     resource_after_each resource_after_going withdrawals
     (resource_after_each resource_after_writer withdrawals r)
+
+-- the requests of these locks end, and the locks are gone from every queue, or only their requests are
+abbrev pub state_after_withdrawals : List Withdrawal → State → State
+state_after_withdrawals withdrawals s = record s {
+  processes = processes_after (withdrawn_endings withdrawals s.resources) s.processes;
+  resources = map (resource_after_withdrawals withdrawals) s.resources;
+}

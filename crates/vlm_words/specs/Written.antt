@@ -1,7 +1,7 @@
 -- What a step writes into status blocks, and of which processes.
 use Rattle.std.specs.Prelude.{◌≡◌, ◌<◌, ◌+◌, ◌/◌, ◌==◌, ◌&&◌, not, filter, ◌⊎◌, ◌++◌, ℕ, Bool, false, List, [], ◌∷◌, map, length, replicate, slice_index_or, Any, Option, None, Some, if◌then◌else◌}
 use Rattle.vlm_words.specs.declared.blocks.Block.{Block}
-use Rattle.vlm_words.specs.declared.conditions.Cond.TheVariants.{Normal, Abort, Cancel, Valnotvalid}
+use Rattle.vlm_words.specs.declared.conditions.Cond.TheVariants.{Normal, Abort, Cancel, Deadlock, Valnotvalid}
 use Rattle.vlm_words.specs.declared.locks.Row.{Row}
 use Rattle.vlm_words.specs.declared.modes.Act.TheVariants.{Nothing, Return, Write}
 use Rattle.vlm_words.specs.declared.steps.Answer.TheVariants.{Lock, Plain, Process as process_answer}
@@ -12,7 +12,7 @@ use Rattle.vlm_words.specs.declared.steps.Step.{Step}
 use Rattle.vlm_words.specs.Conditions.{condition_number}
 use Rattle.vlm_words.specs.State.{Process, State, process_of}
 use Rattle.vlm_words.specs.Endings.{Ending, How}
-use Rattle.vlm_words.specs.Endings.How.{by_abort, by_cancel, by_grant, by_rundown}
+use Rattle.vlm_words.specs.Endings.How.{by_abort, by_cancel, by_deadlock, by_grant, by_rundown}
 use Rattle.vlm_words.specs.Stepped.{stepped}
 
 -- a status block that nothing was written to
@@ -85,6 +85,7 @@ TellsHow (by_grant Nothing) status = status ≡ condition_number Normal
 TellsHow (by_grant Write) status = status ≡ condition_number Normal
 TellsHow by_abort status = status ≡ condition_number Abort
 TellsHow by_cancel status = status ≡ condition_number Cancel
+TellsHow by_deadlock status = status ≡ condition_number Deadlock
 TellsHow by_rundown status = ⊥
 
 -- the status of a block tells how the last request ended that names it; where none did, it stays

@@ -1,7 +1,7 @@
 //! The flags of requests and dequeues, as far as they are built.
 
 ghost use Rattle.std.specs.Prelude.{◌≡◌, ⊤, [], ◌∷◌, codes};
-ghost use Rattle.vlm_words.specs.Flags.{cancel, deq_flag_bits, deqall, expedite, flag_bits, has_flag, invvalblk, noqueue, quecvt, syncsts, system, valblk};
+ghost use Rattle.vlm_words.specs.Flags.{cancel, deq_flag_bits, deqall, expedite, flag_bits, has_flag, invvalblk, nodlckblk, nodlckwt, noqueue, quecvt, syncsts, system, valblk};
 
 use bitflags::{Flag, Flags, bitflag_items};
 
@@ -24,6 +24,11 @@ bitflag_items! {
         const EXPEDITE = 16;
         /// A conversion is granted at once only where none is queued.
         const QUECVT = 32;
+        /// The request counts as waiting for nobody in a search for a deadlock.
+        const NODLCKWT = 64;
+        /// Nobody counts as waiting for the request in a search for a deadlock, while it is queued and once
+        /// it is granted.
+        const NODLCKBLK = 128;
     }
 }
 
@@ -33,7 +38,8 @@ impl Flags for EnqFlags {
     ghost exact = { ⊤ };
 
     ghost table = { (codes "VALBLK", valblk) ∷ (codes "NOQUEUE", noqueue) ∷ (codes "SYNCSTS", syncsts)
-        ∷ (codes "SYSTEM", system) ∷ (codes "EXPEDITE", expedite) ∷ (codes "QUECVT", quecvt) ∷ [] };
+        ∷ (codes "SYSTEM", system) ∷ (codes "EXPEDITE", expedite) ∷ (codes "QUECVT", quecvt)
+        ∷ (codes "NODLCKWT", nodlckwt) ∷ (codes "NODLCKBLK", nodlckblk) ∷ [] };
 
     ghost set_of = { λ f. f.0 };
 
