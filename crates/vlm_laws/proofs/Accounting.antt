@@ -316,7 +316,7 @@ record IsAccounted (history : History) (s : State) : Type 0 where
   undeclared : (pid : ℕ) → AllByRecursion (IsOfAnother pid) history.answers → HasNothing pid history s
 
 -- what holds of each of two lists, of the first
-each_first : {X : Type 0} (P : X → Type 0) (xs ys : List X) → AllByRecursion P (xs ++ ys) → AllByRecursion P xs
+pub each_first : {X : Type 0} (P : X → Type 0) (xs ys : List X) → AllByRecursion P (xs ++ ys) → AllByRecursion P xs
 each_first P [] ys each = tt
 each_first P (x ∷ xs) ys each = (each.0, each_first P xs ys each.1)
 

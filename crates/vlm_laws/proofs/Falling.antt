@@ -18,7 +18,7 @@ use Rattle.vlm_words.specs.Endings.How.{by_grant}
 use Rattle.vlm_words.specs.Asts.{Queued, asts_for, blocking_asts, completion_asts, completions, completions_of, is_in_the_way, is_synchronous, is_to_warn, resource_after_warning, row_after_warning, row_warnings, warnings}
 use Rattle.vlm_words.specs.Effects.{with_value_block}
 use Rattle.vlm_words.specs.Grants.{Service, grant_act, grant_endings, granted_row, is_arming, is_empty, no_service, resource_after_grant, service, service_after_grant, service_of_conversions, service_of_new_requests, service_of_waiting, wanted_fits}
-use Rattle.vlm_words.specs.Sweeps.{blocks_after_service, is_vacant, resource_after_service, resources_after_sweep, service_asts, sweep_asts}
+use Rattle.vlm_words.specs.Sweeps.{blocks_after_service, resource_after_service, resources_after_sweep, service_asts, sweep_asts}
 use Rattle.vlm_words.specs.Resources.{is_at, new_resource}
 use Rattle.vlm_words.specs.Enqueue.{resource_after_entry, resources_after_entry}
 use Rattle.vlm_words.specs.Rows.{rows_of, rows_without}
@@ -29,7 +29,7 @@ use Rattle.vlm_words.specs.Dues.{due_to, one_where, routines_of}
 use Rattle.vlm_words.specs.Taking.{queued_to}
 use Rattle.vlm_words.proofs.Queueing.{queued_to-append}
 use Rattle.vlm_words.proofs.Sums.{sum_filter-le, sum_of_one}
-use Rattle.vlm_words.proofs.Weights.{vacant_weighs_nothing, weigh}
+use Rattle.vlm_words.proofs.Weights.{dropped_weighs, weigh}
 
 -- how many of what was queued are of the process
 abbrev pub many : ℕ → List Queued → ℕ
@@ -218,14 +218,6 @@ warned_falls pid block r = omega (arith, rows_fall pid r.converting r.waiting r.
 
 -- ---- sweeps
 
-pub dropped_is_due : (f : Row → ℕ) (r : Resource) (rest : List Resource)
-    → sum_by (weigh f) (cond (not (is_vacant r)) (r ∷ rest) rest) ≡ weigh f r + sum_by (weigh f) rest
-dropped_is_due f r rest =
-    elim (is_vacant r) as (λ b. is_vacant r ≡ b → sum_by (weigh f) (cond (not b) (r ∷ rest) rest) ≡ weigh f r + sum_by (weigh f) rest) [
-      | true ↦ λ vacant. let nothing : weigh f r ≡ 0 = vacant_weighs_nothing f r vacant in omega arith
-      | false ↦ λ _. sum_by-cons (weigh f) r rest
-    ] refl
-
 pub swept_falls : (pid : ℕ) (processes : List Process) (resources : List Resource)
     → sum_by (weigh (due_to pid)) (resources_after_sweep processes resources) + many pid (sweep_asts resources) ≤ sum_by (weigh (due_to pid)) resources
 unfolding resources_after_sweep sweep_asts service_asts
@@ -239,7 +231,7 @@ swept_falls pid processes (r ∷ rest) =
       behind,
       served_falls pid r,
       warned_falls pid (blocks_after_service processes r).value_block (service r).resource,
-      dropped_is_due (due_to pid) (resource_after_service processes r) (resources_after_sweep after rest),
+      dropped_weighs (due_to pid) (resource_after_service processes r) (resources_after_sweep after rest),
       calls_many pid (service r).endings,
       many-append pid (completions_of (service r).endings) (warnings (service r).resource),
       many-append pid (service_asts r) (sweep_asts rest),

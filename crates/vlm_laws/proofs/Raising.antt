@@ -32,6 +32,7 @@ use Rattle.vlm_words.specs.Dues.{due, due_to, one_where, routines_named, routine
 use Rattle.vlm_words.specs.Taking.{AstsAfter, queued_to}
 use Rattle.vlm_words.specs.Stepped.{IsChoice, Outcome, Stepped, conversion_change, end_of_processes, outcome_queued, refused_or, step_change, step_refusal, stepped, stepped_after_sweep}
 use Rattle.vlm_words.specs.Runs.{History, Run, begin, next}
+use Rattle.vlm_words.proofs.EndsOnce.{absent_unchanged}
 use Rattle.vlm_words.proofs.Admissions.{admitted_request, some_same}
 use Rattle.vlm_words.proofs.Always.{admission_of}
 use Rattle.vlm_words.proofs.Apart.{Apart, apart_always, standing, stands}
@@ -89,25 +90,6 @@ converted_row_falls pid request at_once caller lkid block r row at =
       )
       | false ↦ omega (arith, fewer, owner, wanting, sum_by_push (due_to pid) r.converting (wanting_row row request))
     ]
-
--- a lock that has no row is not found
-absent_same : (request : Request) (at_once : Bool) (caller lkid : ℕ) (block : ValueBlock) (r : Resource) (found : Option Row) → find (is_lock_of caller lkid) r.granted ≡ found
-    → weigh (stands lkid) r ≡ 0 → resource_after_conversion_of request at_once lkid block r found ≡ r
-absent_same request at_once caller lkid block r None is absent = refl
-absent_same request at_once caller lkid block r (Some row) is absent =
-    absurd (omega (arith, found_stands caller lkid r.granted row (found_at (is_lock_of caller lkid) r.granted row is)))
-
--- resources without a row of the lock stay as they are when it converts
-pub absent_unchanged : (request : Request) (at_once : Bool) (caller lkid : ℕ) (block : ValueBlock) (resources : List Resource) → standing lkid resources ≡ 0
-    → map (resource_after_conversion request at_once caller lkid block) resources ≡ resources
-unfolding resource_after_conversion
-absent_unchanged request at_once caller lkid block [] absent = refl
-absent_unchanged request at_once caller lkid block (r ∷ rest) absent =
-    let both : standing lkid (r ∷ rest) ≡ weigh (stands lkid) r + standing lkid rest = sum_by-cons (weigh (stands lkid)) r rest in
-    let here : resource_after_conversion request at_once caller lkid block r ≡ r =
-    absent_same request at_once caller lkid block r (find (is_lock_of caller lkid) r.granted) refl (omega arith) in
-    let behind : map (resource_after_conversion request at_once caller lkid block) rest ≡ rest = absent_unchanged request at_once caller lkid block rest (omega arith) in
-    cc
 
 -- what is due once the lock converts, with the call that a grant at once brings
 abbrev ConvertsWithin : ℕ → Request → ℕ → ℕ → ValueBlock → ConversionAdmission → List Resource → Type 0

@@ -12,7 +12,7 @@ use Rattle.vlm_words.specs.declared.locks.Row.{Row}
 use Rattle.vlm_words.specs.declared.steps.Answer.TheVariants.{Plain}
 use Rattle.vlm_words.specs.declared.steps.Dequeue.{Dequeue}
 use Rattle.vlm_words.specs.declared.steps.Step.TheVariants.{Deq}
-use Rattle.vlm_words.specs.Flags.{cancel, deqall, has_flag}
+use Rattle.vlm_words.specs.Flags.{deqall, has_flag}
 use Rattle.vlm_words.specs.State.{Resource, State}
 use Rattle.vlm_words.specs.Checks.{caller_refusal, holds_lock, lock_refusal, or_else, which_refusal}
 use Rattle.vlm_words.specs.Dequeue.{cancel_refusal, deq_change, deq_flags_refusal, deq_refusal, dequeue_lkid, dequeued_lock_refusal, is_dequeued, leaves_none, sublocks_refusal, withdrawal_of}
@@ -22,10 +22,11 @@ use Rattle.vlm_words.specs.Rows.{rows_without}
 use Rattle.vlm_words.specs.Runs.{History, Run}
 use Rattle.vlm_words.specs.Stepped.{refused_or, step_change, stepped}
 use Rattle.vlm_words.specs.Withdrawals.{Withdrawal, resource_after_withdrawals}
+use Rattle.vlm_words.proofs.Trees.{all_dequeued_go}
 use Rattle.vlm_words.proofs.Apart.{Apart, apart_always}
 use Rattle.vlm_words.proofs.Below.{HasRoot, IsRowIn, StandsAtMost, at_root, below_up, nothing_is_above_0, parent_is, parent_of_0, root_of, rows_on, rows_rooted, stands_so, up_at_most}
-use Rattle.vlm_words.proofs.Closed.{as_listed, found_on, is_in, of_listed, own_are_closed, was_listed}
-use Rattle.vlm_words.proofs.Each.{Any-behind, Any-cases, Any-none, Any-weaker, any_left, each_member, each_weaker}
+use Rattle.vlm_words.proofs.Closed.{as_listed, converting_on, found_on, granted_on, is_in, of_listed, or_below, own_are_closed, waiting_on, was_listed}
+use Rattle.vlm_words.proofs.Each.{Any-cases, Any-none, Any-weaker, each_member, each_weaker}
 use Rattle.vlm_words.proofs.Holdings.{held_by}
 use Rattle.vlm_words.proofs.Keys.{withdrawals_keep_place}
 use Rattle.vlm_words.proofs.Leaving.{AllGo, RowsLeft, in_filter, is_listed, row_listed, rows_left, rows_left_behind}
@@ -290,11 +291,8 @@ module _ (s : State) (d : Dequeue) (apart : Apart s) (tree : Tree s) (passed : d
             (λ none. absurd (omega (arith, is, none))),
             subst (λ (top : ℕ). IsBelow s top row.lkid) (sym is)
                 (chain_of_walk s apart tree (suc n) (λ same. absurd (omega (arith, same))) 15 15 row.lkid (low_at row r there among)
-                (of_below (is_below 15 (suc n) s.resources row.lkid) taken)),
+                (or_below n (is_below 15 (suc n) s.resources row.lkid) taken)),
           )
-        where
-          of_below : (b : Bool) → ((suc n == 0) || b) ≡ true → b ≡ true
-          of_below b so = grind (arith, nat_tests, so)
 
   -- and one that is taken is listed
   taken_is_listed : (row : Row) (r : Resource) → IsRowIn (rows_on r) row → Any (λ x. r ≡ x) s.resources
@@ -351,24 +349,6 @@ one_stays (w ∷ withdrawals) row rows is =
     of_test true none later = cc
     of_test false none later = later none
 
--- the rows of each queue are rows of the resource
-granted_on : (r : Resource) → AllByRecursion (IsRowIn (rows_on r)) r.granted
-granted_on r =
-    each_weaker (IsRowIn r.granted) (IsRowIn (rows_on r))
-    (λ row there. any_left (λ y. row ≡ y) (r.granted ++ r.converting) r.waiting (any_left (λ y. row ≡ y) r.granted r.converting there)) r.granted
-    (each_member r.granted)
-
-converting_on : (r : Resource) → AllByRecursion (IsRowIn (rows_on r)) r.converting
-converting_on r =
-    each_weaker (IsRowIn r.converting) (IsRowIn (rows_on r))
-    (λ row there. any_left (λ y. row ≡ y) (r.granted ++ r.converting) r.waiting (Any-behind (λ y. row ≡ y) r.granted r.converting there)) r.converting
-    (each_member r.converting)
-
-waiting_on : (r : Resource) → AllByRecursion (IsRowIn (rows_on r)) r.waiting
-waiting_on r =
-    each_weaker (IsRowIn r.waiting) (IsRowIn (rows_on r))
-    (λ row there. Any-behind (λ y. row ≡ y) (r.granted ++ r.converting) r.waiting there) r.waiting (each_member r.waiting)
-
 -- a withdrawn lock is taken, and the caller's, and one that is taken is withdrawn
 abbrev IsTakenRightly : State → Dequeue → List Withdrawal → Row → Type 0
 IsTakenRightly s d withdrawals row =
@@ -417,11 +397,6 @@ module _ (s : State) (d : Dequeue) (apart : Apart s) (tree : Tree s) (passed : d
             (queue_loses s d withdrawals r.waiting (rows_rightly r among r.waiting (waiting_on r)));
       }
 
-  -- with DEQALL no lock stays
-  all_go : has_flag d.flags cancel ≡ false → (lkids : List ℕ) → AllGo (map (withdrawal_of d) lkids)
-  all_go goes [] = tt
-  all_go goes (lkid ∷ lkids) = (goes, all_go goes lkids)
-
   each_loses : AllGo (map (withdrawal_of d) (taken_lkids s d)) → (resources : List Resource) → AllByRecursion (λ r. Any (λ x. r ≡ x) s.resources) resources
       → AllZip (LosesLocks d.pid (IsTaken s d)) resources (map (resource_after_withdrawals (map (withdrawal_of d) (taken_lkids s d))) resources)
   each_loses go [] among = tt
@@ -432,7 +407,7 @@ module _ (s : State) (d : Dequeue) (apart : Apart s) (tree : Tree s) (passed : d
   takes_those all choice =
       subst (λ (b : Bool). AllZip (LosesLocks d.pid (IsTaken s d)) s.resources
       (map (resource_after_withdrawals (map (withdrawal_of d) (cond b (taken_lkids s d) (dequeue_lkid s d ∷ [])))) s.resources)) (sym all)
-      (each_loses (all_go (flags_go_together s d passed all) (taken_lkids s d)) s.resources (each_member s.resources))
+      (each_loses (all_dequeued_go d (flags_go_together s d passed all) (taken_lkids s d)) s.resources (each_member s.resources))
 
 -- ---- every run
 

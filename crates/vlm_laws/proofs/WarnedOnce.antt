@@ -44,12 +44,12 @@ use Rattle.vlm_words.proofs.Apart.{Apart, apart_always, standing, stands}
 use Rattle.vlm_words.proofs.Counts.{found_stands}
 use Rattle.vlm_words.proofs.Each.{Found, found_at}
 use Rattle.vlm_words.proofs.Sums.{sum_changed-le, sum_filter-le, sum_filter_but-le, sum_of_one, sum_of_zeros, sum_same}
-use Rattle.vlm_words.proofs.Weights.{weigh}
+use Rattle.vlm_words.proofs.Weights.{dropped_weighs, weigh}
 use Rattle.vlm_words.proofs.Withdrawing.{kept_withdrawn}
 use Rattle.vlm_laws.specs.WarnedOnce.{EachGrantIsWarnedAtMostOnce, is_armed_lock, is_grant_to_warn, is_warning_of, tells_warning}
 use Rattle.vlm_laws.proofs.Completing.{each_completion}
-use Rattle.vlm_laws.proofs.Falling.{dropped_is_due, is_armed}
-use Rattle.vlm_laws.proofs.Raising.{absent_unchanged}
+use Rattle.vlm_laws.proofs.Falling.{is_armed}
+use Rattle.vlm_words.proofs.EndsOnce.{absent_unchanged}
 use Rattle.vlm_words.specs.Search.{victim_withdrawals, search_change, victim_lkid}
 
 -- 1 for a warning of the lock
@@ -210,7 +210,7 @@ swept_within lkid processes (r ∷ rest) =
       behind,
       served_arms lkid r,
       warned_disarms lkid (blocks_after_service processes r).value_block (service r).resource,
-      dropped_is_due (armed lkid) (resource_after_service processes r) (resources_after_sweep after rest),
+      dropped_weighs (armed lkid) (resource_after_service processes r) (resources_after_sweep after rest),
       all_complete lkid (service r).endings,
       sum_by-append (warned lkid) (completions_of (service r).endings) (warnings (service r).resource),
       sum_by-append (warned lkid) (service_asts r) (sweep_asts rest),

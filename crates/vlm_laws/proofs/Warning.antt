@@ -20,6 +20,7 @@ use Rattle.vlm_words.specs.Sweeps.{blocks_after_service, is_vacant, resource_aft
 use Rattle.vlm_words.specs.Granted.{IsGrantTo, WasGranted}
 use Rattle.vlm_words.specs.Stepped.{Outcome, Stepped, outcome_endings, outcome_queued, refused_or, step_change, step_refusal}
 use Rattle.vlm_words.specs.Runs.{History, Run, begin, next}
+use Rattle.vlm_laws.proofs.Accounting.{each_first}
 use Rattle.vlm_words.proofs.Each.{Any-weaker, any_left, each_append, each_weaker}
 use Rattle.vlm_words.proofs.Granted.{granted_always}
 use Rattle.vlm_words.proofs.NothingLeft.{is_empty-true}
@@ -129,11 +130,6 @@ outcome_named endings old new step answer (inl made) each =
 outcome_named endings old new step answer (inr short) each = tt
 
 -- ---- after every run
-
--- what holds of each of both holds of each of the first
-each_first : {X : Type 0} (P : X → Type 0) (xs ys : List X) → AllByRecursion P (xs ++ ys) → AllByRecursion P xs
-each_first P [] ys each = tt
-each_first P (x ∷ xs) ys each = (each.0, each_first P xs ys each.1)
 
 were_granted : (history : History) (last : State) → Run history last → AllWere history.endings last.resources
 were_granted history last run =

@@ -127,6 +127,10 @@ Closed s lkids = (row : Row) (r : Resource) → IsRowIn (rows_on r) row → Any 
 pub own_are_closed : (s : State) → Apart s → AllByRecursion (AllRooted s.resources) s.resources → (is_one : ℕ → Bool) → Closed s (own_lkids is_one s)
 own_are_closed s apart rooted is_one row r there among root low listed = own_closed s apart rooted is_one row r there among root listed
 
+-- a lock is named, so it is not all of them
+pub or_below : (n : ℕ) (b : Bool) → ((suc n == 0) || b) ≡ true → b ≡ true
+or_below n b so = grind (arith, nat_tests, so)
+
 -- the locks that DEQALL takes
 pub taken_are_closed : (s : State) → Apart s → AllByRecursion (AllRooted s.resources) s.resources → (d : Dequeue)
     → Closed s (filter (is_dequeued s d) (own_lkids (λ pid. pid == d.pid) s))
@@ -150,10 +154,7 @@ taken_are_closed s apart rooted d row r there among root low listed =
         (subst (λ (p : ℕ). ((p == suc n) || is_below 14 (suc n) s.resources p) ≡ true) (sym (parent_is s apart row r there among))
         (or_right (row.parent == suc n) (is_below 14 (suc n) s.resources row.parent)
         (as_many_levels s apart rooted (suc n) (λ same. absurd (omega (arith, same))) 14 row.parent (up_at_most s.resources r row 14 low up)
-        (of_below (is_below 15 (suc n) s.resources row.parent) taken))))
-      where
-        of_below : (b : Bool) → ((suc n == 0) || b) ≡ true → b ≡ true
-        of_below b so = grind (arith, nat_tests, so)
+        (or_below n (is_below 15 (suc n) s.resources row.parent) taken))))
 
     taken : HasRoot s.resources r row → is_dequeued s d row.lkid ≡ true
     taken (at_root none) =
@@ -171,6 +172,19 @@ pub as_listed : (f : ℕ → Withdrawal) → ((lkid : ℕ) → (f lkid).lkid ≡
 as_listed f named m [] = refl
 as_listed f named m (lkid ∷ lkids) = rw (named lkid, as_listed f named m lkids) refl
 
+-- the rows of a queue are rows of its resource
+pub granted_on : (r : Resource) → AllByRecursion (IsRowIn (rows_on r)) r.granted
+granted_on r = each_weaker (IsRowIn r.granted) (IsRowIn (rows_on r))
+    (λ row there. any_left (λ y. row ≡ y) (r.granted ++ r.converting) r.waiting (any_left (λ y. row ≡ y) r.granted r.converting there)) r.granted (each_member r.granted)
+
+pub converting_on : (r : Resource) → AllByRecursion (IsRowIn (rows_on r)) r.converting
+converting_on r = each_weaker (IsRowIn r.converting) (IsRowIn (rows_on r))
+    (λ row there. any_left (λ y. row ≡ y) (r.granted ++ r.converting) r.waiting (Any-behind (λ y. row ≡ y) r.granted r.converting there)) r.converting (each_member r.converting)
+
+pub waiting_on : (r : Resource) → AllByRecursion (IsRowIn (rows_on r)) r.waiting
+waiting_on r = each_weaker (IsRowIn r.waiting) (IsRowIn (rows_on r))
+    (λ row there. Any-behind (λ y. row ≡ y) (r.granted ++ r.converting) r.waiting there) r.waiting (each_member r.waiting)
+
 module _ (s : State) (rooted : AllByRecursion (AllRooted s.resources) s.resources) (low : AllByRecursion (λ r. r.level ≤ 15) s.resources)
     (f : ℕ → Withdrawal) (named : (lkid : ℕ) → (f lkid).lkid ≡ lkid) (lkids : List ℕ) (closed : Closed s lkids) where
   queue_closed : (r : Resource) → Any (λ x. r ≡ x) s.resources → r.level ≤ 15 → AllRooted s.resources r → (rows : List Row)
@@ -187,19 +201,6 @@ module _ (s : State) (rooted : AllByRecursion (AllRooted s.resources) s.resource
         (any_and_each (λ y. row ≡ y) (λ y. is_rooted s.resources (position r) y ≡ true) (rows_on r) (rows_rooted s.resources r its) each.0)),
     queue_closed r among level its rows each.1,
   )
-
-  -- the rows of a queue are rows of its resource
-  granted_on : (r : Resource) → AllByRecursion (IsRowIn (rows_on r)) r.granted
-  granted_on r = each_weaker (IsRowIn r.granted) (IsRowIn (rows_on r))
-      (λ row there. any_left (λ y. row ≡ y) (r.granted ++ r.converting) r.waiting (any_left (λ y. row ≡ y) r.granted r.converting there)) r.granted (each_member r.granted)
-
-  converting_on : (r : Resource) → AllByRecursion (IsRowIn (rows_on r)) r.converting
-  converting_on r = each_weaker (IsRowIn r.converting) (IsRowIn (rows_on r))
-      (λ row there. any_left (λ y. row ≡ y) (r.granted ++ r.converting) r.waiting (Any-behind (λ y. row ≡ y) r.granted r.converting there)) r.converting (each_member r.converting)
-
-  waiting_on : (r : Resource) → AllByRecursion (IsRowIn (rows_on r)) r.waiting
-  waiting_on r = each_weaker (IsRowIn r.waiting) (IsRowIn (rows_on r))
-      (λ row there. Any-behind (λ y. row ≡ y) (r.granted ++ r.converting) r.waiting there) r.waiting (each_member r.waiting)
 
   all_closed : (rs : List Resource) → AllByRecursion (λ r. Any (λ x. r ≡ x) s.resources) rs → AllByRecursion (λ r. r.level ≤ 15) rs
       → AllByRecursion (AllRooted s.resources) rs → AllByRecursion (AllListed (orphaned_by (map f lkids)) (map f lkids)) rs

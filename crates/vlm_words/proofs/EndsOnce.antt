@@ -42,7 +42,7 @@ absent_same request at_once pid lkid block r (Some row) is absent =
     absurd (omega (arith, found_stands pid lkid r.granted row (found_at (is_lock_of pid lkid) r.granted row is)))
 
 -- resources without a row of the lock stay as they are when it converts
-absent_unchanged : (request : Request) (at_once : Bool) (pid lkid : ℕ) (block : ValueBlock) (resources : List Resource) → standing lkid resources ≡ 0
+pub absent_unchanged : (request : Request) (at_once : Bool) (pid lkid : ℕ) (block : ValueBlock) (resources : List Resource) → standing lkid resources ≡ 0
     → map (resource_after_conversion request at_once pid lkid block) resources ≡ resources
 unfolding resource_after_conversion
 absent_unchanged request at_once pid lkid block [] absent = refl

@@ -279,6 +279,11 @@ tree_dequeued_one s t d passed alone tree is =
     differs true named none plain = cc
     differs false named none plain = none
 
+-- without a cancel no lock stays
+pub all_dequeued_go : (d : Dequeue) → has_flag d.flags cancel ≡ false → (lkids : List ℕ) → AllGo (map (withdrawal_of d) lkids)
+all_dequeued_go d goes [] = tt
+all_dequeued_go d goes (lkid ∷ lkids) = (goes, all_dequeued_go d goes lkids)
+
 -- a dequeue keeps the tree
 tree_dequeued : (s : State) (d : Dequeue) → Apart s → deq_refusal s d ≡ None → Tree s → Tree (deq_change s d)
 unfolding deq_change
@@ -287,13 +292,9 @@ tree_dequeued s d apart passed tree = of_flag (has_flag d.flags deqall) refl
     lkids : List ℕ
     lkids = filter (is_dequeued s d) (own_lkids (λ pid. pid == d.pid) s)
 
-    all_go : has_flag d.flags cancel ≡ false → (rest : List ℕ) → AllGo (map (withdrawal_of d) rest)
-    all_go goes [] = tt
-    all_go goes (lkid ∷ rest) = (goes, all_go goes rest)
-
     of_flag : (all : Bool) → has_flag d.flags deqall ≡ all → Tree (deq_change s d)
     of_flag true is =
-        tree_closed s (deq_change s d) apart tree (withdrawal_of d) (λ lkid. refl) lkids (all_go (flags_go_together s d passed is) lkids)
+        tree_closed s (deq_change s d) apart tree (withdrawal_of d) (λ lkid. refl) lkids (all_dequeued_go d (flags_go_together s d passed is) lkids)
         (taken_are_closed s apart tree.rooted d)
         (ap (λ (all : Bool). map (resource_after_withdrawals (map (withdrawal_of d) (cond all lkids (dequeue_lkid s d ∷ [])))) s.resources) is)
     of_flag false is =

@@ -98,7 +98,7 @@ vacant_weighs_nothing f r vacant =
     )
 
 -- a resource that is dropped where it is vacant takes no weight away
-dropped_weighs : (f : Row → ℕ) (r : Resource) (rest : List Resource)
+pub dropped_weighs : (f : Row → ℕ) (r : Resource) (rest : List Resource)
     → sum_by (weigh f) (cond (not (is_vacant r)) (r ∷ rest) rest) ≡ weigh f r + sum_by (weigh f) rest
 dropped_weighs f r rest =
     elim (is_vacant r) as (λ b. is_vacant r ≡ b → sum_by (weigh f) (cond (not b) (r ∷ rest) rest) ≡ weigh f r + sum_by (weigh f) rest) [
