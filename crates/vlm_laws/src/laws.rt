@@ -1,5 +1,5 @@
-//! What holds of the ASTs of every run of the plain machine. The functions do nothing, but that some call a law that
-//! they rest on: their contracts are the laws.
+//! What holds of every run of the plain machine. The functions do nothing, but that some call a law that they rest on:
+//! their contracts are the laws.
 
 ghost use Rattle.std.specs.Prelude.{◌≡◌, true, Option};
 ghost use Rattle.vlm_words.specs.declared.locks.Row.{Row};
@@ -12,6 +12,7 @@ ghost use Rattle.vlm_words.specs.Flags.{deqall, has_flag};
 ghost use Rattle.vlm_words.specs.State.{State};
 ghost use Rattle.vlm_words.specs.Runs.{History, Run};
 ghost use Rattle.vlm_words.specs.Stepped.{IsChoice, stepped};
+ghost use Rattle.vlm_laws.specs.Privileges.{SystemRootsArePrivileged};
 ghost use Rattle.vlm_laws.specs.Accounting.{WhatIsQueuedIsTakenOrPending};
 ghost use Rattle.vlm_laws.specs.Anew.{GivesNoneTwice};
 ghost use Rattle.vlm_laws.specs.Completing.{EachRequestCompletesOnce};
@@ -135,4 +136,12 @@ pub fn law_a_dequeue_of_all_aborts_by_rising_identification()
         → (d : Dequeue) (choice : Option Row) → has_flag d.flags deqall ≡ true
         → (stepped old (Deq d) choice).answer ≡ Plain Normal
         → AbortsByRisingIdentification old d choice }
+{}
+
+/// A root in the system's domain is made by a new request with SYSTEM alone, of a caller with the privilege
+/// SYSLCK.
+pub fn law_system_roots_are_privileged()
+    ensures { (history : History) (old : State) → Run history old
+        → (step : Step) (choice : Option Row)
+        → IsChoice old step choice → SystemRootsArePrivileged old step choice }
 {}

@@ -46,7 +46,6 @@ pub mod ReasonsOfConversions
 pub mod ReasonsOfRequests
 pub mod Acceptances
 pub mod Reasons
-pub mod Privileges
 pub mod Waiting
 pub mod Queued
 pub mod EndWrites

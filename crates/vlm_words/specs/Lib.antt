@@ -39,7 +39,6 @@ pub mod Joining
 pub mod Owners
 pub mod Numbers
 pub mod Reasons
-pub mod Privileges
 pub mod Queued
 pub mod Written
 pub mod Taking

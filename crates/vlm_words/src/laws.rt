@@ -14,7 +14,6 @@ ghost use Rattle.vlm_words.specs.Joining.{ChangesKeepOrder};
 ghost use Rattle.vlm_words.specs.Owners.{OthersAreLeftAlone};
 ghost use Rattle.vlm_words.specs.Numbers.{NumbersAreGivenOnce};
 ghost use Rattle.vlm_words.specs.Pending.{ProcessesRise};
-ghost use Rattle.vlm_words.specs.Privileges.{SystemRootsArePrivileged};
 ghost use Rattle.vlm_words.specs.Queued.{NoqueueIsKept};
 ghost use Rattle.vlm_words.specs.Writers.{OnlyWritersChangeValues};
 ghost use Rattle.vlm_words.specs.Returned.{GrantsReturnValues};
@@ -185,14 +184,6 @@ pub fn law_a_refusal_has_its_reason()
     ensures { (history : History) (old : State) → Run history old
         → (step : Step) (choice : Option Row)
         → IsChoice old step choice → RefusalHasItsReason old step choice }
-{}
-
-/// A root in the system's domain is made by a new request with SYSTEM alone, of a caller with the privilege
-/// SYSLCK.
-pub fn law_system_roots_are_privileged()
-    ensures { (history : History) (old : State) → Run history old
-        → (step : Step) (choice : Option Row)
-        → IsChoice old step choice → SystemRootsArePrivileged old step choice }
 {}
 
 /// No request with NOQUEUE is queued.

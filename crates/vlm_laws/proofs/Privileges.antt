@@ -26,7 +26,7 @@ use Rattle.vlm_words.specs.Withdrawals.{resource_after_withdrawals}
 use Rattle.vlm_words.specs.Stepped.{IsChoice, conversion_change, refused_or, step_change, step_refusal, stepped, stepped_after_sweep, end_of_processes}
 use Rattle.vlm_words.specs.Runs.{History, Run}
 use Rattle.vlm_words.specs.Laws.{IsSameResource}
-use Rattle.vlm_words.specs.Privileges.{IsPrivileged, IsPrivilegedStep, IsSystemRoot, SystemRootsArePrivileged, WasSystemRoot}
+use Rattle.vlm_laws.specs.Privileges.{IsPrivileged, IsPrivilegedStep, IsSystemRoot, SystemRootsArePrivileged, WasSystemRoot}
 use Rattle.vlm_words.proofs.Each.{Any-here, Any-there, Any-weaker, each_map, each_weaker}
 use Rattle.vlm_words.proofs.Passed.{both_pass, enq_passes, second_fails, test_fails}
 use Rattle.vlm_words.proofs.Always.{admission_of}
