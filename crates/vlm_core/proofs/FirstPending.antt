@@ -1,5 +1,5 @@
 -- The first process of a node with an AST pending is the one of them with the least identification.
-use Rattle.std.proofs.Common.{◌≡◌, ◌<◌, ℕ, suc, Bool, true, false, List, [], ◌∷◌, map, Option, None, Some, refl, sym, ap, ◌∙◌, subst, inl, inr, arith}
+use Rattle.std.proofs.Common.{◌≡◌, ◌<◌, ℕ, Bool, true, false, List, [], ◌∷◌, map, Option, None, Some, refl, sym, ap, ◌∙◌, subst, inl, inr, arith}
 use Rattle.std.specs.Prelude.{◌&&◌, All, AllPairs}
 use Rattle.std.specs.List.{AllByRecursion}
 use Rattle.std.proofs.lemmas.Bool.{and_parts, eqb-true}
@@ -13,6 +13,7 @@ use Rattle.vlm_words.proofs.Pairs.{EachPair}
 use Rattle.vlm_store.specs.Pending.{IsFirstPending, waits_on}
 use Rattle.vlm_store.specs.Records.{StoredProcess}
 use Rattle.vlm_store.proofs.Marked.{no_and}
+use Rattle.vlm_machine.proofs.Pairing.{pairs_by_recursion}
 
 -- the process is of one of the eight nodes
 abbrev IsOfNode : Process → Type 0
@@ -21,14 +22,6 @@ IsOfNode p = is_node (node_of_pid p.pid) ≡ true
 -- of two processes of one node the later has the greater identification
 abbrev Rises : Process → Process → Type 0
 Rises a b = node_of_pid a.pid ≡ node_of_pid b.pid → a.pid < b.pid
-
--- by recursion each pair has what it has by places
-pub pairs_by_recursion : {X : Type 0} (R : X → X → Type 0) (xs : List X) → AllPairs R xs → EachPair R xs
-pairs_by_recursion R [] pairs = tt
-pairs_by_recursion R (x ∷ xs) pairs = (
-  recursion_from_All (R x) xs (λ i d within. pairs 0 (suc i) d (omega arith) (omega (arith, within))),
-  pairs_by_recursion R xs (λ i j d before within. pairs (suc i) (suc j) d (omega (arith, before)) (omega (arith, within))),
-)
 
 -- each process among them has what all have
 of_all : (P : Process → Type 0) (p : StoredProcess) (ps : List StoredProcess) → AllByRecursion P (map (λ (x : StoredProcess). x.process) ps) → IsIn p ps → P p.process

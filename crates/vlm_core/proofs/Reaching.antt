@@ -4,7 +4,7 @@ use Rattle.vlm_words.specs.declared.steps.Step.{Step}
 use Rattle.vlm_words.specs.Runs.{begin, history_after, next, no_history}
 use Rattle.vlm_words.specs.State.{State, start}
 use Rattle.vlm_words.specs.Stepped.{Outcome, outcome_endings, outcome_queued}
-use Rattle.vlm_core.specs.Between.{IsReachable}
+use Rattle.vlm_core.specs.Core.{IsReachable}
 
 -- the start is reached by no step
 pub start_reachable : IsReachable start

@@ -1,6 +1,2 @@
-pub mod Admissions
-pub mod Between
-pub mod Machine
-pub mod Notes
-pub mod Parents
+pub mod Core
 pub mod Running

@@ -9,12 +9,12 @@ ghost use Rattle.vlm_links.specs.Lists.{IsIn};
 ghost use Rattle.vlm_store.specs.Plain.{plain_processes, plain_resources};
 ghost use Rattle.vlm_store.specs.Records.{StoredResource, queued, rows_of_locks};
 ghost use Rattle.vlm_queue.specs.Walks.{GivesInTurn};
-ghost use Rattle.vlm_core.specs.Between.{IsBetweenSteps};
+ghost use Rattle.vlm_machine.specs.Between.{IsBetweenSteps};
 
-use crate::records::Machine;
 use std::alloc::Global;
 use std::marker::Model;
 use vlm_locks::Touched;
+use vlm_machine::Machine;
 use vlm_store::Store;
 use vlm_store::laws::law_records_are_sound;
 use vlm_words::laws::{
@@ -48,8 +48,8 @@ impl Model for Core {
 
     ghost Value = { State };
 
-    ghost use Rattle.vlm_core.specs.Machine.{plain_state};
-    ghost use Rattle.vlm_core.specs.Notes.{IsCore};
+    ghost use Rattle.vlm_machine.specs.Machine.{plain_state};
+    ghost use Rattle.vlm_core.specs.Core.{IsCore};
 
     ghost view = { λ c. plain_state c.machine };
 

@@ -8,8 +8,8 @@ ghost use Rattle.vlm_words.specs.State.{process_of};
 ghost use Rattle.vlm_words.specs.StatusBlocks.{status_block_at};
 ghost use Rattle.vlm_queue.specs.Views.{resource_view, row_shown};
 
-use crate::processes::living;
 use crate::public::Core;
+use vlm_machine::living;
 use vlm_procs::{pending, status_block};
 use vlm_queue::{ResourceView, RowView, resource_at, row_at};
 use vlm_words::blocks::Block;

@@ -1,5 +1,5 @@
 use Rattle.std.proofs.Common.{subst}
-use Rattle.vlm_core.specs.Between.{IsBetweenSteps}
+use Rattle.vlm_machine.specs.Between.{IsBetweenSteps}
 use Rattle.vlm_core.proofs.public.Core.between_steps.Goals as goal
 
 -- some run leads here, and each law holds after it

@@ -1,7 +1,7 @@
 use Rattle.std.proofs.Common.{sym, subst}
-use Rattle.vlm_core.specs.Between.{IsReachable}
+use Rattle.vlm_core.specs.Core.{IsReachable}
 use Rattle.vlm_core.proofs.Reaching.{start_reachable}
-use Rattle.vlm_core.proofs.Noting.{none_at_start}
+use Rattle.vlm_machine.proofs.Noting.{none_at_start}
 use Rattle.vlm_core.proofs.public.Core.new.Goals as goal
 
 -- the start is reached by no step, and no lock is there

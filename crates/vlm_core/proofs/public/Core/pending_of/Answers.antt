@@ -1,7 +1,7 @@
 use Rattle.std.proofs.Common.{subst, sym}
 use Rattle.vlm_words.specs.Pending.{ProcessesRise}
 use Rattle.vlm_core.specs.declared.public.Core.TheInside.{Inside}
-use Rattle.vlm_core.specs.Machine.{plain_state}
+use Rattle.vlm_machine.specs.Machine.{plain_state}
 use Rattle.vlm_core.proofs.FirstPending.{first_found}
 use Rattle.vlm_core.proofs.public.Core.pending_of.Goals as goal
 

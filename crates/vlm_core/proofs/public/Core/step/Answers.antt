@@ -1,4 +1,4 @@
-use Rattle.vlm_core.specs.Machine.{plain_state}
+use Rattle.vlm_machine.specs.Machine.{plain_state}
 use Rattle.vlm_core.proofs.Reaching.{next_reachable}
 use Rattle.vlm_core.proofs.public.Core.step.Goals as goal
 

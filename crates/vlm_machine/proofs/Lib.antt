@@ -1,0 +1,16 @@
+pub mod Admitting
+pub mod AllTogether
+pub mod Callers
+pub mod Childless
+pub mod Conversions
+pub mod EndOfProcess
+pub mod Entries
+pub mod Made
+pub mod Noting
+pub mod Pairing
+pub mod RunDown
+pub mod Settling
+pub mod Siting
+pub mod Stayed
+pub mod ToCome
+pub mod Wanting

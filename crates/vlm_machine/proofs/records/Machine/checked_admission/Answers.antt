@@ -1,0 +1,47 @@
+use Rattle.std.proofs.Common.{rules, ◌≡◌, refl}
+use Rattle.vlm_words.specs.Convert.{convert_request}
+use Rattle.vlm_machine.specs.Machine.{plain_state}
+use Rattle.vlm_machine.proofs.Admitting.{is_admitted, not_admitted}
+use Rattle.vlm_machine.proofs.records.Machine.checked_admission.Goals as goal
+
+-- a lock that is not granted is not admitted
+pub returns-then-not-is_granted-clause-refusal : goal.returns-then-not-is_granted-clause-refusal
+returns-then-not-is_granted-clause-refusal c =
+    rw (not_admitted c.args.self.now (rw (← c.self.view_is) c.law_records_are_sound.ensures) c.args.conversion.now c.args.standing.now c.requires.standing (search rules)) refl
+
+-- a granted lock is admitted where it stands
+pub returns-in_err-check_pair-clause-refusal : goal.returns-in_err-check_pair-clause-refusal
+returns-in_err-check_pair-clause-refusal c =
+    rw (is_admitted c.args.self.now (rw (← c.self.view_is) c.law_records_are_sound.ensures) c.args.conversion.now c.args.standing.now c.requires.standing (convert_request (plain_state c.args.self.now) c.args.conversion.now) refl (search rules)) (search rules)
+
+pub returns-in_err-check_request_numbers-clause-refusal :
+    goal.returns-in_err-check_request_numbers-clause-refusal
+returns-in_err-check_request_numbers-clause-refusal c =
+    rw (is_admitted c.args.self.now (rw (← c.self.view_is) c.law_records_are_sound.ensures) c.args.conversion.now c.args.standing.now c.requires.standing (convert_request (plain_state c.args.self.now) c.args.conversion.now) refl (search rules)) (search rules)
+
+pub returns-in_err-check_queue-clause-refusal : goal.returns-in_err-check_queue-clause-refusal
+returns-in_err-check_queue-clause-refusal c =
+    let asked : c.request_of-asked.result ≡ convert_request (plain_state c.args.self.now) c.args.conversion.now = search rules in
+    let found = rw (← c.self.view_is) at c.requires.standing.standing.found in
+    let at_once = c.converts_at_once-at_once.ensures c.requires.standing.standing.resource found in
+    rw (is_admitted c.args.self.now (rw (← c.self.view_is) c.law_records_are_sound.ensures) c.args.conversion.now c.args.standing.now c.requires.standing c.request_of-asked.result asked (search rules), ← at_once) (search rules)
+
+pub returns-clause-refusal : goal.returns-clause-refusal
+returns-clause-refusal c =
+    let asked : c.request_of-asked.result ≡ convert_request (plain_state c.args.self.now) c.args.conversion.now = search rules in
+    let found = rw (← c.self.view_is) at c.requires.standing.standing.found in
+    let at_once = c.converts_at_once-at_once.ensures c.requires.standing.standing.resource found in
+    rw (is_admitted c.args.self.now (rw (← c.self.view_is) c.law_records_are_sound.ensures) c.args.conversion.now c.args.standing.now c.requires.standing c.request_of-asked.result asked (search rules), ← at_once) (search rules)
+
+pub returns-clause-admitted : goal.returns-clause-admitted
+returns-clause-admitted c =
+    let asked : c.request_of-asked.result ≡ convert_request (plain_state c.args.self.now) c.args.conversion.now = search rules in
+    let found = rw (← c.self.view_is) at c.requires.standing.standing.found in
+    record {
+      standing = c.requires.standing;
+      granted = search rules;
+      asked = asked;
+      at_once = c.converts_at_once-at_once.ensures c.requires.standing.standing.resource found;
+      found = is_admitted c.args.self.now (rw (← c.self.view_is) c.law_records_are_sound.ensures) c.args.conversion.now c.args.standing.now c.requires.standing c.request_of-asked.result asked (search rules);
+      number = search rules;
+    }

@@ -1,0 +1,41 @@
+use Rattle.std.proofs.Common.{◌≡◌, ap, sym, arith, ◌∙◌}
+use Rattle.vlm_store.specs.Plain.{plain_resources}
+use Rattle.vlm_machine.specs.Machine.{MachineState}
+use Rattle.vlm_machine.specs.Notes.{locks_on}
+use Rattle.vlm_machine.proofs.Noting.{as_many_stored, room_after}
+use Rattle.vlm_words.specs.declared.locks.Row.{Row}
+use Rattle.vlm_words.specs.declared.steps.Answer.TheVariants.{Lock}
+use Rattle.vlm_words.specs.declared.steps.Step.TheVariants.{Enq}
+use Rattle.vlm_words.specs.Checks.{acceptance}
+use Rattle.vlm_words.specs.Enqueue.{enq_at_once, enq_change}
+use Rattle.vlm_words.specs.Sweeps.{state_after_sweep}
+use Rattle.vlm_machine.specs.Machine.{plain_state}
+use Rattle.vlm_machine.proofs.Made.{made_swept}
+use Rattle.vlm_machine.proofs.Settling.{settled_but}
+use Rattle.vlm_machine.proofs.records.Machine.enq.Goals as goal
+
+pub sweep-requires-clause-settled : goal.sweep-requires-clause-settled
+sweep-requires-clause-settled c =
+    settled_but c.args.self.now.records c.enq_change.new.self.records c.in-Ok-enq_change.res c.requires.between.settled c.in-Ok-enq_change.ensures.others
+
+pub returns-in-Ok-enq_change-clause-outcome : goal.returns-in-Ok-enq_change-clause-outcome
+unfolding enq_change
+returns-in-Ok-enq_change-clause-outcome c =
+    let s = plain_state c.args.self.now in
+    let e = c.args.request in
+    let a = c.in-Ok.admitted in
+    let admitted = c.in-Ok.ensures.admitted in
+    made_swept s (plain_state c.sweep.new.self) (Enq e) (Lock a.answer a.entry.row.lkid) c.in-Ok.ensures.refusal
+    (c.sweep.ensures ∙ ap state_after_sweep c.in-Ok-enq_change.ensures.change)
+    (ap (λ answer. Lock answer a.entry.row.lkid) admitted.answer
+    ∙ ap (λ (row : Row). Lock (acceptance e.flags (enq_at_once s e)) row.lkid) admitted.entry.row)
+
+-- room to note its resource was made before the lock entered
+pub returns-in-Ok-enq_change-clause-notes : goal.returns-in-Ok-enq_change-clause-notes
+returns-in-Ok-enq_change-clause-notes c =
+    let stored = as_many_stored c.self.inside.store c.self.invariant.rest.none_loose in
+    let same : locks_on (plain_state c.args.self.now).resources ≡ locks_on (plain_resources c.self.inside.store) =
+    ap (λ (m : MachineState). locks_on (plain_state m).resources) (sym c.self.view_is) in
+    room_after c.args.self.now c.sweep.new.self c.make_room_beyond.new.self (Enq c.args.request) (Lock c.in-Ok.admitted.answer c.in-Ok.admitted.entry.row.lkid)
+    (returns-in-Ok-enq_change-clause-outcome c) c.make_room_beyond.ensures.none
+    (omega (arith, stored, same, c.in-Ok-make_room_beyond.ensures.room, c.total_locks.ensures))

@@ -1,0 +1,54 @@
+use Rattle.std.proofs.Common.{◌≡◌, ◌+◌, refl, ap, subst, sym, arith}
+use Rattle.vlm_words.specs.declared.locks.Row.{Row}
+use Rattle.vlm_store.specs.Records.{without_resource}
+use Rattle.vlm_machine.specs.Admissions.{IsAdmitted}
+use Rattle.vlm_machine.specs.Between.{IsBetweenSteps}
+use Rattle.vlm_machine.specs.Machine.{MachineState, kept, plain_state}
+use Rattle.vlm_machine.proofs.Entries.{entered_state, processes_are, resources_are, serial_is}
+use Rattle.vlm_machine.proofs.Stayed.{paid_refused, rests_refused}
+use Rattle.vlm_machine.proofs.ToCome.{above_all}
+use Rattle.vlm_machine.proofs.records.Machine.enq_change.Goals as goal
+
+-- the identification is to come, and the rest was looked up
+pub enter-requires-clause-may_enter : goal.enter-requires-clause-may_enter
+enter-requires-clause-may_enter c =
+    let between = subst (λ (m : MachineState). IsBetweenSteps (plain_state m)) (sym c.self.view_is) c.requires.between in
+    let admitted = subst (λ (m : MachineState). IsAdmitted m c.args.request.now c.args.admitted.now) (sym c.self.view_is) c.requires.admitted in
+    let row = c.args.admitted.now.entry.row in
+    let lkid : row.lkid ≡ c.self.inside.last_lkid + 1 = ap (λ (r : Row). r.lkid) admitted.entry.row in
+    record {
+      rest = c.self.invariant.rest;
+      rising = above_all c.self.inside.store row.lkid c.self.invariant.rest.none_loose (λ other from. between.identifications.none_to_come other (omega (arith, lkid, from)));
+      owner = admitted.entry.owner;
+      parent = admitted.entry.parent;
+      keyed = admitted.entry.keyed;
+    }
+
+-- a new lock is not armed
+pub enter-requires-clause-new : goal.enter-requires-clause-new
+enter-requires-clause-new c = ap (λ (r : Row). r.armed) c.requires.admitted.entry.row
+
+-- where memory is refused it is as it was
+pub invariant_of-self : goal.invariant_of-self
+invariant_of-self c = record {
+  rest = rests_refused c.self.inside.store c.enter.new.store c.in_err-res.ensures.err c.self.invariant.rest;
+  paid = paid_refused c.self.inside.store c.enter.new.store c.in_err-res.ensures.err c.self.invariant.paid;
+}
+
+-- the plain machine's change
+pub returns-clause-change : goal.returns-clause-change
+returns-clause-change c =
+    let m = kept c.self.inside in
+    let e = c.args.request.now in
+    let entry = c.args.admitted.now.entry in
+    let is = (subst (λ (m : MachineState). IsAdmitted m e c.args.admitted.now) (sym c.self.view_is) c.requires.admitted).entry in
+    rw (← c.self.view_is)
+    (entered_state m e entry is c.enter.new.store (c.self.inside.last_lkid + 1 + 1) (c.self.inside.last_request + 1 + 1) (c.last_given-self-inside.result + 1)
+    (resources_are m e entry is c.enter.new.store c.in_ok-res.ensures.entered)
+    (processes_are m e entry is c.enter.new.store c.in_ok-res.ensures.statuses)
+    refl refl
+    (serial_is m e entry is c.self.invariant.rest c.last_given-self-inside.result c.self.inside.last_serial refl c.last_given-self-inside.ensures))
+
+pub returns-clause-others : goal.returns-clause-others
+returns-clause-others c =
+    subst (λ (m : MachineState). without_resource c.in_ok-res.res c.enter.new.store.resources ≡ without_resource c.in_ok-res.res m.records.resources) c.self.view_is c.in_ok-res.ensures.others

@@ -1,0 +1,14 @@
+use Rattle.std.proofs.Common.{refl}
+use Rattle.vlm_words.specs.declared.conditions.Cond.TheVariants.{Normal}
+use Rattle.vlm_words.specs.declared.steps.Answer.TheVariants.{Plain}
+use Rattle.vlm_words.specs.declared.steps.Step.TheVariants.{SetValue}
+use Rattle.vlm_words.specs.SetValue.{set_change}
+use Rattle.vlm_machine.specs.Machine.{plain_state}
+use Rattle.vlm_machine.proofs.Made.{made_unswept}
+use Rattle.vlm_machine.proofs.records.Machine.set_value.Goals as goal
+
+pub returns-in-Ok : goal.returns-in-Ok
+unfolding set_change
+returns-in-Ok c =
+    made_unswept (plain_state c.args.self.now) (plain_state c.set_change.new.self) (SetValue c.args.setting) (Plain Normal) c.in-Ok.ensures.refusal
+    c.requires.settled c.set_change.ensures refl

@@ -1,0 +1,5 @@
+pub mod Admissions
+pub mod Between
+pub mod Machine
+pub mod Notes
+pub mod Parents

@@ -1,0 +1,43 @@
+-- What the machine of records keeps, and what it is in the plain machine.
+use Rattle.std.specs.Prelude.{ℕ, List, ◌+◌}
+use Rattle.vlm_words.specs.State.{Node, State}
+use Rattle.vlm_store.specs.Plain.{plain_processes, plain_resources}
+use Rattle.vlm_store.specs.Records.{Records}
+use Rattle.vlm_locks.specs.Owing.{IsPaid}
+use Rattle.vlm_locks.specs.Rest.{IsAtRest}
+use Rattle.vlm_machine.specs.declared.records.Machine.TheInside.{Inside}
+
+-- the nodes, the records under their handles, and the numbers that come next
+pub record MachineState : Type 0 where
+  pub nodes : List Node
+  pub records : Records
+  pub next_lkid : ℕ
+  pub next_request : ℕ
+  pub next_serial : ℕ
+
+-- the numbers that come next are one more than those given last
+abbrev pub kept : Inside → MachineState
+kept m = record {
+  nodes = m.nodes;
+  records = m.store;
+  next_lkid = m.last_lkid + 1;
+  next_request = m.last_request + 1;
+  next_serial = m.last_serial + 1;
+}
+
+-- the state of the plain machine: the records without their handles
+abbrev pub plain_state : MachineState → State
+plain_state m = record {
+  nodes = m.nodes;
+  processes = plain_processes m.records;
+  resources = plain_resources m.records;
+  next_lkid = m.next_lkid;
+  next_request = m.next_request;
+  next_serial = m.next_serial;
+}
+
+-- the records are as they are to be between two steps, and each process is owed the ASTs that are due to it for its
+-- locks, in each part of a step too
+pub record HasRecordsAtRest (m : Inside) : Type 0 where
+  pub rest : IsAtRest m.store
+  pub paid : IsPaid m.store

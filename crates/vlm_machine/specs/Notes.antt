@@ -1,0 +1,21 @@
+-- The notes that a step keeps of the resources that it touches, and the room for them.
+use Rattle.std.specs.Prelude.{◌≡◌, ◌≤◌, ◌+◌, ℕ, List, [], length, sum_by}
+use Rattle.vlm_words.specs.State.{Resource}
+use Rattle.vlm_locks.specs.Sweeping.{AreSettledBut}
+use Rattle.vlm_locks.specs.Touched.{AreThere, SerialsRise, Touches, touched_handles}
+use Rattle.vlm_machine.specs.Machine.{MachineState, plain_state}
+
+-- how many locks stand on the resources
+abbrev pub locks_on : List Resource → ℕ
+locks_on resources = sum_by (λ r. length r.granted + length r.converting + length r.waiting) resources
+
+-- nothing is noted, and there is room to note the resource of each lock
+pub record HasRoomToNote (touched : Touches) (m : MachineState) : Type 0 where
+  pub none : touched.noted ≡ []
+  pub room : locks_on (plain_state m).resources ≤ touched.room
+
+-- what a step leaves to its sweep: the resources that it touched are noted, and on the others nothing is to be done
+pub record IsToSweep (touched : Touches) (m : MachineState) : Type 0 where
+  pub noted : AreThere touched.noted m.records
+  pub rise : SerialsRise m.records.resources
+  pub settled : AreSettledBut (touched_handles touched.noted) m.records.resources

@@ -1,0 +1,148 @@
+//! The checks that several steps make. They only read, and answer the refusal.
+
+ghost use Rattle.std.specs.Prelude.{◌≡◌, ◌<◌, ◌^◌, IfOk, OnOk};
+ghost use Rattle.std.specs.Result.{result_err};
+ghost use Rattle.vlm_words.specs.Checks.{acceptance, caller_refusal, lock_refusal, named_lkid, numbers_refusal, queue_refusal, request_numbers_refusal, status_block_refusal, which_refusal};
+ghost use Rattle.vlm_words.specs.Flags.{flag_bits};
+ghost use Rattle.vlm_words.specs.StatusBlocks.{status_block_of};
+ghost use Rattle.vlm_words.specs.Quotas.{quota_refusal};
+ghost use Rattle.vlm_machine.specs.Admissions.{IsCaller};
+ghost use Rattle.vlm_machine.specs.Machine.{plain_state};
+ghost use Rattle.vlm_locks.specs.Standing.{IsStandingOf};
+
+use crate::nodes::has_departed;
+use crate::processes::{Caller, living};
+use crate::records::Machine;
+use vlm_locks::{Standing, find_lock};
+use vlm_procs::{has_room, status_block};
+use vlm_words::blocks::Block;
+use vlm_words::conditions::Cond;
+use vlm_words::flags::EnqFlags;
+use vlm_words::steps::Which;
+
+impl Machine {
+    /// The caller. DEPARTED where its node has departed, NONEXPR where no living process has the
+    /// identification.
+    #[tactic(auto, unfolding(vlm_words::specs::Checks::caller_refusal))]
+    pub(crate) fn checked_caller(&self, pid: u32) -> Result<Caller, Cond>
+        ensures refusal { result_err result ≡ caller_refusal (plain_state self.now) pid }
+        ensures caller { IfOk result (λ caller. IsCaller caller self.now.records) }
+        ensures pid { IfOk result (λ caller. caller.pid ≡ pid) }
+    {
+        if has_departed(&self.nodes, pid / 65536) {
+            return Err(Cond::Departed);
+        }
+        living(&self.store, pid).ok_or(Cond::Nonexpr)
+    }
+
+    /// NOLOCKID where the identifications or the request numbers are used up.
+    #[tactic(auto, unfolding(vlm_words::specs::Checks::numbers_refusal))]
+    pub(crate) fn check_numbers(&self) -> Result<(), Cond>
+        ensures refusal { result_err result ≡ numbers_refusal (plain_state self.now) }
+        ensures lkid { OnOk result (self.now.next_lkid < 2 ^ 32) }
+        ensures request { OnOk result (self.now.next_request < 2 ^ 64) }
+    {
+        if self.last_lkid < u32::MAX && self.last_request < u64::MAX {
+            Ok(())
+        } else {
+            Err(Cond::Nolockid)
+        }
+    }
+
+    /// NOLOCKID where the request numbers are used up.
+    #[tactic(auto, unfolding(vlm_words::specs::Checks::request_numbers_refusal))]
+    pub(crate) fn check_request_numbers(&self) -> Result<(), Cond>
+        ensures refusal { result_err result ≡ request_numbers_refusal (plain_state self.now) }
+        ensures request { OnOk result (self.now.next_request < 2 ^ 64) }
+    {
+        if self.last_request < u64::MAX {
+            Ok(())
+        } else {
+            Err(Cond::Nolockid)
+        }
+    }
+
+    /// EXENQLM where the caller has as many locks as it may have.
+    #[tactic(auto, unfolding(vlm_words::specs::Quotas::quota_refusal))]
+    pub(crate) fn check_quota(&self, caller: &Caller) -> Result<(), Cond>
+        requires { IsCaller caller.now self.now.records }
+        ensures { result_err result ≡ quota_refusal (plain_state self.now) caller.now.pid }
+    {
+        if has_room(&self.store, caller.at) {
+            Ok(())
+        } else {
+            Err(Cond::Exenqlm)
+        }
+    }
+
+    // The status block of the number. ACCVIO where the caller has none of it.
+    #[tactic(auto, unfolding(vlm_words::specs::Checks::status_block_refusal, vlm_words::specs::StatusBlocks::status_block_at))]
+    fn checked_status_block(&self, caller: &Caller, number: u8) -> Result<Block, Cond>
+        requires { IsCaller caller.now self.now.records }
+        ensures refusal { result_err result
+            ≡ status_block_refusal (plain_state self.now) caller.now.pid number }
+        ensures block { IfOk result (λ block. block
+            ≡ status_block_of (plain_state self.now).processes caller.now.pid number) }
+    {
+        status_block(&self.store, caller.at, number).ok_or(Cond::Accvio)
+    }
+
+    /// ACCVIO where the caller has no status block of the number.
+    pub(crate) fn check_status_block(&self, caller: &Caller, number: u8) -> Result<(), Cond>
+        requires { IsCaller caller.now self.now.records }
+        ensures { result_err result
+            ≡ status_block_refusal (plain_state self.now) caller.now.pid number }
+    {
+        self.checked_status_block(caller, number)?;
+        Ok(())
+    }
+
+    /// The identification that is named: its own, or what stands in a status block of the caller.
+    /// ACCVIO where the caller has no such block.
+    #[tactic(auto, unfolding(vlm_words::specs::Checks::which_refusal))]
+    pub(crate) fn checked_lkid(&self, caller: &Caller, lock: Which) -> Result<u32, Cond>
+        requires { IsCaller caller.now self.now.records }
+        ensures refusal { result_err result
+            ≡ which_refusal (plain_state self.now) caller.now.pid lock }
+        ensures lkid { IfOk result
+            (λ lkid. lkid ≡ named_lkid (plain_state self.now) caller.now.pid lock) }
+    {
+        match lock {
+            Which::Id(lkid) => Ok(lkid),
+            Which::Block(number) => Ok(self.checked_status_block(caller, number)?.lkid),
+        }
+    }
+
+    /// The lock of the caller with this identification, where it stands. IVLOCKID where it has none.
+    #[tactic(auto, unfolding(vlm_words::specs::Checks::lock_refusal))]
+    pub(crate) fn checked_lock(&self, caller: &Caller, lkid: u32) -> Result<Standing, Cond>
+        ensures refusal { result_err result
+            ≡ lock_refusal (plain_state self.now) caller.now.pid lkid }
+        ensures standing { IfOk result
+            (λ standing. IsStandingOf caller.now.pid lkid standing self.now.records) }
+    {
+        find_lock(&self.store, caller.pid, lkid).ok_or(Cond::Ivlockid)
+    }
+}
+
+/// NOTQUEUED where a request that must not queue is not granted at once.
+pub(crate) fn check_queue(flags: EnqFlags, at_once: bool) -> Result<(), Cond>
+    ensures { result_err result ≡ queue_refusal (flag_bits flags) at_once }
+{
+    if flags.has(EnqFlags::NOQUEUE) && !at_once {
+        Err(Cond::Notqueued)
+    } else {
+        Ok(())
+    }
+}
+
+/// What an accepted request answers: SYNCH where it is granted at once and asks for that.
+pub(crate) fn acceptance(flags: EnqFlags, at_once: bool) -> Cond
+    ensures { result ≡ acceptance (flag_bits flags) at_once }
+{
+    if flags.has(EnqFlags::SYNCSTS) && at_once {
+        Cond::Synch
+    } else {
+        Cond::Normal
+    }
+}

@@ -1,0 +1,187 @@
+//! The step that converts a lock to another mode.
+
+ghost use Rattle.std.specs.Prelude.{◌≡◌, Some, IfOk, OnErr, OnOk};
+ghost use Rattle.std.specs.Result.{result_err};
+ghost use Rattle.vlm_words.specs.Convert.{ConversionAdmission, admission_refusal, convert_admission, convert_change, convert_flags_refusal, convert_lkid, convert_refusal, is_queued_legally_from, pair_refusal};
+ghost use Rattle.vlm_words.specs.Flags.{flag_bits};
+ghost use Rattle.vlm_words.specs.Stepped.{NamesRoutine, Outcome};
+ghost use Rattle.vlm_store.specs.Records.{HasResource};
+ghost use Rattle.vlm_locks.specs.Rest.{OthersStay};
+ghost use Rattle.vlm_locks.specs.Standing.{IsStandingOf};
+ghost use Rattle.vlm_machine.specs.Admissions.{IsAdmittedConversion};
+ghost use Rattle.vlm_machine.specs.Between.{IsBetweenSteps};
+ghost use Rattle.vlm_machine.specs.Machine.{plain_state};
+
+use crate::checks::{acceptance, check_queue};
+use crate::flags::enq_flags;
+use crate::records::Machine;
+use std::alloc::AllocError;
+use vlm_locks::{Standing, convert, converts_at_once};
+use vlm_store::laws::law_records_are_sound;
+use vlm_words::conditions::Cond;
+use vlm_words::flags::EnqFlags;
+use vlm_words::locks::{Request, Row};
+use vlm_words::modes::{Mode, quecvt_legal};
+use vlm_words::steps::{Answer, Conversion, Step};
+
+/// A conversion that no check refuses.
+#[derive(Clone, Copy)]
+pub(crate) struct AdmittedConversion {
+    // the lock as it is granted
+    standing: Standing,
+    asked: Request,
+    at_once: bool,
+}
+
+impl Machine {
+    /// Asks for another mode of a granted lock: its checks, its change, and the sweep of its resource.
+    pub(crate) fn convert(&mut self, conversion: Conversion) -> Answer
+        requires { IsBetweenSteps (plain_state self.old) }
+        ensures { Outcome (plain_state self.old) (Step.Convert conversion)
+            (plain_state self.new) result }
+    {
+        let admitted = match self.checked_conversion(&conversion) {
+            Ok(admitted) => admitted,
+            Err(refusal) => return Answer::Plain(refusal),
+        };
+        let standing = admitted.standing;
+        match self.convert_change(&conversion, &admitted) {
+            Ok(()) => {
+                self.sweep(standing.res);
+                Answer::Lock(
+                    acceptance(admitted.asked.flags, admitted.at_once),
+                    standing.row.lkid,
+                )
+            }
+            Err(AllocError) => Answer::Plain(Cond::Insfmem),
+        }
+    }
+
+    // The checks in their order.
+    #[tactic(auto, unfolding(vlm_words::specs::Convert::convert_refusal))]
+    fn checked_conversion(&self, conversion: &Conversion) -> Result<AdmittedConversion, Cond>
+        ensures refusal { result_err result
+            ≡ convert_refusal (plain_state self.now) conversion.now }
+        ensures admitted { IfOk result (λ a. IsAdmittedConversion self.now conversion.now a) }
+    {
+        let caller = self.checked_caller(conversion.pid)?;
+        let flags = checked_flags(conversion)?;
+        self.check_status_block(&caller, conversion.block)?;
+        let lkid = self.checked_lkid(&caller, conversion.lock)?;
+        let standing = self.checked_lock(&caller, lkid)?;
+        self.checked_admission(flags, &standing, conversion)
+    }
+
+    // The lock is granted, or CVTUNGRANT; and then the checks of the conversion there, in their order.
+    fn checked_admission(
+        &self,
+        flags: EnqFlags,
+        standing: &Standing,
+        conversion: &Conversion,
+    ) -> Result<AdmittedConversion, Cond>
+        requires flags { flag_bits flags ≡ conversion.now.flags }
+        requires standing { let lkid = convert_lkid (plain_state self.now) conversion.now
+            in IsStandingOf conversion.now.pid lkid standing.now self.now.records }
+        ensures refusal { let admission = convert_admission (plain_state self.now) conversion.now
+            in result_err result
+            ≡ admission_refusal (plain_state self.now) conversion.now admission }
+        ensures admitted { IfOk result (λ a. IsAdmittedConversion self.now conversion.now a) }
+    {
+        law_records_are_sound(&self.store);
+        if !standing.is_granted() {
+            return Err(Cond::Cvtungrant);
+        }
+        check_pair(conversion, flags, &standing.row)?;
+        self.check_request_numbers()?;
+        let asked = request_of(self.last_request + 1, flags, conversion);
+        let at_once = converts_at_once(&self.store, standing, &asked);
+        check_queue(flags, at_once)?;
+        Ok(AdmittedConversion {
+            standing: *standing,
+            asked,
+            at_once,
+        })
+    }
+
+    // The lock converts, with all that becomes of its status block, and the request number that it took is used up.
+    // Where memory for the ASTs of the routines that are named is refused, nothing is changed.
+    fn convert_change(
+        &mut self,
+        conversion: &Conversion,
+        admitted: &AdmittedConversion,
+    ) -> Result<(), AllocError>
+        requires admitted { IsAdmittedConversion self.old conversion.now admitted.now }
+        requires between { IsBetweenSteps (plain_state self.old) }
+        ensures change { OnOk result ((a : ConversionAdmission)
+            → convert_admission (plain_state self.old) conversion.now ≡ Some a
+            → plain_state self.new ≡ convert_change (plain_state self.old) conversion.now a) }
+        ensures others { OnOk result
+            (OthersStay admitted.now.standing.res self.old.records self.new.records) }
+        ensures there { OnOk result (HasResource admitted.now.standing.res self.new.records) }
+        ensures unchanged { OnErr result (self.new ≡ self.old) }
+        ensures named { OnErr result (NamesRoutine conversion.now) }
+    {
+        convert(
+            &mut self.store,
+            &admitted.standing,
+            &admitted.asked,
+            admitted.at_once,
+        )?;
+        self.last_request += 1;
+        Ok(())
+    }
+}
+
+// The flags, or BADPARAM where one of them is unknown.
+#[tactic(auto, unfolding(vlm_words::specs::Convert::convert_flags_refusal))]
+fn checked_flags(conversion: &Conversion) -> Result<EnqFlags, Cond>
+    ensures refusal { result_err result ≡ convert_flags_refusal conversion.now }
+    ensures flags { IfOk result (λ flags. flag_bits flags ≡ conversion.now.flags) }
+{
+    enq_flags(conversion.flags).ok_or(Cond::Badparam)
+}
+
+// BADPARAM where QUECVT does not go with a conversion from what the row holds.
+#[tactic(auto, unfolding(vlm_words::specs::Convert::pair_refusal))]
+fn check_pair(conversion: &Conversion, flags: EnqFlags, row: &Row) -> Result<(), Cond>
+    requires { flag_bits flags ≡ conversion.now.flags }
+    ensures { result_err result ≡ pair_refusal conversion.now row.now }
+{
+    if flags.has(EnqFlags::QUECVT) && !is_legal_from(row.held, conversion.mode) {
+        Err(Cond::Badparam)
+    } else {
+        Ok(())
+    }
+}
+
+// Whether QUECVT may go with a conversion from what is held to the mode.
+fn is_legal_from(held: Option<Request>, mode: Mode) -> bool
+    ensures { result ≡ is_queued_legally_from held mode }
+{
+    match held {
+        Some(held) => quecvt_legal(held.mode, mode),
+        None => false,
+    }
+}
+
+fn request_of(number: u64, flags: EnqFlags, conversion: &Conversion) -> Request
+    ensures { result ≡ record {
+      number = number;
+      mode = conversion.now.mode;
+      flags = flags;
+      block = conversion.now.block;
+      completion = conversion.now.ast;
+      blocking = conversion.now.bast;
+      param = conversion.now.param;
+    } }
+{
+    Request {
+        number,
+        mode: conversion.mode,
+        flags,
+        block: conversion.block,
+        completion: conversion.ast,
+        blocking: conversion.bast,
+        param: conversion.param,
+    }
+}

@@ -1,0 +1,282 @@
+//! The step that gives locks up, or cancels a request.
+
+ghost use Rattle.std.specs.Prelude.{◌≡◌, ◌==◌, ◌&&◌, None, [], true, false, not, IfOk, OnOk, if◌then◌else◌};
+ghost use Rattle.std.specs.Result.{result_err};
+ghost use Rattle.vlm_words.specs.Dequeue.{cancel_refusal, conversion_ending, deq_change, deq_flags_refusal, deq_refusal, dequeued_lock_refusal, is_mixed, leaves_none, sublocks_refusal, withdrawal_of};
+ghost use Rattle.vlm_words.specs.Checks.{lock_refusal};
+ghost use Rattle.vlm_words.specs.Flags.{cancel, deq_flag_bits, deqall, has_flag, invvalblk};
+ghost use Rattle.vlm_words.specs.Endings.How.{by_abort};
+ghost use Rattle.vlm_words.specs.Stepped.{Outcome};
+ghost use Rattle.vlm_store.specs.Records.{HasNoSublocks, HasResource};
+ghost use Rattle.vlm_locks.specs.Rest.{OthersStay};
+ghost use Rattle.vlm_locks.specs.Standing.{IsStanding};
+ghost use Rattle.vlm_locks.specs.Withdrawals.{plain_withdrawal};
+ghost use Rattle.vlm_locks.specs.Withdrawing.{goes};
+ghost use Rattle.vlm_machine.specs.Admissions.{IsAdmittedDequeue, IsAdmittedDequeueOfAll, IsChildless, choice_of};
+ghost use Rattle.vlm_machine.specs.Between.{IsBetweenSteps};
+ghost use Rattle.vlm_machine.specs.Machine.{plain_state};
+ghost use Rattle.vlm_machine.specs.Notes.{HasRoomToNote, IsToSweep};
+
+use crate::flags::deq_flags;
+use crate::processes::Caller;
+use crate::records::Machine;
+use bitflags::Flags;
+use vlm_locks::{Choice, End, Standing, Touched, Withdrawal, give_up_together, withdraw};
+use vlm_store::laws::law_records_are_sound;
+use vlm_words::conditions::Cond;
+use vlm_words::flags::DeqFlags;
+use vlm_words::steps::{Answer, Dequeue, Step};
+
+/// A dequeue of one lock that no check refuses.
+#[derive(Clone, Copy)]
+pub(crate) struct AdmittedDequeue {
+    // the lock as it stands
+    standing: Standing,
+    withdrawal: Withdrawal,
+}
+
+/// A dequeue with DEQALL that no check refuses.
+#[derive(Clone, Copy)]
+pub(crate) struct AdmittedDequeueOfAll {
+    caller: Caller,
+    // which of the caller's locks go
+    choice: Choice,
+    // with INVVALBLK
+    invalidates: bool,
+}
+
+impl Machine {
+    /// Gives locks up, or cancels a request: the lock that is named; or with DEQALL all of the caller, or all below the
+    /// one that is named.
+    pub(crate) fn deq(&mut self, touched: &mut Touched, dequeue: Dequeue) -> Answer
+        requires between { IsBetweenSteps (plain_state self.old) }
+        requires notes { HasRoomToNote touched.old self.old }
+        ensures outcome { Outcome (plain_state self.old) (Step.Deq dequeue)
+            (plain_state self.new) result }
+        ensures none { touched.new.noted ≡ [] }
+        ensures room { touched.new.room ≡ touched.old.room }
+    {
+        if asks_for_all(&dequeue) {
+            self.deq_all(touched, dequeue)
+        } else {
+            self.deq_one(dequeue)
+        }
+    }
+
+    // One lock: its checks, its change, and the sweep of its resource.
+    fn deq_one(&mut self, dequeue: Dequeue) -> Answer
+        requires between { IsBetweenSteps (plain_state self.old) }
+        requires alone { has_flag dequeue.flags deqall ≡ false }
+        ensures outcome { Outcome (plain_state self.old) (Step.Deq dequeue)
+            (plain_state self.new) result }
+    {
+        match self.checked_dequeue(&dequeue) {
+            Ok(admitted) => {
+                self.deq_change(&dequeue, &admitted);
+                self.sweep(admitted.standing.res);
+                Answer::Plain(Cond::Normal)
+            }
+            Err(refusal) => Answer::Plain(refusal),
+        }
+    }
+
+    // With DEQALL: its checks, the end of the requests and of the locks, and one sweep of what these touched.
+    fn deq_all(&mut self, touched: &mut Touched, dequeue: Dequeue) -> Answer
+        requires between { IsBetweenSteps (plain_state self.old) }
+        requires notes { HasRoomToNote touched.old self.old }
+        requires all { has_flag dequeue.flags deqall ≡ true }
+        ensures outcome { Outcome (plain_state self.old) (Step.Deq dequeue)
+            (plain_state self.new) result }
+        ensures none { touched.new.noted ≡ [] }
+        ensures room { touched.new.room ≡ touched.old.room }
+    {
+        match self.checked_dequeue_of_all(&dequeue) {
+            Ok(admitted) => {
+                self.deq_all_change(touched, &dequeue, &admitted);
+                self.sweep_touched(touched);
+                Answer::Plain(Cond::Normal)
+            }
+            Err(refusal) => Answer::Plain(refusal),
+        }
+    }
+
+    // The checks of one lock, in their order.
+    #[tactic(auto, unfolding(vlm_words::specs::Dequeue::deq_refusal))]
+    fn checked_dequeue(&self, dequeue: &Dequeue) -> Result<AdmittedDequeue, Cond>
+        requires between { IsBetweenSteps (plain_state self.now) }
+        requires alone { has_flag dequeue.now.flags deqall ≡ false }
+        ensures refusal { result_err result ≡ deq_refusal (plain_state self.now) dequeue.now }
+        ensures admitted { IfOk result (λ a. IsAdmittedDequeue self.now dequeue.now a) }
+        ensures childless { IfOk result (λ a. IsChildless self.now a) }
+    {
+        let caller = self.checked_caller(dequeue.pid)?;
+        let flags = checked_flags(dequeue)?;
+        let lkid = self.checked_lkid(&caller, dequeue.lock)?;
+        let withdrawal = withdrawal_of(lkid, flags, dequeue);
+        let standing = self.checked_lock(&caller, lkid)?;
+        let admitted = AdmittedDequeue {
+            standing,
+            withdrawal,
+        };
+        self.check_cancel(dequeue, &admitted)?;
+        self.check_sublocks(&standing, flags.has(DeqFlags::CANCEL))?;
+        Ok(admitted)
+    }
+
+    // The checks with DEQALL, in their order. They never answer CANCELGRANT or SUBLOCKS.
+    #[tactic(auto, unfolding(vlm_words::specs::Dequeue::deq_refusal))]
+    fn checked_dequeue_of_all(&self, dequeue: &Dequeue) -> Result<AdmittedDequeueOfAll, Cond>
+        requires { has_flag dequeue.now.flags deqall ≡ true }
+        ensures refusal { result_err result ≡ deq_refusal (plain_state self.now) dequeue.now }
+        ensures admitted { IfOk result (λ a. IsAdmittedDequeueOfAll self.now dequeue.now a) }
+    {
+        let caller = self.checked_caller(dequeue.pid)?;
+        let flags = checked_flags(dequeue)?;
+        let lkid = self.checked_lkid(&caller, dequeue.lock)?;
+        let choice = self.checked_choice(&caller, lkid)?;
+        Ok(AdmittedDequeueOfAll {
+            caller,
+            choice,
+            invalidates: flags.has(DeqFlags::INVVALBLK),
+        })
+    }
+
+    // All locks of the caller where none is named, else those below the one that is. IVLOCKID where that is none of the
+    // caller's.
+    fn checked_choice(&self, caller: &Caller, lkid: u32) -> Result<Choice, Cond>
+        ensures refusal { result_err result ≡ (if lkid == 0 then None
+            else lock_refusal (plain_state self.now) caller.now.pid lkid) }
+        ensures choice { IfOk result (λ choice. choice ≡ choice_of lkid) }
+    {
+        if lkid == 0 {
+            return Ok(Choice::All);
+        }
+        self.checked_lock(caller, lkid)?;
+        Ok(Choice::Below(lkid))
+    }
+
+    // CANCELGRANT where a granted lock is to be cancelled.
+    #[tactic(auto, unfolding(vlm_words::specs::Dequeue::cancel_refusal))]
+    fn check_cancel(&self, dequeue: &Dequeue, admitted: &AdmittedDequeue) -> Result<(), Cond>
+        requires { IsAdmittedDequeue self.now dequeue.now admitted.now }
+        ensures { result_err result ≡ cancel_refusal (plain_state self.now) dequeue.now }
+    {
+        law_records_are_sound(&self.store);
+        if admitted.withdrawal.stays && admitted.standing.is_granted() {
+            Err(Cond::Cancelgrant)
+        } else {
+            Ok(())
+        }
+    }
+
+    // SUBLOCKS where a lock that has sublocks is to be given up. A lock that waits has none.
+    #[tactic(auto, unfolding(vlm_words::specs::Dequeue::sublocks_refusal))]
+    fn check_sublocks(&self, standing: &Standing, cancels: bool) -> Result<(), Cond>
+        requires standing { IsStanding standing.now self.now.records }
+        requires between { IsBetweenSteps (plain_state self.now) }
+        ensures refusal { result_err result
+            ≡ sublocks_refusal (plain_state self.now) cancels standing.now.row.lkid }
+        ensures childless { OnOk result (goes cancels standing.now.queue ≡ true
+            → HasNoSublocks standing.now.lock self.now.records) }
+    {
+        law_records_are_sound(&self.store);
+        if !cancels && self.store.has_sublocks(standing.lock) {
+            Err(Cond::Sublocks)
+        } else {
+            Ok(())
+        }
+    }
+
+    // The lock's requests end, and it is gone from its queue, or only its request is.
+    #[tactic(auto, unfolding(vlm_words::specs::Dequeue::deq_change))]
+    fn deq_change(&mut self, dequeue: &Dequeue, admitted: &AdmittedDequeue)
+        requires admitted { IsAdmittedDequeue self.old dequeue.now admitted.now }
+        requires childless { IsChildless self.old admitted.now }
+        requires between { IsBetweenSteps (plain_state self.old) }
+        ensures change { plain_state self.new ≡ deq_change (plain_state self.old) dequeue.now }
+        ensures others { OthersStay admitted.now.standing.res self.old.records self.new.records }
+        ensures there { HasResource admitted.now.standing.res self.new.records }
+    {
+        withdraw(&mut self.store, &admitted.standing, &admitted.withdrawal);
+    }
+
+    // The requests of the chosen locks end, and then these locks are gone.
+    fn deq_all_change(
+        &mut self,
+        touched: &mut Touched,
+        dequeue: &Dequeue,
+        admitted: &AdmittedDequeueOfAll,
+    )
+        requires admitted { IsAdmittedDequeueOfAll self.old dequeue.now admitted.now }
+        requires between { IsBetweenSteps (plain_state self.old) }
+        requires notes { HasRoomToNote touched.old self.old }
+        requires all { has_flag dequeue.now.flags deqall ≡ true }
+        ensures change { plain_state self.new ≡ deq_change (plain_state self.old) dequeue.now }
+        ensures to_sweep { IsToSweep touched.new self.new }
+        ensures room { touched.new.room ≡ touched.old.room }
+    {
+        law_records_are_sound(&self.store);
+        let AdmittedDequeueOfAll {
+            caller,
+            choice,
+            invalidates,
+        } = *admitted;
+        give_up_together(
+            &mut self.store,
+            touched,
+            caller.at,
+            caller.pid,
+            choice,
+            invalidates,
+        );
+    }
+}
+
+// Whether the dequeue asks for several locks at once, whatever else it asks for.
+fn asks_for_all(dequeue: &Dequeue) -> bool
+    ensures { result ≡ has_flag dequeue.now.flags deqall }
+{
+    DeqFlags::from_bits_retain(dequeue.flags).has(DeqFlags::DEQALL)
+}
+
+// The flags. BADPARAM where one of them is unknown, or DEQALL comes with CANCEL or a value.
+#[tactic(auto, unfolding(vlm_words::specs::Dequeue::deq_flags_refusal))]
+fn checked_flags(dequeue: &Dequeue) -> Result<DeqFlags, Cond>
+    ensures refusal { result_err result ≡ deq_flags_refusal dequeue.now }
+    ensures flags { IfOk result (λ flags. deq_flag_bits flags ≡ dequeue.now.flags) }
+    ensures fitting { IfOk result (λ _. is_mixed dequeue.now ≡ false) }
+{
+    let flags = deq_flags(dequeue.flags).ok_or(Cond::Badparam)?;
+    if flags.has(DeqFlags::DEQALL) && (flags.has(DeqFlags::CANCEL) || dequeue.value.is_some()) {
+        return Err(Cond::Badparam);
+    }
+    Ok(flags)
+}
+
+// What the dequeue asks for: that the lock goes, or only that its request is cancelled. A cancel leaves the value
+// block as it is.
+fn withdrawal_of(lkid: u32, flags: DeqFlags, dequeue: &Dequeue) -> Withdrawal
+    requires { deq_flag_bits flags ≡ dequeue.now.flags }
+    ensures { plain_withdrawal result ≡ record {
+      lkid = lkid;
+      waiting = by_abort;
+      converting = conversion_ending (has_flag dequeue.now.flags cancel);
+      stays = has_flag dequeue.now.flags cancel;
+      value = if has_flag dequeue.now.flags cancel then None else dequeue.now.value;
+      invalidates = has_flag dequeue.now.flags invvalblk && not (has_flag dequeue.now.flags cancel);
+    } }
+{
+    let cancels = flags.has(DeqFlags::CANCEL);
+    Withdrawal {
+        lkid,
+        waiting: End::Aborted,
+        converting: if cancels {
+            End::Cancelled
+        } else {
+            End::Aborted
+        },
+        stays: cancels,
+        value: if cancels { None } else { dequeue.value },
+        invalidates: flags.has(DeqFlags::INVVALBLK) && !cancels,
+    }
+}

@@ -1,0 +1,299 @@
+//! The step that asks for a new lock.
+
+ghost use Rattle.std.specs.Prelude.{◌≡◌, ◌<◌, ◌^◌, ◌+◌, ℕ, true, false, is_some, find, unwrap_or, [], if◌then◌else◌, IfOk, IfSome, IsOk, OnErr, OnOk};
+ghost use Rattle.std.specs.Result.{result_err};
+ghost use Rattle.vlm_words.specs.declared.resources.Site.{Site};
+ghost use Rattle.vlm_words.specs.Enqueue.{enq_change, enq_flags_refusal, enq_form_refusal, enq_limit_refusal, enq_refusal, expedite_refusal, is_at_once, name_refusal};
+ghost use Rattle.vlm_words.specs.Resources.{is_at, new_resource};
+ghost use Rattle.vlm_words.specs.Flags.{flag_bits};
+ghost use Rattle.vlm_words.specs.Stepped.{Outcome};
+ghost use Rattle.vlm_store.specs.Plain.{plain_resources};
+ghost use Rattle.vlm_store.specs.Records.{FindsResource, HasResource, IsUnchanged};
+ghost use Rattle.vlm_locks.specs.Entering.{HasRoomToEnter};
+ghost use Rattle.vlm_words.specs.Resources.{IsKeyed};
+ghost use Rattle.vlm_locks.specs.Rest.{IsAtRest, OthersStay};
+ghost use Rattle.vlm_machine.specs.Admissions.{IsAdmitted, IsAskedBy, IsCaller, IsEntry, IsForm};
+ghost use Rattle.vlm_machine.specs.Between.{IsBetweenSteps};
+ghost use Rattle.vlm_machine.specs.Machine.{plain_state};
+ghost use Rattle.vlm_machine.specs.Notes.{HasRoomToNote};
+
+use crate::checks::{acceptance, check_queue};
+use crate::flags::enq_flags;
+use crate::parents::lock_of;
+use crate::processes::Caller;
+use crate::records::Machine;
+use std::alloc::AllocError;
+use vlm_locks::{Entry, Standing, Touched, enter, enters_at_once};
+use vlm_store::{ResAt, Store};
+use vlm_words::conditions::Cond;
+use vlm_words::flags::EnqFlags;
+use vlm_words::locks::{Request, Row};
+use vlm_words::modes::Mode;
+use vlm_words::names::{Name, NameArg};
+use vlm_words::resources::Key;
+use vlm_words::steps::{Answer, NewRequest, Step};
+
+/// A new request that no check refuses.
+#[derive(Clone, Copy)]
+pub(crate) struct AdmittedRequest {
+    // its lock, and where that is to enter
+    entry: Entry,
+    // what it answers once the lock has entered
+    answer: Cond,
+}
+
+/// What a new request says of itself.
+#[derive(Clone, Copy)]
+pub(crate) struct Form {
+    flags: EnqFlags,
+    // the identification of its parent lock, 0 for none
+    parent: u32,
+    name: Name,
+}
+
+// Where the resource under a handle is, if it is there, and whether a request is granted at once on it, or on a new
+// one.
+#[derive(Clone, Copy)]
+pub(crate) struct Found {
+    res: Option<ResAt>,
+    at_once: bool,
+}
+
+fn entrance(store: &Store, key: &Key, asked: &Request) -> Found
+    requires { IsAtRest store.now }
+    ensures found { FindsResource store.now key.now result.res }
+    ensures at_once { (serial : ℕ) (site : Site) → site.key ≡ key.now → IsKeyed site.domain site.key
+        → result.at_once ≡ is_at_once asked.now
+        (unwrap_or (find (is_at site.key) (plain_resources store.now)) (new_resource serial site)) }
+{
+    match store.resource(key) {
+        Some(res) => Found {
+            res: Some(res),
+            at_once: enters_at_once(store, res, asked),
+        },
+        None => Found {
+            res: None,
+            at_once: true,
+        },
+    }
+}
+
+// The serial that was given last, once the lock has entered.
+fn last_given(last_serial: u32, entry: &Entry) -> u32
+    ensures { result ≡ (if is_some entry.now.res then last_serial else entry.now.serial) }
+{
+    match entry.res {
+        Some(_) => last_serial,
+        None => entry.serial,
+    }
+}
+
+impl Machine {
+    /// Asks for a new lock: its checks, its change, and the sweep of its resource. An ending of the lock is to find room
+    /// to note its resource: that is made here.
+    pub(crate) fn enq(&mut self, touched: &mut Touched, request: NewRequest) -> Answer
+        requires between { IsBetweenSteps (plain_state self.old) }
+        requires notes { HasRoomToNote touched.old self.old }
+        ensures outcome { Outcome (plain_state self.old) (Step.Enq request)
+            (plain_state self.new) result }
+        ensures notes { HasRoomToNote touched.new self.new }
+    {
+        let admitted = match self.checked_request(&request) {
+            Ok(admitted) => admitted,
+            Err(refusal) => return Answer::Plain(refusal),
+        };
+        let Ok(()) = touched.make_room_beyond(self.store.total_locks()) else {
+            return Answer::Plain(Cond::Insfmem);
+        };
+        match self.enq_change(&request, &admitted) {
+            Ok(res) => {
+                self.sweep(res);
+                Answer::Lock(admitted.answer, admitted.entry.row.lkid)
+            }
+            Err(AllocError) => Answer::Plain(Cond::Insfmem),
+        }
+    }
+
+    // The checks in their order.
+    #[tactic(auto, unfolding(vlm_words::specs::Enqueue::enq_refusal))]
+    fn checked_request(&self, request: &NewRequest) -> Result<AdmittedRequest, Cond>
+        requires { IsBetweenSteps (plain_state self.now) }
+        ensures refusal { result_err result ≡ enq_refusal (plain_state self.now) request.now }
+        ensures admitted { IfOk result (λ a. IsAdmitted self.now request.now a) }
+    {
+        let caller = self.checked_caller(request.pid)?;
+        let form = self.checked_form(&caller, request)?;
+        let parent = self.checked_site(&caller, form.flags, form.parent)?;
+        self.checked_limits(&caller, &form, &parent, request)
+    }
+
+    // What is wrong with the request itself.
+    #[tactic(auto, unfolding(vlm_words::specs::Enqueue::enq_form_refusal))]
+    fn checked_form(&self, caller: &Caller, request: &NewRequest) -> Result<Form, Cond>
+        requires caller { IsCaller caller.now self.now.records }
+        requires pid { caller.now.pid ≡ request.now.pid }
+        ensures refusal { result_err result ≡ enq_form_refusal (plain_state self.now) request.now }
+        ensures form { IfOk result (λ form. IsForm (plain_state self.now) request.now form) }
+    {
+        let flags = checked_flags(request)?;
+        self.check_status_block(caller, request.block)?;
+        let parent = self.checked_lkid(caller, request.parent)?;
+        let name = checked_name(&request.name)?;
+        check_expedite(request.mode, flags)?;
+        Ok(Form {
+            flags,
+            parent,
+            name,
+        })
+    }
+
+    // What is used up, or in the way.
+    #[tactic(auto, unfolding(vlm_words::specs::Enqueue::enq_limit_refusal))]
+    fn checked_limits(
+        &self,
+        caller: &Caller,
+        form: &Form,
+        parent: &Option<Standing>,
+        request: &NewRequest,
+    ) -> Result<AdmittedRequest, Cond>
+        requires asked { IsAskedBy self.now request.now caller.now form.now parent.now }
+        requires between { IsBetweenSteps (plain_state self.now) }
+        ensures refusal { result_err result ≡ enq_limit_refusal (plain_state self.now) request.now }
+        ensures admitted { IfOk result (λ a. IsAdmitted self.now request.now a) }
+    {
+        self.check_quota(caller)?;
+        self.check_numbers()?;
+        let entry = self.entry(caller, form, parent, request);
+        check_queue(form.flags, entry.at_once)?;
+        Ok(AdmittedRequest {
+            entry,
+            answer: acceptance(form.flags, entry.at_once),
+        })
+    }
+
+    // The lock that the request makes, under the numbers to come, and where it is to enter.
+    fn entry(
+        &self,
+        caller: &Caller,
+        form: &Form,
+        parent: &Option<Standing>,
+        request: &NewRequest,
+    ) -> Entry
+        requires asked { IsAskedBy self.now request.now caller.now form.now parent.now }
+        requires between { IsBetweenSteps (plain_state self.now) }
+        requires lkid { self.now.next_lkid < 2 ^ 32 }
+        requires number { self.now.next_request < 2 ^ 64 }
+        ensures { IsEntry self.now request.now result }
+    {
+        let site = self.site_of(caller, form.flags, form.name, parent);
+        let asked = request_of(self.last_request + 1, form.flags, request);
+        let entrance = entrance(&self.store, &site.key, &asked);
+        Entry {
+            row: row_of(self.last_lkid + 1, caller.pid, form.parent, asked),
+            owner: caller.at,
+            parent: lock_of(parent),
+            site,
+            serial: self.last_serial + 1,
+            res: entrance.res,
+            at_once: entrance.at_once,
+        }
+    }
+
+    // The lock enters its resource, with all that becomes of its status block, and the numbers that it took are used
+    // up. Where memory for it, or for the ASTs of the routines that are named, is refused, nothing is changed but that
+    // there may be more room.
+    fn enq_change(
+        &mut self,
+        request: &NewRequest,
+        admitted: &AdmittedRequest,
+    ) -> Result<ResAt, AllocError>
+        requires admitted { IsAdmitted self.old request.now admitted.now }
+        requires between { IsBetweenSteps (plain_state self.old) }
+        ensures change { OnOk result
+            (plain_state self.new ≡ enq_change (plain_state self.old) request.now) }
+        ensures others { IfOk result (λ res. OthersStay res self.old.records self.new.records) }
+        ensures there { IfOk result (λ res. HasResource res self.new.records) }
+        ensures succeeds { HasRoomToEnter admitted.now.entry self.old.records → IsOk result }
+        ensures state { OnErr result (plain_state self.new ≡ plain_state self.old) }
+        ensures unchanged { OnErr result (IsUnchanged self.old.records self.new.records) }
+    {
+        let entry = &admitted.entry;
+        let res = enter(&mut self.store, entry)?;
+        self.last_lkid += 1;
+        self.last_request += 1;
+        self.last_serial = last_given(self.last_serial, entry);
+        Ok(res)
+    }
+}
+
+// The flags, or BADPARAM where one of them is unknown.
+#[tactic(auto, unfolding(vlm_words::specs::Enqueue::enq_flags_refusal))]
+fn checked_flags(request: &NewRequest) -> Result<EnqFlags, Cond>
+    ensures refusal { result_err result ≡ enq_flags_refusal request.now }
+    ensures flags { IfOk result (λ flags. flag_bits flags ≡ request.now.flags) }
+{
+    enq_flags(request.flags).ok_or(Cond::Badparam)
+}
+
+// The name that is given, or IVBUFLEN.
+#[tactic(auto, unfolding(vlm_words::specs::Enqueue::name_refusal, vlm_words::specs::Names::name_of))]
+fn checked_name(name: &NameArg) -> Result<Name, Cond>
+    ensures refusal { result_err result ≡ name_refusal name.now }
+    ensures name { IfOk result (λ n. n ≡ name.now) }
+{
+    name.name()
+}
+
+// UNSUPPORTED where EXPEDITE goes with another mode than NL.
+#[tactic(auto, unfolding(vlm_words::specs::Enqueue::expedite_refusal))]
+fn check_expedite(mode: Mode, flags: EnqFlags) -> Result<(), Cond>
+    ensures { result_err result ≡ expedite_refusal (flag_bits flags) mode }
+{
+    if flags.has(EnqFlags::EXPEDITE) && !matches!(mode, Mode::Nl) {
+        Err(Cond::Unsupported)
+    } else {
+        Ok(())
+    }
+}
+
+fn request_of(number: u64, flags: EnqFlags, request: &NewRequest) -> Request
+    ensures { result ≡ record {
+      number = number;
+      mode = request.now.mode;
+      flags = flags;
+      block = request.now.block;
+      completion = request.now.ast;
+      blocking = request.now.bast;
+      param = request.now.param;
+    } }
+{
+    Request {
+        number,
+        mode: request.mode,
+        flags,
+        block: request.block,
+        completion: request.ast,
+        blocking: request.bast,
+        param: request.param,
+    }
+}
+
+fn row_of(lkid: u32, pid: u32, parent: u32, request: Request) -> Row
+    ensures { result ≡ record {
+      lkid = lkid;
+      pid = pid;
+      parent = parent;
+      held = None;
+      want = Some request;
+      armed = false;
+    } }
+{
+    Row {
+        lkid,
+        pid,
+        parent,
+        held: None,
+        want: Some(request),
+        armed: false,
+    }
+}

@@ -1,0 +1,172 @@
+//! The parent of a new request, and where its resource stands in the tree.
+
+ghost use Rattle.std.specs.Prelude.{◌≡◌, Some, IfOk};
+ghost use Rattle.std.specs.Option.{option_map};
+ghost use Rattle.std.specs.Result.{result_err};
+ghost use Rattle.vlm_words.specs.declared.resources.Site.{Site};
+ghost use Rattle.vlm_words.specs.Checks.{or_else};
+ghost use Rattle.vlm_words.specs.Flags.{flag_bits};
+ghost use Rattle.vlm_words.specs.Resources.{IsKeyed};
+ghost use Rattle.vlm_words.specs.Trees.{depth_refusal, parent_refusal, parent_resource, privilege_refusal, root_domain, site_below, site_refusal, waiting_refusal};
+ghost use Rattle.vlm_store.specs.Plain.{plain_resource};
+ghost use Rattle.vlm_store.specs.Records.{HasResource, StoredResource, resource_at};
+ghost use Rattle.vlm_locks.specs.Standing.{IsStanding};
+ghost use Rattle.vlm_machine.specs.Admissions.{IsCaller};
+ghost use Rattle.vlm_machine.specs.Between.{IsBetweenSteps};
+ghost use Rattle.vlm_machine.specs.Machine.{plain_state};
+ghost use Rattle.vlm_machine.specs.Parents.{IsParent, standing_lkid};
+
+use crate::processes::Caller;
+use crate::records::Machine;
+use vlm_locks::Standing;
+use vlm_procs::{group_of, has_syslck};
+use vlm_store::laws::law_records_are_sound;
+use vlm_store::{LockAt, ResAt};
+use vlm_words::conditions::Cond;
+use vlm_words::flags::EnqFlags;
+use vlm_words::names::Name;
+use vlm_words::resources::{Domain, Key, Queue, Site};
+
+// The lowest level at which a resource can stand.
+const LAST_LEVEL: u8 = 15;
+
+/// The handle of the parent lock, if there is one.
+pub(crate) fn lock_of(parent: &Option<Standing>) -> Option<LockAt>
+    ensures { result ≡ option_map (λ up. up.lock) parent.now }
+{
+    parent.map(|parent| parent.lock)
+}
+
+impl Machine {
+    /// The parent lock of a request, where it stands; none where 0 is named. IVLOCKID where the lock is
+    /// none of the caller, PARNOTGRANT where it waits, EXDEPTH where it stands on the lowest level,
+    /// NOSYSLCK where SYSTEM asks for a root and the caller has not the privilege.
+    #[tactic(auto, unfolding(vlm_words::specs::Trees::site_refusal))]
+    pub(crate) fn checked_site(
+        &self,
+        caller: &Caller,
+        flags: EnqFlags,
+        lkid: u32,
+    ) -> Result<Option<Standing>, Cond>
+        requires { IsCaller caller.now self.now.records }
+        ensures refusal { result_err result
+            ≡ site_refusal (plain_state self.now) caller.now.pid (flag_bits flags) lkid }
+        ensures parent { IfOk result
+            (λ parent. IsParent caller.now.pid parent self.now.records) }
+        ensures named { IfOk result (λ parent. standing_lkid parent ≡ lkid) }
+    {
+        let parent = self.checked_parent(caller, lkid)?;
+        self.check_privilege(caller, flags, lkid)?;
+        Ok(parent)
+    }
+
+    // The parent lock, where it stands; none where 0 is named.
+    #[tactic(auto, unfolding(vlm_words::specs::Trees::parent_refusal))]
+    fn checked_parent(&self, caller: &Caller, lkid: u32) -> Result<Option<Standing>, Cond>
+        ensures refusal { result_err result
+            ≡ parent_refusal (plain_state self.now) caller.now.pid lkid }
+        ensures parent { IfOk result
+            (λ parent. IsParent caller.now.pid parent self.now.records) }
+        ensures named { IfOk result (λ parent. standing_lkid parent ≡ lkid) }
+    {
+        law_records_are_sound(&self.store);
+        if lkid == 0 {
+            return Ok(None);
+        }
+        let parent = self.checked_lock(caller, lkid)?;
+        self.check_parent(&parent)?;
+        Ok(Some(parent))
+    }
+
+    // PARNOTGRANT where a parent waits, EXDEPTH where it stands on the lowest level.
+    fn check_parent(&self, parent: &Standing) -> Result<(), Cond>
+        requires { IsStanding parent.now self.now.records }
+        ensures refusal { (r : StoredResource)
+            → resource_at parent.now.res self.now.records.resources ≡ Some r
+            → result_err result ≡ or_else
+            (waiting_refusal parent.now.row.pid parent.now.row.lkid (Some (plain_resource r)))
+            (depth_refusal (Some (plain_resource r))) }
+    {
+        law_records_are_sound(&self.store);
+        match parent.queue {
+            Queue::Waiting => Err(Cond::Parnotgrant),
+            Queue::Granted | Queue::Conversion => self.check_depth(parent.res),
+        }
+    }
+
+    // EXDEPTH where a resource stands on the lowest level.
+    fn check_depth(&self, res: ResAt) -> Result<(), Cond>
+        requires { HasResource res self.now.records }
+        ensures { (r : StoredResource) → resource_at res self.now.records.resources ≡ Some r
+            → result_err result ≡ depth_refusal (Some (plain_resource r)) }
+    {
+        if self.store.resource_record(res).level < LAST_LEVEL {
+            Ok(())
+        } else {
+            Err(Cond::Exdepth)
+        }
+    }
+
+    // NOSYSLCK where SYSTEM asks for a root and the caller has not the privilege.
+    #[tactic(auto, unfolding(vlm_words::specs::Trees::privilege_refusal))]
+    fn check_privilege(&self, caller: &Caller, flags: EnqFlags, parent: u32) -> Result<(), Cond>
+        requires { IsCaller caller.now self.now.records }
+        ensures { result_err result
+            ≡ privilege_refusal (plain_state self.now) caller.now.pid (flag_bits flags) parent }
+    {
+        if parent == 0 && flags.has(EnqFlags::SYSTEM) && !has_syslck(&self.store, caller.at) {
+            Err(Cond::Nosyslck)
+        } else {
+            Ok(())
+        }
+    }
+
+    /// Where the resource of a request stands: below its parent resource, in the same domain and one
+    /// level lower, or as a root in the system's domain or in the group of the caller.
+    pub(crate) fn site_of(
+        &self,
+        caller: &Caller,
+        flags: EnqFlags,
+        name: Name,
+        parent: &Option<Standing>,
+    ) -> Site
+        requires caller { IsCaller caller.now self.now.records }
+        requires parent { IsParent caller.now.pid parent.now self.now.records }
+        requires between { IsBetweenSteps (plain_state self.now) }
+        ensures site { result
+            ≡ site_below (root_domain (plain_state self.now) caller.now.pid (flag_bits flags)) name
+            (parent_resource (plain_state self.now) caller.now.pid (standing_lkid parent.now)) }
+        ensures keyed { IsKeyed result.domain result.key }
+    {
+        match parent {
+            Some(parent) => {
+                let above = self.store.resource_record(parent.res);
+                Site {
+                    key: Key::Below(above.serial, name),
+                    domain: above.domain,
+                    level: above.level + 1,
+                }
+            }
+            None => {
+                let domain = self.root_domain(caller, flags);
+                Site {
+                    key: Key::Root(domain, name),
+                    domain,
+                    level: 0,
+                }
+            }
+        }
+    }
+
+    // The domain of a root.
+    fn root_domain(&self, caller: &Caller, flags: EnqFlags) -> Domain
+        requires { IsCaller caller.now self.now.records }
+        ensures { result ≡ root_domain (plain_state self.now) caller.now.pid (flag_bits flags) }
+    {
+        if flags.has(EnqFlags::SYSTEM) {
+            Domain::System
+        } else {
+            Domain::Group(group_of(&self.store, caller.at))
+        }
+    }
+}

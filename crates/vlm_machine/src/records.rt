@@ -1,0 +1,102 @@
+//! The machine of records, whose methods make the parts of a step.
+
+ghost use Rattle.std.specs.Prelude.{◌≡◌, [], ◌∷◌};
+ghost use Rattle.vlm_words.specs.State.{start};
+ghost use Rattle.vlm_words.specs.Stepped.{Outcome};
+ghost use Rattle.vlm_words.specs.Sweeps.{state_after_sweep};
+ghost use Rattle.vlm_store.specs.Records.{HasResource};
+ghost use Rattle.vlm_locks.specs.Sweeping.{AreSettledBut};
+ghost use Rattle.vlm_machine.specs.Between.{IsBetweenSteps};
+ghost use Rattle.vlm_machine.specs.Machine.{plain_state};
+ghost use Rattle.vlm_machine.specs.Notes.{HasRoomToNote, IsToSweep};
+
+use crate::nodes::{NODES, Node};
+use std::alloc::Global;
+use std::marker::Model;
+use vlm_locks::{Touch, Touched, sweep};
+use vlm_store::{ResAt, Store};
+use vlm_words::conditions::Cond;
+use vlm_words::steps::{Answer, Step};
+
+/// The machine, with its records under their handles.
+#[derive(Drop)]
+pub struct Machine {
+    // node k stands at k - 1
+    pub(crate) nodes: [Node; NODES],
+    /// The processes, the resources and their locks.
+    pub store: Store,
+    // how many identifications, request numbers and serials were given
+    pub(crate) last_lkid: u32,
+    pub(crate) last_request: u64,
+    pub(crate) last_serial: u32,
+}
+
+impl Model for Machine {
+    ghost use Rattle.vlm_machine.specs.Machine.{MachineState};
+
+    ghost Value = { MachineState };
+
+    ghost use Rattle.vlm_machine.specs.Machine.{HasRecordsAtRest, kept};
+
+    ghost view = { kept };
+
+    ghost invariant = { HasRecordsAtRest };
+}
+
+impl Machine {
+    /// A machine at its start. It takes no memory.
+    pub fn new(alloc: Global) -> Machine
+        ensures { plain_state result ≡ start }
+    {
+        Machine {
+            nodes: [Node::new(); NODES],
+            store: Store::new(alloc),
+            last_lkid: 0,
+            last_request: 0,
+            last_serial: 0,
+        }
+    }
+
+    /// Makes one step, of whichever kind. A kind that is not built yet answers BADPARAM.
+    pub fn step(&mut self, touched: &mut Touched, step: Step) -> Answer
+        requires between { IsBetweenSteps (plain_state self.old) }
+        requires notes { HasRoomToNote touched.old self.old }
+        ensures outcome { Outcome (plain_state self.old) step (plain_state self.new) result }
+        ensures notes { HasRoomToNote touched.new self.new }
+    {
+        match step {
+            Step::Declare(declaration) => self.declare(declaration),
+            Step::SetValue(setting) => self.set_value(setting),
+            Step::Enq(request) => self.enq(touched, request),
+            Step::Convert(conversion) => self.convert(conversion),
+            Step::Deq(dequeue) => self.deq(touched, dequeue),
+            Step::Rundown(pid) => self.rundown(touched, pid),
+            Step::Leave(node) => self.leave(touched, node),
+            Step::Search(_) => Answer::Plain(Cond::Badparam),
+            Step::Take(pid) => self.take(pid),
+        }
+    }
+
+    /// Ends a step that touched one resource: what is queued there is granted as far as it can be, and it
+    /// goes if no lock is left on it. On the others nothing is to be done.
+    pub(crate) fn sweep(&mut self, res: ResAt)
+        requires there { HasResource res self.old.records }
+        requires settled { AreSettledBut (res ∷ []) self.old.records.resources }
+        ensures { plain_state self.new ≡ state_after_sweep (plain_state self.old) }
+    {
+        let touch = Touch::of(&self.store, res);
+        sweep(&mut self.store, &[touch]);
+    }
+
+    /// Ends a step that touched the resources that are noted, in the order of their making, and forgets the notes.
+    pub(crate) fn sweep_touched(&mut self, touched: &mut Touched)
+        requires { IsToSweep touched.old self.old }
+        ensures swept { plain_state self.new ≡ state_after_sweep (plain_state self.old) }
+        ensures none { touched.new.noted ≡ [] }
+        ensures room { touched.new.room ≡ touched.old.room }
+    {
+        touched.in_order();
+        sweep(&mut self.store, touched.touches());
+        touched.clear();
+    }
+}
