@@ -12,3 +12,4 @@ pub mod AbortedInOrder
 pub mod Departing
 pub mod EndedProcesses
 pub mod Happened
+pub mod Circles

@@ -9,3 +9,4 @@ pub mod TakenBelow
 pub mod Departing
 pub mod EndedProcesses
 pub mod Happened
+pub mod Circles
