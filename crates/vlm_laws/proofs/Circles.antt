@@ -1,8 +1,8 @@
 -- Who waits in a circle is who is deadlocked.
-use Rattle.std.proofs.Common.{◌≡◌, ◌≤◌, ◌⊎◌, ℕ, Bool, true, false, inl, inr, List, [], ◌∷◌, ◌++◌, Option, None, Some, refl, sym, ap, subst, ◌∙◌, arith}
-use Rattle.std.specs.Prelude.{Any}
+use Rattle.std.proofs.Common.{◌≡◌, ◌≤◌, ◌⊎◌, ℕ, Bool, true, false, inl, inr, List, [], ◌∷◌, ◌++◌, cond, Option, None, Some, refl, sym, ap, subst, ◌∙◌, arith}
+use Rattle.std.specs.Prelude.{◌==◌, Any}
 use Rattle.std.specs.Option.{option_map_or}
-use Rattle.std.specs.List.{AllByRecursion}
+use Rattle.std.specs.List.{flat_map, AllByRecursion}
 use Rattle.std.proofs.lemmas.List.{map-id}
 use Rattle.vlm_words.specs.declared.conditions.Cond.{Cond}
 use Rattle.vlm_words.specs.declared.locks.Request.{Request}
@@ -12,9 +12,15 @@ use Rattle.vlm_words.specs.declared.steps.Answer.TheVariants.{Victim}
 use Rattle.vlm_words.specs.declared.steps.Step.TheVariants.{Search}
 use Rattle.vlm_words.specs.Modes.{is_compatible}
 use Rattle.vlm_words.specs.State.{Resource, State}
+use Rattle.vlm_words.specs.Endings.{Ending, row_endings, wanted_endings}
+use Rattle.vlm_words.specs.Endings.How.{by_deadlock}
+use Rattle.vlm_words.specs.Rows.{rows_of}
+use Rattle.vlm_words.specs.Withdrawals.{queue_endings, withdrawal_endings}
+use Rattle.vlm_words.specs.Sweeps.{sweep_endings}
+use Rattle.std.proofs.lemmas.Bool.{eq-eqb}
 use Rattle.vlm_words.specs.Laws.{IsBeside}
 use Rattle.vlm_words.specs.Deadlocks.{BlocksThoseBehind, HoldsAgainst, IsDeadlocked, IsVictim, KeepsWaiting, LeadsTo, ProcessWaitsFor, StandsBefore, WaitsFor, WaitsOn, queue_of, wanted_number}
-use Rattle.vlm_words.specs.Search.{IsSearchedFor, search_change, search_refusal}
+use Rattle.vlm_words.specs.Search.{IsSearchedFor, deadlock_of, search_change, search_endings, search_refusal}
 use Rattle.vlm_words.specs.Settled.{IsSettled, IsUnswept}
 use Rattle.vlm_words.specs.Stepped.{IsChoice, refused_or, step_change, stepped, stepped_after_sweep}
 use Rattle.vlm_words.specs.Runs.{History, Run}
@@ -303,6 +309,69 @@ no_later row other less first later wants wanted =
     number : Option Request → ℕ
     number want = option_map_or (λ request. request.number) want 0
 
+-- of what ends on a list of rows, or of resources, some is so where it is so of what ends on one of them
+in_all : {X : Type 0} {Y : Type 0} (P : Y → Type 0) (f : X → List Y) (xs : List X) → Any (λ x. Any P (f x)) xs → Any P (flat_map f xs)
+in_all P f [] any = absurd (Any-none (λ x. Any P (f x)) any)
+in_all P f (x ∷ xs) any =
+    elim (Any-cases (λ y. Any P (f y)) x xs any) [
+      | inl here ↦ any_left P (f x) (flat_map f xs) here
+      | inr there ↦ Any-behind P (f x) (flat_map f xs) (in_all P f xs there)
+    ]
+
+-- the row is among those of its lock
+in_its_rows : (row : Row) (rows : List Row) → IsOneOf rows row → IsOneOf (rows_of row.lkid rows) row
+in_its_rows row [] one = one
+in_its_rows row (first ∷ rows) one =
+    elim (Any-cases (λ other. other ≡ row) first rows one) [
+      | inl here ↦
+          (let named : (first.lkid == row.lkid) ≡ true = eq-eqb first.lkid row.lkid (ap (λ (x : Row). x.lkid) here) in
+          rw named (Any-here (λ other. other ≡ row) first (rows_of row.lkid rows) here))
+      | inr there ↦ of_test (first.lkid == row.lkid) (in_its_rows row rows there)
+    ]
+  where
+    of_test : (b : Bool) → IsOneOf (rows_of row.lkid rows) row → IsOneOf (cond b (first ∷ rows_of row.lkid rows) (rows_of row.lkid rows)) row
+    of_test true behind = Any-there (λ other. other ≡ row) first (rows_of row.lkid rows) behind
+    of_test false behind = behind
+
+-- the end is that of the row, by deadlock
+abbrev IsItsDeadlock : Row → Ending → Type 0
+IsItsDeadlock row ending = (ending.how ≡ by_deadlock) × (ending.lkid ≡ row.lkid) × (Some ending.request ≡ row.want)
+
+row_ends : (row : Row) (request : Request) → row.want ≡ Some request → Any (IsItsDeadlock row) (row_endings by_deadlock false row)
+row_ends row request wants = of_want row.want wants refl
+  where
+    of_want : (want : Option Request) → want ≡ Some request → row.want ≡ want → Any (IsItsDeadlock row) (wanted_endings by_deadlock false row.lkid row.pid want)
+    of_want None is same = cc
+    of_want (Some wanted) is same = Any-here (IsItsDeadlock row) _ [] (refl, refl, sym same)
+
+queue_ends : (row : Row) (request : Request) → row.want ≡ Some request → (rows : List Row) → IsOneOf rows row
+    → Any (IsItsDeadlock row) (queue_endings by_deadlock row.lkid rows)
+queue_ends row request wants rows one =
+    in_all (IsItsDeadlock row) (row_endings by_deadlock false) (rows_of row.lkid rows)
+    (Any-weaker (λ other. other ≡ row) (λ other. Any (IsItsDeadlock row) (row_endings by_deadlock false other))
+    (λ other same. subst (λ (x : Row). Any (IsItsDeadlock row) (row_endings by_deadlock false x)) (sym same) (row_ends row request wants))
+    (rows_of row.lkid rows) (in_its_rows row rows one))
+
+-- on the resource where it is queued
+victim_ends_on : (row lock : Row) (r : Resource) → WaitsOn r row lock → Any (IsItsDeadlock row) (withdrawal_endings (deadlock_of row.lkid) r)
+victim_ends_on row lock r waits =
+    elim (in_either (λ other. other ≡ row) r.converting r.waiting waits.queued) [
+      | inl converts ↦
+          any_left (IsItsDeadlock row) (queue_endings by_deadlock row.lkid r.converting) (queue_endings by_deadlock row.lkid r.waiting)
+          (queue_ends row waits.request waits.wanted r.converting converts)
+      | inr waiting ↦
+          Any-behind (IsItsDeadlock row) (queue_endings by_deadlock row.lkid r.converting) (queue_endings by_deadlock row.lkid r.waiting)
+          (queue_ends row waits.request waits.wanted r.waiting waiting)
+    ]
+
+-- a victim's request ends by deadlock
+victim_ends : (s : State) (victim : Row) → IsDeadlocked s victim → Any (IsItsDeadlock victim) (search_endings s (Some victim))
+victim_ends s victim deadlocked =
+    any_left (IsItsDeadlock victim) (flat_map (withdrawal_endings (deadlock_of victim.lkid)) s.resources) []
+    (in_all (IsItsDeadlock victim) (withdrawal_endings (deadlock_of victim.lkid)) s.resources
+    (Any-weaker (λ r. WaitsOn r victim deadlocked.lock) (λ r. Any (IsItsDeadlock victim) (withdrawal_endings (deadlock_of victim.lkid) r))
+    (λ r. victim_ends_on victim deadlocked.lock r) s.resources deadlocked.waits))
+
 finds : (s : State) (node : ℕ) (choice : Option Row) → AllByRecursion IsSettled s.resources → IsVictim s choice → (lkid : Option ℕ)
     → (step_change s (Search node) choice).answer ≡ Victim lkid
     → FindsWhoIsCaught s (stepped_after_sweep (step_change s (Search node) choice)) lkid
@@ -314,6 +383,9 @@ finds s node (Some victim) settled deadlocked (Some lkid) answered = record {
   lock = same_lkid answered;
   caught = is_caught s victim deadlocked.0;
   last = λ other caught. no_later other victim (deadlocked.1 other (is_deadlocked s other caught));
+  ended =
+      any_left (IsItsDeadlock victim) (search_endings s (Some victim)) (sweep_endings (search_change s (Some victim)).resources)
+      (victim_ends s victim deadlocked.0);
 }
   where
     same_lkid : Victim (Some victim.lkid) ≡ Victim (Some lkid) → victim.lkid ≡ lkid

@@ -5,6 +5,8 @@ use Rattle.vlm_words.specs.declared.locks.Row.{Row}
 use Rattle.vlm_words.specs.declared.modes.Mode.{Mode}
 use Rattle.vlm_words.specs.Flags.{flag_bits, has_flag, nodlckblk, nodlckwt}
 use Rattle.vlm_words.specs.State.{Resource, State}
+use Rattle.vlm_words.specs.Endings.{Ending}
+use Rattle.vlm_words.specs.Endings.How.{by_deadlock}
 use Rattle.vlm_words.specs.Laws.{IsBeside}
 use Rattle.vlm_words.specs.Stepped.{Stepped}
 
@@ -80,12 +82,18 @@ abbrev pub IsNoLater : Row → Row → Type 0
 IsNoLater row other =
     (first later : Request) → row.want ≡ Some first → other.want ≡ Some later → first.number ≤ later.number
 
--- the lock's request is caught, and no request that is caught was accepted later
-pub record IsCaughtLast (s : State) (lkid : ℕ) : Type 0 where
+-- the request of the row ends by deadlock
+abbrev pub EndsByDeadlock : Row → List Ending → Type 0
+EndsByDeadlock row endings =
+    Any (λ ending. (ending.how ≡ by_deadlock) × (ending.lkid ≡ row.lkid) × (Some ending.request ≡ row.want)) endings
+
+-- the lock's request is caught, no request that is caught was accepted later, and it ends by deadlock
+pub record IsCaughtLast (s : State) (made : Stepped) (lkid : ℕ) : Type 0 where
   pub row : Row
   pub lock : row.lkid ≡ lkid
   pub caught : IsCaught s row
   pub last : (other : Row) → IsCaught s other → IsNoLater other row
+  pub ended : EndsByDeadlock row made.endings
 
 -- nothing is changed, no request ends, and nothing is queued
 pub record LeavesAll (s : State) (made : Stepped) : Type 0 where
@@ -93,8 +101,8 @@ pub record LeavesAll (s : State) (made : Stepped) : Type 0 where
   pub none_ends : made.endings ≡ []
   pub none_queued : made.queued ≡ []
 
--- what a search finds that answers this lock, or none: a request that is caught, and the last of them; or that nobody
--- waits in a circle, and then it leaves all as it was
+-- what a search finds that answers this lock, or none: a request that is caught, the last of them, which it ends; or that
+-- nobody waits in a circle, and then it leaves all as it was
 abbrev pub FindsWhoIsCaught : State → Stepped → Option ℕ → Type 0
 FindsWhoIsCaught s made None = NobodyWaitsInACircle s × LeavesAll s made
-FindsWhoIsCaught s made (Some lkid) = IsCaughtLast s lkid
+FindsWhoIsCaught s made (Some lkid) = IsCaughtLast s made lkid

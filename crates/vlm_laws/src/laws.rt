@@ -139,8 +139,8 @@ pub fn law_a_dequeue_of_all_aborts_by_rising_identification()
 
 /// A search that answers no lock finds that nobody waits in a circle: there is no list of processes in which each waits for
 /// the next and the last for the first; and it changes nothing, ends no request and queues nothing. One that answers a
-/// lock finds its request caught, which waits for a lock from whose owner the waiting comes back to its own process,
-/// and no request that is caught was accepted later.
+/// lock ends its request by deadlock, and finds it caught: it waits for a lock from whose owner the waiting comes back to
+/// its own process. No request that is caught was accepted later.
 pub fn law_a_search_finds_who_is_caught()
     ensures { (history : History) (old : State) → Run history old
         → (node : ℕ) (choice : Option Row) → IsChoice old (Search node) choice
