@@ -12,4 +12,3 @@ pub mod AbortedInOrder
 pub mod Departing
 pub mod EndedProcesses
 pub mod Happened
-pub mod Circles

@@ -9,4 +9,3 @@ pub mod TakenBelow
 pub mod Departing
 pub mod EndedProcesses
 pub mod Happened
-pub mod Circles

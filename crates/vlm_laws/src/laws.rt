@@ -1,12 +1,12 @@
 //! What holds of the ASTs of every run of the plain machine. The functions do nothing, but that some call a law that
 //! they rest on: their contracts are the laws.
 
-ghost use Rattle.std.specs.Prelude.{◌≡◌, ℕ, true, Option};
+ghost use Rattle.std.specs.Prelude.{◌≡◌, true, Option};
 ghost use Rattle.vlm_words.specs.declared.locks.Row.{Row};
 ghost use Rattle.vlm_words.specs.declared.conditions.Cond.TheVariants.{Normal};
-ghost use Rattle.vlm_words.specs.declared.steps.Answer.TheVariants.{Plain, Victim};
+ghost use Rattle.vlm_words.specs.declared.steps.Answer.TheVariants.{Plain};
 ghost use Rattle.vlm_words.specs.declared.steps.Dequeue.{Dequeue};
-ghost use Rattle.vlm_words.specs.declared.steps.Step.TheVariants.{Deq, Search};
+ghost use Rattle.vlm_words.specs.declared.steps.Step.TheVariants.{Deq};
 ghost use Rattle.vlm_words.specs.declared.steps.Step.{Step};
 ghost use Rattle.vlm_words.specs.Flags.{deqall, has_flag};
 ghost use Rattle.vlm_words.specs.State.{State};
@@ -21,7 +21,6 @@ ghost use Rattle.vlm_laws.specs.Raising.{NoMoreIsQueuedThanNamed, OnlyOwnRequest
 ghost use Rattle.vlm_laws.specs.Warning.{WarningsAreOfGrants};
 ghost use Rattle.vlm_laws.specs.WarnedOnce.{EachGrantIsWarnedAtMostOnce};
 ghost use Rattle.vlm_laws.specs.InTheWay.{WarnedLocksAreInTheWay};
-ghost use Rattle.vlm_laws.specs.Circles.{FindsWhoIsCaught};
 ghost use Rattle.vlm_laws.specs.TakenBelow.{AbortsByRisingIdentification, TakesThoseBelowAlone};
 
 use vlm_words::laws::law_asts_are_taken_in_order;
@@ -135,15 +134,4 @@ pub fn law_a_dequeue_of_all_aborts_by_rising_identification()
         → (d : Dequeue) (choice : Option Row) → has_flag d.flags deqall ≡ true
         → (stepped old (Deq d) choice).answer ≡ Plain Normal
         → AbortsByRisingIdentification old d choice }
-{}
-
-/// A search that answers no lock finds that nobody waits in a circle: there is no list of processes in which each waits for
-/// the next and the last for the first; and it changes nothing, ends no request and queues nothing. One that answers a
-/// lock ends its request by deadlock, and finds it caught: it waits for a lock from whose owner the waiting comes back to
-/// its own process. No request that is caught was accepted later.
-pub fn law_a_search_finds_who_is_caught()
-    ensures { (history : History) (old : State) → Run history old
-        → (node : ℕ) (choice : Option Row) → IsChoice old (Search node) choice
-        → (lkid : Option ℕ) → (stepped old (Search node) choice).answer ≡ Victim lkid
-        → FindsWhoIsCaught old (stepped old (Search node) choice) lkid }
 {}

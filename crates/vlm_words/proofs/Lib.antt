@@ -62,3 +62,4 @@ pub mod SweptValues
 pub mod Writers
 pub mod Returning
 pub mod Returned
+mod Circles

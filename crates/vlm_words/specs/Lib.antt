@@ -47,3 +47,4 @@ pub mod Standing
 pub mod Writers
 pub mod Returned
 pub mod Settled
+pub mod Circles

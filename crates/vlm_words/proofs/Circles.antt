@@ -26,7 +26,7 @@ use Rattle.vlm_words.specs.Stepped.{IsChoice, refused_or, step_change, stepped, 
 use Rattle.vlm_words.specs.Runs.{History, Run}
 use Rattle.vlm_words.proofs.Each.{Any-behind, Any-cases, Any-here, Any-none, Any-there, Any-weaker, any_left}
 use Rattle.vlm_words.proofs.Settled.{settled_law, unswept}
-use Rattle.vlm_laws.specs.Circles.{ComesBackTo, ComesBefore, FindsWhoIsCaught, IsAheadOf, IsBlocked, IsBlockedBy, IsCaught, IsHeldUpBy, IsNoLater, IsOneOf, IsWaitedFor, KeepsOut, LeavesAll, NobodyWaitsInACircle, WaitsOnTo}
+use Rattle.vlm_words.specs.Circles.{ComesBackTo, ComesBefore, FindsWhoIsCaught, IsAheadOf, IsBlocked, IsBlockedBy, IsCaught, IsHeldUpBy, IsNoLater, IsOneOf, IsWaitedFor, KeepsOut, LeavesAll, NobodyWaitsInACircle, WaitsOnTo}
 
 -- ---- queues
 
