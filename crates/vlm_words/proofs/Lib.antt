@@ -61,3 +61,4 @@ pub mod SweptValues
 pub mod Writers
 pub mod Returning
 pub mod Returned
+mod Circles

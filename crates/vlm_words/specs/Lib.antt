@@ -46,3 +46,4 @@ pub mod Standing
 pub mod Writers
 pub mod Returned
 pub mod Settled
+pub mod Circles

@@ -1,16 +1,19 @@
 //! What holds after every legal run of the plain machine. The functions do nothing: their contracts
 //! are the laws.
 
-ghost use Rattle.std.specs.Prelude.{◌≡◌, List, None, Option};
+ghost use Rattle.std.specs.Prelude.{◌≡◌, ℕ, List, None, Option};
 ghost use Rattle.std.specs.List.{AllByRecursion};
 ghost use Rattle.vlm_words.specs.declared.locks.Row.{Row};
+ghost use Rattle.vlm_words.specs.declared.steps.Answer.TheVariants.{Victim};
+ghost use Rattle.vlm_words.specs.declared.steps.Step.TheVariants.{Search};
 ghost use Rattle.vlm_words.specs.declared.steps.Step.{Step};
 ghost use Rattle.vlm_words.specs.State.{Process, Resource, State};
 ghost use Rattle.vlm_words.specs.Settled.{IsSettled, IsSweptNext, IsUnswept};
 ghost use Rattle.vlm_words.specs.Runs.{History, Run};
-ghost use Rattle.vlm_words.specs.Stepped.{IsChoice, step_refusal};
+ghost use Rattle.vlm_words.specs.Stepped.{IsChoice, step_refusal, stepped};
 ghost use Rattle.vlm_words.specs.Granted.{NoGrantIsHidden};
 ghost use Rattle.vlm_words.specs.Joining.{ChangesKeepOrder};
+ghost use Rattle.vlm_words.specs.Circles.{FindsWhoIsCaught};
 ghost use Rattle.vlm_words.specs.Owners.{OthersAreLeftAlone};
 ghost use Rattle.vlm_words.specs.Numbers.{NumbersAreGivenOnce};
 ghost use Rattle.vlm_words.specs.Pending.{ProcessesRise};
@@ -239,4 +242,15 @@ pub fn law_a_grant_returns_the_value_block()
     ensures { (history : History) (old : State) → Run history old
         → (step : Step) (choice : Option Row)
         → IsChoice old step choice → GrantsReturnValues old step choice }
+{}
+
+/// A search that answers no lock finds that nobody waits in a circle: there is no list of processes in which each waits for
+/// the next and the last for the first; and it changes nothing, ends no request and queues nothing. One that answers a
+/// lock ends its request by deadlock, and finds it caught: it waits for a lock from whose owner the waiting comes back to
+/// its own process. No request that is caught was accepted later.
+pub fn law_a_search_finds_who_is_caught()
+    ensures { (history : History) (old : State) → Run history old
+        → (node : ℕ) (choice : Option Row) → IsChoice old (Search node) choice
+        → (lkid : Option ℕ) → (stepped old (Search node) choice).answer ≡ Victim lkid
+        → FindsWhoIsCaught old (stepped old (Search node) choice) lkid }
 {}
