@@ -10,3 +10,4 @@ pub mod Departing
 pub mod EndedProcesses
 pub mod Happened
 pub mod Privileges
+pub mod Owners

@@ -12,6 +12,7 @@ ghost use Rattle.vlm_words.specs.Flags.{deqall, has_flag};
 ghost use Rattle.vlm_words.specs.State.{State};
 ghost use Rattle.vlm_words.specs.Runs.{History, Run};
 ghost use Rattle.vlm_words.specs.Stepped.{IsChoice, stepped};
+ghost use Rattle.vlm_laws.specs.Owners.{OthersAreLeftAlone};
 ghost use Rattle.vlm_laws.specs.Privileges.{SystemRootsArePrivileged};
 ghost use Rattle.vlm_laws.specs.Accounting.{WhatIsQueuedIsTakenOrPending};
 ghost use Rattle.vlm_laws.specs.Anew.{GivesNoneTwice};
@@ -144,4 +145,12 @@ pub fn law_system_roots_are_privileged()
     ensures { (history : History) (old : State) → Run history old
         → (step : Step) (choice : Option Row)
         → IsChoice old step choice → SystemRootsArePrivileged old step choice }
+{}
+
+/// A step leaves the requests and locks of other processes alone: what it ends but by a grant is of its caller, or of
+/// a process of the node that departs, and so is each lock that leaves.
+pub fn law_others_are_left_alone()
+    ensures { (history : History) (old : State) → Run history old
+        → (step : Step) (choice : Option Row) → IsChoice old step choice
+        → OthersAreLeftAlone old step choice }
 {}

@@ -6,19 +6,19 @@ use Rattle.vlm_words.specs.declared.steps.Answer.{Answer}
 use Rattle.vlm_words.specs.declared.steps.Step.{Step}
 use Rattle.vlm_words.specs.Settled.{IsSettled}
 use Rattle.vlm_words.specs.State.{State}
-use Rattle.vlm_words.specs.Stepped.{Outcome, Stepped, refused_or, step_change, step_refusal, stepped, stepped_after_sweep}
+use Rattle.vlm_words.specs.Stepped.{IsChoice, Outcome, Stepped, refused_or, step_change, step_refusal, stepped, stepped_after_sweep}
 use Rattle.vlm_words.specs.Sweeps.{state_after_sweep}
 use Rattle.vlm_machine.proofs.Settling.{unswept}
 
 -- the step is made where its change is swept, and its answer given
-pub made_swept : (s new : State) (step : Step) (answer : Answer) → None ≡ step_refusal s step → new ≡ state_after_sweep (step_change s step None).state
+pub made_swept : (s new : State) (step : Step) (answer : Answer) → IsChoice s step None → None ≡ step_refusal s step → new ≡ state_after_sweep (step_change s step None).state
     → answer ≡ (step_change s step None).answer → Outcome s step new answer
-made_swept s new step answer passed state answered =
+made_swept s new step answer chosen passed state answered =
     let made : stepped s step None ≡ stepped_after_sweep (step_change s step None) = ap (λ (refusal : Option Cond). refused_or refusal s (step_change s step None)) (sym passed) in
-    inl (record { choice = None; chosen = refl; state = state ∙ sym (ap (λ (t : Stepped). t.state) made); answered = answered ∙ sym (ap (λ (t : Stepped). t.answer) made) })
+    inl (record { choice = None; chosen = chosen; state = state ∙ sym (ap (λ (t : Stepped). t.state) made); answered = answered ∙ sym (ap (λ (t : Stepped). t.answer) made) })
 
 -- a change that leaves nothing to sweep is the whole step
-pub made_unswept : (s new : State) (step : Step) (answer : Answer) → None ≡ step_refusal s step → AllByRecursion IsSettled (step_change s step None).state.resources
+pub made_unswept : (s new : State) (step : Step) (answer : Answer) → IsChoice s step None → None ≡ step_refusal s step → AllByRecursion IsSettled (step_change s step None).state.resources
     → new ≡ (step_change s step None).state → answer ≡ (step_change s step None).answer → Outcome s step new answer
-made_unswept s new step answer passed settled state answered =
-    made_swept s new step answer passed (state ∙ sym (unswept (step_change s step None).state settled)) answered
+made_unswept s new step answer chosen passed settled state answered =
+    made_swept s new step answer chosen passed (state ∙ sym (unswept (step_change s step None).state settled)) answered

@@ -38,7 +38,6 @@ pub mod Below
 pub mod Closed
 pub mod Trees
 pub mod WhoseLocks
-pub mod Owners
 pub mod Numbers
 pub mod FlagBits
 pub mod Refusals

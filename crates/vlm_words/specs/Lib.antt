@@ -36,7 +36,6 @@ pub mod Runs
 pub mod Laws
 pub mod Granted
 pub mod Joining
-pub mod Owners
 pub mod Numbers
 pub mod Reasons
 pub mod Queued

@@ -14,7 +14,6 @@ ghost use Rattle.vlm_words.specs.Stepped.{IsChoice, step_refusal, stepped};
 ghost use Rattle.vlm_words.specs.Granted.{NoGrantIsHidden};
 ghost use Rattle.vlm_words.specs.Joining.{ChangesKeepOrder};
 ghost use Rattle.vlm_words.specs.Circles.{FindsWhoIsCaught};
-ghost use Rattle.vlm_words.specs.Owners.{OthersAreLeftAlone};
 ghost use Rattle.vlm_words.specs.Numbers.{NumbersAreGivenOnce};
 ghost use Rattle.vlm_words.specs.Pending.{ProcessesRise};
 ghost use Rattle.vlm_words.specs.Queued.{NoqueueIsKept};
@@ -132,14 +131,6 @@ pub fn law_changes_keep_the_order_of_queues()
     ensures { (history : History) (old : State) → Run history old
         → (step : Step) (choice : Option Row) → IsChoice old step choice
         → step_refusal old step ≡ None → ChangesKeepOrder old step choice }
-{}
-
-/// A step leaves the requests and locks of other processes alone: what it ends but by a grant is of its caller, or of
-/// a process of the node that departs, and so is each lock that leaves.
-pub fn law_others_are_left_alone()
-    ensures { (history : History) (old : State) → Run history old
-        → (step : Step) (choice : Option Row) → IsChoice old step choice
-        → OthersAreLeftAlone old step choice }
 {}
 
 /// A conversion that the table of value blocks lets write, by its held and its wanted mode, and that is

@@ -1,4 +1,4 @@
-use Rattle.std.proofs.Common.{ap}
+use Rattle.std.proofs.Common.{ap, refl}
 use Rattle.vlm_words.specs.declared.steps.Answer.TheVariants.{Process as process_answer}
 use Rattle.vlm_words.specs.declared.steps.Step.TheVariants.{Declare}
 use Rattle.vlm_words.specs.Declare.{declare_change}
@@ -14,5 +14,5 @@ declare_change-requires-clause-new c =
 pub returns-in-Ok : goal.returns-in-Ok
 unfolding declare_change
 returns-in-Ok c =
-    made_unswept (plain_state c.args.self.now) (plain_state c.declare_change.new.self) (Declare c.args.declaration) (process_answer c.in-Ok.pid) c.in_default.ensures.refusal
+    made_unswept (plain_state c.args.self.now) (plain_state c.declare_change.new.self) (Declare c.args.declaration) (process_answer c.in-Ok.pid) refl c.in_default.ensures.refusal
     c.requires.settled c.in-Ok.ensures.change (ap process_answer c.in-Ok.ensures.pid)

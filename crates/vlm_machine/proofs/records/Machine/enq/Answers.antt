@@ -1,4 +1,4 @@
-use Rattle.std.proofs.Common.{◌≡◌, ap, sym, arith, ◌∙◌}
+use Rattle.std.proofs.Common.{◌≡◌, ap, sym, arith, ◌∙◌, refl}
 use Rattle.vlm_store.specs.Plain.{plain_resources}
 use Rattle.vlm_machine.specs.Machine.{MachineState}
 use Rattle.vlm_machine.specs.Notes.{locks_on}
@@ -25,7 +25,7 @@ returns-in-Ok-enq_change-clause-outcome c =
     let e = c.args.request in
     let a = c.in-Ok.admitted in
     let admitted = c.in-Ok.ensures.admitted in
-    made_swept s (plain_state c.sweep.new.self) (Enq e) (Lock a.answer a.entry.row.lkid) c.in-Ok.ensures.refusal
+    made_swept s (plain_state c.sweep.new.self) (Enq e) (Lock a.answer a.entry.row.lkid) refl c.in-Ok.ensures.refusal
     (c.sweep.ensures ∙ ap state_after_sweep c.in-Ok-enq_change.ensures.change)
     (ap (λ answer. Lock answer a.entry.row.lkid) admitted.answer
     ∙ ap (λ (row : Row). Lock (acceptance e.flags (enq_at_once s e)) row.lkid) admitted.entry.row)

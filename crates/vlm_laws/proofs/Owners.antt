@@ -37,7 +37,7 @@ use Rattle.vlm_words.specs.Enqueue.{enq_at_once, enq_change, enq_endings, enq_re
 use Rattle.vlm_words.specs.Convert.{ConversionAdmission, conversion_endings, convert_blocks, convert_change, convert_lkid, resource_after_conversion, resource_after_conversion_of, resource_without_granted, wanting_row}
 use Rattle.vlm_words.specs.Runs.{History, Run}
 use Rattle.vlm_words.specs.Stepped.{IsChoice, Stepped, conversion_change, refused_or, step_change, step_refusal, stepped_after_sweep}
-use Rattle.vlm_words.specs.Owners.{IsCaller, OthersAreLeftAlone}
+use Rattle.vlm_laws.specs.Owners.{IsCaller, OthersAreLeftAlone}
 use Rattle.vlm_words.proofs.Always.{admission_of}
 use Rattle.vlm_words.proofs.Apart.{Apart, apart_always, standing, stands}
 use Rattle.vlm_words.proofs.Each.{each_append, each_filter, each_map, each_weaker}
