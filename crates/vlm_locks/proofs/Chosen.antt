@@ -5,7 +5,7 @@ use Rattle.std.specs.List.{AllByRecursion}
 use Rattle.std.proofs.lemmas.Bool.{eqb-true, or_right}
 use Rattle.std.proofs.lemmas.List.{append_assoc}
 use Rattle.vlm_words.specs.declared.locks.Row.{Row}
-use Rattle.vlm_links.specs.Lists.{IsApart, IsIn, Spot, before_from, first_handle, last_from, last_handle, without}
+use Rattle.vlm_links.specs.Lists.{IsApart, IsIn, first_handle, last_handle, without}
 use Rattle.vlm_links.proofs.Walks.{last_handle-split}
 use Rattle.vlm_store.specs.Plain.{plain_resources}
 use Rattle.vlm_store.specs.Records.{Records}

@@ -1,7 +1,7 @@
 -- The rundown of a process, lock by lock.
 use Rattle.std.proofs.Common.{◌≡◌, ◌≤◌, ◌+◌, ◌==◌, ℕ, map, length, ◌<◌, ◌⊎◌, Bool, true, false, List, [], ◌∷◌, Option, None, Some, refl, sym, ap, ◌∙◌, subst, inl, inr, arith, ◌≢◌, ◌++◌, not, cond, eq-eqb, ne_eqb, flat_map, IsSome, IfSome}
 use Rattle.vlm_store.specs.Plain.{plain_processes, plain_resources, plain_resource}
-use Rattle.vlm_store.specs.Records.{IsProcess, IsSound, Records, AreProcessesApart, HasNoLocks, HasNoSublocks, IsStored, OwnLock, StoredLock, StoredProcess, StoredResource, Stores, own_at, own_handles_at, process_at, rows_of_locks, but_notices, locks_at, process_without_lock, without_lock, without_resource, AreResourcesApart, queued, resource_at, AreOwnApart}
+use Rattle.vlm_store.specs.Records.{IsProcess, IsSound, Records, HasNoLocks, HasNoSublocks, IsStored, OwnLock, StoredLock, StoredProcess, StoredResource, Stores, own_at, own_handles_at, process_at, rows_of_locks, but_notices, locks_at, process_without_lock, without_lock, without_resource, AreResourcesApart, queued, resource_at}
 use Rattle.vlm_locks.specs.Owing.{IsPaid}
 use Rattle.vlm_locks.specs.Rest.{IsAtRest, LeavesOthers}
 use Rattle.vlm_locks.specs.Left.{giving_up, resource_left}
