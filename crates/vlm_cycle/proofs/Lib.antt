@@ -1,0 +1,4 @@
+pub mod Marked
+pub mod Owned
+pub mod Searched
+pub mod Found
