@@ -57,6 +57,13 @@ marks_both P Q a b c first second = record {
 abbrev pub GoesOn : {X : Type 0} → (List X → ℕ → Type 0) → List X → List X → Scratch → Scratch → Type 0
 GoesOn P left all initial now = (final : Scratch) → Marks (P left) now final → Marks (P all) initial final
 
+-- one more is marked
+pub goes_step : {X : Type 0} (P : List X → ℕ → Type 0) (Q : ℕ → Type 0) (left rest all : List X) (initial now after : Scratch)
+    → ((pid : ℕ) → Q pid ⊎ P rest pid → P left pid) → ((pid : ℕ) → P left pid → Q pid ⊎ P rest pid)
+    → Marks Q now after → GoesOn P left all initial now → GoesOn P rest all initial after
+goes_step P Q left rest all initial now after to from marks goes final last =
+    goes final (marks_as (λ pid. Q pid ⊎ P rest pid) (P left) now final to from (marks_both Q (P rest) now after final marks last))
+
 -- room stays
 pub roomy_still : (s : Records) (a b : Scratch) → KeepsRoom a b → IsRoomy s a → IsRoomy s b
 roomy_still s a b keeps roomy p among = let was = roomy p among in (keeps p.process.pid was.0, was.1)
@@ -103,8 +110,8 @@ marked_node nodes pid is = of_test (is_node (pid / 65536)) refl
   where
     of_test : (b : Bool) → is_node (pid / 65536) ≡ b → IsOfNode pid
     of_test false isnt = let never : true ≡ false = sym is ∙ not_of_node nodes pid isnt in cc
-    of_test true yes =
-        let parts = and_parts (nat_le 1 (pid / 65536)) (nat_le (pid / 65536) 8) yes in
+    of_test true named =
+        let parts = and_parts (nat_le 1 (pid / 65536)) (nat_le (pid / 65536) 8) named in
         record { first = leb-true 1 (pid / 65536) parts.0; last = leb-true (pid / 65536) 8 parts.1 }
 
 -- so where no process of the nodes is marked, none is

@@ -10,7 +10,6 @@ use Rattle.vlm_links.specs.Lists.{IsIn}
 use Rattle.vlm_marks.specs.Nodes.{is_node}
 use Rattle.vlm_store.specs.Plain.{plain_resources}
 use Rattle.vlm_store.specs.Records.{Records, StoredProcess}
-use Rattle.vlm_queue.specs.Walks.{rows_queued}
 use Rattle.vlm_cycle.specs.declared.scratch.Scratch.{Scratch}
 use Rattle.vlm_cycle.specs.Marking.{HasRoom}
 
@@ -47,15 +46,14 @@ rows_before lkid (row ∷ rows) = if row.lkid == lkid then [] else row ∷ rows_
 abbrev pub OwnsBlocker : List Row → ℕ → Type 0
 OwnsBlocker rows pid = (row : Row) × (IsIn row rows × BlocksThoseBehind row.want × (row.pid ≡ pid))
 
--- the process owns a lock before this one, in its queue or in one that is before it, that those behind wait for
-abbrev pub OwnsBefore : ℕ → ℕ → Queue → Records → ℕ → Type 0
-OwnsBefore res lkid Granted s pid = ⊥
-OwnsBefore res lkid Conversion s pid = OwnsBlocker (rows_before lkid (rows_queued res Conversion s)) pid
-OwnsBefore res lkid Waiting s pid =
-    OwnsBlocker (rows_before lkid (rows_queued res Conversion s)) pid
-    ⊎ OwnsBlocker (rows_before lkid (rows_queued res Waiting s)) pid
+-- the process owns a lock before the one of this identification, in its queue or in one that is before it, that those
+-- behind wait for
+abbrev pub OwnsBefore : ℕ → Queue → List Row → List Row → ℕ → Type 0
+OwnsBefore lkid Granted converting waiting pid = ⊥
+OwnsBefore lkid Conversion converting waiting pid = OwnsBlocker (rows_before lkid converting) pid
+OwnsBefore lkid Waiting converting waiting pid = OwnsBlocker (rows_before lkid converting) pid ⊎ OwnsBlocker (rows_before lkid waiting) pid
 
--- the process owns a lock of the resource of this handle that keeps a request from being granted
-abbrev pub OwnsKeeper : ℕ → ℕ → Mode → Queue → Records → ℕ → Type 0
-OwnsKeeper res lkid mode queue s pid =
-    OwnsHolder lkid mode (rows_queued res Granted s) pid ⊎ OwnsHolder lkid mode (rows_queued res Conversion s) pid ⊎ OwnsBefore res lkid queue s pid
+-- the process owns a lock that keeps the request of the lock of this identification from being granted
+abbrev pub OwnsKeeper : ℕ → Mode → Queue → List Row → List Row → List Row → ℕ → Type 0
+OwnsKeeper lkid mode queue granted converting waiting pid =
+    OwnsHolder lkid mode granted pid ⊎ OwnsHolder lkid mode converting pid ⊎ OwnsBefore lkid queue converting waiting pid

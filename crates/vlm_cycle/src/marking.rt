@@ -2,6 +2,7 @@
 
 ghost use Rattle.std.specs.Prelude.{◌≡◌, ◌/◌, true};
 ghost use Rattle.vlm_words.specs.Deadlocks.{BlocksThoseBehind};
+ghost use Rattle.vlm_words.specs.declared.resources.Queue.{Queue};
 ghost use Rattle.vlm_marks.specs.Nodes.{is_node};
 ghost use Rattle.vlm_store.specs.Records.{HasResource};
 ghost use Rattle.vlm_queue.specs.Walks.{rows_queued};
@@ -89,7 +90,8 @@ fn find_blockers(store: &Store, scratch: &mut Scratch, res: ResAt, queue: Queue,
 fn find_those_before(store: &Store, scratch: &mut Scratch, res: ResAt, queue: Queue, lkid: u32)
     requires there { HasResource res store.now }
     requires roomy { IsRoomy store.now scratch.old }
-    ensures { Marks (OwnsBefore res lkid queue store.now) scratch.old scratch.new }
+    ensures { Marks (OwnsBefore lkid queue (rows_queued res Queue.Conversion store.now)
+        (rows_queued res Queue.Waiting store.now)) scratch.old scratch.new }
 {
     match queue {
         Queue::Granted => {}
@@ -112,7 +114,9 @@ fn find_keepers(
 )
     requires there { HasResource res store.now }
     requires roomy { IsRoomy store.now scratch.old }
-    ensures { Marks (OwnsKeeper res lkid mode queue store.now) scratch.old scratch.new }
+    ensures { Marks (OwnsKeeper lkid mode queue (rows_queued res Queue.Granted store.now)
+        (rows_queued res Queue.Conversion store.now) (rows_queued res Queue.Waiting store.now))
+        scratch.old scratch.new }
 {
     find_holders(store, scratch, res, Queue::Granted, lkid, mode);
     find_holders(store, scratch, res, Queue::Conversion, lkid, mode);
