@@ -68,8 +68,8 @@ not_dead s row best alive = record {
 }
   where
     of_best : (b : Option Standing) (x : Row) → (IsDeadlocked (searched s) x → ⊥) → IsCovered s b x
-    of_best None x alive_x dead = alive_x dead
-    of_best (Some b) x alive_x dead = absurd (alive_x dead)
+    of_best None x alive_x = alive_x
+    of_best (Some b) x alive_x = λ dead. absurd (alive_x dead)
 
 -- nor does one that was not made later
 pub not_later : (s : Records) (row : Row) (best : Option Standing) → IsNotLater row best → Improves s (row ∷ []) best best
@@ -83,8 +83,8 @@ not_later s row best earlier = record {
 }
   where
     of_best : (b : Option Standing) (x : Row) → IsNotLater x b → IsCovered s b x
-    of_best None x less dead = less
-    of_best (Some b) x less dead = less
+    of_best None x less = absurd less
+    of_best (Some b) x less = λ dead. less
 
 -- ---- resources
 
@@ -150,9 +150,8 @@ pub best_of_all : (s : Records) (best : Option Standing) → Improves s (flat_ma
 best_of_all s best improves = let fit = improves.fit (λ f is. cc) in record { victim = of_best best fit improves.covered; fit = fit }
   where
     of_best : (b : Option Standing) → IsFit s b → ((row : Row) → IsIn row (flat_map queue_of (plain_resources s)) → IsCovered s b row) → IsVictimOf s b
-    of_best None fit covered state same row dead =
-        let here = deadlocked_same state (searched s) same row dead in
-        covered row (dead_queued s row here) here
+    of_best None fit covered state same =
+        λ row dead. let here = deadlocked_same state (searched s) same row dead in covered row (dead_queued s row here) here
     of_best (Some b) fit covered state same = (
       deadlocked_same (searched s) state (sym same) b.row (fit b refl).1,
       λ row dead. let here = deadlocked_same state (searched s) same row dead in covered row (dead_queued s row here) here,

@@ -1,5 +1,6 @@
 -- What a search has found.
 use Rattle.std.proofs.Common.{◌≡◌, ◌⊎◌, ◌<◌, ◌≤◌, ℕ, Bool, true, false, List, [], ◌∷◌, ◌++◌, ◌+◌, Option, None, Some, refl, sym, ap, ◌∙◌, subst, inl, inr, arith}
+use Rattle.std.specs.Bool.{OnFalse}
 use Rattle.std.proofs.lemmas.Bool.{cases_eq}
 use Rattle.vlm_words.specs.declared.locks.Row.{Row}
 use Rattle.vlm_words.specs.Deadlocks.{IsDeadlocked, LeadsTo, ProcessWaitsFor, WaitsFor}
@@ -44,6 +45,7 @@ abbrev pub to_go : Scratch → List StoredProcess → ℕ
 to_go marks [] = 0
 to_go marks (p ∷ processes) = cost (is_marked marks.seen p.process.pid) (is_marked marks.todo p.process.pid) + to_go marks processes
 
+-- no mark is there and not there
 both_ways : (b : Bool) → b ≡ true → b ≡ false → ⊥
 both_ways b yes_is no_is = let never : true ≡ false = sym yes_is ∙ no_is in cc
 
@@ -202,3 +204,8 @@ module _ (s : Records) (sound : IsSound s) where
       along : (others : List ℕ) (p : ℕ) → is_marked a.seen p ≡ true → LeadsTo (searched s) p others row.pid → is_marked a.seen row.pid ≡ true
       along [] p is leads = subst (λ q. is_marked a.seen q ≡ true) leads is
       along (next ∷ others) p is leads = along others next (so_far.closed p next is (none p) leads.0) leads.1
+
+-- so one whose process is not found is not deadlocked
+pub not_found : (D : Type 0) (b seen : Bool) → b ≡ seen → (D → seen ≡ true) → OnFalse b (D → ⊥)
+not_found D true seen is found = tt
+not_found D false seen is found = λ dead. both_ways seen (found dead) (sym is)

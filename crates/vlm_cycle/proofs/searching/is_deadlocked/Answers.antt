@@ -1,9 +1,11 @@
 use Rattle.std.proofs.Common.{◌≡◌, ◌∙◌, Option, Some, None, false, sym, ap, subst, refl}
+use Rattle.vlm_words.specs.Deadlocks.{IsDeadlocked}
 use Rattle.vlm_marks.specs.Nodes.{is_marked}
 use Rattle.vlm_cycle.specs.declared.scratch.Scratch.{Scratch}
 use Rattle.vlm_cycle.specs.Marking.{IsTaken}
+use Rattle.vlm_cycle.specs.Waiting.{searched}
 use Rattle.vlm_cycle.proofs.Marked.{roomy_still}
-use Rattle.vlm_cycle.proofs.Searched.{both_ways, less_to_go, none_left, searched_begun, searched_on}
+use Rattle.vlm_cycle.proofs.Searched.{less_to_go, none_left, not_found, searched_begun, searched_on}
 use Rattle.vlm_cycle.proofs.searching.is_deadlocked.Goals as goal
 
 pub loop-pid-init : goal.loop-pid-init
@@ -30,4 +32,10 @@ loop-pid-preserved c =
 
 -- whoever is led to is found
 pub returns-clause-no : goal.returns-clause-no
-returns-clause-no c = ?
+returns-clause-no c =
+    let s = c.args.store.now in
+    let row = c.args.waiting.now.row in
+    let none : IsTaken None c.loop-pid.scratch c.take.new.self =
+    subst (λ o. IsTaken o c.loop-pid.scratch c.take.new.self) c.in_default.is c.take.ensures in
+    not_found (IsDeadlocked (searched s) row) c.has.result (is_marked c.take.new.self.seen row.pid) c.has.ensures
+    (λ dead. ap (λ (m : Scratch). is_marked m.seen row.pid) none.0 ∙ none_left s c.law_records_are_sound.ensures row c.loop-pid.scratch c.loop-pid.invariant.0 none.1 dead)
