@@ -1,16 +1,16 @@
 -- The best of what is looked at.
-use Rattle.std.proofs.Common.{◌≡◌, ◌<◌, ◌≤◌, ℕ, List, [], ◌∷◌, ◌++◌, map, flat_map, length, Option, None, Some, IfSome, IsSome, refl, sym, ap, ◌∙◌, subst, inl, inr, arith}
+use Rattle.std.proofs.Common.{◌≡◌, ◌<◌, ℕ, List, [], ◌∷◌, ◌++◌, map, flat_map, length, Option, None, Some, IfSome, IsSome, refl, sym, ap, ◌∙◌, subst, inl, inr, arith}
 use Rattle.std.specs.Prelude.{Any}
 use Rattle.std.proofs.lemmas.Option.{same_Some}
 use Rattle.vlm_words.specs.declared.locks.Row.{Row}
-use Rattle.vlm_words.specs.Deadlocks.{IsDeadlocked, IsVictim, LeadsTo, ProcessWaitsFor, WaitsOn, queue_of, wanted_number}
+use Rattle.vlm_words.specs.Deadlocks.{IsDeadlocked, LeadsTo, ProcessWaitsFor, WaitsOn, queue_of, wanted_number}
 use Rattle.vlm_words.specs.State.{Resource, State}
 use Rattle.vlm_links.specs.Lists.{IsIn}
 use Rattle.vlm_store.specs.Plain.{plain_resource, plain_resources}
 use Rattle.vlm_store.specs.Records.{Records, StoredResource}
 use Rattle.vlm_locks.specs.declared.finding.Standing.{Standing}
 use Rattle.vlm_locks.specs.Standing.{IsStanding}
-use Rattle.vlm_cycle.specs.Finding.{Improves, IsCovered, IsFit, IsLater, IsNotLater, IsVictimOf, row_standing}
+use Rattle.vlm_cycle.specs.Finding.{Improves, IsCovered, IsFit, IsLater, IsNotLater, IsVictimOf}
 use Rattle.vlm_cycle.specs.Waiting.{searched}
 use Rattle.vlm_cycle.proofs.Keeping.{waiting_on}
 use Rattle.vlm_cycle.proofs.Listed.{among_is, in_either, in_first, in_second}

@@ -1,21 +1,19 @@
 -- Whom a queued request waits for: those whose locks keep it, as the records have them.
-use Rattle.std.proofs.Common.{◌≡◌, ◌≢◌, ◌⊎◌, ℕ, true, false, List, [], ◌∷◌, ◌++◌, Option, None, Some, refl, sym, ap, ◌∙◌, subst, inl, inr}
+use Rattle.std.proofs.Common.{◌≡◌, ◌≢◌, ◌⊎◌, ℕ, true, false, List, [], ◌∷◌, ◌++◌, None, Some, refl, sym, ap, ◌∙◌, subst, inl, inr}
 use Rattle.std.proofs.lemmas.Option.{same_Some}
 use Rattle.vlm_words.specs.declared.locks.Request.{Request}
 use Rattle.vlm_words.specs.declared.locks.Row.{Row}
-use Rattle.vlm_words.specs.declared.modes.Mode.{Mode}
 use Rattle.vlm_words.specs.declared.resources.Queue.{Queue}
 use Rattle.vlm_words.specs.declared.resources.Queue.TheVariants.{Granted, Conversion, Waiting}
-use Rattle.vlm_words.specs.Deadlocks.{BlocksThoseBehind, HoldsAgainst, KeepsWaiting, StandsBefore, WaitsFor, WaitsOn, queue_of}
+use Rattle.vlm_words.specs.Deadlocks.{KeepsWaiting, WaitsFor, WaitsOn, queue_of}
 use Rattle.vlm_words.specs.Flags.{flag_bits, has_flag, nodlckwt}
 use Rattle.vlm_links.specs.Lists.{IsIn}
-use Rattle.vlm_records.specs.declared.handles.Place.{Place}
 use Rattle.vlm_records.specs.declared.handles.Place.TheVariants.{Queued}
 use Rattle.vlm_store.specs.Plain.{plain_resource}
 use Rattle.vlm_store.specs.Records.{AreApart, IsSound, Records, StoredLock, StoredResource, Stores, locks_at, queued, resource_at, rows_of_locks}
 use Rattle.vlm_store.proofs.Records.{queue_at, resource_is}
 use Rattle.vlm_locks.proofs.Stood.{queued_stored}
-use Rattle.vlm_cycle.specs.Waiting.{IsHolder, IsWaitedFor, OwnsBefore, OwnsBlocker, OwnsHolder, OwnsKeeper, rows_before, searched}
+use Rattle.vlm_cycle.specs.Waiting.{IsWaitedFor, OwnsBefore, OwnsBlocker, OwnsKeeper, rows_before, searched}
 use Rattle.vlm_cycle.proofs.Listed.{RowsApart, among_is, any_resource, apart_both, before_differs, before_is, before_passes, before_stops, in_either, in_first, in_second, is_among, lock_of, row_in, some_resource, split_before}
 
 -- a lock that is queued and not granted
@@ -66,10 +64,10 @@ module _ (s : Records) (sound : IsSound s) where
       let w = waiting_on s row lock waits in
       elim w.waits.kept [
         | inl held ↦ elim (in_either lock (rows_of_locks w.resource.granted) (rows_of_locks w.resource.converting)
-          (among_is lock (rows_of_locks w.resource.granted ++ rows_of_locks w.resource.converting) held.0)) [
-            | inl first ↦ in_one w.resource w.there Granted (lock_of lock w.resource.granted first)
-            | inr second ↦ in_one w.resource w.there Conversion (lock_of lock w.resource.converting second)
-          ]
+            (among_is lock (rows_of_locks w.resource.granted ++ rows_of_locks w.resource.converting) held.0)) [
+              | inl first ↦ in_one w.resource w.there Granted (lock_of lock w.resource.granted first)
+              | inr second ↦ in_one w.resource w.there Conversion (lock_of lock w.resource.converting second)
+            ]
         | inr before ↦
             (let stands = queued_on s w.resource lock
             (subst (IsIn lock) (sym before.0.queued) (in_first lock before.0.before (row ∷ before.0.behind) (among_is lock before.0.before before.0.first_among))) in
@@ -204,14 +202,16 @@ module _ (s : Records) (sound : IsSound s) where
                   | inr second ↦ inr (inl (w.other, (second, (w.waits.another, held.1), w.owner)))
                 ]
                 | inr before ↦
-                    inr (inr (whole_before queue w.not_granted among pid
-                    (w.other, (
-                      subst (λ rows. IsIn w.other rows)
-                          (sym (before_is before.0.before lock.row before.0.behind (subst RowsApart before.0.queued queue_apart)) ∙ sym (ap (rows_before lock.row.lkid) before.0.queued))
-                          (among_is w.other before.0.before before.0.first_among),
-                      before.1,
-                      w.owner,
-                    ))))
+                    inr (inr (whole_before queue w.not_granted among pid (
+                      w.other,
+                      (
+                        subst (λ rows. IsIn w.other rows)
+                            (sym (before_is before.0.before lock.row before.0.behind (subst RowsApart before.0.queued queue_apart)) ∙ sym (ap (rows_before lock.row.lkid) before.0.queued))
+                            (among_is w.other before.0.before before.0.first_among),
+                        before.1,
+                        w.owner,
+                      ),
+                    )))
               ]
 
           -- and whoever owns one is waited for

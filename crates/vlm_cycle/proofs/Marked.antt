@@ -1,13 +1,11 @@
 -- Marks that are made one after the other.
-use Rattle.std.proofs.Common.{◌≡◌, ◌⊎◌, ℕ, ◌+◌, ◌/◌, ◌<◌, ◌≤◌, Bool, true, false, List, refl, sym, ap, ◌∙◌, subst, inl, inr, arith}
+use Rattle.std.proofs.Common.{◌≡◌, ◌⊎◌, ℕ, ◌/◌, ◌<◌, ◌≤◌, Bool, true, false, List, refl, sym, ap, ◌∙◌, subst, inl, inr, arith}
 use Rattle.std.specs.Prelude.{◌&&◌, nat_le}
 use Rattle.std.proofs.lemmas.Bool.{and_parts, cases_eq, leb-true}
-use Rattle.vlm_words.specs.declared.locks.Row.{Row}
-use Rattle.vlm_links.specs.Lists.{IsIn}
-use Rattle.vlm_marks.specs.Nodes.{HasRoomFor, Writes, is_marked, is_node, place_of}
-use Rattle.vlm_store.specs.Records.{IsProcess, Records, StoredProcess}
+use Rattle.vlm_marks.specs.Nodes.{Writes, is_marked, is_node, place_of}
+use Rattle.vlm_store.specs.Records.{IsProcess, Records}
 use Rattle.vlm_cycle.specs.declared.scratch.Scratch.{Scratch}
-use Rattle.vlm_cycle.specs.Marking.{HasRoom, IsFound, IsNotFound, KeepsRoom, Marks}
+use Rattle.vlm_cycle.specs.Marking.{HasRoom, KeepsRoom, Marks}
 use Rattle.vlm_cycle.specs.Waiting.{IsRoomy}
 
 -- a mark is there or not

@@ -8,7 +8,7 @@ use Rattle.vlm_links.specs.Lists.{IsApart, IsIn, first_handle, handle_after}
 use Rattle.vlm_links.proofs.Walks.{handle_after-among}
 use Rattle.vlm_store.specs.Records.{FindsProcess, IsProcess, IsSound, Records, Stores, own_handles_at}
 use Rattle.vlm_locks.proofs.Chosen.{absent_before, on_from, on_from_first}
-use Rattle.vlm_locks.proofs.RunsDown.{handles_apart, its_handles, owned_here, stored_here}
+use Rattle.vlm_locks.proofs.RunsDown.{its_handles, owned_here, stored_here}
 use Rattle.vlm_locks.proofs.Stood.{one_lock}
 use Rattle.vlm_cycle.specs.declared.scratch.Scratch.{Scratch}
 use Rattle.vlm_cycle.specs.Marking.{Marks}

@@ -1,15 +1,14 @@
 -- What a search has found.
-use Rattle.std.proofs.Common.{◌≡◌, ◌⊎◌, ◌<◌, ◌≤◌, ℕ, Bool, true, false, List, [], ◌∷◌, ◌++◌, ◌+◌, Option, None, Some, refl, sym, ap, ◌∙◌, subst, inl, inr, arith}
+use Rattle.std.proofs.Common.{◌≡◌, ◌<◌, ◌≤◌, ℕ, Bool, true, false, List, [], ◌∷◌, ◌++◌, ◌+◌, Some, refl, sym, ap, ◌∙◌, subst, inl, inr, arith}
 use Rattle.std.specs.Bool.{OnFalse}
 use Rattle.std.proofs.lemmas.Bool.{cases_eq}
 use Rattle.vlm_words.specs.declared.locks.Row.{Row}
-use Rattle.vlm_words.specs.Deadlocks.{IsDeadlocked, LeadsTo, ProcessWaitsFor, WaitsFor}
-use Rattle.vlm_words.specs.State.{State}
+use Rattle.vlm_words.specs.Deadlocks.{IsDeadlocked, LeadsTo, WaitsFor}
 use Rattle.vlm_links.specs.Lists.{IsIn}
 use Rattle.vlm_marks.specs.Nodes.{is_marked}
 use Rattle.vlm_store.specs.Records.{IsSound, Records, StoredProcess}
 use Rattle.vlm_cycle.specs.declared.scratch.Scratch.{Scratch}
-use Rattle.vlm_cycle.specs.Marking.{IsClear, IsTaken, KeepsRoom, Marks}
+use Rattle.vlm_cycle.specs.Marking.{IsClear, IsTaken, Marks}
 use Rattle.vlm_cycle.specs.Waiting.{IsBehind, IsRoomy, IsWaitedFor, searched}
 use Rattle.vlm_cycle.proofs.Keeping.{lock_stored}
 use Rattle.vlm_cycle.proofs.Marked.{of_mark, roomy_still}

@@ -1,5 +1,5 @@
 -- The deadlocked request that was made last, among those that are looked at.
-use Rattle.std.specs.Prelude.{◌≡◌, ◌<◌, ◌≤◌, ⊤, ℕ, List, Option, None, Some}
+use Rattle.std.specs.Prelude.{◌≡◌, ◌<◌, ◌≤◌, ⊤, List, Option, None, Some}
 use Rattle.std.specs.Option.{ForSome, option_map}
 use Rattle.vlm_words.specs.declared.locks.Row.{Row}
 use Rattle.vlm_words.specs.Deadlocks.{IsDeadlocked, IsVictim, wanted_number}

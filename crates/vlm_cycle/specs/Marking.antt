@@ -1,5 +1,5 @@
 -- The marks of a search.
-use Rattle.std.specs.Prelude.{◌≡◌, ◌⊎◌, ℕ, Bool, true, false, Option, None, Some}
+use Rattle.std.specs.Prelude.{◌≡◌, ◌⊎◌, ℕ, true, false, Option, None, Some}
 use Rattle.vlm_marks.specs.Nodes.{HasRoomFor, is_marked}
 use Rattle.vlm_cycle.specs.declared.scratch.Scratch.{Scratch}
 

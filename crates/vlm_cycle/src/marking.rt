@@ -139,5 +139,12 @@ pub(crate) fn find_waited_for(store: &Store, scratch: &mut Scratch, waiting: &St
     if request.flags.has(EnqFlags::NODLCKWT) {
         return;
     }
-    find_keepers(store, scratch, waiting.res, waiting.queue, waiting.row.lkid, request.mode);
+    find_keepers(
+        store,
+        scratch,
+        waiting.res,
+        waiting.queue,
+        waiting.row.lkid,
+        request.mode,
+    );
 }

@@ -1,4 +1,4 @@
-use Rattle.std.proofs.Common.{◌≡◌, ◌∷◌, ◌∙◌, [], sym, ap, subst}
+use Rattle.std.proofs.Common.{◌∷◌, ◌∙◌, [], sym, ap, subst}
 use Rattle.vlm_queue.specs.Walks.{rows_left, rows_queued}
 use Rattle.vlm_queue.proofs.Walking.{begins, come_stored, passes}
 use Rattle.vlm_cycle.specs.Finding.{Improves}

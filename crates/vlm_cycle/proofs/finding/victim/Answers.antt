@@ -1,4 +1,4 @@
-use Rattle.std.proofs.Common.{◌≡◌, ◌∷◌, ◌++◌, ◌∙◌, [], Option, None, Some, flat_map, sym, ap, subst}
+use Rattle.std.proofs.Common.{◌++◌, ◌∙◌, None, Some, flat_map, sym, ap, subst}
 use Rattle.vlm_words.specs.Deadlocks.{queue_of}
 use Rattle.vlm_words.specs.declared.resources.Queue.TheVariants.{Conversion, Waiting}
 use Rattle.vlm_store.specs.Plain.{plain_resources}

@@ -1,4 +1,4 @@
-use Rattle.std.proofs.Common.{◌≡◌, ◌∙◌, ℕ, Option, [], sym, ap, subst}
+use Rattle.std.proofs.Common.{◌∙◌, ℕ, Option, [], sym, subst}
 use Rattle.std.specs.Option.{option_map_or}
 use Rattle.vlm_words.specs.declared.resources.Queue.TheVariants.{Granted, Conversion, Waiting}
 use Rattle.vlm_store.specs.Records.{StoredLock, StoredResource, queued, rows_of_locks}
@@ -30,7 +30,7 @@ returns c =
     let lock : StoredLock = record { at = f.lock; row = f.row } in
     let request = c.in-Some.request in
     let keeps = λ (o : Option StoredResource) (pid : ℕ). OwnsKeeper f.row.lkid request.mode f.queue
-        (rows_of_locks (option_map_or (queued Granted) o [])) (rows_of_locks (option_map_or (queued Conversion) o [])) (rows_of_locks (option_map_or (queued Waiting) o [])) pid in
+    (rows_of_locks (option_map_or (queued Granted) o [])) (rows_of_locks (option_map_or (queued Conversion) o [])) (rows_of_locks (option_map_or (queued Waiting) o [])) pid in
     marks_as (OwnsKeeper f.row.lkid request.mode f.queue (rows_queued f.res Granted s) (rows_queued f.res Conversion s) (rows_queued f.res Waiting s)) (IsWaitedFor s f.row)
     c.args.scratch.now c.find_keepers.new.scratch
     (λ pid keeper. keeper_waited s c.law_records_are_sound.ensures own there lock f.queue c.requires.standing.among request c.in-Some.is c.if-is_granted.ensures.queued

@@ -1,4 +1,4 @@
-use Rattle.std.proofs.Common.{◌∙◌, sym, subst}
+use Rattle.std.proofs.Common.{subst}
 use Rattle.vlm_store.specs.Records.{FindsProcess}
 use Rattle.vlm_cycle.specs.Waiting.{IsBehind}
 use Rattle.vlm_cycle.proofs.Marked.{marks_none}

@@ -1,4 +1,4 @@
-use Rattle.std.proofs.Common.{◌≡◌, ◌∷◌, ◌∙◌, [], Some, sym, ap, subst, refl}
+use Rattle.std.proofs.Common.{◌∷◌, ◌∙◌, sym, ap, subst}
 use Rattle.vlm_store.specs.Records.{own_handles_at}
 use Rattle.vlm_locks.proofs.Chosen.{on_from}
 use Rattle.vlm_locks.proofs.Found.{process_there}

@@ -1,4 +1,4 @@
-use Rattle.std.proofs.Common.{◌≡◌, ◌∙◌, Option, Some, None, false, sym, ap, subst, refl}
+use Rattle.std.proofs.Common.{◌∙◌, Some, None, ap, subst}
 use Rattle.vlm_words.specs.Deadlocks.{IsDeadlocked}
 use Rattle.vlm_marks.specs.Nodes.{is_marked}
 use Rattle.vlm_cycle.specs.declared.scratch.Scratch.{Scratch}

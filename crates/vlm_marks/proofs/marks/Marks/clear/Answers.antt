@@ -1,7 +1,6 @@
-use Rattle.std.proofs.Common.{◌∙◌, ap, subst, sym, false, true, length, replicate, arith}
-use Rattle.std.specs.Prelude.{slice_index_or}
+use Rattle.std.proofs.Common.{◌∙◌, ap, sym, false, replicate}
 use Rattle.std.proofs.lemmas.List.Quantifiers.{position-Some}
-use Rattle.vlm_marks.proofs.Cleared.{all_clear, marked, one_less}
+use Rattle.vlm_marks.proofs.Cleared.{all_clear, one_less}
 use Rattle.vlm_marks.proofs.marks.Marks.clear.Goals as goal
 
 -- one mark less

@@ -1,7 +1,6 @@
-use Rattle.std.proofs.Common.{◌∙◌, ◌≡◌, ◌<◌, ap, subst, sym, false, true, [], length, replicate, arith}
+use Rattle.std.proofs.Common.{◌∙◌, ◌<◌, ap, subst, false, [], length, replicate, arith}
 use Rattle.std.specs.Prelude.{Bool, List}
 use Rattle.std.proofs.lemmas.List.{get_or_default}
-use Rattle.vlm_marks.specs.Nodes.{HasRoomFor}
 use Rattle.vlm_marks.proofs.Cleared.{AreCleared, all_cleared, none_cleared, one_cleared, room_cleared}
 use Rattle.vlm_marks.proofs.nodes.NodeMarks.clear.Goals as goal
 
