@@ -172,7 +172,7 @@ row_disarms lkid converting waiting row = of_test (is_to_warn converting waiting
         omega (
           arith,
           held_warns lkid row.held row.lkid row.pid,
-          never (row.lkid == lkid),
+          of_lock (row.lkid == lkid),
           ap (λ (b : Bool). armed lkid (record row { armed = b })) (is_armed converting waiting row to_warn),
         )
 
