@@ -73,18 +73,19 @@ all_complete lkid endings =
 
 -- ---- grants
 
+-- what is never so counts nothing
+never : (b : Bool) → ◌≡◌ {A = ℕ} (cond (b && false) 1 0) 0
+never true = refl
+never false = refl
+
 -- a grant arms its row at most, and only where it may be warned of
 grant_arms : (lkid : ℕ) (at_once : Bool) (row : Row) → armed lkid (granted_row row) ≡ sum_by (given lkid) (grant_endings at_once row)
 grant_arms lkid at_once row = of_want row.want
   where
-    unnamed : (b : Bool) → ◌≡◌ {A = ℕ} (cond (b && false) 1 0) 0
-    unnamed true = refl
-    unnamed false = refl
-
     of_want : (want : Option Request)
         → armed lkid (record row { held = want; want = None; armed = is_arming want })
         ≡ sum_by (given lkid) (grant_endings at_once (record row { want = want }))
-    of_want None = unnamed (row.lkid == lkid)
+    of_want None = never (row.lkid == lkid)
     of_want (Some request) =
         sym (sum_of_one (given lkid) (record { lkid = row.lkid; pid = row.pid; request = request; how = by_grant (grant_act row.held (Some request)); at_once = at_once }))
 
@@ -232,13 +233,9 @@ entered_arms lkid row at_once r unarmed =
         arith,
         sum_by_push (armed lkid) r.waiting row,
         ap (λ (b : Bool). armed lkid (record row { armed = b })) unarmed,
-        of_lock (row.lkid == lkid),
+        never (row.lkid == lkid),
       )
     ]
-  where
-    of_lock : (b : Bool) → ◌≡◌ {A = ℕ} (cond (b && false) 1 0) 0
-    of_lock true = refl
-    of_lock false = refl
 
 entered_among_arms : (lkid serial : ℕ) (site : Site) (row : Row) (at_once : Bool) (resources : List Resource) → row.armed ≡ false
     → sum_by (weigh (armed lkid)) (resources_after_entry serial site row at_once resources)

@@ -58,13 +58,14 @@ head_is s res r queue at row found first only =
         let stored : Stores s at k.row = (Queued res queue, subst (IsIn (record { at = at; row = k.row })) (sym (locks_found s res r queue found ∙ is)) (inl named)) in
         record { rest = rest; is = is ∙ ap (λ x. x ∷ rest) (named ∙ ap (λ x. record { at = at; row = x }) (only k.row stored)) }
 
--- where no lock is the first, the queue is empty
+-- where no lock is the first there is none
+pub no_first : (locks : List StoredLock) → first_at locks ≡ None → locks ≡ []
+no_first [] none = refl
+no_first (k ∷ rest) none = absurd (none-some k.at (sym none))
+
+-- so the queue is empty
 pub none_queued : (s : Records) (res : ℕ) (r : StoredResource) (queue : Queue) → resource_at res s.resources ≡ Some r → first_at (locks_at (Queued res queue) s) ≡ None → queued queue r ≡ []
-none_queued s res r queue found first = of_list (queued queue r) (ap first_at (sym (locks_found s res r queue found)) ∙ first)
-  where
-    of_list : (locks : List StoredLock) → first_at locks ≡ None → locks ≡ []
-    of_list [] none = refl
-    of_list (k ∷ rest) none = absurd (none-some k.at (sym none))
+none_queued s res r queue found first = no_first (queued queue r) (ap first_at (sym (locks_found s res r queue found)) ∙ first)
 
 without_first : (at : ℕ) (row : Row) (rest : List StoredLock) → AreApart (record { at = at; row = row } ∷ rest) → without_lock at (record { at = at; row = row } ∷ rest) ≡ rest
 without_first at row rest apart = rw (eq-eqb at at refl) (without_absent at rest apart.0)

@@ -26,6 +26,7 @@ use Rattle.vlm_locks.specs.Staying.{LocksStay}
 use Rattle.vlm_locks.specs.Warning.{IsLockWarned, IsWarned, disarmed_if, disarmed_row, is_warned_on}
 use Rattle.vlm_locks.proofs.ArmedOnes.{StartsArmed, among_armed, armed_apart, armed_split, behind, from_armed, from_lock, handles, handles_from}
 use Rattle.vlm_locks.proofs.Found.{on_resource-own, on_resource-put, resource_alone, resource_at-put}
+use Rattle.vlm_locks.proofs.Moves.{no_first}
 use Rattle.vlm_locks.proofs.Owing.{due_noticed, owed_moves, owed_other, owed_own, paid_still, weight}
 use Rattle.vlm_locks.proofs.Replaced.{found_left, left_at}
 use Rattle.vlm_locks.proofs.Staying.{all_stay, same_back, same_lock}
@@ -363,11 +364,7 @@ module _ (res : ℕ) (old s : Records) (next : Option ℕ) (warning : IsWarning 
   module _ (none : None ≡ next) where
     -- no lock is left to look at
     all_done : warning.todo ≡ []
-    all_done = of_list warning.todo (sym warning.first ∙ sym none)
-      where
-        of_list : (locks : List StoredLock) → first_at locks ≡ None → locks ≡ []
-        of_list [] first = refl
-        of_list (k ∷ rest) first = absurd (none-some k.at (sym first))
+    all_done = no_first warning.todo (sym warning.first ∙ sym none)
 
     -- the locks that were granted, each warned
     granted_now : now.granted ≡ map (warned_lock warning.had) warning.had.granted

@@ -1,9 +1,10 @@
 //! The checks that several steps make. They only read, and answer the refusal.
 
-ghost use Rattle.std.specs.Prelude.{◌≡◌, ◌<◌, ◌^◌, IfOk, OnOk};
+ghost use Rattle.std.specs.Prelude.{◌≡◌, ◌<◌, ◌≤◌, ◌^◌, IfOk, OnOk};
 ghost use Rattle.std.specs.Result.{result_err};
 ghost use Rattle.vlm_words.specs.Checks.{acceptance, caller_refusal, lock_refusal, named_lkid, numbers_refusal, queue_refusal, request_numbers_refusal, status_block_refusal, which_refusal};
 ghost use Rattle.vlm_words.specs.Flags.{flag_bits};
+ghost use Rattle.vlm_words.specs.Rundown.{leave_refusal};
 ghost use Rattle.vlm_words.specs.StatusBlocks.{status_block_of};
 ghost use Rattle.vlm_words.specs.Quotas.{quota_refusal};
 ghost use Rattle.vlm_machine.specs.Admissions.{IsCaller};
@@ -21,6 +22,22 @@ use vlm_words::flags::EnqFlags;
 use vlm_words::steps::Which;
 
 impl Machine {
+    /// BADPARAM where there is no such node, DEPARTED where it has departed before.
+    #[tactic(auto, unfolding(vlm_words::specs::Rundown::leave_refusal))]
+    pub(crate) fn check_node(&self, node: u8) -> Result<(), Cond>
+        ensures refusal { result_err result ≡ leave_refusal (plain_state self.now) node }
+        ensures first { OnOk result (1 ≤ node) }
+        ensures last { OnOk result (node ≤ 8) }
+    {
+        if node < 1 || 8 < node {
+            return Err(Cond::Badparam);
+        }
+        if has_departed(&self.nodes, u32::from(node)) {
+            return Err(Cond::Departed);
+        }
+        Ok(())
+    }
+
     /// The caller. DEPARTED where its node has departed, NONEXPR where no living process has the
     /// identification.
     #[tactic(auto, unfolding(vlm_words::specs::Checks::caller_refusal))]

@@ -9,7 +9,6 @@ ghost use Rattle.vlm_store.specs.Records.{IsNewProcess, IsUnchanged};
 ghost use Rattle.vlm_machine.specs.Between.{IsBetweenSteps};
 ghost use Rattle.vlm_machine.specs.Machine.{plain_state};
 
-use crate::nodes::has_departed;
 use crate::records::Machine;
 use std::alloc::AllocError;
 use vlm_words::conditions::Cond;
@@ -34,7 +33,7 @@ impl Machine {
         }
     }
 
-    #[tactic(auto, unfolding(vlm_words::specs::Declare::declare_refusal))]
+    #[tactic(auto, unfolding(vlm_words::specs::Declare::declare_refusal, vlm_words::specs::Rundown::leave_refusal))]
     fn check_declaration(&self, declaration: &Declaration) -> Result<(), Cond>
         ensures refusal { result_err result
             ≡ declare_refusal (plain_state self.now) declaration.now }
@@ -44,12 +43,7 @@ impl Machine {
             ((node_at self.now.nodes declaration.now.node).declared < 65535) }
     {
         let node = declaration.node;
-        if node < 1 || 8 < node {
-            return Err(Cond::Badparam);
-        }
-        if has_departed(&self.nodes, u32::from(node)) {
-            return Err(Cond::Departed);
-        }
+        self.check_node(node)?;
         if self.nodes[usize::from(node) - 1].declared() < ORDINALS {
             Ok(())
         } else {

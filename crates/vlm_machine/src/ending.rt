@@ -1,15 +1,14 @@
 //! The steps that end processes: the rundown of one, and the departure of a node with all that it declared.
 
-ghost use Rattle.std.specs.Prelude.{◌≡◌, ◌≤◌, [], OnOk};
-ghost use Rattle.std.specs.Result.{result_err};
-ghost use Rattle.vlm_words.specs.Rundown.{is_ended_by, is_of_node, leave_refusal, nodes_after_departure, state_after_rundown};
+ghost use Rattle.std.specs.Prelude.{◌≡◌, ◌≤◌, []};
+ghost use Rattle.vlm_words.specs.Rundown.{is_ended_by, is_of_node, nodes_after_departure, state_after_rundown};
 ghost use Rattle.vlm_words.specs.Stepped.{Outcome};
 ghost use Rattle.vlm_machine.specs.Admissions.{IsCaller};
 ghost use Rattle.vlm_machine.specs.Between.{IsBetweenSteps};
 ghost use Rattle.vlm_machine.specs.Machine.{plain_state};
 ghost use Rattle.vlm_machine.specs.Notes.{HasRoomToNote, IsToSweep};
 
-use crate::nodes::{depart, has_departed};
+use crate::nodes::depart;
 use crate::processes::Caller;
 use crate::records::Machine;
 use vlm_locks::{Touched, end_process, end_processes_of};
@@ -60,7 +59,7 @@ impl Machine {
         ensures none { touched.new.noted ≡ [] }
         ensures room { touched.new.room ≡ touched.old.room }
     {
-        match self.check_departure(node) {
+        match self.check_node(node) {
             Ok(()) => {
                 self.leave_change(touched, node);
                 self.sweep_touched(touched);
@@ -68,22 +67,6 @@ impl Machine {
             }
             Err(refusal) => Answer::Plain(refusal),
         }
-    }
-
-    // BADPARAM where there is no such node, DEPARTED where it has departed before.
-    #[tactic(auto, unfolding(vlm_words::specs::Rundown::leave_refusal))]
-    fn check_departure(&self, node: u8) -> Result<(), Cond>
-        ensures refusal { result_err result ≡ leave_refusal (plain_state self.now) node }
-        ensures first { OnOk result (1 ≤ node) }
-        ensures last { OnOk result (node ≤ 8) }
-    {
-        if node < 1 || 8 < node {
-            return Err(Cond::Badparam);
-        }
-        if has_departed(&self.nodes, u32::from(node)) {
-            return Err(Cond::Departed);
-        }
-        Ok(())
     }
 
     // The processes of the node are gone with their locks, and it has departed.

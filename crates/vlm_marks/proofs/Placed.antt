@@ -11,7 +11,7 @@ use Rattle.vlm_marks.specs.Nodes.{Grows, HasRoomAt, HasRoomFor, IsFirstMarked, W
 use Rattle.vlm_marks.proofs.Numbers.{get_or-behind, get_or-of_default}
 
 -- where no number is marked, this one is not
-position-None : (marks : List Bool) (n : ℕ) → position (λ is_marked. is_marked) marks ≡ None → get_or marks n false ≡ false
+pub position-None : (marks : List Bool) (n : ℕ) → position (λ is_marked. is_marked) marks ≡ None → get_or marks n false ≡ false
 position-None marks n none = by_first (nat_lt (position_or_len (λ m. m) marks) (length marks)) refl none
   where
     by_first : (some : Bool) → nat_lt (position_or_len (λ m. m) marks) (length marks) ≡ some → cond some (Some (position_or_len (λ m. m) marks)) None ≡ None → get_or marks n false ≡ false

@@ -90,6 +90,15 @@ impl Marks {
         }
     }
 
+    /// Takes all marks away, one after the other. The room stays.
+    pub fn clear(&mut self)
+        ensures { self.new ≡ replicate (length self.old) false }
+    {
+        while let Some(number) = self.first() {
+            self.unmark(number);
+        }
+    }
+
     /// Whether a number is marked. One that there is no room for is not.
     pub fn has(&self, number: u16) -> bool
         ensures { result ≡ slice_index_or self.now number false }

@@ -101,6 +101,26 @@ impl NodeMarks {
         }
     }
 
+    /// Whether a process is marked.
+    pub fn has(&self, pid: u32) -> bool
+        ensures { result ≡ is_marked self.now pid }
+    {
+        match place_of(pid) {
+            Some(place) => self.nodes[place].has((pid % ORDINALS) as u16),
+            None => false,
+        }
+    }
+
+    /// Takes all marks away. The room stays.
+    pub fn clear(&mut self)
+        ensures none { (pid : ℕ) → is_marked self.new pid ≡ false }
+        ensures room { (pid : ℕ) → HasRoomFor self.old pid → HasRoomFor self.new pid }
+    {
+        for place in 0..NODES {
+            self.nodes[place].clear();
+        }
+    }
+
     /// The least identification of the node's marked processes, if one is marked.
     pub fn first(&self, node: u8) -> Option<u32>
         ensures { IsFirstMarked self.now node result }

@@ -8,6 +8,7 @@ use Rattle.slab.specs.Slab.{Slab, get, ContainsKey, with_value}
 use Rattle.slab.proofs.SlabLemmas.{Updates-with_value}
 use Rattle.vlm_links.specs.declared.lists.LinkedList.{LinkedList}
 use Rattle.vlm_links.specs.Lists.{IsIn, IsLinked, IsNoList, Relinks, handles_of, next_in, prev_in, without}
+use Rattle.vlm_records.proofs.Counting.{without-twice}
 use Rattle.vlm_links.proofs.HandleLists.{IsIn-push_last, IsIn-without, IsIn-without_kept, without_absent, without_head, without_past}
 use Rattle.vlm_links.proofs.Keeping.{relinked_same}
 use Rattle.vlm_links.proofs.Rings.{kept-handles, kept-linked, no_list-linked}
@@ -280,9 +281,6 @@ place_still part old new same (Queued res queue) there = there_through part old 
 twice_last : (at : ℕ) (ks : List ℕ) → without at (without at ks ++ at ∷ []) ≡ without at ks
 twice_last at ks = without_last (without at ks) at (λ found. (IsIn-without at at ks found).1 refl)
 
-twice_without : (at : ℕ) (ks : List ℕ) → without at (without at ks) ≡ without at ks
-twice_without at ks = without_absent at (without at ks) (λ found. (IsIn-without at at ks found).1 refl)
-
 module _ (q q' : Queues) (at : ℕ) (same : (k : ℕ) → k ≢ at → rows q' k ≡ rows q k) where
   others_armed : (ks : List ℕ) → armed_handles (rows q') (without at ks) ≡ armed_handles (rows q) (without at ks)
   others_armed ks = armed-kept (rows q) (rows q') (without at ks) (λ k found. same k (IsIn-without at k ks found).1)
@@ -293,7 +291,7 @@ module _ (q q' : Queues) (at : ℕ) (same : (k : ℕ) → k ≢ at → rows q' k
     without_same p =
         elim (place_cases p to) [
           | inl is ↦ ap (λ x. without at (handles_at q' x)) is ∙ ap (without at) here ∙ twice_last at (handles_at q to) ∙ ap (λ x. without at (handles_at q x)) (sym is)
-          | inr differs ↦ ap (without at) (elsewhere p differs) ∙ twice_without at (handles_at q p)
+          | inr differs ↦ ap (without at) (elsewhere p differs) ∙ without-twice at (handles_at q p)
         ]
 
     pub requeued_granted : (res : ℕ) → armed_granted q' (Some at) res ≡ armed_granted q (Some at) res

@@ -226,7 +226,7 @@ one_if-le false = omega arith
 pub weight_of-le : (count : Count) (mode : Mode) (queue : Queue) (row : Row) → weight_of count mode queue row ≤ 1
 weight_of-le count mode queue row = one_if-le (is_mode mode (counted_request count queue row))
 
-without-twice : (at : ℕ) (ks : List ℕ) → without at (without at ks) ≡ without at ks
+pub without-twice : (at : ℕ) (ks : List ℕ) → without at (without at ks) ≡ without at ks
 without-twice at ks = without_absent at (without at ks) (λ found. (IsIn-without at at ks found).1 refl)
 
 without-push : (at : ℕ) (ks : List ℕ) → ¬ IsIn at ks → without at (ks ++ at ∷ []) ≡ without at ks

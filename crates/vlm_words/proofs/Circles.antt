@@ -24,20 +24,12 @@ use Rattle.vlm_words.specs.Search.{IsSearchedFor, deadlock_of, search_change, se
 use Rattle.vlm_words.specs.Settled.{IsSettled, IsUnswept}
 use Rattle.vlm_words.specs.Stepped.{IsChoice, refused_or, step_change, stepped, stepped_after_sweep}
 use Rattle.vlm_words.specs.Runs.{History, Run}
+use Rattle.vlm_words.proofs.Below.{either}
 use Rattle.vlm_words.proofs.Each.{Any-behind, Any-cases, Any-here, Any-none, Any-there, Any-weaker, any_left}
 use Rattle.vlm_words.proofs.Settled.{settled_law, unswept}
 use Rattle.vlm_words.specs.Circles.{ComesBackTo, ComesBefore, FindsWhoIsCaught, IsAheadOf, IsBlocked, IsBlockedBy, IsCaught, IsHeldUpBy, IsNoLater, IsOneOf, IsWaitedFor, KeepsOut, LeavesAll, NobodyWaitsInACircle, WaitsOnTo}
 
 -- ---- queues
-
--- what is so of an element of two lists is so of one of the first, or of one of the second
-in_either : {X : Type 0} (P : X → Type 0) (xs ys : List X) → Any P (xs ++ ys) → Any P xs ⊎ Any P ys
-in_either P [] ys any = inr any
-in_either P (x ∷ xs) ys any =
-    elim (Any-cases P x (xs ++ ys) any) [
-      | inl here ↦ inl (Any-here P x xs here)
-      | inr there ↦ elim (in_either P xs ys there) [ inl first ↦ inl (Any-there P x xs first) | inr second ↦ inr second ]
-    ]
 
 -- where a row stands in a queue
 record Place (queue : List Row) (row : Row) : Type 0 where
@@ -127,7 +119,7 @@ ahead_by_cases : (rows more : List Row) (first second : Row) → ComesBefore fir
     → ComesBefore first second rows ⊎ (IsOneOf rows first × IsOneOf more second) ⊎ ComesBefore first second more
 ahead_by_cases [] more first second comes = inr (inr comes)
 ahead_by_cases (row ∷ rows) more first second (inl now) =
-    elim (in_either (λ other. other ≡ second) rows more now.1) [
+    elim (either (λ other. other ≡ second) rows more now.1) [
       | inl here ↦ inl (inl (now.0, here))
       | inr there ↦ inr (inl (Any-here (λ other. other ≡ first) row rows now.0, there))
     ]
@@ -192,7 +184,7 @@ waits_on r row lock blocked = record {
 
 blocked_by : (r : Resource) (row lock : Row) → WaitsOn r row lock → IsBlockedBy r row lock
 blocked_by r row lock waits = record {
-  queued = in_either (λ other. other ≡ row) r.converting r.waiting waits.queued;
+  queued = either (λ other. other ≡ row) r.converting r.waiting waits.queued;
   request = waits.request;
   wants = waits.wanted;
   waits = waits.counted;
@@ -203,7 +195,7 @@ blocked_by r row lock waits = record {
     of_why : KeepsWaiting r waits.request row lock → KeepsOut r waits.request.mode lock ⊎ (IsAheadOf r lock row × IsWaitedFor lock.want)
     of_why (inl held) =
         let out : (IsBeside waits.request.mode lock.held → ⊥) × IsWaitedFor lock.held = out_of waits.request.mode lock.held held.1 in
-        inl (in_either (λ other. other ≡ lock) r.granted r.converting held.0, out.0, out.1)
+        inl (either (λ other. other ≡ lock) r.granted r.converting held.0, out.0, out.1)
     of_why (inr ahead) = inr (stands_ahead r lock row ahead.0, counted lock.want ahead.1)
 
 -- on some resource
@@ -355,7 +347,7 @@ queue_ends row request wants rows one =
 -- on the resource where it is queued
 victim_ends_on : (row lock : Row) (r : Resource) → WaitsOn r row lock → Any (IsItsDeadlock row) (withdrawal_endings (deadlock_of row.lkid) r)
 victim_ends_on row lock r waits =
-    elim (in_either (λ other. other ≡ row) r.converting r.waiting waits.queued) [
+    elim (either (λ other. other ≡ row) r.converting r.waiting waits.queued) [
       | inl converts ↦
           any_left (IsItsDeadlock row) (queue_endings by_deadlock row.lkid r.converting) (queue_endings by_deadlock row.lkid r.waiting)
           (queue_ends row waits.request waits.wanted r.converting converts)

@@ -15,7 +15,7 @@ use Rattle.vlm_words.proofs.Apart.{Apart}
 use Rattle.vlm_words.proofs.Below.{HasRoot, IsRowIn, as_many_levels, at_root, below_up, either, parent_is, root_of, rows_on, rows_rooted, up_at_most}
 use Rattle.vlm_words.proofs.Each.{Any-behind, any_left, each_filter, each_member, each_weaker, Any-weaker}
 use Rattle.vlm_words.proofs.Holdings.{held_by, locks, others_go}
-use Rattle.vlm_words.proofs.Leaving.{AllGo, AllListed, IsListed, in_filter, row_found, row_listed, rows_left, rows_left_behind}
+use Rattle.vlm_words.proofs.Leaving.{AllGo, AllListed, IsListed, in_filter, or_second, row_found, row_listed, rows_left, rows_left_behind}
 use Rattle.vlm_words.proofs.LeftValues.{any_and_each, any_so}
 use Rattle.vlm_words.proofs.Rooted.{AllRooted, Position, is_parent, is_rooted, is_up, position}
 use Rattle.vlm_words.proofs.Together.{from_on}
@@ -95,18 +95,13 @@ module _ (s : State) (apart : Apart s) (rooted : AllByRecursion (AllRooted s.res
     | inl first ↦ elim (either (λ y. row ≡ y) r.granted r.converting first) [
       | inl granted ↦ (let found = row_found is_one s apart row r.granted granted theirs in rw found refl)
       | inr converting ↦
-          second (list_any (is_lock_among is_one row.lkid) r.granted) (list_any (is_lock_among is_one row.lkid) r.converting) (list_any (is_lock_among is_one row.lkid) r.waiting)
+          or_second (list_any (is_lock_among is_one row.lkid) r.granted) (list_any (is_lock_among is_one row.lkid) r.converting) (list_any (is_lock_among is_one row.lkid) r.waiting)
           (row_found is_one s apart row r.converting converting theirs)
     ]
     | inr waiting ↦
         or_right (list_any (is_lock_among is_one row.lkid) r.granted || list_any (is_lock_among is_one row.lkid) r.converting) (list_any (is_lock_among is_one row.lkid) r.waiting)
         (row_found is_one s apart row r.waiting waiting theirs)
   ]
-    where
-      second : (a b c : Bool) → b ≡ true → (a || b || c) ≡ true
-      second true b c is = refl
-      second false true c is = refl
-      second false false c is = cc
 
   -- with the parent of a row its own lock is listed
   own_closed : (row : Row) (r : Resource) → IsRowIn (rows_on r) row → Any (λ x. r ≡ x) s.resources → HasRoot s.resources r row

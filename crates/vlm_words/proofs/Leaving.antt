@@ -60,6 +60,12 @@ is_listed is_one s apart lkid held =
 abbrev pub so_many : (Row → Bool) → Row → ℕ
 so_many is_so row = cond (is_so row) 1 0
 
+-- the second of three tests holds
+pub or_second : (a b c : Bool) → b ≡ true → (a || b || c) ≡ true
+or_second true true c is = refl
+or_second false true c is = refl
+or_second a false c is = cc
+
 -- a row of which it is so has a listed lock
 abbrev pub IsListed : (Row → Bool) → List Withdrawal → Row → Type 0
 IsListed is_so withdrawals row = is_so row ≡ true → list_any (λ w. row.lkid == w.lkid) withdrawals ≡ true
@@ -250,16 +256,11 @@ module _ (is_one : ℕ → Bool) (s : State) (apart : Apart s) where
   resource_listed r among = record {
     granted = queue_listed r among r.granted r.granted (λ lkid held. rw held refl) (each_member r.granted);
     converting = queue_listed r among r.converting r.converting
-        (λ lkid held. second_of (list_any (is_lock_among is_one lkid) r.granted) (list_any (is_lock_among is_one lkid) r.converting) (list_any (is_lock_among is_one lkid) r.waiting) held) (each_member r.converting);
+        (λ lkid held. or_second (list_any (is_lock_among is_one lkid) r.granted) (list_any (is_lock_among is_one lkid) r.converting) (list_any (is_lock_among is_one lkid) r.waiting) held) (each_member r.converting);
     waiting = queue_listed r among r.waiting r.waiting
         (λ lkid held. third_of (list_any (is_lock_among is_one lkid) r.granted || list_any (is_lock_among is_one lkid) r.converting) (list_any (is_lock_among is_one lkid) r.waiting) held) (each_member r.waiting);
   }
     where
-      second_of : (a b c : Bool) → b ≡ true → (a || b || c) ≡ true
-      second_of true true c is = refl
-      second_of false true c is = refl
-      second_of a false c is = cc
-
       third_of : (a b : Bool) → b ≡ true → (a || b) ≡ true
       third_of true true is = refl
       third_of false true is = refl

@@ -1,0 +1,158 @@
+-- The best of what is looked at.
+use Rattle.std.proofs.Common.{◌≡◌, ◌<◌, ℕ, List, [], ◌∷◌, ◌++◌, map, flat_map, length, Option, None, Some, IfSome, IsSome, refl, sym, ap, ◌∙◌, subst, inl, inr, arith}
+use Rattle.std.specs.Prelude.{Any}
+use Rattle.std.proofs.lemmas.Option.{same_Some}
+use Rattle.vlm_words.specs.declared.locks.Row.{Row}
+use Rattle.vlm_words.specs.Deadlocks.{IsDeadlocked, LeadsTo, ProcessWaitsFor, WaitsOn, queue_of, wanted_number}
+use Rattle.vlm_words.specs.State.{Resource, State}
+use Rattle.vlm_links.specs.Lists.{IsIn}
+use Rattle.vlm_store.specs.Plain.{plain_resource, plain_resources}
+use Rattle.vlm_store.specs.Records.{Records, StoredResource}
+use Rattle.vlm_locks.specs.declared.finding.Standing.{Standing}
+use Rattle.vlm_locks.specs.Standing.{IsStanding}
+use Rattle.vlm_cycle.specs.Finding.{Improves, IsCovered, IsFit, IsLater, IsNotLater, IsVictimOf}
+use Rattle.vlm_cycle.specs.Waiting.{searched}
+use Rattle.vlm_cycle.proofs.Keeping.{waiting_on}
+use Rattle.vlm_cycle.proofs.Listed.{among_is, in_either, in_first, in_second}
+
+-- the best of what is left makes, with the best so far, the best of all
+abbrev pub BestGoesOn : Records → List Row → List Row → Option Standing → Option Standing → Type 0
+BestGoesOn s left all initial now = (final : Option Standing) → Improves s left now final → Improves s all initial final
+
+pub improves_none : (s : Records) (best : Option Standing) → Improves s [] best best
+improves_none s best = record { fit = λ fit. fit; kept = λ row covered. covered; covered = λ row there. absurd there }
+
+pub improves_both : (s : Records) (xs ys : List Row) (a b c : Option Standing) → Improves s xs a b → Improves s ys b c → Improves s (xs ++ ys) a c
+improves_both s xs ys a b c first second = record {
+  fit = λ fit. second.fit (first.fit fit);
+  kept = λ row covered. second.kept row (first.kept row covered);
+  covered = λ row there. elim (in_either row xs ys there) [
+    | inl left ↦ second.kept row (first.covered row left)
+    | inr right ↦ second.covered row right
+  ];
+}
+
+-- one more is looked at
+pub best_on : (s : Records) (xs left rest all : List Row) (initial now after : Option Standing) → left ≡ xs ++ rest
+    → Improves s xs now after → BestGoesOn s left all initial now → BestGoesOn s rest all initial after
+best_on s xs left rest all initial now after is step goes final last =
+    goes final (subst (λ rows. Improves s rows now final) (sym is) (improves_both s xs rest now after final step last))
+
+-- ---- one lock
+
+-- a later one is deadlocked: it is the best
+pub better_one : (s : Records) (row : Row) (best : Option Standing) (f : Standing) → row ≡ f.row → IsStanding f s → IsLater f.row best → IsDeadlocked (searched s) f.row
+    → Improves s (row ∷ []) best (Some f)
+better_one s row best f is standing later dead = record {
+  fit = λ fit g same. subst (λ h. IsStanding h s × IsDeadlocked (searched s) h.row) (same_Some f g same) (standing, dead);
+  kept = of_best best later;
+  covered = λ x there. elim there [
+    | inl here ↦ (λ dead_x. (let same : wanted_number x ≡ wanted_number f.row = ap wanted_number (sym here ∙ is) in omega (arith, same)))
+    | inr later ↦ absurd later
+  ];
+}
+  where
+    of_best : (b : Option Standing) → IsLater f.row b → (x : Row) → IsCovered s b x → IsCovered s (Some f) x
+    of_best None later x covered dead_x = absurd (covered dead_x)
+    of_best (Some b) later x covered dead_x = let less = covered dead_x in omega (arith, less, later)
+
+-- one that is not deadlocked changes nothing
+pub not_dead : (s : Records) (row : Row) (best : Option Standing) → (IsDeadlocked (searched s) row → ⊥) → Improves s (row ∷ []) best best
+not_dead s row best alive = record {
+  fit = λ fit. fit;
+  kept = λ x covered. covered;
+  covered = λ x there. elim there [
+    | inl here ↦ of_best best x (λ dead. alive (subst (IsDeadlocked (searched s)) (sym here) dead))
+    | inr later ↦ absurd later
+  ];
+}
+  where
+    of_best : (b : Option Standing) (x : Row) → (IsDeadlocked (searched s) x → ⊥) → IsCovered s b x
+    of_best None x alive_x = alive_x
+    of_best (Some b) x alive_x = λ dead. absurd (alive_x dead)
+
+-- nor does one that was not made later
+pub not_later : (s : Records) (row : Row) (best : Option Standing) → IsNotLater row best → Improves s (row ∷ []) best best
+not_later s row best earlier = record {
+  fit = λ fit. fit;
+  kept = λ x covered. covered;
+  covered = λ x there. elim there [
+    | inl here ↦ of_best best x (subst (λ y. IsNotLater y best) here earlier)
+    | inr later ↦ absurd later
+  ];
+}
+  where
+    of_best : (b : Option Standing) (x : Row) → IsNotLater x b → IsCovered s b x
+    of_best None x less = absurd less
+    of_best (Some b) x less = λ dead. less
+
+-- ---- resources
+
+-- one resource is passed
+pub record PassesOne (conv wait : List Row) (rest left : List Resource) : Type 0 where
+  pub rows : flat_map queue_of left ≡ (conv ++ wait) ++ flat_map queue_of rest
+  pub fewer : length rest < length left
+
+pub passes_one : (o : Option Resource) (conv wait : List Row) (rest left : List Resource) → IsSome o → IfSome o (λ r. left ≡ r ∷ rest)
+    → IfSome o (λ r. conv ≡ r.converting) → IfSome o (λ r. wait ≡ r.waiting) → PassesOne conv wait rest left
+passes_one None conv wait rest left some is conv_is wait_is = cc
+passes_one (Some r) conv wait rest left some is conv_is wait_is = record {
+  rows = ap (flat_map queue_of) is ∙ ap (λ xs. (xs ++ r.waiting) ++ flat_map queue_of rest) (sym conv_is) ∙ ap (λ ys. (conv ++ ys) ++ flat_map queue_of rest) (sym wait_is);
+  fewer = rw is (omega arith);
+}
+
+-- ---- the victim
+
+-- a search reads no more of a state than its resources
+module _ (s t : State) (same : s.resources ≡ t.resources) where
+  waits_same : (pid other : ℕ) → ProcessWaitsFor s pid other → ProcessWaitsFor t pid other
+  waits_same pid other w = record {
+    row = w.row;
+    lock = w.lock;
+    owner = w.owner;
+    holder = w.holder;
+    waits = subst (λ rs. Any (λ r. WaitsOn r w.row w.lock) rs) same w.waits;
+  }
+
+  leads_same : (pid : ℕ) (others : List ℕ) (last : ℕ) → LeadsTo s pid others last → LeadsTo t pid others last
+  leads_same pid [] last leads = leads
+  leads_same pid (next ∷ others) last leads = (waits_same pid next leads.0, leads_same next others last leads.1)
+
+  pub deadlocked_same : (row : Row) → IsDeadlocked s row → IsDeadlocked t row
+  deadlocked_same row dead = record {
+    lock = dead.lock;
+    waits = subst (λ rs. Any (λ r. WaitsOn r row dead.lock) rs) same dead.waits;
+    others = dead.others;
+    leads = leads_same dead.lock.pid dead.others row.pid dead.leads;
+  }
+
+-- a deadlocked request is queued on a resource
+pub dead_queued : (s : Records) (row : Row) → IsDeadlocked (searched s) row → IsIn row (flat_map queue_of (plain_resources s))
+dead_queued s row dead =
+    let w = waiting_on s row dead.lock dead.waits in
+    in_all w.resource s.resources w.there (among_is row (queue_of (plain_resource w.resource)) w.waits.queued)
+  where
+    in_all : (r : StoredResource) (rs : List StoredResource) → IsIn r rs → IsIn row (queue_of (plain_resource r)) → IsIn row (flat_map queue_of (map plain_resource rs))
+    in_all r [] there here = absurd there
+    in_all r (x ∷ rs) there here = elim there [
+      | inl first ↦
+          in_first row (queue_of (plain_resource x)) (flat_map queue_of (map plain_resource rs))
+          (subst (λ y. IsIn row (queue_of (plain_resource y))) (sym first) here)
+      | inr later ↦ in_second row (queue_of (plain_resource x)) (flat_map queue_of (map plain_resource rs)) (in_all r rs later here)
+    ]
+
+-- the best of all is the victim
+pub record IsBestOfAll (s : Records) (best : Option Standing) : Type 0 where
+  pub victim : IsVictimOf s best
+  pub fit : IsFit s best
+
+pub best_of_all : (s : Records) (best : Option Standing) → Improves s (flat_map queue_of (plain_resources s)) None best → IsBestOfAll s best
+best_of_all s best improves = let fit = improves.fit (λ f is. cc) in record { victim = of_best best fit improves.covered; fit = fit }
+  where
+    of_best : (b : Option Standing) → IsFit s b → ((row : Row) → IsIn row (flat_map queue_of (plain_resources s)) → IsCovered s b row) → IsVictimOf s b
+    of_best None fit covered state same =
+        λ row dead. let here = deadlocked_same state (searched s) same row dead in covered row (dead_queued s row here) here
+    of_best (Some b) fit covered state same = (
+      deadlocked_same (searched s) state (sym same) b.row (fit b refl).1,
+      λ row dead. let here = deadlocked_same state (searched s) same row dead in covered row (dead_queued s row here) here,
+    )

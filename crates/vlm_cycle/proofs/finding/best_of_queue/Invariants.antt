@@ -1,0 +1,18 @@
+use Rattle.std.proofs.Common.{length}
+use Rattle.vlm_queue.specs.Walks.{IsInQueue, rows_left, rows_queued}
+use Rattle.vlm_cycle.specs.Waiting.{IsRoomy}
+use Rattle.vlm_cycle.specs.Marking.{KeepsRoom}
+use Rattle.vlm_cycle.proofs.Found.{BestGoesOn}
+use Rattle.vlm_cycle.proofs.finding.best_of_queue.Given as goal
+
+-- the best of what is left is the best of the whole queue
+abbrev pub invariant-loop-at : goal.invariant-loop-at
+invariant-loop-at l = record {
+  there : IsInQueue l.fn.res l.fn.queue l.at l.store;
+  roomy : IsRoomy l.store l.scratch;
+  room : KeepsRoom l.initial.scratch l.scratch;
+  goes_on : BestGoesOn l.store (rows_left l.fn.res l.fn.queue l.at l.store) (rows_queued l.fn.res l.fn.queue l.store) l.initial.best l.best;
+}
+
+abbrev pub decreases-loop-at : goal.decreases-loop-at
+decreases-loop-at l = length (rows_left l.fn.res l.fn.queue l.at l.store)

@@ -1,0 +1,41 @@
+use Rattle.std.proofs.Common.{◌∙◌, Some, None, ap, subst}
+use Rattle.vlm_words.specs.Deadlocks.{IsDeadlocked}
+use Rattle.vlm_marks.specs.Nodes.{is_marked}
+use Rattle.vlm_cycle.specs.declared.scratch.Scratch.{Scratch}
+use Rattle.vlm_cycle.specs.Marking.{IsTaken}
+use Rattle.vlm_cycle.specs.Waiting.{searched}
+use Rattle.vlm_cycle.proofs.Marked.{roomy_still}
+use Rattle.vlm_cycle.proofs.Searched.{less_to_go, none_left, not_found, searched_begun, searched_on}
+use Rattle.vlm_cycle.proofs.searching.is_deadlocked.Goals as goal
+
+pub loop-pid-init : goal.loop-pid-init
+loop-pid-init c = (
+  searched_begun c.args.store.now c.law_records_are_sound.ensures c.args.waiting.now.row c.clear.new.self c.find_waited_for.new.scratch c.clear.ensures.clear c.find_waited_for.ensures
+      (roomy_still c.args.store.now c.clear.new.self c.find_waited_for.new.scratch c.find_waited_for.ensures.room
+      (roomy_still c.args.store.now c.args.scratch.now c.clear.new.self c.clear.ensures.room c.requires.roomy)),
+  λ pid room. room,
+)
+
+-- one process less to go to
+pub loop-pid-smaller : goal.loop-pid-smaller
+loop-pid-smaller c =
+    less_to_go c.args.store.now c.law_records_are_sound.ensures c.args.waiting.now.row c.loop-pid.scratch c.take.new.self c.find_behind.new.scratch c.in-Some.pid c.loop-pid.invariant.0
+    (subst (λ o. IsTaken o c.loop-pid.scratch c.take.new.self) c.in-Some.is c.take.ensures) c.find_behind.ensures
+
+pub loop-pid-preserved : goal.loop-pid-preserved
+loop-pid-preserved c =
+    let taken : IsTaken (Some c.in-Some.pid) c.loop-pid.scratch c.take.new.self =
+    subst (λ o. IsTaken o c.loop-pid.scratch c.take.new.self) c.in-Some.is c.take.ensures in (
+      searched_on c.args.store.now c.law_records_are_sound.ensures c.args.waiting.now.row c.loop-pid.scratch c.take.new.self c.find_behind.new.scratch c.in-Some.pid c.loop-pid.invariant.0 taken c.find_behind.ensures,
+      λ pid room. c.find_behind.ensures.room pid (taken.4 pid (c.loop-pid.invariant.1 pid room)),
+    )
+
+-- whoever is led to is found
+pub returns-clause-no : goal.returns-clause-no
+returns-clause-no c =
+    let s = c.args.store.now in
+    let row = c.args.waiting.now.row in
+    let none : IsTaken None c.loop-pid.scratch c.take.new.self =
+    subst (λ o. IsTaken o c.loop-pid.scratch c.take.new.self) c.in_default.is c.take.ensures in
+    not_found (IsDeadlocked (searched s) row) c.has.result (is_marked c.take.new.self.seen row.pid) c.has.ensures
+    (λ dead. ap (λ (m : Scratch). is_marked m.seen row.pid) none.0 ∙ none_left s c.law_records_are_sound.ensures row c.loop-pid.scratch c.loop-pid.invariant.0 none.1 dead)

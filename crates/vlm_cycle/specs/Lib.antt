@@ -1,0 +1,3 @@
+pub mod Marking
+pub mod Waiting
+pub mod Finding

@@ -1,0 +1,15 @@
+//! The search for a deadlock: which queued request ends where processes wait for each other in a circle.
+//!
+//! From the locks that a request waits for the search goes on through the processes that own them and the queued requests of
+//! these. Which processes it has found, and to which of them it still has to go, is marked in two sets, whose room is made
+//! beforehand: so a search takes no memory.
+#![tactic(auto)]
+
+mod finding;
+mod marking;
+mod scratch;
+mod searching;
+mod waiting;
+
+pub use finding::victim;
+pub use scratch::Scratch;

@@ -1,0 +1,62 @@
+//! The two sets of marked processes that a search has.
+
+ghost use Rattle.std.specs.Prelude.{◌≡◌, ◌/◌, ◌≤◌, ℕ, false, true, IfSome, IfNone, IsOk, OnErr, OnOk};
+ghost use Rattle.vlm_marks.specs.Nodes.{is_marked, is_node};
+ghost use Rattle.vlm_cycle.specs.Marking.{HasRoom, IsClear, IsTaken, KeepsRoom, Marks};
+
+use std::alloc::{AllocError, Global};
+use vlm_marks::NodeMarks;
+
+/// The marks of a search, with the room that was made for them.
+#[derive(Drop)]
+pub struct Scratch {
+    // the processes that were found
+    pub(crate) seen: NodeMarks,
+    // those of them to which the search still has to go
+    pub(crate) todo: NodeMarks,
+}
+
+impl Scratch {
+    /// No room for any process. It takes no memory.
+    pub fn new(alloc: Global) -> Scratch {
+        Scratch {
+            seen: NodeMarks::new(alloc),
+            todo: NodeMarks::new(alloc),
+        }
+    }
+
+    /// Takes all marks away.
+    pub(crate) fn clear(&mut self)
+        ensures clear { IsClear self.new }
+        ensures room { KeepsRoom self.old self.new }
+    {
+        self.seen.clear();
+        self.todo.clear();
+    }
+
+    /// A process is found: where it was not before, the search has to go to it.
+    pub(crate) fn find(&mut self, pid: u32)
+        requires room { HasRoom self.old pid }
+        requires node { is_node (pid / 65536) ≡ true }
+        ensures { Marks (λ other. other ≡ pid) self.old self.new }
+    {
+        if !self.seen.has(pid) {
+            self.seen.mark(pid);
+            self.todo.mark(pid);
+        }
+    }
+
+    /// A process to which the search has to go: it need not go there again. None where there is none.
+    pub(crate) fn take(&mut self) -> Option<u32>
+        requires { (pid : ℕ) → is_marked self.old.todo pid ≡ true → HasRoom self.old pid }
+        ensures { IsTaken result self.old self.new }
+    {
+        for node in 1..9 {
+            if let Some(pid) = self.todo.first(node) {
+                self.todo.unmark(pid);
+                return Some(pid);
+            }
+        }
+        None
+    }
+}

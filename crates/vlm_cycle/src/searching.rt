@@ -1,0 +1,64 @@
+//! Whether a request is deadlocked.
+
+ghost use Rattle.std.specs.Bool.{OnFalse, OnTrue};
+ghost use Rattle.vlm_words.specs.Deadlocks.{IsDeadlocked};
+ghost use Rattle.vlm_store.specs.Records.{IsProcess};
+ghost use Rattle.vlm_locks.specs.Rest.{IsAtRest};
+ghost use Rattle.vlm_locks.specs.Standing.{IsStanding};
+ghost use Rattle.vlm_cycle.specs.Marking.{KeepsRoom, Marks};
+ghost use Rattle.vlm_cycle.specs.Waiting.{IsBehind, IsRoomy, searched};
+
+use crate::marking::find_waited_for;
+use crate::scratch::Scratch;
+use vlm_locks::{Standing, standing_of};
+use vlm_store::laws::law_records_are_sound;
+use vlm_store::{ProcAt, Store};
+
+// Finds the owners of the locks for which the requests of a process wait. The cost grows with its locks and with what stands
+// on their resources.
+fn find_behind_own(store: &Store, scratch: &mut Scratch, owner: ProcAt, pid: u32)
+    requires rest { IsAtRest store.now }
+    requires owner { IsProcess owner pid store.now }
+    requires roomy { IsRoomy store.now scratch.old }
+    ensures { Marks (IsBehind store.now pid) scratch.old scratch.new }
+{
+    law_records_are_sound(store);
+    let mut at = store.first_own(owner);
+    while let Some(lock) = at {
+        let Some(standing) = standing_of(store, lock) else {
+            break;
+        };
+        find_waited_for(store, scratch, &standing);
+        at = store.next_own(lock);
+    }
+}
+
+// The same for a process that is named.
+fn find_behind(store: &Store, scratch: &mut Scratch, pid: u32)
+    requires rest { IsAtRest store.now }
+    requires roomy { IsRoomy store.now scratch.old }
+    ensures { Marks (IsBehind store.now pid) scratch.old scratch.new }
+{
+    law_records_are_sound(store);
+    if let Some(owner) = store.process(pid) {
+        find_behind_own(store, scratch, owner, pid);
+    }
+}
+
+/// Whether the request of a lock is deadlocked. The cost grows with the locks of the processes that are found.
+pub(crate) fn is_deadlocked(store: &Store, scratch: &mut Scratch, waiting: &Standing) -> bool
+    requires rest { IsAtRest store.now }
+    requires standing { IsStanding waiting.now store.now }
+    requires roomy { IsRoomy store.now scratch.old }
+    ensures yes { OnTrue result (IsDeadlocked (searched store.now) waiting.now.row) }
+    ensures no { OnFalse result (¬ IsDeadlocked (searched store.now) waiting.now.row) }
+    ensures room { KeepsRoom scratch.old scratch.new }
+{
+    law_records_are_sound(store);
+    scratch.clear();
+    find_waited_for(store, scratch, waiting);
+    while let Some(pid) = scratch.take() {
+        find_behind(store, scratch, pid);
+    }
+    scratch.seen.has(waiting.row.pid)
+}

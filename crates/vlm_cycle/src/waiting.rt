@@ -1,0 +1,30 @@
+//! What keeps a queued request waiting.
+
+ghost use Rattle.std.specs.Bool.{OnFalse, OnTrue};
+ghost use Rattle.vlm_words.specs.Deadlocks.{BlocksThoseBehind, HoldsAgainst};
+
+use vlm_words::flags::EnqFlags;
+use vlm_words::locks::Request;
+use vlm_words::modes::{Mode, compatible};
+
+/// Whether what is held keeps a request of this mode waiting: it is not compatible, and without NODLCKBLK.
+pub(crate) fn holds_against(mode: Mode, held: &Option<Request>) -> bool
+    ensures yes { OnTrue result (HoldsAgainst mode held.now) }
+    ensures no { OnFalse result (¬ HoldsAgainst mode held.now) }
+{
+    match held {
+        Some(held) => !compatible(mode, held.mode) && !held.flags.has(EnqFlags::NODLCKBLK),
+        None => false,
+    }
+}
+
+/// Whether the requests behind one wait for it: it is without NODLCKBLK.
+pub(crate) fn blocks_those_behind(want: &Option<Request>) -> bool
+    ensures yes { OnTrue result (BlocksThoseBehind want.now) }
+    ensures no { OnFalse result (¬ BlocksThoseBehind want.now) }
+{
+    match want {
+        Some(want) => !want.flags.has(EnqFlags::NODLCKBLK),
+        None => false,
+    }
+}
