@@ -25,6 +25,18 @@ impl Scratch {
         }
     }
 
+    /// Makes room to mark the process, and 64 of its node at a time. Where memory is refused there may be more room than
+    /// there was.
+    pub fn make_room(&mut self, pid: u32) -> Result<(), AllocError>
+        ensures room { OnOk result (HasRoom self.new pid) }
+        ensures kept { KeepsRoom self.old self.new }
+        ensures succeeds { (other : ℕ) → other / 65536 ≡ pid / 65536 → pid / 64 ≤ other / 64
+            → HasRoom self.old other → IsOk result }
+    {
+        self.seen.make_room(pid)?;
+        self.todo.make_room(pid)
+    }
+
     /// Takes all marks away.
     pub(crate) fn clear(&mut self)
         ensures clear { IsClear self.new }
