@@ -273,7 +273,9 @@ told_by_checks s node eight gone (Rundown pid) of_node = told_caller s pid (subs
 told_by_checks s node eight gone (Leave other) of_node =
     let here : HasGone s.nodes other = subst (HasGone s.nodes) (sym of_node) gone in
     rw (gone_is_node s other eight here, gone_is s other here) refl
-told_by_checks s node eight gone (Search other) of_node = absurd of_node
+told_by_checks s node eight gone (Search other) of_node =
+    let here : HasGone s.nodes other = subst (HasGone s.nodes) (sym of_node) gone in
+    rw (gone_is_node s other eight here, gone_is s other here) refl
 told_by_checks s node eight gone (Take pid) of_node = told_caller s pid (subst (HasGone s.nodes) (sym of_node) gone)
 
 -- which node breaks the rule of DEPARTED
@@ -285,7 +287,7 @@ broken_by s (Convert c) broken = (c.pid / 65536, refl, broken)
 broken_by s (Deq d) broken = (d.pid / 65536, refl, broken)
 broken_by s (Rundown pid) broken = (pid / 65536, refl, broken)
 broken_by s (Leave node) broken = (node, refl, broken)
-broken_by s (Search node) broken = absurd broken
+broken_by s (Search node) broken = (node, refl, broken)
 broken_by s (Take pid) broken = (pid / 65536, refl, broken)
 
 -- no accepted step is answered DEPARTED

@@ -10,7 +10,7 @@ use Rattle.vlm_words.specs.Stepped.{Outcome}
 use Rattle.vlm_words.specs.Runs.{History}
 use Rattle.vlm_laws.specs.Happened.{HasHappened, IsRefusal}
 
--- the step is one of the node: it names the node, or a process of it; a search, which is not made yet, is one of none
+-- the step is one of the node: it names the node, or a process of it
 abbrev pub IsStepOf : ℕ → Step → Type 0
 IsStepOf node (Declare d) = d.node ≡ node
 IsStepOf node (SetValue v) = v.pid / 65536 ≡ node
@@ -19,7 +19,7 @@ IsStepOf node (Convert c) = c.pid / 65536 ≡ node
 IsStepOf node (Deq d) = d.pid / 65536 ≡ node
 IsStepOf node (Rundown pid) = pid / 65536 ≡ node
 IsStepOf node (Leave other) = other ≡ node
-IsStepOf node (Search other) = ⊥
+IsStepOf node (Search other) = other ≡ node
 IsStepOf node (Take pid) = pid / 65536 ≡ node
 
 -- the step is the departure of the node, and it is accepted

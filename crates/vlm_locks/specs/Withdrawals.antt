@@ -1,8 +1,8 @@
 -- Withdrawals as the plain machine has them.
 use Rattle.vlm_words.specs.Endings.{How}
-use Rattle.vlm_words.specs.Endings.How.{by_abort, by_cancel, by_rundown}
+use Rattle.vlm_words.specs.Endings.How.{by_abort, by_cancel, by_deadlock, by_rundown}
 use Rattle.vlm_words.specs.Withdrawals.{Withdrawal as PlainWithdrawal}
-use Rattle.vlm_locks.specs.declared.withdrawals.End.TheVariants.{Aborted, Cancelled, RunDown}
+use Rattle.vlm_locks.specs.declared.withdrawals.End.TheVariants.{Aborted, Cancelled, Deadlocked, RunDown}
 use Rattle.vlm_locks.specs.declared.withdrawals.End.{End}
 use Rattle.vlm_locks.specs.declared.withdrawals.Withdrawal.{Withdrawal}
 
@@ -10,6 +10,7 @@ use Rattle.vlm_locks.specs.declared.withdrawals.Withdrawal.{Withdrawal}
 abbrev pub how_ended : End → How
 how_ended Aborted = by_abort
 how_ended Cancelled = by_cancel
+how_ended Deadlocked = by_deadlock
 how_ended RunDown = by_rundown
 
 -- the withdrawal that is asked for

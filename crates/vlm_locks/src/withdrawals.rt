@@ -4,6 +4,7 @@ ghost use Rattle.std.specs.Prelude.{◌≡◌};
 ghost use Rattle.vlm_words.specs.Endings.{ending_status};
 ghost use Rattle.vlm_words.specs.Endings.How.{by_abort};
 ghost use Rattle.vlm_words.specs.Rundown.{rundown_of};
+ghost use Rattle.vlm_words.specs.Search.{deadlock_of};
 ghost use Rattle.vlm_locks.specs.Left.{giving_up};
 ghost use Rattle.vlm_locks.specs.Withdrawals.{how_ended, plain_withdrawal};
 
@@ -16,18 +17,21 @@ pub enum End {
     Aborted,
     /// It is cancelled.
     Cancelled,
+    /// A search found it deadlocked.
+    Deadlocked,
     /// With its process, which is told nothing any more.
     RunDown,
 }
 
 impl End {
-    /// The status of the request, ABORT or CANCEL; none where its process ends.
+    /// The status of the request, ABORT, CANCEL or DEADLOCK; none where its process ends.
     pub(crate) fn status(self) -> Option<Cond>
         ensures { ending_status (how_ended self) ≡ result }
     {
         match self {
             End::Aborted => Some(Cond::Abort),
             End::Cancelled => Some(Cond::Cancel),
+            End::Deadlocked => Some(Cond::Deadlock),
             End::RunDown => None,
         }
     }
@@ -63,6 +67,20 @@ impl Withdrawal {
             stays: false,
             value: None,
             invalidates: true,
+        }
+    }
+
+    /// That of the victim of a search: its request ends, and with it a lock that waits; one that converts stays.
+    pub fn victim(lkid: u32) -> Self
+        ensures { plain_withdrawal result ≡ deadlock_of lkid }
+    {
+        Withdrawal {
+            lkid,
+            waiting: End::Deadlocked,
+            converting: End::Deadlocked,
+            stays: true,
+            value: None,
+            invalidates: false,
         }
     }
 

@@ -305,7 +305,7 @@ step_breaks s apart placed (Convert c) = conversion_breaks s c apart
 step_breaks s apart placed (Deq d) = dequeue_breaks s d
 step_breaks s apart placed (Rundown pid) = says_caller (CallerBreaks s pid) s pid (λ departed. departed) (λ none. none)
 step_breaks s apart placed (Leave node) = departure_breaks s node
-step_breaks s apart placed (Search node) = says_some (Breaks s (Search node)) Badparam tt
+step_breaks s apart placed (Search node) = departure_breaks s node
 step_breaks s apart placed (Take pid) = says_caller (CallerBreaks s pid) s pid (λ departed. departed) (λ none. none)
 
 -- an accepted step breaks no rule
@@ -318,7 +318,7 @@ step_keeps s apart placed (Convert c) passed =
 step_keeps s apart placed (Deq d) passed = dequeue_keeps s d passed
 step_keeps s apart placed (Rundown pid) passed = caller_keeps s pid (caller_passes s pid passed)
 step_keeps s apart placed (Leave node) passed = departure_keeps s node passed
-step_keeps s apart placed (Search node) passed = cc
+step_keeps s apart placed (Search node) passed = departure_keeps s node passed
 step_keeps s apart placed (Take pid) passed = caller_keeps s pid (caller_passes s pid passed)
 
 -- an accepted step answers so

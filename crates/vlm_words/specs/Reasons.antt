@@ -167,16 +167,11 @@ DequeueBreaks s d Sublocks =
     × Any (λ r. Any (λ row. row.parent ≡ named_by_dequeue s d) (r.granted ++ r.converting ++ r.waiting)) s.resources
 DequeueBreaks s d cond = CallerBreaks s d.pid cond
 
--- which rules a departure breaks: it names no node, or one that has departed
+-- which rules a departure breaks, or a search: it names no node, or one that has departed
 abbrev pub DepartureBreaks : State → ℕ → Cond → Type 0
 DepartureBreaks s node Badparam = (node ≡ 0) ⊎ (8 < node)
 DepartureBreaks s node Departed = HasDeparted s node
 DepartureBreaks s node cond = ⊥
-
--- a kind of step that is not made yet, as a search, breaks the rule that it be made
-abbrev pub UnbuiltBreaks : Cond → Type 0
-UnbuiltBreaks Badparam = ⊤
-UnbuiltBreaks cond = ⊥
 
 -- the step breaks the rule of the condition in this state
 abbrev pub Breaks : State → Step → Cond → Type 0
@@ -187,7 +182,7 @@ Breaks s (Convert c) cond = ConversionBreaks s c cond
 Breaks s (Deq d) cond = DequeueBreaks s d cond
 Breaks s (Rundown pid) cond = CallerBreaks s pid cond
 Breaks s (Leave node) cond = DepartureBreaks s node cond
-Breaks s (Search node) cond = UnbuiltBreaks cond
+Breaks s (Search node) cond = DepartureBreaks s node cond
 Breaks s (Take pid) cond = CallerBreaks s pid cond
 
 -- what an accepted request answers: SYNCH where it is granted at once and SYNCSTS asks for that, else NORMAL

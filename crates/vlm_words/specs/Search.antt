@@ -1,19 +1,18 @@
 -- The step that searches for a deadlock.
 use Rattle.std.specs.Prelude.{ℕ, true, false, ◌≡◌, List, [], ◌∷◌, Option, None, Some}
 use Rattle.std.specs.Option.{option_map}
-use Rattle.vlm_words.specs.declared.conditions.Cond.TheVariants.{Badparam}
 use Rattle.vlm_words.specs.declared.conditions.Cond.{Cond}
 use Rattle.vlm_words.specs.declared.locks.Row.{Row}
 use Rattle.vlm_words.specs.State.{State}
 use Rattle.vlm_words.specs.Endings.{Ending}
 use Rattle.vlm_words.specs.Endings.How.{by_deadlock}
 use Rattle.vlm_words.specs.Withdrawals.{Withdrawal, state_after_withdrawals, withdrawn_endings}
+use Rattle.vlm_words.specs.Rundown.{leave_refusal}
 use Rattle.vlm_words.specs.Deadlocks.{IsVictim}
 
--- a search is not made yet: it is refused whatever it asks for. Once a core makes it, it is refused where the departure of
--- its node would be (`leave_refusal`): there is no such node, or it has departed before
+-- a search is refused where the departure of its node would be: there is no such node, or it has departed before
 abbrev pub search_refusal : State → ℕ → Option Cond
-search_refusal s node = Some Badparam
+search_refusal s node = leave_refusal s node
 
 -- what a search chooses: the victim, and where it is refused nothing
 abbrev pub IsSearchedFor : Option Cond → State → Option Row → Type 0
