@@ -17,7 +17,7 @@ use Rattle.vlm_links.specs.Lists.{IsIn}
 use Rattle.vlm_records.specs.declared.handles.Place.TheVariants.{Queued}
 use Rattle.vlm_store.specs.Plain.{plain_resource, plain_resources}
 use Rattle.vlm_store.specs.Records.{AreResourcesApart, IsSound, Records, StoredResource, queued, resource_at, rows_of_locks}
-use Rattle.vlm_locks.specs.declared.withdrawals.End.TheVariants.{Aborted, Cancelled, RunDown}
+use Rattle.vlm_locks.specs.declared.withdrawals.End.TheVariants.{Aborted, Cancelled, Deadlocked, RunDown}
 use Rattle.vlm_locks.specs.declared.withdrawals.End.{End}
 use Rattle.vlm_locks.specs.Withdrawals.{how_ended}
 use Rattle.vlm_locks.specs.declared.finding.Standing.{Standing}
@@ -111,12 +111,15 @@ end_written Aborted cond row request ps status is =
     rw is (ap (λ c. processes_after_asts (completion_asts false request row.lkid row.pid) (processes_after_status row.pid request.block c ps)) (same_Some _ _ status))
 end_written Cancelled cond row request ps status is =
     rw is (ap (λ c. processes_after_asts (completion_asts false request row.lkid row.pid) (processes_after_status row.pid request.block c ps)) (same_Some _ _ status))
+end_written Deadlocked cond row request ps status is =
+    rw is (ap (λ c. processes_after_asts (completion_asts false request row.lkid row.pid) (processes_after_status row.pid request.block c ps)) (same_Some _ _ status))
 end_written RunDown cond row request ps status is = cc
 
 -- where its process ends nothing is written, and no completion queued
 pub none_written : (ended : End) (row : Row) (ps : List Process) → ending_status (how_ended ended) ≡ None → processes_after (row_endings (how_ended ended) false row) ps ≡ ps
 none_written Aborted row ps status = cc
 none_written Cancelled row ps status = cc
+none_written Deadlocked row ps status = cc
 none_written RunDown row ps status = of_want row.want
   where
     of_want : (want : Option Request) → processes_after (wanted_endings by_rundown false row.lkid row.pid want) ps ≡ ps
