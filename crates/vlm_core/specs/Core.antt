@@ -2,7 +2,7 @@
 use Rattle.vlm_words.specs.Runs.{History, Run}
 use Rattle.vlm_words.specs.State.{State}
 use Rattle.vlm_machine.specs.Machine.{plain_state}
-use Rattle.vlm_machine.specs.Notes.{HasRoomToNote}
+use Rattle.vlm_machine.specs.Notes.{HasRoomToMark, HasRoomToNote}
 use Rattle.vlm_core.specs.declared.public.Core.TheInside.{Inside}
 
 -- some run leads to the state
@@ -10,7 +10,9 @@ pub record IsReachable (s : State) : Type 0 where
   pub history : History
   pub run : Run history s
 
--- between two steps some run leads to the machine's state, and an ending finds room for its notes
+-- between two steps some run leads to the machine's state, an ending finds room for its notes, and a search for its
+-- marks
 pub record IsCore (c : Inside) : Type 0 where
   pub reachable : IsReachable (plain_state c.machine)
   pub notes : HasRoomToNote c.touched c.machine
+  pub marks : HasRoomToMark c.scratch c.machine

@@ -4,7 +4,7 @@ ghost use Rattle.std.specs.Prelude.{◌≡◌, []};
 ghost use Rattle.vlm_words.specs.declared.resources.Queue.{Queue};
 ghost use Rattle.vlm_words.specs.Laws.{HeldModesAreCompatible, NothingIsLeftToGrant};
 ghost use Rattle.vlm_words.specs.State.{start};
-ghost use Rattle.vlm_words.specs.Stepped.{Outcome, stepped};
+ghost use Rattle.vlm_words.specs.Stepped.{IsMade, Outcome, stepped};
 ghost use Rattle.vlm_links.specs.Lists.{IsIn};
 ghost use Rattle.vlm_store.specs.Plain.{plain_processes, plain_resources};
 ghost use Rattle.vlm_store.specs.Records.{StoredResource, queued, rows_of_locks};
@@ -13,6 +13,7 @@ ghost use Rattle.vlm_machine.specs.Between.{IsBetweenSteps};
 
 use std::alloc::Global;
 use std::marker::Model;
+use vlm_cycle::Scratch;
 use vlm_locks::Touched;
 use vlm_machine::Machine;
 use vlm_store::Store;
@@ -20,7 +21,7 @@ use vlm_store::laws::law_records_are_sound;
 use vlm_words::laws::{
     law_a_declaration_gives_a_new_identification, law_a_parent_outlives_its_sublocks,
     law_each_resource_is_settled, law_held_modes_are_compatible, law_identifications_are_apart,
-    law_no_lock_is_more_than_15_levels_below, law_nothing_is_left_to_grant,
+    law_identifications_of_processes_rise, law_no_lock_is_more_than_15_levels_below, law_nothing_is_left_to_grant,
     law_rows_fit_their_queues, law_serials_rise,
 };
 use vlm_words::steps::{Answer, Conversion, Declaration, Dequeue, NewRequest, Step, ValueSetting};
@@ -31,6 +32,8 @@ pub struct Core {
     pub(crate) machine: Machine,
     // what a step touches, for its sweep, with room for all that an ending can touch
     touched: Touched,
+    // the marks of a search, with room for each living process
+    scratch: Scratch,
 }
 
 // Written out, a drop is one call to each owner of a core.
@@ -39,6 +42,7 @@ impl Drop for Core {
         let Core {
             machine: _,
             touched: _,
+            scratch: _,
         } = self;
     }
 }
@@ -64,6 +68,7 @@ impl Core {
         Core {
             machine: Machine::new(alloc),
             touched: Touched::new(alloc),
+            scratch: Scratch::new(alloc),
         }
     }
 
@@ -75,6 +80,7 @@ impl Core {
         law_identifications_are_apart();
         law_serials_rise();
         law_a_declaration_gives_a_new_identification();
+        law_identifications_of_processes_rise();
         law_a_parent_outlives_its_sublocks();
         law_no_lock_is_more_than_15_levels_below();
         law_rows_fit_their_queues();
@@ -99,7 +105,7 @@ impl Core {
         &self.machine.store
     }
 
-    /// Makes one step, of whichever kind. A kind that is not built yet answers BADPARAM. Each request that
+    /// Makes one step, of whichever kind. Each request that
     /// ends in it queues an AST for its completion routine, if it names one; a grant at once with SYNCSTS
     /// does not, since the answer tells of it. Then each granted lock that is in the way of a queued request
     /// is warned, once for each grant of it: an AST for its blocking routine is queued, if its request names
@@ -109,7 +115,7 @@ impl Core {
         ensures { Outcome self.old step self.new result }
     {
         self.between_steps();
-        self.machine.step(&mut self.touched, step)
+        self.machine.step(&mut self.touched, &mut self.scratch, step)
     }
 
     /// Declares a process (this project's own). Refused by BADPARAM where the node is not 1 to 8,
@@ -217,5 +223,19 @@ impl Core {
         ensures answer { result ≡ (stepped self.old (Step.Leave node) None).answer }
     {
         self.step(Step::Leave(node))
+    }
+
+    /// Searches for a deadlock: processes that wait for each other in a circle ($ENQ, lock conversion deadlocks and
+    /// multiple resource deadlocks). A queued request waits for each other lock of its resource that is held in a mode
+    /// that is not compatible with the one it asks for, unless that was asked for with NODLCKBLK, and for each request
+    /// before it, conversions first, unless that has NODLCKBLK; with NODLCKWT it waits for none. Of the requests that lead
+    /// back to their own process the one that was made last is the victim: it ends with DEADLOCK, its completion AST is
+    /// queued, a lock that waited goes, and one that converts stays as it was granted; then what it was in the way of is
+    /// granted. It answers the identification of the victim's lock, or that there is none, and then nothing is changed.
+    /// It takes no memory. Refused by BADPARAM where the node is not 1 to 8, DEPARTED.
+    pub fn search(&mut self, node: u8) -> Answer
+        ensures { IsMade self.old (Step.Search node) self.new result }
+    {
+        self.step(Step::Search(node))
     }
 }

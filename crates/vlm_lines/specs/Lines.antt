@@ -16,10 +16,10 @@ use Rattle.vlm_lines.specs.declared.keyed.EnqWords.{EnqWords}
 use Rattle.vlm_lines.specs.declared.keyed.SetWords.{SetWords}
 use Rattle.vlm_lines.specs.declared.keyed.NodeWords.{NodeWords}
 use Rattle.vlm_lines.specs.declared.lines.Line.{Line}
-use Rattle.vlm_lines.specs.declared.lines.Line.TheVariants.{Empty, Declare, Enq, Cvt, Deq, Set, End, Leave, Ast, Block as block_words, Show}
+use Rattle.vlm_lines.specs.declared.lines.Line.TheVariants.{Empty, Declare, Enq, Cvt, Deq, Set, End, Leave, Search, Ast, Block as block_words, Show}
 use Rattle.vlm_lines.specs.declared.faults.LineFault.{LineFault}
 use Rattle.vlm_lines.specs.declared.faults.LineFault.TheVariants.{TooLong, UnknownCommand, WrongWord, NumberOutOfRange}
-use Rattle.vlm_words.specs.Flags.{cancel, deqall, expedite, has_flag, invvalblk, noqueue, quecvt, syncsts, system, valblk}
+use Rattle.vlm_words.specs.Flags.{cancel, deqall, expedite, has_flag, invvalblk, nodlckblk, nodlckwt, noqueue, quecvt, syncsts, system, valblk}
 
 -- the byte goes to the front of the first piece
 abbrev pub onto : ℕ → List (List ℕ) → List (List ℕ)
@@ -210,6 +210,8 @@ enq_flag word =
     else if is_text word (codes "system") then Some system
     else if is_text word (codes "expedite") then Some expedite
     else if is_text word (codes "quecvt") then Some quecvt
+    else if is_text word (codes "nodlckwt") then Some nodlckwt
+    else if is_text word (codes "nodlckblk") then Some nodlckblk
     else None
 
 -- the flag that a word of a deq line stands for
@@ -358,23 +360,34 @@ end_line words =
     process_name first.0 >>= λ name.
     no_more (End name) first.1
 
--- nothing of a leave line's keyed word is read yet
+-- nothing of a leave or search line's keyed word is read yet
 abbrev pub no_node_words : NodeWords
 no_node_words = record { node = None }
 
--- one more keyed word of a leave line
+-- one more keyed word of a leave or search line
 unfoldable pub node_word : NodeWords → List ℕ → Result NodeWords LineFault
 node_word w word =
     if has_key (codes "node=") word then
     once w.node (number_within 255 (behind (codes "node=") word)) >>= (λ n. Ok (record w { node = n }))
     else Err WrongWord
 
+-- node=N and no other word
+unfoldable pub node_alone : List (List ℕ) → Result ℕ LineFault
+node_alone words =
+    all_words node_word no_node_words words >>= λ w.
+    given w.node
+
 -- leave node=N
 unfoldable pub leave_line : List (List ℕ) → Result Line LineFault
 leave_line words =
-    all_words node_word no_node_words words >>= λ w.
-    given w.node >>= λ node.
+    node_alone words >>= λ node.
     Ok (Leave node)
+
+-- search node=N
+unfoldable pub search_line : List (List ℕ) → Result Line LineFault
+search_line words =
+    node_alone words >>= λ node.
+    Ok (Search node)
 
 -- ast NAME
 unfoldable pub ast_line : List (List ℕ) → Result Line LineFault
@@ -402,6 +415,7 @@ command_line command words =
     else if is_text command (codes "set") then set_line words
     else if is_text command (codes "end") then end_line words
     else if is_text command (codes "leave") then leave_line words
+    else if is_text command (codes "search") then search_line words
     else if is_text command (codes "ast") then ast_line words
     else if is_text command (codes "block") then block_command words
     else if is_text command (codes "show") then no_more Show words

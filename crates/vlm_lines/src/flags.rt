@@ -25,6 +25,10 @@ pub(crate) fn enq_flag(word: &[u8]) -> Option<u16>
         Some(EnqFlags::EXPEDITE.bits())
     } else if is_text(word, b"quecvt") {
         Some(EnqFlags::QUECVT.bits())
+    } else if is_text(word, b"nodlckwt") {
+        Some(EnqFlags::NODLCKWT.bits())
+    } else if is_text(word, b"nodlckblk") {
+        Some(EnqFlags::NODLCKBLK.bits())
     } else {
         None
     }

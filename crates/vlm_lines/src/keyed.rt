@@ -238,7 +238,7 @@ impl Keyed for SetWords {
     }
 }
 
-/// The keyed word of a leave line.
+/// The keyed word of a leave or search line.
 #[derive(Clone, Copy)]
 pub(crate) struct NodeWords {
     // 0 to 255

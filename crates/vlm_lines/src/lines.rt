@@ -29,6 +29,8 @@ pub enum Line {
     End(ProcessName),
     /// The node departs, with all its processes.
     Leave(u8),
+    /// A deadlock is searched for, by a node.
+    Search(u8),
     /// The AST that has been pending longest is taken.
     Ast(ProcessName),
     /// The status block of this number is printed.

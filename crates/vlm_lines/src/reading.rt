@@ -1,7 +1,7 @@
 //! Lines by their commands.
 
 ghost use Rattle.std.specs.Prelude.{◌≡◌, MatchResult};
-ghost use Rattle.vlm_lines.specs.Lines.{ast_line, block_command, line_read, line_of, command_line, declare_line, enq_line, cvt_line, deq_line, set_line, end_line, leave_line, declaration_of, words_of, next_word, no_more};
+ghost use Rattle.vlm_lines.specs.Lines.{ast_line, block_command, line_read, line_of, command_line, declare_line, enq_line, cvt_line, deq_line, set_line, end_line, leave_line, node_alone, search_line, declaration_of, words_of, next_word, no_more};
 
 use crate::cuts;
 use crate::faults::LineFault;
@@ -64,6 +64,8 @@ fn command_line(command: &[u8], rest: &[u8]) -> Result<Line, LineFault>
         end_line(rest)
     } else if is_text(command, b"leave") {
         leave_line(rest)
+    } else if is_text(command, b"search") {
+        search_line(rest)
     } else if is_text(command, b"ast") {
         ast_line(rest)
     } else if is_text(command, b"block") {
@@ -205,14 +207,31 @@ fn end_line(line: &[u8]) -> Result<Line, LineFault>
     no_more(Line::End(name), rest)
 }
 
-// The word of a leave line: node=N.
+// The word of a line of a node: node=N.
+#[tactic(auto, unfolding(crate::specs::Lines::node_alone))]
+fn node_alone(line: &[u8]) -> Result<u8, LineFault>
+    ensures { result ≡ node_alone (words_of line.now) }
+{
+    let words = NodeWords::new().with_words(line)?;
+    words.node.ok_or(LineFault::WrongWord)
+}
+
+// A leave line.
 #[tactic(auto, unfolding(crate::specs::Lines::leave_line))]
 fn leave_line(line: &[u8]) -> Result<Line, LineFault>
     ensures { result ≡ leave_line (words_of line.now) }
 {
-    let words = NodeWords::new().with_words(line)?;
-    let node = words.node.ok_or(LineFault::WrongWord)?;
+    let node = node_alone(line)?;
     Ok(Line::Leave(node))
+}
+
+// A search line.
+#[tactic(auto, unfolding(crate::specs::Lines::search_line))]
+fn search_line(line: &[u8]) -> Result<Line, LineFault>
+    ensures { result ≡ search_line (words_of line.now) }
+{
+    let node = node_alone(line)?;
+    Ok(Line::Search(node))
 }
 
 // The word of an ast line: NAME.

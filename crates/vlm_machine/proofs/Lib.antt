@@ -8,7 +8,9 @@ pub mod Entries
 pub mod Made
 pub mod Noting
 pub mod Pairing
+pub mod Roomy
 pub mod RunDown
+pub mod Searches
 pub mod Settling
 pub mod Siting
 pub mod Stayed

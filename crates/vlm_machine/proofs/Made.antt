@@ -2,6 +2,7 @@
 use Rattle.std.proofs.Common.{◌≡◌, Option, None, sym, ap, ◌∙◌, inl}
 use Rattle.std.specs.List.{AllByRecursion}
 use Rattle.vlm_words.specs.declared.conditions.Cond.{Cond}
+use Rattle.vlm_words.specs.declared.locks.Row.{Row}
 use Rattle.vlm_words.specs.declared.steps.Answer.{Answer}
 use Rattle.vlm_words.specs.declared.steps.Step.{Step}
 use Rattle.vlm_words.specs.Settled.{IsSettled}
@@ -10,12 +11,17 @@ use Rattle.vlm_words.specs.Stepped.{IsChoice, Outcome, Stepped, refused_or, step
 use Rattle.vlm_words.specs.Sweeps.{state_after_sweep}
 use Rattle.vlm_machine.proofs.Settling.{unswept}
 
--- the step is made where its change is swept, and its answer given
+-- the step is made, with what it chooses, where its change is swept, and its answer given
+pub made_choosing : (s new : State) (step : Step) (choice : Option Row) (answer : Answer) → IsChoice s step choice → None ≡ step_refusal s step
+    → new ≡ state_after_sweep (step_change s step choice).state → answer ≡ (step_change s step choice).answer → Outcome s step new answer
+made_choosing s new step choice answer chosen passed state answered =
+    let made : stepped s step choice ≡ stepped_after_sweep (step_change s step choice) = ap (λ (refusal : Option Cond). refused_or refusal s (step_change s step choice)) (sym passed) in
+    inl (record { choice = choice; chosen = chosen; state = state ∙ sym (ap (λ (t : Stepped). t.state) made); answered = answered ∙ sym (ap (λ (t : Stepped). t.answer) made) })
+
+-- most kinds choose none
 pub made_swept : (s new : State) (step : Step) (answer : Answer) → IsChoice s step None → None ≡ step_refusal s step → new ≡ state_after_sweep (step_change s step None).state
     → answer ≡ (step_change s step None).answer → Outcome s step new answer
-made_swept s new step answer chosen passed state answered =
-    let made : stepped s step None ≡ stepped_after_sweep (step_change s step None) = ap (λ (refusal : Option Cond). refused_or refusal s (step_change s step None)) (sym passed) in
-    inl (record { choice = None; chosen = chosen; state = state ∙ sym (ap (λ (t : Stepped). t.state) made); answered = answered ∙ sym (ap (λ (t : Stepped). t.answer) made) })
+made_swept s new step answer = made_choosing s new step None answer
 
 -- a change that leaves nothing to sweep is the whole step
 pub made_unswept : (s new : State) (step : Step) (answer : Answer) → IsChoice s step None → None ≡ step_refusal s step → AllByRecursion IsSettled (step_change s step None).state.resources

@@ -1,8 +1,11 @@
--- The notes that a step keeps of the resources that it touches, and the room for them.
+-- The notes that a step keeps of the resources that it touches, and the room for them and for the marks of a search.
 use Rattle.std.specs.Prelude.{◌≡◌, ◌≤◌, ◌+◌, ℕ, List, [], length, sum_by}
+use Rattle.std.specs.List.{AllByRecursion}
 use Rattle.vlm_words.specs.State.{Resource}
 use Rattle.vlm_locks.specs.Sweeping.{AreSettledBut}
 use Rattle.vlm_locks.specs.Touched.{AreThere, SerialsRise, Touches, touched_handles}
+use Rattle.vlm_cycle.specs.declared.scratch.Scratch.{Scratch}
+use Rattle.vlm_cycle.specs.Marking.{HasRoom}
 use Rattle.vlm_machine.specs.Machine.{MachineState, plain_state}
 
 -- how many locks stand on the resources
@@ -13,6 +16,10 @@ locks_on resources = sum_by (λ r. length r.granted + length r.converting + leng
 pub record HasRoomToNote (touched : Touches) (m : MachineState) : Type 0 where
   pub none : touched.noted ≡ []
   pub room : locks_on (plain_state m).resources ≤ touched.room
+
+-- a search has room to mark each living process
+abbrev pub HasRoomToMark : Scratch → MachineState → Type 0
+HasRoomToMark marks m = AllByRecursion (λ p. HasRoom marks p.pid) (plain_state m).processes
 
 -- what a step leaves to its sweep: the resources that it touched are noted, and on the others nothing is to be done
 pub record IsToSweep (touched : Touches) (m : MachineState) : Type 0 where

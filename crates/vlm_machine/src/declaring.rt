@@ -1,16 +1,18 @@
 //! The step that declares a process.
 
-ghost use Rattle.std.specs.Prelude.{◌≡◌, ◌<◌, ◌≤◌, IfOk, OnErr, OnOk};
+ghost use Rattle.std.specs.Prelude.{◌≡◌, ◌<◌, ◌≤◌, ℕ, IfOk, OnErr, OnOk};
 ghost use Rattle.std.specs.Result.{result_err};
 ghost use Rattle.vlm_words.specs.Declare.{declare_change, declare_refusal, next_pid};
 ghost use Rattle.vlm_words.specs.State.{node_at};
 ghost use Rattle.vlm_words.specs.Stepped.{Outcome};
 ghost use Rattle.vlm_store.specs.Records.{IsNewProcess, IsUnchanged};
+ghost use Rattle.vlm_cycle.specs.Marking.{HasRoom, KeepsRoom};
 ghost use Rattle.vlm_machine.specs.Between.{IsBetweenSteps};
 ghost use Rattle.vlm_machine.specs.Machine.{plain_state};
 
 use crate::records::Machine;
 use std::alloc::AllocError;
+use vlm_cycle::Scratch;
 use vlm_words::conditions::Cond;
 use vlm_words::steps::{Answer, Declaration, Step};
 
@@ -19,15 +21,17 @@ const ORDINALS: u16 = 65_535;
 
 impl Machine {
     /// Declares a process: its checks and its change. No resource is touched, so nothing is to be swept.
-    pub(crate) fn declare(&mut self, declaration: Declaration) -> Answer
+    pub(crate) fn declare(&mut self, scratch: &mut Scratch, declaration: Declaration) -> Answer
         requires { IsBetweenSteps (plain_state self.old) }
-        ensures { Outcome (plain_state self.old) (Step.Declare declaration)
+        ensures outcome { Outcome (plain_state self.old) (Step.Declare declaration)
             (plain_state self.new) result }
+        ensures room { (pid : ℕ) → result ≡ Answer.Process pid → HasRoom scratch.new pid }
+        ensures kept { KeepsRoom scratch.old scratch.new }
     {
         if let Err(refusal) = self.check_declaration(&declaration) {
             return Answer::Plain(refusal);
         }
-        match self.declare_change(&declaration) {
+        match self.declare_change(scratch, &declaration) {
             Ok(pid) => Answer::Process(pid),
             Err(AllocError) => Answer::Plain(Cond::Insfmem),
         }
@@ -62,9 +66,13 @@ impl Machine {
         u32::from(node) * 65_536 + u32::from(ordinal)
     }
 
-    // The process lives, under the next ordinal of its node.
+    // The process lives, under the next ordinal of its node, and a search has room to mark it.
     #[tactic(auto, unfolding(vlm_words::specs::Declare::declare_change))]
-    fn declare_change(&mut self, declaration: &Declaration) -> Result<u32, AllocError>
+    fn declare_change(
+        &mut self,
+        scratch: &mut Scratch,
+        declaration: &Declaration,
+    ) -> Result<u32, AllocError>
         requires first { 1 ≤ declaration.now.node }
         requires last { declaration.now.node ≤ 8 }
         requires ordinal { (node_at self.old.nodes declaration.now.node).declared < 65535 }
@@ -76,10 +84,13 @@ impl Machine {
             (plain_state self.new ≡ declare_change (plain_state self.old) declaration.now) }
         ensures state { OnErr result (plain_state self.new ≡ plain_state self.old) }
         ensures unchanged { OnErr result (IsUnchanged self.old.records self.new.records) }
+        ensures room { IfOk result (λ pid. HasRoom scratch.new pid) }
+        ensures kept { KeepsRoom scratch.old scratch.new }
     {
         let pid = self.next_pid(declaration.node);
         let place = usize::from(declaration.node) - 1;
         let node = self.nodes[place].counted();
+        scratch.make_room(pid)?;
         let blocks = self.store.new_status_blocks(declaration.blocks)?;
         self.store.add_process(pid, declaration, blocks)?;
         self.nodes[place] = node;

@@ -22,6 +22,7 @@ mod nodes;
 mod parents;
 mod processes;
 mod records;
+mod searching;
 mod setting;
 mod taking;
 

@@ -8,14 +8,14 @@ ghost use Rattle.vlm_store.specs.Records.{HasResource};
 ghost use Rattle.vlm_locks.specs.Sweeping.{AreSettledBut};
 ghost use Rattle.vlm_machine.specs.Between.{IsBetweenSteps};
 ghost use Rattle.vlm_machine.specs.Machine.{plain_state};
-ghost use Rattle.vlm_machine.specs.Notes.{HasRoomToNote, IsToSweep};
+ghost use Rattle.vlm_machine.specs.Notes.{HasRoomToMark, HasRoomToNote, IsToSweep};
 
 use crate::nodes::{NODES, Node};
 use std::alloc::Global;
 use std::marker::Model;
+use vlm_cycle::Scratch;
 use vlm_locks::{Touch, Touched, sweep};
 use vlm_store::{ResAt, Store};
-use vlm_words::conditions::Cond;
 use vlm_words::steps::{Answer, Step};
 
 /// The machine, with its records under their handles.
@@ -57,22 +57,24 @@ impl Machine {
         }
     }
 
-    /// Makes one step, of whichever kind. A kind that is not built yet answers BADPARAM.
-    pub fn step(&mut self, touched: &mut Touched, step: Step) -> Answer
+    /// Makes one step, of whichever kind.
+    pub fn step(&mut self, touched: &mut Touched, scratch: &mut Scratch, step: Step) -> Answer
         requires between { IsBetweenSteps (plain_state self.old) }
         requires notes { HasRoomToNote touched.old self.old }
+        requires marks { HasRoomToMark scratch.old self.old }
         ensures outcome { Outcome (plain_state self.old) step (plain_state self.new) result }
         ensures notes { HasRoomToNote touched.new self.new }
+        ensures marks { HasRoomToMark scratch.new self.new }
     {
         match step {
-            Step::Declare(declaration) => self.declare(declaration),
+            Step::Declare(declaration) => self.declare(scratch, declaration),
             Step::SetValue(setting) => self.set_value(setting),
             Step::Enq(request) => self.enq(touched, request),
             Step::Convert(conversion) => self.convert(conversion),
             Step::Deq(dequeue) => self.deq(touched, dequeue),
             Step::Rundown(pid) => self.rundown(touched, pid),
             Step::Leave(node) => self.leave(touched, node),
-            Step::Search(_) => Answer::Plain(Cond::Badparam),
+            Step::Search(node) => self.search(scratch, node),
             Step::Take(pid) => self.take(pid),
         }
     }

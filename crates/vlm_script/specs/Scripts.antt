@@ -1,14 +1,14 @@
 -- The run of a script: which line prints what, and which fault is the first.
-use Rattle.std.specs.Prelude.{◌≡◌, ℕ, ◌+◌, List, [], ◌∷◌, ◌++◌, take, drop, find, Option, None, Some, Result, Ok, Err}
+use Rattle.std.specs.Prelude.{◌≡◌, ℕ, ◌+◌, List, [], ◌∷◌, ◌++◌, codes, take, drop, find, Option, None, Some, Result, Ok, Err}
 use Rattle.std.specs.Option.{option_map}
-use Rattle.vlm_lines.specs.declared.lines.Line.TheVariants.{Empty, Declare, Set, Enq, Cvt, Deq, End, Leave, Ast, Block, Show}
+use Rattle.vlm_lines.specs.declared.lines.Line.TheVariants.{Empty, Declare, Set, Enq, Cvt, Deq, End, Leave, Search, Ast, Block, Show}
 use Rattle.vlm_lines.specs.declared.lines.Line.{Line}
 use Rattle.vlm_lines.specs.declared.faults.LineFault.TheVariants.{UnknownName, NameUsed}
 use Rattle.vlm_lines.specs.declared.faults.LineFault.{LineFault}
 use Rattle.vlm_words.specs.declared.steps.Answer.TheVariants.{Process as process_answer, Lock, Victim, Taken, Plain}
 use Rattle.vlm_words.specs.declared.steps.Answer.{Answer}
 use Rattle.vlm_words.specs.declared.steps.Declaration.{Declaration}
-use Rattle.vlm_words.specs.declared.steps.Step.TheVariants.{Declare as declare_step, SetValue as set_step, Enq as enq_step, Convert as convert_step, Deq as deq_step, Rundown, Leave as leave_step, Search, Take}
+use Rattle.vlm_words.specs.declared.steps.Step.TheVariants.{Declare as declare_step, SetValue as set_step, Enq as enq_step, Convert as convert_step, Deq as deq_step, Rundown, Leave as leave_step, Search as search_step, Take}
 use Rattle.vlm_words.specs.declared.steps.Step.{Step}
 use Rattle.vlm_words.specs.State.{State, start}
 use Rattle.vlm_words.specs.StatusBlocks.{status_block_at}
@@ -52,6 +52,7 @@ name_fault names (Cvt name conversion) = unknown_fault (bound_to names name)
 name_fault names (Deq name dequeue) = unknown_fault (bound_to names name)
 name_fault names (End name) = unknown_fault (bound_to names name)
 name_fault names (Leave node) = None
+name_fault names (Search node) = None
 name_fault names (Ast name) = unknown_fault (bound_to names name)
 name_fault names (Block name number) = unknown_fault (bound_to names name)
 name_fault names Show = None
@@ -65,7 +66,7 @@ of_process pid (convert_step conversion) = convert_step (record conversion { pid
 of_process pid (deq_step dequeue) = deq_step (record dequeue { pid = pid })
 of_process pid (Rundown none) = Rundown pid
 of_process pid (leave_step node) = leave_step node
-of_process pid (Search node) = Search node
+of_process pid (search_step node) = search_step node
 of_process pid (Take none) = Take pid
 
 -- a name is bound where its declaration is accepted
@@ -92,12 +93,12 @@ pub record Makes (old : Session) (name : List ℕ) (step : Step) (text : List �
   pub names : new.names ≡ old.names
   pub printed : text ≡ answer_line name answer
 
--- a leave line makes its step, and prints the answer under the node's number
-pub record Leaves (old : Session) (node : ℕ) (text : List ℕ) (new : Session) : Type 0 where
+-- a line of a node makes its step, and tells the answer so
+pub record Steps (old : Session) (step : Step) (told : Answer → List ℕ) (text : List ℕ) (new : Session) : Type 0 where
   pub answer : Answer
-  pub outcome : Outcome old.state (leave_step node) new.state answer
+  pub outcome : Outcome old.state step new.state answer
   pub names : new.names ≡ old.names
-  pub printed : text ≡ node_line node answer
+  pub printed : text ≡ told answer
 
 -- a line with a name that makes no step prints something of the process that the name is bound to, and changes nothing
 pub record Shows (old : Session) (name : List ℕ) (shown : ℕ → List ℕ) (text : List ℕ) (new : Session) : Type 0 where
@@ -120,7 +121,8 @@ Runs old (Enq name request) text new = Makes old name (enq_step request) text ne
 Runs old (Cvt name conversion) text new = Makes old name (convert_step conversion) text new
 Runs old (Deq name dequeue) text new = Makes old name (deq_step dequeue) text new
 Runs old (End name) text new = Makes old name (Rundown no_process) text new
-Runs old (Leave node) text new = Leaves old node text new
+Runs old (Leave node) text new = Steps old (leave_step node) (node_line node) text new
+Runs old (Search node) text new = Steps old (search_step node) (answer_line (codes "search")) text new
 Runs old (Ast name) text new = Makes old name (Take no_process) text new
 Runs old (Block name number) text new =
     Shows old name (λ pid. status_block_line name number (status_block_at old.state.processes pid number)) text new

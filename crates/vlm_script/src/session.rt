@@ -69,6 +69,7 @@ impl Session {
             Line::Deq(name, dequeue) => self.make(name, Step::Deq(dequeue), out),
             Line::End(name) => self.make(name, Step::Rundown(NO_PROCESS), out),
             Line::Leave(node) => self.leave(node, out),
+            Line::Search(node) => self.search(node, out),
             Line::Ast(name) => self.make(name, Step::Take(NO_PROCESS), out),
             Line::Block(name, number) => self.show_status_block(name, number, out),
             Line::Show => Ok(show(&self.core, out)?),
@@ -127,6 +128,17 @@ impl Session {
     {
         let answer = self.core.step(Step::Leave(node));
         node_line(out, node, answer)?;
+        Ok(())
+    }
+
+    // Searches for a deadlock, and prints the answer.
+    fn search(&mut self, node: u8, out: &mut Vec<u8>) -> Result<(), Stop>
+        ensures { MatchResult result
+            (λ _. IsRun self.old (Line.Search node) self.new out.old.items out.new.items)
+            (λ stop. StopsLine self.old.names (Line.Search node) stop) }
+    {
+        let answer = self.core.step(Step::Search(node));
+        answer_line(out, b"search", answer)?;
         Ok(())
     }
 

@@ -1,0 +1,56 @@
+//! The step that searches for a deadlock.
+
+ghost use Rattle.std.specs.Prelude.{◌≡◌, Some};
+ghost use Rattle.vlm_words.specs.Search.{search_change};
+ghost use Rattle.vlm_words.specs.Stepped.{Outcome};
+ghost use Rattle.vlm_store.specs.Records.{HasResource};
+ghost use Rattle.vlm_locks.specs.Rest.{OthersStay};
+ghost use Rattle.vlm_locks.specs.Standing.{IsStanding};
+ghost use Rattle.vlm_cycle.specs.Marking.{KeepsRoom};
+ghost use Rattle.vlm_machine.specs.Between.{IsBetweenSteps};
+ghost use Rattle.vlm_machine.specs.Machine.{plain_state};
+ghost use Rattle.vlm_machine.specs.Notes.{HasRoomToMark};
+
+use crate::records::Machine;
+use vlm_cycle::{Scratch, victim};
+use vlm_locks::{Standing, Withdrawal, withdraw};
+use vlm_store::laws::law_records_are_sound;
+use vlm_words::steps::{Answer, Step};
+
+impl Machine {
+    /// Searches for a deadlock: its checks; the request that is found ends, and its resource is swept. It takes no memory.
+    pub(crate) fn search(&mut self, scratch: &mut Scratch, node: u8) -> Answer
+        requires between { IsBetweenSteps (plain_state self.old) }
+        requires marks { HasRoomToMark scratch.old self.old }
+        ensures outcome { Outcome (plain_state self.old) (Step.Search node)
+            (plain_state self.new) result }
+        ensures kept { KeepsRoom scratch.old scratch.new }
+    {
+        if let Err(refusal) = self.check_node(node) {
+            return Answer::Plain(refusal);
+        }
+        match victim(&self.store, scratch) {
+            Some(standing) => {
+                self.end_victim(&standing);
+                self.sweep(standing.res);
+                Answer::Victim(Some(standing.row.lkid))
+            }
+            None => Answer::Victim(None),
+        }
+    }
+
+    // The request of the victim ends, and with it a lock that waits.
+    #[tactic(auto, unfolding(vlm_words::specs::Search::search_change))]
+    fn end_victim(&mut self, standing: &Standing)
+        requires standing { IsStanding standing.now self.old.records }
+        requires between { IsBetweenSteps (plain_state self.old) }
+        ensures change { plain_state self.new
+            ≡ search_change (plain_state self.old) (Some standing.now.row) }
+        ensures others { OthersStay standing.now.res self.old.records self.new.records }
+        ensures there { HasResource standing.now.res self.new.records }
+    {
+        law_records_are_sound(&self.store);
+        let withdrawal = Withdrawal::victim(standing.row.lkid);
+        withdraw(&mut self.store, standing, &withdrawal);
+    }
+}
