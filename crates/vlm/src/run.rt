@@ -36,10 +36,11 @@ Commands of a script, one a line:
   set NAME block=N value=HEX
   end NAME
   leave node=N
+  search node=N
   ast NAME
   block NAME N
   show
-The flags are valblk, noqueue, syncsts, system, expedite and quecvt.
+The flags are valblk, noqueue, syncsts, system, expedite, quecvt, nodlckwt and nodlckblk.
 A LOCK is its number, or @N for the lock in status block N.
 
 Example:

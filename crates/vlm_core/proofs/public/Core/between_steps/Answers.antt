@@ -11,6 +11,7 @@ returns c = subst IsBetweenSteps c.self.view_is (record {
   serials_from_1 = (c.law_serials_rise.ensures c.self.invariant.reachable.history _ c.self.invariant.reachable.run).from_1;
   few_serials = (c.law_serials_rise.ensures c.self.invariant.reachable.history _ c.self.invariant.reachable.run).few;
   new_processes = c.law_a_declaration_gives_a_new_identification.ensures c.self.invariant.reachable.history _ c.self.invariant.reachable.run;
+  of_nodes = (c.law_identifications_of_processes_rise.ensures c.self.invariant.reachable.history _ c.self.invariant.reachable.run).named;
   parents = c.law_a_parent_outlives_its_sublocks.ensures c.self.invariant.reachable.history _ c.self.invariant.reachable.run;
   chains = c.law_no_lock_is_more_than_15_levels_below.ensures c.self.invariant.reachable.history _ c.self.invariant.reachable.run;
   rows_fit = c.law_rows_fit_their_queues.ensures c.self.invariant.reachable.history _ c.self.invariant.reachable.run;

@@ -11,8 +11,8 @@ pub declare_change-requires-clause-new : goal.declare_change-requires-clause-new
 declare_change-requires-clause-new c =
     new_process c.args.self.now c.args.declaration c.in_default.ensures.refusal c.requires.new_processes
 
-pub returns-in-Ok : goal.returns-in-Ok
+pub returns-in-Ok-clause-outcome : goal.returns-in-Ok-clause-outcome
 unfolding declare_change
-returns-in-Ok c =
+returns-in-Ok-clause-outcome c =
     made_unswept (plain_state c.args.self.now) (plain_state c.declare_change.new.self) (Declare c.args.declaration) (process_answer c.in-Ok.pid) refl c.in_default.ensures.refusal
     c.requires.settled c.in-Ok.ensures.change (ap process_answer c.in-Ok.ensures.pid)
