@@ -5,8 +5,13 @@
 //! beforehand: so a search takes no memory.
 #![tactic(auto)]
 
+mod falling;
 mod finding;
+mod gauge;
+mod judging;
 mod marking;
+mod ranking;
+mod ranks;
 mod scratch;
 mod searching;
 mod waiting;
