@@ -70,6 +70,10 @@ goes_step P Q left rest all initial now after to from marks goes final last =
 pub roomy_still : (s : Records) (a b : Scratch) → KeepsRoom a b → IsRoomy s a → IsRoomy s b
 roomy_still s a b keeps roomy p among = let was = roomy p among in (keeps p.process.pid was.0, was.1)
 
+-- ranks are no room
+pub other_ranks : (marks : Scratch) (ranks : Ranks) → KeepsRoom marks (record marks { ranks = ranks })
+other_ranks marks ranks pid room = record { seen = room.seen; todo = room.todo }
+
 -- the owner of a lock has room
 pub owner_room : (s : Records) (marks : Scratch) → IsRoomy s marks → (at pid : ℕ) → IsProcess at pid s → HasRoom marks pid × (is_node (pid / 65536) ≡ true)
 owner_room s marks roomy at pid lives = subst (λ n. HasRoom marks n × (is_node (n / 65536) ≡ true)) lives.1.2 (roomy lives.0 lives.1.0)

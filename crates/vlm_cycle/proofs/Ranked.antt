@@ -1,5 +1,5 @@
 -- What ranks say of requests: where no process waits for one of a higher rank.
-use Rattle.std.proofs.Common.{◌≡◌, ◌≢◌, ◌⊎◌, ℕ, ◌<◌, ◌≤◌, ◌+◌, true, false, Bool, List, [], ◌∷◌, ◌++◌, Option, None, Some, map, flat_map, refl, sym, ap, ◌∙◌, subst, inl, inr, arith, eq-eqb, ne_eqb}
+use Rattle.std.proofs.Common.{◌≡◌, ◌≢◌, ◌⊎◌, ℕ, ◌<◌, ◌≤◌, ◌+◌, true, false, Bool, List, [], ◌∷◌, ◌++◌, Option, None, Some, IsSome, map, flat_map, refl, sym, ap, ◌∙◌, subst, inl, inr, arith, eq-eqb, ne_eqb}
 use Rattle.std.specs.Prelude.{find, ◌==◌}
 use Rattle.std.specs.Option.{ForSome, option_map_or}
 use Rattle.std.proofs.lemmas.Bool.{cases_eq}
@@ -12,9 +12,12 @@ use Rattle.vlm_words.specs.Deadlocks.{BlocksThoseBehind, HoldsAgainst, IsDeadloc
 use Rattle.vlm_words.specs.Flags.{flag_bits, has_flag, nodlckwt}
 use Rattle.vlm_links.specs.Lists.{IsIn}
 use Rattle.vlm_store.specs.Plain.{plain_resource, plain_resources}
-use Rattle.vlm_store.specs.Records.{AreProcessesApart, IsProcess, IsSound, Records, StoredLock, StoredProcess, StoredResource, queued, resource_at, rows_of_locks}
-use Rattle.vlm_queue.specs.Walks.{rows_queued}
-use Rattle.vlm_locks.proofs.Stood.{resource_among}
+use Rattle.vlm_records.specs.declared.handles.Place.TheVariants.{Queued}
+use Rattle.vlm_store.specs.Records.{AreProcessesApart, HasResource, IsProcess, IsSound, Records, StoredLock, StoredProcess, StoredResource, Stores, at_after, locks_at, queued, resource_at, rows_of_locks}
+use Rattle.vlm_store.proofs.Walks.{at_lock}
+use Rattle.vlm_queue.specs.Walks.{IsInQueue, rows_left, rows_queued}
+use Rattle.vlm_queue.proofs.Walking.{passes}
+use Rattle.vlm_locks.proofs.Stood.{one_lock, resource_among}
 use Rattle.vlm_locks.specs.declared.finding.Standing.{Standing}
 use Rattle.vlm_locks.specs.Standing.{IsStanding}
 use Rattle.vlm_cycle.specs.declared.gauge.Gauge.{Gauge}
@@ -67,7 +70,25 @@ below_alive s ranks falls row below dead =
     let last = leads_down s ranks falls dead.lock.pid dead.others row.pid dead.leads in
     omega (arith, first, last)
 
+pub certain_alive : (s : Records) (ranks : Ranks) (row : Row) (rank top : ℕ) → Falls s ranks → rank ≡ rank_of s ranks row.pid → top ≤ rank
+    → ((pid : ℕ) → IsWaitedFor s row pid → rank_of s ranks pid < top) → IsDeadlocked (searched s) row → ⊥
+certain_alive s ranks row rank top falls is less below =
+    below_alive s ranks falls row (λ pid waited. (let under = below pid waited in omega (arith, under, less, is)))
+
 -- ---- the gauge at a lock
+
+-- a lock to which a walk has come stands in that queue
+pub standing_there : (s : Records) → IsSound s → (res : ℕ) (queue : Queue) (lock : ℕ) (row : Row) → HasResource res s → IsInQueue res queue (Some lock) s → Stores s lock row
+    → IsStanding (record { lock = lock; row = row; res = res; queue = queue }) s
+standing_there s sound res queue lock row there come stored =
+    let among = come lock refl in
+    let same = one_lock s sound lock among.0 row (Queued res queue, among.1) stored in
+    of_found (resource_at res s.resources) refl there (subst (λ (r : Row). IsIn (record { at = lock; row = r }) (locks_at (Queued res queue) s)) same among.1)
+  where
+    of_found : (o : Option StoredResource) → resource_at res s.resources ≡ o → IsSome o → IsIn (record { at = lock; row = row }) (option_map_or (queued queue) o [])
+        → IsStanding (record { lock = lock; row = row; res = res; queue = queue }) s
+    of_found None is some among = cc
+    of_found (Some r) is some among = record { resource = r; found = is; among = among }
 
 -- the owner of a holder is below
 holder_below : (s : Records) (ranks : Ranks) (peaks : List Peak) (lkid : ℕ) (mode : Mode) (rows : List Row) (top : ℕ) → CountsHolders s ranks peaks rows → IsAboveAll peaks mode lkid top
@@ -130,6 +151,20 @@ top_above s ranks sound gauge f standing at top above before pid waited = of_wan
     ]
 
 -- ---- the gauge along a queue
+
+-- a walk has come to this row
+pub record IsAtRow (s : Records) (res : ℕ) (queue : Queue) (lock : ℕ) (row : Row) : Type 0 where
+  pub rest : List Row
+  pub left : rows_left res queue (Some lock) s ≡ row ∷ rest
+
+pub at_row : (s : Records) (res : ℕ) (queue : Queue) (lock : ℕ) (row : Row) → IsSound s → IsInQueue res queue (Some lock) s → ((r : Row) → Stores s lock r → r ≡ row) → IsAtRow s res queue lock row
+at_row s res queue lock row sound come only =
+    let ks = locks_at (Queued res queue) s in
+    let next = at_after lock ks in
+    let stands = at_lock lock ks (sound.locks_apart (Queued res queue)) (come lock refl) in
+    let one = passes s res queue lock next sound come
+    (λ place r there. ap (λ p. at_after lock (locks_at p s)) (sound.one_place lock stands.row r (Queued res queue) place stands.among there)) in
+    record { rest = rows_left res queue next s; left = one.left ∙ ap (λ (r : Row). r ∷ rows_left res queue next s) (only one.row one.stored) }
 
 -- the requests of a queue are passed up to those that are left
 pub record IsPassing (s : Records) (ranks : Ranks) (all left : List Row) (old now : Gauge) : Type 0 where
@@ -258,3 +293,7 @@ falls_both s ranks xs ys first second row lock there waits = elim (in_either row
 -- where all queued requests fall, no process waits for one of a higher rank
 pub falls_all : (s : Records) (ranks : Ranks) → FallsOn s ranks (flat_map queue_of (plain_resources s)) → Falls s ranks
 falls_all s ranks on row lock waits = on row lock (waiting_queued s row lock waits) waits
+
+-- none fall where there are none
+pub falls_none : (s : Records) (ranks : Ranks) (rows : List Row) → rows ≡ [] → FallsOn s ranks rows
+falls_none s ranks rows is row lock there waits = absurd (subst (IsIn row) is there)
