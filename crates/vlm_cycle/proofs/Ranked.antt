@@ -1,7 +1,7 @@
 -- What ranks say of requests: where no process waits for one of a higher rank.
-use Rattle.std.proofs.Common.{◌≡◌, ◌≢◌, ◌⊎◌, ℕ, ◌<◌, ◌≤◌, ◌+◌, true, false, Bool, List, [], ◌∷◌, ◌++◌, Option, None, Some, IsSome, map, flat_map, refl, sym, ap, ◌∙◌, subst, inl, inr, arith, eq-eqb, ne_eqb}
+use Rattle.std.proofs.Common.{◌≡◌, ◌⊎◌, ℕ, ◌<◌, ◌≤◌, ◌+◌, true, false, Bool, List, [], ◌∷◌, ◌++◌, Option, None, Some, IsSome, flat_map, refl, sym, ap, ◌∙◌, subst, inl, inr, arith, eq-eqb, ne_eqb}
 use Rattle.std.specs.Prelude.{find, ◌==◌}
-use Rattle.std.specs.Option.{ForSome, option_map_or}
+use Rattle.std.specs.Option.{option_map_or}
 use Rattle.std.proofs.lemmas.Bool.{cases_eq}
 use Rattle.vlm_words.specs.declared.locks.Request.{Request}
 use Rattle.vlm_words.specs.declared.locks.Row.{Row}
@@ -11,7 +11,7 @@ use Rattle.vlm_words.specs.declared.resources.Queue.TheVariants.{Granted, Conver
 use Rattle.vlm_words.specs.Deadlocks.{BlocksThoseBehind, HoldsAgainst, IsDeadlocked, LeadsTo, WaitsFor, queue_of}
 use Rattle.vlm_words.specs.Flags.{flag_bits, has_flag, nodlckwt}
 use Rattle.vlm_links.specs.Lists.{IsIn}
-use Rattle.vlm_store.specs.Plain.{plain_resource, plain_resources}
+use Rattle.vlm_store.specs.Plain.{plain_resources}
 use Rattle.vlm_records.specs.declared.handles.Place.TheVariants.{Queued}
 use Rattle.vlm_store.specs.Records.{AreProcessesApart, HasResource, IsProcess, IsSound, Records, StoredLock, StoredProcess, StoredResource, Stores, at_after, locks_at, queued, resource_at, rows_of_locks}
 use Rattle.vlm_store.proofs.Walks.{at_lock}
@@ -23,7 +23,7 @@ use Rattle.vlm_locks.specs.Standing.{IsStanding}
 use Rattle.vlm_cycle.specs.declared.gauge.Gauge.{Gauge}
 use Rattle.vlm_cycle.specs.declared.gauge.Peak.{Peak}
 use Rattle.vlm_cycle.specs.declared.ranks.Ranks.{Ranks}
-use Rattle.vlm_cycle.specs.Ranking.{CountsHeld, CountsHolders, Falls, FallsOn, HasPassed, HasPassedAll, IsAboveAll, IsGaugeAt, IsGaugeOf, Passes, PassesOne, rank_at, rank_of}
+use Rattle.vlm_cycle.specs.Ranking.{CountsHeld, CountsHolders, Falls, FallsOn, HasPassed, IsAboveAll, IsGaugeAt, IsGaugeOf, Passes, PassesOne, rank_at, rank_of}
 use Rattle.vlm_cycle.specs.Waiting.{IsWaitedFor, OwnsBefore, OwnsBlocker, OwnsHolder, OwnsKeeper, rows_before, searched}
 use Rattle.vlm_cycle.proofs.Keeping.{none_waited, none_wanted, waited_keeps}
 use Rattle.vlm_cycle.proofs.Found.{waiting_queued}

@@ -150,8 +150,24 @@ fn best_of_resource(
         return best;
     }
     let mut gauge = gauge_of(store, &scratch.ranks, res);
-    let first = best_of_queue(store, scratch, &mut gauge, falls, res, Queue::Conversion, best);
-    best_of_queue(store, scratch, &mut gauge, falls, res, Queue::Waiting, first)
+    let first = best_of_queue(
+        store,
+        scratch,
+        &mut gauge,
+        falls,
+        res,
+        Queue::Conversion,
+        best,
+    );
+    best_of_queue(
+        store,
+        scratch,
+        &mut gauge,
+        falls,
+        res,
+        Queue::Waiting,
+        first,
+    )
 }
 
 /// The lock of the deadlocked request that was made last, if some request is deadlocked. It takes no memory. The cost grows

@@ -100,12 +100,7 @@ pub(crate) fn gauge_of(store: &Store, ranks: &Ranks, res: ResAt) -> Gauge
 }
 
 /// Judges the request of a lock, and passes it.
-pub(crate) fn judge(
-    store: &Store,
-    ranks: &Ranks,
-    gauge: &mut Gauge,
-    waiting: &Standing,
-) -> Judged
+pub(crate) fn judge(store: &Store, ranks: &Ranks, gauge: &mut Gauge, waiting: &Standing) -> Judged
     requires standing { IsStanding waiting.now store.now }
     requires gauge { IsGaugeAt store.now ranks.now gauge.old waiting.now }
     ensures rank { result.rank ≡ rank_of store.now ranks.now waiting.now.row.pid }

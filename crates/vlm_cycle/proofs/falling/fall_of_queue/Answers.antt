@@ -1,4 +1,4 @@
-use Rattle.std.proofs.Common.{◌∷◌, ◌∙◌, [], ap, subst}
+use Rattle.std.proofs.Common.{◌∷◌, ◌∙◌, [], ap}
 use Rattle.vlm_words.specs.declared.locks.Row.{Row}
 use Rattle.vlm_queue.specs.Walks.{rows_left, rows_queued}
 use Rattle.vlm_queue.proofs.Walking.{begins, come_stored, passes}

@@ -1,4 +1,4 @@
-use Rattle.std.proofs.Common.{◌++◌, ◌∙◌, subst, sym}
+use Rattle.std.proofs.Common.{◌∙◌, subst, sym}
 use Rattle.vlm_words.specs.declared.resources.Queue.TheVariants.{Conversion, Waiting}
 use Rattle.vlm_queue.specs.Walks.{rows_queued}
 use Rattle.vlm_cycle.specs.Finding.{Improves}

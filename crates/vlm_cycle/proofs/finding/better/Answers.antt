@@ -1,5 +1,4 @@
-use Rattle.std.proofs.Common.{arith, refl, subst, sym}
-use Rattle.vlm_cycle.specs.Ranking.{rank_of}
+use Rattle.std.proofs.Common.{refl}
 use Rattle.vlm_cycle.proofs.Found.{better_one, not_dead, not_later}
 use Rattle.vlm_cycle.proofs.Ranked.{certain_alive}
 use Rattle.vlm_cycle.proofs.finding.better.Goals as goal
