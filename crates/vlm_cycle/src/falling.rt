@@ -1,8 +1,6 @@
 //! Whether no process waits for one of a higher rank.
 
 ghost use Rattle.std.specs.Prelude.{◌≡◌, ◌+◌, ◌≤◌, ◌++◌, [], false, true};
-ghost use Rattle.std.specs.Option.{ForSome};
-ghost use Rattle.vlm_words.specs.declared.locks.Row.{Row};
 ghost use Rattle.vlm_words.specs.declared.resources.Queue.{Queue};
 ghost use Rattle.vlm_store.specs.Records.{HasResource, Records};
 ghost use Rattle.vlm_queue.specs.Walks.{rows_queued};

@@ -1,10 +1,9 @@
 //! The gauge of a resource: above which ranks a queued request of it waits for nobody.
 
-ghost use Rattle.std.specs.Prelude.{◌≡◌, ◌≢◌, ◌<◌, ◌≤◌, ℕ, false};
+ghost use Rattle.std.specs.Prelude.{◌≡◌, ◌≢◌, ◌<◌, ◌≤◌, ℕ, Some, false};
 ghost use Rattle.vlm_words.specs.declared.locks.Request.{Request};
 ghost use Rattle.vlm_words.specs.declared.modes.Mode.{Mode};
 ghost use Rattle.vlm_words.specs.Flags.{flag_bits, has_flag, nodlckwt};
-ghost use Rattle.std.specs.Prelude.{Option, Some};
 ghost use Rattle.vlm_words.specs.Modes.{is_compatible};
 ghost use Rattle.vlm_cycle.specs.Ranking.{CountsHeld, IsAbove, IsAboveAll, IsCounted, PassesOne, peak_of};
 

@@ -1,6 +1,6 @@
 //! The two sets of marked processes that a search has, and the ranks of the processes.
 
-ghost use Rattle.std.specs.Prelude.{◌≡◌, ◌/◌, ◌≤◌, ℕ, false, true, IfSome, IfNone, IsOk, OnErr, OnOk};
+ghost use Rattle.std.specs.Prelude.{◌≡◌, ◌/◌, ℕ, true, OnOk};
 ghost use Rattle.vlm_marks.specs.Nodes.{is_marked, is_node};
 ghost use Rattle.vlm_cycle.specs.Marking.{HasRoom, IsClear, IsTaken, KeepsRoom, Marks};
 
