@@ -3,7 +3,7 @@ use Rattle.std.proofs.Common.{◌≡◌, ◌<◌, ℕ, List, [], ◌∷◌, ◌+
 use Rattle.std.specs.Prelude.{Any}
 use Rattle.std.proofs.lemmas.Option.{same_Some}
 use Rattle.vlm_words.specs.declared.locks.Row.{Row}
-use Rattle.vlm_words.specs.Deadlocks.{IsDeadlocked, LeadsTo, ProcessWaitsFor, WaitsOn, queue_of, wanted_number}
+use Rattle.vlm_words.specs.Deadlocks.{IsDeadlocked, LeadsTo, ProcessWaitsFor, WaitsFor, WaitsOn, queue_of, wanted_number}
 use Rattle.vlm_words.specs.State.{Resource, State}
 use Rattle.vlm_links.specs.Lists.{IsIn}
 use Rattle.vlm_store.specs.Plain.{plain_resource, plain_resources}
@@ -126,10 +126,10 @@ module _ (s t : State) (same : s.resources ≡ t.resources) where
     leads = leads_same dead.lock.pid dead.others row.pid dead.leads;
   }
 
--- a deadlocked request is queued on a resource
-pub dead_queued : (s : Records) (row : Row) → IsDeadlocked (searched s) row → IsIn row (flat_map queue_of (plain_resources s))
-dead_queued s row dead =
-    let w = waiting_on s row dead.lock dead.waits in
+-- a request that waits is queued on a resource
+pub waiting_queued : (s : Records) (row lock : Row) → WaitsFor (searched s) row lock → IsIn row (flat_map queue_of (plain_resources s))
+waiting_queued s row lock waits =
+    let w = waiting_on s row lock waits in
     in_all w.resource s.resources w.there (among_is row (queue_of (plain_resource w.resource)) w.waits.queued)
   where
     in_all : (r : StoredResource) (rs : List StoredResource) → IsIn r rs → IsIn row (queue_of (plain_resource r)) → IsIn row (flat_map queue_of (map plain_resource rs))
@@ -141,13 +141,17 @@ dead_queued s row dead =
       | inr later ↦ in_second row (queue_of (plain_resource x)) (flat_map queue_of (map plain_resource rs)) (in_all r rs later here)
     ]
 
+-- and so is one that is deadlocked
+pub dead_queued : (s : Records) (row : Row) → IsDeadlocked (searched s) row → IsIn row (flat_map queue_of (plain_resources s))
+dead_queued s row dead = waiting_queued s row dead.lock dead.waits
+
 -- the best of all is the victim
 pub record IsBestOfAll (s : Records) (best : Option Standing) : Type 0 where
   pub victim : IsVictimOf s best
   pub fit : IsFit s best
 
-pub best_of_all : (s : Records) (best : Option Standing) → Improves s (flat_map queue_of (plain_resources s)) None best → IsBestOfAll s best
-best_of_all s best improves = let fit = improves.fit (λ f is. cc) in record { victim = of_best best fit improves.covered; fit = fit }
+pub best_of_all : (s : Records) (first best : Option Standing) → IsFit s first → Improves s (flat_map queue_of (plain_resources s)) first best → IsBestOfAll s best
+best_of_all s first best fit_first improves = let fit = improves.fit fit_first in record { victim = of_best best fit improves.covered; fit = fit }
   where
     of_best : (b : Option Standing) → IsFit s b → ((row : Row) → IsIn row (flat_map queue_of (plain_resources s)) → IsCovered s b row) → IsVictimOf s b
     of_best None fit covered state same =

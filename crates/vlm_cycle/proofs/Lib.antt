@@ -5,3 +5,5 @@ pub mod Keeping
 pub mod Owned
 pub mod Searched
 pub mod Found
+pub mod Peaks
+pub mod Ranked

@@ -4,6 +4,7 @@ use Rattle.std.specs.Prelude.{◌&&◌, nat_le}
 use Rattle.std.proofs.lemmas.Bool.{and_parts, cases_eq, leb-true}
 use Rattle.vlm_marks.specs.Nodes.{Writes, is_marked, is_node, place_of}
 use Rattle.vlm_store.specs.Records.{IsProcess, Records}
+use Rattle.vlm_cycle.specs.declared.ranks.Ranks.{Ranks}
 use Rattle.vlm_cycle.specs.declared.scratch.Scratch.{Scratch}
 use Rattle.vlm_cycle.specs.Marking.{HasRoom, KeepsRoom, Marks}
 use Rattle.vlm_cycle.specs.Waiting.{IsRoomy}
@@ -19,6 +20,7 @@ marks_none P a none = record {
   before = λ pid is. (is, refl);
   others = λ pid is. inr ((is, refl), none pid);
   room = λ pid room. room;
+  ranks = refl;
 }
 
 -- the same ones in other words
@@ -30,6 +32,7 @@ marks_as P Q a b to from marks = record {
     | inr not ↦ inr (not.0, λ q. not.1 (from pid q))
   ];
   room = marks.room;
+  ranks = marks.ranks;
 }
 
 -- these and then those
@@ -49,6 +52,7 @@ marks_both P Q a b c first second = record {
     ]
   ];
   room = λ pid room. second.room pid (first.room pid room);
+  ranks = second.ranks ∙ first.ranks;
 }
 
 -- what is marked for what is left makes, with what was, the marks for all
@@ -66,15 +70,19 @@ goes_step P Q left rest all initial now after to from marks goes final last =
 pub roomy_still : (s : Records) (a b : Scratch) → KeepsRoom a b → IsRoomy s a → IsRoomy s b
 roomy_still s a b keeps roomy p among = let was = roomy p among in (keeps p.process.pid was.0, was.1)
 
+-- ranks are no room
+pub other_ranks : (marks : Scratch) (ranks : Ranks) → KeepsRoom marks (record marks { ranks = ranks })
+other_ranks marks ranks pid room = record { seen = room.seen; todo = room.todo }
+
 -- the owner of a lock has room
 pub owner_room : (s : Records) (marks : Scratch) → IsRoomy s marks → (at pid : ℕ) → IsProcess at pid s → HasRoom marks pid × (is_node (pid / 65536) ≡ true)
 owner_room s marks roomy at pid lives = subst (λ n. HasRoom marks n × (is_node (n / 65536) ≡ true)) lives.1.2 (roomy lives.0 lives.1.0)
 
 -- a process is found that was not
-pub marks_one : (pid : ℕ) (old_seen seen old_todo todo : List (List Bool)) → is_node (pid / 65536) ≡ true → is_marked old_seen pid ≡ false
+pub marks_one : (pid : ℕ) (ranks : Ranks) (old_seen seen old_todo todo : List (List Bool)) → is_node (pid / 65536) ≡ true → is_marked old_seen pid ≡ false
     → Writes pid true old_seen seen → Writes pid true old_todo todo
-    → Marks (λ other. other ≡ pid) (record { seen = old_seen; todo = old_todo }) (record { seen = seen; todo = todo })
-marks_one pid old_seen seen old_todo todo named was writes_seen writes_todo = record {
+    → Marks (λ other. other ≡ pid) (record { seen = old_seen; todo = old_todo; ranks = ranks }) (record { seen = seen; todo = todo; ranks = ranks })
+marks_one pid ranks old_seen seen old_todo todo named was writes_seen writes_todo = record {
   before = λ other is.
       let differs : other ≡ pid → ⊥ = λ same. (let never : true ≡ false = sym is ∙ ap (is_marked old_seen) same ∙ was in cc) in
       (writes_seen.others other differs ∙ is, writes_todo.others other differs);
@@ -84,6 +92,7 @@ marks_one pid old_seen seen old_todo todo named was writes_seen writes_todo = re
     | inr differs ↦ inr ((writes_seen.others other differs ∙ is, writes_todo.others other differs), differs)
   ];
   room = λ other room. record { seen = writes_seen.room other room.seen; todo = writes_todo.room other room.todo };
+  ranks = refl;
 }
 
 -- one that was found stays so
@@ -92,6 +101,7 @@ marks_again pid a was = record {
   before = λ other is. (is, refl);
   others = λ other is. inr ((is, refl), λ same. (let never : true ≡ false = sym was ∙ ap (is_marked a.seen) (sym same) ∙ is in cc));
   room = λ other room. room;
+  ranks = refl;
 }
 
 -- what is marked is of a node, 1 to 8

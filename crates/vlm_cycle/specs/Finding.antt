@@ -30,6 +30,10 @@ IsNotLater row (Some best) = wanted_number row ≤ wanted_number best.row
 abbrev pub IsFit : Records → Option Standing → Type 0
 IsFit s best = ForSome best (λ f. IsStanding f s × IsDeadlocked (searched s) f.row)
 
+-- the lock, if there is one, stands as it says
+abbrev pub StandsIfAny : Records → Option Standing → Type 0
+StandsIfAny s found = ForSome found (λ f. IsStanding f s)
+
 -- the best of before becomes one that covers these rows too
 pub record Improves (s : Records) (rows : List Row) (old new : Option Standing) : Type 0 where
   pub fit : IsFit s old → IsFit s new

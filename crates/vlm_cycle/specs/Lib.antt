@@ -1,3 +1,4 @@
 pub mod Marking
 pub mod Waiting
 pub mod Finding
+pub mod Ranking

@@ -25,13 +25,15 @@ IsFound marks pid = (is_marked marks.seen pid ≡ true) × (is_marked marks.todo
 abbrev pub IsNotFound : Scratch → Scratch → ℕ → Type 0
 IsNotFound old new pid = (is_marked new.seen pid ≡ false) × (is_marked new.todo pid ≡ is_marked old.todo pid)
 
--- of the processes that were not found, exactly these are, and the search has to go to them; of the others all stays
+-- of the processes that were not found, exactly these are, and the search has to go to them; of the others all stays,
+-- and so do the ranks
 pub record Marks (these : ℕ → Type 0) (old new : Scratch) : Type 0 where
   pub before : (pid : ℕ) → is_marked old.seen pid ≡ true
       → (is_marked new.seen pid ≡ true) × (is_marked new.todo pid ≡ is_marked old.todo pid)
   pub others : (pid : ℕ) → is_marked old.seen pid ≡ false
       → (IsFound new pid × these pid) ⊎ (IsNotFound old new pid × (these pid → ⊥))
   pub room : KeepsRoom old new
+  pub ranks : new.ranks ≡ old.ranks
 
 -- the search has to go to no process of a node; or this is one to which it had to go, and it need not go there again
 abbrev pub IsTaken : Option ℕ → Scratch → Scratch → Type 0
@@ -40,3 +42,4 @@ IsTaken (Some taken) old new =
     (is_marked old.todo taken ≡ true) × (is_marked new.todo taken ≡ false) × (new.seen ≡ old.seen)
     × ((other : ℕ) → ¬ (other ≡ taken) → is_marked new.todo other ≡ is_marked old.todo other)
     × KeepsRoom old new
+    × (new.ranks ≡ old.ranks)

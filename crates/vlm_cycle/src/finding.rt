@@ -1,22 +1,29 @@
 //! The victim: the deadlocked request that was made last.
 
-ghost use Rattle.std.specs.Prelude.{◌≡◌, [], ◌∷◌};
+ghost use Rattle.std.specs.Prelude.{◌≡◌, ◌<◌, ◌++◌, ℕ, true, [], ◌∷◌};
 ghost use Rattle.std.specs.Bool.{OnFalse, OnTrue};
 ghost use Rattle.vlm_words.specs.Deadlocks.{wanted_number};
-ghost use Rattle.vlm_store.specs.Records.{HasResource, IsStored, Stores};
+ghost use Rattle.vlm_store.specs.Records.{HasResource};
+ghost use Rattle.vlm_words.specs.declared.resources.Queue.{Queue};
 ghost use Rattle.vlm_queue.specs.Walks.{rows_queued};
 ghost use Rattle.vlm_locks.specs.Rest.{IsAtRest};
-ghost use Rattle.vlm_cycle.specs.Finding.{Improves, IsFit, IsLater, IsNotLater, IsVictimOf};
+ghost use Rattle.vlm_locks.specs.Standing.{IsStanding};
+ghost use Rattle.vlm_cycle.specs.Finding.{Improves, IsFit, IsLater, IsNotLater, IsVictimOf, StandsIfAny};
 ghost use Rattle.vlm_cycle.specs.Marking.{KeepsRoom};
-ghost use Rattle.vlm_cycle.specs.Waiting.{IsRoomy};
+ghost use Rattle.vlm_cycle.specs.Ranking.{Falls, IsGaugeOf, Passes, rank_of};
+ghost use Rattle.vlm_cycle.specs.Waiting.{IsRoomy, IsWaitedFor};
 ghost use Rattle.vlm_words.specs.declared.locks.Row.{Row};
 
+use crate::falling::{fall_of_all, has_queued};
+use crate::gauge::Gauge;
+use crate::judging::{Judged, gauge_of, judge, standing_in};
+use crate::ranking::rank_processes;
 use crate::scratch::Scratch;
 use crate::searching::is_deadlocked;
-use vlm_locks::{Standing, standing_of};
+use vlm_locks::Standing;
 use vlm_queue::{first_resource, head, next, next_resource};
 use vlm_store::laws::law_records_are_sound;
-use vlm_store::{LockAt, ResAt, Store};
+use vlm_store::{ResAt, Store};
 use vlm_words::locks::Row;
 use vlm_words::resources::Queue;
 
@@ -30,8 +37,8 @@ fn wanted_number(row: &Row) -> u64
     }
 }
 
-// Whether the request of a row was made after that of the best, if there is one.
-fn is_later(row: &Row, best: &Option<Standing>) -> bool
+/// Whether the request of a row was made after that of the best, if there is one.
+pub(crate) fn is_later(row: &Row, best: &Option<Standing>) -> bool
     ensures later { OnTrue result (IsLater row.now best.now) }
     ensures earlier { OnFalse result (IsNotLater row.now best.now) }
 {
@@ -41,27 +48,51 @@ fn is_later(row: &Row, best: &Option<Standing>) -> bool
     }
 }
 
-// The lock, if its request is deadlocked and was made after that of the best; else the best.
+// The guess, if its request is deadlocked.
+fn best_guess(store: &Store, scratch: &mut Scratch, guess: Option<Standing>) -> Option<Standing>
+    requires rest { IsAtRest store.now }
+    requires stands { StandsIfAny store.now guess }
+    requires roomy { IsRoomy store.now scratch.old }
+    ensures fit { IsFit store.now result }
+    ensures room { KeepsRoom scratch.old scratch.new }
+    ensures ranks { scratch.new.ranks ≡ scratch.old.ranks }
+{
+    let standing = guess?;
+    if is_deadlocked(store, scratch, &standing) {
+        return Some(standing);
+    }
+    None
+}
+
+// The lock, if its request is deadlocked and was made after that of the best; else the best. Where no process waits for one
+// of a higher rank, a request that waits for lower ones alone is not deadlocked, and needs no search.
 fn better(
     store: &Store,
     scratch: &mut Scratch,
-    lock: LockAt,
+    falls: bool,
+    judged: Judged,
+    waiting: &Standing,
     best: Option<Standing>,
 ) -> Option<Standing>
     requires rest { IsAtRest store.now }
-    requires stored { IsStored lock store.now }
+    requires standing { IsStanding waiting.now store.now }
     requires roomy { IsRoomy store.now scratch.old }
-    ensures improves { (row : Row) → Stores store.now lock row
-        → Improves store.now (row ∷ []) best result }
+    requires falls { falls ≡ true → Falls store.now scratch.old.ranks }
+    requires rank { judged.rank ≡ rank_of store.now scratch.old.ranks waiting.now.row.pid }
+    requires top { (pid : ℕ) → IsWaitedFor store.now waiting.now.row pid
+        → rank_of store.now scratch.old.ranks pid < judged.top }
+    ensures improves { Improves store.now (waiting.now.row ∷ []) best result }
     ensures room { KeepsRoom scratch.old scratch.new }
+    ensures ranks { scratch.new.ranks ≡ scratch.old.ranks }
 {
-    let Some(standing) = standing_of(store, lock) else {
+    if !is_later(&waiting.row, &best) {
         return best;
-    };
-    if is_later(&standing.row, &best) {
-        if is_deadlocked(store, scratch, &standing) {
-            return Some(standing);
-        }
+    }
+    if falls && judged.is_below() {
+        return best;
+    }
+    if is_deadlocked(store, scratch, waiting) {
+        return Some(*waiting);
     }
     best
 }
@@ -70,6 +101,8 @@ fn better(
 fn best_of_queue(
     store: &Store,
     scratch: &mut Scratch,
+    gauge: &mut Gauge,
+    falls: bool,
     res: ResAt,
     queue: Queue,
     best: Option<Standing>,
@@ -77,20 +110,69 @@ fn best_of_queue(
     requires rest { IsAtRest store.now }
     requires there { HasResource res store.now }
     requires roomy { IsRoomy store.now scratch.old }
+    requires falls { falls ≡ true → Falls store.now scratch.old.ranks }
+    requires gauge { IsGaugeOf store.now scratch.old.ranks gauge.old res queue }
     ensures improves { Improves store.now (rows_queued res queue store.now) best result }
     ensures room { KeepsRoom scratch.old scratch.new }
+    ensures ranks { scratch.new.ranks ≡ scratch.old.ranks }
+    ensures passes { Passes store.now scratch.old.ranks (rows_queued res queue store.now) gauge.old
+        gauge.new }
 {
     let mut best = best;
     let mut at = head(store, res, queue);
     while let Some(lock) = at {
-        best = better(store, scratch, lock, best);
+        let standing = standing_in(store, res, queue, lock);
+        let judged = judge(store, &scratch.ranks, gauge, &standing);
+        best = better(store, scratch, falls, judged, &standing, best);
         at = next(store, lock);
     }
     best
 }
 
+// The best of before, or a better one of the resource.
+fn best_of_resource(
+    store: &Store,
+    scratch: &mut Scratch,
+    falls: bool,
+    res: ResAt,
+    best: Option<Standing>,
+) -> Option<Standing>
+    requires rest { IsAtRest store.now }
+    requires there { HasResource res store.now }
+    requires roomy { IsRoomy store.now scratch.old }
+    requires falls { falls ≡ true → Falls store.now scratch.old.ranks }
+    ensures improves { Improves store.now (rows_queued res Queue.Conversion store.now
+        ++ rows_queued res Queue.Waiting store.now) best result }
+    ensures room { KeepsRoom scratch.old scratch.new }
+    ensures ranks { scratch.new.ranks ≡ scratch.old.ranks }
+{
+    if !has_queued(store, res) {
+        return best;
+    }
+    let mut gauge = gauge_of(store, &scratch.ranks, res);
+    let first = best_of_queue(
+        store,
+        scratch,
+        &mut gauge,
+        falls,
+        res,
+        Queue::Conversion,
+        best,
+    );
+    best_of_queue(
+        store,
+        scratch,
+        &mut gauge,
+        falls,
+        res,
+        Queue::Waiting,
+        first,
+    )
+}
+
 /// The lock of the deadlocked request that was made last, if some request is deadlocked. It takes no memory. The cost grows
-/// with the queued requests, and for each with the locks of the processes that it is found to lead to.
+/// with the locks, and for each request that the ranks of processes leave in doubt with the locks of the processes that it
+/// is found to lead to.
 pub fn victim(store: &Store, scratch: &mut Scratch) -> Option<Standing>
     requires rest { IsAtRest store.now }
     requires roomy { IsRoomy store.now scratch.old }
@@ -99,11 +181,12 @@ pub fn victim(store: &Store, scratch: &mut Scratch) -> Option<Standing>
     ensures room { KeepsRoom scratch.old scratch.new }
 {
     law_records_are_sound(store);
-    let mut best = None;
+    rank_processes(store, &mut scratch.ranks);
+    let fall = fall_of_all(store, &scratch.ranks);
+    let mut best = best_guess(store, scratch, fall.guess);
     let mut at = first_resource(store);
     while let Some(res) = at {
-        best = best_of_queue(store, scratch, res, Queue::Conversion, best);
-        best = best_of_queue(store, scratch, res, Queue::Waiting, best);
+        best = best_of_resource(store, scratch, fall.falls, res, best);
         at = next_resource(store, res);
     }
     best

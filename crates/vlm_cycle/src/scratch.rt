@@ -1,9 +1,10 @@
-//! The two sets of marked processes that a search has.
+//! The two sets of marked processes that a search has, and the ranks of the processes.
 
-ghost use Rattle.std.specs.Prelude.{◌≡◌, ◌/◌, ◌≤◌, ℕ, false, true, IfSome, IfNone, IsOk, OnErr, OnOk};
+ghost use Rattle.std.specs.Prelude.{◌≡◌, ◌/◌, ℕ, true, OnOk};
 ghost use Rattle.vlm_marks.specs.Nodes.{is_marked, is_node};
 ghost use Rattle.vlm_cycle.specs.Marking.{HasRoom, IsClear, IsTaken, KeepsRoom, Marks};
 
+use crate::ranks::Ranks;
 use std::alloc::{AllocError, Global};
 use vlm_marks::NodeMarks;
 
@@ -14,6 +15,8 @@ pub struct Scratch {
     pub(crate) seen: NodeMarks,
     // those of them to which the search still has to go
     pub(crate) todo: NodeMarks,
+    // advice: by these most searches are spared
+    pub(crate) ranks: Ranks,
 }
 
 impl Scratch {
@@ -22,25 +25,26 @@ impl Scratch {
         Scratch {
             seen: NodeMarks::new(alloc),
             todo: NodeMarks::new(alloc),
+            ranks: Ranks::new(alloc),
         }
     }
 
-    /// Makes room to mark the process, and 64 of its node at a time. Where memory is refused there may be more room than
-    /// there was.
-    pub fn make_room(&mut self, pid: u32) -> Result<(), AllocError>
+    /// Makes room to mark the process, and 64 of its node at a time, and to rank it beside so many living ones. Where
+    /// memory is refused there may be more room than there was.
+    pub fn make_room(&mut self, pid: u32, living: usize) -> Result<(), AllocError>
         ensures room { OnOk result (HasRoom self.new pid) }
         ensures kept { KeepsRoom self.old self.new }
-        ensures succeeds { (other : ℕ) → other / 65536 ≡ pid / 65536 → pid / 64 ≤ other / 64
-            → HasRoom self.old other → IsOk result }
     {
         self.seen.make_room(pid)?;
-        self.todo.make_room(pid)
+        self.todo.make_room(pid)?;
+        self.ranks.make_room(living)
     }
 
     /// Takes all marks away.
     pub(crate) fn clear(&mut self)
         ensures clear { IsClear self.new }
         ensures room { KeepsRoom self.old self.new }
+        ensures ranks { self.new.ranks ≡ self.old.ranks }
     {
         self.seen.clear();
         self.todo.clear();

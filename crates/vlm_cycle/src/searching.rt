@@ -1,5 +1,6 @@
 //! Whether a request is deadlocked.
 
+ghost use Rattle.std.specs.Prelude.{◌≡◌};
 ghost use Rattle.std.specs.Bool.{OnFalse, OnTrue};
 ghost use Rattle.vlm_words.specs.Deadlocks.{IsDeadlocked};
 ghost use Rattle.vlm_store.specs.Records.{IsProcess};
@@ -53,6 +54,7 @@ pub(crate) fn is_deadlocked(store: &Store, scratch: &mut Scratch, waiting: &Stan
     ensures yes { OnTrue result (IsDeadlocked (searched store.now) waiting.now.row) }
     ensures no { OnFalse result (¬ IsDeadlocked (searched store.now) waiting.now.row) }
     ensures room { KeepsRoom scratch.old scratch.new }
+    ensures ranks { scratch.new.ranks ≡ scratch.old.ranks }
 {
     law_records_are_sound(store);
     scratch.clear();

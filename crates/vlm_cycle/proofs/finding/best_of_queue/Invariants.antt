@@ -1,8 +1,9 @@
-use Rattle.std.proofs.Common.{length}
+use Rattle.std.proofs.Common.{◌≡◌, length}
 use Rattle.vlm_queue.specs.Walks.{IsInQueue, rows_left, rows_queued}
 use Rattle.vlm_cycle.specs.Waiting.{IsRoomy}
 use Rattle.vlm_cycle.specs.Marking.{KeepsRoom}
 use Rattle.vlm_cycle.proofs.Found.{BestGoesOn}
+use Rattle.vlm_cycle.proofs.Ranked.{IsPassing}
 use Rattle.vlm_cycle.proofs.finding.best_of_queue.Given as goal
 
 -- the best of what is left is the best of the whole queue
@@ -11,6 +12,8 @@ invariant-loop-at l = record {
   there : IsInQueue l.fn.res l.fn.queue l.at l.store;
   roomy : IsRoomy l.store l.scratch;
   room : KeepsRoom l.initial.scratch l.scratch;
+  ranks : l.scratch.ranks ≡ l.initial.scratch.ranks;
+  passing : IsPassing l.store l.initial.scratch.ranks (rows_queued l.fn.res l.fn.queue l.store) (rows_left l.fn.res l.fn.queue l.at l.store) l.initial.gauge l.gauge;
   goes_on : BestGoesOn l.store (rows_left l.fn.res l.fn.queue l.at l.store) (rows_queued l.fn.res l.fn.queue l.store) l.initial.best l.best;
 }
 

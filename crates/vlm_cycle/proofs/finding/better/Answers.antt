@@ -1,22 +1,22 @@
+use Rattle.std.proofs.Common.{refl}
 use Rattle.vlm_cycle.proofs.Found.{better_one, not_dead, not_later}
-use Rattle.std.proofs.Common.{sym, subst}
-use Rattle.vlm_words.specs.declared.locks.Row.{Row}
-use Rattle.vlm_words.specs.Deadlocks.{IsDeadlocked}
-use Rattle.vlm_cycle.specs.Finding.{IsNotLater}
-use Rattle.vlm_cycle.specs.Waiting.{searched}
+use Rattle.vlm_cycle.proofs.Ranked.{certain_alive}
 use Rattle.vlm_cycle.proofs.finding.better.Goals as goal
 
+pub returns-then-not-is_later-clause-improves : goal.returns-then-not-is_later-clause-improves
+returns-then-not-is_later-clause-improves c =
+    not_later c.args.store.now c.args.waiting.now.row c.args.best c.if-not-is_later.ensures.earlier
+
+-- one that waits for lower ranks alone is not deadlocked
+pub returns-then-is_below-clause-improves : goal.returns-then-is_below-clause-improves
+returns-then-is_below-clause-improves c =
+    not_dead c.args.store.now c.args.waiting.now.row c.args.best
+    (certain_alive c.args.store.now c.args.scratch.now.ranks c.args.waiting.now.row c.args.judged.rank c.args.judged.top (c.requires.falls c.if-falls.true) c.requires.rank (c.is_below.ensures c.if-is_below.true) c.requires.top)
+
 pub returns-then-is_deadlocked-clause-improves : goal.returns-then-is_deadlocked-clause-improves
-returns-then-is_deadlocked-clause-improves c row stored =
-    let f = c.in-Some.standing in
-    better_one c.args.store.now row c.args.best f (c.in-Some.ensures.only row stored) c.in-Some.ensures.standing c.if-is_later.ensures.later c.if-is_deadlocked.ensures.yes
+returns-then-is_deadlocked-clause-improves c =
+    better_one c.args.store.now c.args.waiting.now.row c.args.best c.args.waiting.now refl c.requires.standing c.if-not-is_later.ensures.later c.if-is_deadlocked.ensures.yes
 
-pub returns-else-is_deadlocked-clause-improves : goal.returns-else-is_deadlocked-clause-improves
-returns-else-is_deadlocked-clause-improves c row stored =
-    not_dead c.args.store.now row c.args.best
-    (subst (λ (x : Row). IsDeadlocked (searched c.args.store.now) x → ⊥) (sym (c.in-Some.ensures.only row stored)) c.if-is_deadlocked.ensures.no)
-
-pub returns-else-is_later-clause-improves : goal.returns-else-is_later-clause-improves
-returns-else-is_later-clause-improves c row stored =
-    not_later c.args.store.now row c.args.best
-    (subst (λ x. IsNotLater x c.args.best) (sym (c.in-Some.ensures.only row stored)) c.if-is_later.ensures.earlier)
+pub returns-clause-improves : goal.returns-clause-improves
+returns-clause-improves c =
+    not_dead c.args.store.now c.args.waiting.now.row c.args.best c.if-is_deadlocked.ensures.no

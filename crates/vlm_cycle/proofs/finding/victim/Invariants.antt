@@ -1,4 +1,4 @@
-use Rattle.std.proofs.Common.{None, length}
+use Rattle.std.proofs.Common.{◌≡◌, length}
 use Rattle.std.specs.Prelude.{flat_map}
 use Rattle.std.specs.Option.{ForSome}
 use Rattle.vlm_words.specs.Deadlocks.{queue_of}
@@ -15,7 +15,8 @@ invariant-loop-at l = record {
   there : ForSome l.at (λ res. HasResource res l.store);
   roomy : IsRoomy l.store l.scratch;
   room : KeepsRoom l.initial.scratch l.scratch;
-  goes_on : BestGoesOn l.store (flat_map queue_of (resources_left l.at l.store)) (flat_map queue_of (plain_resources l.store)) None l.best;
+  ranks : l.scratch.ranks ≡ l.initial.scratch.ranks;
+  goes_on : BestGoesOn l.store (flat_map queue_of (resources_left l.at l.store)) (flat_map queue_of (plain_resources l.store)) l.initial.best l.best;
 }
 
 abbrev pub decreases-loop-at : goal.decreases-loop-at

@@ -1,4 +1,4 @@
-use Rattle.std.proofs.Common.{◌∙◌, Some, None, ap, subst}
+use Rattle.std.proofs.Common.{◌∙◌, Some, None, ap, refl, subst}
 use Rattle.vlm_words.specs.Deadlocks.{IsDeadlocked}
 use Rattle.vlm_marks.specs.Nodes.{is_marked}
 use Rattle.vlm_cycle.specs.declared.scratch.Scratch.{Scratch}
@@ -14,6 +14,7 @@ loop-pid-init c = (
       (roomy_still c.args.store.now c.clear.new.self c.find_waited_for.new.scratch c.find_waited_for.ensures.room
       (roomy_still c.args.store.now c.args.scratch.now c.clear.new.self c.clear.ensures.room c.requires.roomy)),
   λ pid room. room,
+  refl,
 )
 
 -- one process less to go to
@@ -28,6 +29,7 @@ loop-pid-preserved c =
     subst (λ o. IsTaken o c.loop-pid.scratch c.take.new.self) c.in-Some.is c.take.ensures in (
       searched_on c.args.store.now c.law_records_are_sound.ensures c.args.waiting.now.row c.loop-pid.scratch c.take.new.self c.find_behind.new.scratch c.in-Some.pid c.loop-pid.invariant.0 taken c.find_behind.ensures,
       λ pid room. c.find_behind.ensures.room pid (taken.4 pid (c.loop-pid.invariant.1 pid room)),
+      c.find_behind.ensures.ranks ∙ taken.5 ∙ c.loop-pid.invariant.2,
     )
 
 -- whoever is led to is found

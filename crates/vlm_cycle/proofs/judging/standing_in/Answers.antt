@@ -1,0 +1,11 @@
+use Rattle.vlm_queue.proofs.Walking.{come_stored}
+use Rattle.vlm_cycle.proofs.Ranked.{standing_there}
+use Rattle.vlm_cycle.proofs.judging.standing_in.Goals as goal
+
+pub lock_record-requires : goal.lock_record-requires
+lock_record-requires c = come_stored c.args.store.now c.args.res c.args.queue c.args.lock c.requires.come
+
+pub returns-clause-standing : goal.returns-clause-standing
+returns-clause-standing c =
+    standing_there c.args.store.now c.lock_record.ensures.sound c.args.res c.args.queue c.args.lock c.lock_record.result.now.row
+    c.requires.there c.requires.come c.lock_record.ensures.row
