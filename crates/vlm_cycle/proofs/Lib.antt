@@ -5,3 +5,4 @@ pub mod Keeping
 pub mod Owned
 pub mod Searched
 pub mod Found
+pub mod Noted

@@ -7,9 +7,13 @@
 
 mod finding;
 mod marking;
+mod notes;
+mod ranking;
+mod ranks;
 mod scratch;
 mod searching;
 mod waiting;
+mod wanting;
 
 pub use finding::victim;
 pub use scratch::Scratch;
