@@ -1,10 +1,10 @@
 -- What a ranking names is there: the locks and the processes to which its walk comes.
-use Rattle.std.proofs.Common.{◌≡◌, ℕ, List, map, Option, Some, refl, sym, ◌∙◌, subst}
+use Rattle.std.proofs.Common.{◌≡◌, ℕ, List, ◌++◌, length, take, drop, arith, map, Option, None, Some, IfSome, refl, sym, ◌∙◌, subst}
 use Rattle.std.specs.List.{All}
 use Rattle.std.specs.Option.{ForSome}
-use Rattle.std.specs.Prelude.{slice_get}
-use Rattle.std.proofs.lemmas.List.Elements.{All-get_or}
-use Rattle.std.proofs.lemmas.Option.{get_or_from_slice_get, slice_get_within}
+use Rattle.std.proofs.lemmas.List.{append-nil, drop_all}
+use Rattle.std.proofs.lemmas.List.Elements.{All-take}
+use Rattle.std.proofs.lemmas.Option.{none-some, same_Some}
 use Rattle.vlm_words.specs.declared.locks.Row.{Row}
 use Rattle.vlm_links.specs.Lists.{IsIn, first_handle, handle_after, handle_before}
 use Rattle.vlm_links.proofs.Images.{IsIn-of_image}
@@ -13,26 +13,37 @@ use Rattle.vlm_records.specs.declared.handles.Place.{Place}
 use Rattle.vlm_store.specs.Records.{IsProcess, IsSound, IsStored, Records, StoredLock, at_after, locks_at, own_handles_at}
 use Rattle.vlm_store.proofs.Walks.{at_lock}
 use Rattle.vlm_locks.proofs.RunsDown.{its_handles, owned_here, stored_here}
-use Rattle.vlm_cycle.specs.declared.ranks.Note.{Note}
-use Rattle.vlm_cycle.specs.Notes.{IsNote, IsThere}
+use Rattle.vlm_cycle.specs.Notes.{IsThere}
 
--- a note that is read is one of all
-pub note_there : (s : Records) (notes : List Note) (at : ℕ) (note : Note) → All (IsNote s) notes → slice_get notes at ≡ Some note → IsNote s note
-note_there s notes at note are is =
-    subst (IsNote s) (get_or_from_slice_get notes at note note is) (All-get_or (IsNote s) notes at note (slice_get_within notes at note is) are)
+-- what is written in the place of a whole list holds of all that then stands there
+pub all_written : {X : Type 0} (P : X → Type 0) (new old : List X) (count : ℕ) → length new ≡ length old → All P new → All P (take count (new ++ drop (length new) old))
+all_written P new old count as_long are =
+    let none = drop_all (length new) old (omega (arith, as_long)) in
+    All-take P count (new ++ drop (length new) old) (subst (λ rest. All P (new ++ rest)) (sym none) (subst (All P) (sym (append-nil new)) are))
+
+-- what is named is there where the one is
+pub some_there : (P : ℕ → Type 0) (one : ℕ) → P one → ForSome (Some one) P
+some_there P one there other is = subst P (same_Some one other is) there
+
+pub none_there : (P : ℕ → Type 0) → ForSome None P
+none_there P other is = absurd (none-some other is)
+
+pub if_there : (P : ℕ → Type 0) (some : Option ℕ) → IfSome some P → ForSome some P
+if_there P None there = none_there P
+if_there P (Some one) there = some_there P one there
+
+-- the lock that one follows is there
+pub previous_there : (s : Records) (lock : ℕ) (before : Option ℕ) → IsStored lock s
+    → ((place : Place) (row : Row) → IsIn (record { at = lock; row = row }) (locks_at place s) → before ≡ handle_before lock (map (λ (k : StoredLock). k.at) (locks_at place s)))
+    → ForSome before (λ at. IsStored at s)
+previous_there s lock before stored follows at is =
+    let place = stored.1.0 in
+    let ks = locks_at place s in
+    let handles = map (λ (k : StoredLock). k.at) ks in
+    let found = IsIn-of_image (λ (k : StoredLock). k.at) ks at (handle_before-in lock handles at (sym is ∙ follows place stored.0 stored.1.1)) in
+    subst (λ h. IsStored h s) found.1.1 (found.0.row, (place, found.1.0))
 
 module _ (s : Records) (sound : IsSound s) where
-  -- the lock that one follows is there
-  pub previous_there : (lock : ℕ) (before : Option ℕ) → IsStored lock s
-      → ((place : Place) (row : Row) → IsIn (record { at = lock; row = row }) (locks_at place s) → before ≡ handle_before lock (map (λ (k : StoredLock). k.at) (locks_at place s)))
-      → ForSome before (λ at. IsStored at s)
-  previous_there lock before stored follows at is =
-      let place = stored.1.0 in
-      let ks = locks_at place s in
-      let handles = map (λ (k : StoredLock). k.at) ks in
-      let found = IsIn-of_image (λ (k : StoredLock). k.at) ks at (handle_before-in lock handles at (sym is ∙ follows place stored.0 stored.1.1)) in
-      subst (λ h. IsStored h s) found.1.1 (found.0.row, (place, found.1.0))
-
   -- so is the lock that follows it
   pub next_there : (lock : ℕ) (next : Option ℕ) → IsStored lock s
       → ((place : Place) (row : Row) → IsIn (record { at = lock; row = row }) (locks_at place s) → next ≡ at_after lock (locks_at place s))

@@ -1,10 +1,13 @@
 //! The notes of the processes, read and written.
 
-ghost use Rattle.vlm_store.specs.Records.{Records};
+ghost use Rattle.std.specs.Prelude.{◌≡◌, length};
+ghost use Rattle.std.specs.List.{All};
+ghost use Rattle.std.specs.Option.{ForSome};
+ghost use Rattle.vlm_store.specs.Records.{IsStored, Records};
 ghost use Rattle.vlm_cycle.specs.Notes.{AreNotes, IsNote};
 
 use crate::ranks::{Note, Ranks};
-use vlm_store::ProcAt;
+use vlm_store::{LockAt, ProcAt};
 
 /// A part of what a queued request waits for.
 #[derive(Clone, Copy)]
@@ -33,6 +36,76 @@ impl Note {
             at: None,
         }
     }
+
+    /// What is noted of a process whose walk stands there now.
+    pub(crate) fn standing(&self, own: Option<LockAt>, part: Part, at: Option<LockAt>) -> Note
+        ensures { (s : Records) → IsNote s self.now → ForSome own (λ lock. IsStored lock s)
+            → ForSome at (λ lock. IsStored lock s) → IsNote s result }
+    {
+        Note {
+            rank: self.rank,
+            index: self.index,
+            low: self.low,
+            caller: self.caller,
+            opened: self.opened,
+            own,
+            part,
+            at,
+        }
+    }
+
+    /// What is noted of a process that leads back to the one that was found under this number.
+    pub(crate) fn lowered(&self, low: u32) -> Note
+        ensures { (s : Records) → IsNote s self.now → IsNote s result }
+    {
+        Note {
+            rank: self.rank,
+            index: self.index,
+            low,
+            caller: self.caller,
+            opened: self.opened,
+            own: self.own,
+            part: self.part,
+            at: self.at,
+        }
+    }
+
+    /// What is noted of a process whose component gets this rank.
+    pub(crate) fn ranked(&self, rank: u32) -> Note
+        ensures { (s : Records) → IsNote s self.now → IsNote s result }
+    {
+        Note {
+            rank,
+            index: self.index,
+            low: self.low,
+            caller: self.caller,
+            opened: self.opened,
+            own: self.own,
+            part: self.part,
+            at: self.at,
+        }
+    }
+}
+
+// The note in a slot, if there is room for it.
+fn note_in(notes: &[Note], slot: usize) -> Note
+    ensures { (s : Records) → All (IsNote s) notes.now → IsNote s result }
+{
+    if slot < notes.len() {
+        notes[slot]
+    } else {
+        Note::blank()
+    }
+}
+
+// Forgets what the notes say.
+fn clear_notes(notes: &mut [Note])
+    ensures len { length notes.new ≡ length notes.old }
+    ensures none { (s : Records) → All (IsNote s) notes.new }
+{
+    for slot in 0..notes.len() {
+        notes[slot] = Note::blank();
+    }
 }
 
 impl Ranks {
@@ -45,10 +118,7 @@ impl Ranks {
     pub(crate) fn note(&self, process: ProcAt) -> Note
         ensures { (s : Records) → AreNotes s self.now → IsNote s result }
     {
-        match self.notes.get(process.slot()) {
-            Some(note) => *note,
-            None => Note::blank(),
-        }
+        note_in(&self.notes, process.slot())
     }
 
     /// Notes this of a process, if there is room for it.
@@ -64,17 +134,19 @@ impl Ranks {
     pub(crate) fn clear(&mut self)
         ensures { (s : Records) → AreNotes s self.new }
     {
-        self.notes.fill(Note::blank());
+        clear_notes(&mut self.notes);
     }
 
-    /// A process leads back to the one that was found under this number, if that is not closed.
-    pub(crate) fn lower(&mut self, process: ProcAt, low: u32)
+    /// A process, if there is one, leads back to the one that was found under this number.
+    pub(crate) fn lower(&mut self, process: Option<ProcAt>, low: u32)
         ensures { (s : Records) → AreNotes s self.old → AreNotes s self.new }
     {
-        let mut note = self.note(process);
+        let Some(process) = process else {
+            return;
+        };
+        let note = self.note(process);
         if low < note.low {
-            note.low = low;
-            self.put(process, note);
+            self.put(process, note.lowered(low));
         }
     }
 }

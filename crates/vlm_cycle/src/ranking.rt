@@ -15,7 +15,7 @@ ghost use Rattle.vlm_cycle.specs.Notes.{AreNotes, IsNote, IsThere, IsWalk, IsWan
 
 use crate::notes::Part;
 use crate::ranks::{Note, Ranks};
-use crate::wanting::{Wanting, covers_those_before, wanting};
+use crate::wanting::{Wanting, covers_those_before, wanting_of};
 use vlm_queue::{first_resource, head, next, next_resource};
 use vlm_store::laws::law_records_are_sound;
 use vlm_store::{LockAt, ProcAt, ResAt, Store};
@@ -34,27 +34,36 @@ pub(crate) struct Walk {
     closed: u32,
 }
 
+impl Walk {
+    // The walk once so many components are closed; the process is the last one that is not.
+    fn with_closed(&self, opened: Option<ProcAt>, closed: u32) -> Walk
+        ensures { (s : Records) → IsWalk s self.now → ForSome opened (IsThere s) → IsWalk s result }
+    {
+        Walk {
+            process: self.process,
+            opened,
+            found: self.found,
+            closed,
+        }
+    }
+}
+
 // What is noted of a process whose walk begins with this lock of its own, or is at its end.
-fn with_own(store: &Store, note: Note, own: Option<LockAt>) -> Note
+fn with_own(store: &Store, note: &Note, own: Option<LockAt>) -> Note
     requires own { ForSome own (λ lock. IsStored lock store.now) }
-    requires note { IsNote store.now note }
+    requires note { IsNote store.now note.now }
     ensures { IsNote store.now result }
 {
-    law_records_are_sound(store);
-    let mut note = note;
-    note.own = own;
-    note.part = Part::Before;
-    note.at = match own {
-        Some(lock) => store.previous(lock),
-        None => None,
+    let Some(lock) = own else {
+        return note.standing(None, Part::Before, None);
     };
-    note
+    note.standing(Some(lock), Part::Before, store.previous(lock))
 }
 
 // What is noted of a process whose walk goes on with its next lock.
-fn with_next_own(store: &Store, note: Note, own: LockAt) -> Note
+fn with_next_own(store: &Store, note: &Note, own: LockAt) -> Note
     requires own { IsStored own store.now }
-    requires note { IsNote store.now note }
+    requires note { IsNote store.now note.now }
     ensures { IsNote store.now result }
 {
     law_records_are_sound(store);
@@ -62,68 +71,55 @@ fn with_next_own(store: &Store, note: Note, own: LockAt) -> Note
 }
 
 // What is noted of a process whose walk goes on with the next part.
-fn with_next_part(store: &Store, note: Note, wanting: &Wanting) -> Note
+fn with_next_part(store: &Store, note: &Note, wanting: &Wanting) -> Note
     requires wanting { IsWanting store.now wanting.now }
-    requires note { IsNote store.now note }
+    requires note { IsNote store.now note.now }
     ensures { IsNote store.now result }
 {
-    let mut note = note;
-    match note.part {
-        Part::Before => {
-            note.part = Part::Granted;
-            note.at = head(store, wanting.res, Queue::Granted);
-        }
-        Part::Granted => {
-            note.part = Part::Converting;
-            note.at = head(store, wanting.res, Queue::Conversion);
-        }
-        Part::Converting => {
-            return with_next_own(store, note, wanting.lock);
-        }
-    }
-    note
+    let own = wanting.lock;
+    let (part, queue) = match note.part {
+        Part::Before => (Part::Granted, Queue::Granted),
+        Part::Granted => (Part::Converting, Queue::Conversion),
+        Part::Converting => return with_next_own(store, note, own),
+    };
+    note.standing(Some(own), part, head(store, wanting.res, queue))
 }
 
 // What is noted of a process whose walk goes on behind a lock before its own.
 fn with_next_before(
     store: &Store,
     ranks: &Ranks,
-    note: Note,
+    note: &Note,
     wanting: &Wanting,
     lock: LockAt,
 ) -> Note
     requires lock { IsStored lock store.now }
-    requires note { IsNote store.now note }
+    requires wanting { IsWanting store.now wanting.now }
+    requires note { IsNote store.now note.now }
     ensures { IsNote store.now result }
 {
-    law_records_are_sound(store);
-    let mut note = note;
+    let own = wanting.lock;
     let record = store.lock_record(lock);
-    if covers_those_before(record, ranks.of(record.owner) > 0) {
-        if wanting.is_like(&record.row) {
-            note.part = Part::Converting;
-        }
-        note.at = None;
-    } else {
-        note.at = store.previous(lock);
+    if !covers_those_before(record, ranks.of(record.owner) > 0) {
+        return note.standing(Some(own), Part::Before, store.previous(lock));
     }
-    note
+    if wanting.is_like(&record.row) {
+        return note.standing(Some(own), Part::Converting, None);
+    }
+    note.standing(Some(own), Part::Before, None)
 }
 
 // What is noted of a process whose walk goes on behind a lock.
-fn with_next(store: &Store, ranks: &Ranks, note: Note, wanting: &Wanting, lock: LockAt) -> Note
+fn with_next(store: &Store, ranks: &Ranks, note: &Note, wanting: &Wanting, lock: LockAt) -> Note
     requires lock { IsStored lock store.now }
-    requires note { IsNote store.now note }
+    requires wanting { IsWanting store.now wanting.now }
+    requires note { IsNote store.now note.now }
     ensures { IsNote store.now result }
 {
     law_records_are_sound(store);
     match note.part {
         Part::Before => with_next_before(store, ranks, note, wanting, lock),
-        Part::Granted | Part::Converting => {
-            let mut note = note;
-            note.at = next(store, lock);
-            note
-        }
+        part => note.standing(Some(wanting.lock), part, next(store, lock)),
     }
 }
 
@@ -140,12 +136,17 @@ fn go_down(store: &Store, ranks: &mut Ranks, walk: Walk, process: ProcAt) -> Wal
         return walk;
     }
     let found = walk.found.saturating_add(1);
-    let mut note = Note::blank();
-    note.index = found;
-    note.low = found;
-    note.caller = walk.process;
-    note.opened = walk.opened;
-    ranks.put(process, with_own(store, note, store.first_own(process)));
+    let note = Note {
+        rank: 0,
+        index: found,
+        low: found,
+        caller: walk.process,
+        opened: walk.opened,
+        own: None,
+        part: Part::Before,
+        at: None,
+    };
+    ranks.put(process, with_own(store, &note, store.first_own(process)));
     Walk {
         process: Some(process),
         opened: Some(process),
@@ -173,7 +174,7 @@ fn go_along(
         return go_down(store, ranks, walk, target);
     }
     if note.rank == 0 {
-        ranks.lower(process, note.index);
+        ranks.lower(Some(process), note.index);
     }
     walk
 }
@@ -187,22 +188,28 @@ fn close(ranks: &mut Ranks, walk: Walk, first: ProcAt) -> Walk
     let mut opened = walk.opened;
     for _ in 0..ranks.notes.len() {
         let Some(process) = opened else {
-            break;
+            return walk.with_closed(None, rank);
         };
-        let mut note = ranks.note(process);
-        note.rank = rank;
+        let note = ranks.note(process);
+        ranks.put(process, note.ranked(rank));
         opened = note.opened;
-        ranks.put(process, note);
         if process.slot() == first.slot() {
-            break;
+            return walk.with_closed(opened, rank);
         }
     }
-    Walk {
-        process: walk.process,
-        opened,
-        found: walk.found,
-        closed: rank,
+    walk.with_closed(opened, rank)
+}
+
+// The component of a process is closed if the process is the one of it that was found first.
+fn close_if_whole(ranks: &mut Ranks, walk: Walk, process: ProcAt) -> Walk
+    ensures { (s : Records) → AreNotes s ranks.old → IsWalk s walk
+        → AreNotes s ranks.new × IsWalk s result }
+{
+    let note = ranks.note(process);
+    if note.low == note.index {
+        return close(ranks, walk, process);
     }
+    walk
 }
 
 // The walk goes back from a process whose waits it has all gone along.
@@ -211,18 +218,13 @@ fn go_back(ranks: &mut Ranks, walk: Walk, process: ProcAt) -> Walk
         → AreNotes s ranks.new × IsWalk s result }
 {
     let note = ranks.note(process);
-    let mut walk = walk;
-    if note.low == note.index {
-        walk = close(ranks, walk, process);
-    }
-    if let Some(caller) = note.caller {
-        ranks.lower(caller, note.low);
-    }
+    let left = close_if_whole(ranks, walk, process);
+    ranks.lower(note.caller, note.low);
     Walk {
         process: note.caller,
-        opened: walk.opened,
-        found: walk.found,
-        closed: walk.closed,
+        opened: left.opened,
+        found: left.found,
+        closed: left.closed,
     }
 }
 
@@ -232,12 +234,13 @@ fn look_at(
     ranks: &mut Ranks,
     walk: Walk,
     process: ProcAt,
-    note: Note,
+    note: &Note,
     wanting: &Wanting,
     lock: LockAt,
 ) -> Walk
     requires lock { IsStored lock store.now }
-    requires note { IsNote store.now note }
+    requires wanting { IsWanting store.now wanting.now }
+    requires note { IsNote store.now note.now }
     requires walk { IsWalk store.now walk }
     requires notes { AreNotes store.now ranks.old }
     ensures walk { IsWalk store.now result }
@@ -263,15 +266,15 @@ fn step(store: &Store, ranks: &mut Ranks, walk: Walk, process: ProcAt) -> Walk
     let Some(own) = note.own else {
         return go_back(ranks, walk, process);
     };
-    let Some(wanting) = wanting(store, own) else {
-        ranks.put(process, with_next_own(store, note, own));
+    let Some(wanting) = wanting_of(store, own) else {
+        ranks.put(process, with_next_own(store, &note, own));
         return walk;
     };
     let Some(lock) = note.at else {
-        ranks.put(process, with_next_part(store, note, &wanting));
+        ranks.put(process, with_next_part(store, &note, &wanting));
         return walk;
     };
-    look_at(store, ranks, walk, process, note, &wanting, lock)
+    look_at(store, ranks, walk, process, &note, &wanting, lock)
 }
 
 // The walk goes to all that a process leads to, if the process was not found.

@@ -35,7 +35,7 @@ fn awaited_mode(row: &Row) -> Option<Mode> {
 }
 
 /// The request of a lock, if it is queued and waits for others.
-pub(crate) fn wanting(store: &Store, lock: LockAt) -> Option<Wanting>
+pub(crate) fn wanting_of(store: &Store, lock: LockAt) -> Option<Wanting>
     requires stored { IsStored lock store.now }
     ensures there { ForSome result (λ w. IsWanting store.now w) }
 {
