@@ -156,13 +156,7 @@ fn go_down(store: &Store, ranks: &mut Ranks, walk: Walk, process: ProcAt) -> Wal
 }
 
 // The walk goes along a wait of the process at which it stands.
-fn go_along(
-    store: &Store,
-    ranks: &mut Ranks,
-    walk: Walk,
-    process: ProcAt,
-    target: ProcAt,
-) -> Walk
+fn go_along(store: &Store, ranks: &mut Ranks, walk: Walk, process: ProcAt, target: ProcAt) -> Walk
     requires target { IsThere store.now target }
     requires walk { IsWalk store.now walk }
     requires notes { AreNotes store.now ranks.old }
@@ -299,13 +293,7 @@ fn walk_from(store: &Store, ranks: &mut Ranks, walk: Walk, root: ProcAt) -> Walk
 }
 
 // The walk goes to all that the owners of a queue lead to.
-fn walk_from_queue(
-    store: &Store,
-    ranks: &mut Ranks,
-    walk: Walk,
-    res: ResAt,
-    queue: Queue,
-) -> Walk
+fn walk_from_queue(store: &Store, ranks: &mut Ranks, walk: Walk, res: ResAt, queue: Queue) -> Walk
     requires there { HasResource res store.now }
     requires walk { IsWalk store.now walk }
     requires notes { AreNotes store.now ranks.old }
