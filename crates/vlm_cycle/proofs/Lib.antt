@@ -7,3 +7,4 @@ pub mod Searched
 pub mod Found
 pub mod Peaks
 pub mod Ranked
+pub mod Noted

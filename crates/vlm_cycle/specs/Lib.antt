@@ -2,3 +2,4 @@ pub mod Marking
 pub mod Waiting
 pub mod Finding
 pub mod Ranking
+pub mod Notes

@@ -14,11 +14,13 @@ mod finding;
 mod gauge;
 mod judging;
 mod marking;
+mod notes;
 mod ranking;
 mod ranks;
 mod scratch;
 mod searching;
 mod waiting;
+mod wanting;
 
 pub use finding::victim;
 pub use scratch::Scratch;

@@ -1,7 +1,329 @@
-//! The ranking of processes.
+//! The ranks of the processes, by a walk along the waits between them.
+//!
+//! # Implementation
+//!
+//! It finds the strongly connected components by Tarjan's walk: each process is found once, and a component is closed
+//! once the walk comes back from the one of it that was found first. The two stacks, of those that the walk came by and of
+//! those that are not closed, are links in the notes. A request that stands behind another one is followed to that one
+//! alone where that one waits for all before it: so a long queue costs its length.
+//!
+//! Nothing is promised of the ranks. Whoever uses them checks them.
 
-use crate::ranks::Ranks;
-use vlm_store::Store;
+ghost use Rattle.std.specs.Option.{ForSome};
+ghost use Rattle.vlm_store.specs.Records.{HasResource, IsStored, Records};
+ghost use Rattle.vlm_cycle.specs.Notes.{AreNotes, IsNote, IsThere, IsWalk, IsWanting};
 
-/// Ranks the processes. Nothing is promised of it.
-pub(crate) fn rank_processes(store: &Store, ranks: &mut Ranks) {}
+use crate::notes::Part;
+use crate::ranks::{Note, Ranks};
+use crate::wanting::{Wanting, covers_those_before, wanting_of};
+use vlm_queue::{first_resource, head, next, next_resource};
+use vlm_store::laws::law_records_are_sound;
+use vlm_store::{LockAt, ProcAt, ResAt, Store};
+use vlm_words::resources::Queue;
+
+/// How far the walk has come.
+#[derive(Clone, Copy)]
+pub(crate) struct Walk {
+    // the process at which it stands
+    process: Option<ProcAt>,
+    // the process that was found last, of those that are not closed
+    opened: Option<ProcAt>,
+    // how many processes were found
+    found: u32,
+    // how many components were closed
+    closed: u32,
+}
+
+impl Walk {
+    // The walk once so many components are closed; the process is the last one that is not.
+    fn with_closed(&self, opened: Option<ProcAt>, closed: u32) -> Walk
+        ensures { (s : Records) → IsWalk s self.now → ForSome opened (IsThere s) → IsWalk s result }
+    {
+        Walk {
+            process: self.process,
+            opened,
+            found: self.found,
+            closed,
+        }
+    }
+}
+
+// What is noted of a process whose walk begins with this lock of its own, or is at its end.
+fn with_own(store: &Store, note: &Note, own: Option<LockAt>) -> Note
+    requires own { ForSome own (λ lock. IsStored lock store.now) }
+    requires note { IsNote store.now note.now }
+    ensures { IsNote store.now result }
+{
+    let Some(lock) = own else {
+        return note.standing(None, Part::Before, None);
+    };
+    note.standing(Some(lock), Part::Before, store.previous(lock))
+}
+
+// What is noted of a process whose walk goes on with its next lock.
+fn with_next_own(store: &Store, note: &Note, own: LockAt) -> Note
+    requires own { IsStored own store.now }
+    requires note { IsNote store.now note.now }
+    ensures { IsNote store.now result }
+{
+    law_records_are_sound(store);
+    with_own(store, note, store.next_own(own))
+}
+
+// What is noted of a process whose walk goes on with the next part.
+fn with_next_part(store: &Store, note: &Note, wanting: &Wanting) -> Note
+    requires wanting { IsWanting store.now wanting.now }
+    requires note { IsNote store.now note.now }
+    ensures { IsNote store.now result }
+{
+    let own = wanting.lock;
+    let (part, queue) = match note.part {
+        Part::Before => (Part::Granted, Queue::Granted),
+        Part::Granted => (Part::Converting, Queue::Conversion),
+        Part::Converting => return with_next_own(store, note, own),
+    };
+    note.standing(Some(own), part, head(store, wanting.res, queue))
+}
+
+// What is noted of a process whose walk goes on behind a lock before its own.
+fn with_next_before(
+    store: &Store,
+    ranks: &Ranks,
+    note: &Note,
+    wanting: &Wanting,
+    lock: LockAt,
+) -> Note
+    requires lock { IsStored lock store.now }
+    requires wanting { IsWanting store.now wanting.now }
+    requires note { IsNote store.now note.now }
+    ensures { IsNote store.now result }
+{
+    let own = wanting.lock;
+    let record = store.lock_record(lock);
+    if !covers_those_before(record, ranks.of(record.owner) > 0) {
+        return note.standing(Some(own), Part::Before, store.previous(lock));
+    }
+    if wanting.is_like(&record.row) {
+        return note.standing(Some(own), Part::Converting, None);
+    }
+    note.standing(Some(own), Part::Before, None)
+}
+
+// What is noted of a process whose walk goes on behind a lock.
+fn with_next(store: &Store, ranks: &Ranks, note: &Note, wanting: &Wanting, lock: LockAt) -> Note
+    requires lock { IsStored lock store.now }
+    requires wanting { IsWanting store.now wanting.now }
+    requires note { IsNote store.now note.now }
+    ensures { IsNote store.now result }
+{
+    law_records_are_sound(store);
+    match note.part {
+        Part::Before => with_next_before(store, ranks, note, wanting, lock),
+        part => note.standing(Some(wanting.lock), part, next(store, lock)),
+    }
+}
+
+// The walk goes down to a process that was not found, if there is room for its note.
+fn go_down(store: &Store, ranks: &mut Ranks, walk: Walk, process: ProcAt) -> Walk
+    requires process { IsThere store.now process }
+    requires walk { IsWalk store.now walk }
+    requires notes { AreNotes store.now ranks.old }
+    ensures walk { IsWalk store.now result }
+    ensures notes { AreNotes store.now ranks.new }
+{
+    law_records_are_sound(store);
+    if !ranks.has_room(process) {
+        return walk;
+    }
+    let found = walk.found.saturating_add(1);
+    let note = Note {
+        rank: 0,
+        index: found,
+        low: found,
+        caller: walk.process,
+        opened: walk.opened,
+        own: None,
+        part: Part::Before,
+        at: None,
+    };
+    ranks.put(process, with_own(store, &note, store.first_own(process)));
+    Walk {
+        process: Some(process),
+        opened: Some(process),
+        found,
+        closed: walk.closed,
+    }
+}
+
+// The walk goes along a wait of the process at which it stands.
+fn go_along(store: &Store, ranks: &mut Ranks, walk: Walk, process: ProcAt, target: ProcAt) -> Walk
+    requires target { IsThere store.now target }
+    requires walk { IsWalk store.now walk }
+    requires notes { AreNotes store.now ranks.old }
+    ensures walk { IsWalk store.now result }
+    ensures notes { AreNotes store.now ranks.new }
+{
+    let note = ranks.note(target);
+    if note.index == 0 {
+        return go_down(store, ranks, walk, target);
+    }
+    if note.rank == 0 {
+        ranks.lower(Some(process), note.index);
+    }
+    walk
+}
+
+// The processes found since this one get the next rank, and this one too.
+fn close(ranks: &mut Ranks, walk: Walk, first: ProcAt) -> Walk
+    ensures { (s : Records) → AreNotes s ranks.old → IsWalk s walk
+        → AreNotes s ranks.new × IsWalk s result }
+{
+    let rank = walk.closed.saturating_add(1);
+    let mut opened = walk.opened;
+    for _ in 0..ranks.notes.len() {
+        let Some(process) = opened else {
+            return walk.with_closed(None, rank);
+        };
+        let note = ranks.note(process);
+        ranks.put(process, note.ranked(rank));
+        opened = note.opened;
+        if process.slot() == first.slot() {
+            return walk.with_closed(opened, rank);
+        }
+    }
+    walk.with_closed(opened, rank)
+}
+
+// The component of a process is closed if the process is the one of it that was found first.
+fn close_if_whole(ranks: &mut Ranks, walk: Walk, process: ProcAt) -> Walk
+    ensures { (s : Records) → AreNotes s ranks.old → IsWalk s walk
+        → AreNotes s ranks.new × IsWalk s result }
+{
+    let note = ranks.note(process);
+    if note.low == note.index {
+        return close(ranks, walk, process);
+    }
+    walk
+}
+
+// The walk goes back from a process whose waits it has all gone along.
+fn go_back(ranks: &mut Ranks, walk: Walk, process: ProcAt) -> Walk
+    ensures { (s : Records) → AreNotes s ranks.old → IsWalk s walk
+        → AreNotes s ranks.new × IsWalk s result }
+{
+    let note = ranks.note(process);
+    let left = close_if_whole(ranks, walk, process);
+    ranks.lower(note.caller, note.low);
+    Walk {
+        process: note.caller,
+        opened: left.opened,
+        found: left.found,
+        closed: left.closed,
+    }
+}
+
+// The walk looks at a lock that its process may wait for, and goes there if it does.
+fn look_at(
+    store: &Store,
+    ranks: &mut Ranks,
+    walk: Walk,
+    process: ProcAt,
+    note: &Note,
+    wanting: &Wanting,
+    lock: LockAt,
+) -> Walk
+    requires lock { IsStored lock store.now }
+    requires wanting { IsWanting store.now wanting.now }
+    requires note { IsNote store.now note.now }
+    requires walk { IsWalk store.now walk }
+    requires notes { AreNotes store.now ranks.old }
+    ensures walk { IsWalk store.now result }
+    ensures notes { AreNotes store.now ranks.new }
+{
+    let passed = with_next(store, ranks, note, wanting, lock);
+    ranks.put(process, passed);
+    let record = store.lock_record(lock);
+    if wanting.waits_for(note.part, lock, &record.row) {
+        return go_along(store, ranks, walk, process, record.owner);
+    }
+    walk
+}
+
+// One step of the walk at a process: to the next lock of what it waits for, to its next lock, or back.
+fn step(store: &Store, ranks: &mut Ranks, walk: Walk, process: ProcAt) -> Walk
+    requires walk { IsWalk store.now walk }
+    requires notes { AreNotes store.now ranks.old }
+    ensures walk { IsWalk store.now result }
+    ensures notes { AreNotes store.now ranks.new }
+{
+    let note = ranks.note(process);
+    let Some(own) = note.own else {
+        return go_back(ranks, walk, process);
+    };
+    let Some(wanting) = wanting_of(store, own) else {
+        ranks.put(process, with_next_own(store, &note, own));
+        return walk;
+    };
+    let Some(lock) = note.at else {
+        ranks.put(process, with_next_part(store, &note, &wanting));
+        return walk;
+    };
+    look_at(store, ranks, walk, process, &note, &wanting, lock)
+}
+
+// The walk goes to all that a process leads to, if the process was not found.
+fn walk_from(store: &Store, ranks: &mut Ranks, walk: Walk, root: ProcAt) -> Walk
+    requires root { IsThere store.now root }
+    requires walk { IsWalk store.now walk }
+    requires notes { AreNotes store.now ranks.old }
+    ensures walk { IsWalk store.now result }
+    ensures notes { AreNotes store.now ranks.new }
+{
+    if ranks.note(root).index > 0 {
+        return walk;
+    }
+    let mut walk = go_down(store, ranks, walk, root);
+    for _ in 0..u64::MAX {
+        let Some(process) = walk.process else {
+            break;
+        };
+        walk = step(store, ranks, walk, process);
+    }
+    walk
+}
+
+// The walk goes to all that the owners of a queue lead to.
+fn walk_from_queue(store: &Store, ranks: &mut Ranks, walk: Walk, res: ResAt, queue: Queue) -> Walk
+    requires there { HasResource res store.now }
+    requires walk { IsWalk store.now walk }
+    requires notes { AreNotes store.now ranks.old }
+    ensures walk { IsWalk store.now result }
+    ensures notes { AreNotes store.now ranks.new }
+{
+    let mut walk = walk;
+    let mut at = head(store, res, queue);
+    while let Some(lock) = at {
+        walk = walk_from(store, ranks, walk, store.lock_record(lock).owner);
+        at = next(store, lock);
+    }
+    walk
+}
+
+/// Ranks the processes that own queued requests, and those that these lead to: none waits for one of a higher rank, and
+/// two have one rank where each leads to the other. Others have rank 0. It takes no memory. The cost grows with the
+/// resources, the processes, and for each process with its locks and what it looks at for each of its queued requests.
+pub(crate) fn rank_processes(store: &Store, ranks: &mut Ranks) {
+    ranks.clear();
+    let mut walk = Walk {
+        process: None,
+        opened: None,
+        found: 0,
+        closed: 0,
+    };
+    let mut at = first_resource(store);
+    while let Some(res) = at {
+        walk = walk_from_queue(store, ranks, walk, res, Queue::Conversion);
+        walk = walk_from_queue(store, ranks, walk, res, Queue::Waiting);
+        at = next_resource(store, res);
+    }
+}

@@ -3,32 +3,46 @@
 ghost use Rattle.std.specs.Prelude.{◌≡◌};
 ghost use Rattle.vlm_cycle.specs.Ranking.{rank_at};
 
+use crate::notes::Part;
 use std::alloc::{AllocError, Global};
-use vlm_store::ProcAt;
+use vlm_store::{LockAt, ProcAt};
 
-/// What is noted of one process.
+/// What is noted of a process.
 #[derive(Clone, Copy)]
 pub(crate) struct Note {
-    /// Its rank: it is to wait for none of a higher one.
+    /// Its rank, from 1, once its component is closed; 0 before.
     pub(crate) rank: u32,
+    /// Its number among those that were found, from 1; 0 while it is not found.
+    pub(crate) index: u32,
+    /// The least number that it is known to lead back to, of those that are not closed.
+    pub(crate) low: u32,
+    /// The process from which the walk came to it.
+    pub(crate) caller: Option<ProcAt>,
+    /// The one that was found last before it, of those that are not closed.
+    pub(crate) opened: Option<ProcAt>,
+    /// The lock of its own at which its walk stands.
+    pub(crate) own: Option<LockAt>,
+    /// The part of what that lock waits for at which its walk stands.
+    pub(crate) part: Part,
+    /// The lock of that part at which its walk stands.
+    pub(crate) at: Option<LockAt>,
 }
 
-/// The notes of all processes.
+/// The ranks of the processes, each by its slot.
 #[derive(Drop)]
 pub(crate) struct Ranks {
-    // by the slots of their records
     pub(crate) notes: Vec<Note>,
 }
 
 impl Ranks {
-    /// No notes. It takes no memory.
+    /// No note of any process. It takes no memory.
     pub(crate) fn new(alloc: Global) -> Ranks {
         Ranks {
             notes: Vec::new(alloc),
         }
     }
 
-    /// The rank of a process, 0 where there is no note of it.
+    /// The rank of a process, 0 where it has none.
     pub(crate) fn of(&self, process: ProcAt) -> u32
         ensures { result ≡ rank_at self.now process }
     {
@@ -38,16 +52,15 @@ impl Ranks {
         }
     }
 
-    /// Makes notes until there are more than these living processes. Where memory is refused there may be more than there
-    /// were.
+    /// Makes room for the notes of one process more than so many. The memory grows to twice its size, so many calls
+    /// seldom move it.
     pub(crate) fn make_room(&mut self, living: usize) -> Result<(), AllocError> {
-        if living < self.notes.len() {
-            return Ok(());
+        if self.notes.len() <= living {
+            match living.checked_add(1) {
+                Some(count) => self.notes.resize(count, Note::blank())?,
+                None => return Err(AllocError),
+            }
         }
-        for _ in self.notes.len()..living {
-            self.notes.push(Note { rank: 0 })?;
-        }
-        self.notes.push(Note { rank: 0 })?;
         Ok(())
     }
 }

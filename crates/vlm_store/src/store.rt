@@ -1,10 +1,10 @@
 //! The store.
 
-ghost use Rattle.std.specs.Prelude.{◌≡◌, ◌||◌, [], ◌∷◌, ◌++◌, length, IfOk, IfSome, IsOk, OnErr, OnOk};
+ghost use Rattle.std.specs.Prelude.{◌≡◌, ◌||◌, [], ◌∷◌, ◌++◌, length, map, IfOk, IfSome, IsOk, OnErr, OnOk};
 ghost use Rattle.std.specs.List.{list_any};
 ghost use Rattle.std.specs.Option.{ForSome};
 ghost use Rattle.vlm_words.specs.declared.locks.Row.{Row};
-ghost use Rattle.vlm_links.specs.Lists.{IsIn};
+ghost use Rattle.vlm_links.specs.Lists.{IsIn, handle_before};
 ghost use Rattle.vlm_records.specs.declared.handles.Place.{Place};
 ghost use Rattle.vlm_words.specs.Asts.{has_to_warn, keeps_out};
 ghost use Rattle.vlm_store.specs.Plain.{plain_resource};
@@ -256,6 +256,18 @@ impl Store {
         Some(LockAt::of(at))
     }
 
+    /// The handle of the lock that one follows where it stands, if there is one.
+    pub fn previous(&self, lock: LockAt) -> Option<LockAt>
+        requires { IsStored lock self.now }
+        ensures { (place : Place) (row : Row)
+            → IsIn (record { at = lock; row = row }) (locks_at place self.now)
+            → result ≡ handle_before lock (map (λ k. k.at) (locks_at place self.now)) }
+    {
+        let list = self.queues.list(self.queues.locks[lock.slot()].place);
+        let at = list.previous(&self.queues.locks, lock.slot())?;
+        Some(LockAt::of(at))
+    }
+
     /// How many resources there are.
     pub fn resource_count(&self) -> usize
         ensures { result ≡ length self.now.resources }
@@ -268,6 +280,13 @@ impl Store {
         ensures { result ≡ lock_total self.now }
     {
         self.queues.locks.len()
+    }
+
+    /// How many processes live.
+    pub fn total_processes(&self) -> usize
+        ensures { result ≡ length self.now.processes }
+    {
+        self.process_order.len(&self.processes)
     }
 
     /// The handle of the first resource in order of making, if there is one.

@@ -1,0 +1,34 @@
+-- What the notes of a ranking name is there.
+use Rattle.std.specs.Prelude.{ℕ}
+use Rattle.std.specs.List.{All}
+use Rattle.std.specs.Option.{ForSome}
+use Rattle.vlm_store.specs.Records.{HasResource, IsProcess, IsStored, Records}
+use Rattle.vlm_cycle.specs.declared.ranking.Walk.{Walk}
+use Rattle.vlm_cycle.specs.declared.ranks.Note.{Note}
+use Rattle.vlm_cycle.specs.declared.ranks.Ranks.{Ranks}
+use Rattle.vlm_cycle.specs.declared.wanting.Wanting.{Wanting}
+
+-- a process of this handle lives
+abbrev pub IsThere : Records → ℕ → Type 0
+IsThere s at = (pid : ℕ) × IsProcess at pid s
+
+-- each lock and each process that the note names is there
+pub record IsNote (s : Records) (note : Note) : Type 0 where
+  pub caller : ForSome note.caller (IsThere s)
+  pub opened : ForSome note.opened (IsThere s)
+  pub own : ForSome note.own (λ lock. IsStored lock s)
+  pub at : ForSome note.at (λ lock. IsStored lock s)
+
+-- that of all notes
+abbrev pub AreNotes : Records → Ranks → Type 0
+AreNotes s ranks = All (IsNote s) ranks.notes.items
+
+-- each process that the walk names is there
+pub record IsWalk (s : Records) (walk : Walk) : Type 0 where
+  pub process : ForSome walk.process (IsThere s)
+  pub opened : ForSome walk.opened (IsThere s)
+
+-- the lock and the resource of the request are there
+pub record IsWanting (s : Records) (wanting : Wanting) : Type 0 where
+  pub lock : IsStored wanting.lock s
+  pub res : HasResource wanting.res s

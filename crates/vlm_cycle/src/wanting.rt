@@ -1,0 +1,91 @@
+//! What a queued request waits for, as far as a ranking looks at it.
+
+ghost use Rattle.std.specs.Option.{ForSome};
+ghost use Rattle.vlm_store.specs.Records.{IsStored};
+ghost use Rattle.vlm_cycle.specs.Notes.{IsWanting};
+
+use crate::notes::Part;
+use crate::waiting::{blocks_those_behind, holds_against};
+use vlm_store::{Lock, LockAt, Place, ResAt, Store};
+use vlm_words::flags::EnqFlags;
+use vlm_words::locks::Row;
+use vlm_words::modes::Mode;
+use vlm_words::resources::Queue;
+
+/// A queued request that waits for others.
+#[derive(Clone, Copy)]
+pub(crate) struct Wanting {
+    /// Its lock.
+    pub(crate) lock: LockAt,
+    /// The resource that it wants.
+    pub(crate) res: ResAt,
+    /// Whether it stands behind the conversions too.
+    pub(crate) is_behind_conversions: bool,
+    /// The mode that it wants.
+    pub(crate) mode: Mode,
+}
+
+// The mode for which a row waits: none where it wants none, or with NODLCKWT.
+fn awaited_mode(row: &Row) -> Option<Mode> {
+    let request = row.want?;
+    if request.flags.has(EnqFlags::NODLCKWT) {
+        return None;
+    }
+    Some(request.mode)
+}
+
+/// The request of a lock, if it is queued and waits for others.
+pub(crate) fn wanting_of(store: &Store, lock: LockAt) -> Option<Wanting>
+    requires stored { IsStored lock store.now }
+    ensures there { ForSome result (λ w. IsWanting store.now w) }
+{
+    let record = store.lock_record(lock);
+    let mode = awaited_mode(&record.row)?;
+    let Place::Queued(res, queue) = record.place else {
+        return None;
+    };
+    let is_behind_conversions = match queue {
+        Queue::Granted => return None,
+        Queue::Conversion => false,
+        Queue::Waiting => true,
+    };
+    Some(Wanting {
+        lock,
+        res,
+        is_behind_conversions,
+        mode,
+    })
+}
+
+impl Wanting {
+    /// Whether it waits for a lock of this part.
+    pub(crate) fn waits_for(&self, part: Part, lock: LockAt, row: &Row) -> bool {
+        if lock.slot() == self.lock.slot() {
+            return false;
+        }
+        let holds = holds_against(self.mode, &row.held);
+        let blocks = blocks_those_behind(&row.want);
+        match part {
+            Part::Before => blocks,
+            Part::Granted => holds,
+            Part::Converting => holds || (self.is_behind_conversions && blocks),
+        }
+    }
+
+    /// Whether whoever waits as the row does, before it in its queue, waits for all holders that it waits for.
+    pub(crate) fn is_like(&self, row: &Row) -> bool {
+        match row.want {
+            Some(request) => request.mode.rank() == self.mode.rank(),
+            None => false,
+        }
+    }
+}
+
+/// Whether what stands before a queued lock need not be looked at for those behind it: its owner waits for that too, and
+/// those behind wait for its owner, or that is closed.
+pub(crate) fn covers_those_before(record: &Lock, is_closed: bool) -> bool {
+    match awaited_mode(&record.row) {
+        Some(_) => is_closed || blocks_those_behind(&record.row.want),
+        None => false,
+    }
+}
