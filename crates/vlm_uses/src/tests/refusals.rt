@@ -86,6 +86,21 @@ fn makes_each(rt: &impl Abort, core: &mut Core) {
     assert!(rt; core.resource_count() == 2);
 }
 
+// Q waits for P, which is no deadlock. A second request of Q waits for the first, and ends.
+#[test]
+fn searches(rt: HostRuntime) {
+    let mut core = machine(&rt);
+    assert!(rt; core.search(1) == Answer::Victim(None));
+    let behind = NewRequest {
+        pid: Q,
+        ..request(b"A")
+    };
+    assert!(rt; core.enq(behind) == Answer::Lock(Cond::Normal, 3));
+    assert!(rt; core.search(2) == Answer::Victim(Some(3)));
+    assert!(rt; core.search(2) == Answer::Victim(None));
+    assert!(rt; core.row_at(0, Queue::Waiting, 1).is_none());
+}
+
 // With ample memory each step is made: the waiting lock is granted once the other is gone.
 #[test]
 fn accepted(rt: HostRuntime) {
@@ -420,6 +435,8 @@ fn endings(rt: HostRuntime) {
             (Step::Rundown(STRANGER), Cond::Nonexpr),
             (Step::Leave(0), Cond::Badparam),
             (Step::Leave(9), Cond::Badparam),
+            (Step::Search(0), Cond::Badparam),
+            (Step::Search(9), Cond::Badparam),
         ],
     );
     assert!(rt; core.rundown(P) == Answer::Plain(Cond::Normal));
@@ -431,6 +448,7 @@ fn endings(rt: HostRuntime) {
         &[
             (Step::Rundown(P), Cond::Departed),
             (Step::Leave(1), Cond::Departed),
+            (Step::Search(1), Cond::Departed),
             (Step::Declare(DECLARATION), Cond::Departed),
         ],
     );
