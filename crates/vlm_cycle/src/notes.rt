@@ -54,30 +54,14 @@ impl Note {
         }
     }
 
-    /// What is noted of a process that leads back to the one that was found under this number.
-    pub(crate) fn lowered(&self, low: u32) -> Note
-        ensures { (s : Records) → IsNote s self.now → IsNote s result }
-    {
-        Note {
-            rank: self.rank,
-            index: self.index,
-            low,
-            caller: self.caller,
-            opened: self.opened,
-            own: self.own,
-            part: self.part,
-            at: self.at,
-        }
-    }
-
-    /// What is noted of a process whose component gets this rank.
-    pub(crate) fn ranked(&self, rank: u32) -> Note
+    /// What is noted of a process that has this rank, and leads back to the one that was found under this number.
+    pub(crate) fn ranked(&self, rank: u32, low: u32) -> Note
         ensures { (s : Records) → IsNote s self.now → IsNote s result }
     {
         Note {
             rank,
             index: self.index,
-            low: self.low,
+            low,
             caller: self.caller,
             opened: self.opened,
             own: self.own,
@@ -109,11 +93,6 @@ fn clear_notes(notes: &mut [Note])
 }
 
 impl Ranks {
-    /// Whether there is room for the note of a process.
-    pub(crate) fn has_room(&self, process: ProcAt) -> bool {
-        process.slot() < self.notes.len()
-    }
-
     /// The note of a process.
     pub(crate) fn note(&self, process: ProcAt) -> Note
         ensures { (s : Records) → AreNotes s self.now → IsNote s result }
@@ -146,7 +125,7 @@ impl Ranks {
         };
         let note = self.note(process);
         if low < note.low {
-            self.put(process, note.lowered(low));
+            self.put(process, note.ranked(note.rank, low));
         }
     }
 }

@@ -132,7 +132,7 @@ fn go_down(store: &Store, ranks: &mut Ranks, walk: Walk, process: ProcAt) -> Wal
     ensures notes { AreNotes store.now ranks.new }
 {
     law_records_are_sound(store);
-    if !ranks.has_room(process) {
+    if process.slot() >= ranks.notes.len() {
         return walk;
     }
     let found = walk.found.saturating_add(1);
@@ -185,7 +185,7 @@ fn close(ranks: &mut Ranks, walk: Walk, first: ProcAt) -> Walk
             return walk.with_closed(None, rank);
         };
         let note = ranks.note(process);
-        ranks.put(process, note.ranked(rank));
+        ranks.put(process, note.ranked(rank, note.low));
         opened = note.opened;
         if process.slot() == first.slot() {
             return walk.with_closed(opened, rank);
