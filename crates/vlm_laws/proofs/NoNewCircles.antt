@@ -1,26 +1,24 @@
 -- A search catches nobody anew: who waits for whom after it did so before.
-use Rattle.std.proofs.Common.{◌≡◌, ◌≢◌, ◌<◌, ◌⊎◌, ◌&&◌, ℕ, Bool, zero, suc, true, false, not, inl, inr, List, [], ◌∷◌, ◌++◌, cond, map, filter, take, drop, Option, None, Some, refl, sym, ap, subst, ◌∙◌, arith}
+use Rattle.std.proofs.Common.{◌≡◌, ◌<◌, ◌⊎◌, ℕ, Bool, zero, suc, not, inl, inr, List, [], ◌∷◌, ◌++◌, map, filter, take, drop, Option, None, Some, refl, sym, ap, subst, ◌∙◌, arith}
 use Rattle.std.specs.Prelude.{◌==◌, Any}
 use Rattle.std.specs.List.{AllZip}
 use Rattle.std.proofs.lemmas.Bool.{cond_both}
 use Rattle.vlm_words.specs.declared.conditions.Cond.{Cond}
 use Rattle.vlm_words.specs.declared.locks.Request.{Request}
 use Rattle.vlm_words.specs.declared.locks.Row.{Row}
-use Rattle.vlm_words.specs.declared.modes.Mode.{Mode}
-use Rattle.vlm_words.specs.declared.resources.ValueBlock.{ValueBlock}
 use Rattle.vlm_words.specs.declared.steps.Step.TheVariants.{Search}
 use Rattle.vlm_words.specs.State.{Resource, State}
 use Rattle.vlm_words.specs.Endings.{Ending}
 use Rattle.vlm_words.specs.Rows.{rows_of, rows_without}
-use Rattle.vlm_words.specs.Withdrawals.{Withdrawal, is_held_by_writer, resource_after_cancel, resource_after_going, resource_after_withdrawals, resource_after_writer, row_after_cancel, state_after_withdrawals, value_block_after_writer}
+use Rattle.vlm_words.specs.Withdrawals.{Withdrawal, is_held_by_writer, resource_after_cancel, resource_after_withdrawals, resource_after_writer, row_after_cancel, state_after_withdrawals, value_block_after_writer}
 use Rattle.vlm_words.specs.Sweeps.{resources_after_sweep, sweep_endings}
 use Rattle.vlm_words.specs.Search.{deadlock_of, search_change, search_refusal, victim_withdrawals}
-use Rattle.vlm_words.specs.Stepped.{IsChoice, Stepped, refused_or, step_change, stepped}
+use Rattle.vlm_words.specs.Stepped.{IsChoice, refused_or, step_change, stepped}
 use Rattle.vlm_words.specs.Runs.{History, Run}
 use Rattle.vlm_words.specs.Laws.{GrantsFirst, IsBeside, IsGranted, IsSameButArmed, SweptInOrder, goes, none, stays, first_rows}
-use Rattle.vlm_words.specs.Circles.{ComesBackTo, ComesBefore, IsAheadOf, IsBlocked, IsBlockedBy, IsCaught, IsHeldUpBy, IsOneOf, IsWaitedFor, KeepsOut, WaitsOnTo}
+use Rattle.vlm_words.specs.Circles.{ComesBackTo, ComesBefore, IsAheadOf, IsBlocked, IsBlockedBy, IsHeldUpBy, IsOneOf, IsWaitedFor, KeepsOut, WaitsOnTo}
 use Rattle.vlm_words.proofs.Below.{either}
-use Rattle.vlm_words.proofs.Each.{Any-behind, Any-cases, Any-here, Any-none, Any-there, any_left}
+use Rattle.vlm_words.proofs.Each.{Any-cases, Any-here, Any-none, Any-there}
 use Rattle.vlm_words.proofs.InOrder.{sweep_in_order}
 use Rattle.vlm_laws.specs.NoNewCircles.{NoneIsCaughtAnew}
 
