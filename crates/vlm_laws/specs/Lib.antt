@@ -11,3 +11,4 @@ pub mod EndedProcesses
 pub mod Happened
 pub mod Privileges
 pub mod Owners
+pub mod NoNewCircles

@@ -1,12 +1,12 @@
 //! What holds of every run of the plain machine. The functions do nothing, but that some call a law that they rest on:
 //! their contracts are the laws.
 
-ghost use Rattle.std.specs.Prelude.{◌≡◌, true, Option};
+ghost use Rattle.std.specs.Prelude.{◌≡◌, ℕ, true, Option};
 ghost use Rattle.vlm_words.specs.declared.locks.Row.{Row};
 ghost use Rattle.vlm_words.specs.declared.conditions.Cond.TheVariants.{Normal};
 ghost use Rattle.vlm_words.specs.declared.steps.Answer.TheVariants.{Plain};
 ghost use Rattle.vlm_words.specs.declared.steps.Dequeue.{Dequeue};
-ghost use Rattle.vlm_words.specs.declared.steps.Step.TheVariants.{Deq};
+ghost use Rattle.vlm_words.specs.declared.steps.Step.TheVariants.{Deq, Search};
 ghost use Rattle.vlm_words.specs.declared.steps.Step.{Step};
 ghost use Rattle.vlm_words.specs.Flags.{deqall, has_flag};
 ghost use Rattle.vlm_words.specs.State.{State};
@@ -23,6 +23,7 @@ ghost use Rattle.vlm_laws.specs.Raising.{NoMoreIsQueuedThanNamed, OnlyOwnRequest
 ghost use Rattle.vlm_laws.specs.Warning.{WarningsAreOfGrants};
 ghost use Rattle.vlm_laws.specs.WarnedOnce.{EachGrantIsWarnedAtMostOnce};
 ghost use Rattle.vlm_laws.specs.InTheWay.{WarnedLocksAreInTheWay};
+ghost use Rattle.vlm_laws.specs.NoNewCircles.{NoneIsCaughtAnew};
 ghost use Rattle.vlm_laws.specs.TakenBelow.{AbortsByRisingIdentification, TakesThoseBelowAlone};
 
 use vlm_words::laws::law_asts_are_taken_in_order;
@@ -153,4 +154,12 @@ pub fn law_others_are_left_alone()
     ensures { (history : History) (old : State) → Run history old
         → (step : Step) (choice : Option Row) → IsChoice old step choice
         → OthersAreLeftAlone old step choice }
+{}
+
+/// A search makes no request deadlocked: whoever waits in a circle after it waited in one before. So ending the request
+/// of the victim, and granting what that lets through, closes no new circle.
+pub fn law_a_search_catches_nobody_anew()
+    ensures { (history : History) (old : State) → Run history old
+        → (node : ℕ) (choice : Option Row) → IsChoice old (Search node) choice
+        → NoneIsCaughtAnew old (stepped old (Search node) choice).state }
 {}
