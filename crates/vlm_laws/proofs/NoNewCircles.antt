@@ -12,9 +12,8 @@ use Rattle.vlm_words.specs.Endings.{Ending}
 use Rattle.vlm_words.specs.Rows.{rows_of, rows_without}
 use Rattle.vlm_words.specs.Withdrawals.{Withdrawal, is_held_by_writer, resource_after_cancel, resource_after_withdrawals, resource_after_writer, row_after_cancel, state_after_withdrawals, value_block_after_writer}
 use Rattle.vlm_words.specs.Sweeps.{resources_after_sweep, sweep_endings}
-use Rattle.vlm_words.specs.Search.{deadlock_of, search_change, search_refusal, victim_withdrawals}
-use Rattle.vlm_words.specs.Stepped.{IsChoice, refused_or, step_change, stepped}
-use Rattle.vlm_words.specs.Runs.{History, Run}
+use Rattle.vlm_words.specs.Search.{deadlock_of, search_change, victim_withdrawals}
+use Rattle.vlm_words.specs.Stepped.{refused_or, step_change}
 use Rattle.vlm_words.specs.Laws.{GrantsFirst, IsBeside, IsGranted, IsSameButArmed, SweptInOrder, goes, none, stays, first_rows}
 use Rattle.vlm_words.specs.Circles.{ComesBackTo, ComesBefore, IsAheadOf, IsBlocked, IsBlockedBy, IsHeldUpBy, IsOneOf, IsWaitedFor, KeepsOut, WaitsOnTo}
 use Rattle.vlm_words.proofs.Below.{either}
@@ -439,12 +438,7 @@ searched_waits s node choice row lock blocked =
     record { was = sooner.was; owner = sooner.owner ∙ swept.owner; blocked = sooner.blocked }
 
 -- a search catches nobody anew
-none_caught_anew : (s : State) (node : ℕ) (choice : Option Row) (refusal : Option Cond)
+pub none_caught_anew : (s : State) (node : ℕ) (choice : Option Row) (refusal : Option Cond)
     → NoneIsCaughtAnew s (refused_or refusal s (step_change s (Search node) choice)).state
 none_caught_anew s node choice None = was_caught s (refused_or None s (step_change s (Search node) choice)).state (searched_waits s node choice)
 none_caught_anew s node choice (Some refusal) = λ row caught. caught
-
--- after every run
-pub none_caught_anew_always : (history : History) (old : State) → Run history old → (node : ℕ) (choice : Option Row) → IsChoice old (Search node) choice
-    → NoneIsCaughtAnew old (stepped old (Search node) choice).state
-none_caught_anew_always history old run node choice chosen = none_caught_anew old node choice (search_refusal old node)

@@ -96,8 +96,7 @@ pub fn law_a_warned_lock_is_in_the_way()
 
 /// A node that has departed does not come back: from its accepted departure on, to the end of the run, each step of the
 /// node or of a process of it, a second departure too, is answered DEPARTED. Such a step changes nothing, ends no
-/// request and queues nothing. No step is answered DEPARTED but that of a node whose departure was accepted. A search,
-/// which is not made yet, is of no node here.
+/// request and queues nothing. No step is answered DEPARTED but that of a node whose departure was accepted.
 pub fn law_a_departed_node_is_answered_departed()
     ensures { (history : History) (last : State) → Run history last
         → DepartedNodesAreToldSo history last }
@@ -156,10 +155,10 @@ pub fn law_others_are_left_alone()
         → OthersAreLeftAlone old step choice }
 {}
 
-/// A search makes no request deadlocked: whoever waits in a circle after it waited in one before. So ending the request
-/// of the victim, and granting what that lets through, closes no new circle.
+/// A search makes no request deadlocked, in whichever state it is made and whatever it chooses: whoever waits in a circle
+/// after it waited in one before. So ending the request of the victim, and granting what that lets through, closes no new
+/// circle.
 pub fn law_a_search_catches_nobody_anew()
-    ensures { (history : History) (old : State) → Run history old
-        → (node : ℕ) (choice : Option Row) → IsChoice old (Search node) choice
-        → NoneIsCaughtAnew old (stepped old (Search node) choice).state }
+    ensures { (s : State) (node : ℕ) (choice : Option Row)
+        → NoneIsCaughtAnew s (stepped s (Search node) choice).state }
 {}

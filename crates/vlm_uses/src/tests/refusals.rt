@@ -457,9 +457,3 @@ fn endings(rt: HostRuntime) {
             .is_some_and(|row| row.lkid == 2)
     );
 }
-
-// BADPARAM: the search is not built.
-#[test]
-fn searches(rt: HostRuntime) {
-    check(&rt, &[(Step::Search(0), Cond::Badparam)]);
-}
