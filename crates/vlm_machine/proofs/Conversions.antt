@@ -9,7 +9,7 @@ use Rattle.vlm_words.specs.declared.steps.Dequeue.{Dequeue}
 use Rattle.vlm_words.specs.Convert.{ConversionAdmission, conversion_blocks, convert_admission, convert_blocks, convert_change, convert_lkid, resource_after_conversion}
 use Rattle.vlm_words.specs.Dequeue.{deq_change, dequeue_lkid, withdrawal_of, withdrawals_of}
 use Rattle.vlm_words.specs.Flags.{deqall, has_flag}
-use Rattle.vlm_words.specs.Withdrawals.{Withdrawal, processes_after, resource_after_withdrawals, withdrawal_endings, state_after_withdrawals, withdrawn_endings}
+use Rattle.vlm_words.specs.Withdrawals.{Withdrawal, processes_after, resource_after_withdrawals, withdrawal_endings, withdrawn_endings}
 use Rattle.vlm_words.specs.Effects.{Blocks}
 use Rattle.vlm_words.specs.State.{Process, Resource, State}
 use Rattle.vlm_words.specs.StatusBlocks.{processes_after_acceptance}
@@ -72,21 +72,7 @@ one_withdrawn s d alone = rw alone refl
 one_ends : (w : Withdrawal) (resources : List Resource) → withdrawn_endings (w ∷ []) resources ≡ flat_map (withdrawal_endings w) resources
 one_ends w resources = append-nil (flat_map (withdrawal_endings w) resources)
 
--- the state once one lock is withdrawn
-pub state_after_one : (old : MachineState) (w : Withdrawal) (new : Records)
-    → plain_resources new ≡ map (resource_after_withdrawals (w ∷ [])) (plain_resources old.records)
-    → plain_processes new ≡ processes_after (flat_map (withdrawal_endings w) (plain_resources old.records)) (plain_processes old.records)
-    → plain_state (record old { records = new }) ≡ state_after_withdrawals (w ∷ []) (plain_state old)
-state_after_one old w new resources statuses =
-    ap (λ ps. with_parts ps (plain_resources new)) statuses
-    ∙ ap (λ rs. with_parts (processes_after (flat_map (withdrawal_endings w) (plain_resources old.records)) (plain_processes old.records)) rs) resources
-    ∙ ap (λ ends. with_parts (processes_after ends (plain_processes old.records)) (map (resource_after_withdrawals (w ∷ [])) (plain_resources old.records)))
-    (sym (one_ends w (plain_resources old.records)))
-  where
-    with_parts : List Process → List Resource → State
-    with_parts ps rs = record (plain_state old) { processes = ps; resources = rs }
-
--- and where a dequeue withdraws it
+-- the state once the lock is withdrawn
 pub state_withdrawn : (old : MachineState) (d : Dequeue) (w : Withdrawal) (new : Records) → has_flag d.flags deqall ≡ false
     → w ≡ withdrawal_of d (dequeue_lkid (plain_state old) d)
     → plain_resources new ≡ map (resource_after_withdrawals (w ∷ [])) (plain_resources old.records)
@@ -94,5 +80,12 @@ pub state_withdrawn : (old : MachineState) (d : Dequeue) (w : Withdrawal) (new :
     → plain_state (record old { records = new }) ≡ deq_change (plain_state old) d
 unfolding deq_change
 state_withdrawn old d w new alone is resources statuses =
-    state_after_one old w new resources statuses
-    ∙ ap (λ (ws : List Withdrawal). state_after_withdrawals ws (plain_state old)) (ap (λ x. x ∷ []) is ∙ one_withdrawn (plain_state old) d alone)
+    ap (λ ps. with_parts ps (plain_resources new)) statuses
+    ∙ ap (λ rs. with_parts (processes_after (flat_map (withdrawal_endings w) (plain_resources old.records)) (plain_processes old.records)) rs) resources
+    ∙ ap (λ ends. with_parts (processes_after ends (plain_processes old.records)) (map (resource_after_withdrawals (w ∷ [])) (plain_resources old.records)))
+    (sym (one_ends w (plain_resources old.records)))
+    ∙ ap (λ (ws : List Withdrawal). with_parts (processes_after (withdrawn_endings ws (plain_resources old.records)) (plain_processes old.records))
+    (map (resource_after_withdrawals ws) (plain_resources old.records))) (ap (λ x. x ∷ []) is ∙ one_withdrawn (plain_state old) d alone)
+  where
+    with_parts : List Process → List Resource → State
+    with_parts ps rs = record (plain_state old) { processes = ps; resources = rs }

@@ -1,5 +1,5 @@
 -- The marks of a search: there is room for those of each process that lives after a step.
-use Rattle.std.proofs.Common.{◌≡◌, ℕ, Bool, true, not, List, [], ◌∷◌, ◌++◌, map, Option, None, Some, refl, sym, ap, ◌∙◌, subst, inl, inr}
+use Rattle.std.proofs.Common.{◌≡◌, ℕ, Bool, true, not, List, [], ◌∷◌, ◌++◌, map, Option, None, Some, refl, sym, subst, inl, inr}
 use Rattle.std.specs.Prelude.{◌/◌, ⊤, All}
 use Rattle.std.specs.List.{AllByRecursion}
 use Rattle.std.proofs.lemmas.List.Elements.{recursion_from_All}
@@ -14,7 +14,7 @@ use Rattle.vlm_words.specs.Declare.{declare_change, declared_process, is_node, n
 use Rattle.vlm_words.specs.Dequeue.{deq_change, withdrawals_of}
 use Rattle.vlm_words.specs.Effects.{blocks_with}
 use Rattle.vlm_words.specs.Enqueue.{enq_change}
-use Rattle.vlm_words.specs.Rundown.{is_ended_by, is_of_node, nodes_after_departure, processes_but, state_after_rundown}
+use Rattle.vlm_words.specs.Rundown.{is_ended_by, is_of_node, nodes_after_departure, state_after_rundown}
 use Rattle.vlm_words.specs.Search.{search_change, victim_withdrawals}
 use Rattle.vlm_words.specs.SetValue.{set_change}
 use Rattle.vlm_words.specs.State.{Node, Process, State, start}
@@ -27,7 +27,7 @@ use Rattle.vlm_words.proofs.Declarations.{pids, pids_added}
 use Rattle.vlm_words.proofs.Each.{each_append, each_filter, each_weaker}
 use Rattle.vlm_words.proofs.Processes.{kept_converted, kept_ended, kept_entered, kept_set, kept_swept, kept_taken}
 use Rattle.vlm_links.specs.Lists.{IsIn}
-use Rattle.vlm_store.specs.Records.{Records, StoredProcess}
+use Rattle.vlm_store.specs.Records.{StoredProcess}
 use Rattle.vlm_cycle.specs.declared.scratch.Scratch.{Scratch}
 use Rattle.vlm_cycle.specs.Marking.{HasRoom, KeepsRoom}
 use Rattle.vlm_cycle.specs.Waiting.{IsRoomy}
