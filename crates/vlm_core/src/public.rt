@@ -21,8 +21,8 @@ use vlm_store::laws::law_records_are_sound;
 use vlm_words::laws::{
     law_a_declaration_gives_a_new_identification, law_a_parent_outlives_its_sublocks,
     law_each_resource_is_settled, law_held_modes_are_compatible, law_identifications_are_apart,
-    law_identifications_of_processes_rise, law_no_lock_is_more_than_15_levels_below, law_nothing_is_left_to_grant,
-    law_rows_fit_their_queues, law_serials_rise,
+    law_identifications_of_processes_rise, law_no_lock_is_more_than_15_levels_below,
+    law_nothing_is_left_to_grant, law_rows_fit_their_queues, law_serials_rise,
 };
 use vlm_words::steps::{Answer, Conversion, Declaration, Dequeue, NewRequest, Step, ValueSetting};
 
@@ -115,7 +115,8 @@ impl Core {
         ensures { Outcome self.old step self.new result }
     {
         self.between_steps();
-        self.machine.step(&mut self.touched, &mut self.scratch, step)
+        self.machine
+            .step(&mut self.touched, &mut self.scratch, step)
     }
 
     /// Declares a process (this project's own). Refused by BADPARAM where the node is not 1 to 8,

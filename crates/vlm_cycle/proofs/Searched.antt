@@ -20,6 +20,15 @@ pub record IsLedTo (s : Records) (row : Row) (pid : ℕ) : Type 0 where
   pub others : List ℕ
   pub leads : LeadsTo (searched s) first others pid
 
+-- led back to its own process the request is deadlocked
+pub led_back : (s : Records) (row : Row) → IsLedTo s row row.pid → IsDeadlocked (searched s) row
+led_back s row led = record {
+  lock = led.waits.0;
+  waits = led.waits.1.0;
+  others = led.others;
+  leads = subst (λ pid. LeadsTo (searched s) pid led.others row.pid) (sym led.waits.1.1) led.leads;
+}
+
 -- it is one of the living processes
 abbrev pub IsLiving : Records → ℕ → Type 0
 IsLiving s pid = (p : StoredProcess) × (IsIn p s.processes × (p.process.pid ≡ pid))
