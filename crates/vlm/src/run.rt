@@ -30,9 +30,9 @@ const PLAY_ABOUT: &str =
 const PLAY_HELP: &str = "\
 Commands of a script, one a line:
   declare NAME node=N group=N quota=N blocks=N [syslck]
-  enq NAME MODE name=RES block=N [parent=LOCK] [ast=N] [bast=N] [param=N] [flags]
-  cvt NAME LOCK MODE block=N [ast=N] [bast=N] [param=N] [flags]
-  deq NAME LOCK [value=HEX] [deqall] [cancel] [invvalblk]
+  enq NAME MODE name=RES block=N [parent=LOCK] [ast=N] [bast=N] [param=N] [flags] [bits=N]
+  cvt NAME LOCK MODE block=N [ast=N] [bast=N] [param=N] [flags] [bits=N]
+  deq NAME LOCK [value=HEX] [deqall] [cancel] [invvalblk] [bits=N]
   set NAME block=N value=HEX
   end NAME
   leave node=N
@@ -41,7 +41,14 @@ Commands of a script, one a line:
   block NAME N
   show
 The flags are valblk, noqueue, syncsts, system, expedite, quecvt, nodlckwt and nodlckblk.
+More flags are the bits of a number, bits=N, 0 to 65535.
+A NAME is 1 to 15 letters, digits and underscores, the first a letter.
+A MODE is NL, CR, CW, PR, PW or EX.
+A RES is a name as it is, or x: and two hexadecimal digits for each of its bytes.
 A LOCK is its number, or @N for the lock in status block N.
+HEX is 32 hexadecimal digits. Nodes and blocks go from 0 to 255, groups and quotas from 0
+to 65535, locks, routines and parameters from 0 to 4294967295.
+A line that begins with # is a comment. A line has at most 255 bytes.
 
 Example:
   vlm play <<END

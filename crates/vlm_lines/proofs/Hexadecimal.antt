@@ -1,7 +1,9 @@
 -- What the crate hex reads is what the definitions read.
-use Rattle.std.proofs.Common.{◌≡◌, ℕ, ◌+◌, ◌*◌, ◌%◌, true, false, cond, ◌&&◌, List, [], ◌∷◌, length, Bool, Result, Ok, Err, inl, inr, refl, sym, ◌∙◌, arith}
-use Rattle.std.proofs.lemmas.Bool.{cases_eq}
+use Rattle.std.proofs.Common.{◌≡◌, ◌≢◌, ◌≤◌, ◌⊎◌, ◌++◌, ℕ, zero, suc, ◌+◌, ◌*◌, ◌/◌, ◌%◌, true, false, cond, ◌&&◌, List, [], ◌∷◌, length, min, take, Bool, Result, Ok, Err, inl, inr, refl, sym, ap, ◌∙◌, arith}
+use Rattle.std.proofs.lemmas.Bool.{and_parts, cases_eq}
+use Rattle.std.proofs.lemmas.List.{length-take, length-take-le, take_all, take_at}
 use Rattle.std.proofs.lemmas.Bool.Decides.{nat_tests}
+use Rattle.std.specs.Prelude.{MatchResult}
 use Rattle.std.specs.List.{list_all}
 use Rattle.std.specs.Char.{is_ascii_hexdigit}
 use Rattle.hex.specs.Hex.{decode_pairs, decode_sized, value_at, ◌>>=◌}
@@ -59,3 +61,79 @@ value_read word = elim (cases_eq (length word) 32) [
       let bad = not_ok (decode_sized word 16) (λ bytes h. other (decode_sized-ok word 16 bytes h)) in
       rw bad (grind (arith, nat_tests))
 ]
+
+-- ---- names
+
+-- the bytes of the first pairs of digits
+pairs_taken : (m n : ℕ) → m ≡ 2 * n → (digits : List ℕ) → hex_value (take m digits) ≡ take n (hex_value digits)
+unfolding hex_value
+pairs_taken zero zero twice digits = refl
+pairs_taken zero (suc n) twice digits = absurd (omega (arith, twice))
+pairs_taken (suc zero) n twice digits = absurd (omega (arith, twice))
+pairs_taken (suc (suc m)) zero twice digits = absurd (omega (arith, twice))
+pairs_taken (suc (suc m)) (suc n) twice [] = refl
+pairs_taken (suc (suc m)) (suc n) twice (digit ∷ []) = refl
+pairs_taken (suc (suc m)) (suc n) twice (high ∷ low ∷ digits) =
+    ap (λ bytes. (digit_value high * 16 + digit_value low) ∷ bytes) (pairs_taken m n (omega (arith, twice)) digits)
+
+-- the first of digits are digits
+pub digits_taken : (m : ℕ) (digits : List ℕ) → list_all is_ascii_hexdigit digits ≡ true → list_all is_ascii_hexdigit (take m digits) ≡ true
+digits_taken zero digits all = refl
+digits_taken (suc m) [] all = refl
+digits_taken (suc m) (digit ∷ digits) all =
+    let parts = and_parts (is_ascii_hexdigit digit) (list_all is_ascii_hexdigit digits) all in
+    rw (parts.0) (digits_taken m digits parts.1)
+
+-- what is read without a fault
+read_is : (r : Result (List ℕ) FromHexError) (bytes : List ℕ) → as_read r ≡ Ok bytes → r ≡ Ok bytes
+read_is (Ok read) bytes is = cc
+read_is (Err e) bytes is = cc
+
+-- there are half as many bytes as digits
+half_as_many : (digits : List ℕ) → length (hex_value digits) ≡ length digits / 2
+unfolding hex_value
+half_as_many [] = refl
+half_as_many (digit ∷ []) = refl
+half_as_many (high ∷ low ∷ digits) = omega (arith, half_as_many digits)
+
+-- what the crate reads of digits into room for their bytes
+pub all_read : (digits : List ℕ) (count : ℕ) → list_all is_ascii_hexdigit digits ≡ true → length digits ≡ 2 * count → decode_sized digits count ≡ Ok (hex_value digits)
+all_read digits count all twice =
+    decode_sized-twice digits count twice
+    ∙ decode_of-even digits (omega (arith, twice))
+    ∙ read_is (decode_pairs 0 digits) (hex_value digits)
+    (pairs_read 0 digits (omega (arith, twice)) ∙ ap (λ b. cond b (Ok (hex_value digits)) (Err WrongWord)) all)
+
+same_Ok : (a b : List ℕ) → ◌≡◌ {A = Result (List ℕ) FromHexError} (Ok a) (Ok b) → a ≡ b
+same_Ok a b is = cc
+
+-- what was written, where it is read as it was decoded
+pub written_is : (r : Result (List ℕ) FromHexError) (told : Result Unit FromHexError) (bytes out : List ℕ) → r ≡ Ok bytes
+    → MatchResult r (λ read. (told ≡ Ok tt) × (out ≡ read)) (λ e. told ≡ Err e) → out ≡ bytes
+written_is (Ok read) told bytes out is written = written.1 ∙ same_Ok read bytes is
+written_is (Err e) told bytes out is written = cc
+
+-- of the bytes that count none is left out: those of so many pairs
+pub name_of_pairs : (digits written rest : List ℕ) (count : ℕ) → count ≡ min 32 (length digits / 2) → written ≡ hex_value (take (2 * count) digits)
+    → take 32 (take count (written ++ rest)) ≡ take 32 (hex_value digits)
+name_of_pairs digits written rest count is read =
+    ap (take 32) (take_at written rest count many ∙ taken) ∙ none_left_out
+  where
+    bytes : List ℕ
+    bytes = hex_value digits
+
+    half : length bytes ≡ length digits / 2
+    half = half_as_many digits
+
+    taken : written ≡ take count bytes
+    taken = read ∙ pairs_taken (2 * count) count refl digits
+
+    many : length written ≡ count
+    many = ap (λ (xs : List ℕ). length xs) taken ∙ length-take-le count bytes (omega (arith, half, is))
+
+    none_left_out : take 32 (take count bytes) ≡ take 32 bytes
+    none_left_out = of_test (cases_eq count 32)
+      where
+        of_test : (count ≡ 32) ⊎ (count ≢ 32) → take 32 (take count bytes) ≡ take 32 bytes
+        of_test (inl full) = rw full (take_all 32 (take 32 bytes) (omega (arith, length-take 32 bytes)))
+        of_test (inr less) = ap (take 32) (take_all count bytes (omega (arith, half, is, less)))

@@ -1,5 +1,5 @@
 -- The lines and words of a script.
-use Rattle.std.specs.Prelude.{ℕ, Bool, true, false, not, ◌&&◌, ◌||◌, ◌==◌, ◌+◌, ◌-◌, ◌*◌, nat_le, List, [], ◌∷◌, filter, take, drop, length, codes, fold, Option, None, Some, Result, Ok, Err, unwrap_or, if◌then◌else◌}
+use Rattle.std.specs.Prelude.{ℕ, Bool, true, false, not, ◌&&◌, ◌||◌, ◌==◌, ◌+◌, ◌-◌, ◌*◌, ◌%◌, nat_le, List, [], ◌∷◌, filter, take, drop, length, codes, fold, Option, None, Some, Result, Ok, Err, unwrap_or, if◌then◌else◌}
 use Rattle.std.specs.List.{list_all, starts_with}
 use Rattle.std.specs.Cmp.Lexicographic.{pointwise}
 use Rattle.std.specs.Char.{is_ascii_digit, is_ascii_alphabetic, is_ascii_alphanumeric, is_ascii_hexdigit}
@@ -7,14 +7,15 @@ use Rattle.std.specs.Int.RustNames.{bit_or}
 use Rattle.vlm_words.specs.declared.modes.Mode.{Mode}
 use Rattle.vlm_words.specs.declared.modes.Mode.TheVariants.{Nl, Cr, Cw, Pr, Pw, Ex}
 use Rattle.vlm_words.specs.declared.steps.Declaration.{Declaration}
-use Rattle.vlm_words.specs.declared.steps.Dequeue.{Dequeue}
 use Rattle.vlm_words.specs.declared.steps.Which.{Which}
 use Rattle.vlm_words.specs.declared.steps.Which.TheVariants.{Id, Block}
 use Rattle.vlm_lines.specs.declared.keyed.DeclareWords.{DeclareWords}
+use Rattle.vlm_lines.specs.declared.keyed.DeqWords.{DeqWords}
 use Rattle.vlm_lines.specs.declared.keyed.RequestWords.{RequestWords}
 use Rattle.vlm_lines.specs.declared.keyed.EnqWords.{EnqWords}
 use Rattle.vlm_lines.specs.declared.keyed.SetWords.{SetWords}
 use Rattle.vlm_lines.specs.declared.keyed.NodeWords.{NodeWords}
+use Rattle.vlm_lines.specs.declared.flags.FlagWords.{FlagWords}
 use Rattle.vlm_lines.specs.declared.lines.Line.{Line}
 use Rattle.vlm_lines.specs.declared.lines.Line.TheVariants.{Empty, Declare, Enq, Cvt, Deq, Set, End, Leave, Search, Ast, Block as block_words, Show}
 use Rattle.vlm_lines.specs.declared.faults.LineFault.{LineFault}
@@ -122,10 +123,6 @@ abbrev pub all_words : {A : Type 0} → (A → List ℕ → Result A LineFault) 
 all_words with_word given [] = Ok given
 all_words with_word given (word ∷ words) = with_word given word >>= λ more. all_words with_word more words
 
--- a resource's name as its bytes, of at most the 32 that count; a hexadecimal one is not read yet
-unfoldable pub resource_name : List ℕ → Result (List ℕ) LineFault
-resource_name bytes = if has_key (codes "x:") bytes then Err WrongWord else Ok (take 32 bytes)
-
 -- the number that a hexadecimal digit of either case stands for
 abbrev pub digit_value : ℕ → ℕ
 digit_value digit = if nat_le digit 57 then digit - 48 else if nat_le digit 70 then digit - 55 else digit - 87
@@ -135,6 +132,16 @@ unfoldable pub hex_value : List ℕ → List ℕ
 hex_value [] = []
 hex_value (digit ∷ []) = []
 hex_value (high ∷ low ∷ digits) = (digit_value high * 16 + digit_value low) ∷ hex_value digits
+
+-- the name that hexadecimal digits stand for, of at most the 32 bytes that count: none where they are odd in number, or
+-- one is no digit
+unfoldable pub hex_name : List ℕ → Option (List ℕ)
+hex_name digits =
+    if (length digits % 2 == 0) && list_all is_ascii_hexdigit digits then Some (take 32 (hex_value digits)) else None
+
+-- a resource's name as a script has it, of at most the 32 bytes that count: hexadecimal behind `x:`, else its bytes
+unfoldable pub name_read : List ℕ → Option (List ℕ)
+name_read bytes = if has_key (codes "x:") bytes then hex_name (behind (codes "x:") bytes) else Some (take 32 bytes)
 
 -- a value block: exactly 32 hexadecimal digits
 unfoldable pub value_of : List ℕ → Result (List ℕ) LineFault
@@ -227,9 +234,24 @@ unfoldable pub flag_once : ℕ → Option ℕ → Result ℕ LineFault
 flag_once flags None = Err WrongWord
 flag_once flags (Some flag) = if has_flag flags flag then Err WrongWord else Ok (bit_or flags flag)
 
+-- no flag word and no bits are read yet
+abbrev pub no_flag_words : FlagWords
+no_flag_words = record { words = 0; bits = None }
+
+-- one more flag word, or the bits of flags as a number
+unfoldable pub flag_word : FlagWords → List ℕ → Option ℕ → Result FlagWords LineFault
+flag_word f word flag =
+    if has_key (codes "bits=") word then
+    once f.bits (number_within 65535 (behind (codes "bits=") word)) >>= (λ n. Ok (record f { bits = n }))
+    else flag_once f.words flag >>= (λ words. Ok (record f { words = words }))
+
+-- the flags of a step: those of the words, and the bits
+unfoldable pub flags_of : FlagWords → ℕ
+flags_of f = bit_or f.words (unwrap_or f.bits 0)
+
 -- nothing of the keyed words is read yet that an enq and a cvt line share
 abbrev pub no_request_words : RequestWords
-no_request_words = record { block = None; ast = None; bast = None; param = None; flags = 0 }
+no_request_words = record { block = None; ast = None; bast = None; param = None; flags = no_flag_words }
 
 -- one more keyed word or flag that an enq and a cvt line share
 unfoldable pub request_word : RequestWords → List ℕ → Result RequestWords LineFault
@@ -242,7 +264,7 @@ request_word r word =
     once r.bast (number_within 4294967295 (behind (codes "bast=") word)) >>= (λ n. Ok (record r { bast = n }))
     else if has_key (codes "param=") word then
     once r.param (number_within 4294967295 (behind (codes "param=") word)) >>= (λ n. Ok (record r { param = n }))
-    else flag_once r.flags (enq_flag word) >>= (λ flags. Ok (record r { flags = flags }))
+    else flag_word r.flags word (enq_flag word) >>= (λ flags. Ok (record r { flags = flags }))
 
 -- without the word the parameter is 0
 abbrev pub param_of : RequestWords → ℕ
@@ -256,7 +278,7 @@ no_enq_words = record { resource = None; parent = None; request = no_request_wor
 unfoldable pub enq_word : EnqWords → List ℕ → Result EnqWords LineFault
 enq_word e word =
     if has_key (codes "name=") word then
-    once e.resource (resource_name (behind (codes "name=") word)) >>= (λ r. Ok (record e { resource = r }))
+    once e.resource (given (name_read (behind (codes "name=") word))) >>= (λ r. Ok (record e { resource = r }))
     else if has_key (codes "parent=") word then
     once e.parent (lock_named (behind (codes "parent=") word)) >>= (λ lock. Ok (record e { parent = lock }))
     else request_word e.request word >>= (λ r. Ok (record e { request = r }))
@@ -265,7 +287,7 @@ enq_word e word =
 abbrev pub parent_of : EnqWords → Which
 parent_of e = unwrap_or e.parent (Id 0)
 
--- enq NAME MODE name=RES block=N [parent=LOCK] [ast=N] [bast=N] [param=N] [flags]
+-- enq NAME MODE name=RES block=N [parent=LOCK] [ast=N] [bast=N] [param=N] [flags] [bits=N]
 unfoldable pub enq_line : List (List ℕ) → Result Line LineFault
 enq_line words =
     next_word words >>= λ first.
@@ -281,13 +303,13 @@ enq_line words =
       name = resource;
       block = block;
       parent = parent_of e;
-      flags = e.request.flags;
+      flags = flags_of e.request.flags;
       ast = e.request.ast;
       bast = e.request.bast;
       param = param_of e.request;
     }))
 
--- cvt NAME LOCK MODE block=N [ast=N] [bast=N] [param=N] [flags]
+-- cvt NAME LOCK MODE block=N [ast=N] [bast=N] [param=N] [flags] [bits=N]
 unfoldable pub cvt_line : List (List ℕ) → Result Line LineFault
 cvt_line words =
     next_word words >>= λ first.
@@ -303,32 +325,32 @@ cvt_line words =
       lock = lock;
       mode = mode;
       block = block;
-      flags = r.flags;
+      flags = flags_of r.flags;
       ast = r.ast;
       bast = r.bast;
       param = param_of r;
     }))
 
--- the dequeue of a lock before any keyed word of its line is read
-abbrev pub bare_dequeue : Which → Dequeue
-bare_dequeue lock = record { pid = no_process; lock = lock; value = None; flags = 0 }
+-- nothing of a deq line's keyed words is read yet
+abbrev pub no_deq_words : DeqWords
+no_deq_words = record { value = None; flags = no_flag_words }
 
 -- one more keyed word or flag of a deq line
-unfoldable pub deq_word : Dequeue → List ℕ → Result Dequeue LineFault
+unfoldable pub deq_word : DeqWords → List ℕ → Result DeqWords LineFault
 deq_word d word =
     if has_key (codes "value=") word then
     once d.value (value_of (behind (codes "value=") word)) >>= (λ value. Ok (record d { value = value }))
-    else flag_once d.flags (deq_flag word) >>= (λ flags. Ok (record d { flags = flags }))
+    else flag_word d.flags word (deq_flag word) >>= (λ flags. Ok (record d { flags = flags }))
 
--- deq NAME LOCK [value=HEX] [flags]
+-- deq NAME LOCK [value=HEX] [flags] [bits=N]
 unfoldable pub deq_line : List (List ℕ) → Result Line LineFault
 deq_line words =
     next_word words >>= λ first.
     process_name first.0 >>= λ name.
     next_word first.1 >>= λ second.
     lock_named second.0 >>= λ lock.
-    all_words deq_word (bare_dequeue lock) second.1 >>= λ d.
-    Ok (Deq name d)
+    all_words deq_word no_deq_words second.1 >>= λ d.
+    Ok (Deq name (record { pid = no_process; lock = lock; value = d.value; flags = flags_of d.flags }))
 
 -- nothing of a set line's keyed words is read yet
 abbrev pub no_set_words : SetWords

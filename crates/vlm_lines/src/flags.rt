@@ -1,12 +1,56 @@
 //! Words that stand for flags.
 
 ghost use Rattle.std.specs.Prelude.{◌≡◌};
-ghost use Rattle.vlm_lines.specs.Lines.{deq_flag, enq_flag, flag_once};
+ghost use Rattle.vlm_lines.specs.Lines.{deq_flag, enq_flag, flag_once, flag_word, flags_of, no_flag_words};
 
 use crate::faults::LineFault;
-use crate::words::is_text;
+use crate::keyed::once;
+use crate::numbers::short;
+use crate::words::{behind_key, is_text};
 use bitflags::Flags;
 use vlm_words::flags::{DeqFlags, EnqFlags};
+
+/// The flags that a line has given so far.
+#[derive(Clone, Copy)]
+pub(crate) struct FlagWords {
+    // the bits of those that are given by words
+    pub(crate) words: u16,
+    // bits that are given as a number
+    pub(crate) bits: Option<u16>,
+}
+
+impl FlagWords {
+    pub(crate) fn new() -> Self
+        ensures { result ≡ no_flag_words }
+    {
+        FlagWords {
+            words: 0,
+            bits: None,
+        }
+    }
+
+    /// With one more word: `bits=`, or this flag.
+    #[tactic(auto, unfolding(crate::specs::Lines::flag_word))]
+    pub(crate) fn with(self, word: &[u8], flag: Option<u16>) -> Result<Self, LineFault>
+        ensures { result ≡ flag_word self word.now flag }
+    {
+        if let Some(digits) = behind_key(b"bits=", word) {
+            let bits = once(self.bits, short(digits))?;
+            Ok(FlagWords { bits, ..self })
+        } else {
+            let words = flag_once(self.words, flag)?;
+            Ok(FlagWords { words, ..self })
+        }
+    }
+
+    /// The flags of the step.
+    #[tactic(auto, unfolding(crate::specs::Lines::flags_of))]
+    pub(crate) fn flags(self) -> u16
+        ensures { result ≡ flags_of self }
+    {
+        self.words | self.bits.unwrap_or(0)
+    }
+}
 
 /// The flag that a word of an enq or cvt line stands for.
 #[tactic(auto, unfolding(crate::specs::Lines::enq_flag))]
@@ -50,9 +94,9 @@ pub(crate) fn deq_flag(word: &[u8]) -> Option<u16>
     }
 }
 
-/// The flag joins those before it. It is given once, and another word is wrong.
+// The flag joins those before it. It is given once, and another word is wrong.
 #[tactic(auto, unfolding(crate::specs::Lines::flag_once, vlm_words::specs::Flags::has_flag))]
-pub(crate) fn flag_once(flags: u16, flag: Option<u16>) -> Result<u16, LineFault>
+fn flag_once(flags: u16, flag: Option<u16>) -> Result<u16, LineFault>
     ensures { result ≡ flag_once flags flag }
 {
     match flag {

@@ -1,17 +1,18 @@
 //! The keyed words and flags behind the places of a line.
 
 ghost use Rattle.std.specs.Prelude.{◌≡◌};
-ghost use Rattle.vlm_lines.specs.Lines.{all_words, declare_word, deq_word, enq_word, no_declare_words, no_enq_words, no_node_words, no_request_words, no_set_words, node_word, once, request_word, set_word, words_of};
+ghost use Rattle.vlm_lines.specs.Lines.{all_words, declare_word, deq_word, enq_word, no_declare_words, no_deq_words, no_enq_words, no_node_words, no_request_words, no_set_words, node_word, once, request_word, set_word, words_of};
 
 use crate::cuts::next_word;
 use crate::faults::LineFault;
-use crate::flags::{deq_flag, enq_flag, flag_once};
+use crate::flags::{FlagWords, deq_flag, enq_flag};
 use crate::locks::lock;
 use crate::numbers::{byte, long, short};
 use crate::values::value_of;
-use crate::words::{behind_key, is_text, resource_name};
+use crate::names::read_res;
+use crate::words::{behind_key, is_text};
 use vlm_words::names::NameArg;
-use vlm_words::steps::{Dequeue, Which};
+use vlm_words::steps::Which;
 
 /// What keyed words and flags have given so far. They may stand in any order, each once.
 pub(crate) trait Keyed: Copy {
@@ -102,8 +103,7 @@ pub(crate) struct RequestWords {
     pub(crate) bast: Option<u32>,
     // the parameter of both routines
     pub(crate) param: Option<u32>,
-    // the bits of the flags
-    pub(crate) flags: u16,
+    pub(crate) flags: FlagWords,
 }
 
 impl RequestWords {
@@ -115,7 +115,7 @@ impl RequestWords {
             ast: None,
             bast: None,
             param: None,
-            flags: 0,
+            flags: FlagWords::new(),
         }
     }
 }
@@ -138,7 +138,7 @@ impl Keyed for RequestWords {
             let param = once(self.param, long(digits))?;
             Ok(RequestWords { param, ..self })
         } else {
-            let flags = flag_once(self.flags, enq_flag(word))?;
+            let flags = self.flags.with(word, enq_flag(word))?;
             Ok(RequestWords { flags, ..self })
         }
     }
@@ -173,7 +173,7 @@ impl Keyed for EnqWords {
     #[tactic(auto, unfolding(crate::specs::Lines::enq_word))]
     fn with_word(self, word: &[u8]) -> Result<Self, LineFault> {
         if let Some(name) = behind_key(b"name=", word) {
-            let resource = once(self.resource, resource_name(name))?;
+            let resource = once(self.resource, read_res(name).ok_or(LineFault::WrongWord))?;
             Ok(EnqWords { resource, ..self })
         } else if let Some(named) = behind_key(b"parent=", word) {
             let parent = once(self.parent, lock(named))?;
@@ -185,18 +185,36 @@ impl Keyed for EnqWords {
     }
 }
 
-// Of a deq line no keyed word is needed: the step is their record.
-impl Keyed for Dequeue {
+/// The keyed words and flags of a deq line.
+#[derive(Clone, Copy)]
+pub(crate) struct DeqWords {
+    // what is to be written to the value block
+    pub(crate) value: Option<[u8; 16]>,
+    pub(crate) flags: FlagWords,
+}
+
+impl DeqWords {
+    pub(crate) fn new() -> Self
+        ensures { result ≡ no_deq_words }
+    {
+        DeqWords {
+            value: None,
+            flags: FlagWords::new(),
+        }
+    }
+}
+
+impl Keyed for DeqWords {
     ghost with_word = { deq_word };
 
     #[tactic(auto, unfolding(crate::specs::Lines::deq_word))]
     fn with_word(self, word: &[u8]) -> Result<Self, LineFault> {
         if let Some(digits) = behind_key(b"value=", word) {
             let value = once(self.value, value_of(digits))?;
-            Ok(Dequeue { value, ..self })
+            Ok(DeqWords { value, ..self })
         } else {
-            let flags = flag_once(self.flags, deq_flag(word))?;
-            Ok(Dequeue { flags, ..self })
+            let flags = self.flags.with(word, deq_flag(word))?;
+            Ok(DeqWords { flags, ..self })
         }
     }
 }
@@ -267,8 +285,8 @@ impl Keyed for NodeWords {
     }
 }
 
-// What a word gives where none before it gave it.
-fn once<T: Copy>(earlier: Option<T>, read: Result<T, LineFault>) -> Result<Option<T>, LineFault>
+/// What a word gives where none before it gave it.
+pub(crate) fn once<T: Copy>(earlier: Option<T>, read: Result<T, LineFault>) -> Result<Option<T>, LineFault>
     ensures { result ≡ once earlier read }
 {
     if earlier.is_some() {

@@ -9,6 +9,7 @@ mod flags;
 mod keyed;
 mod lines;
 mod locks;
+mod names;
 mod numbers;
 mod reading;
 mod values;
@@ -16,4 +17,5 @@ mod words;
 
 pub use faults::LineFault;
 pub use lines::{Line, NO_PROCESS, ProcessName};
+pub use names::read_res;
 pub use reading::read_line;

@@ -5,7 +5,7 @@ ghost use Rattle.vlm_lines.specs.Lines.{ast_line, block_command, line_read, line
 
 use crate::cuts;
 use crate::faults::LineFault;
-use crate::keyed::{DeclareWords, EnqWords, Keyed, NodeWords, RequestWords, SetWords};
+use crate::keyed::{DeclareWords, DeqWords, EnqWords, Keyed, NodeWords, RequestWords, SetWords};
 use crate::lines::{Line, NO_PROCESS};
 use crate::locks::lock;
 use crate::numbers::byte;
@@ -127,7 +127,7 @@ fn enq_line(line: &[u8]) -> Result<Line, LineFault>
         name: resource,
         block,
         parent: words.parent.unwrap_or(Which::Id(0)),
-        flags: asked.flags,
+        flags: asked.flags.flags(),
         ast: asked.ast,
         bast: asked.bast,
         param: asked.param.unwrap_or(0),
@@ -153,7 +153,7 @@ fn cvt_line(line: &[u8]) -> Result<Line, LineFault>
         lock,
         mode,
         block,
-        flags: words.flags,
+        flags: words.flags.flags(),
         ast: words.ast,
         bast: words.bast,
         param: words.param.unwrap_or(0),
@@ -170,13 +170,14 @@ fn deq_line(line: &[u8]) -> Result<Line, LineFault>
     let name = process_name(first)?;
     let (second, rest) = needed_word(after_name)?;
     let lock = lock(second)?;
-    let bare = Dequeue {
+    let words = DeqWords::new().with_words(rest)?;
+    let dequeue = Dequeue {
         pid: NO_PROCESS,
         lock,
-        value: None,
-        flags: 0,
+        value: words.value,
+        flags: words.flags.flags(),
     };
-    Ok(Line::Deq(name, bare.with_words(rest)?))
+    Ok(Line::Deq(name, dequeue))
 }
 
 // The words of a set line: NAME block=N value=HEX.

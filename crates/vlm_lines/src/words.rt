@@ -1,13 +1,12 @@
-//! Words that stand for names and modes.
+//! Words that stand for names of processes and modes.
 
 ghost use Rattle.std.specs.Prelude.{◌≡◌, MatchOption, true, false};
 ghost use Rattle.std.specs.List.{list_all};
-ghost use Rattle.vlm_lines.specs.Lines.{process_name, begins_with_letter, mode_of, is_name_byte, is_text, has_key, behind, resource_name};
+ghost use Rattle.vlm_lines.specs.Lines.{process_name, begins_with_letter, mode_of, is_name_byte, is_text, has_key, behind};
 
 use crate::faults::LineFault;
 use crate::lines::ProcessName;
 use vlm_words::modes::Mode;
-use vlm_words::names::NameArg;
 
 /// A process's name: 1 to 15 letters, digits and underscores, the first a letter.
 #[tactic(auto, unfolding(crate::specs::Lines::process_name))]
@@ -18,18 +17,6 @@ pub(crate) fn process_name(word: &[u8]) -> Result<ProcessName, LineFault>
         Ok(ProcessName::of(word))
     } else {
         Err(LineFault::WrongWord)
-    }
-}
-
-/// A resource's name, which is not hexadecimal.
-#[tactic(auto, unfolding(crate::specs::Lines::resource_name))]
-pub(crate) fn resource_name(bytes: &[u8]) -> Result<NameArg, LineFault>
-    ensures { result ≡ resource_name bytes.now }
-{
-    if behind_key(b"x:", bytes).is_some() {
-        Err(LineFault::WrongWord)
-    } else {
-        Ok(NameArg::of(bytes))
     }
 }
 

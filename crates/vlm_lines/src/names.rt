@@ -1,0 +1,54 @@
+//! Names of resources.
+
+ghost use Rattle.std.specs.Prelude.{◌≡◌, ◌*◌, length, true};
+ghost use Rattle.std.specs.Char.{is_ascii_hexdigit};
+ghost use Rattle.std.specs.List.{list_all};
+ghost use Rattle.vlm_lines.specs.Lines.{hex_name, hex_value, name_read};
+
+use crate::words::behind_key;
+use hex::decode_to_slice;
+use vlm_words::names::NameArg;
+
+// Of a longer name the first so many bytes count, which no name has.
+const LONGEST: usize = 32;
+
+/// A resource's name as a script has it: behind `x:` an even number of hexadecimal digits of either case, whose bytes are
+/// the name; else its bytes. Either may be none. None where behind `x:` stands anything else. It takes no memory.
+#[tactic(auto, unfolding(crate::specs::Lines::name_read))]
+pub fn read_res(bytes: &[u8]) -> Option<NameArg>
+    ensures { result ≡ name_read bytes.now }
+{
+    match behind_key(b"x:", bytes) {
+        Some(digits) => hex_name(digits),
+        None => Some(NameArg::of(bytes)),
+    }
+}
+
+// The name that hexadecimal digits stand for.
+#[tactic(auto, unfolding(crate::specs::Lines::hex_name))]
+fn hex_name(digits: &[u8]) -> Option<NameArg>
+    ensures { result ≡ hex_name digits.now }
+{
+    if digits.len() % 2 != 0 || !all_hex_digits(digits) {
+        return None;
+    }
+    let mut name = [0; LONGEST];
+    let count = LONGEST.min(digits.len() / 2);
+    read_pairs(&digits[..2 * count], &mut name[..count]);
+    Some(NameArg::of(&name[..count]))
+}
+
+// Writes the bytes that digits stand for, two for each.
+fn read_pairs(digits: &[u8], bytes: &mut [u8])
+    requires digits { list_all is_ascii_hexdigit digits.now ≡ true }
+    requires twice { length digits.now ≡ 2 * length bytes.old }
+    ensures { bytes.new ≡ hex_value digits.now }
+{
+    let _ = decode_to_slice(digits, bytes);
+}
+
+fn all_hex_digits(digits: &[u8]) -> bool
+    ensures { result ≡ list_all is_ascii_hexdigit digits.now }
+{
+    digits.iter().all(|digit| digit.is_ascii_hexdigit())
+}
