@@ -1,5 +1,5 @@
 -- What the crate hex reads is what the definitions read.
-use Rattle.std.proofs.Common.{◌≡◌, ◌≢◌, ◌≤◌, ◌⊎◌, ◌++◌, ℕ, zero, suc, ◌+◌, ◌*◌, ◌/◌, ◌%◌, true, false, cond, ◌&&◌, List, [], ◌∷◌, length, min, take, Bool, Result, Ok, Err, inl, inr, refl, sym, ap, ◌∙◌, arith}
+use Rattle.std.proofs.Common.{◌≡◌, ◌≢◌, ◌⊎◌, ◌++◌, ℕ, zero, suc, ◌+◌, ◌*◌, ◌/◌, ◌%◌, true, false, cond, ◌&&◌, List, [], ◌∷◌, length, min, take, Bool, Result, Ok, Err, inl, inr, refl, sym, ap, ◌∙◌, arith}
 use Rattle.std.proofs.lemmas.Bool.{and_parts, cases_eq}
 use Rattle.std.proofs.lemmas.List.{length-take, length-take-le, take_all, take_at}
 use Rattle.std.proofs.lemmas.Bool.Decides.{nat_tests}

@@ -7,9 +7,9 @@ use crate::cuts::next_word;
 use crate::faults::LineFault;
 use crate::flags::{FlagWords, deq_flag, enq_flag};
 use crate::locks::lock;
+use crate::names::read_res;
 use crate::numbers::{byte, long, short};
 use crate::values::value_of;
-use crate::names::read_res;
 use crate::words::{behind_key, is_text};
 use vlm_words::names::NameArg;
 use vlm_words::steps::Which;
@@ -286,7 +286,10 @@ impl Keyed for NodeWords {
 }
 
 /// What a word gives where none before it gave it.
-pub(crate) fn once<T: Copy>(earlier: Option<T>, read: Result<T, LineFault>) -> Result<Option<T>, LineFault>
+pub(crate) fn once<T: Copy>(
+    earlier: Option<T>,
+    read: Result<T, LineFault>,
+) -> Result<Option<T>, LineFault>
     ensures { result ≡ once earlier read }
 {
     if earlier.is_some() {

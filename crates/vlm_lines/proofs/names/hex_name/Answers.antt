@@ -1,7 +1,7 @@
-use Rattle.std.proofs.Common.{rules, ◌≡◌, ◌∙◌, ℕ, true, false, List, None, Some, length, sym, ap, take}
+use Rattle.std.proofs.Common.{◌≡◌, ◌∙◌, true, Some, sym, ap}
 use Rattle.std.specs.Char.{is_ascii_hexdigit}
 use Rattle.std.specs.List.{list_all}
-use Rattle.vlm_lines.specs.Lines.{hex_name, hex_value}
+use Rattle.vlm_lines.specs.Lines.{hex_name}
 use Rattle.vlm_lines.proofs.Hexadecimal.{digits_taken, name_of_pairs}
 use Rattle.vlm_lines.proofs.names.hex_name.Goals as goal
 
