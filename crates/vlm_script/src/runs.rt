@@ -68,10 +68,11 @@ fn run_lines<W: Write>(
     ensures faults { IfErr result EndsLines }
 {
     let mut out = Vec::new(alloc);
+    let mut printed = Vec::new(alloc);
     let mut rest = input;
     let mut count = 0;
     while let Some((line, after)) = next_line(rest) {
-        if let Err(stop) = run_line(session, line, &mut out) {
+        if let Err(stop) = run_line(session, line, &mut printed, &mut out) {
             write_whole(writer, &out)?;
             return Err(stop.at(count + 1));
         }
@@ -98,15 +99,20 @@ fn write_when_full<W: Write>(out: &mut Vec<u8>, writer: &mut W) -> Result<(), Pl
 }
 
 // Runs a line, and puts what it prints at the end of `out`. Where the line stops the run, `out` is
-// as it was.
-fn run_line(session: &mut Session, line: &[u8], out: &mut Vec<u8>) -> Result<(), Stop>
+// as it was: what the line has printed by then stands in `printed` alone, whose room serves line after line.
+fn run_line(
+    session: &mut Session,
+    line: &[u8],
+    printed: &mut Vec<u8>,
+    out: &mut Vec<u8>,
+) -> Result<(), Stop>
     ensures run { MatchResult result
         (λ _. IsPrinted session.old line.now session.new out.old.items out.new.items)
         (λ stop. StopsBytes session.old.names line.now stop) }
     ensures err { OnErr result (out.new.items ≡ out.old.items) }
 {
-    let mut printed = Vec::new(*out.allocator());
-    session.run(line, &mut printed)?;
-    out.extend_from_slice(&printed)?;
+    printed.clear();
+    session.run(line, printed)?;
+    out.extend_from_slice(printed)?;
     Ok(())
 }
