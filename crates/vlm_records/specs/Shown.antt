@@ -136,13 +136,17 @@ but_requeued l = record l { row = named_row l.row; place = Loose; in_queue = no_
 abbrev pub but_in_armed : Lock → Lock
 but_in_armed l = record l { in_armed = no_links }
 
--- a lock but for the lists of its resource in which it stands, and what it holds and wants there
-abbrev pub but_queued : Lock → Lock
-but_queued l = but_in_armed (but_requeued l)
+-- a lock but for its neighbours among those whose requests are queued
+abbrev pub but_in_line : Lock → Lock
+but_in_line l = record l { in_line = no_links }
 
--- a lock but for its neighbours among those of its process and of its parent, and its sublocks
+-- a lock but for the lists in which it stands as it is queued and granted, and what it holds and wants there
+abbrev pub but_queued : Lock → Lock
+but_queued l = but_in_line (but_in_armed (but_requeued l))
+
+-- a lock but for the lists in which it stands beside those of its resource, and its sublocks
 abbrev pub but_kin : Lock → Lock
-but_kin l = record l { of_process = no_links; of_parent = no_links; sublocks = no_list }
+but_kin l = but_in_line (record l { of_process = no_links; of_parent = no_links; sublocks = no_list })
 
 -- a lock at its making, but for the lists of a resource: in no list of its process or its parent, and without sublocks
 abbrev pub new_lock : Row → ℕ → Option ℕ → Lock
@@ -151,6 +155,7 @@ new_lock row owner parent = record {
   place = Loose;
   in_queue = no_links;
   in_armed = no_links;
+  in_line = no_links;
   owner = owner;
   of_process = no_links;
   parent = parent;

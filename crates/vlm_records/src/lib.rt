@@ -23,6 +23,7 @@ mod armed;
 mod counts;
 mod handles;
 mod kin;
+mod line;
 mod locks;
 mod pending;
 mod processes;
@@ -31,7 +32,8 @@ mod resources;
 
 pub use handles::{LockAt, LockKind, Place, ProcAt, ProcessKind, ResAt, ResourceKind};
 pub use kin::{join_parent, join_process, leave_parent, leave_process};
-pub use locks::{InArmed, InQueue, Lock, OfParent, OfProcess};
+pub use line::{join_line, leave_line};
+pub use locks::{InArmed, InLine, InQueue, Lock, OfParent, OfProcess};
 pub use processes::{Authorization, Process, put_in, take_out};
 pub use queues::Queues;
 pub use resources::{InOrder, Resource};

@@ -13,6 +13,9 @@ pub struct InQueue;
 /// The list of the granted locks of a resource that are armed, in the order in which they were granted.
 pub struct InArmed;
 
+/// The list of the locks whose requests are queued, of all resources, in the order in which they joined.
+pub struct InLine;
+
 /// The list of the locks of a process, in order of making.
 pub struct OfProcess;
 
@@ -30,6 +33,8 @@ pub struct Lock {
     pub(crate) in_queue: Links,
     // its neighbours among the armed locks of its resource, if it is granted and armed
     pub(crate) in_armed: Links,
+    // its neighbours among the locks whose requests are queued, if its own is
+    pub(crate) in_line: Links,
     /// The process that owns it.
     pub owner: ProcAt,
     // its neighbours among that process's locks
@@ -44,6 +49,17 @@ pub struct Lock {
 
 impl Lock {
     ghost use Rattle.vlm_records.specs.Armed.{armed_of};
+    ghost use Rattle.vlm_records.specs.Line.{is_queued};
+
+    /// Whether its request is queued.
+    pub fn is_queued(&self) -> bool
+        ensures { result ≡ is_queued self.now.place }
+    {
+        matches!(
+            self.place,
+            Place::Queued(_, Queue::Conversion | Queue::Waiting)
+        )
+    }
 
     /// The resource among whose armed locks it belongs, if it is granted and armed.
     pub(crate) fn armed_on(&self) -> Option<ResAt>
@@ -93,6 +109,26 @@ impl Linked<InArmed> for Lock {
 
     fn set_links(&mut self, pair: Links) {
         self.in_armed = pair;
+    }
+}
+
+impl Linked<InLine> for Lock {
+    ghost links = { λ l. l.in_line };
+
+    ghost with_links = { λ l pair. record l { in_line = pair } };
+
+    ghost links_written = { λ l pair. refl };
+
+    ghost written_twice = { λ l a b. refl };
+
+    ghost written_as_was = { λ l. refl };
+
+    fn links(&self) -> Links {
+        self.in_line
+    }
+
+    fn set_links(&mut self, pair: Links) {
+        self.in_line = pair;
     }
 }
 

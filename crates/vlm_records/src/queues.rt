@@ -6,6 +6,7 @@ ghost use Rattle.slab.specs.Slab.{get, ContainsKey, HasRoomFor};
 ghost use Rattle.vlm_links.specs.Lists.{Relinks, without};
 ghost use Rattle.vlm_records.specs.declared.handles.Place.{Place};
 ghost use Rattle.vlm_records.specs.Armed.{IsArmed};
+ghost use Rattle.vlm_records.specs.Line.{line_links};
 ghost use Rattle.vlm_records.specs.Shown.{IsPlaced, IsTallied, IsThere, SameBut, but_counted, but_lists, but_place, but_queued, but_queues, but_requeued, but_row, handles_at, list_at, named_row, new_lock, noted, room_in, rows, with_queue_links};
 
 use crate::handles::{LockAt, Place, ProcAt};
@@ -173,6 +174,7 @@ impl Queues {
         ensures row { rows self.new at ≡ row.now }
         ensures rows { (other : ℕ) → other ≢ at → rows self.new other ≡ rows self.old other }
         ensures kin { SameBut but_queued self.old.locks self.new.locks }
+        ensures line { SameBut line_links self.old.locks self.new.locks }
         ensures rest { SameBut but_queues self.old.resources self.new.resources }
         ensures locks_room { room_in self.new.locks ≡ room_in self.old.locks }
         ensures resources_room { room_in self.new.resources ≡ room_in self.old.resources }
@@ -195,6 +197,7 @@ impl Queues {
         ensures row { rows self.new at ≡ record (rows self.old at) { armed = false } }
         ensures rows { (other : ℕ) → other ≢ at → rows self.new other ≡ rows self.old other }
         ensures kin { SameBut but_queued self.old.locks self.new.locks }
+        ensures line { SameBut line_links self.old.locks self.new.locks }
         ensures rest { SameBut but_queues self.old.resources self.new.resources }
         ensures locks_room { room_in self.new.locks ≡ room_in self.old.locks }
         ensures resources_room { room_in self.new.resources ≡ room_in self.old.resources }
@@ -233,6 +236,9 @@ impl Queues {
         ensures kin { (other : ℕ) → other ≢ result
             → option_map but_queued (get self.new.locks other)
             ≡ option_map but_queued (get self.old.locks other) }
+        ensures line { (other : ℕ) → other ≢ result
+            → option_map line_links (get self.new.locks other)
+            ≡ option_map line_links (get self.old.locks other) }
         ensures rest { SameBut but_queues self.old.resources self.new.resources }
         ensures taken { (room_in self.new.locks).0 + 1 ≡ (room_in self.old.locks).0 }
         ensures resources_room { room_in self.new.resources ≡ room_in self.old.resources }
@@ -242,6 +248,7 @@ impl Queues {
             place: Place::Loose,
             in_queue: Links::none(),
             in_armed: Links::none(),
+            in_line: Links::none(),
             owner,
             of_process: Links::none(),
             parent,
@@ -267,6 +274,8 @@ impl Queues {
         ensures rows { (other : ℕ) → other ≢ at → rows self.new other ≡ rows self.old other }
         ensures kin { (other : ℕ) → other ≢ at → option_map but_queued (get self.new.locks other)
             ≡ option_map but_queued (get self.old.locks other) }
+        ensures line { (other : ℕ) → other ≢ at → option_map line_links (get self.new.locks other)
+            ≡ option_map line_links (get self.old.locks other) }
         ensures rest { SameBut but_queues self.old.resources self.new.resources }
         ensures given_back { room_in self.new.locks ≡ ((room_in self.old.locks).0 + 1, at) }
         ensures resources_room { room_in self.new.resources ≡ room_in self.old.resources }
