@@ -179,6 +179,7 @@ module _ (s : Inside) (kept : IsKept s) (processes : Slab Process) (process_inde
     placed = kept.placed;
     tallied = kept.tallied;
     armed = kept.armed;
+    line = kept.line;
     linked = kept.linked;
     ordered = kept.ordered;
     locks = kept.locks;
@@ -199,6 +200,7 @@ more_marks s kept marks grows = record {
   placed = kept.placed;
   tallied = kept.tallied;
   armed = kept.armed;
+  line = kept.line;
   linked = kept.linked;
   ordered = kept.ordered;
   locks = kept.locks;

@@ -1,4 +1,5 @@
 -- What a caller sees of the room for more records.
+use Rattle.vlm_store.proofs.Lined.{line_same}
 use Rattle.std.proofs.Common.{◌≡◌, ℕ, ◌+◌, ◌<◌, ◌≤◌, None, nat_eq, Result, Ok, Err, OnOk, refl, sym, ap, ◌∙◌, subst, arith}
 use Rattle.std.specs.Map.{lookup}
 use Rattle.std.specs.Option.{option_map}
@@ -131,6 +132,7 @@ lock_room_kept s kept locks index is entries =
       placed = reserved_placed s.queues locks same kept.placed;
       tallied = reserved_tallied s.queues locks same kept.placed kept.tallied;
       armed = armed_reserved s.queues locks same (reserved_handles s.queues locks same kept.placed) kept.armed;
+      line = line_same s.queues.locks locks s.line same kept.line;
       linked = kept.linked;
       ordered = kept.ordered;
       locks = Indexes-same (found nat_eq s.lock_index) (found nat_eq index) (lkid_at s.queues) (lkid_at (record s.queues { locks = locks })) (λ k. ap (λ es. lookup (nat_eq k) es) entries)
@@ -156,6 +158,7 @@ resource_room_kept s kept resources index is entries =
       placed = resources_placed s.queues resources kept.placed lists;
       tallied = resources_tallied s.queues resources kept.placed lists (λ r. ap tally_in (same r)) kept.tallied;
       armed = armed_resources s.queues resources (λ r. ap armed_list_in (same r)) (resources_handles s.queues resources kept.placed lists) kept.armed;
+      line = kept.line;
       linked = same-linked order_links s.queues.resources resources s.order kept.linked (λ r _. same r);
       ordered = λ r there. rw (same-handles order_links s.queues.resources resources s.order kept.linked (λ x _. same x)) (kept.ordered r (rw (same r) at there));
       locks = kept.locks;

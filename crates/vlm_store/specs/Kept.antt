@@ -10,6 +10,7 @@ use Rattle.vlm_words.specs.Keys.{is_same_key}
 use Rattle.vlm_store.specs.Pending.{IsMarked, is_of_nodes, waits_in}
 use Rattle.vlm_store.specs.Records.{Records, Rooms, StoredProcess}
 use Rattle.vlm_records.specs.Kin.{IsBelow, IsNamed, IsOwned, pid_at, process_links}
+use Rattle.vlm_records.specs.Line.{IsLine}
 use Rattle.vlm_store.specs.Holdings.{holding, processes_of}
 use Rattle.vlm_records.specs.Shown.{IsPlaced, IsTallied, order_links}
 use Rattle.vlm_store.specs.Store.{Beside, key_at, lkid_at, records_of, room_of, tables}
@@ -34,13 +35,14 @@ beside_shown s = record { processes = processes_shown s; room = rooms_shown s }
 abbrev pub records_shown : Inside → Records
 records_shown s = records_of (tables s.queues s.order (beside_shown s))
 
--- each lock stands in the three lists that it notes, each resource counts its locks and has the armed ones among the
--- granted, resources and processes stand in their orders, each index finds just what is there, and marked are just the
+-- each lock stands in the three lists that it notes and, if its request is queued, in the line, each resource counts its
+-- locks and has the armed ones among the granted, resources and processes stand in their orders, each index finds just what is there, and marked are just the
 -- processes that live, and those with an AST pending
 pub record IsKept (s : Inside) : Type 0 where
   pub placed : IsPlaced s.queues None
   pub tallied : IsTallied s.queues None
   pub armed : IsArmed s.queues None
+  pub line : IsLine s.queues.locks s.line None
   pub linked : IsLinked order_links s.queues.resources s.order
   pub ordered : (res : ℕ) → ContainsKey s.queues.resources res → IsIn res (handles_of order_links s.queues.resources s.order)
   pub locks : Indexes (get nat_eq s.lock_index) (lkid_at s.queues)

@@ -18,8 +18,8 @@ use std::marker::Model;
 use vlm_links::{LinkedList, reserve_one};
 use vlm_marks::NodeMarks;
 use vlm_records::{
-    InOrder, Lock, LockAt, Place, ProcAt, Process, Queues, ResAt, Resource, join_parent,
-    join_process, leave_parent, leave_process,
+    InLine, InOrder, Lock, LockAt, Place, ProcAt, Process, Queues, ResAt, Resource, join_line,
+    join_parent, join_process, leave_line, leave_parent, leave_process,
 };
 use vlm_words::locks::Row;
 use vlm_words::modes::Mode;
@@ -31,6 +31,8 @@ pub struct Store {
     pub(crate) alloc: Global,
     // the locks and the resources, and the lists of locks that are queues
     pub(crate) queues: Queues,
+    // the locks whose requests are queued, of all resources
+    pub(crate) line: LinkedList<InLine>,
     // the resources in order of making
     order: LinkedList<InOrder>,
     // the living processes, each with its status blocks
@@ -55,6 +57,7 @@ impl Drop for Store {
         let Store {
             alloc: _,
             queues: _,
+            line: _,
             order: _,
             processes: _,
             process_order: _,
@@ -91,6 +94,7 @@ impl Store {
                 resources: Slab::new(alloc),
                 loose: LinkedList::new(),
             },
+            line: LinkedList::new(),
             order: LinkedList::new(),
             processes: Slab::new(alloc),
             process_order: LinkedList::new(),
@@ -177,7 +181,10 @@ impl Store {
         requires there { HasPlace to self.old }
         ensures { self.new ≡ with_lists (moving to (record { at = lock; row = row })) self.old }
     {
-        self.queues.move_to(lock.slot(), &row, to);
+        let at = lock.slot();
+        leave_line(&mut self.queues.locks, &mut self.line, at);
+        self.queues.move_to(at, &row, to);
+        join_line(&mut self.queues.locks, &mut self.line, at);
     }
 
     /// A lock is armed no more, and stays where it stands.
@@ -198,10 +205,12 @@ impl Store {
             ≡ with_lock_room self.new.room.locks (without_stored_lock lock self.old) }
         ensures given_back { IsGivenBack self.old.room.locks self.new.room.locks }
     {
-        let lkid = self.queues.locks[lock.slot()].row.lkid;
-        leave_parent(&mut self.queues.locks, lock.slot());
-        leave_process(&mut self.processes, &mut self.queues.locks, lock.slot());
-        self.queues.remove(lock.slot());
+        let at = lock.slot();
+        let lkid = self.queues.locks[at].row.lkid;
+        leave_parent(&mut self.queues.locks, at);
+        leave_process(&mut self.processes, &mut self.queues.locks, at);
+        leave_line(&mut self.queues.locks, &mut self.line, at);
+        self.queues.remove(at);
         self.lock_index.swap_remove(&lkid);
     }
 

@@ -1,3 +1,4 @@
+use Rattle.vlm_store.proofs.Lined.{line_added, line_below, line_own, line_same}
 use Rattle.vlm_store.proofs.RoomShown.{room_shown, shown_room, is_taken, rooms_are, room_of_same, lock_room_made, has_room, lock_room_kept}
 use Rattle.std.proofs.Common.{◌≡◌, ◌∙◌, ◌++◌, ◌∷◌, [], ℕ, map, None, Some, IsSome, ap, sym, refl, arith, nat_eq, ◌+◌}
 use Rattle.std.specs.Cmp.{unsigned_Decides}
@@ -114,6 +115,11 @@ invariant_of-self-2 c =
       placed = kin_placed q' c.join_parent.new.locks kin added.placed;
       tallied = kin_tallied q' c.join_parent.new.locks kin added.placed added.tallied;
       armed = armed_kin q' c.join_parent.new.locks kin (kin_handles q' c.join_parent.new.locks kin added.placed) (kin_rows q' c.join_parent.new.locks kin) added.armed;
+      line =
+          line_below c.join_process.new.locks c.join_parent.new.locks s.line below.rest
+          (line_own q'.locks c.join_process.new.locks s.line process.relinks
+          (line_added (record s.queues { locks = c.reserve_one.new.records }) q' s.line at (reserved_placed s.queues c.reserve_one.new.records same kept.placed) added.placed added.fresh added.line added.here added.elsewhere
+          (line_same s.queues.locks c.reserve_one.new.records s.line same kept.line)));
       linked = order_linked but_queues (λ r. refl) s.queues.resources q'.resources rest s.order kept.linked;
       ordered = order_whole but_queues (λ r. refl) s.queues.resources q'.resources rest s.order kept.linked kept.ordered;
       locks = Indexes-added nat_eq unsigned_Decides c.reserve_one.new.index c.insert.new.self c.args.row.lkid (lkid_at (record s.queues { locks = c.reserve_one.new.records })) (lkid_at q'') at

@@ -69,6 +69,7 @@ invariant_of-self-2 c =
       placed = kept.placed;
       tallied = kept.tallied;
       armed = kept.armed;
+      line = kept.line;
       linked = kept.linked;
       ordered = kept.ordered;
       locks = kept.locks;

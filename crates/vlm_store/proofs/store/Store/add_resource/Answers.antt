@@ -1,3 +1,4 @@
+use Rattle.vlm_store.proofs.Lined.{line_same}
 use Rattle.vlm_store.proofs.RoomShown.{room_shown, shown_room, is_taken, rooms_are, room_of_same, resource_room_kept, resource_room_made, has_room}
 use Rattle.std.proofs.Common.{◌≡◌, ◌∙◌, ◌++◌, ◌∷◌, [], ℕ, None, IsSome, ap, sym, refl, arith, nat_eq}
 use Rattle.std.specs.Map.{lookup}
@@ -63,6 +64,7 @@ invariant_of-self-2 c =
       placed = added.placed;
       tallied = added.tallied;
       armed = added.armed;
+      line = line_same s.queues.locks q'.locks s.line (λ k. ap (λ l. slot_of l k) added.locks) kept.line;
       linked = added.linked;
       ordered = whole_grown order_links c.reserve_one.new.records q'.resources s.order c.add_resource.new.order at (λ r there. rw handles1 (kept.ordered r (rw (same r) at there))) added.order
           (λ r differs. there_by_face (slot_of q'.resources r) (slot_of c.reserve_one.new.records r) (added.faces r differs));

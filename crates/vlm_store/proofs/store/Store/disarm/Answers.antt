@@ -1,3 +1,4 @@
+use Rattle.vlm_store.proofs.Lined.{line_disarmed}
 use Rattle.std.proofs.Common.{None, ◌∙◌, ap, map, refl, nat_eq}
 use Rattle.indexmap.specs.IndexMap.{get}
 use Rattle.vlm_words.specs.Keys.{is_same_key}
@@ -29,6 +30,7 @@ invariant_of-self c =
       placed = c.disarm.ensures.placed;
       tallied = c.disarm.ensures.tallied;
       armed = c.disarm.ensures.armed;
+      line = line_disarmed s.queues q' s.line kept.placed c.disarm.ensures.placed c.disarm.ensures.line c.disarm.ensures.handles kept.line;
       linked = order_linked but_queues (λ r. refl) s.queues.resources q'.resources rest s.order kept.linked;
       ordered = order_whole but_queues (λ r. refl) s.queues.resources q'.resources rest s.order kept.linked kept.ordered;
       locks = Indexes-same (get nat_eq s.lock_index) (get nat_eq s.lock_index) (lkid_at s.queues) (lkid_at q') (λ k. refl) (queued_lkids s.processes s.queues.locks q'.locks c.disarm.ensures.kin) kept.locks;

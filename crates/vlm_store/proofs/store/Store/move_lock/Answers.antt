@@ -1,29 +1,56 @@
 use Rattle.vlm_store.proofs.RoomShown.{queues_room}
-use Rattle.std.proofs.Common.{None, ◌∙◌, ap, refl, nat_eq}
+use Rattle.std.proofs.Common.{None, ◌∙◌, ◌++◌, ◌∷◌, [], ap, refl, nat_eq}
 use Rattle.indexmap.specs.IndexMap.{get}
+use Rattle.vlm_links.specs.Lists.{without}
 use Rattle.vlm_words.specs.Keys.{is_same_key}
-use Rattle.vlm_records.specs.Shown.{but_queues, handles_at, named_row, rows}
+use Rattle.vlm_records.specs.Shown.{but_in_line, but_queued, but_queues, handles_at, named_row, rows}
+use Rattle.vlm_records.proofs.Arming.{armed_kin}
+use Rattle.vlm_records.proofs.Places.{same_then, there_through}
 use Rattle.vlm_store.specs.Store.{key_at, lkid_at, tables}
 use Rattle.vlm_store.specs.Records.{moving}
 use Rattle.vlm_store.proofs.Indexing.{Indexes-same}
 use Rattle.vlm_store.proofs.Kept.{faces_same, place_there, stored_there}
 use Rattle.vlm_store.proofs.Layouts.{lists_changed, moving-under_handle}
+use Rattle.vlm_store.proofs.Lined.{line_kin, line_moved, line_queued}
 use Rattle.vlm_store.specs.Kept.{beside_shown}
-use Rattle.vlm_store.proofs.Kinship.{named_same, queued_below, queued_lkids, queued_named, queued_owned, queued_processes}
+use Rattle.vlm_store.proofs.Kinship.{kin_handles, kin_placed, kin_rows, kin_tallied, named_same, queued_below, queued_lkids, queued_named, queued_owned, queued_processes}
 use Rattle.vlm_store.proofs.store.Store.move_lock.Goals as goal
 use Rattle.vlm_store.proofs.Order.{keys_same, order_handles, order_linked, order_whole}
+
+pub leave_line-requires-clause-present : goal.leave_line-requires-clause-present
+leave_line-requires-clause-present c =
+    let s = c.self.inside in
+    let is = rw (← c.self.view_is) at c.requires.lock in
+    rw c.slot-at.ensures (stored_there s.queues s.order (beside_shown s) c.self.invariant.placed c.args.lock is.0 is.1.0).0
+
+pub move_to-requires-clause-placed : goal.move_to-requires-clause-placed
+move_to-requires-clause-placed c =
+    let s = c.self.inside in
+    kin_placed s.queues c.leave_line.new.locks (line_kin s.queues.locks c.leave_line.new.locks c.leave_line.ensures.rest) c.self.invariant.placed
+
+pub move_to-requires-clause-tallied : goal.move_to-requires-clause-tallied
+move_to-requires-clause-tallied c =
+    let s = c.self.inside in
+    kin_tallied s.queues c.leave_line.new.locks (line_kin s.queues.locks c.leave_line.new.locks c.leave_line.ensures.rest) c.self.invariant.placed c.self.invariant.tallied
+
+pub move_to-requires-clause-armed : goal.move_to-requires-clause-armed
+move_to-requires-clause-armed c =
+    let s = c.self.inside in
+    let kin = line_kin s.queues.locks c.leave_line.new.locks c.leave_line.ensures.rest in
+    armed_kin s.queues c.leave_line.new.locks kin (kin_handles s.queues c.leave_line.new.locks kin c.self.invariant.placed) (kin_rows s.queues c.leave_line.new.locks kin) c.self.invariant.armed
 
 pub move_to-requires-clause-present : goal.move_to-requires-clause-present
 move_to-requires-clause-present c =
     let s = c.self.inside in
     let is = rw (← c.self.view_is) at c.requires.lock in
-    rw c.slot.ensures (stored_there s.queues s.order (beside_shown s) c.self.invariant.placed c.args.lock is.0 is.1.0).0
+    there_through but_in_line s.queues.locks c.leave_line.new.locks c.leave_line.ensures.rest c.slot-at.result
+    (rw c.slot-at.ensures (stored_there s.queues s.order (beside_shown s) c.self.invariant.placed c.args.lock is.0 is.1.0).0)
 
 pub move_to-requires-clause-within : goal.move_to-requires-clause-within
 move_to-requires-clause-within c =
     let s = c.self.inside in
     let is = rw (← c.self.view_is) at c.requires.lock in
-    rw c.slot.ensures (stored_there s.queues s.order (beside_shown s) c.self.invariant.placed c.args.lock is.0 is.1.0).1
+    rw c.slot-at.ensures (stored_there s.queues s.order (beside_shown s) c.self.invariant.placed c.args.lock is.0 is.1.0).1
 
 pub move_to-requires-clause-there : goal.move_to-requires-clause-there
 move_to-requires-clause-there c =
@@ -34,25 +61,57 @@ pub move_to-requires-clause-named : goal.move_to-requires-clause-named
 move_to-requires-clause-named c =
     let s = c.self.inside in
     let is = rw (← c.self.view_is) at c.requires.lock in
-    rw c.slot.ensures (ap named_row (stored_there s.queues s.order (beside_shown s) c.self.invariant.placed c.args.lock is.0 is.1.0).2 ∙ named_same is.0 c.args.row is.1.1)
+    ap named_row (kin_rows s.queues c.leave_line.new.locks (line_kin s.queues.locks c.leave_line.new.locks c.leave_line.ensures.rest) c.slot-at.result)
+    ∙ rw c.slot-at.ensures (ap named_row (stored_there s.queues s.order (beside_shown s) c.self.invariant.placed c.args.lock is.0 is.1.0).2 ∙ named_same is.0 c.args.row is.1.1)
+
+pub join_line-requires-clause-line : goal.join_line-requires-clause-line
+join_line-requires-clause-line c =
+    let s = c.self.inside in
+    let q1 = record s.queues { locks = c.leave_line.new.locks } in
+    let moved = c.move_to.ensures in
+    line_moved q1 c.move_to.new.self c.leave_line.new.line c.slot-at.result c.args.to (kin_placed s.queues c.leave_line.new.locks (line_kin s.queues.locks c.leave_line.new.locks c.leave_line.ensures.rest) c.self.invariant.placed)
+    moved.placed moved.line moved.here moved.elsewhere c.leave_line.ensures.line
+
+pub join_line-requires-clause-present : goal.join_line-requires-clause-present
+join_line-requires-clause-present c =
+    let s = c.self.inside in
+    let is = rw (← c.self.view_is) at c.requires.lock in
+    there_through but_queued c.leave_line.new.locks c.move_to.new.self.locks c.move_to.ensures.kin c.slot-at.result
+    (there_through but_in_line s.queues.locks c.leave_line.new.locks c.leave_line.ensures.rest c.slot-at.result
+    (rw c.slot-at.ensures (stored_there s.queues s.order (beside_shown s) c.self.invariant.placed c.args.lock is.0 is.1.0).0))
+
+pub join_line-requires-clause-within : goal.join_line-requires-clause-within
+join_line-requires-clause-within c =
+    let s = c.self.inside in
+    let is = rw (← c.self.view_is) at c.requires.lock in
+    rw c.slot-at.ensures (stored_there s.queues s.order (beside_shown s) c.self.invariant.placed c.args.lock is.0 is.1.0).1
 
 pub invariant_of-self : goal.invariant_of-self
 invariant_of-self c =
     let s = c.self.inside in
     let kept = c.self.invariant in
-    let q' = c.move_to.new.self in
-    let rest = c.move_to.ensures.rest in
+    let q2 = c.move_to.new.self in
+    let locks1 = c.leave_line.new.locks in
+    let locks3 = c.join_line.new.locks in
+    let q3 = record q2 { locks = locks3 } in
+    let moved = c.move_to.ensures in
+    let rest = moved.rest in
+    let kin3 = line_kin q2.locks locks3 c.join_line.ensures.rest in
+    let placed3 = kin_placed q2 locks3 kin3 moved.placed in
+    let queued = same_then but_queued s.queues.locks q2.locks locks3 (same_then but_queued s.queues.locks locks1 q2.locks (line_queued s.queues.locks locks1 c.leave_line.ensures.rest) moved.kin)
+    (line_queued q2.locks locks3 c.join_line.ensures.rest) in
     record {
-      placed = c.move_to.ensures.placed;
-      tallied = c.move_to.ensures.tallied;
-      armed = c.move_to.ensures.armed;
-      linked = order_linked but_queues (λ r. refl) s.queues.resources q'.resources rest s.order kept.linked;
-      ordered = order_whole but_queues (λ r. refl) s.queues.resources q'.resources rest s.order kept.linked kept.ordered;
-      locks = Indexes-same (get nat_eq s.lock_index) (get nat_eq s.lock_index) (lkid_at s.queues) (lkid_at q') (λ k. refl) (queued_lkids s.processes s.queues.locks q'.locks c.move_to.ensures.kin) kept.locks;
-      resources = Indexes-same (get is_same_key s.resource_index) (get is_same_key s.resource_index) (key_at s.queues) (key_at q') (λ k. refl) (keys_same but_queues (λ r. refl) s.queues.resources q'.resources rest) kept.resources;
-      owned = queued_owned s.processes s.queues.locks q'.locks c.move_to.ensures.kin None kept.owned;
-      below = queued_below s.processes s.queues.locks q'.locks c.move_to.ensures.kin None kept.below;
-      named = queued_named s.processes s.queues.locks q'.locks c.move_to.ensures.kin kept.named;
+      placed = placed3;
+      tallied = kin_tallied q2 locks3 kin3 moved.placed moved.tallied;
+      armed = armed_kin q2 locks3 kin3 (kin_handles q2 locks3 kin3 moved.placed) (kin_rows q2 locks3 kin3) moved.armed;
+      line = c.join_line.ensures.line;
+      linked = order_linked but_queues (λ r. refl) s.queues.resources q3.resources rest s.order kept.linked;
+      ordered = order_whole but_queues (λ r. refl) s.queues.resources q3.resources rest s.order kept.linked kept.ordered;
+      locks = Indexes-same (get nat_eq s.lock_index) (get nat_eq s.lock_index) (lkid_at s.queues) (lkid_at q3) (λ k. refl) (queued_lkids s.processes s.queues.locks locks3 queued) kept.locks;
+      resources = Indexes-same (get is_same_key s.resource_index) (get is_same_key s.resource_index) (key_at s.queues) (key_at q3) (λ k. refl) (keys_same but_queues (λ r. refl) s.queues.resources q3.resources rest) kept.resources;
+      owned = queued_owned s.processes s.queues.locks locks3 queued None kept.owned;
+      below = queued_below s.processes s.queues.locks locks3 queued None kept.below;
+      named = queued_named s.processes s.queues.locks locks3 queued kept.named;
       processes_linked = kept.processes_linked;
       processes_ordered = kept.processes_ordered;
       processes = kept.processes;
@@ -63,12 +122,26 @@ invariant_of-self c =
 pub returns : goal.returns
 returns c =
     let s = c.self.inside in
-    let q' = c.move_to.new.self in
+    let kept = c.self.invariant in
+    let q2 = c.move_to.new.self in
+    let locks1 = c.leave_line.new.locks in
+    let locks3 = c.join_line.new.locks in
+    let q3 = record q2 { locks = locks3 } in
     let rest = c.move_to.ensures.rest in
-    let moved = rw c.slot.ensures at c.move_to.ensures in
+    let moved = rw c.slot-at.ensures at c.move_to.ensures in
+    let kin1 = line_kin s.queues.locks locks1 c.leave_line.ensures.rest in
+    let kin3 = line_kin q2.locks locks3 c.join_line.ensures.rest in
+    let handles1 = kin_handles s.queues locks1 kin1 kept.placed in
+    let handles3 = kin_handles q2 locks3 kin3 moved.placed in
+    let rows1 = kin_rows s.queues locks1 kin1 in
+    let rows3 = kin_rows q2 locks3 kin3 in
+    let queued = same_then but_queued s.queues.locks q2.locks locks3 (same_then but_queued s.queues.locks locks1 q2.locks (line_queued s.queues.locks locks1 c.leave_line.ensures.rest) moved.kin)
+    (line_queued q2.locks locks3 c.join_line.ensures.rest) in
     rw (← c.self.view_is)
-    (lists_changed (tables s.queues s.order (beside_shown s)) (tables q' s.order (beside_shown (record s { queues = q' }))) (moving c.args.to (record { at = c.args.lock; row = c.args.row })) (faces_same s.queues.resources q'.resources rest)
-    (moving-under_handle (rows s.queues) (rows q') (handles_at s.queues) (handles_at q') c.args.lock c.args.row c.args.to moved.row moved.rows moved.here moved.elsewhere)
-    (order_handles but_queues (λ r. refl) s.queues.resources q'.resources rest s.order c.self.invariant.linked)
-    (queued_processes s.processes s.queues.locks q'.locks c.move_to.ensures.kin s.process_order c.self.invariant.owned c.self.invariant.below)
-    (queues_room s q' c.move_to.ensures.locks_room c.move_to.ensures.resources_room))
+    (lists_changed (tables s.queues s.order (beside_shown s)) (tables q3 s.order (beside_shown (record s { queues = q3; line = c.join_line.new.line }))) (moving c.args.to (record { at = c.args.lock; row = c.args.row }))
+    (faces_same s.queues.resources q3.resources rest)
+    (moving-under_handle (rows s.queues) (rows q3) (handles_at s.queues) (handles_at q3) c.args.lock c.args.row c.args.to (rows3 c.args.lock ∙ moved.row) (λ k differs. rows3 k ∙ moved.rows k differs ∙ rows1 k)
+    (handles3 c.args.to ∙ moved.here ∙ ap (λ ks. without c.args.lock ks ++ c.args.lock ∷ []) (handles1 c.args.to)) (λ p differs. handles3 p ∙ moved.elsewhere p differs ∙ ap (without c.args.lock) (handles1 p)))
+    (order_handles but_queues (λ r. refl) s.queues.resources q3.resources rest s.order kept.linked)
+    (queued_processes s.processes s.queues.locks locks3 queued s.process_order kept.owned kept.below)
+    (queues_room s q3 (c.join_line.ensures.room ∙ c.move_to.ensures.locks_room ∙ c.leave_line.ensures.room) c.move_to.ensures.resources_room))

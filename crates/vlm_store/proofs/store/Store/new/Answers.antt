@@ -1,3 +1,4 @@
+use Rattle.vlm_store.proofs.Lined.{empty_line}
 use Rattle.std.proofs.Common.{◌≡◌, ℕ, None, refl, ap, nat_eq}
 use Rattle.slab.specs.Slab.{get}
 use Rattle.vlm_records.specs.Shown.{lkid_of}
@@ -21,29 +22,30 @@ invariant_of-result c =
     let q : Queues = record { locks = c.new.result; resources = c.new-2.result; loose = c.new-3.result } in
     let no_locks : (k : ℕ) → get q.locks k ≡ None = λ k. rw c.new.ensures.empty refl in
     let no_resources : (r : ℕ) → get q.resources r ≡ None = λ r. rw c.new-2.ensures.empty refl in
-    let no_processes : (p : ℕ) → get c.new-5.result p ≡ None = λ p. rw c.new-5.ensures.empty refl in
+    let no_processes : (p : ℕ) → get c.new-6.result p ≡ None = λ p. rw c.new-6.ensures.empty refl in
     record {
       placed = empty_placed q no_locks no_resources c.new-3.ensures;
       tallied = empty_tallied q no_locks no_resources c.new-3.ensures;
       armed = empty_armed q no_resources (empty_handles q no_locks no_resources c.new-3.ensures);
-      linked = empty_linked q no_locks no_resources c.new-3.ensures c.new-4.result c.new-4.ensures;
-      ordered = empty_ordered q no_locks no_resources c.new-3.ensures c.new-4.result c.new-4.ensures;
-      locks = Indexes-empty (found nat_eq c.new-7.result) (lkid_at q) (λ k. ap (lookup (nat_eq k)) c.new-7.ensures.empty) (λ at. ap (option_map lkid_of) (no_locks at));
-      resources = Indexes-empty (found is_same_key c.new-8.result) (key_at q) (λ k. ap (lookup (is_same_key k)) c.new-8.ensures.empty) (λ r. ap (option_map (λ (x : Resource). x.key)) (no_resources r));
-      owned = empty_owned c.new-5.result q.locks no_processes no_locks;
-      below = empty_below c.new-5.result q.locks no_processes no_locks;
-      named = empty_named c.new-5.result q.locks no_processes no_locks;
-      processes_linked = empty_processes_linked c.new-5.result q.locks no_processes no_locks c.new-6.result c.new-6.ensures;
-      processes_ordered = empty_processes_ordered c.new-5.result q.locks no_processes no_locks c.new-6.result c.new-6.ensures;
-      processes = Indexes-empty (found nat_eq c.new-9.result) (pid_at c.new-5.result) (λ k. ap (lookup (nat_eq k)) c.new-9.ensures.empty) (λ p. ap (option_map pid_of) (no_processes p));
-      marked = empty_marked waits_in c.new-5.result c.new-11.result no_processes c.new-11.ensures;
-      living = empty_marked is_of_nodes c.new-5.result c.new-10.result no_processes c.new-10.ensures;
+      line = empty_line q.locks c.new-4.result c.new-4.ensures no_locks;
+      linked = empty_linked q no_locks no_resources c.new-3.ensures c.new-5.result c.new-5.ensures;
+      ordered = empty_ordered q no_locks no_resources c.new-3.ensures c.new-5.result c.new-5.ensures;
+      locks = Indexes-empty (found nat_eq c.new-8.result) (lkid_at q) (λ k. ap (lookup (nat_eq k)) c.new-8.ensures.empty) (λ at. ap (option_map lkid_of) (no_locks at));
+      resources = Indexes-empty (found is_same_key c.new-9.result) (key_at q) (λ k. ap (lookup (is_same_key k)) c.new-9.ensures.empty) (λ r. ap (option_map (λ (x : Resource). x.key)) (no_resources r));
+      owned = empty_owned c.new-6.result q.locks no_processes no_locks;
+      below = empty_below c.new-6.result q.locks no_processes no_locks;
+      named = empty_named c.new-6.result q.locks no_processes no_locks;
+      processes_linked = empty_processes_linked c.new-6.result q.locks no_processes no_locks c.new-7.result c.new-7.ensures;
+      processes_ordered = empty_processes_ordered c.new-6.result q.locks no_processes no_locks c.new-7.result c.new-7.ensures;
+      processes = Indexes-empty (found nat_eq c.new-10.result) (pid_at c.new-6.result) (λ k. ap (lookup (nat_eq k)) c.new-10.ensures.empty) (λ p. ap (option_map pid_of) (no_processes p));
+      marked = empty_marked waits_in c.new-6.result c.new-12.result no_processes c.new-12.ensures;
+      living = empty_marked is_of_nodes c.new-6.result c.new-11.result no_processes c.new-11.ensures;
     }
 
 pub returns : goal.returns
 returns c =
     let q : Queues = record { locks = c.new.result; resources = c.new-2.result; loose = c.new-3.result } in
     let no_locks : (k : ℕ) → get q.locks k ≡ None = λ k. rw c.new.ensures.empty refl in
-    let no_processes : (p : ℕ) → get c.new-5.result p ≡ None = λ p. rw c.new-5.ensures.empty refl in
-    empty_records q no_locks (λ r. rw c.new-2.ensures.empty refl) c.new-3.ensures c.new-4.result c.new-4.ensures _
-    (empty_processes c.new-5.result q.locks no_processes no_locks c.new-6.result c.new-6.ensures)
+    let no_processes : (p : ℕ) → get c.new-6.result p ≡ None = λ p. rw c.new-6.ensures.empty refl in
+    empty_records q no_locks (λ r. rw c.new-2.ensures.empty refl) c.new-3.ensures c.new-5.result c.new-5.ensures _
+    (empty_processes c.new-6.result q.locks no_processes no_locks c.new-7.result c.new-7.ensures)

@@ -1,14 +1,16 @@
+use Rattle.vlm_store.proofs.Lined.{line_below, line_kin, line_own, line_queued, line_removed}
 use Rattle.vlm_store.proofs.RoomShown.{room_shown, is_given_back, rooms_are, room_of_same}
-use Rattle.std.proofs.Common.{◌≡◌, ◌∙◌, [], map, None, ap, sym, refl, nat_eq, ◌+◌, ℕ}
+use Rattle.std.proofs.Common.{◌≡◌, ◌≢◌, ◌∙◌, [], map, None, ap, sym, refl, nat_eq, ◌+◌, ℕ}
 use Rattle.std.specs.Cmp.{unsigned_Decides}
 use Rattle.std.specs.Option.{option_map}
+use Rattle.slab.specs.Slab.{get as slot_of}
 use Rattle.indexmap.specs.IndexMap.{get, spare}
 use Rattle.vlm_links.specs.Lists.{without}
 use Rattle.vlm_words.specs.Keys.{is_same_key}
 use Rattle.vlm_records.specs.Kin.{below_handles, pid_at}
 use Rattle.vlm_store.specs.Kept.{beside_shown}
 use Rattle.vlm_store.specs.Records.{leaving, process_without_lock, with_lists, IsGivenBack, without_stored_lock}
-use Rattle.vlm_records.specs.Shown.{but_kin, but_queues, handles_at, lkid_of, rows}
+use Rattle.vlm_records.specs.Shown.{but_kin, but_queued, but_queues, handles_at, lkid_of, rows}
 use Rattle.vlm_store.specs.Store.{key_at, lkid_at, records_of, tables}
 use Rattle.vlm_records.proofs.Arming.{armed_kin}
 use Rattle.vlm_store.proofs.Indexing.{Indexes-removed, Indexes-same}
@@ -26,66 +28,87 @@ use Rattle.vlm_store.proofs.Order.{keys_same, order_handles, order_linked, order
 pub index-requires : goal.index-requires
 index-requires c =
     let stored = rw (← c.self.view_is) at c.requires.stored in
-    rw c.slot.ensures (lock_there c.self.inside c.self.invariant c.args.lock stored.0 stored.1).0
+    rw c.slot-at.ensures (lock_there c.self.inside c.self.invariant c.args.lock stored.0 stored.1).0
 
 pub leave_process-requires-clause-owned : goal.leave_process-requires-clause-owned
 leave_process-requires-clause-owned c =
     let s = c.self.inside in
     below_owned s.processes s.queues.locks c.leave_parent.new.locks c.leave_parent.ensures.rest None c.self.invariant.owned
 
+pub leave_line-requires-clause-line : goal.leave_line-requires-clause-line
+leave_line-requires-clause-line c =
+    let s = c.self.inside in
+    line_own c.leave_parent.new.locks c.leave_process.new.locks s.line c.leave_process.ensures.relinks (line_below s.queues.locks c.leave_parent.new.locks s.line c.leave_parent.ensures.rest c.self.invariant.line)
+
 pub remove-requires-clause-placed : goal.remove-requires-clause-placed
 remove-requires-clause-placed c =
     let s = c.self.inside in
     let kept = c.self.invariant in
-    let parent = rw c.slot-2.ensures at c.leave_parent.ensures in
-    let process = rw c.slot-3.ensures at c.leave_process.ensures in
-    kin_placed s.queues c.leave_process.new.locks
+    let parent = rw c.slot-at.ensures at c.leave_parent.ensures in
+    let process = rw c.slot-at.ensures at c.leave_process.ensures in
+    let lined = rw c.slot-at.ensures at c.leave_line.ensures in
+    kin_placed s.queues c.leave_line.new.locks
+    (same_then but_kin s.queues.locks c.leave_process.new.locks c.leave_line.new.locks
     (same_then but_kin s.queues.locks c.leave_parent.new.locks c.leave_process.new.locks (below_kin s.processes s.queues.locks c.leave_parent.new.locks parent.rest) (own_kin c.leave_parent.new.locks c.leave_process.new.locks process.relinks))
+    (line_kin c.leave_process.new.locks c.leave_line.new.locks lined.rest))
     kept.placed
 
 pub remove-requires-clause-tallied : goal.remove-requires-clause-tallied
 remove-requires-clause-tallied c =
     let s = c.self.inside in
     let kept = c.self.invariant in
-    let parent = rw c.slot-2.ensures at c.leave_parent.ensures in
-    let process = rw c.slot-3.ensures at c.leave_process.ensures in
-    kin_tallied s.queues c.leave_process.new.locks
+    let parent = rw c.slot-at.ensures at c.leave_parent.ensures in
+    let process = rw c.slot-at.ensures at c.leave_process.ensures in
+    let lined = rw c.slot-at.ensures at c.leave_line.ensures in
+    kin_tallied s.queues c.leave_line.new.locks
+    (same_then but_kin s.queues.locks c.leave_process.new.locks c.leave_line.new.locks
     (same_then but_kin s.queues.locks c.leave_parent.new.locks c.leave_process.new.locks (below_kin s.processes s.queues.locks c.leave_parent.new.locks parent.rest) (own_kin c.leave_parent.new.locks c.leave_process.new.locks process.relinks))
+    (line_kin c.leave_process.new.locks c.leave_line.new.locks lined.rest))
     kept.placed kept.tallied
 
 pub remove-requires-clause-armed : goal.remove-requires-clause-armed
 remove-requires-clause-armed c =
     let s = c.self.inside in
     let kept = c.self.invariant in
-    let parent = rw c.slot-2.ensures at c.leave_parent.ensures in
-    let process = rw c.slot-3.ensures at c.leave_process.ensures in
-    let kin = same_then but_kin s.queues.locks c.leave_parent.new.locks c.leave_process.new.locks (below_kin s.processes s.queues.locks c.leave_parent.new.locks parent.rest) (own_kin c.leave_parent.new.locks c.leave_process.new.locks process.relinks) in
-    armed_kin s.queues c.leave_process.new.locks kin (kin_handles s.queues c.leave_process.new.locks kin kept.placed) (kin_rows s.queues c.leave_process.new.locks kin) kept.armed
+    let parent = rw c.slot-at.ensures at c.leave_parent.ensures in
+    let process = rw c.slot-at.ensures at c.leave_process.ensures in
+    let lined = rw c.slot-at.ensures at c.leave_line.ensures in
+    let kin = same_then but_kin s.queues.locks c.leave_process.new.locks c.leave_line.new.locks
+    (same_then but_kin s.queues.locks c.leave_parent.new.locks c.leave_process.new.locks (below_kin s.processes s.queues.locks c.leave_parent.new.locks parent.rest) (own_kin c.leave_parent.new.locks c.leave_process.new.locks process.relinks))
+    (line_kin c.leave_process.new.locks c.leave_line.new.locks lined.rest) in
+    armed_kin s.queues c.leave_line.new.locks kin (kin_handles s.queues c.leave_line.new.locks kin kept.placed) (kin_rows s.queues c.leave_line.new.locks kin) kept.armed
 
 pub invariant_of-self : goal.invariant_of-self
 invariant_of-self c =
     let s = c.self.inside in
     let kept = c.self.invariant in
-    let parent = rw c.slot-2.ensures at c.leave_parent.ensures in
-    let process = rw c.slot-3.ensures at c.leave_process.ensures in
-    let removed = rw c.slot-4.ensures at c.remove.ensures in
+    let parent = rw c.slot-at.ensures at c.leave_parent.ensures in
+    let process = rw c.slot-at.ensures at c.leave_process.ensures in
+    let lined = rw c.slot-at.ensures at c.leave_line.ensures in
+    let removed = rw c.slot-at.ensures at c.remove.ensures in
     let q' = c.remove.new.self in
+    let gone_kin : (k : ℕ) → k ≢ c.args.lock → option_map but_queued (slot_of q'.locks k) ≡ option_map but_queued (slot_of c.leave_process.new.locks k) = λ k differs. removed.kin k differs ∙ line_queued c.leave_process.new.locks c.leave_line.new.locks lined.rest k in
     let stored = rw (← c.self.view_is) at c.requires.stored in
     let none : below_handles s.queues.locks c.args.lock ≡ [] = childless s kept c.args.lock stored.0 stored.1 (rw (← c.self.view_is) at c.requires.childless) in
+    let kin =
+    same_then but_kin s.queues.locks c.leave_process.new.locks c.leave_line.new.locks
+    (same_then but_kin s.queues.locks c.leave_parent.new.locks c.leave_process.new.locks (below_kin s.processes s.queues.locks c.leave_parent.new.locks parent.rest) (own_kin c.leave_parent.new.locks c.leave_process.new.locks process.relinks))
+    (line_kin c.leave_process.new.locks c.leave_line.new.locks lined.rest) in
     record {
       placed = removed.placed;
       tallied = removed.tallied;
       armed = removed.armed;
+      line = line_removed (record s.queues { locks = c.leave_line.new.locks }) q' c.leave_line.new.line c.args.lock (kin_placed s.queues c.leave_line.new.locks kin kept.placed) removed.placed removed.gone removed.line removed.handles lined.line;
       linked = order_linked but_queues (λ r. refl) s.queues.resources q'.resources removed.rest s.order kept.linked;
       ordered = order_whole but_queues (λ r. refl) s.queues.resources q'.resources removed.rest s.order kept.linked kept.ordered;
       locks =
           Indexes-removed nat_eq unsigned_Decides s.lock_index c.swap_remove.new.self c.index.result.now.row.lkid (lkid_at s.queues) (lkid_at q') c.args.lock c.swap_remove.ensures.updates
-          (ap (option_map lkid_of) (rw c.slot.ensures at c.index.ensures)) (ap (option_map lkid_of) removed.gone)
-          (left_lkids s kept c.args.lock none c.leave_parent.new.locks c.leave_process.new.locks q'.locks c.leave_process.new.processes parent.below parent.handles parent.rest process.owned process.handles process.relinks process.rest removed.gone removed.kin) kept.locks;
+          (ap (option_map lkid_of) (rw c.slot-at.ensures at c.index.ensures)) (ap (option_map lkid_of) removed.gone)
+          (left_lkids s kept c.args.lock none c.leave_parent.new.locks c.leave_process.new.locks q'.locks c.leave_process.new.processes parent.below parent.handles parent.rest process.owned process.handles process.relinks process.rest removed.gone gone_kin) kept.locks;
       resources = Indexes-same (get is_same_key s.resource_index) (get is_same_key s.resource_index) (key_at s.queues) (key_at q') (λ k. refl) (keys_same but_queues (λ r. refl) s.queues.resources q'.resources removed.rest) kept.resources;
-      owned = left_owned s kept c.args.lock none c.leave_parent.new.locks c.leave_process.new.locks q'.locks c.leave_process.new.processes parent.below parent.handles parent.rest process.owned process.handles process.relinks process.rest removed.gone removed.kin;
-      below = left_below s kept c.args.lock none c.leave_parent.new.locks c.leave_process.new.locks q'.locks c.leave_process.new.processes parent.below parent.handles parent.rest process.owned process.handles process.relinks process.rest removed.gone removed.kin;
-      named = left_named s kept c.args.lock none c.leave_parent.new.locks c.leave_process.new.locks q'.locks c.leave_process.new.processes parent.below parent.handles parent.rest process.owned process.handles process.relinks process.rest removed.gone removed.kin;
+      owned = left_owned s kept c.args.lock none c.leave_parent.new.locks c.leave_process.new.locks q'.locks c.leave_process.new.processes parent.below parent.handles parent.rest process.owned process.handles process.relinks process.rest removed.gone gone_kin;
+      below = left_below s kept c.args.lock none c.leave_parent.new.locks c.leave_process.new.locks q'.locks c.leave_process.new.processes parent.below parent.handles parent.rest process.owned process.handles process.relinks process.rest removed.gone gone_kin;
+      named = left_named s kept c.args.lock none c.leave_parent.new.locks c.leave_process.new.locks q'.locks c.leave_process.new.processes parent.below parent.handles parent.rest process.owned process.handles process.relinks process.rest removed.gone gone_kin;
       processes_linked = own_process_linked s.processes c.leave_process.new.processes process.rest s.process_order kept.processes_linked;
       processes_ordered = own_process_whole s.processes c.leave_process.new.processes process.rest s.process_order kept.processes_linked kept.processes_ordered;
       processes = Indexes-same (get nat_eq s.process_index) (get nat_eq s.process_index) (pid_at s.processes) (pid_at c.leave_process.new.processes) (λ k. refl) (own_pids s.processes c.leave_process.new.processes process.rest) kept.processes;
@@ -97,16 +120,21 @@ pub returns-clause-removed : goal.returns-clause-removed
 returns-clause-removed c =
     let s = c.self.inside in
     let kept = c.self.invariant in
-    let parent = rw c.slot-2.ensures at c.leave_parent.ensures in
-    let process = rw c.slot-3.ensures at c.leave_process.ensures in
-    let removed = rw c.slot-4.ensures at c.remove.ensures in
+    let parent = rw c.slot-at.ensures at c.leave_parent.ensures in
+    let process = rw c.slot-at.ensures at c.leave_process.ensures in
+    let lined = rw c.slot-at.ensures at c.leave_line.ensures in
+    let removed = rw c.slot-at.ensures at c.remove.ensures in
     let q' = c.remove.new.self in
+    let gone_kin : (k : ℕ) → k ≢ c.args.lock → option_map but_queued (slot_of q'.locks k) ≡ option_map but_queued (slot_of c.leave_process.new.locks k) = λ k differs. removed.kin k differs ∙ line_queued c.leave_process.new.locks c.leave_line.new.locks lined.rest k in
     let stored = rw (← c.self.view_is) at c.requires.stored in
     let none : below_handles s.queues.locks c.args.lock ≡ [] = childless s kept c.args.lock stored.0 stored.1 (rw (← c.self.view_is) at c.requires.childless) in
-    let q2 = record s.queues { locks = c.leave_process.new.locks } in
-    let kin = left_kin s kept c.args.lock none c.leave_parent.new.locks c.leave_process.new.locks q'.locks c.leave_process.new.processes parent.below parent.handles parent.rest process.owned process.handles process.relinks process.rest removed.gone removed.kin in
+    let q2 = record s.queues { locks = c.leave_line.new.locks } in
+    let kin =
+    same_then but_kin s.queues.locks c.leave_process.new.locks c.leave_line.new.locks
+    (left_kin s kept c.args.lock none c.leave_parent.new.locks c.leave_process.new.locks q'.locks c.leave_process.new.processes parent.below parent.handles parent.rest process.owned process.handles process.relinks process.rest removed.gone gone_kin)
+    (line_kin c.leave_process.new.locks c.leave_line.new.locks lined.rest) in
     let old = tables s.queues s.order (beside_shown s) in
-    let s' = record s { queues = q'; processes = c.leave_process.new.processes; lock_index = c.swap_remove.new.self } in
+    let s' = record s { queues = q'; line = c.leave_line.new.line; processes = c.leave_process.new.processes; lock_index = c.swap_remove.new.self } in
     let new = tables q' s.order (beside_shown s') in
     rw (← c.self.view_is)
     (lists_changed_beside old new (leaving c.args.lock) (faces_same s.queues.resources q'.resources removed.rest)
@@ -114,7 +142,7 @@ returns-clause-removed c =
     (λ p. removed.handles p ∙ ap (without c.args.lock) (kin_handles s.queues q2.locks kin kept.placed p)))
     (order_handles but_queues (λ r. refl) s.queues.resources q'.resources removed.rest s.order kept.linked)
     ∙ ap (λ ps. record (with_lists (leaving c.args.lock) (records_of old)) { processes = ps; room = (records_of new).room })
-    (left_processes s kept c.args.lock none c.leave_parent.new.locks c.leave_process.new.locks q'.locks c.leave_process.new.processes parent.below parent.handles parent.rest process.owned process.handles process.relinks process.rest removed.gone removed.kin ∙ ap (map (process_without_lock c.args.lock)) (sym (records_processes old)))
+    (left_processes s kept c.args.lock none c.leave_parent.new.locks c.leave_process.new.locks q'.locks c.leave_process.new.processes parent.below parent.handles parent.rest process.owned process.handles process.relinks process.rest removed.gone gone_kin ∙ ap (map (process_without_lock c.args.lock)) (sym (records_processes old)))
     ∙ ap (λ r. record (without_stored_lock c.args.lock (records_of old)) { room = r })
     (room_shown (λ a b. b ≡ record a { locks = b.locks }) old new
     (rooms_are _ _ _ _ _ _ refl (room_of_same s.queues.resources q'.resources (spare s.resource_index) removed.resources_room) (room_of_same s.processes c.leave_process.new.processes (spare s.process_index) process.processes_room))))
@@ -122,14 +150,15 @@ returns-clause-removed c =
 pub returns-clause-given_back : goal.returns-clause-given_back
 returns-clause-given_back c =
     let s = c.self.inside in
-    let parent = rw c.slot-2.ensures at c.leave_parent.ensures in
-    let process = rw c.slot-3.ensures at c.leave_process.ensures in
-    let removed = rw c.slot-4.ensures at c.remove.ensures in
+    let parent = rw c.slot-at.ensures at c.leave_parent.ensures in
+    let process = rw c.slot-at.ensures at c.leave_process.ensures in
+    let lined = rw c.slot-at.ensures at c.leave_line.ensures in
+    let removed = rw c.slot-at.ensures at c.remove.ensures in
     let q' = c.remove.new.self in
-    let s' = record s { queues = q'; processes = c.leave_process.new.processes; lock_index = c.swap_remove.new.self } in
+    let s' = record s { queues = q'; line = c.leave_line.new.line; processes = c.leave_process.new.processes; lock_index = c.swap_remove.new.self } in
     let stored = rw (← c.self.view_is) at c.requires.stored in
     rw (← c.self.view_is)
     (room_shown (λ a b. IsGivenBack a.locks b.locks) (tables s.queues s.order (beside_shown s)) (tables q' s.order (beside_shown s'))
     (is_given_back s.queues.locks q'.locks c.args.lock (spare s.lock_index) (spare c.swap_remove.new.self)
-    (removed.given_back ∙ ap (λ (p : ℕ × ℕ). (p.0 + 1, c.args.lock)) (process.locks_room ∙ parent.locks_room))
+    (removed.given_back ∙ ap (λ (p : ℕ × ℕ). (p.0 + 1, c.args.lock)) (lined.room ∙ process.locks_room ∙ parent.locks_room))
     (lock_there s c.self.invariant c.args.lock stored.0 stored.1).1 c.swap_remove.ensures.room.0))

@@ -53,6 +53,7 @@ invariant_of-self c =
       placed = kept.placed;
       tallied = kept.tallied;
       armed = kept.armed;
+      line = kept.line;
       linked = kept.linked;
       ordered = kept.ordered;
       locks = kept.locks;

@@ -1,3 +1,4 @@
+use Rattle.vlm_store.proofs.Lined.{line_same}
 use Rattle.vlm_store.specs.Records.{IsGivenBack, without_resource}
 use Rattle.vlm_store.proofs.RoomShown.{room_shown, is_given_back, rooms_are, room_of_same}
 use Rattle.std.proofs.Common.{None, ◌∙◌, ap, sym, refl, nat_eq, ◌≡◌}
@@ -40,6 +41,7 @@ invariant_of-self c =
       placed = gone.placed;
       tallied = gone.tallied;
       armed = gone.armed;
+      line = line_same s.queues.locks q'.locks s.line (λ k. ap (λ l. slot_of l k) gone.locks) kept.line;
       linked = gone.linked;
       ordered = whole_left order_links s.queues.resources q'.resources s.order c.remove_resource.new.order c.args.res kept.ordered gone.order gone.gone
           (λ r differs. there_by_face (slot_of q'.resources r) (slot_of s.queues.resources r) (gone.faces r differs));

@@ -1,3 +1,4 @@
+use Rattle.vlm_store.proofs.Lined.{line_same}
 use Rattle.vlm_store.proofs.RoomShown.{queues_room}
 use Rattle.std.proofs.Common.{None, ap, refl, nat_eq}
 use Rattle.std.specs.Option.{option_map}
@@ -32,6 +33,7 @@ invariant_of-self c =
       placed = set.placed;
       tallied = set.tallied;
       armed = set.armed;
+      line = line_same s.queues.locks q'.locks s.line (λ k. ap (λ l. slot_of l k) set.locks) kept.line;
       linked = order_linked but_value_block (λ r. refl) s.queues.resources q'.resources set.rest s.order kept.linked;
       ordered = order_whole but_value_block (λ r. refl) s.queues.resources q'.resources set.rest s.order kept.linked kept.ordered;
       locks = Indexes-same (get nat_eq s.lock_index) (get nat_eq s.lock_index) (lkid_at s.queues) (lkid_at q') (λ k. refl) (λ x. ap (λ l. option_map lkid_of (slot_of l x)) set.locks) kept.locks;

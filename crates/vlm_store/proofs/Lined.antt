@@ -1,0 +1,186 @@
+-- The list of the locks whose requests are queued: what stays of it as locks come, go and move.
+use Rattle.std.proofs.Common.{◌≡◌, ◌≢◌, ◌⊎◌, ℕ, [], ◌∷◌, ◌++◌, Option, None, Some, IsSome, refl, sym, ap, ◌∙◌, subst, inl, inr}
+use Rattle.std.proofs.lemmas.Bool.{cases_eq}
+use Rattle.std.proofs.lemmas.Option.{none-some, same_Some}
+use Rattle.std.specs.Option.{option_map}
+use Rattle.slab.specs.Slab.{Slab, get, ContainsKey}
+use Rattle.vlm_links.specs.declared.lists.LinkedList.{LinkedList}
+use Rattle.vlm_links.specs.Lists.{IsIn, IsLinked, IsNoList, Relinks, next_in, prev_in, without}
+use Rattle.vlm_links.proofs.HandleLists.{IsIn-push_kept, IsIn-push_last, IsIn-without_kept}
+use Rattle.vlm_links.proofs.Keeping.{relinked_same, vacant_unlisted}
+use Rattle.vlm_links.proofs.Rings.{kept-handles, kept-linked}
+use Rattle.vlm_records.specs.declared.handles.Place.{Place}
+use Rattle.vlm_records.specs.declared.handles.Place.TheVariants.{Loose, Queued}
+use Rattle.vlm_records.specs.declared.locks.InLine.{InLine}
+use Rattle.vlm_records.specs.declared.locks.Lock.{Lock}
+use Rattle.vlm_records.specs.declared.queues.Queues.{Queues}
+use Rattle.vlm_records.specs.Kin.{but_below, with_own_links}
+use Rattle.vlm_records.specs.Line.{IsLine, line_handles, line_in, line_links, line_of}
+use Rattle.vlm_records.specs.Shown.{IsPlaced, SameBut, but_in_line, but_kin, but_queued, handles_at, noted, noted_in}
+use Rattle.vlm_records.proofs.Families.{family-empty, family-grown, family-kept, family-shrunk}
+use Rattle.vlm_records.proofs.Lining.{unqueued_joined}
+use Rattle.vlm_records.proofs.Places.{by_part, place_cases, there_by_part, through}
+
+-- ---- what the records tell of the list
+
+-- the neighbours of a record
+next_by : (a b : Option Lock) → option_map line_links a ≡ option_map line_links b → next_in line_links a ≡ next_in line_links b
+next_by None None same = refl
+next_by None (Some l) same = cc
+next_by (Some l) None same = cc
+next_by (Some l) (Some l') same = ap (λ x. x.next) (same_Some l.in_line l'.in_line same)
+
+prev_by : (a b : Option Lock) → option_map line_links a ≡ option_map line_links b → prev_in line_links a ≡ prev_in line_links b
+prev_by None None same = refl
+prev_by None (Some l) same = cc
+prev_by (Some l) None same = cc
+prev_by (Some l) (Some l') same = ap (λ x. x.prev) (same_Some l.in_line l'.in_line same)
+
+-- whether it stands in it, by the place that it notes
+abbrev line_at : Option Place → Option (Unit {0})
+line_at None = None
+line_at (Some p) = line_of p
+
+line_noted : (slot : Option Lock) → line_in slot ≡ line_at (noted_in slot)
+line_noted None = refl
+line_noted (Some l) = refl
+
+pub line_by_place : (a b : Option Lock) → noted_in a ≡ noted_in b → line_in a ≡ line_in b
+line_by_place a b same = line_noted a ∙ ap line_at same ∙ sym (line_noted b)
+
+-- a lock that stands where it stood notes what it noted
+module _ (q q' : Queues) (placed : IsPlaced q None) (placed' : IsPlaced q' None) (k : ℕ) (links : option_map line_links (get q'.locks k) ≡ option_map line_links (get q.locks k))
+    (stays : (p : Place) → IsIn k (handles_at q p) → IsIn k (handles_at q' p)) where
+  none_by : (a b : Option Lock) → option_map line_links a ≡ option_map line_links b → b ≡ None → noted_in a ≡ None
+  none_by None b same is = refl
+  none_by (Some l) b same is = absurd (none-some l.in_line (sym (ap (option_map line_links) is) ∙ sym same))
+
+  by_slot : (slot : Option Lock) → get q.locks k ≡ slot → noted q' k ≡ noted_in slot
+  by_slot None is = none_by (get q'.locks k) (get q.locks k) links is
+  by_slot (Some l) is = placed'.listed l.place k (stays l.place (placed.stands l.place k (λ e. none-some k (sym e)) (ap noted_in is)))
+
+  pub noted_still : line_in (get q'.locks k) ≡ line_in (get q.locks k)
+  noted_still = line_by_place (get q'.locks k) (get q.locks k) (by_slot (get q.locks k) refl)
+
+-- ---- the list stays
+
+-- where each record keeps its neighbours and notes what it noted
+pub line_stays : (locks locks' : Slab Lock) (line : LinkedList InLine) (out : Option ℕ) → SameBut line_links locks locks' → ((k : ℕ) → line_in (get locks' k) ≡ line_in (get locks k)) → IsLine locks line out
+    → IsLine locks' line out
+line_stays locks locks' line out links notes is =
+    family-kept line_links line_in locks (λ i. line) out is locks' (λ i. line) (λ i. refl) (λ i k _. next_by (get locks' k) (get locks k) (links k)) (λ i k _. prev_by (get locks' k) (get locks k) (links k))
+    (λ i k _. there_by_part line_links (get locks' k) (get locks k) (links k)) notes
+
+-- and where just the one that is taken out may note something else
+pub line_stays_but : (locks locks' : Slab Lock) (line : LinkedList InLine) (at : ℕ) → SameBut line_links locks locks' → ((k : ℕ) → k ≢ at → line_in (get locks' k) ≡ line_in (get locks k)) → IsLine locks line (Some at)
+    → IsLine locks' line (Some at)
+line_stays_but locks locks' line at links notes is =
+    record {
+      linked = λ i.
+          kept-linked line_links locks locks' line (is.linked i) (λ k _. next_by (get locks' k) (get locks k) (links k)) (λ k _. prev_by (get locks' k) (get locks k) (links k))
+          (λ k _. there_by_part line_links (get locks' k) (get locks k) (links k));
+      listed = λ i k found.
+          let was = subst (IsIn k) handles found in
+          notes k (λ e. is.gone i k (ap Some e) was) ∙ is.listed i k was;
+      stands = λ i k differs noted_so. subst (IsIn k) (sym handles) (is.stands i k differs (sym (notes k (λ e. differs (ap Some e))) ∙ noted_so));
+      gone = λ i k e found. is.gone i k e (subst (IsIn k) handles found);
+    }
+  where
+    handles : line_handles locks' line ≡ line_handles locks line
+    handles =
+        kept-handles line_links locks locks' line (is.linked tt) (λ k _. next_by (get locks' k) (get locks k) (links k)) (λ k _. prev_by (get locks' k) (get locks k) (links k))
+        (λ k _. there_by_part line_links (get locks' k) (get locks k) (links k))
+
+-- ---- locks join and leave their processes and their parents
+
+links-below : (slot : Option Lock) → option_map line_links (option_map but_below slot) ≡ option_map line_links slot
+links-below None = refl
+links-below (Some l) = refl
+
+notes-below : (slot : Option Lock) → line_in (option_map but_below slot) ≡ line_in slot
+notes-below None = refl
+notes-below (Some l) = refl
+
+pub line_below : (locks locks' : Slab Lock) (line : LinkedList InLine) → SameBut but_below locks locks' → IsLine locks line None → IsLine locks' line None
+line_below locks locks' line same = line_stays locks locks' line None (through but_below (option_map line_links) links-below locks locks' same) (through but_below line_in notes-below locks locks' same)
+
+pub line_own : (locks locks' : Slab Lock) (line : LinkedList InLine) → Relinks with_own_links locks locks' → IsLine locks line None → IsLine locks' line None
+line_own locks locks' line relinks =
+    line_stays locks locks' line None (relinked_same with_own_links (option_map line_links) (λ l pair. refl) locks locks' relinks) (relinked_same with_own_links line_in (λ l pair. refl) locks locks' relinks)
+
+-- room is made, or nothing is done to locks
+pub line_same : (locks locks' : Slab Lock) (line : LinkedList InLine) → ((k : ℕ) → get locks' k ≡ get locks k) → IsLine locks line None → IsLine locks' line None
+line_same locks locks' line same = line_stays locks locks' line None (λ k. ap (option_map line_links) (same k)) (λ k. ap line_in (same k))
+
+-- nothing is there
+pub empty_line : (locks : Slab Lock) (line : LinkedList InLine) → IsNoList line → ((k : ℕ) → get locks k ≡ None) → IsLine locks line None
+empty_line locks line empty none = family-empty line_links line_in locks (λ i. line) (λ i. empty) none (λ i is. none-some i is)
+
+-- ---- a lock leaves the list or joins it: the other lists see nothing of it
+
+pub line_kin : (locks locks' : Slab Lock) → SameBut but_in_line locks locks' → SameBut but_kin locks locks'
+line_kin locks locks' same k = by_part but_in_line (option_map but_kin) again (get locks' k) (get locks k) (same k)
+  where
+    again : (slot : Option Lock) → option_map but_kin (option_map but_in_line slot) ≡ option_map but_kin slot
+    again None = refl
+    again (Some l) = refl
+
+pub line_queued : (locks locks' : Slab Lock) → SameBut but_in_line locks locks' → SameBut but_queued locks locks'
+line_queued locks locks' same k = by_part but_in_line (option_map but_queued) again (get locks' k) (get locks k) (same k)
+  where
+    again : (slot : Option Lock) → option_map but_queued (option_map but_in_line slot) ≡ option_map but_queued slot
+    again None = refl
+    again (Some l) = refl
+
+-- ---- a lock is armed no more
+
+pub line_disarmed : (q q' : Queues) (line : LinkedList InLine) → IsPlaced q None → IsPlaced q' None → SameBut line_links q.locks q'.locks → ((p : Place) → handles_at q' p ≡ handles_at q p) → IsLine q.locks line None
+    → IsLine q'.locks line None
+line_disarmed q q' line placed placed' links handles =
+    line_stays q.locks q'.locks line None links (λ k. noted_still q q' placed placed' k (links k) (λ p. subst (IsIn k) (sym (handles p))))
+
+-- ---- a lock moves that is taken out
+
+pub line_moved : (q q' : Queues) (line : LinkedList InLine) (at : ℕ) (to : Place) → IsPlaced q None → IsPlaced q' None → SameBut line_links q.locks q'.locks
+    → handles_at q' to ≡ without at (handles_at q to) ++ at ∷ [] → ((p : Place) → p ≢ to → handles_at q' p ≡ without at (handles_at q p)) → IsLine q.locks line (Some at) → IsLine q'.locks line (Some at)
+line_moved q q' line at to placed placed' links here elsewhere =
+    line_stays_but q.locks q'.locks line at links (λ k differs. noted_still q q' placed placed' k (links k) (stays k differs))
+  where
+    stays : (k : ℕ) → k ≢ at → (p : Place) → IsIn k (handles_at q p) → IsIn k (handles_at q' p)
+    stays k differs p found =
+        elim (place_cases p to) [
+          | inl is ↦
+              subst (λ x. IsIn k (handles_at q' x)) (sym is)
+              (subst (IsIn k) (sym here) (IsIn-push_kept at k (without at (handles_at q to)) (IsIn-without_kept at k (handles_at q to) (subst (λ x. IsIn k (handles_at q x)) is found) differs)))
+          | inr other ↦ subst (IsIn k) (sym (elsewhere p other)) (IsIn-without_kept at k (handles_at q p) found differs)
+        ]
+
+-- ---- a lock goes that is taken out
+
+pub line_removed : (q q' : Queues) (line : LinkedList InLine) (at : ℕ) → IsPlaced q None → IsPlaced q' None → get q'.locks at ≡ None
+    → ((k : ℕ) → k ≢ at → option_map line_links (get q'.locks k) ≡ option_map line_links (get q.locks k)) → ((p : Place) → handles_at q' p ≡ without at (handles_at q p)) → IsLine q.locks line (Some at)
+    → IsLine q'.locks line None
+line_removed q q' line at placed placed' gone links handles is =
+    family-shrunk line_links line_in q.locks (λ i. line) (Some at) is q'.locks (λ i. line) (λ i. refl) at (λ i. is.gone i at refl) (λ k differs. next_by (get q'.locks k) (get q.locks k) (links k differs))
+    (λ k differs. prev_by (get q'.locks k) (get q.locks k) (links k differs)) (λ k differs. there_by_part line_links (get q'.locks k) (get q.locks k) (links k differs))
+    (λ k differs. noted_still q q' placed placed' k (links k differs) (λ p found. subst (IsIn k) (sym (handles p)) (IsIn-without_kept at k (handles_at q p) found differs)))
+    (λ i noted_so. none-some i (sym (ap line_in gone) ∙ noted_so)) refl
+
+-- ---- a lock comes
+
+pub line_added : (q q' : Queues) (line : LinkedList InLine) (at : ℕ) → IsPlaced q None → IsPlaced q' None → get q.locks at ≡ None
+    → ((k : ℕ) → k ≢ at → option_map line_links (get q'.locks k) ≡ option_map line_links (get q.locks k)) → handles_at q' Loose ≡ handles_at q Loose ++ at ∷ []
+    → ((p : Place) → p ≢ Loose → handles_at q' p ≡ handles_at q p) → IsLine q.locks line None → IsLine q'.locks line None
+line_added q q' line at placed placed' fresh links here elsewhere is =
+    unqueued_joined q'.locks line at
+    (family-grown line_links line_in q.locks (λ i. line) None is q'.locks (λ i. line) (λ i. refl) at (λ i. vacant_unlisted line_links q.locks line (is.linked i) at fresh)
+    (λ k differs. next_by (get q'.locks k) (get q.locks k) (links k differs)) (λ k differs. prev_by (get q'.locks k) (get q.locks k) (links k differs))
+    (λ k differs. there_by_part line_links (get q'.locks k) (get q.locks k) (links k differs)) (λ k differs. noted_still q q' placed placed' k (links k differs) (stays k)) refl)
+    (line_noted (get q'.locks at) ∙ ap line_at (placed'.listed Loose at (subst (IsIn at) (sym here) (IsIn-push_last at (handles_at q Loose)))))
+  where
+    stays : (k : ℕ) (p : Place) → IsIn k (handles_at q p) → IsIn k (handles_at q' p)
+    stays k p found =
+        elim (place_cases p Loose) [
+          | inl loose ↦ subst (λ x. IsIn k (handles_at q' x)) (sym loose) (subst (IsIn k) (sym here) (IsIn-push_kept at k (handles_at q Loose) (subst (λ x. IsIn k (handles_at q x)) loose found)))
+          | inr other ↦ subst (IsIn k) (sym (elsewhere p other)) found
+        ]
