@@ -16,6 +16,7 @@ pub mod Marked
 pub mod Members
 pub mod Order
 pub mod Plain
+pub mod QueuedSeen
 pub mod Records
 pub mod Rewriting
 pub mod RoomShown

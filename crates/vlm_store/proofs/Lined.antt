@@ -37,11 +37,11 @@ prev_by (Some l) None same = cc
 prev_by (Some l) (Some l') same = ap (λ x. x.prev) (same_Some l.in_line l'.in_line same)
 
 -- whether it stands in it, by the place that it notes
-abbrev line_at : Option Place → Option (Unit {0})
+abbrev pub line_at : Option Place → Option (Unit {0})
 line_at None = None
 line_at (Some p) = line_of p
 
-line_noted : (slot : Option Lock) → line_in slot ≡ line_at (noted_in slot)
+pub line_noted : (slot : Option Lock) → line_in slot ≡ line_at (noted_in slot)
 line_noted None = refl
 line_noted (Some l) = refl
 

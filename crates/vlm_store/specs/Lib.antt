@@ -4,6 +4,7 @@ pub mod Index
 pub mod Kept
 pub mod Pending
 pub mod Plain
+pub mod Queued
 pub mod Records
 pub mod Store
 pub mod Total

@@ -20,8 +20,10 @@ pub mod laws;
 mod neighbours;
 mod owners;
 mod pending;
+mod queued;
 mod store;
 
+pub use queued::QueuedLocks;
 pub use store::Store;
 pub use vlm_records::{
     Authorization, Lock, LockAt, LockKind, Place, ProcAt, Process, ProcessKind, ResAt, Resource,

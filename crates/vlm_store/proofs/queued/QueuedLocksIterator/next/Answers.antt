@@ -1,0 +1,29 @@
+use Rattle.std.proofs.Common.{rules, ◌≡◌, ◌∷◌, Some, ap, sym, ◌∙◌}
+use Rattle.vlm_links.specs.Lists.{IsIn, handle_after}
+use Rattle.vlm_links.proofs.Walks.{handle_after-in}
+use Rattle.vlm_records.specs.Line.{line_handles}
+use Rattle.vlm_store.specs.Queued.{handles_on}
+use Rattle.vlm_store.proofs.QueuedSeen.{on_next}
+use Rattle.vlm_store.proofs.queued.QueuedLocksIterator.next.Goals as goal
+
+pub of-requires : goal.of-requires
+of-requires c = c.self.invariant.linked.within c.in_ok-at.at (c.self.invariant.listed c.in_ok-at.at c.in_ok-at.was)
+
+pub invariant_of-self : goal.invariant_of-self
+invariant_of-self c = record {
+  linked = c.self.invariant.linked;
+  listed = λ next is. handle_after-in c.in_ok-at.at (line_handles c.self.inside.locks.now c.self.inside.line) next (sym is ∙ c.next-self-inside.ensures);
+}
+
+pub returns-clause-steps : goal.returns-clause-steps
+returns-clause-steps c =
+    let handles = line_handles c.self.inside.locks.now c.self.inside.line in
+    sym c.self.view_is ∙ ap (λ next. handles_on next handles) c.in_ok-at.was
+    ∙ on_next c.in_ok-at.at handles c.self.invariant.linked.apart (c.self.invariant.listed c.in_ok-at.at c.in_ok-at.was)
+    ∙ ap (λ at. at ∷ handles_on (handle_after c.in_ok-at.at handles) handles) (sym c.of.ensures)
+    ∙ ap (λ next. c.of.result ∷ handles_on next handles) (sym c.next-self-inside.ensures)
+
+pub returns-clause-goes : goal.returns-clause-goes
+returns-clause-goes c =
+    let steps : c.args.self.now ≡ c.of.result ∷ handles_on c.next-self-inside.result (line_handles c.self.inside.locks.now c.self.inside.line) = returns-clause-steps c in
+    rw steps (search rules)

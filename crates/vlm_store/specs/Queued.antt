@@ -1,0 +1,27 @@
+-- The locks whose requests are queued, and a walk along their list.
+use Rattle.std.specs.Prelude.{◌≡◌, ◌==◌, ℕ, true, List, [], ◌∷◌, Option, None, Some, if◌then◌else◌}
+use Rattle.std.specs.Option.{ForSome}
+use Rattle.slab.specs.Slab.{Slab}
+use Rattle.vlm_links.specs.declared.lists.LinkedList.{LinkedList}
+use Rattle.vlm_links.specs.Lists.{IsIn, IsLinked}
+use Rattle.vlm_words.specs.declared.locks.Row.{Row}
+use Rattle.vlm_records.specs.declared.handles.Place.{Place}
+use Rattle.vlm_records.specs.declared.locks.InLine.{InLine}
+use Rattle.vlm_records.specs.declared.locks.Lock.{Lock}
+use Rattle.vlm_records.specs.Line.{is_queued, line_handles, line_links}
+use Rattle.vlm_store.specs.Records.{Records, locks_at}
+
+-- a lock of this handle stands in a conversion or waiting queue
+abbrev pub IsQueued : ℕ → Records → Type 0
+IsQueued at s = (place : Place) × (row : Row) × ((is_queued place ≡ true) × IsIn (record { at = at; row = row }) (locks_at place s))
+
+-- the handle and those that follow it, or none
+abbrev pub handles_on : Option ℕ → List ℕ → List ℕ
+handles_on None handles = []
+handles_on (Some at) [] = []
+handles_on (Some at) (first ∷ rest) = if first == at then first ∷ rest else handles_on (Some at) rest
+
+-- the list is linked, and what comes next is of it
+pub record IsOnLine (locks : Slab Lock) (line : LinkedList InLine) (next : Option ℕ) : Type 0 where
+  pub linked : IsLinked line_links locks line
+  pub listed : ForSome next (λ at. IsIn at (line_handles locks line))

@@ -1,0 +1,64 @@
+//! The locks whose requests are queued, of all resources.
+
+ghost use Rattle.std.specs.Prelude.{ℕ};
+ghost use Rattle.std.specs.Iterator.{YieldsFirst, item_count};
+ghost use Rattle.vlm_links.specs.Lists.{IsIn};
+ghost use Rattle.vlm_store.specs.Queued.{IsQueued};
+
+use crate::store::Store;
+use slab::Slab;
+use std::marker::Model;
+use vlm_links::LinkedList;
+use vlm_records::{InLine, Lock, LockAt};
+
+/// A walk along the locks whose requests are queued. It is seen as the list of those that are left.
+#[derive(Drop)]
+pub struct QueuedLocks<'a> {
+    // the records through which the list runs
+    locks: &'a Slab<Lock>,
+    // the list of all of them
+    line: LinkedList<InLine>,
+    // the one that comes next, if one is left
+    next: Option<usize>,
+}
+
+impl<'a> Model for QueuedLocks<'a> {
+    ghost use Rattle.std.specs.Prelude.{ℕ, List};
+
+    ghost Value = { List ℕ };
+
+    ghost use Rattle.vlm_records.specs.Line.{line_handles};
+    ghost use Rattle.vlm_store.specs.Queued.{IsOnLine, handles_on};
+
+    ghost view = { λ w. handles_on w.next (line_handles w.locks.now w.line) };
+
+    ghost invariant = { λ w. IsOnLine w.locks.now w.line w.next };
+}
+
+impl<'a> Iterator for QueuedLocks<'a> {
+    type Item = LockAt;
+
+    ghost next_gives = { YieldsFirst (λ left. left) };
+
+    ghost remaining = { item_count (λ left. left) };
+
+    fn next(&mut self) -> Option<LockAt> {
+        let at = self.next?;
+        self.next = self.line.next(self.locks, at);
+        Some(LockAt::of(at))
+    }
+}
+
+impl Store {
+    /// The locks whose requests are queued, of all resources, in the order in which they were queued.
+    pub fn queued_locks(&self) -> QueuedLocks<'_>
+        ensures queued { (at : ℕ) → IsIn at result → IsQueued at self.now }
+        ensures all { (at : ℕ) → IsQueued at self.now → IsIn at result }
+    {
+        QueuedLocks {
+            locks: &self.queues.locks,
+            line: self.line,
+            next: self.line.first(&self.queues.locks),
+        }
+    }
+}
