@@ -1,10 +1,10 @@
 -- The best of what is looked at.
-use Rattle.std.proofs.Common.{◌≡◌, ◌<◌, ℕ, List, [], ◌∷◌, ◌++◌, map, flat_map, length, Option, None, Some, IfSome, IsSome, refl, sym, ap, ◌∙◌, subst, inl, inr, arith}
+use Rattle.std.proofs.Common.{◌≡◌, ℕ, List, [], ◌∷◌, ◌++◌, map, flat_map, Option, None, Some, refl, sym, ap, ◌∙◌, subst, inl, inr, arith}
 use Rattle.std.specs.Prelude.{Any}
 use Rattle.std.proofs.lemmas.Option.{same_Some}
 use Rattle.vlm_words.specs.declared.locks.Row.{Row}
 use Rattle.vlm_words.specs.Deadlocks.{IsDeadlocked, LeadsTo, ProcessWaitsFor, WaitsFor, WaitsOn, queue_of, wanted_number}
-use Rattle.vlm_words.specs.State.{Resource, State}
+use Rattle.vlm_words.specs.State.{State}
 use Rattle.vlm_links.specs.Lists.{IsIn}
 use Rattle.vlm_store.specs.Plain.{plain_resource, plain_resources}
 use Rattle.vlm_store.specs.Records.{Records, StoredResource}
@@ -85,21 +85,6 @@ not_later s row best earlier = record {
     of_best : (b : Option Standing) (x : Row) → IsNotLater x b → IsCovered s b x
     of_best None x less = absurd less
     of_best (Some b) x less = λ dead. less
-
--- ---- resources
-
--- one resource is passed
-pub record PassesOne (conv wait : List Row) (rest left : List Resource) : Type 0 where
-  pub rows : flat_map queue_of left ≡ (conv ++ wait) ++ flat_map queue_of rest
-  pub fewer : length rest < length left
-
-pub passes_one : (o : Option Resource) (conv wait : List Row) (rest left : List Resource) → IsSome o → IfSome o (λ r. left ≡ r ∷ rest)
-    → IfSome o (λ r. conv ≡ r.converting) → IfSome o (λ r. wait ≡ r.waiting) → PassesOne conv wait rest left
-passes_one None conv wait rest left some is conv_is wait_is = cc
-passes_one (Some r) conv wait rest left some is conv_is wait_is = record {
-  rows = ap (flat_map queue_of) is ∙ ap (λ xs. (xs ++ r.waiting) ++ flat_map queue_of rest) (sym conv_is) ∙ ap (λ ys. (conv ++ ys) ++ flat_map queue_of rest) (sym wait_is);
-  fewer = rw is (omega arith);
-}
 
 -- ---- the victim
 

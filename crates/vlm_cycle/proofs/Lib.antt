@@ -8,3 +8,4 @@ pub mod Found
 pub mod Peaks
 pub mod Ranked
 pub mod Noted
+pub mod Led

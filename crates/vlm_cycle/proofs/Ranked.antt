@@ -1,5 +1,5 @@
 -- What ranks say of requests: where no process waits for one of a higher rank.
-use Rattle.std.proofs.Common.{◌≡◌, ◌⊎◌, ℕ, ◌<◌, ◌≤◌, ◌+◌, true, false, Bool, List, [], ◌∷◌, ◌++◌, Option, None, Some, IsSome, flat_map, refl, sym, ap, ◌∙◌, subst, inl, inr, arith, eq-eqb, ne_eqb}
+use Rattle.std.proofs.Common.{◌≡◌, ◌⊎◌, ℕ, ◌<◌, ◌≤◌, ◌+◌, true, false, Bool, List, [], ◌∷◌, ◌++◌, Option, None, Some, IsSome, refl, sym, ap, ◌∙◌, subst, inl, inr, arith, eq-eqb, ne_eqb}
 use Rattle.std.specs.Prelude.{find, ◌==◌}
 use Rattle.std.specs.Option.{option_map_or}
 use Rattle.std.proofs.lemmas.Bool.{cases_eq}
@@ -8,10 +8,9 @@ use Rattle.vlm_words.specs.declared.locks.Row.{Row}
 use Rattle.vlm_words.specs.declared.modes.Mode.{Mode}
 use Rattle.vlm_words.specs.declared.resources.Queue.{Queue}
 use Rattle.vlm_words.specs.declared.resources.Queue.TheVariants.{Granted, Conversion, Waiting}
-use Rattle.vlm_words.specs.Deadlocks.{BlocksThoseBehind, HoldsAgainst, IsDeadlocked, LeadsTo, WaitsFor, queue_of}
+use Rattle.vlm_words.specs.Deadlocks.{BlocksThoseBehind, HoldsAgainst, IsDeadlocked, LeadsTo, WaitsFor}
 use Rattle.vlm_words.specs.Flags.{flag_bits, has_flag, nodlckwt}
 use Rattle.vlm_links.specs.Lists.{IsIn}
-use Rattle.vlm_store.specs.Plain.{plain_resources}
 use Rattle.vlm_records.specs.declared.handles.Place.TheVariants.{Queued}
 use Rattle.vlm_store.specs.Records.{AreProcessesApart, HasResource, IsProcess, IsSound, Records, StoredLock, StoredProcess, StoredResource, Stores, at_after, locks_at, queued, resource_at, rows_of_locks}
 use Rattle.vlm_store.proofs.Walks.{at_lock}
@@ -26,7 +25,6 @@ use Rattle.vlm_cycle.specs.declared.ranks.Ranks.{Ranks}
 use Rattle.vlm_cycle.specs.Ranking.{CountsHeld, CountsHolders, Falls, FallsOn, HasPassed, IsAboveAll, IsGaugeAt, IsGaugeOf, Passes, PassesOne, rank_at, rank_of}
 use Rattle.vlm_cycle.specs.Waiting.{IsWaitedFor, OwnsBefore, OwnsBlocker, OwnsHolder, OwnsKeeper, rows_before, searched}
 use Rattle.vlm_cycle.proofs.Keeping.{none_waited, none_wanted, waited_keeps}
-use Rattle.vlm_cycle.proofs.Found.{waiting_queued}
 use Rattle.vlm_cycle.proofs.Listed.{in_either}
 use Rattle.vlm_cycle.proofs.Walked.{before_step}
 
@@ -289,11 +287,3 @@ falls_both s ranks xs ys first second row lock there waits = elim (in_either row
   | inl left ↦ first row lock left waits
   | inr right ↦ second row lock right waits
 ]
-
--- where all queued requests fall, no process waits for one of a higher rank
-pub falls_all : (s : Records) (ranks : Ranks) → FallsOn s ranks (flat_map queue_of (plain_resources s)) → Falls s ranks
-falls_all s ranks on row lock waits = on row lock (waiting_queued s row lock waits) waits
-
--- none fall where there are none
-pub falls_none : (s : Records) (ranks : Ranks) (rows : List Row) → rows ≡ [] → FallsOn s ranks rows
-falls_none s ranks rows is row lock there waits = absurd (subst (IsIn row) is there)

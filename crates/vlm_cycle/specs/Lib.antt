@@ -1,5 +1,6 @@
 pub mod Marking
 pub mod Waiting
 pub mod Finding
+pub mod Leading
 pub mod Ranking
 pub mod Notes

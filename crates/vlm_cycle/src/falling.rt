@@ -1,21 +1,23 @@
 //! Whether no process waits for one of a higher rank.
 
-ghost use Rattle.std.specs.Prelude.{◌≡◌, ◌+◌, ◌≤◌, ◌++◌, [], false, true};
+ghost use Rattle.std.specs.Prelude.{◌≡◌, ◌+◌, ◌≤◌, ◌++◌, ℕ, true};
 ghost use Rattle.vlm_words.specs.declared.resources.Queue.{Queue};
-ghost use Rattle.vlm_store.specs.Records.{HasResource, Records};
+ghost use Rattle.vlm_store.specs.Records.{HasResource, IsStored, Records};
 ghost use Rattle.vlm_queue.specs.Walks.{rows_queued};
 ghost use Rattle.vlm_locks.specs.Standing.{IsStanding};
 ghost use Rattle.vlm_cycle.specs.Finding.{StandsIfAny};
+ghost use Rattle.vlm_cycle.specs.Leading.{IsFirstOn, rows_in_line};
 ghost use Rattle.vlm_cycle.specs.Ranking.{Falls, FallsOn, IsGaugeOf, Passes};
 
 use crate::finding::is_later;
 use crate::gauge::Gauge;
 use crate::judging::{Judged, gauge_of, judge, standing_in};
+use crate::leading::resource_led;
 use crate::ranks::Ranks;
 use vlm_locks::Standing;
-use vlm_queue::{first_resource, head, next, next_resource};
+use vlm_queue::{head, next};
 use vlm_store::laws::law_records_are_sound;
-use vlm_store::{ResAt, Store};
+use vlm_store::{LockAt, ResAt, Store};
 use vlm_words::resources::Queue;
 
 /// What a pass over all queued requests has found.
@@ -75,15 +77,6 @@ fn fall_of_queue(
     fall
 }
 
-/// Whether some request is queued on a resource.
-pub(crate) fn has_queued(store: &Store, res: ResAt) -> bool
-    requires { HasResource res store.now }
-    ensures { result ≡ false → rows_queued res Queue.Conversion store.now
-        ++ rows_queued res Queue.Waiting store.now ≡ [] }
-{
-    head(store, res, Queue::Conversion).is_some() || head(store, res, Queue::Waiting).is_some()
-}
-
 // Takes in the requests of a resource.
 fn fall_of_resource(store: &Store, ranks: &Ranks, res: ResAt, fall: Fall) -> Fall
     requires there { HasResource res store.now }
@@ -93,12 +86,24 @@ fn fall_of_resource(store: &Store, ranks: &Ranks, res: ResAt, fall: Fall) -> Fal
         (rows_queued res Queue.Conversion store.now ++ rows_queued res Queue.Waiting store.now) }
     ensures stands { StandsIfAny store.now result.guess }
 {
-    if !has_queued(store, res) {
-        return fall;
-    }
     let mut gauge = gauge_of(store, ranks, res);
     let converting = fall_of_queue(store, ranks, &mut gauge, res, Queue::Conversion, fall);
     fall_of_queue(store, ranks, &mut gauge, res, Queue::Waiting, converting)
+}
+
+// Takes in the requests of the resource on which a lock is the first in line, if it is.
+fn fall_of_led(store: &Store, ranks: &Ranks, lock: LockAt, fall: Fall) -> Fall
+    requires stored { IsStored lock store.now }
+    requires stands { StandsIfAny store.now fall.guess }
+    ensures before { result.falls ≡ true → fall.falls ≡ true }
+    ensures falls { result.falls ≡ true → (res : ℕ) → IsFirstOn store.now lock res
+        → FallsOn store.now ranks.now (rows_in_line res store.now) }
+    ensures stands { StandsIfAny store.now result.guess }
+{
+    match resource_led(store, lock) {
+        Some(res) => fall_of_resource(store, ranks, res, fall),
+        None => fall,
+    }
 }
 
 /// Looks whether no process waits for one of a higher rank, and guesses the victim. The cost grows with the locks of the
@@ -112,10 +117,8 @@ pub(crate) fn fall_of_all(store: &Store, ranks: &Ranks) -> Fall
         falls: true,
         guess: None,
     };
-    let mut at = first_resource(store);
-    while let Some(res) = at {
-        fall = fall_of_resource(store, ranks, res, fall);
-        at = next_resource(store, res);
+    for lock in store.queued_locks() {
+        fall = fall_of_led(store, ranks, lock, fall);
     }
     fall
 }

@@ -3,27 +3,29 @@
 ghost use Rattle.std.specs.Prelude.{◌≡◌, ◌<◌, ◌++◌, ℕ, true, [], ◌∷◌};
 ghost use Rattle.std.specs.Bool.{OnFalse, OnTrue};
 ghost use Rattle.vlm_words.specs.Deadlocks.{wanted_number};
-ghost use Rattle.vlm_store.specs.Records.{HasResource};
+ghost use Rattle.vlm_store.specs.Records.{HasResource, IsStored};
 ghost use Rattle.vlm_words.specs.declared.resources.Queue.{Queue};
 ghost use Rattle.vlm_queue.specs.Walks.{rows_queued};
 ghost use Rattle.vlm_locks.specs.Rest.{IsAtRest};
 ghost use Rattle.vlm_locks.specs.Standing.{IsStanding};
 ghost use Rattle.vlm_cycle.specs.Finding.{Improves, IsFit, IsLater, IsNotLater, IsVictimOf, StandsIfAny};
+ghost use Rattle.vlm_cycle.specs.Leading.{IsFirstOn, rows_in_line};
 ghost use Rattle.vlm_cycle.specs.Marking.{KeepsRoom};
 ghost use Rattle.vlm_cycle.specs.Ranking.{Falls, IsGaugeOf, Passes, rank_of};
 ghost use Rattle.vlm_cycle.specs.Waiting.{IsRoomy, IsWaitedFor};
 ghost use Rattle.vlm_words.specs.declared.locks.Row.{Row};
 
-use crate::falling::{fall_of_all, has_queued};
+use crate::falling::fall_of_all;
 use crate::gauge::Gauge;
 use crate::judging::{Judged, gauge_of, judge, standing_in};
+use crate::leading::resource_led;
 use crate::ranking::rank_processes;
 use crate::scratch::Scratch;
 use crate::searching::is_deadlocked;
 use vlm_locks::Standing;
-use vlm_queue::{first_resource, head, next, next_resource};
+use vlm_queue::{head, next};
 use vlm_store::laws::law_records_are_sound;
-use vlm_store::{ResAt, Store};
+use vlm_store::{LockAt, ResAt, Store};
 use vlm_words::locks::Row;
 use vlm_words::resources::Queue;
 
@@ -146,9 +148,6 @@ fn best_of_resource(
     ensures room { KeepsRoom scratch.old scratch.new }
     ensures ranks { scratch.new.ranks ≡ scratch.old.ranks }
 {
-    if !has_queued(store, res) {
-        return best;
-    }
     let mut gauge = gauge_of(store, &scratch.ranks, res);
     let first = best_of_queue(
         store,
@@ -170,9 +169,33 @@ fn best_of_resource(
     )
 }
 
+// The best of before, or a better one of the resource on which a lock is the first in line, if it is.
+fn best_of_led(
+    store: &Store,
+    scratch: &mut Scratch,
+    falls: bool,
+    lock: LockAt,
+    best: Option<Standing>,
+) -> Option<Standing>
+    requires rest { IsAtRest store.now }
+    requires stored { IsStored lock store.now }
+    requires roomy { IsRoomy store.now scratch.old }
+    requires falls { falls ≡ true → Falls store.now scratch.old.ranks }
+    ensures kept { Improves store.now [] best result }
+    ensures improves { (res : ℕ) → IsFirstOn store.now lock res
+        → Improves store.now (rows_in_line res store.now) best result }
+    ensures room { KeepsRoom scratch.old scratch.new }
+    ensures ranks { scratch.new.ranks ≡ scratch.old.ranks }
+{
+    match resource_led(store, lock) {
+        Some(res) => best_of_resource(store, scratch, falls, res, best),
+        None => best,
+    }
+}
+
 /// The lock of the deadlocked request that was made last, if some request is deadlocked. It takes no memory. The cost grows
-/// with the locks, and for each request that the ranks of processes leave in doubt with the locks of the processes that it
-/// is found to lead to.
+/// with the queued requests and the locks of their resources, with the processes where there are such requests, and for each
+/// request that the ranks of processes leave in doubt with the locks of the processes that it is found to lead to.
 pub fn victim(store: &Store, scratch: &mut Scratch) -> Option<Standing>
     requires rest { IsAtRest store.now }
     requires roomy { IsRoomy store.now scratch.old }
@@ -184,10 +207,8 @@ pub fn victim(store: &Store, scratch: &mut Scratch) -> Option<Standing>
     rank_processes(store, &mut scratch.ranks);
     let fall = fall_of_all(store, &scratch.ranks);
     let mut best = best_guess(store, scratch, fall.guess);
-    let mut at = first_resource(store);
-    while let Some(res) = at {
-        best = best_of_resource(store, scratch, fall.falls, res, best);
-        at = next_resource(store, res);
+    for lock in store.queued_locks() {
+        best = best_of_led(store, scratch, fall.falls, lock, best);
     }
     best
 }

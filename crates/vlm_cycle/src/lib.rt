@@ -13,6 +13,7 @@ mod falling;
 mod finding;
 mod gauge;
 mod judging;
+mod leading;
 mod marking;
 mod notes;
 mod ranking;

@@ -10,15 +10,15 @@
 //! Nothing is promised of the ranks. Whoever uses them checks them.
 
 ghost use Rattle.std.specs.Option.{ForSome};
-ghost use Rattle.vlm_store.specs.Records.{HasResource, IsStored, Records};
+ghost use Rattle.vlm_store.specs.Records.{IsStored, Records};
 ghost use Rattle.vlm_cycle.specs.Notes.{AreNotes, IsNote, IsThere, IsWalk, IsWanting};
 
 use crate::notes::Part;
 use crate::ranks::{Note, Ranks};
 use crate::wanting::{Wanting, covers_those_before, wanting_of};
-use vlm_queue::{first_resource, head, next, next_resource};
+use vlm_queue::{head, next};
 use vlm_store::laws::law_records_are_sound;
-use vlm_store::{LockAt, ProcAt, ResAt, Store};
+use vlm_store::{LockAt, ProcAt, Store};
 use vlm_words::resources::Queue;
 
 /// How far the walk has come.
@@ -292,27 +292,14 @@ fn walk_from(store: &Store, ranks: &mut Ranks, walk: Walk, root: ProcAt) -> Walk
     walk
 }
 
-// The walk goes to all that the owners of a queue lead to.
-fn walk_from_queue(store: &Store, ranks: &mut Ranks, walk: Walk, res: ResAt, queue: Queue) -> Walk
-    requires there { HasResource res store.now }
-    requires walk { IsWalk store.now walk }
-    requires notes { AreNotes store.now ranks.old }
-    ensures walk { IsWalk store.now result }
-    ensures notes { AreNotes store.now ranks.new }
-{
-    let mut walk = walk;
-    let mut at = head(store, res, queue);
-    while let Some(lock) = at {
-        walk = walk_from(store, ranks, walk, store.lock_record(lock).owner);
-        at = next(store, lock);
-    }
-    walk
-}
-
 /// Ranks the processes that own queued requests, and those that these lead to: none waits for one of a higher rank, and
 /// two have one rank where each leads to the other. Others have rank 0. It takes no memory. The cost grows with the
-/// resources, the processes, and for each process with its locks and what it looks at for each of its queued requests.
+/// queued requests and, where there are such, with the processes, and for each process with its locks and what it looks at
+/// for each of its queued requests.
 pub(crate) fn rank_processes(store: &Store, ranks: &mut Ranks) {
+    if store.queued_locks().next().is_none() {
+        return;
+    }
     ranks.clear();
     let mut walk = Walk {
         process: None,
@@ -320,10 +307,8 @@ pub(crate) fn rank_processes(store: &Store, ranks: &mut Ranks) {
         found: 0,
         closed: 0,
     };
-    let mut at = first_resource(store);
-    while let Some(res) = at {
-        walk = walk_from_queue(store, ranks, walk, res, Queue::Conversion);
-        walk = walk_from_queue(store, ranks, walk, res, Queue::Waiting);
-        at = next_resource(store, res);
+    for lock in store.queued_locks() {
+        let owner = store.lock_record(lock).owner;
+        walk = walk_from(store, ranks, walk, owner);
     }
 }

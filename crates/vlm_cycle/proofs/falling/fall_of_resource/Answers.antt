@@ -1,13 +1,7 @@
 use Rattle.vlm_words.specs.declared.resources.Queue.TheVariants.{Conversion, Waiting}
-use Rattle.std.proofs.Common.{◌++◌}
 use Rattle.vlm_queue.specs.Walks.{rows_queued}
-use Rattle.vlm_cycle.proofs.Ranked.{falls_both, falls_none, gauge_next}
+use Rattle.vlm_cycle.proofs.Ranked.{falls_both, gauge_next}
 use Rattle.vlm_cycle.proofs.falling.fall_of_resource.Goals as goal
-
-pub returns-then-not-has_queued-clause-falls : goal.returns-then-not-has_queued-clause-falls
-returns-then-not-has_queued-clause-falls c is =
-    let s = c.args.store.now in
-    falls_none s c.args.ranks.now (rows_queued c.args.res Conversion s ++ rows_queued c.args.res Waiting s) (c.has_queued.ensures c.if-not-has_queued.true)
 
 pub fall_of_queue-requires-clause-gauge : goal.fall_of_queue-requires-clause-gauge
 fall_of_queue-requires-clause-gauge c =

@@ -1,17 +1,11 @@
 use Rattle.std.proofs.Common.{◌∙◌, subst, sym}
 use Rattle.vlm_words.specs.declared.resources.Queue.TheVariants.{Conversion, Waiting}
 use Rattle.vlm_queue.specs.Walks.{rows_queued}
-use Rattle.vlm_cycle.specs.Finding.{Improves}
 use Rattle.vlm_cycle.specs.Ranking.{Falls, IsGaugeOf}
-use Rattle.vlm_cycle.proofs.Found.{improves_both, improves_none}
+use Rattle.vlm_cycle.proofs.Found.{improves_both}
 use Rattle.vlm_cycle.proofs.Marked.{roomy_still}
 use Rattle.vlm_cycle.proofs.Ranked.{gauge_next}
 use Rattle.vlm_cycle.proofs.finding.best_of_resource.Goals as goal
-
-pub returns-then-not-has_queued-clause-improves : goal.returns-then-not-has_queued-clause-improves
-returns-then-not-has_queued-clause-improves c =
-    let s = c.args.store.now in
-    subst (λ rows. Improves s rows c.args.best c.args.best) (sym (c.has_queued.ensures c.if-not-has_queued.true)) (improves_none s c.args.best)
 
 pub best_of_queue-requires-clause-roomy : goal.best_of_queue-requires-clause-roomy
 best_of_queue-requires-clause-roomy c =

@@ -1,23 +1,24 @@
-use Rattle.std.proofs.Common.{Some}
-use Rattle.vlm_words.specs.declared.resources.Queue.TheVariants.{Conversion, Waiting}
-use Rattle.vlm_queue.specs.Walks.{resource_of, resources_left, rows_queued}
-use Rattle.vlm_queue.proofs.Walking.{is_there, rows_plain}
+use Rattle.std.proofs.Common.{inl, inr, refl, subst, sym}
+use Rattle.vlm_links.specs.Lists.{IsIn}
 use Rattle.vlm_cycle.specs.Notes.{IsThere}
-use Rattle.vlm_cycle.proofs.Found.{passes_one}
+use Rattle.vlm_cycle.proofs.Led.{queued_is_stored}
 use Rattle.vlm_cycle.proofs.Noted.{none_there}
 use Rattle.vlm_cycle.proofs.ranking.rank_processes.Goals as goal
 
-pub loop-at-init : goal.loop-at-init
-loop-at-init c = record {
-  there = c.first_resource-at.ensures.there;
+pub loop-lock-init : goal.loop-lock-init
+loop-lock-init c = record {
+  queued = λ at found. c.queued_locks-lock-items.ensures.queued at (subst (IsIn at) c.into_iter-lock-iterator.ensures.into_iter_gives found);
   walk = record { process = none_there (IsThere c.args.store.now); opened = none_there (IsThere c.args.store.now) };
   notes = c.clear.ensures c.args.store.now;
 }
 
-pub loop-at-smaller : goal.loop-at-smaller
-loop-at-smaller c =
-    let s = c.args.store.now in
-    let res = c.in-Some.res in
-    let one = passes_one (resource_of res s) (rows_queued res Conversion s) (rows_queued res Waiting s) (resources_left c.next_resource-at.result s) (resources_left (Some res) s)
-    (is_there res s (c.loop-at.invariant.there res c.in-Some.is)) c.next_resource-at.ensures.left (rows_plain res Conversion s) (rows_plain res Waiting s) in
-    rw c.in-Some.is one.fewer
+pub lock_record-requires : goal.lock_record-requires
+lock_record-requires c =
+    queued_is_stored c.args.store.now c.in-Some.lock (c.loop-lock.invariant.queued c.in-Some.lock (subst (IsIn c.in-Some.lock) (sym c.in-Some.ensures.steps) (inl refl)))
+
+pub loop-lock-preserved : goal.loop-lock-preserved
+loop-lock-preserved c = record {
+  queued = λ at found. c.loop-lock.invariant.queued at (subst (IsIn at) (sym c.in-Some.ensures.steps) (inr found));
+  walk = c.walk_from-walk.ensures.walk;
+  notes = c.walk_from-walk.ensures.notes;
+}

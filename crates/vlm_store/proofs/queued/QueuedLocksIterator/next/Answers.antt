@@ -1,5 +1,5 @@
-use Rattle.std.proofs.Common.{rules, ◌≡◌, ◌∷◌, Some, ap, sym, ◌∙◌}
-use Rattle.vlm_links.specs.Lists.{IsIn, handle_after}
+use Rattle.std.proofs.Common.{rules, ◌≡◌, ◌∷◌, ap, sym, ◌∙◌}
+use Rattle.vlm_links.specs.Lists.{handle_after}
 use Rattle.vlm_links.proofs.Walks.{handle_after-in}
 use Rattle.vlm_records.specs.Line.{line_handles}
 use Rattle.vlm_store.specs.Queued.{handles_on}
