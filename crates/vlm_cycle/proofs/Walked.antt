@@ -1,5 +1,5 @@
 -- Walks of a queue that find the owners of its locks.
-use Rattle.std.proofs.Common.{◌≡◌, ◌≢◌, ◌⊎◌, ℕ, ◌<◌, List, [], ◌∷◌, length, refl, sym, ap, ◌∙◌, subst, inl, inr, arith, eq-eqb, ne_eqb}
+use Rattle.std.proofs.Common.{◌≡◌, ◌≢◌, ◌⊎◌, ℕ, List, [], ◌∷◌, refl, sym, ap, ◌∙◌, subst, inl, inr, eq-eqb, ne_eqb}
 use Rattle.vlm_words.specs.declared.locks.Row.{Row}
 use Rattle.vlm_words.specs.declared.modes.Mode.{Mode}
 use Rattle.vlm_words.specs.Deadlocks.{BlocksThoseBehind}
@@ -8,10 +8,6 @@ use Rattle.vlm_cycle.specs.declared.scratch.Scratch.{Scratch}
 use Rattle.vlm_cycle.specs.Marking.{Marks}
 use Rattle.vlm_cycle.specs.Waiting.{IsHolder, OwnsBlocker, OwnsHolder, rows_before}
 use Rattle.vlm_cycle.proofs.Marked.{GoesOn, goes_step}
-
--- fewer are left behind a row
-pub fewer_rows : (row : Row) (rest left : List Row) → left ≡ row ∷ rest → length rest < length left
-fewer_rows row rest left is = rw is (omega arith)
 
 -- a holder more is looked at
 pub holders_on : (lkid : ℕ) (mode : Mode) (row : Row) (left rest all : List Row) (initial now after : Scratch) → left ≡ row ∷ rest

@@ -2,6 +2,7 @@ pub mod Completing
 pub mod Strangers
 pub mod Living
 pub mod Accounting
+pub mod ConvertsOnce
 pub mod Falling
 pub mod Raising
 pub mod Warning

@@ -1,7 +1,7 @@
 -- What is due to a process rises by its own requests alone.
-use Rattle.std.proofs.Common.{◌≡◌, ◌≤◌, ◌+◌, ◌++◌, ℕ, Bool, true, false, not, List, [], ◌∷◌, map, cond, length, length-append, Option, None, Some, inl, inr, refl, sym, subst, ap, arith}
+use Rattle.std.proofs.Common.{◌≡◌, ◌≤◌, ◌+◌, ◌++◌, ℕ, Bool, true, false, not, List, [], ◌∷◌, cond, length, length-append, Option, None, Some, inl, inr, refl, sym, subst, ap, arith}
 use Rattle.std.specs.Prelude.{◌==◌}
-use Rattle.std.specs.List.{find, sum_by}
+use Rattle.std.specs.List.{sum_by}
 use Rattle.std.proofs.lemmas.Bool.{and_parts, eqb-true}
 use Rattle.std.proofs.lemmas.List.Sums.{sum_by-append, sum_by-cons, sum_by_push}
 use Rattle.vlm_words.specs.declared.asts.Ast.{Ast}
@@ -16,6 +16,7 @@ use Rattle.vlm_words.specs.declared.steps.NewRequest.{NewRequest}
 use Rattle.vlm_words.specs.declared.steps.Step.TheVariants.{Declare, SetValue, Enq, Convert, Deq, Rundown, Leave, Search, Take}
 use Rattle.vlm_words.specs.declared.steps.Step.{Step}
 use Rattle.vlm_words.specs.State.{Node, Resource, State}
+use Rattle.vlm_words.specs.Endings.{Ending}
 use Rattle.vlm_words.specs.Effects.{with_value_block}
 use Rattle.vlm_words.specs.Grants.{grant_endings, granted_row, resource_after_grant}
 use Rattle.vlm_words.specs.Sweeps.{sweep_asts}
@@ -25,25 +26,24 @@ use Rattle.vlm_words.specs.SetValue.{set_change}
 use Rattle.vlm_words.specs.Take.{take_change}
 use Rattle.vlm_words.specs.Trees.{enq_site}
 use Rattle.vlm_words.specs.Enqueue.{enq_at_once, enq_change, enq_endings, enq_row}
-use Rattle.vlm_words.specs.Convert.{ConversionAdmission, admission_among, admission_or, conversion_endings, convert_admission, convert_blocks, convert_change, convert_lkid, convert_request, converts_at_once, resource_after_conversion, resource_after_conversion_of, resource_without_granted, wanting_row}
+use Rattle.vlm_words.specs.Convert.{ConversionAdmission, conversion_endings, convert_admission, convert_blocks, convert_change, convert_lkid, convert_request, resource_after_conversion_of, resource_without_granted, wanting_row}
 use Rattle.vlm_words.specs.Dequeue.{deq_change, deq_endings, withdrawals_of}
 use Rattle.vlm_words.specs.Rundown.{is_ended_by, is_of_node, nodes_after_departure, rundown_endings, rundowns, state_after_rundown}
 use Rattle.vlm_words.specs.Dues.{due, due_to, one_where, routines_named, routines_of}
 use Rattle.vlm_words.specs.Taking.{AstsAfter, queued_to}
 use Rattle.vlm_words.specs.Stepped.{IsChoice, Outcome, Stepped, conversion_change, end_of_processes, outcome_queued, refused_or, step_change, step_refusal, stepped, stepped_after_sweep}
 use Rattle.vlm_words.specs.Runs.{History, Run, begin, next}
-use Rattle.vlm_words.proofs.EndsOnce.{absent_unchanged}
-use Rattle.vlm_words.proofs.Admissions.{admitted_request, some_same}
+use Rattle.vlm_words.proofs.Admissions.{admitted_request}
 use Rattle.vlm_words.proofs.Always.{admission_of}
-use Rattle.vlm_words.proofs.Apart.{Apart, apart_always, standing, stands}
-use Rattle.vlm_words.proofs.Counts.{found_stands}
-use Rattle.vlm_words.proofs.Each.{Found, found_at}
+use Rattle.vlm_words.proofs.Apart.{Apart, apart_always}
+use Rattle.vlm_words.proofs.Each.{Found}
 use Rattle.vlm_words.proofs.Sums.{sum_filter_but-le}
 use Rattle.vlm_words.proofs.Weights.{weigh}
 use Rattle.vlm_words.proofs.Together.{dequeues_apart, rundowns_apart}
 use Rattle.vlm_laws.specs.Accounting.{taken_in}
 use Rattle.vlm_laws.specs.Raising.{NoMoreIsQueuedThanNamed, OnlyOwnRequestsRaiseDues, routines_asked, routines_named_in}
 use Rattle.vlm_laws.proofs.Accounting.{TakesInOrder, taken_and_left}
+use Rattle.vlm_laws.proofs.ConvertsOnce.{ConvertsWithin, all_convert}
 use Rattle.vlm_laws.proofs.Falling.{calls, calls_many, entered_among_falls, grant_falls, many, many-append, own, swept_falls, withdrawals_fall}
 use Rattle.vlm_words.specs.Search.{victim_withdrawals, search_change, search_endings}
 use Rattle.vlm_words.proofs.Victims.{victims_apart}
@@ -91,50 +91,6 @@ converted_row_falls pid request at_once caller lkid block r row at =
       | false ↦ omega (arith, fewer, owner, wanting, sum_by_push (due_to pid) r.converting (wanting_row row request))
     ]
 
--- what is due once the lock converts, with the call that a grant at once brings
-abbrev ConvertsWithin : ℕ → Request → ℕ → ℕ → ValueBlock → ConversionAdmission → List Resource → Type 0
-ConvertsWithin pid request caller lkid block a resources =
-    sum_by (weigh (due_to pid)) (map (resource_after_conversion request a.at_once caller lkid block) resources) + sum_by (calls pid) (conversion_endings a)
-    ≤ sum_by (weigh (due_to pid)) resources + asked pid caller request
-
--- where a lock has one row, its conversion is asked for once: on its resource, or on those behind it
-here_or_behind : (pid : ℕ) (request : Request) (caller lkid : ℕ) (block : ValueBlock) (r : Resource) (rest : List Resource)
-    (a : ConversionAdmission) (found : Option Row)
-    → find (is_lock_of caller lkid) r.granted ≡ found → standing lkid (r ∷ rest) ≤ 1
-    → (admission_among request caller lkid rest ≡ Some a → ConvertsWithin pid request caller lkid block a rest)
-    → admission_or request r found (admission_among request caller lkid rest) ≡ Some a
-    → weigh (due_to pid) (resource_after_conversion_of request a.at_once lkid block r found)
-    + sum_by (weigh (due_to pid)) (map (resource_after_conversion request a.at_once caller lkid block) rest)
-    + sum_by (calls pid) (conversion_endings a)
-    ≤ weigh (due_to pid) r + sum_by (weigh (due_to pid)) rest + asked pid caller request
-here_or_behind pid request caller lkid block r rest a None is one behind at = omega (arith, behind at)
-here_or_behind pid request caller lkid block r rest a (Some row) is one behind at =
-    let at_row : Found (is_lock_of caller lkid) r.granted row = found_at (is_lock_of caller lkid) r.granted row is in
-    let here : ConversionAdmission = record { resource = r; row = row; request = request; at_once = converts_at_once request row.lkid r } in
-    let same : Some here ≡ Some a = at in
-    let its : sum_by (calls pid) (cond a.at_once (grant_endings true (wanting_row row request)) []) ≡ sum_by (calls pid) (conversion_endings a) =
-    ap (λ (b : ConversionAdmission). sum_by (calls pid) (cond a.at_once (grant_endings true (wanting_row b.row b.request)) [])) (some_same here a same) in
-    let falls = converted_row_falls pid request a.at_once caller lkid block r row at_row in
-    let absent : standing lkid rest ≡ 0 =
-    omega (arith, sum_by-cons (weigh (stands lkid)) r rest, found_stands caller lkid r.granted row at_row) in
-    omega (arith, falls, its, ap (sum_by (weigh (due_to pid))) (absent_unchanged request a.at_once caller lkid block rest absent))
-
-all_converted_fall : (pid : ℕ) (request : Request) (caller lkid : ℕ) (block : ValueBlock) (a : ConversionAdmission) (resources : List Resource)
-    → standing lkid resources ≤ 1 → admission_among request caller lkid resources ≡ Some a → ConvertsWithin pid request caller lkid block a resources
-unfolding resource_after_conversion
-all_converted_fall pid request caller lkid block a [] one at = cc
-all_converted_fall pid request caller lkid block a (r ∷ rest) one at =
-    let fewer : standing lkid rest ≤ 1 = omega (arith, sum_by-cons (weigh (stands lkid)) r rest) in
-    let all = here_or_behind pid request caller lkid block r rest a (find (is_lock_of caller lkid) r.granted) refl one
-    (λ behind. all_converted_fall pid request caller lkid block a rest fewer behind) at in
-    omega (
-      arith,
-      all,
-      sum_by-cons (weigh (due_to pid)) r rest,
-      sum_by-cons (weigh (due_to pid)) (resource_after_conversion request a.at_once caller lkid block r)
-          (map (resource_after_conversion request a.at_once caller lkid block) rest),
-    )
-
 -- ---- the steps
 
 -- what is due to each process, with what is queued to it, was due or is asked for
@@ -176,11 +132,11 @@ conversion_as_asked s c a apart admitted pid =
     let lkid : ℕ = convert_lkid s c in
     let block : ValueBlock = (convert_blocks s c a).value_block in
     let request : a.request ≡ convert_request s c = admitted_request (convert_request s c) c.pid lkid a s.resources admitted in
-    let falls : sum_by (weigh (due_to pid)) (map (resource_after_conversion a.request a.at_once c.pid lkid block) s.resources) + sum_by (calls pid) (conversion_endings a)
-    ≤ sum_by (weigh (due_to pid)) s.resources + asked pid c.pid (convert_request s c) =
-    subst (λ (q : Request). sum_by (weigh (due_to pid)) (map (resource_after_conversion q a.at_once c.pid lkid block) s.resources) + sum_by (calls pid) (conversion_endings a)
-    ≤ sum_by (weigh (due_to pid)) s.resources + asked pid c.pid (convert_request s c)) (sym request)
-    (all_converted_fall pid (convert_request s c) c.pid lkid block a s.resources (apart.one_row lkid) admitted) in
+    let asks : List Ending → ℕ = λ _. asked pid c.pid (convert_request s c) in
+    let falls : ConvertsWithin (due_to pid) (sum_by (calls pid)) asks a.request c.pid lkid block a s.resources =
+    subst (λ (q : Request). ConvertsWithin (due_to pid) (sum_by (calls pid)) asks q c.pid lkid block a s.resources) (sym request)
+    (all_convert (due_to pid) (sum_by (calls pid)) asks (convert_request s c) c.pid lkid block
+    (λ at_once r row at. converted_row_falls pid (convert_request s c) at_once c.pid lkid block r row at) a s.resources (apart.one_row lkid) admitted) in
     omega (arith, falls, calls_many pid (conversion_endings a))
 
 -- a dequeue

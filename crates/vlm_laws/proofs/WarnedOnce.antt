@@ -1,7 +1,7 @@
 -- A grant arms its lock at most, and a warning disarms it.
 use Rattle.std.proofs.Common.{◌≡◌, ◌≤◌, ◌+◌, ◌++◌, ◌&&◌, ℕ, Bool, true, false, not, List, [], ◌∷◌, map, cond, Option, None, Some, inl, inr, refl, sym, subst, ap, arith}
 use Rattle.std.specs.Prelude.{◌==◌}
-use Rattle.std.specs.List.{find, flat_map, sum_by}
+use Rattle.std.specs.List.{flat_map, sum_by}
 use Rattle.std.proofs.lemmas.Bool.{and_parts, cond_both}
 use Rattle.std.proofs.lemmas.List.Filters.{sum_by-filter_both}
 use Rattle.std.proofs.lemmas.List.Sums.{sum_by-append, sum_by-cons, sum_by_push}
@@ -32,24 +32,23 @@ use Rattle.vlm_words.specs.SetValue.{set_change}
 use Rattle.vlm_words.specs.Take.{take_change}
 use Rattle.vlm_words.specs.Trees.{enq_site}
 use Rattle.vlm_words.specs.Enqueue.{enq_at_once, enq_change, enq_endings, enq_row, resource_after_entry, resources_after_entry}
-use Rattle.vlm_words.specs.Convert.{ConversionAdmission, admission_among, admission_or, conversion_endings, convert_admission, convert_blocks, convert_change, convert_lkid, convert_request, converts_at_once, resource_after_conversion, resource_after_conversion_of, resource_without_granted, wanting_row}
+use Rattle.vlm_words.specs.Convert.{ConversionAdmission, conversion_endings, convert_admission, convert_blocks, convert_change, convert_lkid, convert_request, resource_after_conversion_of, resource_without_granted, wanting_row}
 use Rattle.vlm_words.specs.Withdrawals.{Withdrawal, is_held_by_writer, resource_after_cancel, resource_after_going, resource_after_withdrawals, resource_after_writer, resource_without, row_after_cancel, value_block_after_writer, withdrawn_endings}
 use Rattle.vlm_words.specs.Dequeue.{deq_change, withdrawals_of}
 use Rattle.vlm_words.specs.Rundown.{is_ended_by, is_of_node, nodes_after_departure, rundown_endings, rundowns, state_after_rundown}
 use Rattle.vlm_words.specs.Stepped.{Outcome, Stepped, conversion_change, end_of_processes, outcome_endings, outcome_queued, refused_or, step_change, step_refusal, stepped_after_sweep}
 use Rattle.vlm_words.specs.Runs.{History, Run, begin, next}
-use Rattle.vlm_words.proofs.Admissions.{admitted_request, some_same}
+use Rattle.vlm_words.proofs.Admissions.{admitted_request}
 use Rattle.vlm_words.proofs.Always.{admission_of, withdrawal_of_all}
-use Rattle.vlm_words.proofs.Apart.{Apart, apart_always, standing, stands}
-use Rattle.vlm_words.proofs.Counts.{found_stands}
-use Rattle.vlm_words.proofs.Each.{Found, found_at}
+use Rattle.vlm_words.proofs.Apart.{Apart, apart_always}
+use Rattle.vlm_words.proofs.Each.{Found}
 use Rattle.vlm_words.proofs.Sums.{sum_changed-le, sum_filter-le, sum_filter_but-le, sum_of_one, sum_of_zeros, sum_same}
 use Rattle.vlm_words.proofs.Weights.{dropped_weighs, weigh}
 use Rattle.vlm_words.proofs.Withdrawing.{kept_withdrawn}
 use Rattle.vlm_laws.specs.WarnedOnce.{EachGrantIsWarnedAtMostOnce, is_armed_lock, is_grant_to_warn, is_warning_of, tells_warning}
+use Rattle.vlm_laws.proofs.ConvertsOnce.{ConvertsWithin, all_convert}
 use Rattle.vlm_laws.proofs.Completing.{each_completion}
 use Rattle.vlm_laws.proofs.Falling.{is_armed}
-use Rattle.vlm_words.proofs.EndsOnce.{absent_unchanged}
 use Rattle.vlm_words.specs.Search.{victim_withdrawals, search_change, victim_lkid}
 
 -- 1 for a warning of the lock
@@ -293,49 +292,6 @@ converted_row_arms lkid request at_once caller named block r row at =
       | false ↦ omega (arith, fewer, wanting, sum_by_push (armed lkid) r.converting (wanting_row row request))
     ]
 
--- what is armed once the lock converts was armed, or is given by its grant at once
-abbrev ConvertsWithin : ℕ → Request → ℕ → ℕ → ValueBlock → ConversionAdmission → List Resource → Type 0
-ConvertsWithin lkid request caller named block a resources =
-    sum_by (weigh (armed lkid)) (map (resource_after_conversion request a.at_once caller named block) resources)
-    ≤ sum_by (weigh (armed lkid)) resources + sum_by (given lkid) (conversion_endings a)
-
--- where a lock has one row, it converts once: on its resource, or on those behind it
-here_or_behind : (lkid : ℕ) (request : Request) (caller named : ℕ) (block : ValueBlock) (r : Resource) (rest : List Resource)
-    (a : ConversionAdmission) (found : Option Row)
-    → find (is_lock_of caller named) r.granted ≡ found → standing named (r ∷ rest) ≤ 1
-    → (admission_among request caller named rest ≡ Some a → ConvertsWithin lkid request caller named block a rest)
-    → admission_or request r found (admission_among request caller named rest) ≡ Some a
-    → weigh (armed lkid) (resource_after_conversion_of request a.at_once named block r found)
-    + sum_by (weigh (armed lkid)) (map (resource_after_conversion request a.at_once caller named block) rest)
-    ≤ weigh (armed lkid) r + sum_by (weigh (armed lkid)) rest + sum_by (given lkid) (conversion_endings a)
-here_or_behind lkid request caller named block r rest a None is one behind at = omega (arith, behind at)
-here_or_behind lkid request caller named block r rest a (Some row) is one behind at =
-    let at_row : Found (is_lock_of caller named) r.granted row = found_at (is_lock_of caller named) r.granted row is in
-    let here : ConversionAdmission = record { resource = r; row = row; request = request; at_once = converts_at_once request row.lkid r } in
-    let same : Some here ≡ Some a = at in
-    let its : sum_by (given lkid) (cond a.at_once (grant_endings true (wanting_row row request)) []) ≡ sum_by (given lkid) (conversion_endings a) =
-    ap (λ (b : ConversionAdmission). sum_by (given lkid) (cond a.at_once (grant_endings true (wanting_row b.row b.request)) [])) (some_same here a same) in
-    let arms = converted_row_arms lkid request a.at_once caller named block r row at_row in
-    let absent : standing named rest ≡ 0 =
-    omega (arith, sum_by-cons (weigh (stands named)) r rest, found_stands caller named r.granted row at_row) in
-    omega (arith, arms, its, ap (sum_by (weigh (armed lkid))) (absent_unchanged request a.at_once caller named block rest absent))
-
-all_converted_arm : (lkid : ℕ) (request : Request) (caller named : ℕ) (block : ValueBlock) (a : ConversionAdmission) (resources : List Resource)
-    → standing named resources ≤ 1 → admission_among request caller named resources ≡ Some a → ConvertsWithin lkid request caller named block a resources
-unfolding resource_after_conversion
-all_converted_arm lkid request caller named block a [] one at = cc
-all_converted_arm lkid request caller named block a (r ∷ rest) one at =
-    let fewer : standing named rest ≤ 1 = omega (arith, sum_by-cons (weigh (stands named)) r rest) in
-    let all = here_or_behind lkid request caller named block r rest a (find (is_lock_of caller named) r.granted) refl one
-    (λ behind. all_converted_arm lkid request caller named block a rest fewer behind) at in
-    omega (
-      arith,
-      all,
-      sum_by-cons (weigh (armed lkid)) r rest,
-      sum_by-cons (weigh (armed lkid)) (resource_after_conversion request a.at_once caller named block r)
-          (map (resource_after_conversion request a.at_once caller named block) rest),
-    )
-
 -- ---- withdrawals arm nothing
 
 left_armed : (lkid : ℕ) (w : Withdrawal) (r : Resource) → weigh (armed lkid) (resource_after_writer w r) ≡ weigh (armed lkid) r
@@ -413,9 +369,11 @@ conversion_given lkid s c a apart admitted =
     let named : ℕ = convert_lkid s c in
     let block : ValueBlock = (convert_blocks s c a).value_block in
     let request : a.request ≡ convert_request s c = admitted_request (convert_request s c) c.pid named a s.resources admitted in
-    let arms : ConvertsWithin lkid a.request c.pid named block a s.resources =
-    subst (λ (q : Request). ConvertsWithin lkid q c.pid named block a s.resources) (sym request)
-    (all_converted_arm lkid (convert_request s c) c.pid named block a s.resources (apart.one_row named) admitted) in
+    let none : List Ending → ℕ = λ _. 0 in
+    let arms : ConvertsWithin (armed lkid) none (sum_by (given lkid)) a.request c.pid named block a s.resources =
+    subst (λ (q : Request). ConvertsWithin (armed lkid) none (sum_by (given lkid)) q c.pid named block a s.resources) (sym request)
+    (all_convert (armed lkid) none (sum_by (given lkid)) (convert_request s c) c.pid named block
+    (λ at_once r row at. omega (arith, converted_row_arms lkid (convert_request s c) at_once c.pid named block r row at)) a s.resources (apart.one_row named) admitted) in
     omega (arith, arms, all_complete lkid (conversion_endings a))
 
 -- locks that are withdrawn

@@ -1,5 +1,5 @@
 -- Walks over the resources, and over the rows of a queue: where they begin, what is left at each, and how they go on.
-use Rattle.std.proofs.Common.{◌≡◌, ℕ, List, [], ◌∷◌, map, Option, None, Some, IfSome, IsSome, refl, sym, ap, ◌∙◌, inl, inr, eq-eqb, ne_eqb}
+use Rattle.std.proofs.Common.{◌≡◌, ◌<◌, ℕ, arith, length, List, [], ◌∷◌, map, Option, None, Some, IfSome, IsSome, refl, sym, ap, ◌∙◌, inl, inr, eq-eqb, ne_eqb}
 use Rattle.std.specs.Option.{ForSome, option_map, option_map_or}
 use Rattle.std.proofs.lemmas.Bool.{cases_eq}
 use Rattle.vlm_words.specs.declared.locks.Row.{Row}
@@ -98,6 +98,10 @@ pub record Passes (res : ℕ) (queue : Queue) (lock : ℕ) (next : Option ℕ) (
   pub stored : Stores s lock row
   pub left : rows_left res queue (Some lock) s ≡ row ∷ rows_left res queue next s
   pub there : IsInQueue res queue next s
+
+-- fewer are left behind a row
+pub fewer_rows : (row : Row) (rest left : List Row) → left ≡ row ∷ rest → length rest < length left
+fewer_rows row rest left is = rw is (omega arith)
 
 -- a walk that has come to a lock goes on to the one that follows it
 pub passes : (s : Records) (res : ℕ) (queue : Queue) (lock : ℕ) (next : Option ℕ) → IsSound s → IsInQueue res queue (Some lock) s

@@ -9,13 +9,14 @@
 //! the list of each it is linked by a pair of links of its own; what is in no queue is in the list of the
 //! loose locks. The ends of these lists are in the records that have them: three queues in a resource, own
 //! locks in a process, sublocks in a lock. A granted lock that is armed stands in one list more, that of the armed locks of
-//! its resource, in the order of the granted queue. Resources and processes are linked in order of making. A resource
-//! counts its locks in a tally, so a lock that moves leaves the armed ones, is counted out, linked anew and counted in, and
-//! joins the armed ones at their end, if it is armed.
+//! its resource, in the order of the granted queue; and one whose request is queued in the line, the list of all such
+//! locks, of whichever resource. Resources and processes are linked in order of making. A resource counts its locks in a
+//! tally, so a lock that moves leaves the armed ones, is counted out, linked anew and counted in, and joins the armed ones
+//! at their end, if it is armed.
 //!
 //! `Queues` has the slabs of locks and resources, and the lists of a resource (`queues`, `counts`, `armed`). The lists
-//! of own locks and of sublocks are linked beside it (`kin`), since the slab of processes is its owner's, as are the two
-//! orders of making. Nothing here takes memory, and nothing finds a record by its identification or its key: there
+//! of own locks and of sublocks are linked beside it (`kin`), since the slab of processes is its owner's, as are the line
+//! (`line`) and the two orders of making. Nothing here takes memory, and nothing finds a record by its identification or its key: there
 //! is room for what is added, and who calls has the handle.
 #![tactic(auto)]
 

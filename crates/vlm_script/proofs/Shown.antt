@@ -25,10 +25,6 @@ pub fewer_left : (o : Option Resource) (rest left : List Resource) → IsSome o 
 fewer_left None rest left there one = cc
 fewer_left (Some r) rest left there one = rw one (omega arith)
 
--- behind a row fewer are left
-pub fewer_rows : (row : Row) (rest left : List Row) → left ≡ row ∷ rest → length rest < length left
-fewer_rows row rest left one = rw one (omega arith)
-
 -- a resource's own line and its three queues, put one behind another, are its text
 pub resource_printed : (o : Option Resource) (view : ResourceView) (granted converting waiting : List Row) (a b c d e : List ℕ) → IfSome o (λ r. view ≡ resource_view r)
     → IfSome o (λ r. granted ≡ rows_in Granted r) → IfSome o (λ r. converting ≡ rows_in Conversion r) → IfSome o (λ r. waiting ≡ rows_in Waiting r)

@@ -1,9 +1,8 @@
 use Rattle.std.proofs.Common.{◌∷◌, ◌∙◌, [], ap}
 use Rattle.vlm_words.specs.declared.locks.Row.{Row}
 use Rattle.vlm_queue.specs.Walks.{rows_left, rows_queued}
-use Rattle.vlm_queue.proofs.Walking.{begins, come_stored, passes}
+use Rattle.vlm_queue.proofs.Walking.{begins, come_stored, fewer_rows, passes}
 use Rattle.vlm_cycle.proofs.Ranked.{at_row, falls_begun, falls_ended, falls_on, falls_one, gauge_at, passing_begun, passing_ended, passing_on}
-use Rattle.vlm_cycle.proofs.Walked.{fewer_rows}
 use Rattle.vlm_cycle.proofs.falling.fall_of_queue.Goals as goal
 
 -- the walk begins at the head

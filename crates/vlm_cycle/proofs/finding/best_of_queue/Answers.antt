@@ -1,13 +1,12 @@
 use Rattle.std.proofs.Common.{◌∷◌, ◌∙◌, [], refl, sym, ap, subst}
 use Rattle.vlm_words.specs.declared.locks.Row.{Row}
 use Rattle.vlm_queue.specs.Walks.{rows_left, rows_queued}
-use Rattle.vlm_queue.proofs.Walking.{begins, come_stored, passes}
+use Rattle.vlm_queue.proofs.Walking.{begins, come_stored, fewer_rows, passes}
 use Rattle.vlm_cycle.specs.Finding.{Improves}
 use Rattle.vlm_cycle.specs.Ranking.{Falls, IsGaugeAt, PassesOne, rank_of}
 use Rattle.vlm_cycle.proofs.Found.{best_on, improves_none}
 use Rattle.vlm_cycle.proofs.Marked.{roomy_still}
 use Rattle.vlm_cycle.proofs.Ranked.{at_row, gauge_at, passing_begun, passing_ended, passing_on}
-use Rattle.vlm_cycle.proofs.Walked.{fewer_rows}
 use Rattle.vlm_cycle.proofs.finding.best_of_queue.Goals as goal
 
 -- the walk begins at the head

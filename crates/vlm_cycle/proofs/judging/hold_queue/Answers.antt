@@ -1,10 +1,9 @@
 use Rattle.std.proofs.Common.{◌∙◌, ap, subst, sym}
 use Rattle.vlm_words.specs.declared.locks.Row.{Row}
 use Rattle.vlm_queue.specs.Walks.{rows_left, rows_queued}
-use Rattle.vlm_queue.proofs.Walking.{begins, come_stored, passes}
+use Rattle.vlm_queue.proofs.Walking.{begins, come_stored, fewer_rows, passes}
 use Rattle.vlm_cycle.specs.Ranking.{CountsHeld, rank_of}
 use Rattle.vlm_cycle.proofs.Peaks.{holders_begun, holders_ended, holders_on}
-use Rattle.vlm_cycle.proofs.Walked.{fewer_rows}
 use Rattle.vlm_cycle.proofs.judging.hold_queue.Goals as goal
 
 -- the walk begins at the head

@@ -4,11 +4,11 @@ use Rattle.vlm_records.specs.declared.handles.Place.TheVariants.{Queued}
 use Rattle.vlm_store.specs.Records.{at_after, locks_at}
 use Rattle.vlm_store.proofs.Walks.{at_lock}
 use Rattle.vlm_queue.specs.Walks.{rows_left, rows_queued}
-use Rattle.vlm_queue.proofs.Walking.{begins, come_stored, passes}
+use Rattle.vlm_queue.proofs.Walking.{begins, come_stored, fewer_rows, passes}
 use Rattle.vlm_cycle.specs.Waiting.{OwnsBlocker, rows_before}
 use Rattle.vlm_cycle.specs.Marking.{Marks}
 use Rattle.vlm_cycle.proofs.Marked.{marks_none, roomy_still}
-use Rattle.vlm_cycle.proofs.Walked.{fewer_rows, blockers_on, no_blocker, before_none}
+use Rattle.vlm_cycle.proofs.Walked.{blockers_on, no_blocker, before_none}
 use Rattle.vlm_cycle.proofs.marking.find_blockers.Goals as goal
 
 -- the walk begins at the head

@@ -1,11 +1,11 @@
 use Rattle.std.proofs.Common.{◌≡◌, ◌∷◌, ◌∙◌, [], ap, subst}
 use Rattle.vlm_words.specs.declared.locks.Row.{Row}
 use Rattle.vlm_queue.specs.Walks.{rows_left, rows_queued}
-use Rattle.vlm_queue.proofs.Walking.{begins, come_stored, passes}
+use Rattle.vlm_queue.proofs.Walking.{begins, come_stored, fewer_rows, passes}
 use Rattle.vlm_cycle.specs.Waiting.{OwnsHolder}
 use Rattle.vlm_cycle.specs.Marking.{Marks}
 use Rattle.vlm_cycle.proofs.Marked.{marks_none, roomy_still}
-use Rattle.vlm_cycle.proofs.Walked.{fewer_rows, holders_on, no_holder}
+use Rattle.vlm_cycle.proofs.Walked.{holders_on, no_holder}
 use Rattle.vlm_cycle.proofs.marking.find_holders.Goals as goal
 
 -- the walk begins at the head

@@ -1,8 +1,8 @@
 use Rattle.std.proofs.Common.{◌++◌, ap, ◌∙◌}
 use Rattle.vlm_queue.specs.Walks.{rows_left}
-use Rattle.vlm_queue.proofs.Walking.{begins, come_stored, passes}
+use Rattle.vlm_queue.proofs.Walking.{begins, come_stored, fewer_rows, passes}
 use Rattle.vlm_script.specs.Texts.{queue_lines}
-use Rattle.vlm_script.proofs.Shown.{fewer_rows, row_printed}
+use Rattle.vlm_script.proofs.Shown.{row_printed}
 use Rattle.vlm_script.proofs.show.show_queue.Goals as goal
 
 -- the walk begins at the head
