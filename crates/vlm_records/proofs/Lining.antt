@@ -1,8 +1,8 @@
 -- The locks whose requests are queued: what becomes of their list as locks leave it and join it.
-use Rattle.std.proofs.Common.{◌≡◌, ◌≢◌, ◌⊎◌, ℕ, true, false, Option, None, Some, [], ◌∷◌, ◌++◌, refl, sym, ap, ◌∙◌, subst, inl, inr}
+use Rattle.std.proofs.Common.{◌≡◌, ◌≢◌, ◌⊎◌, ℕ, true, false, Option, None, Some, [], ◌∷◌, ◌++◌, refl, sym, ap, ◌∙◌, inl}
 use Rattle.std.proofs.lemmas.Option.{none-some, same_Some}
 use Rattle.std.specs.Option.{option_map}
-use Rattle.slab.specs.Slab.{Slab, get, ContainsKey}
+use Rattle.slab.specs.Slab.{Slab, get}
 use Rattle.vlm_links.specs.declared.lists.LinkedList.{LinkedList}
 use Rattle.vlm_links.specs.Lists.{IsIn, IsLinked, Relinks, without}
 use Rattle.vlm_links.proofs.Keeping.{relinked_same}

@@ -12,7 +12,7 @@ use Rattle.vlm_records.specs.declared.locks.InArmed.{InArmed}
 use Rattle.vlm_records.specs.declared.locks.Lock.{Lock}
 use Rattle.vlm_records.specs.declared.queues.Queues.{Queues}
 use Rattle.vlm_records.specs.declared.resources.Resource.{Resource}
-use Rattle.vlm_records.specs.Shown.{handles_at, handles_but, no_list, noted, rows}
+use Rattle.vlm_records.specs.Shown.{IsPlaced, IsTallied, handles_at, handles_but, no_list, noted, rows}
 
 -- the neighbours of a lock among the armed locks of its resource
 abbrev pub armed_links : Lock → Links
@@ -73,3 +73,9 @@ module _ (q : Queues) where
   -- the lock stands last at the place that it notes
   abbrev pub StandsLast : ℕ → Type 0
   StandsLast at = (place : Place) → noted q at ≡ Some place → IsLast at (handles_at q place)
+
+  -- each lock stands at the place that it notes, each resource counts its locks, and has the armed ones among the granted
+  pub record IsLaidOut : Type 0 where
+    pub placed : IsPlaced q None
+    pub tallied : IsTallied q None
+    pub armed : IsArmed None

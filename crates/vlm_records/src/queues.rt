@@ -5,7 +5,7 @@ ghost use Rattle.std.specs.Option.{option_map};
 ghost use Rattle.slab.specs.Slab.{get, ContainsKey, HasRoomFor};
 ghost use Rattle.vlm_links.specs.Lists.{Relinks, without};
 ghost use Rattle.vlm_records.specs.declared.handles.Place.{Place};
-ghost use Rattle.vlm_records.specs.Armed.{IsArmed};
+ghost use Rattle.vlm_records.specs.Armed.{IsLaidOut};
 ghost use Rattle.vlm_records.specs.Line.{line_links};
 ghost use Rattle.vlm_records.specs.Shown.{IsPlaced, IsTallied, IsThere, SameBut, but_counted, but_lists, but_place, but_queued, but_queues, but_requeued, but_row, handles_at, list_at, named_row, new_lock, noted, room_in, rows, with_queue_links};
 
@@ -158,16 +158,12 @@ impl Queues {
 
     /// Gives a lock another row, and puts it at the end of a list.
     pub fn move_to(&mut self, at: usize, row: &Row, to: Place)
-        requires placed { IsPlaced self.old None }
-        requires tallied { IsTallied self.old None }
-        requires armed { IsArmed self.old None }
+        requires laid_out { IsLaidOut self.old }
         requires present { ContainsKey self.old.locks at }
         requires within { at ≤ LAST_HANDLE }
         requires there { IsThere self.old.resources to }
         requires named { named_row (rows self.old at) ≡ named_row row.now }
-        ensures placed { IsPlaced self.new None }
-        ensures tallied { IsTallied self.new None }
-        ensures armed { IsArmed self.new None }
+        ensures laid_out { IsLaidOut self.new }
         ensures here { handles_at self.new to ≡ without at (handles_at self.old to) ++ at ∷ [] }
         ensures elsewhere { (other : Place) → other ≢ to
             → handles_at self.new other ≡ without at (handles_at self.old other) }
@@ -186,13 +182,9 @@ impl Queues {
 
     /// A lock is armed no more, and stays where it stands.
     pub fn disarm(&mut self, at: usize)
-        requires placed { IsPlaced self.old None }
-        requires tallied { IsTallied self.old None }
-        requires armed { IsArmed self.old None }
+        requires laid_out { IsLaidOut self.old }
         requires present { ContainsKey self.old.locks at }
-        ensures placed { IsPlaced self.new None }
-        ensures tallied { IsTallied self.new None }
-        ensures armed { IsArmed self.new None }
+        ensures laid_out { IsLaidOut self.new }
         ensures handles { (place : Place) → handles_at self.new place ≡ handles_at self.old place }
         ensures row { rows self.new at ≡ record (rows self.old at) { armed = false } }
         ensures rows { (other : ℕ) → other ≢ at → rows self.new other ≡ rows self.old other }
@@ -215,16 +207,12 @@ impl Queues {
     /// Adds a lock that stands in no queue, and is not yet among those of its process and its parent. There
     /// is room for it.
     pub fn add(&mut self, row: &Row, owner: ProcAt, parent: Option<LockAt>) -> usize
-        requires placed { IsPlaced self.old None }
-        requires tallied { IsTallied self.old None }
-        requires armed { IsArmed self.old None }
+        requires laid_out { IsLaidOut self.old }
         requires room { HasRoomFor self.old.locks 1 }
         requires within { self.old.locks.vacant_key ≤ LAST_HANDLE }
         ensures within { result ≤ LAST_HANDLE }
         ensures fresh { get self.old.locks result ≡ None }
-        ensures placed { IsPlaced self.new None }
-        ensures tallied { IsTallied self.new None }
-        ensures armed { IsArmed self.new None }
+        ensures laid_out { IsLaidOut self.new }
         ensures here { handles_at self.new Place.Loose
             ≡ handles_at self.old Place.Loose ++ result ∷ [] }
         ensures elsewhere { (other : Place) → other ≢ Place.Loose
@@ -261,13 +249,9 @@ impl Queues {
 
     /// Removes a lock, wherever it stands.
     pub fn remove(&mut self, at: usize)
-        requires placed { IsPlaced self.old None }
-        requires tallied { IsTallied self.old None }
-        requires armed { IsArmed self.old None }
+        requires laid_out { IsLaidOut self.old }
         requires present { ContainsKey self.old.locks at }
-        ensures placed { IsPlaced self.new None }
-        ensures tallied { IsTallied self.new None }
-        ensures armed { IsArmed self.new None }
+        ensures laid_out { IsLaidOut self.new }
         ensures handles { (place : Place) → handles_at self.new place
             ≡ without at (handles_at self.old place) }
         ensures gone { get self.new.locks at ≡ None }

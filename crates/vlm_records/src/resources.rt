@@ -6,8 +6,8 @@ ghost use Rattle.slab.specs.Slab.{get, ContainsKey, HasRoomFor};
 ghost use Rattle.vlm_links.specs.Lists.{IsIn, IsLinked, handles_of, without};
 ghost use Rattle.vlm_words.specs.declared.resources.Queue.{Queue};
 ghost use Rattle.vlm_records.specs.declared.handles.Place.{Place};
-ghost use Rattle.vlm_records.specs.Armed.{IsArmed};
-ghost use Rattle.vlm_records.specs.Shown.{IsPlaced, IsTallied, SameBut, but_value_block, face_in, face_of, handles_at, new_face, order_links, room_in};
+ghost use Rattle.vlm_records.specs.Armed.{IsLaidOut};
+ghost use Rattle.vlm_records.specs.Shown.{SameBut, but_value_block, face_in, face_of, handles_at, new_face, order_links, room_in};
 
 use crate::locks::{InArmed, InQueue};
 use crate::queues::Queues;
@@ -99,17 +99,13 @@ impl Queues {
         serial: u32,
         site: &Site,
     ) -> usize
-        requires placed { IsPlaced self.old None }
-        requires tallied { IsTallied self.old None }
-        requires armed { IsArmed self.old None }
+        requires laid_out { IsLaidOut self.old }
         requires linked { IsLinked order_links self.old.resources order.old }
         requires room { HasRoomFor self.old.resources 1 }
         requires within { self.old.resources.vacant_key ≤ LAST_HANDLE }
         ensures within { result ≤ LAST_HANDLE }
         ensures fresh { get self.old.resources result ≡ None }
-        ensures placed { IsPlaced self.new None }
-        ensures tallied { IsTallied self.new None }
-        ensures armed { IsArmed self.new None }
+        ensures laid_out { IsLaidOut self.new }
         ensures handles { (place : Place) → handles_at self.new place ≡ handles_at self.old place }
         ensures locks { self.new.locks ≡ self.old.locks }
         ensures linked { IsLinked order_links self.new.resources order.new }
@@ -140,15 +136,11 @@ impl Queues {
 
     /// Removes a resource in whose queues no lock stands.
     pub fn remove_resource(&mut self, order: &mut LinkedList<InOrder>, res: usize)
-        requires placed { IsPlaced self.old None }
-        requires tallied { IsTallied self.old None }
-        requires armed { IsArmed self.old None }
+        requires laid_out { IsLaidOut self.old }
         requires linked { IsLinked order_links self.old.resources order.old }
         requires listed { IsIn res (handles_of order_links self.old.resources order.old) }
         requires idle { (queue : Queue) → handles_at self.old (Place.Queued res queue) ≡ [] }
-        ensures placed { IsPlaced self.new None }
-        ensures tallied { IsTallied self.new None }
-        ensures armed { IsArmed self.new None }
+        ensures laid_out { IsLaidOut self.new }
         ensures handles { (place : Place) → handles_at self.new place ≡ handles_at self.old place }
         ensures locks { self.new.locks ≡ self.old.locks }
         ensures linked { IsLinked order_links self.new.resources order.new }
@@ -167,13 +159,9 @@ impl Queues {
 
     /// Writes the value block of a resource.
     pub fn set_value_block(&mut self, res: usize, value_block: ValueBlock)
-        requires placed { IsPlaced self.old None }
-        requires tallied { IsTallied self.old None }
-        requires armed { IsArmed self.old None }
+        requires laid_out { IsLaidOut self.old }
         requires there { ContainsKey self.old.resources res }
-        ensures placed { IsPlaced self.new None }
-        ensures tallied { IsTallied self.new None }
-        ensures armed { IsArmed self.new None }
+        ensures laid_out { IsLaidOut self.new }
         ensures handles { (place : Place) → handles_at self.new place ≡ handles_at self.old place }
         ensures locks { self.new.locks ≡ self.old.locks }
         ensures rest { SameBut but_value_block self.old.resources self.new.resources }

@@ -21,12 +21,6 @@ count_in-requires-clause-tallied c =
     tallied_moved c.count_out.new.self c.write_row.new.self c.args.at (λ r. ap (λ s. tally_in (get s r)) c.write_row.ensures.resources) (λ p. ap (without c.args.at) (handles2 p))
     (λ k differs. ap row_in (c.write_row.ensures.others k differs)) c.count_out.ensures.tallied
 
-pub returns-clause-placed : goal.returns-clause-placed
-returns-clause-placed c =
-    let placed1 = counted_placed c.leave_armed.new.self c.count_out.new.self None c.leave_armed.ensures.placed c.count_out.ensures.rest c.count_out.ensures.loose c.count_out.ensures.locks in
-    let placed2 = written_placed c.count_out.new.self c.write_row.new.self None placed1 c.write_row.ensures.rest c.write_row.ensures.resources c.write_row.ensures.loose in
-    counted_placed c.write_row.new.self c.count_in.new.self None placed2 c.count_in.ensures.rest c.count_in.ensures.loose c.count_in.ensures.locks
-
 pub returns-clause-handles : goal.returns-clause-handles
 returns-clause-handles c p =
     let placed1 = counted_placed c.leave_armed.new.self c.count_out.new.self None c.leave_armed.ensures.placed c.count_out.ensures.rest c.count_out.ensures.loose c.count_out.ensures.locks in
@@ -36,23 +30,30 @@ returns-clause-handles c p =
     ∙ counted_handles c.leave_armed.new.self c.count_out.new.self None c.leave_armed.ensures.placed c.count_out.ensures.rest c.count_out.ensures.loose c.count_out.ensures.locks p
     ∙ c.leave_armed.ensures.handles p
 
-pub returns-clause-armed : goal.returns-clause-armed
-returns-clause-armed c =
-    let q1 = c.leave_armed.new.self in
-    let q2 = c.count_out.new.self in
-    let q3 = c.write_row.new.self in
-    let q4 = c.count_in.new.self in
-    let armed1 = c.leave_armed.ensures.armed in
-    let placed2 = counted_placed q1 q2 None c.leave_armed.ensures.placed c.count_out.ensures.rest c.count_out.ensures.loose c.count_out.ensures.locks in
-    let placed3 = written_placed q2 q3 None placed2 c.write_row.ensures.rest c.write_row.ensures.resources c.write_row.ensures.loose in
-    armed_but_one q1 q4 (Some c.args.at) None c.args.at armed1 (out_unlisted q1 c.args.at armed1)
-    (armed_lists q1.resources q4.resources (λ r.
-    tally_counted q3.resources q4.resources c.count_in.ensures.rest r ∙ ap (λ s. option_map but_counted (get s r)) c.write_row.ensures.resources ∙ tally_counted q1.resources q2.resources c.count_out.ensures.rest r))
-    (λ k _. ap (λ s. option_map but_requeued (get s k)) c.count_in.ensures.locks ∙ c.write_row.ensures.kin k ∙ ap (λ s. option_map but_requeued (get s k)) c.count_out.ensures.locks)
-    (disarmed_granted q1 q4 c.args.at
-    (λ k differs. ap (λ s. row_in (get s k)) c.count_in.ensures.locks ∙ ap row_in (c.write_row.ensures.others k differs) ∙ ap (λ s. row_in (get s k)) c.count_out.ensures.locks)
-    (λ p.
-    counted_handles q3 q4 None placed3 c.count_in.ensures.rest c.count_in.ensures.loose c.count_in.ensures.locks p
-    ∙ written_handles q2 q3 None placed2 c.write_row.ensures.rest c.write_row.ensures.resources c.write_row.ensures.loose p
-    ∙ counted_handles q1 q2 None c.leave_armed.ensures.placed c.count_out.ensures.rest c.count_out.ensures.loose c.count_out.ensures.locks p)
-    (ap (λ s. (row_in (get s c.args.at)).armed) c.count_in.ensures.locks ∙ ap (λ (r : Row). r.armed) c.write_row.ensures.here))
+pub returns-clause-laid_out : goal.returns-clause-laid_out
+returns-clause-laid_out c = record {
+  placed =
+      let placed1 = counted_placed c.leave_armed.new.self c.count_out.new.self None c.leave_armed.ensures.placed c.count_out.ensures.rest c.count_out.ensures.loose c.count_out.ensures.locks in
+      let placed2 = written_placed c.count_out.new.self c.write_row.new.self None placed1 c.write_row.ensures.rest c.write_row.ensures.resources c.write_row.ensures.loose in
+      counted_placed c.write_row.new.self c.count_in.new.self None placed2 c.count_in.ensures.rest c.count_in.ensures.loose c.count_in.ensures.locks;
+  tallied = c.count_in.ensures.tallied;
+  armed =
+      let q1 = c.leave_armed.new.self in
+      let q2 = c.count_out.new.self in
+      let q3 = c.write_row.new.self in
+      let q4 = c.count_in.new.self in
+      let armed1 = c.leave_armed.ensures.armed in
+      let placed2 = counted_placed q1 q2 None c.leave_armed.ensures.placed c.count_out.ensures.rest c.count_out.ensures.loose c.count_out.ensures.locks in
+      let placed3 = written_placed q2 q3 None placed2 c.write_row.ensures.rest c.write_row.ensures.resources c.write_row.ensures.loose in
+      armed_but_one q1 q4 (Some c.args.at) None c.args.at armed1 (out_unlisted q1 c.args.at armed1)
+      (armed_lists q1.resources q4.resources (λ r.
+      tally_counted q3.resources q4.resources c.count_in.ensures.rest r ∙ ap (λ s. option_map but_counted (get s r)) c.write_row.ensures.resources ∙ tally_counted q1.resources q2.resources c.count_out.ensures.rest r))
+      (λ k _. ap (λ s. option_map but_requeued (get s k)) c.count_in.ensures.locks ∙ c.write_row.ensures.kin k ∙ ap (λ s. option_map but_requeued (get s k)) c.count_out.ensures.locks)
+      (disarmed_granted q1 q4 c.args.at
+      (λ k differs. ap (λ s. row_in (get s k)) c.count_in.ensures.locks ∙ ap row_in (c.write_row.ensures.others k differs) ∙ ap (λ s. row_in (get s k)) c.count_out.ensures.locks)
+      (λ p.
+      counted_handles q3 q4 None placed3 c.count_in.ensures.rest c.count_in.ensures.loose c.count_in.ensures.locks p
+      ∙ written_handles q2 q3 None placed2 c.write_row.ensures.rest c.write_row.ensures.resources c.write_row.ensures.loose p
+      ∙ counted_handles q1 q2 None c.leave_armed.ensures.placed c.count_out.ensures.rest c.count_out.ensures.loose c.count_out.ensures.locks p)
+      (ap (λ s. (row_in (get s c.args.at)).armed) c.count_in.ensures.locks ∙ ap (λ (r : Row). r.armed) c.write_row.ensures.here));
+}

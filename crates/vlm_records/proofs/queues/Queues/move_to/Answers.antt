@@ -54,3 +54,10 @@ returns-clause-rest c k =
     let q2 = c.requeue.new.self.resources in
     let q3 = c.join_armed.new.self.resources in
     armed_queues q2 q3 c.join_armed.ensures.rest k ∙ counted_queues q1 q2 c.requeue.ensures.rest k ∙ armed_queues q q1 c.leave_armed.ensures.rest k
+
+pub returns-clause-laid_out : goal.returns-clause-laid_out
+returns-clause-laid_out c = record {
+  placed = c.join_armed.ensures.placed;
+  tallied = c.join_armed.ensures.tallied;
+  armed = c.join_armed.ensures.armed;
+}

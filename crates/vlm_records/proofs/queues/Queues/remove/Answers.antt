@@ -14,21 +14,6 @@ pub take_off-requires-clause-placed : goal.take_off-requires-clause-placed
 take_off-requires-clause-placed c =
     counted_placed c.leave_armed.new.self c.count_out.new.self None c.leave_armed.ensures.placed c.count_out.ensures.rest c.count_out.ensures.loose c.count_out.ensures.locks
 
-pub returns-clause-placed : goal.returns-clause-placed
-returns-clause-placed c =
-    let q2 = c.take_off.new.self in
-    let placed2 = c.take_off.ensures.placed in
-    removed_placed q2 (record q2 { locks = c.remove.new.self }) c.args.at None c.remove.ensures.updates placed2.linked (λ p. placed2.gone p c.args.at refl) (lists_same q2 (record q2 { locks = c.remove.new.self }) refl refl) refl placed2
-
-pub returns-clause-tallied : goal.returns-clause-tallied
-returns-clause-tallied c =
-    let q2 = c.take_off.new.self in
-    let placed2 = c.take_off.ensures.placed in
-    let tallied2 = tallied_taken c.count_out.new.self q2 c.args.at c.take_off.ensures.handles (rows_relinked c.count_out.new.self.locks q2.locks c.take_off.ensures.relinks)
-    c.take_off.ensures.rest c.count_out.ensures.tallied in
-    removed_tallied q2 (record q2 { locks = c.remove.new.self }) c.args.at None c.remove.ensures.updates placed2.linked (λ p. placed2.gone p c.args.at refl)
-    (lists_same q2 (record q2 { locks = c.remove.new.self }) refl refl) refl tallied2
-
 pub returns-clause-handles : goal.returns-clause-handles
 returns-clause-handles c p =
     let q2 = c.take_off.new.self in
@@ -45,21 +30,34 @@ returns-clause-given_back c =
     room_given_back c.take_off.new.self.locks c.remove.new.self c.args.at c.remove.ensures.room c.remove.ensures.len c.remove.ensures.capacity c.remove.ensures.key_is_next
     ∙ ap (λ (p : ℕ × ℕ). (p.0 + 1, c.args.at)) (c.take_off.ensures.locks_room ∙ ap room_in c.count_out.ensures.locks ∙ c.leave_armed.ensures.locks_room)
 
-pub returns-clause-armed : goal.returns-clause-armed
-returns-clause-armed c =
-    let q1 = c.leave_armed.new.self in
-    let q2 = c.count_out.new.self in
-    let q3 = c.take_off.new.self in
-    let q4 : Queues = record q3 { locks = c.remove.new.self } in
-    let armed1 = c.leave_armed.ensures.armed in
-    let placed3 = c.take_off.ensures.placed in
-    let others = c.remove.ensures.updates.others in
-    armed_but_one q1 q4 (Some c.args.at) None c.args.at armed1 (out_unlisted q1 c.args.at armed1)
-    (armed_lists q1.resources q3.resources (λ r. lists_counted q2.resources q3.resources c.take_off.ensures.rest r ∙ tally_counted q1.resources q2.resources c.count_out.ensures.rest r))
-    (λ k differs. ap (option_map but_requeued) (others k differs) ∙ c.take_off.ensures.kin k ∙ ap (λ s. option_map but_requeued (get s k)) c.count_out.ensures.locks)
-    (removed_granted q1 q4 c.args.at
-    (λ k differs. ap row_in (others k differs) ∙ rows_relinked q2.locks q3.locks c.take_off.ensures.relinks k ∙ ap (λ s. row_in (get s k)) c.count_out.ensures.locks)
-    (λ p.
-    updated_handles q3 q4 c.args.at None c.remove.ensures.updates placed3.linked (λ x. placed3.gone x c.args.at refl) (lists_same q3 q4 refl refl) p
-    ∙ c.take_off.ensures.handles p
-    ∙ ap (without c.args.at) (counted_handles q1 q2 None c.leave_armed.ensures.placed c.count_out.ensures.rest c.count_out.ensures.loose c.count_out.ensures.locks p)))
+pub returns-clause-laid_out : goal.returns-clause-laid_out
+returns-clause-laid_out c = record {
+  placed =
+      let q2 = c.take_off.new.self in
+      let placed2 = c.take_off.ensures.placed in
+      removed_placed q2 (record q2 { locks = c.remove.new.self }) c.args.at None c.remove.ensures.updates placed2.linked (λ p. placed2.gone p c.args.at refl) (lists_same q2 (record q2 { locks = c.remove.new.self }) refl refl) refl placed2;
+  tallied =
+      let q2 = c.take_off.new.self in
+      let placed2 = c.take_off.ensures.placed in
+      let tallied2 = tallied_taken c.count_out.new.self q2 c.args.at c.take_off.ensures.handles (rows_relinked c.count_out.new.self.locks q2.locks c.take_off.ensures.relinks)
+      c.take_off.ensures.rest c.count_out.ensures.tallied in
+      removed_tallied q2 (record q2 { locks = c.remove.new.self }) c.args.at None c.remove.ensures.updates placed2.linked (λ p. placed2.gone p c.args.at refl)
+      (lists_same q2 (record q2 { locks = c.remove.new.self }) refl refl) refl tallied2;
+  armed =
+      let q1 = c.leave_armed.new.self in
+      let q2 = c.count_out.new.self in
+      let q3 = c.take_off.new.self in
+      let q4 : Queues = record q3 { locks = c.remove.new.self } in
+      let armed1 = c.leave_armed.ensures.armed in
+      let placed3 = c.take_off.ensures.placed in
+      let others = c.remove.ensures.updates.others in
+      armed_but_one q1 q4 (Some c.args.at) None c.args.at armed1 (out_unlisted q1 c.args.at armed1)
+      (armed_lists q1.resources q3.resources (λ r. lists_counted q2.resources q3.resources c.take_off.ensures.rest r ∙ tally_counted q1.resources q2.resources c.count_out.ensures.rest r))
+      (λ k differs. ap (option_map but_requeued) (others k differs) ∙ c.take_off.ensures.kin k ∙ ap (λ s. option_map but_requeued (get s k)) c.count_out.ensures.locks)
+      (removed_granted q1 q4 c.args.at
+      (λ k differs. ap row_in (others k differs) ∙ rows_relinked q2.locks q3.locks c.take_off.ensures.relinks k ∙ ap (λ s. row_in (get s k)) c.count_out.ensures.locks)
+      (λ p.
+      updated_handles q3 q4 c.args.at None c.remove.ensures.updates placed3.linked (λ x. placed3.gone x c.args.at refl) (lists_same q3 q4 refl refl) p
+      ∙ c.take_off.ensures.handles p
+      ∙ ap (without c.args.at) (counted_handles q1 q2 None c.leave_armed.ensures.placed c.count_out.ensures.rest c.count_out.ensures.loose c.count_out.ensures.locks p)));
+}

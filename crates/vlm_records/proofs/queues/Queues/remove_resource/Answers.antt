@@ -8,27 +8,10 @@ use Rattle.vlm_records.proofs.Arming.{armed_resources}
 use Rattle.vlm_records.proofs.Making.{removed_armed, removed_lists, removed_tally, resources_handles, resources_placed}
 use Rattle.vlm_records.proofs.queues.Queues.remove_resource.Goals as goal
 
-pub returns-clause-placed : goal.returns-clause-placed
-returns-clause-placed c =
-    resources_placed c.args.self.now c.remove.new.self c.requires.placed
-    (removed_lists c.args.self.now c.unlink.new.nodes c.remove.new.self c.args.res c.unlink.ensures.relinks c.remove.ensures.updates c.requires.placed c.requires.idle)
-
-pub returns-clause-tallied : goal.returns-clause-tallied
-returns-clause-tallied c =
-    removed_tally c.args.self.now c.unlink.new.nodes c.remove.new.self c.args.res c.unlink.ensures.relinks c.remove.ensures.updates c.requires.placed c.requires.idle c.requires.tallied
-
-pub returns-clause-armed : goal.returns-clause-armed
-returns-clause-armed c =
-    let q = c.args.self.now in
-    armed_resources q c.remove.new.self
-    (removed_armed q c.unlink.new.nodes c.remove.new.self c.args.res c.unlink.ensures.relinks c.remove.ensures.updates c.requires.placed c.requires.idle c.requires.armed)
-    (resources_handles q c.remove.new.self c.requires.placed
-    (removed_lists q c.unlink.new.nodes c.remove.new.self c.args.res c.unlink.ensures.relinks c.remove.ensures.updates c.requires.placed c.requires.idle)) c.requires.armed
-
 pub returns-clause-handles : goal.returns-clause-handles
 returns-clause-handles c =
-    resources_handles c.args.self.now c.remove.new.self c.requires.placed
-    (removed_lists c.args.self.now c.unlink.new.nodes c.remove.new.self c.args.res c.unlink.ensures.relinks c.remove.ensures.updates c.requires.placed c.requires.idle)
+    resources_handles c.args.self.now c.remove.new.self c.requires.laid_out.placed
+    (removed_lists c.args.self.now c.unlink.new.nodes c.remove.new.self c.args.res c.unlink.ensures.relinks c.remove.ensures.updates c.requires.laid_out.placed c.requires.idle)
 
 pub returns-clause-linked : goal.returns-clause-linked
 returns-clause-linked c =
@@ -45,3 +28,17 @@ pub returns-clause-given_back : goal.returns-clause-given_back
 returns-clause-given_back c =
     room_given_back c.unlink.new.nodes c.remove.new.self c.args.res c.remove.ensures.room c.remove.ensures.len c.remove.ensures.capacity c.remove.ensures.key_is_next
     ∙ ap (λ (p : ℕ × ℕ). (p.0 + 1, c.args.res)) (room_relinked with_order_links c.args.self.now.resources c.unlink.new.nodes c.unlink.ensures.relinks)
+
+pub returns-clause-laid_out : goal.returns-clause-laid_out
+returns-clause-laid_out c = record {
+  placed =
+      resources_placed c.args.self.now c.remove.new.self c.requires.laid_out.placed
+      (removed_lists c.args.self.now c.unlink.new.nodes c.remove.new.self c.args.res c.unlink.ensures.relinks c.remove.ensures.updates c.requires.laid_out.placed c.requires.idle);
+  tallied = removed_tally c.args.self.now c.unlink.new.nodes c.remove.new.self c.args.res c.unlink.ensures.relinks c.remove.ensures.updates c.requires.laid_out.placed c.requires.idle c.requires.laid_out.tallied;
+  armed =
+      let q = c.args.self.now in
+      armed_resources q c.remove.new.self
+      (removed_armed q c.unlink.new.nodes c.remove.new.self c.args.res c.unlink.ensures.relinks c.remove.ensures.updates c.requires.laid_out.placed c.requires.idle c.requires.laid_out.armed)
+      (resources_handles q c.remove.new.self c.requires.laid_out.placed
+      (removed_lists q c.unlink.new.nodes c.remove.new.self c.args.res c.unlink.ensures.relinks c.remove.ensures.updates c.requires.laid_out.placed c.requires.idle)) c.requires.laid_out.armed;
+}

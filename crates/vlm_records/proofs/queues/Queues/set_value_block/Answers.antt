@@ -5,26 +5,24 @@ use Rattle.vlm_records.proofs.Arming.{armed_resources}
 use Rattle.vlm_records.proofs.Making.{block_list, resources_handles, resources_placed, resources_tallied, written_armed, written_lists, written_tallies}
 use Rattle.vlm_records.proofs.queues.Queues.set_value_block.Goals as goal
 
-pub returns-clause-placed : goal.returns-clause-placed
-returns-clause-placed c =
-    let q = c.args.self.now in
-    resources_placed q (with_value q.resources c.args.res (record c.index_mut.result.now { value_block = c.args.value_block })) c.requires.placed
-    (written_lists q c.args.res c.index_mut.result.now (record c.index_mut.result.now { value_block = c.args.value_block }) c.requires.there c.index_mut.ensures.value (block_list c.index_mut.result.now c.args.value_block))
-
-pub returns-clause-tallied : goal.returns-clause-tallied
-returns-clause-tallied c =
-    let q = c.args.self.now in
-    resources_tallied q (with_value q.resources c.args.res (record c.index_mut.result.now { value_block = c.args.value_block })) c.requires.placed
-    (written_lists q c.args.res c.index_mut.result.now (record c.index_mut.result.now { value_block = c.args.value_block }) c.requires.there c.index_mut.ensures.value (block_list c.index_mut.result.now c.args.value_block))
-    (written_tallies q c.args.res c.index_mut.result.now (record c.index_mut.result.now { value_block = c.args.value_block }) c.requires.there c.index_mut.ensures.value refl) c.requires.tallied
-
-pub returns-clause-armed : goal.returns-clause-armed
-returns-clause-armed c =
-    let q = c.args.self.now in
-    let now = record c.index_mut.result.now { value_block = c.args.value_block } in
-    let lists = written_lists q c.args.res c.index_mut.result.now now c.requires.there c.index_mut.ensures.value (block_list c.index_mut.result.now c.args.value_block) in
-    armed_resources q (with_value q.resources c.args.res now) (written_armed q c.args.res c.index_mut.result.now now c.requires.there c.index_mut.ensures.value refl)
-    (resources_handles q (with_value q.resources c.args.res now) c.requires.placed lists) c.requires.armed
-
 pub returns-clause-resources_room : goal.returns-clause-resources_room
 returns-clause-resources_room c = room_written c.args.self.now.resources c.args.res _ c.requires.there
+
+pub returns-clause-laid_out : goal.returns-clause-laid_out
+returns-clause-laid_out c = record {
+  placed =
+      let q = c.args.self.now in
+      resources_placed q (with_value q.resources c.args.res (record c.index_mut.result.now { value_block = c.args.value_block })) c.requires.laid_out.placed
+      (written_lists q c.args.res c.index_mut.result.now (record c.index_mut.result.now { value_block = c.args.value_block }) c.requires.there c.index_mut.ensures.value (block_list c.index_mut.result.now c.args.value_block));
+  tallied =
+      let q = c.args.self.now in
+      resources_tallied q (with_value q.resources c.args.res (record c.index_mut.result.now { value_block = c.args.value_block })) c.requires.laid_out.placed
+      (written_lists q c.args.res c.index_mut.result.now (record c.index_mut.result.now { value_block = c.args.value_block }) c.requires.there c.index_mut.ensures.value (block_list c.index_mut.result.now c.args.value_block))
+      (written_tallies q c.args.res c.index_mut.result.now (record c.index_mut.result.now { value_block = c.args.value_block }) c.requires.there c.index_mut.ensures.value refl) c.requires.laid_out.tallied;
+  armed =
+      let q = c.args.self.now in
+      let now = record c.index_mut.result.now { value_block = c.args.value_block } in
+      let lists = written_lists q c.args.res c.index_mut.result.now now c.requires.there c.index_mut.ensures.value (block_list c.index_mut.result.now c.args.value_block) in
+      armed_resources q (with_value q.resources c.args.res now) (written_armed q c.args.res c.index_mut.result.now now c.requires.there c.index_mut.ensures.value refl)
+      (resources_handles q (with_value q.resources c.args.res now) c.requires.laid_out.placed lists) c.requires.laid_out.armed;
+}

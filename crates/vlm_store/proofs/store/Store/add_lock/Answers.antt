@@ -20,7 +20,7 @@ use Rattle.vlm_store.specs.Store.{key_at, lkid_at, records_of, tables}
 use Rattle.vlm_records.proofs.Arming.{armed_kin, armed_reserved}
 use Rattle.vlm_store.proofs.Indexing.{Indexes-added, Indexes-same}
 use Rattle.vlm_store.proofs.Joining.{new_lkid, other_lkids, joined_kin, joined_lkids, joined_named, joined_owned, joined_processes, linked_parent_there, new_below, new_owned, owner_was_there}
-use Rattle.vlm_store.proofs.Kept.{faces_same, no_lock, on_err, on_ok, reserved_handles, reserved_placed, stored_there}
+use Rattle.vlm_store.proofs.Kept.{faces_same, no_lock, on_err, on_ok, reserved_handles, reserved_placed, stored_there, reserved_tallied}
 use Rattle.vlm_store.specs.Pending.{is_of_nodes, waits_in}
 use Rattle.vlm_store.proofs.Marked.{nodes-own, own_marked, waits-own}
 use Rattle.vlm_store.proofs.Kinship.{kin_handles, kin_placed, kin_rows, kin_tallied, own_below, own_pids, own_process_linked, own_process_whole, records_processes}
@@ -30,17 +30,6 @@ use Rattle.vlm_store.proofs.Order.{keys_same, order_handles, order_linked, order
 
 pub invariant_of-self : goal.invariant_of-self
 invariant_of-self c = lock_room_kept c.self.inside c.self.invariant c.reserve_one.new.records c.reserve_one.new.index c.reserve_one.ensures.records c.reserve_one.ensures.index
-
-pub add-slot-requires-clause-placed : goal.add-slot-requires-clause-placed
-add-slot-requires-clause-placed c =
-    let s = c.self.inside in
-    reserved_placed s.queues c.reserve_one.new.records (λ k. ap (λ x. slot_of x k) c.reserve_one.ensures.records) c.self.invariant.placed
-
-pub add-slot-requires-clause-armed : goal.add-slot-requires-clause-armed
-add-slot-requires-clause-armed c =
-    let s = c.self.inside in
-    let same : (k : ℕ) → slot_of c.reserve_one.new.records k ≡ slot_of s.queues.locks k = λ k. ap (λ x. slot_of x k) c.reserve_one.ensures.records in
-    armed_reserved s.queues c.reserve_one.new.records same (reserved_handles s.queues c.reserve_one.new.records same c.self.invariant.placed) c.self.invariant.armed
 
 pub join_process-requires-clause-owned : goal.join_process-requires-clause-owned
 join_process-requires-clause-owned c =
@@ -112,13 +101,13 @@ invariant_of-self-2 c =
     ap (λ es. lookup (nat_eq c.args.row.lkid) es) c.reserve_one.ensures.index
     ∙ no_lock s.queues s.order (beside_shown s) kept.placed kept.linked kept.ordered (get nat_eq s.lock_index) kept.locks c.args.row.lkid (rw (← c.self.view_is) at c.requires.new) in
     record {
-      placed = kin_placed q' c.join_parent.new.locks kin added.placed;
-      tallied = kin_tallied q' c.join_parent.new.locks kin added.placed added.tallied;
-      armed = armed_kin q' c.join_parent.new.locks kin (kin_handles q' c.join_parent.new.locks kin added.placed) (kin_rows q' c.join_parent.new.locks kin) added.armed;
+      placed = kin_placed q' c.join_parent.new.locks kin added.laid_out.placed;
+      tallied = kin_tallied q' c.join_parent.new.locks kin added.laid_out.placed added.laid_out.tallied;
+      armed = armed_kin q' c.join_parent.new.locks kin (kin_handles q' c.join_parent.new.locks kin added.laid_out.placed) (kin_rows q' c.join_parent.new.locks kin) added.laid_out.armed;
       line =
           line_below c.join_process.new.locks c.join_parent.new.locks s.line below.rest
           (line_own q'.locks c.join_process.new.locks s.line process.relinks
-          (line_added (record s.queues { locks = c.reserve_one.new.records }) q' s.line at (reserved_placed s.queues c.reserve_one.new.records same kept.placed) added.placed added.fresh added.line added.here added.elsewhere
+          (line_added (record s.queues { locks = c.reserve_one.new.records }) q' s.line at (reserved_placed s.queues c.reserve_one.new.records same kept.placed) added.laid_out.placed added.fresh added.line added.here added.elsewhere
           (line_same s.queues.locks c.reserve_one.new.records s.line same kept.line)));
       linked = order_linked but_queues (λ r. refl) s.queues.resources q'.resources rest s.order kept.linked;
       ordered = order_whole but_queues (λ r. refl) s.queues.resources q'.resources rest s.order kept.linked kept.ordered;
@@ -152,7 +141,7 @@ returns-clause-added c =
     let q'' = record q' { locks = c.join_parent.new.locks } in
     let kin = joined_kin s kept c.reserve_one.new.records q'.locks at c.args.row c.args.owner c.args.parent same added.fresh added.lock added.kin owner parent c.join_process.new.processes c.join_process.new.locks c.join_parent.new.locks process.owned process.here process.elsewhere process.relinks process.rest below.here below.elsewhere below.rest in
     let handles1 = reserved_handles s.queues c.reserve_one.new.records same kept.placed in
-    let handles2 = kin_handles q' c.join_parent.new.locks kin added.placed in
+    let handles2 = kin_handles q' c.join_parent.new.locks kin added.laid_out.placed in
     let unlisted : (p : Place) → ¬ IsIn at (handles_at s.queues p) =
     λ p. vacant_unlisted queue_links s.queues.locks (list_at s.queues p) (kept.placed.linked p) at (sym (same at) ∙ added.fresh) in
     let old = tables s.queues s.order (beside_shown s) in
@@ -200,3 +189,17 @@ pub returns-in_err-reserve_one-clause-err : goal.returns-in_err-reserve_one-clau
 returns-in_err-reserve_one-clause-err c =
     rw (← c.self.view_is)
     (on_err c.from_residual.result _ (lock_room_made c.self.inside c.reserve_one.new.records (spare c.reserve_one.new.index) c.reserve_one.ensures.records c.reserve_one.ensures.capacity c.reserve_one.ensures.finds))
+
+pub add-slot-requires-clause-laid_out : goal.add-slot-requires-clause-laid_out
+add-slot-requires-clause-laid_out c = record {
+  placed =
+      let s = c.self.inside in
+      reserved_placed s.queues c.reserve_one.new.records (λ k. ap (λ x. slot_of x k) c.reserve_one.ensures.records) c.self.invariant.placed;
+  tallied =
+      let s = c.self.inside in
+      reserved_tallied s.queues c.reserve_one.new.records (λ k. ap (λ x. slot_of x k) c.reserve_one.ensures.records) c.self.invariant.placed c.self.invariant.tallied;
+  armed =
+      let s = c.self.inside in
+      let same : (k : ℕ) → slot_of c.reserve_one.new.records k ≡ slot_of s.queues.locks k = λ k. ap (λ x. slot_of x k) c.reserve_one.ensures.records in
+      armed_reserved s.queues c.reserve_one.new.records same (reserved_handles s.queues c.reserve_one.new.records same c.self.invariant.placed) c.self.invariant.armed;
+}

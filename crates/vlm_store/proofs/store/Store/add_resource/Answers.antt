@@ -12,14 +12,14 @@ use Rattle.vlm_records.specs.declared.handles.Place.TheVariants.{Queued}
 use Rattle.vlm_records.specs.declared.resources.Resource.{Resource}
 use Rattle.vlm_words.specs.Keys.{is_same_key, is_same_key-Decides}
 use Rattle.vlm_store.specs.Records.{new_stored_resource, HasRoom, IsTaken}
-use Rattle.vlm_records.specs.Shown.{Face, face_in, lkid_of, new_face, order_links, row_in, room_in, but_queued}
+use Rattle.vlm_records.specs.Shown.{Face, face_in, lkid_of, new_face, order_links, row_in, room_in, but_queued, tally_in}
 use Rattle.vlm_store.specs.Store.{key_at, lkid_at, resource_of, tables, records_of}
 use Rattle.vlm_records.specs.Armed.{armed_list_in}
 use Rattle.vlm_records.proofs.Arming.{armed_resources}
 use Rattle.vlm_store.proofs.Indexing.{Indexes-added, Indexes-same}
 use Rattle.vlm_store.proofs.Kept.{no_resource, on_ok, on_err}
 use Rattle.vlm_store.proofs.Layouts.{HasResource-order, resource_made}
-use Rattle.vlm_records.proofs.Making.{face_by_face, face_is, key_by_face, none_handles, there_by_face, whole_grown, reserved_lists, resources_handles, resources_placed}
+use Rattle.vlm_records.proofs.Making.{face_by_face, face_is, key_by_face, none_handles, there_by_face, whole_grown, reserved_lists, resources_handles, resources_placed, resources_tallied}
 use Rattle.vlm_store.specs.Kept.{beside_shown}
 use Rattle.vlm_store.proofs.Kinship.{queued_below, queued_named, queued_owned, queued_processes}
 use Rattle.vlm_records.proofs.Places.{same_eq}
@@ -27,18 +27,6 @@ use Rattle.vlm_store.proofs.store.Store.add_resource.Goals as goal
 
 pub invariant_of-self : goal.invariant_of-self
 invariant_of-self c = resource_room_kept c.self.inside c.self.invariant c.reserve_one.new.records c.reserve_one.new.index c.reserve_one.ensures.records c.reserve_one.ensures.index
-
-pub add_resource-requires-clause-placed : goal.add_resource-requires-clause-placed
-add_resource-requires-clause-placed c =
-    let s = c.self.inside in
-    resources_placed s.queues c.reserve_one.new.records c.self.invariant.placed (reserved_lists s.queues c.reserve_one.new.records (λ r. ap (λ x. slot_of x r) c.reserve_one.ensures.records))
-
-pub add_resource-requires-clause-armed : goal.add_resource-requires-clause-armed
-add_resource-requires-clause-armed c =
-    let s = c.self.inside in
-    let same : (r : ℕ) → slot_of c.reserve_one.new.records r ≡ slot_of s.queues.resources r = λ r. ap (λ x. slot_of x r) c.reserve_one.ensures.records in
-    armed_resources s.queues c.reserve_one.new.records (λ r. ap armed_list_in (same r))
-    (resources_handles s.queues c.reserve_one.new.records c.self.invariant.placed (reserved_lists s.queues c.reserve_one.new.records same)) c.self.invariant.armed
 
 pub add_resource-requires-clause-linked : goal.add_resource-requires-clause-linked
 add_resource-requires-clause-linked c =
@@ -61,9 +49,9 @@ invariant_of-self-2 c =
     ap (λ es. lookup (is_same_key c.args.site.now.key) es) c.reserve_one.ensures.index
     ∙ no_resource s.queues s.order (beside_shown s) kept.placed kept.linked kept.ordered (get is_same_key s.resource_index) kept.resources c.args.site.now.key (rw (← c.self.view_is) at c.requires) in
     record {
-      placed = added.placed;
-      tallied = added.tallied;
-      armed = added.armed;
+      placed = added.laid_out.placed;
+      tallied = added.laid_out.tallied;
+      armed = added.laid_out.armed;
       line = line_same s.queues.locks q'.locks s.line (λ k. ap (λ l. slot_of l k) added.locks) kept.line;
       linked = added.linked;
       ordered = whole_grown order_links c.reserve_one.new.records q'.resources s.order c.add_resource.new.order at (λ r there. rw handles1 (kept.ordered r (rw (same r) at there))) added.order
@@ -145,3 +133,19 @@ pub returns-in_err-reserve_one-clause-err : goal.returns-in_err-reserve_one-clau
 returns-in_err-reserve_one-clause-err c =
     rw (← c.self.view_is)
     (on_err c.from_residual.result _ (resource_room_made c.self.inside c.reserve_one.new.records (spare c.reserve_one.new.index) c.reserve_one.ensures.records c.reserve_one.ensures.capacity c.reserve_one.ensures.finds))
+
+pub add_resource-requires-clause-laid_out : goal.add_resource-requires-clause-laid_out
+add_resource-requires-clause-laid_out c = record {
+  placed =
+      let s = c.self.inside in
+      resources_placed s.queues c.reserve_one.new.records c.self.invariant.placed (reserved_lists s.queues c.reserve_one.new.records (λ r. ap (λ x. slot_of x r) c.reserve_one.ensures.records));
+  tallied =
+      let s = c.self.inside in
+      let same : (r : ℕ) → slot_of c.reserve_one.new.records r ≡ slot_of s.queues.resources r = λ r. ap (λ x. slot_of x r) c.reserve_one.ensures.records in
+      resources_tallied s.queues c.reserve_one.new.records c.self.invariant.placed (reserved_lists s.queues c.reserve_one.new.records same) (λ r. ap tally_in (same r)) c.self.invariant.tallied;
+  armed =
+      let s = c.self.inside in
+      let same : (r : ℕ) → slot_of c.reserve_one.new.records r ≡ slot_of s.queues.resources r = λ r. ap (λ x. slot_of x r) c.reserve_one.ensures.records in
+      armed_resources s.queues c.reserve_one.new.records (λ r. ap armed_list_in (same r))
+      (resources_handles s.queues c.reserve_one.new.records c.self.invariant.placed (reserved_lists s.queues c.reserve_one.new.records same)) c.self.invariant.armed;
+}

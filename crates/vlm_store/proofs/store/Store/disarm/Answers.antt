@@ -27,10 +27,10 @@ invariant_of-self c =
     let q' = c.disarm.new.self in
     let rest = c.disarm.ensures.rest in
     record {
-      placed = c.disarm.ensures.placed;
-      tallied = c.disarm.ensures.tallied;
-      armed = c.disarm.ensures.armed;
-      line = line_disarmed s.queues q' s.line kept.placed c.disarm.ensures.placed c.disarm.ensures.line c.disarm.ensures.handles kept.line;
+      placed = c.disarm.ensures.laid_out.placed;
+      tallied = c.disarm.ensures.laid_out.tallied;
+      armed = c.disarm.ensures.laid_out.armed;
+      line = line_disarmed s.queues q' s.line kept.placed c.disarm.ensures.laid_out.placed c.disarm.ensures.line c.disarm.ensures.handles kept.line;
       linked = order_linked but_queues (λ r. refl) s.queues.resources q'.resources rest s.order kept.linked;
       ordered = order_whole but_queues (λ r. refl) s.queues.resources q'.resources rest s.order kept.linked kept.ordered;
       locks = Indexes-same (get nat_eq s.lock_index) (get nat_eq s.lock_index) (lkid_at s.queues) (lkid_at q') (λ k. refl) (queued_lkids s.processes s.queues.locks q'.locks c.disarm.ensures.kin) kept.locks;

@@ -23,22 +23,6 @@ leave_line-requires-clause-present c =
     let is = rw (← c.self.view_is) at c.requires.lock in
     rw c.slot-at.ensures (stored_there s.queues s.order (beside_shown s) c.self.invariant.placed c.args.lock is.0 is.1.0).0
 
-pub move_to-requires-clause-placed : goal.move_to-requires-clause-placed
-move_to-requires-clause-placed c =
-    let s = c.self.inside in
-    kin_placed s.queues c.leave_line.new.locks (line_kin s.queues.locks c.leave_line.new.locks c.leave_line.ensures.rest) c.self.invariant.placed
-
-pub move_to-requires-clause-tallied : goal.move_to-requires-clause-tallied
-move_to-requires-clause-tallied c =
-    let s = c.self.inside in
-    kin_tallied s.queues c.leave_line.new.locks (line_kin s.queues.locks c.leave_line.new.locks c.leave_line.ensures.rest) c.self.invariant.placed c.self.invariant.tallied
-
-pub move_to-requires-clause-armed : goal.move_to-requires-clause-armed
-move_to-requires-clause-armed c =
-    let s = c.self.inside in
-    let kin = line_kin s.queues.locks c.leave_line.new.locks c.leave_line.ensures.rest in
-    armed_kin s.queues c.leave_line.new.locks kin (kin_handles s.queues c.leave_line.new.locks kin c.self.invariant.placed) (kin_rows s.queues c.leave_line.new.locks kin) c.self.invariant.armed
-
 pub move_to-requires-clause-present : goal.move_to-requires-clause-present
 move_to-requires-clause-present c =
     let s = c.self.inside in
@@ -70,7 +54,7 @@ join_line-requires-clause-line c =
     let q1 = record s.queues { locks = c.leave_line.new.locks } in
     let moved = c.move_to.ensures in
     line_moved q1 c.move_to.new.self c.leave_line.new.line c.slot-at.result c.args.to (kin_placed s.queues c.leave_line.new.locks (line_kin s.queues.locks c.leave_line.new.locks c.leave_line.ensures.rest) c.self.invariant.placed)
-    moved.placed moved.line moved.here moved.elsewhere c.leave_line.ensures.line
+    moved.laid_out.placed moved.line moved.here moved.elsewhere c.leave_line.ensures.line
 
 pub join_line-requires-clause-present : goal.join_line-requires-clause-present
 join_line-requires-clause-present c =
@@ -97,13 +81,13 @@ invariant_of-self c =
     let moved = c.move_to.ensures in
     let rest = moved.rest in
     let kin3 = line_kin q2.locks locks3 c.join_line.ensures.rest in
-    let placed3 = kin_placed q2 locks3 kin3 moved.placed in
+    let placed3 = kin_placed q2 locks3 kin3 moved.laid_out.placed in
     let queued = same_then but_queued s.queues.locks q2.locks locks3 (same_then but_queued s.queues.locks locks1 q2.locks (line_queued s.queues.locks locks1 c.leave_line.ensures.rest) moved.kin)
     (line_queued q2.locks locks3 c.join_line.ensures.rest) in
     record {
       placed = placed3;
-      tallied = kin_tallied q2 locks3 kin3 moved.placed moved.tallied;
-      armed = armed_kin q2 locks3 kin3 (kin_handles q2 locks3 kin3 moved.placed) (kin_rows q2 locks3 kin3) moved.armed;
+      tallied = kin_tallied q2 locks3 kin3 moved.laid_out.placed moved.laid_out.tallied;
+      armed = armed_kin q2 locks3 kin3 (kin_handles q2 locks3 kin3 moved.laid_out.placed) (kin_rows q2 locks3 kin3) moved.laid_out.armed;
       line = c.join_line.ensures.line;
       linked = order_linked but_queues (λ r. refl) s.queues.resources q3.resources rest s.order kept.linked;
       ordered = order_whole but_queues (λ r. refl) s.queues.resources q3.resources rest s.order kept.linked kept.ordered;
@@ -132,7 +116,7 @@ returns c =
     let kin1 = line_kin s.queues.locks locks1 c.leave_line.ensures.rest in
     let kin3 = line_kin q2.locks locks3 c.join_line.ensures.rest in
     let handles1 = kin_handles s.queues locks1 kin1 kept.placed in
-    let handles3 = kin_handles q2 locks3 kin3 moved.placed in
+    let handles3 = kin_handles q2 locks3 kin3 moved.laid_out.placed in
     let rows1 = kin_rows s.queues locks1 kin1 in
     let rows3 = kin_rows q2 locks3 kin3 in
     let queued = same_then but_queued s.queues.locks q2.locks locks3 (same_then but_queued s.queues.locks locks1 q2.locks (line_queued s.queues.locks locks1 c.leave_line.ensures.rest) moved.kin)
@@ -145,3 +129,17 @@ returns c =
     (order_handles but_queues (λ r. refl) s.queues.resources q3.resources rest s.order kept.linked)
     (queued_processes s.processes s.queues.locks locks3 queued s.process_order kept.owned kept.below)
     (queues_room s q3 (c.join_line.ensures.room ∙ c.move_to.ensures.locks_room ∙ c.leave_line.ensures.room) c.move_to.ensures.resources_room))
+
+pub move_to-requires-clause-laid_out : goal.move_to-requires-clause-laid_out
+move_to-requires-clause-laid_out c = record {
+  placed =
+      let s = c.self.inside in
+      kin_placed s.queues c.leave_line.new.locks (line_kin s.queues.locks c.leave_line.new.locks c.leave_line.ensures.rest) c.self.invariant.placed;
+  tallied =
+      let s = c.self.inside in
+      kin_tallied s.queues c.leave_line.new.locks (line_kin s.queues.locks c.leave_line.new.locks c.leave_line.ensures.rest) c.self.invariant.placed c.self.invariant.tallied;
+  armed =
+      let s = c.self.inside in
+      let kin = line_kin s.queues.locks c.leave_line.new.locks c.leave_line.ensures.rest in
+      armed_kin s.queues c.leave_line.new.locks kin (kin_handles s.queues c.leave_line.new.locks kin c.self.invariant.placed) (kin_rows s.queues c.leave_line.new.locks kin) c.self.invariant.armed;
+}

@@ -40,44 +40,6 @@ leave_line-requires-clause-line c =
     let s = c.self.inside in
     line_own c.leave_parent.new.locks c.leave_process.new.locks s.line c.leave_process.ensures.relinks (line_below s.queues.locks c.leave_parent.new.locks s.line c.leave_parent.ensures.rest c.self.invariant.line)
 
-pub remove-requires-clause-placed : goal.remove-requires-clause-placed
-remove-requires-clause-placed c =
-    let s = c.self.inside in
-    let kept = c.self.invariant in
-    let parent = rw c.slot-at.ensures at c.leave_parent.ensures in
-    let process = rw c.slot-at.ensures at c.leave_process.ensures in
-    let lined = rw c.slot-at.ensures at c.leave_line.ensures in
-    kin_placed s.queues c.leave_line.new.locks
-    (same_then but_kin s.queues.locks c.leave_process.new.locks c.leave_line.new.locks
-    (same_then but_kin s.queues.locks c.leave_parent.new.locks c.leave_process.new.locks (below_kin s.processes s.queues.locks c.leave_parent.new.locks parent.rest) (own_kin c.leave_parent.new.locks c.leave_process.new.locks process.relinks))
-    (line_kin c.leave_process.new.locks c.leave_line.new.locks lined.rest))
-    kept.placed
-
-pub remove-requires-clause-tallied : goal.remove-requires-clause-tallied
-remove-requires-clause-tallied c =
-    let s = c.self.inside in
-    let kept = c.self.invariant in
-    let parent = rw c.slot-at.ensures at c.leave_parent.ensures in
-    let process = rw c.slot-at.ensures at c.leave_process.ensures in
-    let lined = rw c.slot-at.ensures at c.leave_line.ensures in
-    kin_tallied s.queues c.leave_line.new.locks
-    (same_then but_kin s.queues.locks c.leave_process.new.locks c.leave_line.new.locks
-    (same_then but_kin s.queues.locks c.leave_parent.new.locks c.leave_process.new.locks (below_kin s.processes s.queues.locks c.leave_parent.new.locks parent.rest) (own_kin c.leave_parent.new.locks c.leave_process.new.locks process.relinks))
-    (line_kin c.leave_process.new.locks c.leave_line.new.locks lined.rest))
-    kept.placed kept.tallied
-
-pub remove-requires-clause-armed : goal.remove-requires-clause-armed
-remove-requires-clause-armed c =
-    let s = c.self.inside in
-    let kept = c.self.invariant in
-    let parent = rw c.slot-at.ensures at c.leave_parent.ensures in
-    let process = rw c.slot-at.ensures at c.leave_process.ensures in
-    let lined = rw c.slot-at.ensures at c.leave_line.ensures in
-    let kin = same_then but_kin s.queues.locks c.leave_process.new.locks c.leave_line.new.locks
-    (same_then but_kin s.queues.locks c.leave_parent.new.locks c.leave_process.new.locks (below_kin s.processes s.queues.locks c.leave_parent.new.locks parent.rest) (own_kin c.leave_parent.new.locks c.leave_process.new.locks process.relinks))
-    (line_kin c.leave_process.new.locks c.leave_line.new.locks lined.rest) in
-    armed_kin s.queues c.leave_line.new.locks kin (kin_handles s.queues c.leave_line.new.locks kin kept.placed) (kin_rows s.queues c.leave_line.new.locks kin) kept.armed
-
 pub invariant_of-self : goal.invariant_of-self
 invariant_of-self c =
     let s = c.self.inside in
@@ -95,10 +57,10 @@ invariant_of-self c =
     (same_then but_kin s.queues.locks c.leave_parent.new.locks c.leave_process.new.locks (below_kin s.processes s.queues.locks c.leave_parent.new.locks parent.rest) (own_kin c.leave_parent.new.locks c.leave_process.new.locks process.relinks))
     (line_kin c.leave_process.new.locks c.leave_line.new.locks lined.rest) in
     record {
-      placed = removed.placed;
-      tallied = removed.tallied;
-      armed = removed.armed;
-      line = line_removed (record s.queues { locks = c.leave_line.new.locks }) q' c.leave_line.new.line c.args.lock (kin_placed s.queues c.leave_line.new.locks kin kept.placed) removed.placed removed.gone removed.line removed.handles lined.line;
+      placed = removed.laid_out.placed;
+      tallied = removed.laid_out.tallied;
+      armed = removed.laid_out.armed;
+      line = line_removed (record s.queues { locks = c.leave_line.new.locks }) q' c.leave_line.new.line c.args.lock (kin_placed s.queues c.leave_line.new.locks kin kept.placed) removed.laid_out.placed removed.gone removed.line removed.handles lined.line;
       linked = order_linked but_queues (λ r. refl) s.queues.resources q'.resources removed.rest s.order kept.linked;
       ordered = order_whole but_queues (λ r. refl) s.queues.resources q'.resources removed.rest s.order kept.linked kept.ordered;
       locks =
@@ -162,3 +124,39 @@ returns-clause-given_back c =
     (is_given_back s.queues.locks q'.locks c.args.lock (spare s.lock_index) (spare c.swap_remove.new.self)
     (removed.given_back ∙ ap (λ (p : ℕ × ℕ). (p.0 + 1, c.args.lock)) (lined.room ∙ process.locks_room ∙ parent.locks_room))
     (lock_there s c.self.invariant c.args.lock stored.0 stored.1).1 c.swap_remove.ensures.room.0))
+
+pub remove-requires-clause-laid_out : goal.remove-requires-clause-laid_out
+remove-requires-clause-laid_out c = record {
+  placed =
+      let s = c.self.inside in
+      let kept = c.self.invariant in
+      let parent = rw c.slot-at.ensures at c.leave_parent.ensures in
+      let process = rw c.slot-at.ensures at c.leave_process.ensures in
+      let lined = rw c.slot-at.ensures at c.leave_line.ensures in
+      kin_placed s.queues c.leave_line.new.locks
+      (same_then but_kin s.queues.locks c.leave_process.new.locks c.leave_line.new.locks
+      (same_then but_kin s.queues.locks c.leave_parent.new.locks c.leave_process.new.locks (below_kin s.processes s.queues.locks c.leave_parent.new.locks parent.rest) (own_kin c.leave_parent.new.locks c.leave_process.new.locks process.relinks))
+      (line_kin c.leave_process.new.locks c.leave_line.new.locks lined.rest))
+      kept.placed;
+  tallied =
+      let s = c.self.inside in
+      let kept = c.self.invariant in
+      let parent = rw c.slot-at.ensures at c.leave_parent.ensures in
+      let process = rw c.slot-at.ensures at c.leave_process.ensures in
+      let lined = rw c.slot-at.ensures at c.leave_line.ensures in
+      kin_tallied s.queues c.leave_line.new.locks
+      (same_then but_kin s.queues.locks c.leave_process.new.locks c.leave_line.new.locks
+      (same_then but_kin s.queues.locks c.leave_parent.new.locks c.leave_process.new.locks (below_kin s.processes s.queues.locks c.leave_parent.new.locks parent.rest) (own_kin c.leave_parent.new.locks c.leave_process.new.locks process.relinks))
+      (line_kin c.leave_process.new.locks c.leave_line.new.locks lined.rest))
+      kept.placed kept.tallied;
+  armed =
+      let s = c.self.inside in
+      let kept = c.self.invariant in
+      let parent = rw c.slot-at.ensures at c.leave_parent.ensures in
+      let process = rw c.slot-at.ensures at c.leave_process.ensures in
+      let lined = rw c.slot-at.ensures at c.leave_line.ensures in
+      let kin = same_then but_kin s.queues.locks c.leave_process.new.locks c.leave_line.new.locks
+      (same_then but_kin s.queues.locks c.leave_parent.new.locks c.leave_process.new.locks (below_kin s.processes s.queues.locks c.leave_parent.new.locks parent.rest) (own_kin c.leave_parent.new.locks c.leave_process.new.locks process.relinks))
+      (line_kin c.leave_process.new.locks c.leave_line.new.locks lined.rest) in
+      armed_kin s.queues c.leave_line.new.locks kin (kin_handles s.queues c.leave_line.new.locks kin kept.placed) (kin_rows s.queues c.leave_line.new.locks kin) kept.armed;
+}

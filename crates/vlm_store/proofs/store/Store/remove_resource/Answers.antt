@@ -38,9 +38,9 @@ invariant_of-self c =
     let q' = c.remove_resource.new.self in
     let gone = rw c.slot-2.ensures at c.remove_resource.ensures in
     record {
-      placed = gone.placed;
-      tallied = gone.tallied;
-      armed = gone.armed;
+      placed = gone.laid_out.placed;
+      tallied = gone.laid_out.tallied;
+      armed = gone.laid_out.armed;
       line = line_same s.queues.locks q'.locks s.line (λ k. ap (λ l. slot_of l k) gone.locks) kept.line;
       linked = gone.linked;
       ordered = whole_left order_links s.queues.resources q'.resources s.order c.remove_resource.new.order c.args.res kept.ordered gone.order gone.gone

@@ -30,9 +30,9 @@ invariant_of-self c =
     let q' = c.set_value_block.new.self in
     let set = c.set_value_block.ensures in
     record {
-      placed = set.placed;
-      tallied = set.tallied;
-      armed = set.armed;
+      placed = set.laid_out.placed;
+      tallied = set.laid_out.tallied;
+      armed = set.laid_out.armed;
       line = line_same s.queues.locks q'.locks s.line (λ k. ap (λ l. slot_of l k) set.locks) kept.line;
       linked = order_linked but_value_block (λ r. refl) s.queues.resources q'.resources set.rest s.order kept.linked;
       ordered = order_whole but_value_block (λ r. refl) s.queues.resources q'.resources set.rest s.order kept.linked kept.ordered;
