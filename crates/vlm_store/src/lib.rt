@@ -23,6 +23,7 @@ mod pending;
 mod store;
 
 pub use store::Store;
+pub use vlm_links::HashKeys;
 pub use vlm_records::{
     Authorization, Lock, LockAt, LockKind, Place, ProcAt, Process, ProcessKind, ResAt, Resource,
     ResourceKind,
