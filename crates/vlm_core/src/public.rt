@@ -16,8 +16,8 @@ use std::marker::Model;
 use vlm_cycle::Scratch;
 use vlm_locks::Touched;
 use vlm_machine::Machine;
-use vlm_store::{HashKeys, Store};
 use vlm_store::laws::law_records_are_sound;
+use vlm_store::{HashKeys, Store};
 use vlm_words::laws::{
     law_a_declaration_gives_a_new_identification, law_a_parent_outlives_its_sublocks,
     law_each_resource_is_settled, law_held_modes_are_compatible, law_identifications_are_apart,
