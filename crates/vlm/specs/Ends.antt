@@ -1,5 +1,5 @@
 -- What a call of the program comes to: its exit status, and what it has then read and written.
-use Rattle.std.specs.Prelude.{◌≡◌, ◌≢◌, ℕ, List, [], ◌++◌, ◌⊎◌, Option, Result, Ok, Err, IfSome, codes}
+use Rattle.std.specs.Prelude.{◌≡◌, ◌≢◌, ℕ, List, [], ◌⊎◌, Option, Result, Ok, Err, IfSome, codes}
 use Rattle.std.specs.Io.KnownBytes.{Appends}
 use Rattle.clap.specs.Words.{Text}
 use Rattle.clap.specs.declared.error.kind.ErrorKind.{ErrorKind}
@@ -8,7 +8,6 @@ use Rattle.vlm.specs.Words.{IsErrorOf, IsHelp, word_errors}
 use Rattle.vlm_script.specs.declared.faults.PlayFault.{PlayFault}
 use Rattle.vlm_script.specs.declared.faults.PlayFault.TheVariants.{Line, Memory, Read, Write, Long}
 use Rattle.vlm_script.specs.Faults.{fault_line}
-use Rattle.vlm_script.specs.Texts.{line_feed}
 use Rattle.vlm_script.specs.Plays.{PassesPart, Plays, ConsumesAtMost, ReadsFirst, ReadsScript, Wrote}
 
 -- what the two writers hold, that of the text and that of the faults, where each tells it
@@ -50,7 +49,7 @@ pub record RunsScript (script left : Option (List ℕ)) (old new : Output) (stat
 
 -- the line of want of random bytes
 abbrev pub random_bytes_line : List ℕ
-random_bytes_line = codes "no random bytes" ++ line_feed
+random_bytes_line = codes "no random bytes\n"
 
 -- that line is printed, or where a write fails only a first part of it
 abbrev pub PrintsNoRandomBytes : Option (List ℕ) → Option (List ℕ) → Type 0
