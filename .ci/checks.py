@@ -1,6 +1,7 @@
-"""Counts the checks of programs."""
+"""Counts the checks of programs, and builds what stands in front of the C library in some of them."""
 
 import subprocess
+from pathlib import Path
 
 # A run that takes longer has failed.
 SECONDS = 20
@@ -12,6 +13,15 @@ def failures(wrong):
         return list(wrong)
     except (OSError, subprocess.TimeoutExpired) as ended:
         return [str(ended)]
+
+
+def build_interposer(source, folder):
+    """The path of a library, in this folder, that stands in front of the C library where LD_PRELOAD names it."""
+    doc = subprocess.run(["rt", "doc"], capture_output=True, text=True, check=True).stdout.strip()
+    clang = Path(doc).parent / "toolchain" / "bin" / "clang"
+    built = Path(folder) / source.with_suffix(".so").name
+    subprocess.run([clang, "-shared", "-fPIC", "-nostdlib", "-O1", "-o", built, source], check=True)
+    return str(built)
 
 
 def count(programs, checks_of):

@@ -1,5 +1,5 @@
 -- What a call of the program comes to: its exit status, and what it has then read and written.
-use Rattle.std.specs.Prelude.{◌≡◌, ◌≢◌, ℕ, List, [], ◌⊎◌, Option, Result, Ok, Err, IfSome}
+use Rattle.std.specs.Prelude.{◌≡◌, ◌≢◌, ℕ, List, [], ◌⊎◌, Option, Result, Ok, Err, IfSome, codes}
 use Rattle.std.specs.Io.KnownBytes.{Appends}
 use Rattle.clap.specs.Words.{Text}
 use Rattle.clap.specs.declared.error.kind.ErrorKind.{ErrorKind}
@@ -47,6 +47,26 @@ pub record RunsScript (script left : Option (List ℕ)) (old new : Output) (stat
   pub ended : status ≡ status_of end
   pub faults : PrintsEnd end old.faults new.faults
 
+-- the line of want of random bytes
+abbrev pub random_bytes_line : List ℕ
+random_bytes_line = codes "no random bytes\n"
+
+-- that line is printed, or where a write fails only a first part of it
+abbrev pub PrintsNoRandomBytes : Option (List ℕ) → Option (List ℕ) → Type 0
+PrintsNoRandomBytes old new =
+    Appends old new random_bytes_line ⊎ PassesPart old new random_bytes_line
+
+-- the system gave no random bytes
+pub record WantsRandomBytes (old new : Output) (status : ℕ) : Type 0 where
+  pub printed : new.printed ≡ old.printed
+  pub faults : PrintsNoRandomBytes old.faults new.faults
+  pub ended : status ≡ 3
+
+-- a script was run, or the system gave no random bytes, and nothing was read
+abbrev pub StartsRun : Option (List ℕ) → Option (List ℕ) → Output → Output → ℕ → Type 0
+StartsRun script left old new status =
+    RunsScript script left old new status ⊎ ((left ≡ script) × WantsRandomBytes old new status)
+
 -- the help that was asked for stands on standard output
 pub record GivesHelp (old new : Output) (status : ℕ) : Type 0 where
   pub help : List ℕ
@@ -81,15 +101,15 @@ EndsByError kind old new status =
     ⊎ (IsHelp kind × (GivesHelp old new status ⊎ FailsHelp old new status))
     ⊎ ((kind ≢ OutOfMemory) × (IsHelp kind → ⊥) × RefusesWords old new status)
 
--- the words ask for a run, and the script was run; or they get an error, and nothing was read
+-- the words ask for a run, and it was started; or they get an error, and nothing was read
 abbrev pub EndsByWords : List Text → Option (List ℕ) → Option (List ℕ)
     → Output → Output → ℕ → Type 0
 EndsByWords words script left old new status =
-    ((word_errors words ≡ []) × RunsScript script left old new status)
+    ((word_errors words ≡ []) × StartsRun script left old new status)
     ⊎ ((left ≡ script)
     × ((kind : ErrorKind) × IsErrorOf words kind × EndsByError kind old new status))
 
--- a script was run, or memory ran out before any of it was read
+-- a run was started, or memory ran out before
 abbrev pub RunsOrWantsMemory : Option (List ℕ) → Option (List ℕ) → Output → Output → ℕ → Type 0
 RunsOrWantsMemory script left old new status =
-    RunsScript script left old new status ⊎ ((left ≡ script) × WantsMemory old new status)
+    StartsRun script left old new status ⊎ ((left ≡ script) × WantsMemory old new status)

@@ -3,14 +3,15 @@
 ghost use Rattle.std.specs.Prelude.{◌≡◌, ◌⊎◌, ℕ, List, [], ◌∷◌, Err, IfOk, codes, map};
 ghost use Rattle.clap.specs.Words.{FailsBy, app_of, kind_of};
 ghost use Rattle.vlm.specs.Words.{program_commands, word_errors};
-ghost use Rattle.vlm.specs.Ends.{EndsByError, EndsByWords, FailsHelp, GivesHelp, PrintsFault, RunsOrWantsMemory, RunsScript, output_of, status_of};
+ghost use Rattle.vlm.specs.Ends.{EndsByError, EndsByWords, FailsHelp, GivesHelp, PrintsFault, PrintsNoRandomBytes, RunsOrWantsMemory, RunsScript, StartsRun, output_of, status_of};
 
 use clap::error::ErrorKind;
 use clap::{Command, Error};
 use std::alloc::{AllocError, Global};
 use std::convert::AsStr;
 use std::io::{Read, Write};
-use vlm_script::{PlayFault, play, write_whole};
+use std::random::RandomSource;
+use vlm_script::{HashKeys, PlayFault, play, write_whole};
 
 // The script ran, or help was asked for and given.
 const DONE: u8 = 0;
@@ -18,7 +19,7 @@ const DONE: u8 = 0;
 const SCRIPT_FAULT: u8 = 1;
 // The command line is refused.
 const REFUSED: u8 = 2;
-// Memory, a stream or the script's length did not serve.
+// Memory, random bytes, a stream or the script's length did not serve.
 const FAILED: u8 = 3;
 
 const ABOUT: &str =
@@ -64,10 +65,10 @@ prints
 
 /// Runs the program on its words, the first of which is its name, and answers its exit status: 0
 /// where it is done, or help was asked for and printed; 1 for a fault of the script; 2 where the
-/// command line is refused; 3 for want of memory, a failed read or write, or a script that is too
-/// long. What is wrong is printed on `faults`; where that fails, the status stays.
+/// command line is refused; 3 for want of memory or of random bytes, a failed read or write, or a script that
+/// is too long. What is wrong is printed on `faults`; where that fails, the status stays.
 pub fn run_words<S: AsStr, R: Read, W: Write, F: Write>(
-    rt: &impl AllocGlobal,
+    rt: &(impl AllocGlobal + RandomSource),
     words: &[S],
     reader: &mut R,
     writer: &mut W,
@@ -86,14 +87,42 @@ pub fn run_words<S: AsStr, R: Read, W: Write, F: Write>(
 {
     let alloc = rt.alloc();
     match chosen(alloc, words) {
-        Ok(()) => run_script(alloc, reader, writer, faults),
+        Ok(()) => start_run(rt, reader, writer, faults),
         Err(error) => refused(alloc, &error, writer, faults),
     }
+}
+
+// Runs the script, where the system gives the bytes by which the indexes hash.
+fn start_run<R: Read, W: Write, F: Write>(
+    rt: &(impl AllocGlobal + RandomSource),
+    reader: &mut R,
+    writer: &mut W,
+    faults: &mut F,
+) -> u8
+    ensures { StartsRun (R.remaining reader.old) (R.remaining reader.new)
+        (output_of (W.contents writer.old) (F.contents faults.old))
+        (output_of (W.contents writer.new) (F.contents faults.new)) result }
+{
+    let mut bytes = [0; 16];
+    match rt.fill_bytes(&mut bytes) {
+        Ok(()) => run_script(rt.alloc(), HashKeys::of(bytes), reader, writer, faults),
+        Err(_) => without_random_bytes(faults),
+    }
+}
+
+// The system gives no random bytes.
+fn without_random_bytes<F: Write>(faults: &mut F) -> u8
+    ensures status { result ≡ 3 }
+    ensures faults { PrintsNoRandomBytes (F.contents faults.old) (F.contents faults.new) }
+{
+    let _ = write_whole(faults, b"no random bytes\n");
+    FAILED
 }
 
 // Runs the script, and prints the fault that ended it.
 fn run_script<R: Read, W: Write, F: Write>(
     alloc: Global,
+    keys: HashKeys,
     reader: &mut R,
     writer: &mut W,
     faults: &mut F,
@@ -102,7 +131,7 @@ fn run_script<R: Read, W: Write, F: Write>(
         (output_of (W.contents writer.old) (F.contents faults.old))
         (output_of (W.contents writer.new) (F.contents faults.new)) result }
 {
-    match play(alloc, reader, writer) {
+    match play(alloc, keys, reader, writer) {
         Ok(()) => DONE,
         Err(fault) => failed(&fault, faults),
     }

@@ -12,3 +12,4 @@ mod running;
 pub use public::Core;
 pub use running::{Stopped, run_steps};
 pub use vlm_queue::{ResourceView, RowView};
+pub use vlm_store::HashKeys;

@@ -16,8 +16,8 @@ use std::marker::Model;
 use vlm_cycle::Scratch;
 use vlm_locks::Touched;
 use vlm_machine::Machine;
-use vlm_store::Store;
 use vlm_store::laws::law_records_are_sound;
+use vlm_store::{HashKeys, Store};
 use vlm_words::laws::{
     law_a_declaration_gives_a_new_identification, law_a_parent_outlives_its_sublocks,
     law_each_resource_is_settled, law_held_modes_are_compatible, law_identifications_are_apart,
@@ -61,12 +61,20 @@ impl Model for Core {
 }
 
 impl Core {
-    /// A machine at its start. It takes no memory.
+    /// A machine at its start. It takes no memory. Its indexes hash by fixed keys: where somebody else chooses names,
+    /// give keys that nobody can foresee (`with_keys`).
     pub fn new(alloc: Global) -> Core
         ensures { result ≡ start }
     {
+        Core::with_keys(alloc, HashKeys::fixed())
+    }
+
+    /// A machine at its start, whose indexes hash by these keys. It takes no memory.
+    pub fn with_keys(alloc: Global, keys: HashKeys) -> Core
+        ensures { result ≡ start }
+    {
         Core {
-            machine: Machine::new(alloc),
+            machine: Machine::with_keys(alloc, keys),
             touched: Touched::new(alloc),
             scratch: Scratch::new(alloc),
         }

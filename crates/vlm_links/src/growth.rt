@@ -8,13 +8,13 @@ use crate::link::LAST_HANDLE;
 use indexmap::IndexMap;
 use slab::Slab;
 use std::alloc::AllocError;
-use std::hash::Hash;
+use std::hash::{BuildHasher, Hash};
 
 /// Makes room for one more record, and for its key in the index, where there is none. It is refused where memory
 /// is, and where the slab has given out the last handle that a link can lead to.
-pub fn reserve_one<T, K: Eq + Hash, V>(
+pub fn reserve_one<T, K: Eq + Hash, V, S: BuildHasher>(
     records: &mut Slab<T>,
-    index: &mut IndexMap<K, V>,
+    index: &mut IndexMap<K, V, S>,
 ) -> Result<(), AllocError>
     ensures records { records.new ≡ record records.old { capacity = records.new.capacity } }
     ensures capacity { records.old.capacity ≤ records.new.capacity }

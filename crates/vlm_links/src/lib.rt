@@ -1,4 +1,5 @@
-//! The records of a slab: their handles, doubly linked lists that run through them, and room for one more.
+//! The records of a slab: their handles, doubly linked lists that run through them, room for one more, and the
+//! hasher of the indexes that find them.
 //!
 //! A list is a chain of handles, the keys of a slab. Its links stand in the records themselves, so that a record joins at
 //! the end and leaves from anywhere in constant time, and neither wants memory. A record may stand in
@@ -18,10 +19,12 @@
 
 mod growth;
 mod handles;
+mod hashing;
 mod link;
 mod lists;
 
 pub use growth::reserve_one;
 pub use handles::At;
+pub use hashing::HashKeys;
 pub use link::{LAST_HANDLE, Links};
 pub use lists::{Linked, LinkedList};

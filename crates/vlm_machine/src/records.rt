@@ -15,7 +15,7 @@ use std::alloc::Global;
 use std::marker::Model;
 use vlm_cycle::Scratch;
 use vlm_locks::{Touch, Touched, sweep};
-use vlm_store::{ResAt, Store};
+use vlm_store::{HashKeys, ResAt, Store};
 use vlm_words::steps::{Answer, Step};
 
 /// The machine, with its records under their handles.
@@ -44,13 +44,20 @@ impl Model for Machine {
 }
 
 impl Machine {
-    /// A machine at its start. It takes no memory.
+    /// A machine at its start, whose indexes hash by fixed keys. It takes no memory.
     pub fn new(alloc: Global) -> Machine
+        ensures { plain_state result ≡ start }
+    {
+        Machine::with_keys(alloc, HashKeys::fixed())
+    }
+
+    /// A machine at its start, whose indexes hash by these keys. It takes no memory.
+    pub fn with_keys(alloc: Global, keys: HashKeys) -> Machine
         ensures { plain_state result ≡ start }
     {
         Machine {
             nodes: [Node::new(); NODES],
-            store: Store::new(alloc),
+            store: Store::with_keys(alloc, keys),
             last_lkid: 0,
             last_request: 0,
             last_serial: 0,

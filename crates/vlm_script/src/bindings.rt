@@ -6,10 +6,11 @@ ghost use Rattle.vlm_script.specs.Scripts.{bound_to};
 ghost use Rattle.vlm_script.specs.Bindings.{bindings_of};
 
 use indexmap::IndexMap;
+use vlm_core::HashKeys;
 use vlm_lines::ProcessName;
 
 /// The names of the script, each with its process, in the order of their declarations.
-pub(crate) type Bindings = IndexMap<ProcessName, u32>;
+pub(crate) type Bindings = IndexMap<ProcessName, u32, HashKeys>;
 
 /// The process that the name is bound to.
 pub(crate) fn bound_to(names: &Bindings, name: &ProcessName) -> Option<u32>

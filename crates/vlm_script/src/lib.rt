@@ -18,4 +18,5 @@ mod streams;
 pub use faults::PlayFault;
 pub use runs::play;
 pub use streams::write_whole;
+pub use vlm_core::HashKeys;
 pub use vlm_lines::{read_line, read_res};

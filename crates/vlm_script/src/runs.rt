@@ -12,6 +12,7 @@ use crate::stops::Stop;
 use crate::streams::{read_whole, write_whole};
 use std::alloc::Global;
 use std::io::{Read, Write};
+use vlm_core::HashKeys;
 
 // How many printed bytes wait at most before they are written, but for a line's last ones.
 const WAITING: usize = 65_536;
@@ -23,9 +24,11 @@ const WAITING: usize = 65_536;
 /// ends the run with `Line`, once the text of the lines before it is written; a refused growth ends
 /// it with `Memory` in the same way; a write that fails or takes no byte ends it with `Write`. A
 /// step that answers INSFMEM is printed like any other. Memory grows with the script and with the
-/// state of the machine; the time beyond the steps' own grows with the script's bytes.
+/// state of the machine; the time beyond the steps' own grows with the script's bytes. No script is slow by
+/// its names where nobody could foresee the keys.
 pub fn play<R: Read, W: Write>(
     alloc: Global,
+    keys: HashKeys,
     reader: &mut R,
     writer: &mut W,
 ) -> Result<(), PlayFault>
@@ -42,16 +45,21 @@ pub fn play<R: Read, W: Write>(
         (W.contents writer.new ≡ W.contents writer.old) }
 {
     let input = read_whole(alloc, reader)?;
-    run_script(alloc, &input, writer)
+    run_script(alloc, keys, &input, writer)
 }
 
 // Runs the lines of a script, and writes what they print.
-fn run_script<W: Write>(alloc: Global, input: &[u8], writer: &mut W) -> Result<(), PlayFault>
+fn run_script<W: Write>(
+    alloc: Global,
+    keys: HashKeys,
+    input: &[u8],
+    writer: &mut W,
+) -> Result<(), PlayFault>
     ensures played { Wrote (W.contents writer.old) (W.contents writer.new)
         (Plays input.now result) }
     ensures faults { IfErr result EndsLines }
 {
-    let mut session = Session::new(alloc);
+    let mut session = Session::new(alloc, keys);
     run_lines(alloc, &mut session, input, writer)
 }
 

@@ -11,7 +11,7 @@ use crate::show::show;
 use crate::stops::Stop;
 use std::alloc::Global;
 use std::marker::Model;
-use vlm_core::Core;
+use vlm_core::{Core, HashKeys};
 use vlm_lines::{Line, LineFault, NO_PROCESS, ProcessName, read_line};
 use vlm_words::steps::{Answer, Conversion, Declaration, Dequeue, NewRequest, Step, ValueSetting};
 
@@ -33,13 +33,13 @@ impl Model for Session {
 }
 
 impl Session {
-    /// A session in which nothing has happened.
-    pub(crate) fn new(alloc: Global) -> Self
+    /// A session in which nothing has happened, whose indexes hash by these keys.
+    pub(crate) fn new(alloc: Global, keys: HashKeys) -> Self
         ensures { result ≡ opening }
     {
         Session {
-            core: Core::new(alloc),
-            names: Bindings::new(alloc),
+            core: Core::with_keys(alloc, keys),
+            names: Bindings::with_hasher(alloc, keys),
         }
     }
 

@@ -3,12 +3,12 @@ use Rattle.vlm_core.specs.Core.{IsReachable}
 use Rattle.vlm_core.proofs.Reaching.{start_reachable}
 use Rattle.vlm_machine.proofs.Noting.{none_at_start}
 use Rattle.vlm_machine.proofs.Roomy.{none_lives_at_start}
-use Rattle.vlm_core.proofs.public.Core.new.Goals as goal
+use Rattle.vlm_core.proofs.public.Core.with_keys.Goals as goal
 
 -- the start is reached by no step, and no lock is there
 pub invariant_of-result : goal.invariant_of-result
 invariant_of-result c = record {
-  reachable = subst IsReachable (sym c.new.ensures) start_reachable;
-  notes = none_at_start c.new.result c.new-2.result c.new.ensures c.new-2.ensures;
-  marks = none_lives_at_start c.new.result c.new-3.result c.new.ensures;
+  reachable = subst IsReachable (sym c.with_keys.ensures) start_reachable;
+  notes = none_at_start c.with_keys.result c.new.result c.with_keys.ensures c.new.ensures;
+  marks = none_lives_at_start c.with_keys.result c.new-2.result c.with_keys.ensures;
 }
