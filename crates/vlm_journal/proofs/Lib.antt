@@ -1,0 +1,4 @@
+pub mod Appending
+pub mod Joining
+pub mod Worlds
+pub mod Departed

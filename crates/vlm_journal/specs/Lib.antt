@@ -1,0 +1,5 @@
+pub mod Journals
+pub mod Told
+pub mod Lengthening
+pub mod Departed
+pub mod Worlds
