@@ -2,3 +2,4 @@ pub mod Appending
 pub mod Joining
 pub mod Worlds
 pub mod Departed
+pub mod Drawing

@@ -2,4 +2,5 @@ pub mod Journals
 pub mod Told
 pub mod Lengthening
 pub mod Departed
+pub mod Drawing
 pub mod Worlds

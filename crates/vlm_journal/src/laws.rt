@@ -1,16 +1,24 @@
 //! What holds of every journal. The functions do nothing, but that some call a law that they rest on: their contracts are
 //! the laws.
 
-ghost use Rattle.std.specs.Prelude.{◌↔◌, ◌++◌, ◌<◌, ◌≤◌, ℕ, All, List, []};
-ghost use Rattle.vlm_words.specs.Runs.{Legal};
+ghost use Rattle.std.specs.Prelude.{◌≡◌, ◌↔◌, ◌++◌, ◌<◌, ◌≤◌, ℕ, All, List, [], Some};
+ghost use Rattle.vlm_words.specs.declared.steps.Answer.{Answer};
+ghost use Rattle.vlm_words.specs.declared.steps.Step.TheVariants.{Take};
+ghost use Rattle.vlm_words.specs.Pending.{first_pending};
+ghost use Rattle.vlm_words.specs.Runs.{History, Legal, Run};
 ghost use Rattle.vlm_words.specs.State.{State};
+ghost use Rattle.vlm_words.specs.Stepped.{Outcome};
 ghost use Rattle.vlm_journal.specs.declared.entries.Entry.{Entry};
 ghost use Rattle.vlm_journal.specs.Departed.{IsAnsweredDeparted};
+ghost use Rattle.vlm_journal.specs.Drawing.{GivesAst};
 ghost use Rattle.vlm_journal.specs.Journals.{IsAllowed, Journal, JournalFrom, answers_of, steps_of};
 ghost use Rattle.vlm_journal.specs.Lengthening.{IsSilent, LengthensLittle};
 ghost use Rattle.vlm_journal.specs.Worlds.{Event, IsRight, Reached, World};
 
-use vlm_laws::laws::law_a_departed_node_is_answered_departed;
+use vlm_laws::laws::{
+    law_a_departed_node_is_answered_departed, law_no_process_of_a_departed_node_lives,
+};
+use vlm_words::laws::law_identifications_of_processes_rise;
 
 /// The steps and answers of a legal journal are a legal run of the machine, and each of its entries is one that a hub may
 /// make; and what is so is a legal journal. So every law of such runs holds of what a hub does.
@@ -44,6 +52,18 @@ pub fn law_departed()
         → (node : ℕ) → 0 < node → IsAnsweredDeparted node entries }
 {
     law_a_departed_node_is_answered_departed();
+}
+
+/// A take that the hub makes takes an AST where one is pending: after every run, a take of the first process of a node that
+/// has an AST pending is answered an AST, and that process is one of the node.
+pub fn law_draw()
+    ensures { (history : History) (last : State) → Run history last
+        → (node pid : ℕ) → first_pending node last.processes ≡ Some pid
+        → (new : State) (answer : Answer) → Outcome last (Take pid) new answer → GivesAst node pid answer }
+{
+    law_a_departed_node_is_answered_departed();
+    law_no_process_of_a_departed_node_lives();
+    law_identifications_of_processes_rise();
 }
 
 /// After whatever has happened between a hub and its nodes, of which there are up to 8, the journal is legal. What is
