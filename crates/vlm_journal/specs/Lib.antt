@@ -4,3 +4,4 @@ pub mod Lengthening
 pub mod Departed
 pub mod Drawing
 pub mod Worlds
+pub mod Books

@@ -22,3 +22,12 @@ pub enum Item {
     /// An AST of a process of the node, with the identification of that process.
     Ast(u32, Ast),
 }
+
+/// A part of a journal, from one cut to the next.
+#[derive(Drop)]
+pub struct Part {
+    /// How many entries were handed out before it, or `u64::MAX` where there were more.
+    pub base: u64,
+    /// Its entries, in order.
+    pub entries: Vec<Entry>,
+}
