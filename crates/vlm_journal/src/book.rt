@@ -136,8 +136,8 @@ impl Book {
     {
         law_entry();
         let answer = self.core.step(Step::Leave(node));
-        self.entries
-            .push_reserved(entry(0, Step::Leave(node), answer));
+        let written = entry(0, Step::Leave(node), answer);
+        self.entries.push_reserved(written);
         answer
     }
 
