@@ -1,0 +1,4 @@
+pub mod Fronts
+pub mod Lines
+pub mod Resting
+pub mod Losing
