@@ -2,3 +2,4 @@ pub mod Fronts
 pub mod Lines
 pub mod Resting
 pub mod Losing
+pub mod Asking

@@ -1,10 +1,11 @@
 -- What a hub has written down, and what it knows of its ports.
-use Rattle.std.specs.Prelude.{◌≡◌, ◌⊎◌, ◌<◌, ◌≤◌, ◌-◌, ◌++◌, ℕ, List, [], length, map, slice_get, slice_index_or, Some, None}
+use Rattle.std.specs.Prelude.{◌≡◌, ◌⊎◌, ◌<◌, ◌≤◌, ◌-◌, ◌+◌, ◌++◌, ℕ, List, [], length, map, slice_get, slice_index_or, Some, None}
 use Rattle.vlm_words.specs.declared.steps.Step.{Step}
 use Rattle.vlm_words.specs.Pending.{first_pending}
 use Rattle.vlm_words.specs.State.{State}
 use Rattle.vlm_journal.specs.declared.entries.Entry.{Entry}
 use Rattle.vlm_journal.specs.declared.entries.Item.{Item}
+use Rattle.vlm_journal.specs.Told.{asked}
 use Rattle.vlm_ports.specs.declared.hub.Hub.{Hub}
 use Rattle.vlm_ports.specs.declared.line.Line.{Line}
 use Rattle.vlm_ports.specs.declared.port.Port.{Port}
@@ -75,3 +76,16 @@ pub record Grew (n : ℕ) (old new : List Entry) : Type 0 where
   pub more : List Entry
   pub is : new ≡ old ++ more
   pub count : length more ≡ n
+
+-- by these entries no node asks for more
+abbrev pub NoneAsks : List Entry → List Entry → Type 0
+NoneAsks old new = (k : ℕ) → asked (k + 1) new ≡ asked (k + 1) old
+
+-- none but the node of the line at a place asks for more, and that for one step at most
+pub record OneAsks (at : ℕ) (old new : List Entry) : Type 0 where
+  pub own : length (asked (at + 1) new) ≤ length (asked (at + 1) old) + 1
+  pub others : (k : ℕ) → (k ≡ at → ⊥) → asked (k + 1) new ≡ asked (k + 1) old
+
+-- at most one request of each node was taken
+abbrev pub EachAsksOnce : List Entry → List Entry → Type 0
+EachAsksOnce old new = (node : ℕ) → 0 < node → length (asked node new) ≤ length (asked node old) + 1

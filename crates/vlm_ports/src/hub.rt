@@ -49,7 +49,7 @@ impl Hub {
     ghost use Rattle.vlm_journal.specs.Books.{GoesOn};
     ghost use Rattle.vlm_journal.specs.Told.{asked, told};
     ghost use Rattle.vlm_ports.specs.Turns.{IsIdle, IsServed, turn_entries};
-    ghost use Rattle.vlm_ports.specs.Hubs.{Grew, IsDrawnAt, IsPortOf, IsSameBut, MayIdle, MayRestAt, asked_before, base, bases, free_for, journal, nodes, rings, state, told_before, waiting};
+    ghost use Rattle.vlm_ports.specs.Hubs.{EachAsksOnce, Grew, IsDrawnAt, IsPortOf, IsSameBut, MayIdle, MayRestAt, NoneAsks, OneAsks, asked_before, base, bases, free_for, journal, nodes, rings, state, told_before, waiting};
     ghost use Rattle.vlm_ports.specs.Ports.{AreNew, arrived, identity, posted, taken};
 
     /// How many nodes it serves.
@@ -100,6 +100,7 @@ impl Hub {
         ensures some { IsServed result → 0 < turn_entries result }
         ensures kept { IsPrefix (journal self.old) (journal self.new) }
         ensures most { turn_entries result ≤ 2 * nodes self.old }
+        ensures once { EachAsksOnce (journal self.old) (journal self.new) }
         ensures idle { IsIdle result → MayIdle self.new }
     {
         let mut made = 0usize;
@@ -191,6 +192,7 @@ impl Hub {
         ensures base { (base self.new ≡ base self.old) × (bases self.new ≡ bases self.old) }
         ensures grew { Grew result.made (journal self.old) (journal self.new) }
         ensures most { result.made ≤ 2 }
+        ensures once { OneAsks at (journal self.old) (journal self.new) }
         ensures idle { result.made ≡ 0 → IsFalse result.refused → IsSameBut at self.old self.new × MayRestAt self.new at }
     {
         match self.draw(at) {
@@ -217,6 +219,7 @@ impl Hub {
         ensures rings { rings self.new ≡ rings self.old }
         ensures base { (base self.new ≡ base self.old) × (bases self.new ≡ bases self.old) }
         ensures grew { IfOk result (λ n. (n ≤ 1) × Grew n (journal self.old) (journal self.new)) }
+        ensures none_asks { IfOk result (λ n. NoneAsks (journal self.old) (journal self.new)) }
         ensures drawn { IfOk result (λ n. n ≡ 0 → IsSameBut at self.old self.new × IsDrawnAt self.new at) }
         ensures refused { OnErr result (journal self.new ≡ journal self.old) }
     {
@@ -241,6 +244,7 @@ impl Hub {
         ensures rings { rings self.new ≡ rings self.old }
         ensures base { (base self.new ≡ base self.old) × (bases self.new ≡ bases self.old) }
         ensures grew { IfOk result (λ n. (n ≤ 1) × Grew n (journal self.old) (journal self.new)) }
+        ensures once { IfOk result (λ n. OneAsks at (journal self.old) (journal self.new)) }
         ensures served { IfOk result (λ n. n ≡ 0
             → IsSameBut at self.old self.new × (IsDrawnAt self.old at → MayRestAt self.new at)) }
         ensures refused { OnErr result (journal self.new ≡ journal self.old) }

@@ -3,7 +3,8 @@ use Rattle.vlm_journal.specs.declared.entries.Entry.{Entry}
 use Rattle.vlm_journal.specs.declared.entries.Item.TheVariants.{Ast as ast_item}
 use Rattle.vlm_journal.specs.declared.entries.Item.{Item}
 use Rattle.vlm_ports.specs.Links.{line_base}
-use Rattle.vlm_ports.proofs.Lines.{drawn_follows, node_at, rings_set, set_same}
+use Rattle.vlm_ports.proofs.Asking.{hub_asks}
+use Rattle.vlm_ports.proofs.Lines.{drawing, drawn_follows, node_at, rings_set, set_same}
 use Rattle.vlm_ports.proofs.hub.Hub.draw.Goals as goal
 
 pub returns-then-not-has_place-clause-rings : goal.returns-then-not-has_place-clause-rings
@@ -64,3 +65,7 @@ returns-clause-base c =
           c.reserve.ensures.entries c.draw-ast.ensures.told c.draw-ast.ensures.entries to (c.tell.ensures.rings ∙ c.has_place.ensures.rings) (c.tell.ensures.taken ∙ c.has_place.ensures.taken)
           (c.tell.ensures.told ∙ ap (λ (xs : List Item). xs ++ ast_item pid ast ∷ []) c.has_place.ensures.told)).bases,
     )
+
+pub returns-clause-none_asks : goal.returns-clause-none_asks
+returns-clause-none_asks c =
+    hub_asks c.args.self.now.book.entries c.reserve.new.self.entries c.draw-ast.new.self.entries (drawing c.in-Some.pid c.draw-ast.result) c.reserve.ensures.entries c.draw-ast.ensures.told c.draw-ast.ensures.entries refl

@@ -4,6 +4,7 @@ use Rattle.vlm_journal.specs.declared.entries.Entry.{Entry}
 use Rattle.vlm_journal.specs.declared.entries.Item.TheVariants.{Answer as answer_item}
 use Rattle.vlm_journal.specs.declared.entries.Item.{Item}
 use Rattle.vlm_ports.specs.Links.{line_base}
+use Rattle.vlm_ports.proofs.Asking.{node_asks}
 use Rattle.vlm_ports.proofs.Lines.{node_at, rings_set, served_follows, set_same}
 use Rattle.vlm_ports.proofs.hub.Hub.serve.Goals as goal
 
@@ -61,3 +62,12 @@ returns-clause-base c =
           (c.tell.ensures.taken ∙ c.request-step.ensures.taken ∙ ap (λ (xs : List Step). xs ++ step ∷ []) c.has_request.ensures.taken)
           (c.tell.ensures.told ∙ ap (λ (xs : List Item). xs ++ answer_item answer ∷ []) (c.request-step.ensures.told ∙ c.has_request.ensures.told))).bases,
     )
+
+pub returns-clause-once : goal.returns-clause-once
+returns-clause-once c =
+    let ls = c.args.self.now.lines.items in let js = c.args.self.now.book.entries in
+    let popped = c.request-step.new.self in
+    let ring = c.request-step.ensures.rings ∙ c.has_request.ensures.rings in
+    let node = node_at ls js c.args.at popped c.index_mut-line.result.now c.args.self.now.linked c.requires c.index_mut-line.ensures.value ring in
+    let e : Entry = record { sender = popped.node; step = c.request-step.result; answer = c.serve-answer.result } in
+    node_asks c.args.at js c.reserve.new.self.entries c.serve-answer.new.self.entries e c.reserve.ensures.entries c.serve-answer.ensures.told c.serve-answer.ensures.entries node
