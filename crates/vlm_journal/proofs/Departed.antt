@@ -1,0 +1,78 @@
+-- What a node is answered behind its departure.
+use Rattle.std.proofs.Common.{◌≡◌, ◌<◌, ◌⊎◌, ℕ, zero, suc, List, [], ◌∷◌, ◌++◌, length, Some, refl, sym, ap, ◌∙◌, subst, arith, inl, inr}
+use Rattle.std.specs.List.{slice_get}
+use Rattle.std.proofs.lemmas.Option.{slice_get_within}
+use Rattle.vlm_words.specs.declared.conditions.Cond.TheVariants.{Departed as departed_cond, Normal}
+use Rattle.vlm_words.specs.declared.steps.Answer.TheVariants.{Plain}
+use Rattle.vlm_words.specs.declared.steps.Answer.{Answer}
+use Rattle.vlm_words.specs.declared.steps.Step.TheVariants.{Declare, SetValue, Enq, Convert, Deq, Rundown, Leave, Search, Take}
+use Rattle.vlm_words.specs.declared.steps.Step.{Step}
+use Rattle.vlm_words.specs.Runs.{History, Run}
+use Rattle.vlm_words.specs.State.{State, start}
+use Rattle.vlm_words.specs.Stepped.{Outcome}
+use Rattle.vlm_words.specs.Steps.{node_of}
+use Rattle.vlm_laws.specs.Departing.{DepartedNodesAreToldSo, HasLeft, IsDeparture, IsStepOf}
+use Rattle.vlm_laws.specs.Happened.{HasHappened}
+use Rattle.vlm_journal.specs.declared.entries.Entry.{Entry}
+use Rattle.vlm_journal.specs.Departed.{IsAnsweredDeparted}
+use Rattle.vlm_journal.specs.Journals.{IsAllowed, Journal, answers_of, begin, next, steps_of}
+use Rattle.vlm_journal.proofs.Joining.{run_of}
+
+-- an element of a longer list is one of the list, or the last
+by_place : {X : Type 0} (xs : List X) (y z : X) (i : ℕ) → slice_get (xs ++ y ∷ []) i ≡ Some z → (slice_get xs i ≡ Some z) ⊎ ((i ≡ length xs) × (y ≡ z))
+by_place [] y z zero h = inr (refl, cc)
+by_place [] y z (suc i) h = cc
+by_place (x ∷ xs) y z zero h = inl h
+by_place (x ∷ xs) y z (suc i) h = elim (by_place xs y z i h) [ inl e ↦ inl e | inr e ↦ inr (ap suc e.0, e.1) ]
+
+-- what an entry of a journal is has happened
+has_happened : (P : Step → Answer → Type 0) (entries : List Entry) (i : ℕ) (entry : Entry) → slice_get entries i ≡ Some entry
+    → P entry.step entry.answer → HasHappened P (steps_of entries) (answers_of entries)
+has_happened P [] i entry at is = cc
+has_happened P (x ∷ xs) zero entry at is = inl (subst (λ (e : Entry). P e.step e.answer) (sym (same x entry at)) is)
+  where
+    same : (a b : Entry) → Some a ≡ Some b → a ≡ b
+    same a b h = cc
+has_happened P (x ∷ xs) (suc i) entry at is = inr (has_happened P xs i entry at is)
+
+-- a step of the node is one that names it, or a process of it
+step_of : (node : ℕ) (step : Step) → node_of step ≡ node → IsStepOf node step
+step_of node (Declare d) is = is
+step_of node (SetValue v) is = is
+step_of node (Enq e) is = is
+step_of node (Convert c) is = is
+step_of node (Deq d) is = is
+step_of node (Rundown pid) is = is
+step_of node (Leave other) is = is
+step_of node (Search other) is = is
+step_of node (Take pid) is = is
+
+module _ (law : (history : History) (last : State) → Run history last → DepartedNodesAreToldSo history last) where
+  -- the entry behind a journal in which its node has left
+  told_so : {entries : List Entry} {old new : State} (node i : ℕ) (leaving entry : Entry) → Journal entries old → IsAllowed entry → Outcome old entry.step new entry.answer
+      → 0 < node → slice_get entries i ≡ Some leaving → leaving.step ≡ Leave node → leaving.answer ≡ Plain Normal → entry.sender ≡ node
+      → entry.answer ≡ Plain departed_cond
+  told_so node i leaving entry journal (inl hubs) outcome some at step answer sender = absurd (omega (arith, some, hubs.0, sender))
+  told_so {entries} {old} {new} node i leaving entry journal (inr posts) outcome some at step answer sender =
+      let legal = run_of start journal in
+      let left : HasLeft node (steps_of entries) (answers_of entries) = has_happened (IsDeparture node) entries i leaving at (step, answer) in
+      let then : HasLeft node legal.history.steps legal.history.answers =
+      subst (λ (ss : List Step). HasLeft node ss legal.history.answers) (sym legal.taken)
+      (subst (λ (xs : List Answer). HasLeft node (steps_of entries) xs) (sym legal.answered) left) in
+      ((law legal.history old legal.run).told node then entry.step (step_of node entry.step (posts.2.0 ∙ sender)) new entry.answer outcome).answered
+
+  pub departed_from : {entries : List Entry} {last : State} → Journal entries last → (node : ℕ) → 0 < node → IsAnsweredDeparted node entries
+  departed_from begin node some i j leaving entry lt at_i at_j step answer sender = cc
+  departed_from (next {entries} {old} {new} {entry = last} journal allowed outcome) node some i j leaving entry lt at_i at_j step answer sender =
+      elim (by_place entries last entry j at_j) [
+        | inl before_j ↦ elim (by_place entries last leaving i at_i) [
+          | inl before_i ↦ departed_from journal node some i j leaving entry lt before_i before_j step answer sender
+          | inr e ↦ absurd (let w = slice_get_within entries j entry before_j in omega (arith, w, lt, e.0))
+        ]
+        | inr e ↦ elim (by_place entries last leaving i at_i) [
+          | inl before_i ↦
+              sym (ap (λ (x : Entry). x.answer) e.1)
+              ∙ told_so node i leaving last journal allowed outcome some before_i step answer (ap (λ (x : Entry). x.sender) e.1 ∙ sender)
+          | inr e2 ↦ absurd (omega (arith, lt, e.0, e2.0))
+        ]
+      ]

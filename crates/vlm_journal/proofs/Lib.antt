@@ -1,0 +1,6 @@
+pub mod Appending
+pub mod Joining
+pub mod Worlds
+pub mod GoingOn
+pub mod Departed
+pub mod Drawing

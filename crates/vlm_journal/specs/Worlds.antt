@@ -1,0 +1,141 @@
+-- Worlds: a journal, and for each node what goes between the hub and its port.
+use Rattle.std.specs.Prelude.{◌≡◌, ◌==◌, ◌+◌, ◌<◌, ◌≤◌, ℕ, List, [], ◌∷◌, ◌++◌, Some, length, if◌then◌else◌}
+use mathlib.Core.List.{IsPrefix}
+use Rattle.vlm_words.specs.declared.asts.Ast.{Ast}
+use Rattle.vlm_words.specs.declared.steps.Answer.TheVariants.{Taken}
+use Rattle.vlm_words.specs.declared.steps.Answer.{Answer}
+use Rattle.vlm_words.specs.declared.steps.Step.TheVariants.{Leave, Take}
+use Rattle.vlm_words.specs.declared.steps.Step.{Step}
+use Rattle.vlm_words.specs.State.{State, start}
+use Rattle.vlm_words.specs.Stepped.{Outcome}
+use Rattle.vlm_journal.specs.declared.entries.Entry.{Entry}
+use Rattle.vlm_journal.specs.declared.entries.Item.{Item}
+use Rattle.vlm_journal.specs.Journals.{IsPostOf, Journal}
+use Rattle.vlm_journal.specs.Told.{asked, told}
+
+-- what a node has posted, what of it is served, what is sent to the node, and what of it the node has received
+pub record Lists : Type 0 where
+  pub posted : List Step
+  pub served : List Step
+  pub sent : List Item
+  pub received : List Item
+
+-- a journal, the state to which it leads, and the lists of each node
+pub record World : Type 0 where
+  pub journal : List Entry
+  pub state : State
+  pub lists : ℕ → Lists
+
+-- nothing is posted and nothing is sent
+abbrev pub no_lists : Lists
+no_lists = record { posted = []; served = []; sent = []; received = [] }
+
+-- nothing has happened
+abbrev pub first_world : World
+first_world = record { journal = []; state = start; lists = λ node. no_lists }
+
+-- the lists of one node are others
+abbrev pub with_lists : (ℕ → Lists) → ℕ → Lists → ℕ → Lists
+with_lists lists node own other = if other == node then own else lists other
+
+-- the world with an entry more
+abbrev pub with_entry : World → Entry → State → (ℕ → Lists) → World
+with_entry w entry state lists = record { journal = w.journal ++ entry ∷ []; state = state; lists = lists }
+
+-- the world with other lists of one node
+abbrev pub with_node : World → ℕ → Lists → World
+with_node w node own = record { journal = w.journal; state = w.state; lists = with_lists w.lists node own }
+
+-- the kinds of event: of a node, or a draw of a process
+pub data Event : Type 0 where
+  post : ℕ → Step → Event
+  serve : ℕ → Event
+  draw : ℕ → Event
+  lose : ℕ → Event
+  send : ℕ → Event
+  take : ℕ → Event
+
+-- the next of all, behind those that have come
+abbrev pub IsNext : {X : Type 0} → X → List X → List X → Type 0
+IsNext {X} x come all = (rest : List X) × (all ≡ come ++ x ∷ rest)
+
+-- the node is one of so many, from 1
+abbrev pub IsNode : ℕ → ℕ → Type 0
+IsNode nodes node = (0 < node) × (node ≤ nodes)
+
+-- a node posts a step of its own, where fewer than 64 of its posts are not served
+pub record Posts (nodes : ℕ) (w : World) (node : ℕ) (step : Step) (v : World) : Type 0 where
+  pub node_is : IsNode nodes node
+  pub post : IsPostOf node step
+  pub place : length (w.lists node).posted < length (w.lists node).served + 64
+  pub becomes : v ≡ with_node w node (record (w.lists node) { posted = (w.lists node).posted ++ step ∷ [] })
+
+-- the hub makes the next of the steps that a node has posted, and writes it down
+pub record Serves (nodes : ℕ) (w : World) (node : ℕ) (v : World) : Type 0 where
+  pub node_is : IsNode nodes node
+  pub step : Step
+  pub answer : Answer
+  pub state : State
+  pub follows : IsNext step (w.lists node).served (w.lists node).posted
+  pub outcome : Outcome w.state step state answer
+  pub becomes : v ≡ with_entry w (record { sender = node; step = step; answer = answer }) state
+      (with_lists w.lists node (record (w.lists node) { served = (w.lists node).served ++ step ∷ [] }))
+
+-- the hub takes an AST of a process, and writes it down
+pub record Draws (w : World) (pid : ℕ) (v : World) : Type 0 where
+  pub ast : Ast
+  pub state : State
+  pub outcome : Outcome w.state (Take pid) state (Taken (Some ast))
+  pub becomes : v ≡ with_entry w (record { sender = 0; step = Take pid; answer = Taken (Some ast) }) state w.lists
+
+-- a node is lost: the hub makes its departure, and writes it down
+pub record Loses (w : World) (node : ℕ) (v : World) : Type 0 where
+  pub answer : Answer
+  pub state : State
+  pub outcome : Outcome w.state (Leave node) state answer
+  pub becomes : v ≡ with_entry w (record { sender = 0; step = Leave node; answer = answer }) state w.lists
+
+-- the hub sends a node the next that the journal tells it, where fewer than 64 items are on their way to it
+pub record Sends (nodes : ℕ) (w : World) (node : ℕ) (v : World) : Type 0 where
+  pub node_is : IsNode nodes node
+  pub item : Item
+  pub follows : IsNext item (w.lists node).sent (told node w.journal)
+  pub place : length (w.lists node).sent < length (w.lists node).received + 64
+  pub becomes : v ≡ with_node w node (record (w.lists node) { sent = (w.lists node).sent ++ item ∷ [] })
+
+-- a node takes the next item that is sent to it
+pub record Takes (nodes : ℕ) (w : World) (node : ℕ) (v : World) : Type 0 where
+  pub node_is : IsNode nodes node
+  pub item : Item
+  pub follows : IsNext item (w.lists node).received (w.lists node).sent
+  pub becomes : v ≡ with_node w node (record (w.lists node) { received = (w.lists node).received ++ item ∷ [] })
+
+-- the event leads from one world to another
+abbrev pub Happens : ℕ → World → Event → World → Type 0
+Happens nodes w (post node step) v = Posts nodes w node step v
+Happens nodes w (serve node) v = Serves nodes w node v
+Happens nodes w (draw pid) v = Draws w pid v
+Happens nodes w (lose node) v = Loses w node v
+Happens nodes w (send node) v = Sends nodes w node v
+Happens nodes w (take node) v = Takes nodes w node v
+
+-- the events of so many nodes and their hub lead to the world
+pub data Reached (nodes : ℕ) : List Event → World → Type 0 where
+  begin : Reached nodes [] first_world
+  next : {events : List Event} {old new : World} (event : Event)
+      → Reached nodes events old → Happens nodes old event new → Reached nodes (events ++ event ∷ []) new
+
+-- what is served is what the node asked for, and begins what it posted; what is sent begins what it is told, and what
+-- it has received begins that; no more than 64 posts are not served, and no more than 64 items are on their way
+pub record IsInOrder (node : ℕ) (journal : List Entry) (own : Lists) : Type 0 where
+  pub served : own.served ≡ asked node journal
+  pub posted : IsPrefix own.served own.posted
+  pub sent : IsPrefix own.sent (told node journal)
+  pub received : IsPrefix own.received own.sent
+  pub few_posts : length own.posted ≤ length own.served + 64
+  pub few_items : length own.sent ≤ length own.received + 64
+
+-- the journal is legal, and the lists of each node are in order
+pub record IsRight (nodes : ℕ) (w : World) : Type 0 where
+  pub legal : Journal w.journal w.state
+  pub in_order : (node : ℕ) → IsNode nodes node → IsInOrder node w.journal (w.lists node)

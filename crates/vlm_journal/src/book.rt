@@ -1,0 +1,204 @@
+//! The core with its journal: each step that is made is written down.
+
+ghost use Rattle.std.specs.Prelude.{◌≡◌, ◌∷◌, ◌+◌, ◌++◌, ◌-◌, ◌^◌, ◌/◌, ◌<◌, ◌≤◌, [], OnErr, OnOk, Some, length, min};
+ghost use Rattle.vlm_words.specs.Pending.{first_pending};
+ghost use Rattle.vlm_words.specs.State.{start};
+ghost use Rattle.vlm_words.specs.Stepped.{Outcome};
+ghost use Rattle.vlm_journal.specs.Books.{GoesOn};
+ghost use Rattle.vlm_journal.specs.Journals.{IsPostOf};
+ghost use Rattle.vlm_journal.specs.Lengthening.{LengthensLittle};
+
+use crate::entries::{Entry, Part};
+use crate::laws::{law_draw, law_entry};
+use std::alloc::{AllocError, Global};
+use std::marker::Model;
+use std::mem;
+use vlm_core::Core;
+use vlm_words::asts::Ast;
+use vlm_words::steps::{Answer, Step};
+
+/// A core with its journal: the entries since the last cut, and how many were handed out before them. All entries, from
+/// the first, are a legal journal that leads to the core's state (this project's own).
+#[derive(Drop)]
+pub struct Book {
+    core: Core,
+    entries: Vec<Entry>,
+    // how many entries were handed out, or `u64::MAX` where there were more
+    base: u64,
+    alloc: Global,
+}
+
+impl Model for Book {
+    ghost use Rattle.std.specs.Prelude.{◌-◌, vec_capacity, vec_len};
+    ghost use Rattle.vlm_journal.specs.Books.{Account, GoesOn};
+
+    ghost Value = { Account };
+
+    ghost view = { λ b. record {
+      entries = b.entries.items;
+      state = b.core;
+      base = b.base;
+      room = vec_capacity b.entries - vec_len b.entries;
+    } };
+
+    ghost invariant = { λ b. GoesOn b.base b.entries.items b.core };
+}
+
+impl Book {
+    /// A book of a core at its start. It takes no memory.
+    pub fn new(core: Core, alloc: Global) -> Book
+        requires start { core ≡ start }
+        ensures entries { result.entries ≡ [] }
+        ensures state { result.state ≡ start }
+        ensures base { result.base ≡ 0 }
+    {
+        Book {
+            core,
+            entries: Vec::new(alloc),
+            base: 0,
+            alloc,
+        }
+    }
+
+    /// Makes room for one more entry, where there is none. Refused, nothing is changed.
+    pub fn reserve(&mut self) -> Result<(), AllocError>
+        ensures entries { self.new.entries ≡ self.old.entries }
+        ensures state { self.new.state ≡ self.old.state }
+        ensures base { self.new.base ≡ self.old.base }
+        ensures room { OnOk result (0 < self.new.room) }
+        ensures refused { OnErr result (self.new ≡ self.old) }
+    {
+        self.entries.reserve(1)
+    }
+
+    /// Makes a step that a node has posted, and writes it down with its answer. It takes no memory for its entry; the step
+    /// may want some, and is answered INSFMEM where that is refused. It costs what the step does.
+    pub fn serve(&mut self, sender: u8, step: Step) -> Answer
+        requires room { 0 < self.old.room }
+        requires sender { (0 < sender) × (sender ≤ 8) }
+        requires post { IsPostOf sender step }
+        ensures outcome { Outcome self.old.state step self.new.state result }
+        ensures entries { self.new.entries ≡ self.old.entries
+            ++ record { sender = sender; step = step; answer = result } ∷ [] }
+        ensures told { LengthensLittle self.old.entries (record { sender = sender; step = step; answer = result }) }
+        ensures base { self.new.base ≡ self.old.base }
+        ensures room { self.new.room + 1 ≡ self.old.room }
+    {
+        law_entry();
+        let asked = step;
+        let answer = self.core.step(step);
+        self.entries.push_reserved(entry(sender, asked, answer));
+        answer
+    }
+
+    /// The first living process of a node, in order of making, that has an AST pending. None where none of the node
+    /// has one. It takes constant time.
+    pub fn pending_of(&self, node: u8) -> Option<u32>
+        ensures { result ≡ first_pending node self.now.state.processes }
+    {
+        self.core.pending_of(node)
+    }
+
+    /// Takes the oldest AST of the process that [`Book::pending_of`] answers for a node, for the hub, and writes that
+    /// down. It takes no memory.
+    pub fn draw(&mut self, node: u8, pid: u32) -> Ast
+        requires room { 0 < self.old.room }
+        requires pending { first_pending node self.old.state.processes ≡ Some pid }
+        ensures outcome { Outcome self.old.state (Step.Take pid) self.new.state (Answer.Taken (Some result)) }
+        ensures entries { self.new.entries ≡ self.old.entries
+            ++ record { sender = 0; step = Step.Take pid; answer = Answer.Taken (Some result) } ∷ [] }
+        ensures told { LengthensLittle self.old.entries
+            (record { sender = 0; step = Step.Take pid; answer = Answer.Taken (Some result) }) }
+        ensures node { pid / 65536 ≡ node }
+        ensures base { self.new.base ≡ self.old.base }
+        ensures room { self.new.room + 1 ≡ self.old.room }
+    {
+        law_draw();
+        law_entry();
+        let answer = self.core.step(Step::Take(pid));
+        let ast = ast_of(answer);
+        self.entries
+            .push_reserved(entry(0, Step::Take(pid), answer));
+        ast
+    }
+
+    /// A node is lost: the hub makes its departure, and writes it down. It takes no memory, and answers NORMAL, BADPARAM
+    /// where the node is not 1 to 8, or DEPARTED where it has departed before.
+    pub fn lose(&mut self, node: u8) -> Answer
+        requires room { 0 < self.old.room }
+        ensures outcome { Outcome self.old.state (Step.Leave node) self.new.state result }
+        ensures entries { self.new.entries ≡ self.old.entries
+            ++ record { sender = 0; step = Step.Leave node; answer = result } ∷ [] }
+        ensures told { LengthensLittle self.old.entries
+            (record { sender = 0; step = Step.Leave node; answer = result }) }
+        ensures base { self.new.base ≡ self.old.base }
+        ensures room { self.new.room + 1 ≡ self.old.room }
+    {
+        law_entry();
+        let answer = self.core.step(Step::Leave(node));
+        let written = entry(0, Step::Leave(node), answer);
+        self.entries.push_reserved(written);
+        answer
+    }
+
+    /// The entries since the last cut, or all where there was none.
+    pub fn entries(&self) -> &[Entry]
+        ensures same { result.now ≡ self.now.entries }
+        ensures legal { GoesOn self.now.base self.now.entries self.now.state }
+    {
+        self.entries.as_slice()
+    }
+
+    /// Hands out the entries since the last cut, and begins anew behind them: the parts of all cuts, one behind another,
+    /// and then what is left, are the journal. It takes no memory.
+    pub fn cut(&mut self) -> Part
+        ensures entries { result.entries.items ≡ self.old.entries }
+        ensures base { result.base ≡ self.old.base }
+        ensures legal { GoesOn result.base result.entries.items self.new.state }
+        ensures left { self.new.entries ≡ [] }
+        ensures next { self.new.base ≡ min (self.old.base + length self.old.entries) (2 ^ 64 - 1) }
+        ensures state { self.new.state ≡ self.old.state }
+    {
+        let entries = mem::replace(&mut self.entries, Vec::new(self.alloc));
+        let base = self.base;
+        self.base = base.saturating_add(entries.len() as u64);
+        Part { base, entries }
+    }
+
+    /// Gives out the entries since the last cut, and the core.
+    pub fn finish(self) -> (Vec<Entry>, Core)
+        ensures entries { result.0.items ≡ self.entries }
+        ensures state { result.1 ≡ self.state }
+        ensures legal { GoesOn self.base result.0.items result.1 }
+    {
+        let Book {
+            core,
+            entries,
+            base: _,
+            alloc: _,
+        } = self;
+        (entries, core)
+    }
+}
+
+// An entry of these.
+fn entry(sender: u8, step: Step, answer: Answer) -> Entry
+    ensures { result ≡ record { sender = sender; step = step; answer = answer } }
+{
+    Entry {
+        sender,
+        step,
+        answer,
+    }
+}
+
+// The AST that a take was answered.
+fn ast_of(answer: Answer) -> Ast
+    requires { (ast : Ast) × (answer ≡ Answer.Taken (Some ast)) }
+    ensures { answer ≡ Answer.Taken (Some result) }
+{
+    match answer {
+        Answer::Taken(Some(ast)) => ast,
+        _ => unreachable!(),
+    }
+}

@@ -1,0 +1,5 @@
+pub mod Fronts
+pub mod Lines
+pub mod Resting
+pub mod Losing
+pub mod Asking

@@ -1,0 +1,65 @@
+-- When the hub may idle.
+use Rattle.std.proofs.Common.{◌≡◌, ℕ, ◌+◌, ◌-◌, ◌<◌, ◌≤◌, List, [], ◌∷◌, ◌++◌, refl, ap, ◌∙◌, sym, subst, append-nil, append_assoc, arith, length, map, get_or, ◌⊎◌, inl, inr, length-append}
+use Rattle.std.proofs.lemmas.Bool.{cases_eq}
+use Rattle.vlm_journal.specs.declared.entries.Entry.{Entry}
+use Rattle.std.specs.Prelude.{None}
+use Rattle.std.proofs.lemmas.List.{get_or-map, length-map}
+use Rattle.vlm_words.specs.Pending.{first_pending}
+use Rattle.vlm_words.specs.State.{State}
+use Rattle.vlm_ports.specs.declared.hub.Hub.{Hub}
+use Rattle.vlm_ports.specs.declared.line.Line.{Line}
+use Rattle.vlm_ports.specs.Rings.{RingName}
+use Rattle.vlm_ports.specs.Links.{AreLinked, MayRest, knows, places, line_identity}
+use Rattle.vlm_ports.specs.Hubs.{Grew, IsSameBut, MayRestAt, MayIdle, nodes, rings}
+
+pub grew_none : (js ks : List Entry) → ks ≡ js → Grew 0 js ks
+grew_none js ks e = record { more = []; is = e ∙ sym (append-nil js); count = refl }
+
+pub grew_one : (js ks : List Entry) (e : Entry) → ks ≡ js ++ e ∷ [] → Grew 1 js ks
+grew_one js ks e is = record { more = e ∷ []; is = is; count = refl }
+
+pub grew_add : {m n : ℕ} {js ks ls : List Entry} → Grew m js ks → Grew n ks ls → Grew (m + n) js ls
+grew_add {m} {n} {js} {ks} {ls} a b = record {
+  more = a.more ++ b.more;
+  is = b.is ∙ (ap (λ (xs : List Entry). xs ++ b.more) a.is ∙ append_assoc js a.more b.more);
+  count = length-append a.more b.more ∙ (ap (λ (x : ℕ). x + length b.more) a.count ∙ ap (λ (x : ℕ). m + x) b.count);
+}
+
+-- the lines below the next place may rest
+pub rest_more : (at : ℕ) (a b : Hub) → IsSameBut at a b → ((k : ℕ) → k < at → MayRestAt a k) → MayRestAt b at → (k : ℕ) → k < at + 1 → MayRestAt b k
+rest_more at a b same below here k lt d = elim (cases_eq k at) [
+  | inl e ↦ let P : ℕ → Type 0 = λ m. MayRestAt b m in subst P (sym e) here d
+  | inr ne ↦
+      let P : State → Type 0 = λ s. MayRest s (get_or a.lines.items k d) in
+      let Q : Line → Type 0 = λ l. MayRest b.book.state l in
+      subst Q (sym (same.lines k d ne)) (subst P (sym same.state) (below k (omega (arith, ne)) d))
+]
+
+same_rings : (a b : Hub) → rings a ≡ rings b → nodes a ≡ nodes b
+same_rings a b e = sym (length-map a.lines.items line_identity) ∙ (ap (λ (rs : List (ℕ × RingName × RingName)). length rs) e ∙ length-map b.lines.items line_identity)
+
+pub within_rings : (a b : Hub) (at : ℕ) → rings a ≡ rings b → at < nodes b → at < nodes a
+within_rings a b at e lt = let n = same_rings a b e in omega arith
+
+may_idle_at : (x : Line) (xs : List Line) (s : State) (js : List Entry) → AreLinked (x ∷ xs) js → (k node : ℕ) → node ≡ k + 1 → k < length (x ∷ xs)
+    → MayRest s (get_or (x ∷ xs) k x)
+    → (get_or (map places (x ∷ xs)) k 0 ≡ 0) ⊎ ((first_pending node s.processes ≡ None) × (get_or (map knows (x ∷ xs)) k [] ≡ []))
+may_idle_at x xs s js linked k node is lt rests = elim rests [
+  | inl full ↦ inl (get_or-map places (x ∷ xs) k x 0 lt ∙ full)
+  | inr none ↦ inr (
+    ap (λ (n : ℕ). first_pending n s.processes) (is ∙ sym (linked k x lt).node) ∙ none.0,
+    get_or-map knows (x ∷ xs) k x [] lt ∙ none.1,
+  )
+]
+
+may_idle_by : (ls : List Line) (s : State) (js : List Entry) → AreLinked ls js → ((k : ℕ) → k < length ls → (d : Line) → MayRest s (get_or ls k d))
+    → (node : ℕ) → 0 < node → node ≤ length ls
+    → (get_or (map places ls) (node - 1) 0 ≡ 0) ⊎ ((first_pending node s.processes ≡ None) × (get_or (map knows ls) (node - 1) [] ≡ []))
+may_idle_by [] s js linked rests node some within = absurd (omega arith)
+may_idle_by (x ∷ xs) s js linked rests node some within =
+    let lt : node - 1 < length (x ∷ xs) = omega arith in
+    may_idle_at x xs s js linked (node - 1) node (omega arith) lt (rests (node - 1) lt x)
+
+-- where each line may rest the hub may idle
+pub may_idle : (h : Hub) → AreLinked h.lines.items h.book.entries → ((k : ℕ) → k < nodes h → MayRestAt h k) → MayIdle h
+may_idle h linked rests node some within = may_idle_by h.lines.items h.book.state h.book.entries linked rests node some within

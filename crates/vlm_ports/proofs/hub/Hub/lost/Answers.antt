@@ -1,0 +1,19 @@
+use Rattle.std.proofs.Common.{◌≡◌, ◌⊎◌, ◌∙◌, sym, subst}
+use Rattle.vlm_words.specs.declared.conditions.Cond.TheVariants.{Departed, Normal}
+use Rattle.vlm_words.specs.declared.conditions.Cond.{Cond}
+use Rattle.vlm_ports.proofs.Lines.{lost_follows}
+use Rattle.vlm_ports.proofs.Losing.{leave_answers, same_condition}
+use Rattle.vlm_ports.proofs.hub.Hub.lost.Goals as goal
+
+pub returns-clause-base : goal.returns-clause-base
+returns-clause-base c =
+    let ls = c.args.self.now.lines.items in let js = c.args.self.now.book.entries in
+    let follows = lost_follows ls js c.reserve.new.self.entries c.lose-answer.new.self.entries c.args.node c.lose-answer.result c.args.self.now.linked
+    c.reserve.ensures.entries c.lose-answer.ensures.told c.lose-answer.ensures.entries in
+    (c.lose-answer.ensures.base ∙ c.reserve.ensures.base, follows.bases)
+
+pub returns-clause-answer : goal.returns-clause-answer
+returns-clause-answer c =
+    let left = leave_answers c.reserve.new.self.state c.lose-answer.new.self.state c.args.node c.lose-answer.result c.requires.node.0 c.requires.node.1 c.lose-answer.ensures.outcome in
+    let P : Cond → Type 0 = λ x. (x ≡ Normal) ⊎ (x ≡ Departed) in
+    subst P (same_condition left.cond c.condition_of.result (sym left.answered ∙ c.condition_of.ensures)) left.which

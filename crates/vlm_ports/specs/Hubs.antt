@@ -1,0 +1,91 @@
+-- What a hub has written down, and what it knows of its ports.
+use Rattle.std.specs.Prelude.{◌≡◌, ◌⊎◌, ◌<◌, ◌≤◌, ◌-◌, ◌+◌, ◌++◌, ℕ, List, [], length, map, slice_get, slice_index_or, Some, None}
+use Rattle.vlm_words.specs.declared.steps.Step.{Step}
+use Rattle.vlm_words.specs.Pending.{first_pending}
+use Rattle.vlm_words.specs.State.{State}
+use Rattle.vlm_journal.specs.declared.entries.Entry.{Entry}
+use Rattle.vlm_journal.specs.declared.entries.Item.{Item}
+use Rattle.vlm_journal.specs.Told.{asked}
+use Rattle.vlm_ports.specs.declared.hub.Hub.{Hub}
+use Rattle.vlm_ports.specs.declared.line.Line.{Line}
+use Rattle.vlm_ports.specs.declared.port.Port.{Port}
+use Rattle.vlm_ports.specs.Links.{Base, IsDrawn, MayRest, knows, line_base, line_identity, no_base, places}
+use Rattle.vlm_ports.specs.Ports.{identity}
+use Rattle.vlm_ports.specs.Rings.{RingName}
+
+-- the entries since the last cut, the state that they lead to, and how many were handed out before them
+abbrev pub journal : Hub → List Entry
+journal h = h.book.entries
+
+abbrev pub state : Hub → State
+state h = h.book.state
+
+abbrev pub base : Hub → ℕ
+base h = h.book.base
+
+-- how many nodes the hub serves
+abbrev pub nodes : Hub → ℕ
+nodes h = length h.lines.items
+
+-- the nodes and their rings
+abbrev pub rings : Hub → List (ℕ × RingName × RingName)
+rings h = map line_identity h.lines.items
+
+-- what each node had asked for and had been told before the last cut
+abbrev pub bases : Hub → List Base
+bases h = map (line_base (journal h)) h.lines.items
+
+abbrev pub asked_before : Hub → ℕ → List Step
+asked_before h node = (slice_index_or (bases h) (node - 1) no_base).asked_before
+
+abbrev pub told_before : Hub → ℕ → List Item
+told_before h node = (slice_index_or (bases h) (node - 1) no_base).told_before
+
+-- the posts of a node that the hub knows to lie on its ring
+abbrev pub waiting : Hub → ℕ → List Step
+waiting h node = slice_index_or (map knows h.lines.items) (node - 1) []
+
+-- how many places the hub knows to be free on the item ring of a node
+abbrev pub free_for : Hub → ℕ → ℕ
+free_for h node = slice_index_or (map places h.lines.items) (node - 1) 0
+
+-- the port was made with this hub
+abbrev pub IsPortOf : Hub → Port → Type 0
+IsPortOf h p = (0 < p.node) × (slice_get (rings h) (p.node - 1) ≡ Some (identity p))
+
+-- the hub knows no free place on the item ring of any node that has an AST pending or a post that the hub knows of
+abbrev pub MayIdle : Hub → Type 0
+MayIdle h = (node : ℕ) → 0 < node → node ≤ nodes h
+    → (free_for h node ≡ 0) ⊎ ((first_pending node (state h).processes ≡ None) × (waiting h node ≡ []))
+
+-- nothing is left to draw for the line at a place
+abbrev pub IsDrawnAt : Hub → ℕ → Type 0
+IsDrawnAt h k = (d : Line) → IsDrawn (state h) (slice_index_or h.lines.items k d)
+
+-- the line at a place may rest
+abbrev pub MayRestAt : Hub → ℕ → Type 0
+MayRestAt h k = (d : Line) → MayRest (state h) (slice_index_or h.lines.items k d)
+
+-- neither the state nor any line but the one at a place has changed
+pub record IsSameBut (at : ℕ) (old new : Hub) : Type 0 where
+  pub state : new.book.state ≡ old.book.state
+  pub lines : (k : ℕ) (d : Line) → (k ≡ at → ⊥) → slice_index_or new.lines.items k d ≡ slice_index_or old.lines.items k d
+
+-- so many entries were put at the end
+pub record Grew (n : ℕ) (old new : List Entry) : Type 0 where
+  pub more : List Entry
+  pub is : new ≡ old ++ more
+  pub count : length more ≡ n
+
+-- by these entries no node asks for more
+abbrev pub NoneAsks : List Entry → List Entry → Type 0
+NoneAsks old new = (k : ℕ) → asked (k + 1) new ≡ asked (k + 1) old
+
+-- none but the node of the line at a place asks for more, and that for one step at most
+pub record OneAsks (at : ℕ) (old new : List Entry) : Type 0 where
+  pub own : length (asked (at + 1) new) ≤ length (asked (at + 1) old) + 1
+  pub others : (k : ℕ) → (k ≡ at → ⊥) → asked (k + 1) new ≡ asked (k + 1) old
+
+-- at most one request of each node was taken
+abbrev pub EachAsksOnce : List Entry → List Entry → Type 0
+EachAsksOnce old new = (node : ℕ) → 0 < node → length (asked node new) ≤ length (asked node old) + 1

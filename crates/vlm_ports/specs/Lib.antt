@@ -1,0 +1,6 @@
+pub mod Posts
+pub mod Rings
+pub mod Ports
+pub mod Links
+pub mod Hubs
+pub mod Turns

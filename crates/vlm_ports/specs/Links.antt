@@ -1,0 +1,75 @@
+-- What the hub's ends of a node's rings have taken and sent.
+use Rattle.std.specs.Prelude.{◌≡◌, ◌⊎◌, ◌<◌, ◌+◌, ◌-◌, ◌++◌, ℕ, List, [], length, map, slice_index_or, take, None}
+use Rattle.rtrb.specs.Ring.{known_free, known_items, received, sent}
+use Rattle.vlm_words.specs.declared.steps.Step.{Step}
+use Rattle.vlm_words.specs.Pending.{first_pending}
+use Rattle.vlm_words.specs.State.{State}
+use Rattle.vlm_journal.specs.declared.entries.Entry.{Entry}
+use Rattle.vlm_journal.specs.declared.entries.Item.{Item}
+use Rattle.vlm_journal.specs.Told.{asked, told}
+use Rattle.vlm_ports.specs.declared.line.Line.{Line}
+use Rattle.vlm_ports.specs.Posts.{on_behalf}
+use Rattle.vlm_ports.specs.Rings.{RingName, pop_ring, push_ring}
+
+-- every post of the node that the hub has taken, the oldest first
+abbrev pub has_taken : Line → List Step
+has_taken l = map (λ step. on_behalf l.node step) (received l.requests)
+
+-- every item that the hub has sent to the node, the oldest first
+abbrev pub has_told : Line → List Item
+has_told l = sent l.items
+
+-- the posts that the hub knows to lie on the node's ring
+abbrev pub knows : Line → List Step
+knows l = map (λ step. on_behalf l.node step) (known_items l.requests)
+
+-- how many places for items the hub knows to be free
+abbrev pub places : Line → ℕ
+places l = known_free l.items
+
+-- the node of a line, and its rings
+abbrev pub line_identity : Line → ℕ × RingName × RingName
+line_identity l = (l.node, pop_ring l.requests, push_ring l.items)
+
+-- what stands before so many of the last
+abbrev pub front : {X : Type 0} → List X → List X → List X
+front all last = take (length all - length last) all
+
+-- what the node had asked for, and what it had been told, before these entries
+pub record Base : Type 0 where
+  pub asked_before : List Step
+  pub told_before : List Item
+
+abbrev pub no_base : Base
+no_base = record { asked_before = []; told_before = [] }
+
+-- what the hub had taken and sent before these entries
+abbrev pub line_base : List Entry → Line → Base
+line_base journal l = record {
+  asked_before = front (has_taken l) (asked l.node journal);
+  told_before = front (has_told l) (told l.node journal);
+}
+
+-- what was taken from the node's ring ends with what it asked for, and what was sent with what it is told
+pub record IsLinked (k : ℕ) (l : Line) (journal : List Entry) : Type 0 where
+  pub node : l.node ≡ k + 1
+  pub taken : has_taken l ≡ front (has_taken l) (asked (k + 1) journal) ++ asked (k + 1) journal
+  pub told : has_told l ≡ front (has_told l) (told (k + 1) journal) ++ told (k + 1) journal
+
+-- the lines are those of the nodes from 1 on, and each is linked to the journal
+abbrev pub AreLinked : List Line → List Entry → Type 0
+AreLinked lines journal = (k : ℕ) (d : Line) → k < length lines → IsLinked k (slice_index_or lines k d) journal
+
+-- the lines are those of the nodes from 1 on, and of none anything was taken or sent
+abbrev pub AreFresh : List Line → Type 0
+AreFresh lines = (k : ℕ) (d : Line) → k < length lines
+    → ((slice_index_or lines k d).node ≡ k + 1) × (has_taken (slice_index_or lines k d) ≡ [])
+    × (has_told (slice_index_or lines k d) ≡ [])
+
+-- nothing is left to draw for the node: no free place is known, or no AST is pending
+abbrev pub IsDrawn : State → Line → Type 0
+IsDrawn s l = (places l ≡ 0) ⊎ (first_pending l.node s.processes ≡ None)
+
+-- the hub may do nothing for the node: it knows no free place, or neither a pending AST nor a post
+abbrev pub MayRest : State → Line → Type 0
+MayRest s l = (places l ≡ 0) ⊎ ((first_pending l.node s.processes ≡ None) × (knows l ≡ []))

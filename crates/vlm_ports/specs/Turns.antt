@@ -1,0 +1,22 @@
+-- What a turn came to.
+use Rattle.std.specs.Prelude.{ℕ}
+use Rattle.vlm_ports.specs.declared.hub.Turn.TheVariants.{Idle, NoMemory, Served}
+use Rattle.vlm_ports.specs.declared.hub.Turn.{Turn}
+
+-- how many entries a turn made
+abbrev pub turn_entries : Turn → ℕ
+turn_entries (Served n) = n
+turn_entries Idle = 0
+turn_entries (NoMemory n) = n
+
+-- the turn served
+abbrev pub IsServed : Turn → Type 0
+IsServed (Served n) = Unit {0}
+IsServed Idle = ⊥
+IsServed (NoMemory n) = ⊥
+
+-- the turn found nothing to do
+abbrev pub IsIdle : Turn → Type 0
+IsIdle (Served n) = ⊥
+IsIdle Idle = Unit {0}
+IsIdle (NoMemory n) = ⊥

@@ -1,0 +1,276 @@
+//! The hub: it alone owns the core and its journal.
+
+ghost use Rattle.std.specs.Prelude.{◌≡◌, ◌⊎◌, ◌≤◌, ◌<◌, ◌+◌, ◌*◌, ◌∷◌, ◌++◌, ◌-◌, ◌^◌, [], length, min, vec_len, IfOk, OnErr, IsFalse, map, ℕ};
+ghost use Rattle.vlm_ports.specs.Links.{AreLinked};
+ghost use mathlib.Core.List.{IsPrefix};
+
+use crate::line::{Line, Settled};
+use crate::port::Port;
+use std::alloc::{AllocError, Global};
+use vlm_core::Core;
+use vlm_journal::book::Book;
+use vlm_journal::entries::{Entry, Item, Part};
+use vlm_words::conditions::Cond;
+use vlm_words::steps::Answer;
+
+/// The hub: it makes what the ports post, and alone owns the core and its journal.
+#[derive(Drop)]
+pub struct Hub {
+    book: Book,
+    lines: Vec<Line>,
+    ghost few: { vec_len lines ≤ 8 },
+    ghost linked: { AreLinked lines.items book.entries },
+}
+
+/// What a turn came to.
+#[derive(Clone, Copy, Debug, PartialEq, Eq)]
+pub enum Turn {
+    /// So many entries were made, at least one.
+    Served(usize),
+    /// None was made, and none could be.
+    Idle,
+    /// A growth of the journal was refused after so many entries. No post is lost.
+    NoMemory(usize),
+}
+
+// What attending to a node came to.
+#[derive(Clone, Copy)]
+struct Attended {
+    made: usize,
+    refused: bool,
+}
+
+impl Hub {
+    ghost use Rattle.vlm_words.specs.State.{start};
+    ghost use Rattle.vlm_words.specs.declared.steps.Step.TheVariants.{Leave};
+    ghost use Rattle.vlm_words.specs.declared.steps.Answer.TheVariants.{Plain};
+    ghost use Rattle.vlm_words.specs.declared.conditions.Cond.TheVariants.{Departed, Normal};
+    ghost use Rattle.vlm_words.specs.Stepped.{Outcome};
+    ghost use Rattle.vlm_journal.specs.Books.{GoesOn};
+    ghost use Rattle.vlm_journal.specs.Told.{asked, told};
+    ghost use Rattle.vlm_ports.specs.Turns.{IsIdle, IsServed, turn_entries};
+    ghost use Rattle.vlm_ports.specs.Hubs.{EachAsksOnce, Grew, IsDrawnAt, IsPortOf, IsSameBut, MayIdle, MayRestAt, NoneAsks, OneAsks, asked_before, base, bases, free_for, journal, nodes, rings, state, told_before, waiting};
+    ghost use Rattle.vlm_ports.specs.Ports.{AreNew, arrived, identity, posted, taken};
+
+    /// How many nodes it serves.
+    pub fn nodes(&self) -> usize
+        ensures { result ≡ nodes self.now }
+    {
+        self.lines.len()
+    }
+
+    /// The entries since the last cut.
+    pub fn journal(&self) -> &[Entry]
+        ensures same { result.now ≡ journal self.now }
+        ensures legal { GoesOn (base self.now) (journal self.now) (state self.now) }
+    {
+        self.book.entries()
+    }
+
+    /// A hub of so many nodes, with a core at its start, and a port for each node: that of node 1 first.
+    pub fn make(alloc: Global, count: usize) -> Result<(Hub, Vec<Port>), AllocError>
+        requires count { (0 < count) × (count ≤ 8) }
+        ensures hub { IfOk result (λ r. (journal r.0 ≡ []) × (state r.0 ≡ start) × (base r.0 ≡ 0) × (nodes r.0 ≡ count)) }
+        ensures ports { IfOk result (λ r. (length r.1.items ≡ count) × AreNew r.1.items) }
+        ensures rings { IfOk result (λ r. map identity r.1.items ≡ rings r.0) }
+        ensures first { IfOk result (λ r. (node : ℕ) → 0 < node → node ≤ count
+            → (asked_before r.0 node ≡ []) × (told_before r.0 node ≡ [])) }
+    {
+        let mut lines = Vec::new(alloc);
+        let mut ports = Vec::new(alloc);
+        for at in 0..count {
+            let (line, port) = Line::make(alloc, at as u8 + 1)?;
+            lines.push(line)?;
+            ports.push(port)?;
+        }
+        let hub = Hub {
+            book: Book::new(Core::new(alloc), alloc),
+            lines,
+        };
+        Ok((hub, ports))
+    }
+
+    /// Attends to each node once: takes and sends at most one AST of it, and makes and answers at most one of its posts.
+    /// Idle comes only where the hub knows no free place on the item ring of any node that has an AST pending or a post
+    /// that the hub knows to lie on its request ring. It waits for nobody.
+    pub fn turn(&mut self) -> Turn
+        ensures rings { rings self.new ≡ rings self.old }
+        ensures base { (base self.new ≡ base self.old) × (bases self.new ≡ bases self.old) }
+        ensures count { length (journal self.new) ≡ length (journal self.old) + turn_entries result }
+        ensures some { IsServed result → 0 < turn_entries result }
+        ensures kept { IsPrefix (journal self.old) (journal self.new) }
+        ensures most { turn_entries result ≤ 2 * nodes self.old }
+        ensures once { EachAsksOnce (journal self.old) (journal self.new) }
+        ensures idle { IsIdle result → MayIdle self.new }
+    {
+        let mut made = 0usize;
+        for at in 0..self.nodes() {
+            let attended = self.attend(at);
+            made += attended.made;
+            if attended.refused {
+                return Turn::NoMemory(made);
+            }
+        }
+        if made == 0 {
+            Turn::Idle
+        } else {
+            Turn::Served(made)
+        }
+    }
+
+    /// A node is lost: the hub makes its departure, whatever the node has posted, and answers NORMAL, or DEPARTED where it
+    /// had departed before. What it still posts is answered DEPARTED. Refused, nothing is changed.
+    pub fn lost(&mut self, node: u8) -> Result<Cond, AllocError>
+        requires node { (0 < node) × (node ≤ 8) }
+        ensures rings { rings self.new ≡ rings self.old }
+        ensures base { (base self.new ≡ base self.old) × (bases self.new ≡ bases self.old) }
+        ensures waiting { waiting self.new ≡ waiting self.old }
+        ensures lost { IfOk result (λ cond. journal self.new
+            ≡ journal self.old ++ record { sender = 0; step = Leave node; answer = Plain cond } ∷ []) }
+        ensures outcome { IfOk result (λ cond. Outcome (state self.old) (Leave node) (state self.new) (Plain cond)) }
+        ensures answer { IfOk result (λ cond. (cond ≡ Normal) ⊎ (cond ≡ Departed)) }
+        ensures refused { OnErr result ((journal self.new ≡ journal self.old) × (state self.new ≡ state self.old)) }
+    {
+        self.book.reserve()?;
+        let answer = self.book.lose(node);
+        Ok(condition_of(answer))
+    }
+
+    /// Settles a port of this hub, whose thread has handed it back: how many posts the hub has not taken, and how many
+    /// items the port has not taken. Nothing is moved; the hub then knows those posts, and the port those items.
+    pub fn settle(&mut self, port: &mut Port) -> Settled
+        requires { IsPortOf self.old port.old }
+        ensures rings { rings self.new ≡ rings self.old }
+        ensures base { (base self.new ≡ base self.old) × (bases self.new ≡ bases self.old) }
+        ensures journal { journal self.new ≡ journal self.old }
+        ensures state { state self.new ≡ state self.old }
+        ensures same { (identity port.new ≡ identity port.old) × (posted port.new ≡ posted port.old)
+            × (taken port.new ≡ taken port.old) }
+        ensures posted { posted port.new ≡ asked_before self.new port.new.node
+            ++ asked port.new.node (journal self.new) ++ waiting self.new port.new.node }
+        ensures steps { result.steps ≡ length (waiting self.new port.new.node) }
+        ensures told { told_before self.new port.new.node ++ told port.new.node (journal self.new)
+            ≡ taken port.new ++ arrived port.new }
+        ensures items { result.items ≡ length (arrived port.new) }
+        ensures places { 64 ≤ free_for self.new port.new.node + result.items }
+    {
+        let line = &mut self.lines[port.node as usize - 1];
+        line.settle(port)
+    }
+
+    /// Hands out the entries since the last cut, and begins anew behind them. It takes no memory.
+    pub fn cut(&mut self) -> Part
+        ensures rings { rings self.new ≡ rings self.old }
+        ensures entries { result.entries.items ≡ journal self.old }
+        ensures number { result.base ≡ base self.old }
+        ensures legal { GoesOn result.base result.entries.items (state self.new) }
+        ensures left { journal self.new ≡ [] }
+        ensures next { base self.new ≡ min (base self.old + length (journal self.old)) (2 ^ 64 - 1) }
+        ensures state { state self.new ≡ state self.old }
+        ensures waiting { waiting self.new ≡ waiting self.old }
+        ensures before { (node : ℕ) → 0 < node → node ≤ nodes self.old
+            → (asked_before self.new node ≡ asked_before self.old node ++ asked node (journal self.old))
+            × (told_before self.new node ≡ told_before self.old node ++ told node (journal self.old)) }
+    {
+        self.book.cut()
+    }
+
+    /// Gives out the entries since the last cut, and the core.
+    pub fn finish(self) -> (Vec<Entry>, Core)
+        ensures entries { result.0.items ≡ journal self }
+        ensures state { result.1 ≡ state self }
+        ensures legal { GoesOn (base self) result.0.items result.1 }
+    {
+        let Hub { book, lines: _ } = self;
+        book.finish()
+    }
+
+    // Draws and serves for the node at a place.
+    fn attend(&mut self, at: usize) -> Attended
+        requires { at < nodes self.old }
+        ensures rings { rings self.new ≡ rings self.old }
+        ensures base { (base self.new ≡ base self.old) × (bases self.new ≡ bases self.old) }
+        ensures grew { Grew result.made (journal self.old) (journal self.new) }
+        ensures most { result.made ≤ 2 }
+        ensures once { OneAsks at (journal self.old) (journal self.new) }
+        ensures idle { result.made ≡ 0 → IsFalse result.refused → IsSameBut at self.old self.new × MayRestAt self.new at }
+    {
+        match self.draw(at) {
+            Err(_) => Attended {
+                made: 0,
+                refused: true,
+            },
+            Ok(drawn) => match self.serve(at) {
+                Err(_) => Attended {
+                    made: drawn,
+                    refused: true,
+                },
+                Ok(served) => Attended {
+                    made: drawn + served,
+                    refused: false,
+                },
+            },
+        }
+    }
+
+    // Sends a node an AST that is pending for it, if one is and there is a known place. Says how many entries it made.
+    fn draw(&mut self, at: usize) -> Result<usize, AllocError>
+        requires { at < nodes self.old }
+        ensures rings { rings self.new ≡ rings self.old }
+        ensures base { (base self.new ≡ base self.old) × (bases self.new ≡ bases self.old) }
+        ensures grew { IfOk result (λ n. (n ≤ 1) × Grew n (journal self.old) (journal self.new)) }
+        ensures none_asks { IfOk result (λ n. NoneAsks (journal self.old) (journal self.new)) }
+        ensures drawn { IfOk result (λ n. n ≡ 0 → IsSameBut at self.old self.new × IsDrawnAt self.new at) }
+        ensures refused { OnErr result (journal self.new ≡ journal self.old) }
+    {
+        let line = &mut self.lines[at];
+        if !line.has_place() {
+            return Ok(0);
+        }
+        let node = line.node;
+        let Some(pid) = self.book.pending_of(node) else {
+            return Ok(0);
+        };
+        self.book.reserve()?;
+        let ast = self.book.draw(node, pid);
+        line.tell(Item::Ast(pid, ast));
+        Ok(1)
+    }
+
+    // Takes a post of a node, if one is known and there is a known place for its answer, and answers it. Says how many
+    // entries it made. Refused, no post is lost.
+    fn serve(&mut self, at: usize) -> Result<usize, AllocError>
+        requires { at < nodes self.old }
+        ensures rings { rings self.new ≡ rings self.old }
+        ensures base { (base self.new ≡ base self.old) × (bases self.new ≡ bases self.old) }
+        ensures grew { IfOk result (λ n. (n ≤ 1) × Grew n (journal self.old) (journal self.new)) }
+        ensures once { IfOk result (λ n. OneAsks at (journal self.old) (journal self.new)) }
+        ensures served { IfOk result (λ n. n ≡ 0
+            → IsSameBut at self.old self.new × (IsDrawnAt self.old at → MayRestAt self.new at)) }
+        ensures refused { OnErr result (journal self.new ≡ journal self.old) }
+    {
+        let line = &mut self.lines[at];
+        if !line.has_known_place() {
+            return Ok(0);
+        }
+        if !line.has_request() {
+            return Ok(0);
+        }
+        self.book.reserve()?;
+        let step = line.request();
+        let answer = self.book.serve(line.node, step);
+        line.tell(Item::Answer(answer));
+        Ok(1)
+    }
+}
+
+// The condition that a step was answered.
+fn condition_of(answer: Answer) -> Cond
+    requires { (cond : Cond) × (answer ≡ Answer.Plain cond) }
+    ensures { answer ≡ Answer.Plain result }
+{
+    match answer {
+        Answer::Plain(cond) => cond,
+        _ => unreachable!(),
+    }
+}

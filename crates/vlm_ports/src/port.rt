@@ -1,0 +1,76 @@
+//! A node's ends of its two rings.
+
+ghost use Rattle.std.specs.Prelude.{◌≡◌, ◌<◌, ◌∷◌, ◌++◌, [], length, OnOk, IfErr, OnErr, IfSome, IfNone, IsSome, IsOk};
+ghost use Rattle.vlm_journal.specs.Journals.{IsPostOf};
+
+use rtrb::{Consumer, Producer, PushError};
+use vlm_journal::entries::Item;
+use vlm_words::steps::Step;
+
+/// No free place was known, and nothing is posted. The step is handed back.
+#[derive(Clone, Copy)]
+pub struct Full(pub Step);
+
+/// The port of a node, for a thread of its own. Its calls wait for nobody and take no memory.
+#[derive(Drop)]
+pub struct Port {
+    /// The node, from 1.
+    pub(crate) node: u8,
+    /// Where its posts go.
+    pub(crate) requests: Producer<Step>,
+    /// Where its items come from.
+    pub(crate) items: Consumer<Item>,
+}
+
+impl Port {
+    ghost use Rattle.vlm_ports.specs.Ports.{arrived, free_places, identity, posted, taken};
+
+    /// The node of the port, 1 to 8.
+    pub fn node(&self) -> u8
+        ensures { result ≡ self.now.node }
+    {
+        self.node
+    }
+
+    /// Posts a step of the own node. Refused by [`Full`], only where the port knows no free place; then nothing is changed
+    /// but what it knows (this project's own).
+    pub fn post(&mut self, step: Step) -> Result<(), Full>
+        requires { IsPostOf self.old.node step }
+        ensures same { identity self.new ≡ identity self.old }
+        ensures taken { taken self.new ≡ taken self.old }
+        ensures arrived { arrived self.new ≡ arrived self.old }
+        ensures ok { OnOk result (posted self.new ≡ posted self.old ++ step ∷ []) }
+        ensures full { IfErr result (λ f.
+            (f.0 ≡ step) × (posted self.new ≡ posted self.old) × (free_places self.new ≡ 0)) }
+        ensures known { 0 < free_places self.old → IsOk result }
+    {
+        match self.requests.push(step) {
+            Ok(()) => Ok(()),
+            Err(PushError::Full(back)) => Err(Full(back)),
+        }
+    }
+
+    /// Posts the departure of the own node. Refused as [`Port::post`].
+    pub fn bye(&mut self) -> Result<(), Full>
+        ensures same { identity self.new ≡ identity self.old }
+        ensures taken { taken self.new ≡ taken self.old }
+        ensures arrived { arrived self.new ≡ arrived self.old }
+        ensures ok { OnOk result (posted self.new ≡ posted self.old ++ Step.Leave self.old.node ∷ []) }
+        ensures full { OnErr result ((posted self.new ≡ posted self.old) × (free_places self.new ≡ 0)) }
+        ensures known { 0 < free_places self.old → IsOk result }
+    {
+        self.post(Step::Leave(self.node))
+    }
+
+    /// Takes the next item. None where the port knows of none that has come.
+    pub fn take(&mut self) -> Option<Item>
+        ensures same { identity self.new ≡ identity self.old }
+        ensures posted { posted self.new ≡ posted self.old }
+        ensures free { free_places self.new ≡ free_places self.old }
+        ensures some { IfSome result (λ x. taken self.new ≡ taken self.old ++ x ∷ []) }
+        ensures none { IfNone result ((taken self.new ≡ taken self.old) × (arrived self.new ≡ [])) }
+        ensures known { 0 < length (arrived self.old) → IsSome result }
+    {
+        self.items.pop().ok()
+    }
+}
