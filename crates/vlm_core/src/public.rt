@@ -61,7 +61,7 @@ impl Model for Core {
 }
 
 impl Core {
-    /// A machine at its start. It takes no memory. Its indexes hash by fixed keys: where somebody else chooses names,
+    /// A machine at its start. It takes no memory. Its index of names hashes by fixed keys: where somebody else chooses these,
     /// give keys that nobody can foresee (`with_keys`).
     pub fn new(alloc: Global) -> Core
         ensures { result ≡ start }
@@ -69,7 +69,7 @@ impl Core {
         Core::with_keys(alloc, HashKeys::fixed())
     }
 
-    /// A machine at its start, whose indexes hash by these keys. It takes no memory.
+    /// A machine at its start, whose index of names hashes by these keys. It takes no memory.
     pub fn with_keys(alloc: Global, keys: HashKeys) -> Core
         ensures { result ≡ start }
     {

@@ -40,11 +40,11 @@ pub struct Store {
     // the processes in order of making
     pub(crate) process_order: LinkedList<InOrder>,
     // where the lock of each identification is
-    lock_index: IndexMap<u32, LockAt, HashKeys>,
-    // where the resource of each key is
+    lock_index: IndexMap<u32, LockAt>,
+    // where the resource of each key is; others choose the names in it
     resource_index: IndexMap<Key, ResAt, HashKeys>,
     // where the process of each identification is
-    pub(crate) process_index: IndexMap<u32, ProcAt, HashKeys>,
+    pub(crate) process_index: IndexMap<u32, ProcAt>,
     // the processes that live, node by node
     pub(crate) living: NodeMarks,
     // those that have an AST pending, node by node
@@ -83,14 +83,15 @@ impl Model for Store {
 }
 
 impl Store {
-    /// An empty store, whose indexes hash by fixed keys. It keeps the allocator and takes no memory.
+    /// An empty store, whose index of names hashes by fixed keys. It keeps the allocator and takes no memory.
     pub fn new(alloc: Global) -> Store
         ensures { result ≡ record nothing { room = result.room } }
     {
         Store::with_keys(alloc, HashKeys::fixed())
     }
 
-    /// An empty store, whose indexes hash by these keys. It keeps the allocator and takes no memory.
+    /// An empty store, whose index of names hashes by these keys: identifications are given in order, and nobody chooses
+    /// them. It keeps the allocator and takes no memory.
     pub fn with_keys(alloc: Global, keys: HashKeys) -> Store
         ensures { result ≡ record nothing { room = result.room } }
     {
@@ -105,9 +106,9 @@ impl Store {
             order: LinkedList::new(),
             processes: Slab::new(alloc),
             process_order: LinkedList::new(),
-            lock_index: IndexMap::with_hasher(alloc, keys),
+            lock_index: IndexMap::new(alloc),
             resource_index: IndexMap::with_hasher(alloc, keys),
-            process_index: IndexMap::with_hasher(alloc, keys),
+            process_index: IndexMap::new(alloc),
             living: NodeMarks::new(alloc),
             pending: NodeMarks::new(alloc),
         }

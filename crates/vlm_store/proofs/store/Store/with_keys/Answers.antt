@@ -30,16 +30,16 @@ invariant_of-result c =
       line = empty_line q.locks c.new-4.result c.new-4.ensures no_locks;
       linked = empty_linked q no_locks no_resources c.new-3.ensures c.new-5.result c.new-5.ensures;
       ordered = empty_ordered q no_locks no_resources c.new-3.ensures c.new-5.result c.new-5.ensures;
-      locks = Indexes-empty (found nat_eq c.with_hasher.result) (lkid_at q) (λ k. ap (lookup (nat_eq k)) c.with_hasher.ensures.empty) (λ at. ap (option_map lkid_of) (no_locks at));
-      resources = Indexes-empty (found is_same_key c.with_hasher-2.result) (key_at q) (λ k. ap (lookup (is_same_key k)) c.with_hasher-2.ensures.empty) (λ r. ap (option_map (λ (x : Resource). x.key)) (no_resources r));
+      locks = Indexes-empty (found nat_eq c.new-8.result) (lkid_at q) (λ k. ap (lookup (nat_eq k)) c.new-8.ensures.empty) (λ at. ap (option_map lkid_of) (no_locks at));
+      resources = Indexes-empty (found is_same_key c.with_hasher.result) (key_at q) (λ k. ap (lookup (is_same_key k)) c.with_hasher.ensures.empty) (λ r. ap (option_map (λ (x : Resource). x.key)) (no_resources r));
       owned = empty_owned c.new-6.result q.locks no_processes no_locks;
       below = empty_below c.new-6.result q.locks no_processes no_locks;
       named = empty_named c.new-6.result q.locks no_processes no_locks;
       processes_linked = empty_processes_linked c.new-6.result q.locks no_processes no_locks c.new-7.result c.new-7.ensures;
       processes_ordered = empty_processes_ordered c.new-6.result q.locks no_processes no_locks c.new-7.result c.new-7.ensures;
-      processes = Indexes-empty (found nat_eq c.with_hasher-3.result) (pid_at c.new-6.result) (λ k. ap (lookup (nat_eq k)) c.with_hasher-3.ensures.empty) (λ p. ap (option_map pid_of) (no_processes p));
-      marked = empty_marked waits_in c.new-6.result c.new-9.result no_processes c.new-9.ensures;
-      living = empty_marked is_of_nodes c.new-6.result c.new-8.result no_processes c.new-8.ensures;
+      processes = Indexes-empty (found nat_eq c.new-9.result) (pid_at c.new-6.result) (λ k. ap (lookup (nat_eq k)) c.new-9.ensures.empty) (λ p. ap (option_map pid_of) (no_processes p));
+      marked = empty_marked waits_in c.new-6.result c.new-11.result no_processes c.new-11.ensures;
+      living = empty_marked is_of_nodes c.new-6.result c.new-10.result no_processes c.new-10.ensures;
     }
 
 pub returns : goal.returns
