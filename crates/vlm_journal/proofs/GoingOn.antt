@@ -10,7 +10,7 @@ use Rattle.vlm_words.specs.Stepped.{Outcome}
 use Rattle.vlm_journal.specs.Books.{GoesOn}
 use Rattle.vlm_journal.specs.declared.entries.Entry.{Entry}
 use Rattle.vlm_journal.specs.Drawing.{GivesAst}
-use Rattle.vlm_journal.specs.Journals.{IsAllowed, begin, next}
+use Rattle.vlm_journal.specs.Journals.{IsAllowed, JournalFrom, begin, next}
 use Rattle.vlm_journal.proofs.Joining.{join, run_of}
 
 -- at the start
@@ -53,3 +53,7 @@ pub draws : {base : ℕ} {entries : List Entry} {last new : State} {node pid : �
 draws {entries = entries} {last} {new} {node} {pid} {answer} law book pending outcome =
     let legal = run_of start (join start book.before entries book.handed_out book.since) in
     law legal.history last legal.run node pid pending new answer outcome
+
+-- one entry leads from the state before it to that behind it
+pub one_leads : {old new : State} (entry : Entry) → IsAllowed entry → Outcome old entry.step new entry.answer → JournalFrom old (entry ∷ []) new
+one_leads entry allowed outcome = next begin allowed outcome

@@ -5,7 +5,7 @@ ghost use Rattle.vlm_words.specs.Pending.{first_pending};
 ghost use Rattle.vlm_words.specs.State.{start};
 ghost use Rattle.vlm_words.specs.Stepped.{Outcome};
 ghost use Rattle.vlm_journal.specs.Books.{GoesOn};
-ghost use Rattle.vlm_journal.specs.Journals.{IsPostOf};
+ghost use Rattle.vlm_journal.specs.Journals.{IsPostOf, JournalFrom};
 ghost use Rattle.vlm_journal.specs.Lengthening.{LengthensLittle};
 
 use crate::entries::{Entry, Part};
@@ -80,6 +80,7 @@ impl Book {
         ensures outcome { Outcome self.old.state step self.new.state result }
         ensures entries { self.new.entries ≡ self.old.entries
             ++ record { sender = sender; step = step; answer = result } ∷ [] }
+        ensures leads { JournalFrom self.old.state (record { sender = sender; step = step; answer = result } ∷ []) self.new.state }
         ensures told { LengthensLittle self.old.entries (record { sender = sender; step = step; answer = result }) }
         ensures base { self.new.base ≡ self.old.base }
         ensures room { self.new.room + 1 ≡ self.old.room }
@@ -107,6 +108,8 @@ impl Book {
         ensures outcome { Outcome self.old.state (Step.Take pid) self.new.state (Answer.Taken (Some result)) }
         ensures entries { self.new.entries ≡ self.old.entries
             ++ record { sender = 0; step = Step.Take pid; answer = Answer.Taken (Some result) } ∷ [] }
+        ensures leads { JournalFrom self.old.state
+            (record { sender = 0; step = Step.Take pid; answer = Answer.Taken (Some result) } ∷ []) self.new.state }
         ensures told { LengthensLittle self.old.entries
             (record { sender = 0; step = Step.Take pid; answer = Answer.Taken (Some result) }) }
         ensures node { pid / 65536 ≡ node }
@@ -129,6 +132,8 @@ impl Book {
         ensures outcome { Outcome self.old.state (Step.Leave node) self.new.state result }
         ensures entries { self.new.entries ≡ self.old.entries
             ++ record { sender = 0; step = Step.Leave node; answer = result } ∷ [] }
+        ensures leads { JournalFrom self.old.state
+            (record { sender = 0; step = Step.Leave node; answer = result } ∷ []) self.new.state }
         ensures told { LengthensLittle self.old.entries
             (record { sender = 0; step = Step.Leave node; answer = result }) }
         ensures base { self.new.base ≡ self.old.base }

@@ -6,23 +6,36 @@ use Rattle.std.specs.Prelude.{None}
 use Rattle.std.proofs.lemmas.List.{get_or-map, length-map}
 use Rattle.vlm_words.specs.Pending.{first_pending}
 use Rattle.vlm_words.specs.State.{State}
+use Rattle.vlm_journal.specs.Journals.{JournalFrom, begin}
+use Rattle.vlm_journal.proofs.Joining.{join}
 use Rattle.vlm_ports.specs.declared.hub.Hub.{Hub}
 use Rattle.vlm_ports.specs.declared.line.Line.{Line}
 use Rattle.vlm_ports.specs.Rings.{RingName}
 use Rattle.vlm_ports.specs.Links.{AreLinked, MayRest, knows, places, line_identity}
 use Rattle.vlm_ports.specs.Hubs.{Grew, IsSameBut, MayRestAt, MayIdle, nodes, rings}
 
-pub grew_none : (js ks : List Entry) → ks ≡ js → Grew 0 js ks
-grew_none js ks e = record { more = []; is = e ∙ sym (append-nil js); count = refl }
+pub grew_none : (js ks : List Entry) (s t : State) → ks ≡ js → t ≡ s → Grew 0 js s ks t
+grew_none js ks s t same stays = record {
+  more = [];
+  is = same ∙ sym (append-nil js);
+  count = refl;
+  legal = subst (λ (x : State). JournalFrom s [] x) (sym stays) begin;
+}
 
-pub grew_one : (js ks : List Entry) (e : Entry) → ks ≡ js ++ e ∷ [] → Grew 1 js ks
-grew_one js ks e is = record { more = e ∷ []; is = is; count = refl }
+pub grew_one : (js room ks : List Entry) (s r t : State) (e : Entry) → room ≡ js → r ≡ s → ks ≡ room ++ e ∷ [] → JournalFrom r (e ∷ []) t → Grew 1 js s ks t
+grew_one js room ks s r t e same stays is leads = record {
+  more = e ∷ [];
+  is = is ∙ ap (λ (es : List Entry). es ++ e ∷ []) same;
+  count = refl;
+  legal = subst (λ (x : State). JournalFrom x (e ∷ []) t) stays leads;
+}
 
-pub grew_add : {m n : ℕ} {js ks ls : List Entry} → Grew m js ks → Grew n ks ls → Grew (m + n) js ls
-grew_add {m} {n} {js} {ks} {ls} a b = record {
+pub grew_add : {m n : ℕ} {js ks ls : List Entry} {s t u : State} → Grew m js s ks t → Grew n ks t ls u → Grew (m + n) js s ls u
+grew_add {m} {n} {js} {ks} {ls} {s} a b = record {
   more = a.more ++ b.more;
   is = b.is ∙ (ap (λ (xs : List Entry). xs ++ b.more) a.is ∙ append_assoc js a.more b.more);
   count = length-append a.more b.more ∙ (ap (λ (x : ℕ). x + length b.more) a.count ∙ ap (λ (x : ℕ). m + x) b.count);
+  legal = join s a.more b.more a.legal b.legal;
 }
 
 -- the lines below the next place may rest

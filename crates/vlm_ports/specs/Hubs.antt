@@ -5,6 +5,7 @@ use Rattle.vlm_words.specs.Pending.{first_pending}
 use Rattle.vlm_words.specs.State.{State}
 use Rattle.vlm_journal.specs.declared.entries.Entry.{Entry}
 use Rattle.vlm_journal.specs.declared.entries.Item.{Item}
+use Rattle.vlm_journal.specs.Journals.{JournalFrom}
 use Rattle.vlm_journal.specs.Told.{asked}
 use Rattle.vlm_ports.specs.declared.hub.Hub.{Hub}
 use Rattle.vlm_ports.specs.declared.line.Line.{Line}
@@ -71,11 +72,12 @@ pub record IsSameBut (at : ℕ) (old new : Hub) : Type 0 where
   pub state : new.book.state ≡ old.book.state
   pub lines : (k : ℕ) (d : Line) → (k ≡ at → ⊥) → slice_index_or new.lines.items k d ≡ slice_index_or old.lines.items k d
 
--- so many entries were put at the end
-pub record Grew (n : ℕ) (old new : List Entry) : Type 0 where
+-- so many entries were put at the end, and they are legal from the state before them and lead to that behind them
+pub record Grew (n : ℕ) (before : List Entry) (old : State) (now : List Entry) (new : State) : Type 0 where
   pub more : List Entry
-  pub is : new ≡ old ++ more
+  pub is : now ≡ before ++ more
   pub count : length more ≡ n
+  pub legal : JournalFrom old more new
 
 -- by these entries no node asks for more
 abbrev pub NoneAsks : List Entry → List Entry → Type 0

@@ -2,7 +2,6 @@
 
 ghost use Rattle.std.specs.Prelude.{◌≡◌, ◌⊎◌, ◌≤◌, ◌<◌, ◌+◌, ◌*◌, ◌∷◌, ◌++◌, ◌-◌, ◌^◌, [], length, min, vec_len, IfOk, OnErr, IsFalse, map, ℕ};
 ghost use Rattle.vlm_ports.specs.Links.{AreLinked};
-ghost use mathlib.Core.List.{IsPrefix};
 
 use crate::line::{Line, Settled};
 use crate::port::Port;
@@ -96,9 +95,8 @@ impl Hub {
     pub fn turn(&mut self) -> Turn
         ensures rings { rings self.new ≡ rings self.old }
         ensures base { (base self.new ≡ base self.old) × (bases self.new ≡ bases self.old) }
-        ensures count { length (journal self.new) ≡ length (journal self.old) + turn_entries result }
+        ensures made { Grew (turn_entries result) (journal self.old) (state self.old) (journal self.new) (state self.new) }
         ensures some { IsServed result → 0 < turn_entries result }
-        ensures kept { IsPrefix (journal self.old) (journal self.new) }
         ensures most { turn_entries result ≤ 2 * nodes self.old }
         ensures once { EachAsksOnce (journal self.old) (journal self.new) }
         ensures idle { IsIdle result → MayIdle self.new }
@@ -190,7 +188,7 @@ impl Hub {
         requires { at < nodes self.old }
         ensures rings { rings self.new ≡ rings self.old }
         ensures base { (base self.new ≡ base self.old) × (bases self.new ≡ bases self.old) }
-        ensures grew { Grew result.made (journal self.old) (journal self.new) }
+        ensures grew { Grew result.made (journal self.old) (state self.old) (journal self.new) (state self.new) }
         ensures most { result.made ≤ 2 }
         ensures once { OneAsks at (journal self.old) (journal self.new) }
         ensures idle { result.made ≡ 0 → IsFalse result.refused → IsSameBut at self.old self.new × MayRestAt self.new at }
@@ -218,10 +216,11 @@ impl Hub {
         requires { at < nodes self.old }
         ensures rings { rings self.new ≡ rings self.old }
         ensures base { (base self.new ≡ base self.old) × (bases self.new ≡ bases self.old) }
-        ensures grew { IfOk result (λ n. (n ≤ 1) × Grew n (journal self.old) (journal self.new)) }
+        ensures grew { IfOk result (λ n.
+            (n ≤ 1) × Grew n (journal self.old) (state self.old) (journal self.new) (state self.new)) }
         ensures none_asks { IfOk result (λ n. NoneAsks (journal self.old) (journal self.new)) }
         ensures drawn { IfOk result (λ n. n ≡ 0 → IsSameBut at self.old self.new × IsDrawnAt self.new at) }
-        ensures refused { OnErr result (journal self.new ≡ journal self.old) }
+        ensures refused { OnErr result ((journal self.new ≡ journal self.old) × (state self.new ≡ state self.old)) }
     {
         let line = &mut self.lines[at];
         if !line.has_place() {
@@ -243,11 +242,12 @@ impl Hub {
         requires { at < nodes self.old }
         ensures rings { rings self.new ≡ rings self.old }
         ensures base { (base self.new ≡ base self.old) × (bases self.new ≡ bases self.old) }
-        ensures grew { IfOk result (λ n. (n ≤ 1) × Grew n (journal self.old) (journal self.new)) }
+        ensures grew { IfOk result (λ n.
+            (n ≤ 1) × Grew n (journal self.old) (state self.old) (journal self.new) (state self.new)) }
         ensures once { IfOk result (λ n. OneAsks at (journal self.old) (journal self.new)) }
         ensures served { IfOk result (λ n. n ≡ 0
             → IsSameBut at self.old self.new × (IsDrawnAt self.old at → MayRestAt self.new at)) }
-        ensures refused { OnErr result (journal self.new ≡ journal self.old) }
+        ensures refused { OnErr result ((journal self.new ≡ journal self.old) × (state self.new ≡ state self.old)) }
     {
         let line = &mut self.lines[at];
         if !line.has_known_place() {

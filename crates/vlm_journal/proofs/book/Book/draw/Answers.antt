@@ -2,9 +2,10 @@ use Rattle.std.proofs.Common.{◌≡◌, inl, refl, subst, sym, Some}
 use Rattle.vlm_words.specs.declared.steps.Answer.TheVariants.{Taken}
 use Rattle.vlm_words.specs.declared.steps.Step.TheVariants.{Take}
 use Rattle.vlm_words.specs.Pending.{first_pending}
+use Rattle.vlm_words.specs.Stepped.{Outcome}
 use Rattle.vlm_journal.specs.Books.{Account}
 use Rattle.vlm_journal.specs.Journals.{takes}
-use Rattle.vlm_journal.proofs.GoingOn.{draws, goes_on}
+use Rattle.vlm_journal.proofs.GoingOn.{draws, goes_on, one_leads}
 use Rattle.vlm_journal.proofs.book.Book.draw.Goals as goal
 
 -- the take answers an AST
@@ -27,3 +28,8 @@ pub returns-clause-node : goal.returns-clause-node
 returns-clause-node c =
     let P : Account → Type 0 = λ b. first_pending c.args.node b.state.processes ≡ Some c.args.pid in
     (draws c.law_draw.ensures c.self.invariant (subst P (sym c.self.view_is) c.requires.pending) c.step-answer.ensures).of_node
+
+pub returns-clause-leads : goal.returns-clause-leads
+returns-clause-leads c =
+    one_leads (record { sender = 0; step = Take c.args.pid; answer = Taken (Some c.ast_of-ast.result) }) (inl (refl, takes c.args.pid c.ast_of-ast.result))
+    (subst (λ (b : Account). Outcome b.state (Take c.args.pid) c.step-answer.new.self (Taken (Some c.ast_of-ast.result))) c.self.view_is (rw (sym c.ast_of-ast.ensures) c.step-answer.ensures))

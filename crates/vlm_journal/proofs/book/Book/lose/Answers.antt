@@ -1,7 +1,9 @@
-use Rattle.std.proofs.Common.{inl, refl}
+use Rattle.std.proofs.Common.{inl, refl, subst}
 use Rattle.vlm_words.specs.declared.steps.Step.TheVariants.{Leave}
+use Rattle.vlm_words.specs.Stepped.{Outcome}
+use Rattle.vlm_journal.specs.Books.{Account}
 use Rattle.vlm_journal.specs.Journals.{leaves}
-use Rattle.vlm_journal.proofs.GoingOn.{goes_on}
+use Rattle.vlm_journal.proofs.GoingOn.{goes_on, one_leads}
 use Rattle.vlm_journal.proofs.book.Book.lose.Goals as goal
 
 -- the outcome leads on
@@ -12,3 +14,7 @@ invariant_of-self c =
 
 pub returns-clause-told : goal.returns-clause-told
 returns-clause-told c = c.law_entry.ensures.more _ _ (inl (refl, leaves c.args.node c.step-answer.result))
+
+pub returns-clause-leads : goal.returns-clause-leads
+returns-clause-leads c =
+    one_leads (record { sender = 0; step = Leave c.args.node; answer = c.step-answer.result }) (inl (refl, leaves c.args.node c.step-answer.result)) (subst (λ (b : Account). Outcome b.state (Leave c.args.node) c.step-answer.new.self c.step-answer.result) c.self.view_is c.step-answer.ensures)

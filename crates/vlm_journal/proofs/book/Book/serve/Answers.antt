@@ -1,5 +1,7 @@
-use Rattle.std.proofs.Common.{inr}
-use Rattle.vlm_journal.proofs.GoingOn.{goes_on}
+use Rattle.std.proofs.Common.{inr, subst}
+use Rattle.vlm_words.specs.Stepped.{Outcome}
+use Rattle.vlm_journal.specs.Books.{Account}
+use Rattle.vlm_journal.proofs.GoingOn.{goes_on, one_leads}
 use Rattle.vlm_journal.proofs.book.Book.serve.Goals as goal
 
 -- the outcome leads on
@@ -10,3 +12,7 @@ invariant_of-self c =
 
 pub returns-clause-told : goal.returns-clause-told
 returns-clause-told c = c.law_entry.ensures.more _ _ (inr (c.requires.sender.0, c.requires.sender.1, c.requires.post))
+
+pub returns-clause-leads : goal.returns-clause-leads
+returns-clause-leads c =
+    one_leads (record { sender = c.args.sender; step = c.args.step; answer = c.step-answer.result }) (inr (c.requires.sender.0, c.requires.sender.1, c.requires.post)) (subst (λ (b : Account). Outcome b.state c.args.step c.step-answer.new.self c.step-answer.result) c.self.view_is c.step-answer.ensures)

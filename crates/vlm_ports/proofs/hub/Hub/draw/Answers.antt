@@ -1,10 +1,11 @@
-use Rattle.std.proofs.Common.{◌≡◌, ◌++◌, ◌∷◌, [], List, map, refl, ap, sym, subst, ◌∙◌, set}
+use Rattle.std.proofs.Common.{arith, ◌≡◌, ◌++◌, ◌∷◌, [], List, map, refl, ap, sym, subst, ◌∙◌, set}
 use Rattle.vlm_journal.specs.declared.entries.Entry.{Entry}
 use Rattle.vlm_journal.specs.declared.entries.Item.TheVariants.{Ast as ast_item}
 use Rattle.vlm_journal.specs.declared.entries.Item.{Item}
 use Rattle.vlm_ports.specs.Links.{line_base}
 use Rattle.vlm_ports.proofs.Asking.{hub_asks}
 use Rattle.vlm_ports.proofs.Lines.{drawing, drawn_follows, node_at, rings_set, set_same}
+use Rattle.vlm_ports.proofs.Resting.{grew_none, grew_one}
 use Rattle.vlm_ports.proofs.hub.Hub.draw.Goals as goal
 
 pub returns-then-not-has_place-clause-rings : goal.returns-then-not-has_place-clause-rings
@@ -69,3 +70,16 @@ returns-clause-base c =
 pub returns-clause-none_asks : goal.returns-clause-none_asks
 returns-clause-none_asks c =
     hub_asks c.args.self.now.book.entries c.reserve.new.self.entries c.draw-ast.new.self.entries (drawing c.in-Some.pid c.draw-ast.result) c.reserve.ensures.entries c.draw-ast.ensures.told c.draw-ast.ensures.entries refl
+
+pub returns-clause-grew : goal.returns-clause-grew
+returns-clause-grew c = (
+  omega arith,
+  grew_one c.args.self.now.book.entries c.reserve.new.self.entries c.draw-ast.new.self.entries c.args.self.now.book.state c.reserve.new.self.state c.draw-ast.new.self.state (drawing c.in-Some.pid c.draw-ast.result)
+      c.reserve.ensures.entries c.reserve.ensures.state c.draw-ast.ensures.entries c.draw-ast.ensures.leads,
+)
+
+pub returns-then-not-has_place-clause-grew : goal.returns-then-not-has_place-clause-grew
+returns-then-not-has_place-clause-grew c = (omega arith, grew_none c.args.self.now.book.entries c.args.self.now.book.entries c.args.self.now.book.state c.args.self.now.book.state refl refl)
+
+pub returns-in_default-clause-grew : goal.returns-in_default-clause-grew
+returns-in_default-clause-grew c = (omega arith, grew_none c.args.self.now.book.entries c.args.self.now.book.entries c.args.self.now.book.state c.args.self.now.book.state refl refl)

@@ -1,4 +1,4 @@
-use Rattle.std.proofs.Common.{◌≡◌, ◌++◌, ◌∷◌, [], List, map, refl, ap, sym, subst, ◌∙◌, set}
+use Rattle.std.proofs.Common.{arith, ◌≡◌, ◌++◌, ◌∷◌, [], List, map, refl, ap, sym, subst, ◌∙◌, set}
 use Rattle.vlm_words.specs.declared.steps.Step.{Step}
 use Rattle.vlm_journal.specs.declared.entries.Entry.{Entry}
 use Rattle.vlm_journal.specs.declared.entries.Item.TheVariants.{Answer as answer_item}
@@ -6,6 +6,7 @@ use Rattle.vlm_journal.specs.declared.entries.Item.{Item}
 use Rattle.vlm_ports.specs.Links.{line_base}
 use Rattle.vlm_ports.proofs.Asking.{node_asks}
 use Rattle.vlm_ports.proofs.Lines.{node_at, rings_set, served_follows, set_same}
+use Rattle.vlm_ports.proofs.Resting.{grew_none, grew_one}
 use Rattle.vlm_ports.proofs.hub.Hub.serve.Goals as goal
 
 pub returns-then-not-has_request-clause-rings : goal.returns-then-not-has_request-clause-rings
@@ -71,3 +72,17 @@ returns-clause-once c =
     let node = node_at ls js c.args.at popped c.index_mut-line.result.now c.args.self.now.linked c.requires c.index_mut-line.ensures.value ring in
     let e : Entry = record { sender = popped.node; step = c.request-step.result; answer = c.serve-answer.result } in
     node_asks c.args.at js c.reserve.new.self.entries c.serve-answer.new.self.entries e c.reserve.ensures.entries c.serve-answer.ensures.told c.serve-answer.ensures.entries node
+
+pub returns-clause-grew : goal.returns-clause-grew
+returns-clause-grew c =
+    let e : Entry = record { sender = c.request-step.new.self.node; step = c.request-step.result; answer = c.serve-answer.result } in (
+      omega arith,
+      grew_one c.args.self.now.book.entries c.reserve.new.self.entries c.serve-answer.new.self.entries c.args.self.now.book.state c.reserve.new.self.state c.serve-answer.new.self.state e
+          c.reserve.ensures.entries c.reserve.ensures.state c.serve-answer.ensures.entries c.serve-answer.ensures.leads,
+    )
+
+pub returns-then-not-has_known_place-clause-grew : goal.returns-then-not-has_known_place-clause-grew
+returns-then-not-has_known_place-clause-grew c = (omega arith, grew_none c.args.self.now.book.entries c.args.self.now.book.entries c.args.self.now.book.state c.args.self.now.book.state refl refl)
+
+pub returns-then-not-has_request-clause-grew : goal.returns-then-not-has_request-clause-grew
+returns-then-not-has_request-clause-grew c = (omega arith, grew_none c.args.self.now.book.entries c.args.self.now.book.entries c.args.self.now.book.state c.args.self.now.book.state refl refl)

@@ -1,7 +1,7 @@
-use Rattle.std.proofs.Common.{◌+◌, ◌≡◌, ◌<◌, sym, ◌∙◌, arith}
-use Rattle.vlm_ports.specs.Hubs.{journal, nodes}
-use Rattle.vlm_ports.proofs.Asking.{asked_each, asked_more}
-use Rattle.vlm_ports.proofs.Resting.{grew_add, may_idle, rest_more, within_rings}
+use Rattle.std.proofs.Common.{refl, ◌+◌, ◌≡◌, ◌<◌, sym, ◌∙◌, arith}
+use Rattle.vlm_ports.specs.Hubs.{journal, nodes, state}
+use Rattle.vlm_ports.proofs.Asking.{asked_each, asked_first, asked_more}
+use Rattle.vlm_ports.proofs.Resting.{grew_add, grew_none, may_idle, rest_more, within_rings}
 use Rattle.vlm_ports.proofs.hub.Hub.turn.Goals as goal
 
 pub attend-attended-requires : goal.attend-attended-requires
@@ -37,3 +37,17 @@ returns-then-attended-clause-once c =
 
 pub returns-else-made-eq0-clause-once : goal.returns-else-made-eq0-clause-once
 returns-else-made-eq0-clause-once c = asked_each c.loop-at.at (journal c.args.self.now) (journal c.loop-at.self) c.loop-at.invariant.once
+
+pub loop-at-init : goal.loop-at-init
+loop-at-init c = record {
+  rings = refl;
+  base = refl;
+  bases = refl;
+  grew = grew_none (journal c.args.self.now) (journal c.args.self.now) (state c.args.self.now) (state c.args.self.now) refl refl;
+  once = asked_first (journal c.args.self.now);
+  most = omega arith;
+  idle = λ none k below. absurd (omega (arith, below));
+}
+
+pub returns-then-attended-clause-made : goal.returns-then-attended-clause-made
+returns-then-attended-clause-made c = grew_add c.loop-at.invariant.grew c.attend-attended.ensures.grew

@@ -1,0 +1,10 @@
+use Rattle.vlm_ports.specs.Hubs.{journal, state}
+use Rattle.vlm_ports.proofs.Resting.{grew_add, grew_none}
+use Rattle.vlm_ports.proofs.hub.Hub.attend.Goals as goal
+
+pub returns-in-Err-clause-grew : goal.returns-in-Err-clause-grew
+returns-in-Err-clause-grew c =
+    grew_none (journal c.args.self.now) (journal c.draw.new.self) (state c.args.self.now) (state c.draw.new.self) c.in-Err.ensures.refused.0 c.in-Err.ensures.refused.1
+
+pub returns-in-Ok-serve-clause-grew : goal.returns-in-Ok-serve-clause-grew
+returns-in-Ok-serve-clause-grew c = grew_add c.in-Ok.ensures.grew.1 c.in-Ok-serve.ensures.grew.1
