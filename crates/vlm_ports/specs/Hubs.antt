@@ -2,7 +2,7 @@
 use Rattle.std.specs.Prelude.{◌≡◌, ◌⊎◌, ◌<◌, ◌≤◌, ◌-◌, ◌+◌, ◌++◌, ℕ, List, [], length, map, slice_get, slice_index_or, Some, None}
 use Rattle.vlm_words.specs.declared.steps.Step.{Step}
 use Rattle.vlm_words.specs.Pending.{first_pending}
-use Rattle.vlm_words.specs.State.{State}
+use Rattle.vlm_words.specs.State.{State, start}
 use Rattle.vlm_journal.specs.declared.entries.Entry.{Entry}
 use Rattle.vlm_journal.specs.declared.entries.Item.{Item}
 use Rattle.vlm_journal.specs.Journals.{JournalFrom}
@@ -91,3 +91,13 @@ pub record OneAsks (at : ℕ) (old new : List Entry) : Type 0 where
 -- at most one request of each node was taken
 abbrev pub EachAsksOnce : List Entry → List Entry → Type 0
 EachAsksOnce old new = (node : ℕ) → 0 < node → length (asked node new) ≤ length (asked node old) + 1
+
+-- a hub of so many nodes that has made nothing: nothing is written down, and no node has asked for anything or been told
+-- anything
+pub record IsNewHub (count : ℕ) (h : Hub) : Type 0 where
+  pub journal : journal h ≡ []
+  pub state : state h ≡ start
+  pub base : base h ≡ 0
+  pub nodes : nodes h ≡ count
+  pub asked : (node : ℕ) → 0 < node → node ≤ count → asked_before h node ≡ []
+  pub told : (node : ℕ) → 0 < node → node ≤ count → told_before h node ≡ []

@@ -1,7 +1,8 @@
 //! The hub: it alone owns the core and its journal.
 
 ghost use Rattle.std.specs.Prelude.{◌≡◌, ◌⊎◌, ◌≤◌, ◌<◌, ◌+◌, ◌*◌, ◌∷◌, ◌++◌, ◌-◌, ◌^◌, [], length, min, vec_len, IfOk, OnErr, IsFalse, map, ℕ};
-ghost use Rattle.vlm_ports.specs.Links.{AreLinked};
+ghost use Rattle.vlm_ports.specs.Links.{AreFresh, AreLinked, line_identity};
+ghost use Rattle.vlm_ports.specs.Ports.{AreNew as AreNewPorts, identity as port_identity};
 
 use crate::line::{Line, Settled};
 use crate::port::Port;
@@ -48,7 +49,7 @@ impl Hub {
     ghost use Rattle.vlm_journal.specs.Books.{GoesOn};
     ghost use Rattle.vlm_journal.specs.Told.{asked, told};
     ghost use Rattle.vlm_ports.specs.Turns.{IsIdle, IsServed, turn_entries};
-    ghost use Rattle.vlm_ports.specs.Hubs.{EachAsksOnce, Grew, IsDrawnAt, IsPortOf, IsSameBut, MayIdle, MayRestAt, NoneAsks, OneAsks, asked_before, base, bases, free_for, journal, nodes, rings, state, told_before, waiting};
+    ghost use Rattle.vlm_ports.specs.Hubs.{EachAsksOnce, Grew, IsDrawnAt, IsNewHub, IsPortOf, IsSameBut, MayIdle, MayRestAt, NoneAsks, OneAsks, asked_before, base, bases, free_for, journal, nodes, rings, state, told_before, waiting};
     ghost use Rattle.vlm_ports.specs.Ports.{AreNew, arrived, identity, posted, taken};
 
     /// How many nodes it serves.
@@ -66,24 +67,32 @@ impl Hub {
         self.book.entries()
     }
 
-    /// A hub of so many nodes, with a core at its start, and a port for each node: that of node 1 first.
+    /// A hub of so many nodes, with a core at its start, and a port for each node: that of node 1 first. Refused, there is
+    /// no hub and no port.
     pub fn make(alloc: Global, count: usize) -> Result<(Hub, Vec<Port>), AllocError>
         requires count { (0 < count) × (count ≤ 8) }
-        ensures hub { IfOk result (λ r. (journal r.0 ≡ []) × (state r.0 ≡ start) × (base r.0 ≡ 0) × (nodes r.0 ≡ count)) }
+        ensures hub { IfOk result (λ r. IsNewHub count r.0) }
         ensures ports { IfOk result (λ r. (length r.1.items ≡ count) × AreNew r.1.items) }
         ensures rings { IfOk result (λ r. map identity r.1.items ≡ rings r.0) }
-        ensures first { IfOk result (λ r. (node : ℕ) → 0 < node → node ≤ count
-            → (asked_before r.0 node ≡ []) × (told_before r.0 node ≡ [])) }
     {
-        let mut lines = Vec::new(alloc);
-        let mut ports = Vec::new(alloc);
-        for at in 0..count {
-            let (line, port) = Line::make(alloc, at as u8 + 1)?;
-            lines.push(line)?;
-            ports.push(port)?;
-        }
+        Hub::with_core(alloc, Core::new(alloc), count)
+    }
+
+    /// The same over a core that is made: with [`Core::with_keys`] where others choose the names of resources.
+    pub fn with_core(
+        alloc: Global,
+        core: Core,
+        count: usize,
+    ) -> Result<(Hub, Vec<Port>), AllocError>
+        requires start { core ≡ start }
+        requires count { (0 < count) × (count ≤ 8) }
+        ensures hub { IfOk result (λ r. IsNewHub count r.0) }
+        ensures ports { IfOk result (λ r. (length r.1.items ≡ count) × AreNew r.1.items) }
+        ensures rings { IfOk result (λ r. map identity r.1.items ≡ rings r.0) }
+    {
+        let (lines, ports) = ring_ends(alloc, count)?;
         let hub = Hub {
-            book: Book::new(Core::new(alloc), alloc),
+            book: Book::new(core, alloc),
             lines,
         };
         Ok((hub, ports))
@@ -262,6 +271,23 @@ impl Hub {
         line.tell(Item::Answer(answer));
         Ok(1)
     }
+}
+
+// The ends of the rings of so many nodes, the hub's and the nodes'.
+fn ring_ends(alloc: Global, count: usize) -> Result<(Vec<Line>, Vec<Port>), AllocError>
+    requires count { count ≤ 8 }
+    ensures lines { IfOk result (λ r. (length r.0.items ≡ count) × AreFresh r.0.items) }
+    ensures ports { IfOk result (λ r. (length r.1.items ≡ count) × AreNewPorts r.1.items) }
+    ensures rings { IfOk result (λ r. map port_identity r.1.items ≡ map line_identity r.0.items) }
+{
+    let mut lines = Vec::new(alloc);
+    let mut ports = Vec::new(alloc);
+    for at in 0..count {
+        let (line, port) = Line::make(alloc, at as u8 + 1)?;
+        lines.push(line)?;
+        ports.push(port)?;
+    }
+    Ok((lines, ports))
 }
 
 // The condition that a step was answered.

@@ -1,8 +1,10 @@
 //! A node's ends of its two rings.
 
 ghost use Rattle.std.specs.Prelude.{◌≡◌, ◌<◌, ◌∷◌, ◌++◌, [], length, OnOk, IfErr, OnErr, IfSome, IfNone, IsSome, IsOk};
+ghost use Rattle.std.specs.Bool.{OnFalse, OnTrue};
 ghost use Rattle.vlm_journal.specs.Journals.{IsPostOf};
 
+use crate::posts::is_post_of;
 use rtrb::{Consumer, Producer, PushError};
 use vlm_journal::entries::Item;
 use vlm_words::steps::Step;
@@ -30,6 +32,14 @@ impl Port {
         ensures { result ≡ self.now.node }
     {
         self.node
+    }
+
+    /// Whether it may post the step: the step is of the own node, and no take.
+    pub fn may_post(&self, step: &Step) -> bool
+        ensures yes { OnTrue result (IsPostOf self.now.node step.now) }
+        ensures no { OnFalse result (¬ IsPostOf self.now.node step.now) }
+    {
+        is_post_of(self.node, step)
     }
 
     /// Posts a step of the own node. Refused by [`Full`], only where the port knows no free place; then nothing is changed

@@ -6,8 +6,8 @@ ghost use Rattle.vlm_ports.specs.Posts.{is_post_of, on_behalf};
 
 use vlm_words::steps::Step;
 
-// Whether a node may post the step: it is of that node, and no take.
-fn is_post_of(node: u8, step: &Step) -> bool
+/// Whether a node may post the step: it is of that node, and no take.
+pub(crate) fn is_post_of(node: u8, step: &Step) -> bool
     ensures { result ≡ is_post_of node step.now }
 {
     match step {

@@ -1,7 +1,7 @@
 use Rattle.std.proofs.Common.{◌≡◌, map, vec_len}
 use Rattle.vlm_ports.specs.Links.{AreFresh, line_identity}
 use Rattle.vlm_ports.specs.Ports.{AreNew, identity}
-use Rattle.vlm_ports.proofs.hub.Hub.make.Given as goal
+use Rattle.vlm_ports.proofs.hub.ring_ends.Given as goal
 
 abbrev pub invariant-loop-at : goal.invariant-loop-at
 invariant-loop-at l =

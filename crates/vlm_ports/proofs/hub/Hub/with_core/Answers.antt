@@ -1,0 +1,22 @@
+use Rattle.std.proofs.Common.{◌≡◌, ◌≤◌, ◌<◌, ◌-◌, ℕ, [], List, sym, subst, get_or, map, arith, length}
+use Rattle.vlm_journal.specs.declared.entries.Entry.{Entry}
+use Rattle.vlm_ports.specs.Links.{line_base, no_base}
+use Rattle.vlm_ports.proofs.Lines.{none_before}
+use Rattle.vlm_ports.proofs.hub.Hub.with_core.Goals as goal
+
+pub returns-clause-hub : goal.returns-clause-hub
+returns-clause-hub c =
+    let ls = c.in_ok-lines.lines.items in
+    let long : length ls ≡ c.args.count = c.in_ok-lines.ensures.lines.0 in
+    let P : ℕ → List Entry → Type 0 = λ node es. ((get_or (map (line_base es) ls) (node - 1) no_base).asked_before ≡ []) × ((get_or (map (line_base es) ls) (node - 1) no_base).told_before ≡ []) in
+    let nothing : (node : ℕ) → 0 < node → node ≤ c.args.count → P node c.new.result.entries = λ node some within.
+    let inside : node ≤ length ls = omega (arith, long, within) in
+    subst (P node) (sym c.new.ensures.entries) (none_before ls c.in_ok-lines.ensures.lines.1 node some inside) in
+    record {
+      journal = c.new.ensures.entries;
+      state = c.new.ensures.state;
+      base = c.new.ensures.base;
+      nodes = long;
+      asked = λ node some within. (nothing node some within).0;
+      told = λ node some within. (nothing node some within).1;
+    }
