@@ -13,3 +13,4 @@ mod posts;
 pub use hub::{Hub, Turn};
 pub use line::Settled;
 pub use port::{Full, Port};
+pub use posts::is_post_of;

@@ -1,14 +1,15 @@
 //! Which steps a node may post.
 
-ghost use Rattle.std.specs.Prelude.{◌≡◌};
+ghost use Rattle.std.specs.Prelude.{◌≡◌, ◌↔◌, IsTrue};
 ghost use Rattle.vlm_journal.specs.Journals.{IsPostOf};
 ghost use Rattle.vlm_ports.specs.Posts.{is_post_of, on_behalf};
 
 use vlm_words::steps::Step;
 
-// Whether a node may post the step: it is of that node, and no take.
-fn is_post_of(node: u8, step: &Step) -> bool
-    ensures { result ≡ is_post_of node step.now }
+/// Whether a node may post the step: it is of that node, and no take (this project's own).
+pub fn is_post_of(node: u8, step: &Step) -> bool
+    ensures value { result ≡ is_post_of node step.now }
+    ensures post { IsTrue result ↔ IsPostOf node step.now }
 {
     match step {
         Step::Take(_) => false,
