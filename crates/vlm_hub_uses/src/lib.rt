@@ -1,8 +1,8 @@
 //! Callers of the hub and its ports: one that serves two nodes, and tests.
 #![tactic(auto)]
 
-mod serving;
+mod pair;
 #[cfg(test)]
 mod tests;
 
-pub use serving::Node;
+pub use pair::{Node, Pair};

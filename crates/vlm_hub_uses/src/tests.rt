@@ -1,3 +1,3 @@
 //! What no contract of the hub says: that posts and turns succeed where there is room.
 
-mod alone;
+mod hub;

@@ -1,0 +1,111 @@
+//! A hub of two nodes with their ports, all in one hand.
+
+ghost use Rattle.std.specs.Prelude.{◌≡◌, [], IfOk};
+ghost use Rattle.vlm_journal.specs.Journals.{IsPostOf};
+ghost use Rattle.vlm_ports.specs.Hubs.{IsPortOf, journal};
+ghost use Rattle.vlm_ports.specs.Ports.{identity};
+
+use std::alloc::{AllocError, Global};
+use vlm_journal::entries::{Item, Part};
+use vlm_ports::{Full, Hub, Port, Settled, Turn};
+use vlm_words::conditions::Cond;
+use vlm_words::steps::Step;
+
+/// One of two nodes.
+#[derive(Clone, Copy)]
+pub enum Node {
+    /// Node 1.
+    First,
+    /// Node 2.
+    Second,
+}
+
+/// A hub that serves two nodes, and their ports.
+#[derive(Drop)]
+pub struct Pair {
+    hub: Hub,
+    first: Port,
+    second: Port,
+    ghost ours: { IsPortOf hub first × IsPortOf hub second },
+}
+
+impl Pair {
+    /// A hub and its ports, with nothing posted. Refused, there is neither.
+    pub fn new(alloc: Global) -> Result<Pair, AllocError>
+        ensures { IfOk result (λ p. journal p.hub ≡ []) }
+    {
+        let (hub, ports) = Hub::make(alloc, 2)?;
+        let mut ports = ports.into_iter();
+        let (Some(first), Some(second)) = (ports.next(), ports.next()) else {
+            return Err(AllocError);
+        };
+        Ok(Pair { hub, first, second })
+    }
+
+    /// Posts a step, if it is of the node and there is a place.
+    pub fn post(&mut self, node: Node, step: Step) -> Result<(), Full> {
+        match node {
+            Node::First => post(&mut self.first, step),
+            Node::Second => post(&mut self.second, step),
+        }
+    }
+
+    /// Posts a node's departure.
+    pub fn bye(&mut self, node: Node) -> Result<(), Full> {
+        match node {
+            Node::First => self.first.bye(),
+            Node::Second => self.second.bye(),
+        }
+    }
+
+    /// Takes an item that has come for a node.
+    pub fn take(&mut self, node: Node) -> Option<Item> {
+        match node {
+            Node::First => self.first.take(),
+            Node::Second => self.second.take(),
+        }
+    }
+
+    /// Has the hub make a turn.
+    pub fn turn(&mut self) -> Turn {
+        self.hub.turn()
+    }
+
+    /// Settles a node's port.
+    pub fn settle(&mut self, node: Node) -> Settled {
+        match node {
+            Node::First => self.hub.settle(&mut self.first),
+            Node::Second => self.hub.settle(&mut self.second),
+        }
+    }
+
+    /// A node is lost.
+    pub fn lost(&mut self, node: Node) -> Result<Cond, AllocError> {
+        let number = match node {
+            Node::First => 1,
+            Node::Second => 2,
+        };
+        self.hub.lost(number)
+    }
+
+    /// Hands out the entries since the last cut.
+    pub fn cut(&mut self) -> Part {
+        self.hub.cut()
+    }
+
+    /// How many entries there are since the last cut.
+    pub fn entries(&self) -> usize {
+        self.hub.journal().len()
+    }
+}
+
+// Posts a step on a port, if the port may.
+fn post(port: &mut Port, step: Step) -> Result<(), Full>
+    ensures { identity port.new ≡ identity port.old }
+{
+    if port.may_post(&step) {
+        port.post(step)
+    } else {
+        Err(Full(step))
+    }
+}

@@ -1,0 +1,164 @@
+//! Two nodes in one hand: worked turns, full rings, a greedy node, a lost node, and parts of a journal.
+
+use crate::Node::{First, Second};
+use crate::{Node, Pair};
+use std::alloc::{AllocError, Global};
+use std::process::Abort;
+use std::test::Fail;
+use vlm_journal::entries::Item;
+use vlm_ports::Turn;
+use vlm_words::asts::AstKind;
+use vlm_words::conditions::Cond;
+use vlm_words::modes::Mode;
+use vlm_words::names::NameArg;
+use vlm_words::steps::{Answer, Declaration, NewRequest, Step, Which};
+
+// The first process of either node.
+const P: u32 = 65_537;
+
+const Q: u32 = 131_073;
+
+// A search by either node.
+const SEARCH: Step = Step::Search(1);
+
+const SECOND_SEARCH: Step = Step::Search(2);
+
+// The item is this answer.
+fn is_answer(item: Option<Item>, answer: Answer) -> bool {
+    match item {
+        Some(Item::Answer(given)) => given == answer,
+        _ => false,
+    }
+}
+
+// The item is an AST of this kind for the process.
+fn is_ast(item: Option<Item>, pid: u32, kind: AstKind) -> bool {
+    match item {
+        Some(Item::Ast(to, ast)) => to == pid && ast.kind == kind,
+        _ => false,
+    }
+}
+
+// A node's first declaration.
+fn declaration(node: u8) -> Step {
+    Step::Declare(Declaration {
+        node,
+        group: 1,
+        syslck: false,
+        quota: 9,
+        blocks: 1,
+    })
+}
+
+// A request of EX on one name, with both routines.
+fn exclusive(pid: u32) -> Step {
+    Step::Enq(NewRequest {
+        pid,
+        mode: Mode::Ex,
+        name: NameArg::of(b"A"),
+        block: 1,
+        parent: Which::Id(0),
+        flags: 0,
+        ast: Some(8),
+        bast: Some(9),
+        param: 0,
+    })
+}
+
+// Posts, and has the hub make that in one turn.
+fn make(rt: &impl Abort, pair: &mut Pair, node: Node, step: Step) {
+    assert!(rt; pair.post(node, step).is_ok());
+    assert!(rt; pair.turn() == Turn::Served(1));
+}
+
+// A search, and a lock that one node holds and the other waits for.
+#[test]
+fn hub_alone(rt: HostRuntime) -> Result<(), Fail> {
+    let mut pair = Pair::new(rt.alloc())?;
+    make(&rt, &mut pair, First, SEARCH);
+    assert!(&rt; is_answer(pair.take(First), Answer::Victim(None)));
+    make(&rt, &mut pair, First, declaration(1));
+    assert!(&rt; is_answer(pair.take(First), Answer::Process(P)));
+    make(&rt, &mut pair, Second, declaration(2));
+    assert!(&rt; is_answer(pair.take(Second), Answer::Process(Q)));
+    make(&rt, &mut pair, First, exclusive(P));
+    assert!(&rt; is_answer(pair.take(First), Answer::Lock(Cond::Normal, 1)));
+    assert!(&rt; pair.turn() == Turn::Served(1));
+    assert!(&rt; is_ast(pair.take(First), P, AstKind::Completion));
+    make(&rt, &mut pair, Second, exclusive(Q));
+    assert!(&rt; is_answer(pair.take(Second), Answer::Lock(Cond::Normal, 2)));
+    assert!(&rt; pair.turn() == Turn::Served(1));
+    assert!(&rt; is_ast(pair.take(First), P, AstKind::Blocking));
+    assert!(&rt; pair.bye(First).is_ok());
+    assert!(&rt; pair.turn() == Turn::Served(2));
+    assert!(&rt; is_answer(pair.take(First), Answer::Plain(Cond::Normal)));
+    assert!(&rt; is_ast(pair.take(Second), Q, AstKind::Completion));
+    assert!(&rt; pair.turn() == Turn::Idle);
+    let settled = pair.settle(Second);
+    assert!(&rt; settled.steps == 0 && settled.items == 0);
+    Ok(())
+}
+
+// The ring of posts, and that of items, hold 64. A full one holds up its own node alone.
+#[test]
+fn rings_fill(rt: HostRuntime) -> Result<(), Fail> {
+    let mut pair = Pair::new(rt.alloc())?;
+    for _ in 0..64 {
+        make(&rt, &mut pair, First, SEARCH);
+    }
+    for _ in 0..64 {
+        assert!(&rt; pair.post(First, SEARCH).is_ok());
+    }
+    assert!(&rt; pair.post(First, SEARCH).is_err());
+    assert!(&rt; pair.turn() == Turn::Idle);
+    make(&rt, &mut pair, Second, SECOND_SEARCH);
+    assert!(&rt; is_answer(pair.take(First), Answer::Victim(None)));
+    assert!(&rt; pair.turn() == Turn::Served(1));
+    assert!(&rt; pair.post(First, SEARCH).is_ok());
+    Ok(())
+}
+
+// A node's post is answered in the turn behind it, whatever the other has posted.
+#[test]
+fn a_greedy_node_keeps_nobody(rt: HostRuntime) -> Result<(), Fail> {
+    let mut pair = Pair::new(rt.alloc())?;
+    for _ in 0..64 {
+        assert!(&rt; pair.post(First, SEARCH).is_ok());
+    }
+    for _ in 0..8 {
+        assert!(&rt; pair.post(Second, SECOND_SEARCH).is_ok());
+        assert!(&rt; pair.turn() == Turn::Served(2));
+        assert!(&rt; is_answer(pair.take(Second), Answer::Victim(None)));
+    }
+    let settled = pair.settle(First);
+    assert!(&rt; settled.steps == 56 && settled.items == 8);
+    Ok(())
+}
+
+// What a lost node has posted is answered DEPARTED, and it is lost once.
+#[test]
+fn a_lost_node_has_departed(rt: HostRuntime) -> Result<(), Fail> {
+    let mut pair = Pair::new(rt.alloc())?;
+    assert!(&rt; pair.post(First, SEARCH).is_ok());
+    assert!(&rt; pair.lost(First)? == Cond::Normal);
+    assert!(&rt; pair.turn() == Turn::Served(1));
+    assert!(&rt; is_answer(pair.take(First), Answer::Plain(Cond::Departed)));
+    assert!(&rt; pair.lost(First)? == Cond::Departed);
+    make(&rt, &mut pair, Second, SECOND_SEARCH);
+    assert!(&rt; is_answer(pair.take(Second), Answer::Victim(None)));
+    Ok(())
+}
+
+// Parts of a journal, cut after each turn, add up to all of it.
+#[test]
+fn parts_add_up(rt: HostRuntime) -> Result<(), Fail> {
+    let mut pair = Pair::new(rt.alloc())?;
+    for base in 0..9 {
+        make(&rt, &mut pair, Second, SECOND_SEARCH);
+        assert!(&rt; pair.entries() == 1);
+        let part = pair.cut();
+        assert!(&rt; part.base == base && part.entries.len() == 1);
+    }
+    assert!(&rt; pair.entries() == 0);
+    Ok(())
+}
