@@ -4,5 +4,6 @@
 mod pair;
 #[cfg(test)]
 mod tests;
+mod threads;
 
 pub use pair::{Node, Pair};

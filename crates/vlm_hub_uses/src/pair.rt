@@ -1,4 +1,4 @@
-//! A hub of two nodes with their ports, all in one hand.
+//! A hub of two nodes, with their ports in one hand.
 
 ghost use Rattle.std.specs.Prelude.{◌≡◌, [], IfOk};
 ghost use Rattle.vlm_journal.specs.Journals.{IsPostOf};
@@ -23,9 +23,9 @@ pub enum Node {
 /// A hub that serves two nodes, and their ports.
 #[derive(Drop)]
 pub struct Pair {
-    hub: Hub,
-    first: Port,
-    second: Port,
+    pub(crate) hub: Hub,
+    pub(crate) first: Port,
+    pub(crate) second: Port,
     ghost ours: { IsPortOf hub first × IsPortOf hub second },
 }
 

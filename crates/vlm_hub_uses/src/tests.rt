@@ -1,3 +1,4 @@
 //! What no contract of the hub says: that posts and turns succeed where there is room.
 
 mod hub;
+mod threads;
