@@ -1,4 +1,6 @@
 //! What no contract of the hub says: that posts and turns succeed where there is room.
 
 mod hub;
+mod retries;
+mod steps;
 mod threads;

@@ -1,69 +1,19 @@
 //! Two nodes in one hand: worked turns, full rings, a greedy node, a lost node, and parts of a journal.
 
 use crate::Node::{First, Second};
+use crate::tests::steps::{P, Q, declaration, exclusive, is_answer, is_ast};
 use crate::{Node, Pair};
-use std::alloc::{AllocError, Global};
 use std::process::Abort;
 use std::test::Fail;
-use vlm_journal::entries::Item;
 use vlm_ports::Turn;
 use vlm_words::asts::AstKind;
 use vlm_words::conditions::Cond;
-use vlm_words::modes::Mode;
-use vlm_words::names::NameArg;
-use vlm_words::steps::{Answer, Declaration, NewRequest, Step, Which};
-
-// The first process of either node.
-const P: u32 = 65_537;
-
-const Q: u32 = 131_073;
+use vlm_words::steps::{Answer, Step};
 
 // A search by either node.
 const SEARCH: Step = Step::Search(1);
 
 const SECOND_SEARCH: Step = Step::Search(2);
-
-// The item is this answer.
-fn is_answer(item: Option<Item>, answer: Answer) -> bool {
-    match item {
-        Some(Item::Answer(given)) => given == answer,
-        _ => false,
-    }
-}
-
-// The item is an AST of this kind for the process.
-fn is_ast(item: Option<Item>, pid: u32, kind: AstKind) -> bool {
-    match item {
-        Some(Item::Ast(to, ast)) => to == pid && ast.kind == kind,
-        _ => false,
-    }
-}
-
-// A node's first declaration.
-fn declaration(node: u8) -> Step {
-    Step::Declare(Declaration {
-        node,
-        group: 1,
-        syslck: false,
-        quota: 9,
-        blocks: 1,
-    })
-}
-
-// A request of EX on one name, with both routines.
-fn exclusive(pid: u32) -> Step {
-    Step::Enq(NewRequest {
-        pid,
-        mode: Mode::Ex,
-        name: NameArg::of(b"A"),
-        block: 1,
-        parent: Which::Id(0),
-        flags: 0,
-        ast: Some(8),
-        bast: Some(9),
-        param: 0,
-    })
-}
 
 // Posts, and has the hub make that in one turn.
 fn make(rt: &impl Abort, pair: &mut Pair, node: Node, step: Step) {

@@ -1,0 +1,54 @@
+//! Steps that the tests post, and items that they wait for.
+
+use vlm_journal::entries::Item;
+use vlm_words::asts::AstKind;
+use vlm_words::modes::Mode;
+use vlm_words::names::NameArg;
+use vlm_words::steps::{Answer, Declaration, NewRequest, Step, Which};
+
+// The first process of either node.
+pub const P: u32 = 65_537;
+
+pub const Q: u32 = 131_073;
+
+// The item is this answer.
+pub fn is_answer(item: Option<Item>, answer: Answer) -> bool {
+    match item {
+        Some(Item::Answer(given)) => given == answer,
+        _ => false,
+    }
+}
+
+// The item is an AST of this kind for the process.
+pub fn is_ast(item: Option<Item>, pid: u32, kind: AstKind) -> bool {
+    match item {
+        Some(Item::Ast(to, ast)) => to == pid && ast.kind == kind,
+        _ => false,
+    }
+}
+
+// A node's first declaration.
+pub fn declaration(node: u8) -> Step {
+    Step::Declare(Declaration {
+        node,
+        group: 1,
+        syslck: false,
+        quota: 9,
+        blocks: 1,
+    })
+}
+
+// A request of EX on one name, with both routines.
+pub fn exclusive(pid: u32) -> Step {
+    Step::Enq(NewRequest {
+        pid,
+        mode: Mode::Ex,
+        name: NameArg::of(b"A"),
+        block: 1,
+        parent: Which::Id(0),
+        flags: 0,
+        ast: Some(8),
+        bast: Some(9),
+        param: 0,
+    })
+}
