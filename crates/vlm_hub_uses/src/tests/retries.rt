@@ -37,13 +37,13 @@ fn ask(rt: &impl Abort, pair: &mut Pair, node: Node, step: Step) -> Option<Item>
 }
 
 // Has a node's step made, and looks for its answer.
-fn make(rt: &impl Abort, pair: &mut Pair, node: Node, step: Step, want: Answer) {
-    let first = ask(rt, pair, node, step);
+fn make(rt: &impl Abort, pair: &mut Pair, node: Node, step: &Step, want: Answer) {
+    let first = ask(rt, pair, node, *step);
     if !is_answer(first, Answer::Plain(Cond::Insfmem)) {
         assert!(rt; is_answer(first, want));
         return;
     }
-    let second = ask(rt, pair, node, step);
+    let second = ask(rt, pair, node, *step);
     assert!(rt; is_answer(second, want));
 }
 
@@ -59,13 +59,13 @@ fn lose(pair: &mut Pair, node: Node) -> Result<Cond, AllocError> {
 #[test]
 fn a_hub_goes_on_without_memory(rt: HostRuntime) -> Result<(), Fail> {
     let mut pair = pair_of(rt.alloc())?;
-    make(&rt, &mut pair, First, declaration(1), Answer::Process(P));
-    make(&rt, &mut pair, Second, declaration(2), Answer::Process(Q));
+    make(&rt, &mut pair, First, &declaration(1), Answer::Process(P));
+    make(&rt, &mut pair, Second, &declaration(2), Answer::Process(Q));
     make(
         &rt,
         &mut pair,
         First,
-        exclusive(P),
+        &exclusive(P),
         Answer::Lock(Cond::Normal, 1),
     );
     turn(&rt, &mut pair, 1);
@@ -74,7 +74,7 @@ fn a_hub_goes_on_without_memory(rt: HostRuntime) -> Result<(), Fail> {
         &rt,
         &mut pair,
         Second,
-        exclusive(Q),
+        &exclusive(Q),
         Answer::Lock(Cond::Normal, 2),
     );
     turn(&rt, &mut pair, 1);
