@@ -75,20 +75,20 @@ impl<Kind> LinkedList<Kind> {
         self.first.handle()
     }
 
-    /// The handle of the record that follows one of the list, if there is one.
-    pub fn next<T: Linked<Kind>>(&self, nodes: &Slab<T>, handle: usize) -> Option<usize>
-        requires { Lists T.links nodes.now self.now handle }
-        ensures { result ≡ handle_after handle (handles_of T.links nodes.now self.now) }
-    {
-        nodes[handle].links().next.handle()
-    }
-
     /// The handle of the last record, if there is one.
     pub fn last<T: Linked<Kind>>(&self, nodes: &Slab<T>) -> Option<usize>
         requires { IsLinked T.links nodes.now self.now }
         ensures { result ≡ last_handle (handles_of T.links nodes.now self.now) }
     {
         self.last.handle()
+    }
+
+    /// The handle of the record that follows one of the list, if there is one.
+    pub fn next<T: Linked<Kind>>(&self, nodes: &Slab<T>, handle: usize) -> Option<usize>
+        requires { Lists T.links nodes.now self.now handle }
+        ensures { result ≡ handle_after handle (handles_of T.links nodes.now self.now) }
+    {
+        nodes[handle].links().next.handle()
     }
 
     /// The handle of the record that one of the list follows, if there is one.
