@@ -112,6 +112,11 @@ module _ {T : Type 0} (links : T → Links) where
       pub within : (handle : ℕ) → IsIn handle handles_of → handle ≤ LAST_HANDLE
       pub counted : length handles_of ≡ list.len
 
+    -- the list is linked, and the record under this handle stands in it
+    pub record Lists (handle : ℕ) : Type 0 where
+      pub linked : IsLinked
+      pub listed : IsIn handle handles_of
+
 module _ {T : Type 0} (with_links : T → Links → T) where
   -- the record, if there is one, with these neighbours
   abbrev pub written_links : Links → Option T → Option T
@@ -128,3 +133,11 @@ module _ {T : Type 0} (with_links : T → Links → T) where
     pub records : (handle : ℕ) → IsRelinked (get old handle) (get new handle)
     pub vacant_key : new.vacant_key ≡ old.vacant_key
     pub capacity : new.capacity ≡ old.capacity
+
+  -- one spot is linked on to another: the way back, the length and each other record are what they were
+  pub record LinksOn {Kind : Type 0} (on back : Slab T → LinkedList Kind → Spot → Spot) (old new : Slab T) (list list' : LinkedList Kind) (from to : Spot) : Type 0 where
+    pub joins : Joins (on old list) (on new list') from to
+    pub keeps : (at : Spot) → back new list' at ≡ back old list at
+    pub others : (handle : ℕ) → Some handle ≢ from → get new handle ≡ get old handle
+    pub relinks : Relinks old new
+    pub len : list'.len ≡ list.len

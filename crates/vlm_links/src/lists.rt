@@ -4,7 +4,7 @@ ghost use Rattle.std.specs.Prelude.{◌≡◌, ◌≢◌, ◌≤◌, ℕ, Some, 
 ghost use Rattle.std.specs.Option.{ForSome};
 ghost use Rattle.slab.specs.Slab.{get, ContainsKey};
 ghost use Rattle.vlm_links.specs.declared.link.Links.{Links};
-ghost use Rattle.vlm_links.specs.Lists.{IsIn, IsLinked, IsNoList, Joins, Relinks, first_handle, handle_after, handle_before, handles_of, last_handle, next_of, prev_of, without, written_links};
+ghost use Rattle.vlm_links.specs.Lists.{IsIn, IsLinked, IsNoList, LinksOn, Lists, Relinks, first_handle, handle_after, handle_before, handles_of, last_handle, next_of, prev_of, without, written_links};
 
 use crate::link::{LAST_HANDLE, Link, Links};
 use slab::Slab;
@@ -75,15 +75,6 @@ impl<Kind> LinkedList<Kind> {
         self.first.handle()
     }
 
-    /// The handle of the record that follows one of the list, if there is one.
-    pub fn next<T: Linked<Kind>>(&self, nodes: &Slab<T>, handle: usize) -> Option<usize>
-        requires linked { IsLinked T.links nodes.now self.now }
-        requires listed { IsIn handle (handles_of T.links nodes.now self.now) }
-        ensures { result ≡ handle_after handle (handles_of T.links nodes.now self.now) }
-    {
-        nodes[handle].links().next.handle()
-    }
-
     /// The handle of the last record, if there is one.
     pub fn last<T: Linked<Kind>>(&self, nodes: &Slab<T>) -> Option<usize>
         requires { IsLinked T.links nodes.now self.now }
@@ -92,10 +83,17 @@ impl<Kind> LinkedList<Kind> {
         self.last.handle()
     }
 
+    /// The handle of the record that follows one of the list, if there is one.
+    pub fn next<T: Linked<Kind>>(&self, nodes: &Slab<T>, handle: usize) -> Option<usize>
+        requires { Lists T.links nodes.now self.now handle }
+        ensures { result ≡ handle_after handle (handles_of T.links nodes.now self.now) }
+    {
+        nodes[handle].links().next.handle()
+    }
+
     /// The handle of the record that one of the list follows, if there is one.
     pub fn previous<T: Linked<Kind>>(&self, nodes: &Slab<T>, handle: usize) -> Option<usize>
-        requires linked { IsLinked T.links nodes.now self.now }
-        requires listed { IsIn handle (handles_of T.links nodes.now self.now) }
+        requires { Lists T.links nodes.now self.now handle }
         ensures { result ≡ handle_before handle (handles_of T.links nodes.now self.now) }
     {
         nodes[handle].links().prev.handle()
@@ -130,8 +128,7 @@ impl<Kind> LinkedList<Kind> {
 
     /// Takes a record out of the list, wherever in it the record stands.
     pub fn unlink<T: Linked<Kind>>(&mut self, nodes: &mut Slab<T>, handle: usize)
-        requires linked { IsLinked T.links nodes.old self.old }
-        requires listed { IsIn handle (handles_of T.links nodes.old self.old) }
+        requires { Lists T.links nodes.old self.old handle }
         ensures linked { IsLinked T.links nodes.new self.new }
         ensures handles { handles_of T.links nodes.new self.new
             ≡ without handle (handles_of T.links nodes.old self.old) }
@@ -164,15 +161,9 @@ fn link_forward<Kind, T: Linked<Kind>>(
     to: Link,
 )
     requires { ForSome from (λ handle. ContainsKey nodes.old handle) }
-    ensures next { Joins (next_of T.links nodes.old list.old) (next_of T.links nodes.new list.new)
-        from to }
-    ensures prev { (at : _) → prev_of T.links nodes.new list.new at
-        ≡ prev_of T.links nodes.old list.old at }
-    ensures others { (handle : ℕ) → Some handle ≢ from
-        → get nodes.new handle ≡ get nodes.old handle }
-    ensures relinks { Relinks T.with_links nodes.old nodes.new }
     ensures last { list.new.last ≡ list.old.last }
-    ensures len { list.new.len ≡ list.old.len }
+    ensures links { LinksOn T.with_links (next_of T.links) (prev_of T.links) nodes.old nodes.new
+        list.old list.new from to }
 {
     match from.handle() {
         None => list.first = to,
@@ -191,14 +182,8 @@ fn link_back<Kind, T: Linked<Kind>>(
     to: Link,
 )
     requires { ForSome from (λ handle. ContainsKey nodes.old handle) }
-    ensures prev { Joins (prev_of T.links nodes.old list.old) (prev_of T.links nodes.new list.new)
-        from to }
-    ensures next { (at : _) → next_of T.links nodes.new list.new at
-        ≡ next_of T.links nodes.old list.old at }
-    ensures others { (handle : ℕ) → Some handle ≢ from
-        → get nodes.new handle ≡ get nodes.old handle }
-    ensures relinks { Relinks T.with_links nodes.old nodes.new }
-    ensures len { list.new.len ≡ list.old.len }
+    ensures { LinksOn T.with_links (prev_of T.links) (next_of T.links) nodes.old nodes.new
+        list.old list.new from to }
 {
     match from.handle() {
         None => list.last = to,

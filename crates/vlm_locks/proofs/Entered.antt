@@ -261,8 +261,13 @@ module _ (s : Records) (sound : IsSound s) (rest : IsAtRest s) (e : Entry) (keye
     pub entered_by : ¬ IsStored at s → IsSameLock e.row row → IsAboveAll e.row.lkid s → IsProcess e.owner e.row.pid s → plain_resource left ≡ resource_after_entry e.row e.at_once (plain_resource found.0)
         → IsEntered e res s new
     entered_by fresh same above owner after = record {
-      entered = entered_here after;
-      added = is_added fresh same;
+      taken = record {
+        entered = entered_here after;
+        added = is_added fresh same;
+        others = others_stay res found.0 left (owned_by e at s) new replaced;
+        there = still_there res found.0 left (owned_by e at s) new replaced;
+        rest = rest_with fresh same above;
+      };
       processes = ap (map (λ (p : StoredProcess). p.process)) new_processes ∙ processes_kept e.owner e.parent at s.processes;
       owner = (
         process_with_lock e.owner e.parent at owner.0,
@@ -272,7 +277,4 @@ module _ (s : Records) (sound : IsSound s) (rest : IsAtRest s) (e : Entry) (keye
           subst (λ o. IfSome o (λ r. r.value_block ≡ (resource_for e (plain_resources s)).value_block))
           (sym left_found)
           (joined-value_block to (record { at = at; row = row }) found.0 ∙ sym (ap (λ r. r.value_block) resource_is_found));
-      others = others_stay res found.0 left (owned_by e at s) new replaced;
-      there = still_there res found.0 left (owned_by e at s) new replaced;
-      rest = rest_with fresh same above;
     }

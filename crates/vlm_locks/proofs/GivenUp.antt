@@ -63,9 +63,11 @@ module _ (choice : Choice) (pid : ℕ) (old mid : Records) (same : SameButNotice
       record {
         lkids = ended.lkids;
         chosen = ended.chosen;
-        resources = gone.resources ∙ ap (map (resource_left (is_among ended.lkids) invalidates)) resources_same;
+        left = record {
+          resources = gone.left.resources ∙ ap (map (resource_left (is_among ended.lkids) invalidates)) resources_same;
+          kept = gone.left.kept;
+          only_touched = λ r there untouched. subst (IsIn r) same.resources (gone.left.only_touched r there untouched);
+          same_room = gone.left.same_room;
+        };
         statuses = gone.statuses ∙ ended.statuses;
-        kept = gone.kept;
-        only_touched = λ r there untouched. subst (IsIn r) same.resources (gone.only_touched r there untouched);
-        same_room = gone.same_room;
       }

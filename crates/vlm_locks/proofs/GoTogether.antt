@@ -345,11 +345,13 @@ module _ (choice : Choice) (invalidates : Bool) (owner pid : ℕ) (old s : Recor
   all_gone lkids chosen =
       subst (λ ns. AreGone ns invalidates old s before touched) (one_choice choice pid old so_far.lkids lkids so_far.chosen chosen)
       (record {
-        resources = sym (none_goes s so_far.going.sound (is_among so_far.lkids) invalidates none_listed) ∙ so_far.going.resources;
+        left = record {
+          resources = sym (none_goes s so_far.going.sound (is_among so_far.lkids) invalidates none_listed) ∙ so_far.going.resources;
+          kept = so_far.going.kept;
+          only_touched = so_far.going.only_touched;
+          same_room = so_far.going.same_room;
+        };
         statuses = so_far.going.statuses;
-        kept = so_far.going.kept;
-        only_touched = so_far.going.only_touched;
-        same_room = so_far.going.same_room;
       })
 
   pub can_end_still : CanEndProcesses touched s

@@ -5,6 +5,7 @@ pub mod Granting
 pub mod Ended
 pub mod Changed
 pub mod Accepted
+pub mod TakenIn
 pub mod ArmedOnes
 pub mod Converted
 pub mod Entered

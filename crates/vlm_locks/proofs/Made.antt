@@ -151,22 +151,27 @@ module _ (e : Entry) (res : ℕ) (room : Rooms) (s : Records) where
     -- the lock has entered, and its resource was made for it
     pub entered_made : (new : Records) → IsEntered e res (with_made e res room s) new → IsEntered e res s new
     entered_made new entered = record {
-      entered = entered.entered ∙ same_after;
-      added = record {
-        lock = entered.added.lock;
-        fresh = λ stored. entered.added.fresh (stored.0, (stored.1.0, subst (IsIn (record { at = entered.added.lock; row = stored.0 })) (sym (same_locks stored.1.0)) stored.1.1));
-        row = entered.added.row;
-        stands = entered.added.stands;
-        same = entered.added.same;
-        own_locks = entered.added.own_locks;
-        others = λ place. entered.added.others place ∙ ap (without_lock entered.added.lock) (same_locks place);
-      };
+      taken =
+          let taken = entered.taken in
+          let added = taken.added in
+          record {
+            entered = taken.entered ∙ same_after;
+            added = record {
+              lock = added.lock;
+              fresh = λ stored. added.fresh (stored.0, (stored.1.0, subst (IsIn (record { at = added.lock; row = stored.0 })) (sym (same_locks stored.1.0)) stored.1.1));
+              row = added.row;
+              stands = added.stands;
+              same = added.same;
+              own_locks = added.own_locks;
+              others = λ place. added.others place ∙ ap (without_lock added.lock) (same_locks place);
+            };
+            others = taken.others ∙ without_made s.resources;
+            there = taken.there;
+            rest = taken.rest;
+          };
       processes = entered.processes;
       owner = entered.owner;
       value_block = subst (λ b. IfSome (resource_at res new.resources) (λ r. r.value_block ≡ b)) (ap (λ r. r.value_block) same_for) entered.value_block;
-      others = entered.others ∙ without_made s.resources;
-      there = entered.there;
-      rest = entered.rest;
     }
       where
         without_made : (rs : List StoredResource) → without_resource res (rs ++ made e res ∷ []) ≡ without_resource res rs

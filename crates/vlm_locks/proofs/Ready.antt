@@ -5,13 +5,14 @@ use Rattle.std.specs.Prelude.{◌==◌}
 use Rattle.std.specs.Option.{option_map_or}
 use Rattle.vlm_words.specs.declared.locks.Row.{Row}
 use Rattle.vlm_words.specs.Dues.{routines_of}
+use Rattle.vlm_words.specs.Enqueue.{resources_after_entry}
 use Rattle.vlm_links.specs.Lists.{IsIn}
 use Rattle.vlm_records.specs.declared.handles.Place.{Place}
 use Rattle.vlm_records.specs.declared.handles.Place.TheVariants.{Loose, Queued}
-use Rattle.vlm_store.specs.Plain.{plain_processes}
-use Rattle.vlm_store.specs.Records.{DueChanges, FindsResource, HasRoom, HasRoomForLock, HasRoomForResource, IsParentOf, IsProcess, IsUnchanged, Records, Rooms, SameButNotices, StoredProcess, Stores, but_notices, due_of, locks_at, process_with_lock, queued, resource_at, without_lock}
+use Rattle.vlm_store.specs.Plain.{plain_processes, plain_resource, plain_resources}
+use Rattle.vlm_store.specs.Records.{DueChanges, FindsResource, HasRoom, HasRoomForLock, HasRoomForResource, IsParentOf, IsProcess, IsUnchanged, Records, Rooms, SameButNotices, StoredProcess, Stores, but_notices, due_of, locks_at, process_with_lock, queued, resource_at, without_lock, without_resource}
 use Rattle.vlm_locks.specs.declared.entering.Entry.{Entry}
-use Rattle.vlm_locks.specs.Entering.{IsAdded, IsReady, MayEnter}
+use Rattle.vlm_locks.specs.Entering.{HasEntered, IsAdded, IsReady, MayEnter, processes_entered, resource_for}
 use Rattle.vlm_locks.proofs.Found.{process_still}
 use Rattle.vlm_locks.proofs.Rising.{all_rise_still, were_stored}
 
@@ -65,7 +66,7 @@ module _ (e : Entry) (s o : Records) (ready : IsReady e s o) where
   found_ready (Some at) found = (found.0, (subst (IsIn found.0) (sym ready.resources) found.1.0, found.1.1, found.1.2))
 
   -- and the lock alone is added
-  pub added_ready : (t : Records) → IsAdded e o t → IsAdded e s t
+  added_ready : (t : Records) → IsAdded e o t → IsAdded e s t
   added_ready t added = record {
     lock = added.lock;
     fresh = λ stored. added.fresh (stored.0, still_stored added.lock stored.0 stored.1);
@@ -74,6 +75,24 @@ module _ (e : Entry) (s o : Records) (ready : IsReady e s o) where
     same = added.same;
     own_locks = added.own_locks ∙ joined_alike e.owner e.parent added.lock o.processes s.processes ready.processes;
     others = λ place. added.others place ∙ ap (without_lock added.lock) (same_locks place);
+  }
+
+  -- what has entered then has entered the records of before
+  pub entered_ready : (res : ℕ) (t : Records) → HasEntered e res o t → HasEntered e res s t
+  entered_ready res t entered = record {
+    taken =
+        let taken = entered.taken in
+        record {
+          entered = taken.entered ∙ ap (λ rs. resources_after_entry e.serial e.site e.row e.at_once (map plain_resource rs)) ready.resources;
+          added = added_ready t taken.added;
+          others = taken.others ∙ ap (without_resource res) ready.resources;
+          there = taken.there;
+          rest = taken.rest;
+        };
+    statuses =
+        entered.statuses ∙ ap (λ rs. processes_entered e (resource_for e (map plain_resource rs)).value_block (plain_processes o)) ready.resources
+        ∙ ap (processes_entered e (resource_for e (plain_resources s)).value_block) ready.statuses;
+    paid = entered.paid;
   }
 
 -- what is so of an answer that is in order, by three facts of it

@@ -13,7 +13,7 @@ use Rattle.vlm_words.specs.declared.resources.ValueBlock.{ValueBlock}
 use Rattle.vlm_store.specs.Plain.{plain_processes, plain_resources}
 use Rattle.vlm_store.specs.Records.{DueChanges, DuesStay, HasResource, HasRoomForLock, HasRoomForResource, IsParentOf, IsProcess, IsSameLock, IsStored, Records, Stores, but_notices, process_with_lock, resource_at}
 use Rattle.vlm_locks.specs.declared.entering.Entry.{Entry}
-use Rattle.vlm_locks.specs.Owing.{due_for}
+use Rattle.vlm_locks.specs.Owing.{IsPaid, due_for}
 use Rattle.vlm_locks.specs.Rest.{IsAtRest, OtherLocksStay, OthersStay}
 use Rattle.vlm_locks.specs.Rising.{IsAboveAll}
 
@@ -74,13 +74,25 @@ pub record IsAdded (e : Entry) (old new : Records) : Type 0 where
   pub own_locks : map but_notices new.processes ≡ map but_notices (map (process_with_lock e.owner e.parent lock) old.processes)
   pub others : OtherLocksStay lock old new
 
--- the lock has entered the resource of this handle, in the queue where its request puts it, and nothing else changed
-pub record IsEntered (e : Entry) (res : ℕ) (old new : Records) : Type 0 where
+-- the lock stands on the resource of this handle, in the queue where its request puts it, and no other lock and no other
+-- resource changed
+pub record IsTakenIn (e : Entry) (res : ℕ) (old new : Records) : Type 0 where
   pub entered : plain_resources new ≡ resources_after_entry e.serial e.site e.row e.at_once (plain_resources old)
   pub added : IsAdded e old new
-  pub processes : plain_processes new ≡ plain_processes old
-  pub owner : IsProcess e.owner e.row.pid new
-  pub value_block : IfSome (resource_at res new.resources) (λ r. r.value_block ≡ (resource_for e (plain_resources old)).value_block)
   pub others : OthersStay res old new
   pub there : HasResource res new
   pub rest : IsAtRest new
+
+-- the lock is taken in on the resource of this handle, and no status block is written
+pub record IsEntered (e : Entry) (res : ℕ) (old new : Records) : Type 0 where
+  pub taken : IsTakenIn e res old new
+  pub processes : plain_processes new ≡ plain_processes old
+  pub owner : IsProcess e.owner e.row.pid new
+  pub value_block : IfSome (resource_at res new.resources) (λ r. r.value_block ≡ (resource_for e (plain_resources old)).value_block)
+
+-- the lock is taken in on the resource of this handle, its status block is that of a pending request or tells of its grant,
+-- and each process is owed what is due to it
+pub record HasEntered (e : Entry) (res : ℕ) (old new : Records) : Type 0 where
+  pub taken : IsTakenIn e res old new
+  pub statuses : plain_processes new ≡ processes_entered e (resource_for e (plain_resources old)).value_block (plain_processes old)
+  pub paid : IsPaid new

@@ -55,12 +55,17 @@ IsPaidBut lkids s = (pid : ℕ) → due_of pid s ≡ weight_of (due_but lkids pi
 
 -- ---- what becomes of them
 
+-- the requests of these locks have ended, one after the other
+abbrev pub AreEnded : List ℕ → Bool → Records → Records → Type 0
+AreEnded lkids invalidates old new =
+    plain_processes new
+    ≡ processes_after (withdrawn_endings (map (giving_up by_abort by_abort invalidates) lkids) (plain_resources old)) (plain_processes old)
+
 -- the requests of the chosen locks have ended, by rising identification, and nothing is owed for these locks
 pub record HaveEnded (choice : Choice) (invalidates : Bool) (pid : ℕ) (old new : Records) : Type 0 where
   pub lkids : List ℕ
   pub chosen : AreChosen choice pid old lkids
-  pub statuses : plain_processes new
-      ≡ processes_after (withdrawn_endings (map (giving_up by_abort by_abort invalidates) lkids) (plain_resources old)) (plain_processes old)
+  pub statuses : AreEnded lkids invalidates old new
   pub only_notices : SameButNotices old new
   pub paid : IsPaidBut lkids new
 
@@ -76,22 +81,21 @@ pub record CanGo (choice : Choice) (pid : ℕ) (touched : Touches) (s : Records)
   pub noted : AreThere touched.noted s
   pub room : length touched.noted + lock_total s ≤ touched.room
 
--- these locks are gone, and each resource that is not as it was is noted
-pub record AreGone (lkids : List ℕ) (invalidates : Bool) (old new : Records) (before after : Touches) : Type 0 where
+-- these locks have left their resources, and each resource that is not as it was is noted
+pub record HaveLeft (lkids : List ℕ) (invalidates : Bool) (old new : Records) (before after : Touches) : Type 0 where
   pub resources : plain_resources new ≡ map (resource_left (is_among lkids) invalidates) (plain_resources old)
-  pub statuses : plain_processes new ≡ plain_processes old
   pub kept : AreStillNoted before.noted after.noted
   pub only_touched : OnlyTouched after.noted old new
   pub same_room : after.room ≡ before.room
 
--- the chosen locks are given up together: their requests have ended, by rising identification, and they are gone; each
--- resource that is not as it was is noted
+-- these locks are gone, and no status block is written
+pub record AreGone (lkids : List ℕ) (invalidates : Bool) (old new : Records) (before after : Touches) : Type 0 where
+  pub left : HaveLeft lkids invalidates old new before after
+  pub statuses : plain_processes new ≡ plain_processes old
+
+-- the chosen locks are given up together: their requests have ended, by rising identification, and they are gone
 pub record AreGivenUp (choice : Choice) (invalidates : Bool) (pid : ℕ) (old new : Records) (before after : Touches) : Type 0 where
   pub lkids : List ℕ
   pub chosen : AreChosen choice pid old lkids
-  pub resources : plain_resources new ≡ map (resource_left (is_among lkids) invalidates) (plain_resources old)
-  pub statuses : plain_processes new
-      ≡ processes_after (withdrawn_endings (map (giving_up by_abort by_abort invalidates) lkids) (plain_resources old)) (plain_processes old)
-  pub kept : AreStillNoted before.noted after.noted
-  pub only_touched : OnlyTouched after.noted old new
-  pub same_room : after.room ≡ before.room
+  pub left : HaveLeft lkids invalidates old new before after
+  pub statuses : AreEnded lkids invalidates old new

@@ -2,12 +2,11 @@
 
 ghost use Rattle.std.specs.Prelude.{◌≡◌, ◌≤◌, false, None, Some, IfOk, IfSome, IsOk, OnErr, OnOk};
 ghost use Rattle.vlm_words.specs.Dues.{routines_of, row_due};
-ghost use Rattle.vlm_words.specs.Enqueue.{is_at_once, resources_after_entry};
-ghost use Rattle.vlm_store.specs.Plain.{plain_processes, plain_resource, plain_resources};
+ghost use Rattle.vlm_words.specs.Enqueue.{is_at_once};
+ghost use Rattle.vlm_store.specs.Plain.{plain_processes, plain_resource};
 ghost use Rattle.vlm_store.specs.Records.{DuesStay, FindsResource, HasResource, HasRoomForLock, HasRoomForResource, IsNewKey, IsProcess, IsUnchanged, SameButNotices, StoredResource, due_of, resource_at};
-ghost use Rattle.vlm_locks.specs.Entering.{HasRoomToEnter, IsAdded, IsDueMore, IsEntered, IsReady, MayEnter, processes_accepted, processes_entered, resource_for};
+ghost use Rattle.vlm_locks.specs.Entering.{HasRoomToEnter, HasEntered, IsDueMore, IsEntered, IsReady, MayEnter, processes_accepted, processes_entered};
 ghost use Rattle.vlm_locks.specs.Owing.{IsPaid, OwedMoves, OwesMore, entered_row};
-ghost use Rattle.vlm_locks.specs.Rest.{IsAtRest, OthersStay};
 
 use crate::endings::end_by_grant;
 use crate::grants::granted_row;
@@ -174,17 +173,7 @@ fn enter_ready(store: &mut Store, entry: &Entry) -> Result<ResAt, AllocError>
     requires found { FindsResource store.old entry.now.site.key entry.now.res }
     requires new { entry.now.row.armed ≡ false }
     requires owed { OwesMore entry.now.row.pid (routines_of entry.now.row.want) store.old }
-    ensures entered { OnOk result (plain_resources store.new
-        ≡ resources_after_entry entry.now.serial entry.now.site entry.now.row entry.now.at_once
-        (plain_resources store.old)) }
-    ensures statuses { let block = (resource_for entry.now (plain_resources store.old)).value_block
-        in OnOk result (plain_processes store.new
-        ≡ processes_entered entry.now block (plain_processes store.old)) }
-    ensures added { OnOk result (IsAdded entry.now store.old store.new) }
-    ensures others { IfOk result (λ res. OthersStay res store.old store.new) }
-    ensures there { IfOk result (λ res. HasResource res store.new) }
-    ensures rest { OnOk result (IsAtRest store.new) }
-    ensures paid { OnOk result (IsPaid store.new) }
+    ensures entered { IfOk result (λ res. HasEntered entry.now res store.old store.new) }
     ensures succeeds { HasRoomForLock store.old
         → (entry.now.res ≡ None → HasRoomForResource store.old) → IsOk result }
 {
@@ -202,17 +191,7 @@ pub fn enter(store: &mut Store, entry: &Entry) -> Result<ResAt, AllocError>
     requires found { FindsResource store.old entry.now.site.key entry.now.res }
     requires new { entry.now.row.armed ≡ false }
     requires paid { IsPaid store.old }
-    ensures entered { OnOk result (plain_resources store.new
-        ≡ resources_after_entry entry.now.serial entry.now.site entry.now.row entry.now.at_once
-        (plain_resources store.old)) }
-    ensures statuses { let block = (resource_for entry.now (plain_resources store.old)).value_block
-        in OnOk result (plain_processes store.new
-        ≡ processes_entered entry.now block (plain_processes store.old)) }
-    ensures added { OnOk result (IsAdded entry.now store.old store.new) }
-    ensures others { IfOk result (λ res. OthersStay res store.old store.new) }
-    ensures there { IfOk result (λ res. HasResource res store.new) }
-    ensures rest { OnOk result (IsAtRest store.new) }
-    ensures paid { OnOk result (IsPaid store.new) }
+    ensures entered { IfOk result (λ res. HasEntered entry.now res store.old store.new) }
     ensures succeeds { HasRoomToEnter entry.now store.old → IsOk result }
     ensures err { OnErr result (IsUnchanged store.old store.new) }
 {

@@ -293,7 +293,7 @@ module _ (m : MachineState) (sound : IsSound m.records) (rest : IsAtRest m.recor
         let same : given.lkids ≡ taken_lkids (plain_state m) d =
         one_choice choice d.pid m.records given.lkids (taken_lkids (plain_state m) d) given.chosen (dequeued_are_chosen choice is) in
         state_left m d all goes plain new
-        (given.resources ∙ ap (λ (lkids : List ℕ). map (resource_left (is_among lkids) (has_flag d.flags invvalblk)) (plain_resources m.records)) same)
+        (given.left.resources ∙ ap (λ (lkids : List ℕ). map (resource_left (is_among lkids) (has_flag d.flags invvalblk)) (plain_resources m.records)) same)
         (given.statuses
         ∙ ap (λ (lkids : List ℕ). processes_after (withdrawn_endings (map (gives_up d) lkids) (plain_resources m.records)) (plain_processes m.records)) same)
 
@@ -301,4 +301,4 @@ module _ (m : MachineState) (sound : IsSound m.records) (rest : IsAtRest m.recor
 pub to_sweep_given_up : (old new : MachineState) (choice : Choice) (invalidates : Bool) (pid : ℕ) (before after : Touches) → IsBetweenSteps (plain_state old)
     → AreGivenUp choice invalidates pid old.records new.records before after → CanEndProcesses after new.records → IsToSweep after new
 to_sweep_given_up old new choice invalidates pid before after between given left =
-    to_sweep_left old new (is_among given.lkids) invalidates after between given.resources given.only_touched left.noted
+    to_sweep_left old new (is_among given.lkids) invalidates after between given.left.resources given.left.only_touched left.noted

@@ -24,12 +24,14 @@ use Rattle.vlm_records.specs.declared.queues.Queues.{Queues}
 use Rattle.vlm_records.specs.declared.resources.Resource.{Resource}
 use Rattle.vlm_records.specs.Armed.{IsArmed, IsLast, StandsLast, armed_granted, armed_handles, armed_links, armed_list, armed_list_handles, armed_list_in, armed_on, granted_on, with_armed_links}
 use Rattle.vlm_records.specs.Families.{IsFamily}
+use Rattle.vlm_records.specs.Kept.{KeepsPlaces}
 use Rattle.vlm_records.specs.Shown.{IsPlaced, IsTallied, IsThere, SameBut, but_armed, but_counted, but_in_armed, but_kin, but_lists, but_queued, but_queues, but_requeued, but_tally, handles_at, handles_but, list_at, list_in, noted_in, queue_links, row_in, rows, tally_in}
 use Rattle.vlm_tallies.specs.Tallies.{how_many, weight_of}
 use Rattle.vlm_records.proofs.Counting.{shares_same}
 use Rattle.vlm_records.proofs.Families.{family-put_here, family-put_others, family-put, family-taken, family-taken_handles}
 use Rattle.vlm_records.proofs.Places.{by_part, there_by_part, kept_handles, kept_placed, place_cases, stands_there, there_through, through}
 use Rattle.vlm_records.proofs.OwnLocks.{written_same}
+use Rattle.vlm_records.proofs.Rooms.{room_relinked, room_written}
 
 -- ---- handles whose rows are armed
 
@@ -361,6 +363,16 @@ empty_armed q none empty =
 
 -- ---- a lock leaves the armed ones of its resource, or joins them
 
+-- where nothing changes, all stays
+pub same_places : (q : Queues) → IsPlaced q None → IsTallied q None → KeepsPlaces q q
+same_places q placed tallied = record {
+  placed = placed;
+  tallied = tallied;
+  handles = λ p. refl;
+  rows = λ k. refl;
+  records = record { kin = λ k. refl; rest = λ k. refl; locks_room = refl; resources_room = refl };
+}
+
 list-armed : (queue : Queue) (slot : Option Resource) → list_in queue (option_map but_armed slot) ≡ list_in queue slot
 list-armed queue None = refl
 list-armed Granted (Some r) = refl
@@ -410,6 +422,21 @@ module _ (q : Queues) (locks1 : Slab Lock) (res : ℕ) (first was : Resource) (l
       counts = λ count r mode.
           ap (λ t. how_many count t mode) (through but_armed tally_in tally-armed q.resources relisted.resources relisted_rest r) ∙ tallied.counts count r mode
           ∙ sym (shares_same q relisted (weight_of count mode) None r relisted_handles (λ k _. rows_stay k));
+    }
+
+    -- what stays
+    pub relisted_places : IsTallied q None → KeepsPlaces q relisted
+    relisted_places tallied = record {
+      placed = relisted_placed;
+      tallied = relisted_tallied tallied;
+      handles = relisted_handles;
+      rows = rows_stay;
+      records = record {
+        kin = relisted_kin;
+        rest = relisted_rest;
+        locks_room = room_relinked with_armed_links q.locks locks1 relinks;
+        resources_room = room_written q.resources res (record was { armed = list1 }) (rw here refl);
+      };
     }
 
     granted_same : (ks ks' : List ℕ) → ks' ≡ ks → armed_handles (rows relisted) ks' ≡ armed_handles (rows q) ks

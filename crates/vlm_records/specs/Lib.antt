@@ -1,5 +1,6 @@
 pub mod Armed
 pub mod Families
+pub mod Kept
 pub mod Kin
 pub mod Line
 pub mod Pending

@@ -1,10 +1,10 @@
 //! The granted locks of each resource that are armed, as locks leave them and join them.
 
-ghost use Rattle.std.specs.Prelude.{◌≡◌, ◌≤◌, ℕ, None, Some};
+ghost use Rattle.std.specs.Prelude.{◌≤◌, None, Some};
 ghost use Rattle.slab.specs.Slab.{ContainsKey};
-ghost use Rattle.vlm_records.specs.declared.handles.Place.{Place};
-ghost use Rattle.vlm_records.specs.Armed.{IsArmed, StandsLast};
-ghost use Rattle.vlm_records.specs.Shown.{IsPlaced, IsTallied, SameBut, but_armed, but_in_armed, handles_at, room_in, rows};
+ghost use Rattle.vlm_records.specs.Armed.{IsArmed, IsLaidOut, StandsLast};
+ghost use Rattle.vlm_records.specs.Kept.{KeepsPlaces};
+ghost use Rattle.vlm_records.specs.Shown.{IsPlaced, IsTallied};
 
 use crate::queues::Queues;
 use vlm_links::LAST_HANDLE;
@@ -12,19 +12,10 @@ use vlm_links::LAST_HANDLE;
 impl Queues {
     /// Takes a lock off the armed locks of its resource, if it is among them.
     pub(crate) fn leave_armed(&mut self, at: usize)
-        requires placed { IsPlaced self.old None }
-        requires tallied { IsTallied self.old None }
-        requires armed { IsArmed self.old None }
+        requires laid_out { IsLaidOut self.old }
         requires present { ContainsKey self.old.locks at }
-        ensures placed { IsPlaced self.new None }
-        ensures tallied { IsTallied self.new None }
         ensures armed { IsArmed self.new (Some at) }
-        ensures handles { (place : Place) → handles_at self.new place ≡ handles_at self.old place }
-        ensures rows { (other : ℕ) → rows self.new other ≡ rows self.old other }
-        ensures kin { SameBut but_in_armed self.old.locks self.new.locks }
-        ensures rest { SameBut but_armed self.old.resources self.new.resources }
-        ensures locks_room { room_in self.new.locks ≡ room_in self.old.locks }
-        ensures resources_room { room_in self.new.resources ≡ room_in self.old.resources }
+        ensures places { KeepsPlaces self.old self.new }
     {
         let Some(res) = self.locks[at].armed_on() else {
             return;
@@ -43,15 +34,8 @@ impl Queues {
         requires present { ContainsKey self.old.locks at }
         requires within { at ≤ LAST_HANDLE }
         requires last { StandsLast self.old at }
-        ensures placed { IsPlaced self.new None }
-        ensures tallied { IsTallied self.new None }
         ensures armed { IsArmed self.new None }
-        ensures handles { (place : Place) → handles_at self.new place ≡ handles_at self.old place }
-        ensures rows { (other : ℕ) → rows self.new other ≡ rows self.old other }
-        ensures kin { SameBut but_in_armed self.old.locks self.new.locks }
-        ensures rest { SameBut but_armed self.old.resources self.new.resources }
-        ensures locks_room { room_in self.new.locks ≡ room_in self.old.locks }
-        ensures resources_room { room_in self.new.resources ≡ room_in self.old.resources }
+        ensures places { KeepsPlaces self.old self.new }
     {
         let Some(res) = self.locks[at].armed_on() else {
             return;

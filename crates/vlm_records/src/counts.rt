@@ -7,7 +7,8 @@ ghost use Rattle.vlm_words.specs.declared.resources.Queue.{Queue};
 ghost use Rattle.vlm_records.specs.declared.handles.Place.{Place};
 ghost use Rattle.vlm_tallies.specs.Tallies.{Count, how_many, weight_of};
 ghost use Rattle.vlm_tallies.specs.Tallies.Count.{of_held};
-ghost use Rattle.vlm_records.specs.Shown.{IsPlaced, IsTallied, SameBut, but_tally, handles_but, handles_fit, room_in, rows, share_of, shares};
+ghost use Rattle.vlm_records.specs.Kept.{WritesCounts};
+ghost use Rattle.vlm_records.specs.Shown.{IsPlaced, IsTallied, handles_but, handles_fit, rows, share_of, shares};
 
 use crate::handles::{LockAt, Place, ResAt};
 use crate::locks::Lock;
@@ -41,10 +42,7 @@ impl Queues {
         requires present { ContainsKey self.old.locks at }
         requires tallied { IsTallied self.old None }
         ensures tallied { IsTallied self.new (Some at) }
-        ensures locks { self.new.locks ≡ self.old.locks }
-        ensures loose { self.new.loose ≡ self.old.loose }
-        ensures rest { SameBut but_tally self.old.resources self.new.resources }
-        ensures resources_room { room_in self.new.resources ≡ room_in self.old.resources }
+        ensures counts { WritesCounts self.old self.new }
     {
         let Lock { row, place, .. } = self.locks[at];
         if let Place::Queued(res, queue) = place {
@@ -58,10 +56,7 @@ impl Queues {
         requires present { ContainsKey self.old.locks at }
         requires tallied { IsTallied self.old (Some at) }
         ensures tallied { IsTallied self.new None }
-        ensures locks { self.new.locks ≡ self.old.locks }
-        ensures loose { self.new.loose ≡ self.old.loose }
-        ensures rest { SameBut but_tally self.old.resources self.new.resources }
-        ensures resources_room { room_in self.new.resources ≡ room_in self.old.resources }
+        ensures counts { WritesCounts self.old self.new }
     {
         let Lock { row, place, .. } = self.locks[at];
         if let Place::Queued(res, queue) = place {

@@ -6,6 +6,7 @@ ghost use Rattle.slab.specs.Slab.{get, ContainsKey, HasRoomFor};
 ghost use Rattle.vlm_links.specs.Lists.{Relinks, without};
 ghost use Rattle.vlm_records.specs.declared.handles.Place.{Place};
 ghost use Rattle.vlm_records.specs.Armed.{IsLaidOut};
+ghost use Rattle.vlm_records.specs.Kept.{Keeps, WritesLock};
 ghost use Rattle.vlm_records.specs.Line.{line_links};
 ghost use Rattle.vlm_records.specs.Shown.{IsPlaced, IsTallied, IsThere, SameBut, but_counted, but_lists, but_place, but_queued, but_queues, but_requeued, but_row, handles_at, list_at, named_row, new_lock, noted, room_in, rows, with_queue_links};
 
@@ -65,10 +66,7 @@ impl Queues {
         ensures handles { (place : Place) → handles_at self.new place
             ≡ without at (handles_at self.old place) }
         ensures relinks { Relinks with_queue_links self.old.locks self.new.locks }
-        ensures kin { SameBut but_requeued self.old.locks self.new.locks }
-        ensures rest { SameBut but_lists self.old.resources self.new.resources }
-        ensures locks_room { room_in self.new.locks ≡ room_in self.old.locks }
-        ensures resources_room { room_in self.new.resources ≡ room_in self.old.resources }
+        ensures kept { Keeps but_requeued but_lists self.old self.new }
     {
         let place = self.locks[at].place;
         let mut list = self.list(place);
@@ -87,10 +85,7 @@ impl Queues {
         ensures elsewhere { (other : Place) → other ≢ place
             → handles_at self.new other ≡ handles_at self.old other }
         ensures rows { (other : ℕ) → rows self.new other ≡ rows self.old other }
-        ensures kin { SameBut but_requeued self.old.locks self.new.locks }
-        ensures rest { SameBut but_lists self.old.resources self.new.resources }
-        ensures locks_room { room_in self.new.locks ≡ room_in self.old.locks }
-        ensures resources_room { room_in self.new.resources ≡ room_in self.old.resources }
+        ensures kept { Keeps but_requeued but_lists self.old self.new }
     {
         let mut list = self.list(place);
         list.push_back(&mut self.locks, at);
@@ -102,13 +97,8 @@ impl Queues {
     fn set_place(&mut self, at: usize, place: Place)
         requires { ContainsKey self.old.locks at }
         ensures here { noted self.new at ≡ Some place }
-        ensures others { (other : ℕ) → other ≢ at → get self.new.locks other
-            ≡ get self.old.locks other }
         ensures rest { SameBut but_place self.old.locks self.new.locks }
-        ensures kin { SameBut but_requeued self.old.locks self.new.locks }
-        ensures resources { self.new.resources ≡ self.old.resources }
-        ensures loose { self.new.loose ≡ self.old.loose }
-        ensures locks_room { room_in self.new.locks ≡ room_in self.old.locks }
+        ensures lock { WritesLock at self.old self.new }
     {
         self.locks[at].place = place;
     }
@@ -118,13 +108,8 @@ impl Queues {
         requires present { ContainsKey self.old.locks at }
         requires named { named_row (rows self.old at) ≡ named_row row.now }
         ensures here { rows self.new at ≡ row.now }
-        ensures others { (other : ℕ) → other ≢ at → get self.new.locks other
-            ≡ get self.old.locks other }
         ensures rest { SameBut but_row self.old.locks self.new.locks }
-        ensures kin { SameBut but_requeued self.old.locks self.new.locks }
-        ensures resources { self.new.resources ≡ self.old.resources }
-        ensures loose { self.new.loose ≡ self.old.loose }
-        ensures locks_room { room_in self.new.locks ≡ room_in self.old.locks }
+        ensures lock { WritesLock at self.old self.new }
     {
         self.locks[at].row = *row;
     }
@@ -144,10 +129,7 @@ impl Queues {
             → handles_at self.new other ≡ without at (handles_at self.old other) }
         ensures row { rows self.new at ≡ row.now }
         ensures rows { (other : ℕ) → other ≢ at → rows self.new other ≡ rows self.old other }
-        ensures kin { SameBut but_requeued self.old.locks self.new.locks }
-        ensures rest { SameBut but_counted self.old.resources self.new.resources }
-        ensures locks_room { room_in self.new.locks ≡ room_in self.old.locks }
-        ensures resources_room { room_in self.new.resources ≡ room_in self.old.resources }
+        ensures kept { Keeps but_requeued but_counted self.old self.new }
     {
         self.count_out(at);
         self.take_off(at);
@@ -169,11 +151,8 @@ impl Queues {
             → handles_at self.new other ≡ without at (handles_at self.old other) }
         ensures row { rows self.new at ≡ row.now }
         ensures rows { (other : ℕ) → other ≢ at → rows self.new other ≡ rows self.old other }
-        ensures kin { SameBut but_queued self.old.locks self.new.locks }
+        ensures kept { Keeps but_queued but_queues self.old self.new }
         ensures line { SameBut line_links self.old.locks self.new.locks }
-        ensures rest { SameBut but_queues self.old.resources self.new.resources }
-        ensures locks_room { room_in self.new.locks ≡ room_in self.old.locks }
-        ensures resources_room { room_in self.new.resources ≡ room_in self.old.resources }
     {
         self.leave_armed(at);
         self.requeue(at, row, to);
@@ -188,11 +167,8 @@ impl Queues {
         ensures handles { (place : Place) → handles_at self.new place ≡ handles_at self.old place }
         ensures row { rows self.new at ≡ record (rows self.old at) { armed = false } }
         ensures rows { (other : ℕ) → other ≢ at → rows self.new other ≡ rows self.old other }
-        ensures kin { SameBut but_queued self.old.locks self.new.locks }
+        ensures kept { Keeps but_queued but_queues self.old self.new }
         ensures line { SameBut line_links self.old.locks self.new.locks }
-        ensures rest { SameBut but_queues self.old.resources self.new.resources }
-        ensures locks_room { room_in self.new.locks ≡ room_in self.old.locks }
-        ensures resources_room { room_in self.new.resources ≡ room_in self.old.resources }
     {
         self.leave_armed(at);
         self.count_out(at);

@@ -15,6 +15,10 @@ use Rattle.vlm_store.specs.Records.{Records, locks_at}
 abbrev pub IsQueued : ℕ → Records → Type 0
 IsQueued at s = (place : Place) × (row : Row) × ((is_queued place ≡ true) × IsIn (record { at = at; row = row }) (locks_at place s))
 
+-- each of these is the handle of such a lock
+abbrev pub AreQueued : List ℕ → Records → Type 0
+AreQueued handles s = (at : ℕ) → IsIn at handles → IsQueued at s
+
 -- the handle and those that follow it, or none
 abbrev pub handles_on : Option ℕ → List ℕ → List ℕ
 handles_on None handles = []

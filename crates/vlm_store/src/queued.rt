@@ -3,7 +3,7 @@
 ghost use Rattle.std.specs.Prelude.{ℕ};
 ghost use Rattle.std.specs.Iterator.{YieldsFirst, item_count};
 ghost use Rattle.vlm_links.specs.Lists.{IsIn};
-ghost use Rattle.vlm_store.specs.Queued.{IsQueued};
+ghost use Rattle.vlm_store.specs.Queued.{AreQueued, IsQueued};
 
 use crate::store::Store;
 use slab::Slab;
@@ -52,7 +52,7 @@ impl<'a> Iterator for QueuedLocks<'a> {
 impl Store {
     /// The locks whose requests are queued, of all resources, in the order in which they were queued.
     pub fn queued_locks(&self) -> QueuedLocks<'_>
-        ensures queued { (at : ℕ) → IsIn at result → IsQueued at self.now }
+        ensures queued { AreQueued result self.now }
         ensures all { (at : ℕ) → IsQueued at self.now → IsIn at result }
     {
         QueuedLocks {

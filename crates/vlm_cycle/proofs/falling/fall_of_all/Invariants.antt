@@ -1,6 +1,5 @@
-use Rattle.std.proofs.Common.{◌≡◌, ℕ, true}
-use Rattle.vlm_links.specs.Lists.{IsIn}
-use Rattle.vlm_store.specs.Queued.{IsQueued}
+use Rattle.std.proofs.Common.{◌≡◌, true}
+use Rattle.vlm_store.specs.Queued.{AreQueued}
 use Rattle.vlm_cycle.specs.Finding.{StandsIfAny}
 use Rattle.vlm_cycle.proofs.Led.{FallsLed}
 use Rattle.vlm_cycle.proofs.falling.fall_of_all.Given as goal
@@ -8,7 +7,7 @@ use Rattle.vlm_cycle.proofs.falling.fall_of_all.Given as goal
 -- the resources are passed to which no lock leads that is left
 abbrev pub invariant-loop-lock : goal.invariant-loop-lock
 invariant-loop-lock l = record {
-  queued : (at : ℕ) → IsIn at l.lock-iterator → IsQueued at l.store;
+  queued : AreQueued l.lock-iterator l.store;
   falls : l.fall.falls ≡ true → FallsLed l.store l.ranks l.lock-iterator;
   stands : StandsIfAny l.store l.fall.guess;
 }

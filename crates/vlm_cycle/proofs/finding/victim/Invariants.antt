@@ -1,6 +1,5 @@
-use Rattle.std.proofs.Common.{◌≡◌, ℕ}
-use Rattle.vlm_links.specs.Lists.{IsIn}
-use Rattle.vlm_store.specs.Queued.{IsQueued}
+use Rattle.std.proofs.Common.{◌≡◌}
+use Rattle.vlm_store.specs.Queued.{AreQueued}
 use Rattle.vlm_cycle.specs.Finding.{IsFit}
 use Rattle.vlm_cycle.specs.Marking.{KeepsRoom}
 use Rattle.vlm_cycle.specs.Waiting.{IsRoomy}
@@ -10,7 +9,7 @@ use Rattle.vlm_cycle.proofs.finding.victim.Given as goal
 -- the best is that of all requests but for those to which a lock leads that is left
 abbrev pub invariant-loop-lock : goal.invariant-loop-lock
 invariant-loop-lock l = record {
-  queued : (at : ℕ) → IsIn at l.lock-iterator → IsQueued at l.store;
+  queued : AreQueued l.lock-iterator l.store;
   roomy : IsRoomy l.store l.scratch;
   room : KeepsRoom l.initial.scratch l.scratch;
   ranks : l.scratch.ranks ≡ l.initial.scratch.ranks;

@@ -1,7 +1,7 @@
 use Rattle.vlm_records.proofs.Rooms.{room_relinked, room_written}
 use Rattle.std.proofs.Common.{◌∙◌, refl, sym, ap, subst}
 use Rattle.std.proofs.lemmas.Option.{none-some}
-use Rattle.vlm_links.specs.Lists.{IsIn, handles_of}
+use Rattle.vlm_links.specs.Lists.{Lists}
 use Rattle.vlm_links.proofs.HandleLists.{without_absent}
 use Rattle.vlm_records.specs.Kin.{below_in, below_handles, below_links, parent_in, with_below_links}
 use Rattle.vlm_records.proofs.OwnLocks.{below_none, parent_left, parent_left_handles, parent_there}
@@ -10,10 +10,13 @@ use Rattle.vlm_records.proofs.kin.leave_parent.Goals as goal
 pub index-requires-2 : goal.index-requires-2
 index-requires-2 c = rw c.slot.ensures (parent_there c.args.locks.now c.requires.below c.args.at c.in-Some.parent (ap parent_in c.index.ensures ∙ c.in-Some.is))
 
-pub unlink-requires-clause-listed : goal.unlink-requires-clause-listed
-unlink-requires-clause-listed c =
-    subst (λ l. IsIn c.args.at (handles_of below_links c.args.locks.now l)) (ap below_in (rw c.slot.ensures at c.index-2.ensures))
-    (c.requires.below.stands c.in-Some.parent c.args.at (λ e. none-some c.args.at (sym e)) (ap parent_in c.index.ensures ∙ c.in-Some.is))
+pub unlink-requires : goal.unlink-requires
+unlink-requires c =
+    subst (λ l. Lists below_links c.args.locks.now l c.args.at) (ap below_in (rw c.slot.ensures at c.index-2.ensures))
+    (record {
+      linked = c.requires.below.linked c.in-Some.parent;
+      listed = c.requires.below.stands c.in-Some.parent c.args.at (λ e. none-some c.args.at (sym e)) (ap parent_in c.index.ensures ∙ c.in-Some.is);
+    })
 
 pub returns-clause-below : goal.returns-clause-below
 returns-clause-below c =

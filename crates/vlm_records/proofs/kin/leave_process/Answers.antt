@@ -1,7 +1,7 @@
 use Rattle.vlm_records.proofs.Rooms.{room_relinked, room_written}
 use Rattle.std.proofs.Common.{sym, ap, subst, refl}
 use Rattle.std.proofs.lemmas.Option.{none-some}
-use Rattle.vlm_links.specs.Lists.{IsIn, handles_of}
+use Rattle.vlm_links.specs.Lists.{Lists}
 use Rattle.vlm_records.specs.Kin.{own_in, own_links, owner_in, with_own_links}
 use Rattle.vlm_records.proofs.OwnLocks.{owner_there, process_left, process_left_handles}
 use Rattle.vlm_records.proofs.kin.leave_process.Goals as goal
@@ -9,10 +9,13 @@ use Rattle.vlm_records.proofs.kin.leave_process.Goals as goal
 pub index-requires-2 : goal.index-requires-2
 index-requires-2 c = rw c.slot-owner.ensures (owner_there c.args.processes.now c.args.locks.now c.requires.owned c.args.at c.index.result.now.owner (ap owner_in c.index.ensures))
 
-pub unlink-requires-clause-listed : goal.unlink-requires-clause-listed
-unlink-requires-clause-listed c =
-    subst (λ l. IsIn c.args.at (handles_of own_links c.args.locks.now l)) (ap own_in (rw c.slot-owner.ensures at c.index-2.ensures))
-    (c.requires.owned.stands c.index.result.now.owner c.args.at (λ e. none-some c.args.at (sym e)) (ap owner_in c.index.ensures))
+pub unlink-requires : goal.unlink-requires
+unlink-requires c =
+    subst (λ l. Lists own_links c.args.locks.now l c.args.at) (ap own_in (rw c.slot-owner.ensures at c.index-2.ensures))
+    (record {
+      linked = c.requires.owned.linked c.index.result.now.owner;
+      listed = c.requires.owned.stands c.index.result.now.owner c.args.at (λ e. none-some c.args.at (sym e)) (ap owner_in c.index.ensures);
+    })
 
 pub returns-clause-owned : goal.returns-clause-owned
 returns-clause-owned c =

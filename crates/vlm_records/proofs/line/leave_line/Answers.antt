@@ -6,13 +6,13 @@ use Rattle.vlm_records.proofs.Lining.{line_left, queued_here, unqueued_here, unq
 use Rattle.vlm_records.proofs.Rooms.{room_relinked}
 use Rattle.vlm_records.proofs.line.leave_line.Goals as goal
 
-pub unlink-requires-clause-linked : goal.unlink-requires-clause-linked
-unlink-requires-clause-linked c = c.requires.line.linked tt
-
-pub unlink-requires-clause-listed : goal.unlink-requires-clause-listed
-unlink-requires-clause-listed c =
-    c.requires.line.stands tt c.args.at (λ e. none-some c.args.at (sym e))
-    (queued_here (get c.args.locks.now c.args.at) c.index.result.now c.index.ensures (sym c.is_queued.ensures ∙ c.if-is_queued.true))
+pub unlink-requires : goal.unlink-requires
+unlink-requires c = record {
+  linked = c.requires.line.linked tt;
+  listed =
+      c.requires.line.stands tt c.args.at (λ e. none-some c.args.at (sym e))
+      (queued_here (get c.args.locks.now c.args.at) c.index.result.now c.index.ensures (sym c.is_queued.ensures ∙ c.if-is_queued.true));
+}
 
 pub returns-then-is_queued-clause-line : goal.returns-then-is_queued-clause-line
 returns-then-is_queued-clause-line c =

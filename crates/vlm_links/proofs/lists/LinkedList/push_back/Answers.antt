@@ -16,7 +16,7 @@ overflow_add-self g c =
     omega (
       arith,
       room_for g.T.Linked.links c.args.nodes.now c.args.self.now c.requires.linked c.args.handle c.requires.within c.requires.unlisted,
-      c.link_forward.ensures.len,
+      c.link_forward.ensures.links.len,
     )
 
 pub returns-clause-linked : goal.returns-clause-linked
@@ -26,8 +26,8 @@ returns-clause-linked g c =
     c.requires.linked c.requires.present c.requires.within c.requires.unlisted
     (written_prev g.T.Linked.with_links g.T.Linked.links g.met.T.Linked.links_written (get c.args.nodes.now c.args.handle) (get c.write_links.new.nodes c.args.handle) _ c.requires.present c.write_links.ensures.here)
     (written_next g.T.Linked.with_links g.T.Linked.links g.met.T.Linked.links_written (get c.args.nodes.now c.args.handle) (get c.write_links.new.nodes c.args.handle) _ c.requires.present c.write_links.ensures.here ∙ c.none.ensures)
-    c.write_links.ensures.others (rw c.to.ensures at c.link_forward.ensures.next) c.link_forward.ensures.prev c.link_forward.ensures.len
-    (λ k here. still_present g.T.Linked.with_links c.write_links.new.nodes c.link_forward.new.nodes c.link_forward.ensures.relinks k
+    c.write_links.ensures.others (rw c.to.ensures at c.link_forward.ensures.links.joins) c.link_forward.ensures.links.keeps c.link_forward.ensures.links.len
+    (λ k here. still_present g.T.Linked.with_links c.write_links.new.nodes c.link_forward.new.nodes c.link_forward.ensures.links.relinks k
     (still_present g.T.Linked.with_links c.args.nodes.now c.write_links.new.nodes c.write_links.ensures.relinks k here)))
 
 pub returns-clause-handles : goal.returns-clause-handles
@@ -37,14 +37,14 @@ returns-clause-handles g c =
     c.requires.linked c.requires.present c.requires.within c.requires.unlisted
     (written_prev g.T.Linked.with_links g.T.Linked.links g.met.T.Linked.links_written (get c.args.nodes.now c.args.handle) (get c.write_links.new.nodes c.args.handle) _ c.requires.present c.write_links.ensures.here)
     (written_next g.T.Linked.with_links g.T.Linked.links g.met.T.Linked.links_written (get c.args.nodes.now c.args.handle) (get c.write_links.new.nodes c.args.handle) _ c.requires.present c.write_links.ensures.here ∙ c.none.ensures)
-    c.write_links.ensures.others (rw c.to.ensures at c.link_forward.ensures.next) c.link_forward.ensures.prev c.link_forward.ensures.len
-    (λ k here. still_present g.T.Linked.with_links c.write_links.new.nodes c.link_forward.new.nodes c.link_forward.ensures.relinks k
+    c.write_links.ensures.others (rw c.to.ensures at c.link_forward.ensures.links.joins) c.link_forward.ensures.links.keeps c.link_forward.ensures.links.len
+    (λ k here. still_present g.T.Linked.with_links c.write_links.new.nodes c.link_forward.new.nodes c.link_forward.ensures.links.relinks k
     (still_present g.T.Linked.with_links c.args.nodes.now c.write_links.new.nodes c.write_links.ensures.relinks k here)))
 
 -- the last handle is one of the list
 pub returns-clause-others : goal.returns-clause-others
 returns-clause-others g c other absent differs =
-    c.link_forward.ensures.others other (off_list (handles_of g.T.Linked.links c.args.nodes.now c.args.self.now) c.args.self.now.last other
+    c.link_forward.ensures.links.others other (off_list (handles_of g.T.Linked.links c.args.nodes.now c.args.self.now) c.args.self.now.last other
     (last_is_on g.T.Linked.links c.args.nodes.now c.args.self.now c.requires.linked) absent)
     ∙ c.write_links.ensures.others other differs
 
@@ -52,4 +52,4 @@ pub returns-clause-relinks : goal.returns-clause-relinks
 returns-clause-relinks g c =
     relinked_twice g.T.Linked.with_links g.met.T.Linked.written_twice c.args.nodes.now c.write_links.new.nodes c.link_forward.new.nodes
     c.write_links.ensures.relinks
-    c.link_forward.ensures.relinks
+    c.link_forward.ensures.links.relinks

@@ -12,7 +12,7 @@ link_forward-requires g c x is =
 
 pub link_back-requires : goal.link_back-requires
 link_back-requires g c x is =
-    still_present g.T.Linked.with_links c.args.nodes.now c.link_forward.new.nodes c.link_forward.ensures.relinks x
+    still_present g.T.Linked.with_links c.args.nodes.now c.link_forward.new.nodes c.link_forward.ensures.links.relinks x
     (on_present g.T.Linked.links c.args.nodes.now c.args.self.now c.requires.linked c.links-pair.result.next
     (next_is_on g.T.Linked.links c.args.nodes.now c.args.self.now c.args.handle c.links-pair.result.next c.requires.linked c.requires.listed
     (told_next g.T.Linked.links (get c.args.nodes.now c.args.handle) c.index.result.now c.links-pair.result c.index.ensures c.links-pair.ensures)) x is)
@@ -22,20 +22,20 @@ returns-clause-linked g c =
     left-linked g.T.Linked.links c.args.nodes.now c.link_forward.new.nodes c.link_back.new.nodes c.args.self.now c.link_forward.new.list c.link_back.new.list c.args.handle
     c.links-pair.result.prev c.links-pair.result.next c.requires.linked c.requires.listed
     (told_prev g.T.Linked.links (get c.args.nodes.now c.args.handle) c.index.result.now c.links-pair.result c.index.ensures c.links-pair.ensures) (told_next g.T.Linked.links (get c.args.nodes.now c.args.handle) c.index.result.now c.links-pair.result c.index.ensures c.links-pair.ensures)
-    c.link_forward.ensures.next c.link_forward.ensures.prev c.link_forward.ensures.len
-    c.link_back.ensures.prev c.link_back.ensures.next c.link_back.ensures.len
+    c.link_forward.ensures.links.joins c.link_forward.ensures.links.keeps c.link_forward.ensures.links.len
+    c.link_back.ensures.joins c.link_back.ensures.keeps c.link_back.ensures.len
     (λ k here. still_present g.T.Linked.with_links c.link_forward.new.nodes c.link_back.new.nodes c.link_back.ensures.relinks k
-    (still_present g.T.Linked.with_links c.args.nodes.now c.link_forward.new.nodes c.link_forward.ensures.relinks k here))
+    (still_present g.T.Linked.with_links c.args.nodes.now c.link_forward.new.nodes c.link_forward.ensures.links.relinks k here))
 
 pub returns-clause-handles : goal.returns-clause-handles
 returns-clause-handles g c =
     left-handles g.T.Linked.links c.args.nodes.now c.link_forward.new.nodes c.link_back.new.nodes c.args.self.now c.link_forward.new.list c.link_back.new.list c.args.handle
     c.links-pair.result.prev c.links-pair.result.next c.requires.linked c.requires.listed
     (told_prev g.T.Linked.links (get c.args.nodes.now c.args.handle) c.index.result.now c.links-pair.result c.index.ensures c.links-pair.ensures) (told_next g.T.Linked.links (get c.args.nodes.now c.args.handle) c.index.result.now c.links-pair.result c.index.ensures c.links-pair.ensures)
-    c.link_forward.ensures.next c.link_forward.ensures.prev c.link_forward.ensures.len
-    c.link_back.ensures.prev c.link_back.ensures.next c.link_back.ensures.len
+    c.link_forward.ensures.links.joins c.link_forward.ensures.links.keeps c.link_forward.ensures.links.len
+    c.link_back.ensures.joins c.link_back.ensures.keeps c.link_back.ensures.len
     (λ k here. still_present g.T.Linked.with_links c.link_forward.new.nodes c.link_back.new.nodes c.link_back.ensures.relinks k
-    (still_present g.T.Linked.with_links c.args.nodes.now c.link_forward.new.nodes c.link_forward.ensures.relinks k here))
+    (still_present g.T.Linked.with_links c.args.nodes.now c.link_forward.new.nodes c.link_forward.ensures.links.relinks k here))
 
 -- the neighbours are the end or handles of the list
 pub returns-clause-others : goal.returns-clause-others
@@ -44,11 +44,11 @@ returns-clause-others g c other absent =
     c.link_back.ensures.others other (off_list handles c.links-pair.result.next other
     (next_is_on g.T.Linked.links c.args.nodes.now c.args.self.now c.args.handle c.links-pair.result.next c.requires.linked c.requires.listed
     (told_next g.T.Linked.links (get c.args.nodes.now c.args.handle) c.index.result.now c.links-pair.result c.index.ensures c.links-pair.ensures)) absent)
-    ∙ c.link_forward.ensures.others other (off_list handles c.links-pair.result.prev other
+    ∙ c.link_forward.ensures.links.others other (off_list handles c.links-pair.result.prev other
     (prev_is_on g.T.Linked.links c.args.nodes.now c.args.self.now c.args.handle c.links-pair.result.prev c.requires.linked c.requires.listed
     (told_prev g.T.Linked.links (get c.args.nodes.now c.args.handle) c.index.result.now c.links-pair.result c.index.ensures c.links-pair.ensures)) absent)
 
 pub returns-clause-relinks : goal.returns-clause-relinks
 returns-clause-relinks g c =
     relinked_twice g.T.Linked.with_links g.met.T.Linked.written_twice c.args.nodes.now c.link_forward.new.nodes c.link_back.new.nodes
-    c.link_forward.ensures.relinks c.link_back.ensures.relinks
+    c.link_forward.ensures.links.relinks c.link_back.ensures.relinks

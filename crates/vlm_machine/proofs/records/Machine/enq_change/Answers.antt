@@ -44,11 +44,11 @@ returns-clause-change c =
     let is = (subst (λ (m : MachineState). IsAdmitted m e c.args.admitted.now) (sym c.self.view_is) c.requires.admitted).entry in
     rw (← c.self.view_is)
     (entered_state m e entry is c.enter.new.store (c.self.inside.last_lkid + 1 + 1) (c.self.inside.last_request + 1 + 1) (c.last_given-self-inside.result + 1)
-    (resources_are m e entry is c.enter.new.store c.in_ok-res.ensures.entered)
-    (processes_are m e entry is c.enter.new.store c.in_ok-res.ensures.statuses)
+    (resources_are m e entry is c.enter.new.store c.in_ok-res.ensures.entered.taken.entered)
+    (processes_are m e entry is c.enter.new.store c.in_ok-res.ensures.entered.statuses)
     refl refl
     (serial_is m e entry is c.self.invariant.rest c.last_given-self-inside.result c.self.inside.last_serial refl c.last_given-self-inside.ensures))
 
 pub returns-clause-others : goal.returns-clause-others
 returns-clause-others c =
-    subst (λ (m : MachineState). without_resource c.in_ok-res.res c.enter.new.store.resources ≡ without_resource c.in_ok-res.res m.records.resources) c.self.view_is c.in_ok-res.ensures.others
+    subst (λ (m : MachineState). without_resource c.in_ok-res.res c.enter.new.store.resources ≡ without_resource c.in_ok-res.res m.records.resources) c.self.view_is c.in_ok-res.ensures.entered.taken.others

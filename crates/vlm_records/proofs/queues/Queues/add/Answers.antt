@@ -24,7 +24,7 @@ put_at-requires-clause-placed c =
 
 pub returns-clause-taken : goal.returns-clause-taken
 returns-clause-taken c =
-    ap (λ (p : ℕ × ℕ). p.0 + 1) c.put_at.ensures.locks_room
+    ap (λ (p : ℕ × ℕ). p.0 + 1) c.put_at.ensures.kept.locks_room
     ∙ room_taken c.args.self.now.locks c.insert_reserved-at.new.self c.requires.room c.insert_reserved-at.ensures.len c.insert_reserved-at.ensures.capacity
 
 pub returns-clause-laid_out : goal.returns-clause-laid_out
@@ -36,7 +36,7 @@ returns-clause-laid_out c = record {
       let unlisted : (p : Place) → ¬ IsIn c.insert_reserved-at.result (handles_at q p) = λ p. vacant_unlisted queue_links q.locks (list_at q p) (c.requires.laid_out.placed.linked p) c.insert_reserved-at.result c.insert_reserved-at.ensures.was_vacant in
       let placed1 = added_placed q q1 c.insert_reserved-at.result _ c.insert_reserved-at.ensures.updates c.requires.laid_out.placed.linked unlisted (lists_same q q1 refl refl) c.requires.laid_out.placed in
       let tallied1 = added_tallied q q1 c.insert_reserved-at.result _ c.insert_reserved-at.ensures.updates c.requires.laid_out.placed.linked unlisted (lists_same q q1 refl refl) refl c.requires.laid_out.tallied in
-      let tallied2 = tallied_put q1 c.put_at.new.self c.insert_reserved-at.result Loose placed1 c.put_at.ensures.here c.put_at.ensures.elsewhere c.put_at.ensures.rows c.put_at.ensures.rest tallied1 in
+      let tallied2 = tallied_put q1 c.put_at.new.self c.insert_reserved-at.result Loose placed1 c.put_at.ensures.here c.put_at.ensures.elsewhere c.put_at.ensures.rows c.put_at.ensures.kept.rest tallied1 in
       tallied_loose c.put_at.new.self c.insert_reserved-at.result c.put_at.ensures.placed
       (c.put_at.ensures.placed.listed Loose c.insert_reserved-at.result
       (subst (IsIn c.insert_reserved-at.result) (sym c.put_at.ensures.here) (IsIn-push_last c.insert_reserved-at.result (handles_at q1 Loose)))) tallied2;
@@ -49,8 +49,8 @@ returns-clause-laid_out c = record {
       let unlisted : (p : Place) → ¬ IsIn at (handles_at q p) = λ p. vacant_unlisted queue_links q.locks (list_at q p) (c.requires.laid_out.placed.linked p) at c.insert_reserved-at.ensures.was_vacant in
       armed_but_one q q2 None None at c.requires.laid_out.armed
       (λ res. vacant_unlisted armed_links q.locks (armed_list q res) (c.requires.laid_out.armed.linked res) at c.insert_reserved-at.ensures.was_vacant)
-      (armed_lists q.resources q2.resources (lists_counted q.resources q2.resources c.put_at.ensures.rest))
-      (λ k differs. c.put_at.ensures.kin k ∙ ap (option_map but_requeued) (others k differs))
+      (armed_lists q.resources q2.resources (lists_counted q.resources q2.resources c.put_at.ensures.kept.rest))
+      (λ k differs. c.put_at.ensures.kept.kin k ∙ ap (option_map but_requeued) (others k differs))
       (added_granted q q2 at (λ k differs. c.put_at.ensures.rows k ∙ ap row_in (others k differs)) unlisted
       (λ p differs. c.put_at.ensures.elsewhere p differs ∙ updated_handles q q1 at _ c.insert_reserved-at.ensures.updates c.requires.laid_out.placed.linked unlisted (lists_same q q1 refl refl) p));
 }

@@ -44,11 +44,18 @@ returns-in-Queued-clause-tallied c =
           (λ x. c.requires.tallied.counts count x mode) r;
     })
 
-pub returns-in-Queued-clause-resources_room : goal.returns-in-Queued-clause-resources_room
-returns-in-Queued-clause-resources_room c =
-    rw c.slot.ensures
-    (room_written c.args.self.now.resources c.in-Queued.res _
-    (noted_stands c.args.self.now c.args.at c.index.result.now c.in-Queued.res c.in-Queued.queue c.requires.placed c.index.ensures c.in-Queued.is))
+pub returns-in-Queued-clause-counts : goal.returns-in-Queued-clause-counts
+returns-in-Queued-clause-counts c = record {
+  locks = refl;
+  loose = refl;
+  rest =
+      let was = c.index_mut.result.now in
+      written_same c.args.self.now.resources c.slot.result was (record was { tally = c.remove.new.self }) (option_map but_tally) c.index_mut.ensures.value refl;
+  resources_room =
+      rw c.slot.ensures
+      (room_written c.args.self.now.resources c.in-Queued.res _
+      (noted_stands c.args.self.now c.args.at c.index.result.now c.in-Queued.res c.in-Queued.queue c.requires.placed c.index.ensures c.in-Queued.is));
+}
 
 pub returns-in_default-clause-tallied : goal.returns-in_default-clause-tallied
 returns-in_default-clause-tallied c =

@@ -1,8 +1,7 @@
-use Rattle.vlm_records.proofs.Rooms.{room_relinked, room_written}
-use Rattle.std.proofs.Common.{◌∙◌, ap, refl, subst, sym}
+use Rattle.std.proofs.Common.{◌∙◌, ap, subst, sym}
 use Rattle.vlm_links.specs.Lists.{IsIn, handles_of}
-use Rattle.vlm_records.specs.Armed.{armed_links, armed_list_in, armed_on, with_armed_links}
-use Rattle.vlm_records.proofs.Arming.{armed_resource, out_unlisted, relisted_handles, relisted_joined, relisted_placed, relisted_tallied, unarmed_joined}
+use Rattle.vlm_records.specs.Armed.{armed_links, armed_list_in, armed_on}
+use Rattle.vlm_records.proofs.Arming.{armed_resource, out_unlisted, relisted_joined, relisted_places, same_places, unarmed_joined}
 use Rattle.vlm_records.proofs.queues.Queues.join_armed.Goals as goal
 
 -- it is not among the armed ones
@@ -18,18 +17,6 @@ push_back-requires-clause-unlisted c found =
     out_unlisted c.args.self.now c.args.at c.requires.armed c.in-Some.res
     (subst (λ l. IsIn c.args.at (handles_of armed_links c.args.self.now.locks l)) (sym (ap armed_list_in (rw c.slot.ensures at c.index-2.ensures))) found)
 
-pub returns-clause-placed : goal.returns-clause-placed
-returns-clause-placed c =
-    rw c.slot-2.ensures
-    (relisted_placed c.args.self.now c.push_back.new.nodes c.in-Some.res c.index-2.result.now c.index_mut.result.now c.push_back.new.self
-    (rw c.slot.ensures at c.index-2.ensures) (rw c.slot-2.ensures at c.index_mut.ensures.value) c.push_back.ensures.relinks c.requires.placed)
-
-pub returns-clause-tallied : goal.returns-clause-tallied
-returns-clause-tallied c =
-    rw c.slot-2.ensures
-    (relisted_tallied c.args.self.now c.push_back.new.nodes c.in-Some.res c.index-2.result.now c.index_mut.result.now c.push_back.new.self
-    (rw c.slot.ensures at c.index-2.ensures) (rw c.slot-2.ensures at c.index_mut.ensures.value) c.push_back.ensures.relinks c.requires.placed c.requires.tallied)
-
 pub returns-clause-armed : goal.returns-clause-armed
 returns-clause-armed c =
     rw c.slot-2.ensures
@@ -37,14 +24,11 @@ returns-clause-armed c =
     (rw c.slot.ensures at c.index-2.ensures) (rw c.slot-2.ensures at c.index_mut.ensures.value) c.push_back.ensures.relinks c.requires.placed
     c.args.at c.push_back.ensures.linked (ap armed_on c.index.ensures ∙ sym c.armed_on.ensures ∙ c.in-Some.is) c.requires.armed c.push_back.ensures.handles c.push_back.ensures.others c.requires.last)
 
-pub returns-clause-handles : goal.returns-clause-handles
-returns-clause-handles c =
+pub returns-clause-places : goal.returns-clause-places
+returns-clause-places c =
     rw c.slot-2.ensures
-    (relisted_handles c.args.self.now c.push_back.new.nodes c.in-Some.res c.index-2.result.now c.index_mut.result.now c.push_back.new.self
-    (rw c.slot.ensures at c.index-2.ensures) (rw c.slot-2.ensures at c.index_mut.ensures.value) c.push_back.ensures.relinks c.requires.placed)
+    (relisted_places c.args.self.now c.push_back.new.nodes c.in-Some.res c.index-2.result.now c.index_mut.result.now c.push_back.new.self
+    (rw c.slot.ensures at c.index-2.ensures) (rw c.slot-2.ensures at c.index_mut.ensures.value) c.push_back.ensures.relinks c.requires.placed c.requires.tallied)
 
-pub returns-clause-locks_room : goal.returns-clause-locks_room
-returns-clause-locks_room c = room_relinked with_armed_links c.args.self.now.locks c.push_back.new.nodes c.push_back.ensures.relinks
-
-pub returns-clause-resources_room : goal.returns-clause-resources_room
-returns-clause-resources_room c = room_written c.args.self.now.resources c.slot-2.result _ (rw c.index_mut.ensures.value refl)
+pub returns-in_default-clause-places : goal.returns-in_default-clause-places
+returns-in_default-clause-places c = same_places c.args.self.now c.requires.placed c.requires.tallied

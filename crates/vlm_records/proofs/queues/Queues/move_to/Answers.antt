@@ -7,26 +7,26 @@ use Rattle.vlm_records.proofs.Places.{there_through}
 use Rattle.vlm_records.proofs.queues.Queues.move_to.Goals as goal
 
 pub requeue-requires-clause-present : goal.requeue-requires-clause-present
-requeue-requires-clause-present c = there_through but_in_armed c.args.self.now.locks c.leave_armed.new.self.locks c.leave_armed.ensures.kin c.args.at c.requires.present
+requeue-requires-clause-present c = there_through but_in_armed c.args.self.now.locks c.leave_armed.new.self.locks c.leave_armed.ensures.places.records.kin c.args.at c.requires.present
 
 pub requeue-requires-clause-there : goal.requeue-requires-clause-there
-requeue-requires-clause-there c = place_still but_armed c.args.self.now.resources c.leave_armed.new.self.resources c.leave_armed.ensures.rest c.args.to c.requires.there
+requeue-requires-clause-there c = place_still but_armed c.args.self.now.resources c.leave_armed.new.self.resources c.leave_armed.ensures.places.records.rest c.args.to c.requires.there
 
 pub requeue-requires-clause-named : goal.requeue-requires-clause-named
-requeue-requires-clause-named c = ap named_row (c.leave_armed.ensures.rows c.args.at) ∙ c.requires.named
+requeue-requires-clause-named c = ap named_row (c.leave_armed.ensures.places.rows c.args.at) ∙ c.requires.named
 
 pub join_armed-requires-clause-armed : goal.join_armed-requires-clause-armed
 join_armed-requires-clause-armed c =
     let q1 = c.leave_armed.new.self in
     let q2 = c.requeue.new.self in
     let moved = c.requeue.ensures in
-    armed_but_one q1 q2 (Some c.args.at) (Some c.args.at) c.args.at c.leave_armed.ensures.armed (out_unlisted q1 c.args.at c.leave_armed.ensures.armed) (armed_lists q1.resources q2.resources moved.rest)
-    (λ k _. moved.kin k) (requeued_granted q1 q2 c.args.at moved.rows c.args.to moved.here moved.elsewhere)
+    armed_but_one q1 q2 (Some c.args.at) (Some c.args.at) c.args.at c.leave_armed.ensures.armed (out_unlisted q1 c.args.at c.leave_armed.ensures.armed) (armed_lists q1.resources q2.resources moved.kept.rest)
+    (λ k _. moved.kept.kin k) (requeued_granted q1 q2 c.args.at moved.rows c.args.to moved.here moved.elsewhere)
 
 pub join_armed-requires-clause-present : goal.join_armed-requires-clause-present
 join_armed-requires-clause-present c =
-    let present1 = there_through but_in_armed c.args.self.now.locks c.leave_armed.new.self.locks c.leave_armed.ensures.kin c.args.at c.requires.present in
-    there_through but_requeued c.leave_armed.new.self.locks c.requeue.new.self.locks c.requeue.ensures.kin c.args.at present1
+    let present1 = there_through but_in_armed c.args.self.now.locks c.leave_armed.new.self.locks c.leave_armed.ensures.places.records.kin c.args.at c.requires.present in
+    there_through but_requeued c.leave_armed.new.self.locks c.requeue.new.self.locks c.requeue.ensures.kept.kin c.args.at present1
 
 pub join_armed-requires-clause-last : goal.join_armed-requires-clause-last
 join_armed-requires-clause-last c =
@@ -34,30 +34,32 @@ join_armed-requires-clause-last c =
     requeued_last c.leave_armed.new.self c.requeue.new.self c.args.at moved.rows c.args.to moved.here moved.elsewhere moved.placed
 
 pub returns-clause-here : goal.returns-clause-here
-returns-clause-here c = c.join_armed.ensures.handles c.args.to ∙ c.requeue.ensures.here ∙ ap (λ ks. without c.args.at ks ++ c.args.at ∷ []) (c.leave_armed.ensures.handles c.args.to)
+returns-clause-here c = c.join_armed.ensures.places.handles c.args.to ∙ c.requeue.ensures.here ∙ ap (λ ks. without c.args.at ks ++ c.args.at ∷ []) (c.leave_armed.ensures.places.handles c.args.to)
 
 pub returns-clause-elsewhere : goal.returns-clause-elsewhere
-returns-clause-elsewhere c p differs = c.join_armed.ensures.handles p ∙ c.requeue.ensures.elsewhere p differs ∙ ap (without c.args.at) (c.leave_armed.ensures.handles p)
+returns-clause-elsewhere c p differs = c.join_armed.ensures.places.handles p ∙ c.requeue.ensures.elsewhere p differs ∙ ap (without c.args.at) (c.leave_armed.ensures.places.handles p)
 
-pub returns-clause-kin : goal.returns-clause-kin
-returns-clause-kin c k =
-    let q = c.args.self.now.locks in
-    let q1 = c.leave_armed.new.self.locks in
-    let q2 = c.requeue.new.self.locks in
-    let q3 = c.join_armed.new.self.locks in
-    in_armed_is (get q3 k) (get q2 k) (c.join_armed.ensures.kin k) ∙ requeued_is (get q2 k) (get q1 k) (c.requeue.ensures.kin k) ∙ in_armed_is (get q1 k) (get q k) (c.leave_armed.ensures.kin k)
-
-pub returns-clause-rest : goal.returns-clause-rest
-returns-clause-rest c k =
-    let q = c.args.self.now.resources in
-    let q1 = c.leave_armed.new.self.resources in
-    let q2 = c.requeue.new.self.resources in
-    let q3 = c.join_armed.new.self.resources in
-    armed_queues q2 q3 c.join_armed.ensures.rest k ∙ counted_queues q1 q2 c.requeue.ensures.rest k ∙ armed_queues q q1 c.leave_armed.ensures.rest k
+pub returns-clause-kept : goal.returns-clause-kept
+returns-clause-kept c = record {
+  kin = λ k.
+      let q = c.args.self.now.locks in
+      let q1 = c.leave_armed.new.self.locks in
+      let q2 = c.requeue.new.self.locks in
+      let q3 = c.join_armed.new.self.locks in
+      in_armed_is (get q3 k) (get q2 k) (c.join_armed.ensures.places.records.kin k) ∙ requeued_is (get q2 k) (get q1 k) (c.requeue.ensures.kept.kin k) ∙ in_armed_is (get q1 k) (get q k) (c.leave_armed.ensures.places.records.kin k);
+  rest = λ k.
+      let q = c.args.self.now.resources in
+      let q1 = c.leave_armed.new.self.resources in
+      let q2 = c.requeue.new.self.resources in
+      let q3 = c.join_armed.new.self.resources in
+      armed_queues q2 q3 c.join_armed.ensures.places.records.rest k ∙ counted_queues q1 q2 c.requeue.ensures.kept.rest k ∙ armed_queues q q1 c.leave_armed.ensures.places.records.rest k;
+  locks_room = c.join_armed.ensures.places.records.locks_room ∙ c.requeue.ensures.kept.locks_room ∙ c.leave_armed.ensures.places.records.locks_room;
+  resources_room = c.join_armed.ensures.places.records.resources_room ∙ c.requeue.ensures.kept.resources_room ∙ c.leave_armed.ensures.places.records.resources_room;
+}
 
 pub returns-clause-laid_out : goal.returns-clause-laid_out
 returns-clause-laid_out c = record {
-  placed = c.join_armed.ensures.placed;
-  tallied = c.join_armed.ensures.tallied;
+  placed = c.join_armed.ensures.places.placed;
+  tallied = c.join_armed.ensures.places.tallied;
   armed = c.join_armed.ensures.armed;
 }

@@ -1,16 +1,17 @@
 use Rattle.vlm_records.proofs.Rooms.{room_relinked}
-use Rattle.std.proofs.Common.{ap, sym, ◌∙◌}
+use Rattle.std.proofs.Common.{ap, rules, sym, ◌∙◌}
 use Rattle.std.proofs.lemmas.Option.{none-some}
 use Rattle.vlm_records.specs.Shown.{noted_in, room_in, with_queue_links}
 use Rattle.vlm_records.proofs.Places.{stands_there, taken-handles, taken-placed}
 use Rattle.vlm_records.proofs.queues.Queues.take_off.Goals as goal
 
-pub unlink-requires-clause-linked : goal.unlink-requires-clause-linked
-unlink-requires-clause-linked c = rw c.list-list.ensures (c.requires.placed.linked c.index.result.now.place)
-
-pub unlink-requires-clause-listed : goal.unlink-requires-clause-listed
-unlink-requires-clause-listed c =
-    rw c.list-list.ensures (c.requires.placed.stands c.index.result.now.place c.args.at (λ same. none-some c.args.at (sym same)) (ap noted_in c.index.ensures))
+pub unlink-requires : goal.unlink-requires
+unlink-requires c =
+    rw c.list-list.ensures
+    (record {
+      linked = c.requires.placed.linked c.index.result.now.place;
+      listed = c.requires.placed.stands c.index.result.now.place c.args.at (λ same. none-some c.args.at (sym same)) (ap noted_in c.index.ensures);
+    })
 
 pub set_list-requires : goal.set_list-requires
 set_list-requires c =
@@ -29,5 +30,10 @@ returns-clause-handles c =
     c.unlink.ensures.linked (rw c.list-list.ensures at c.unlink.ensures.handles) (rw c.list-list.ensures at c.unlink.ensures.others) c.unlink.ensures.relinks
     c.set_list.ensures.here c.set_list.ensures.elsewhere c.set_list.ensures.locks
 
-pub returns-clause-locks_room : goal.returns-clause-locks_room
-returns-clause-locks_room c = ap room_in c.set_list.ensures.locks ∙ room_relinked with_queue_links c.args.self.now.locks c.unlink.new.nodes c.unlink.ensures.relinks
+pub returns-clause-kept : goal.returns-clause-kept
+returns-clause-kept c = record {
+  kin = search rules;
+  rest = search rules;
+  locks_room = ap room_in c.set_list.ensures.locks ∙ room_relinked with_queue_links c.args.self.now.locks c.unlink.new.nodes c.unlink.ensures.relinks;
+  resources_room = c.set_list.ensures.resources_room;
+}

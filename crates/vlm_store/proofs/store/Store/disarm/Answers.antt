@@ -25,7 +25,7 @@ invariant_of-self c =
     let s = c.self.inside in
     let kept = c.self.invariant in
     let q' = c.disarm.new.self in
-    let rest = c.disarm.ensures.rest in
+    let rest = c.disarm.ensures.kept.rest in
     record {
       placed = c.disarm.ensures.laid_out.placed;
       tallied = c.disarm.ensures.laid_out.tallied;
@@ -33,11 +33,11 @@ invariant_of-self c =
       line = line_disarmed s.queues q' s.line kept.placed c.disarm.ensures.laid_out.placed c.disarm.ensures.line c.disarm.ensures.handles kept.line;
       linked = order_linked but_queues (λ r. refl) s.queues.resources q'.resources rest s.order kept.linked;
       ordered = order_whole but_queues (λ r. refl) s.queues.resources q'.resources rest s.order kept.linked kept.ordered;
-      locks = Indexes-same (get nat_eq s.lock_index) (get nat_eq s.lock_index) (lkid_at s.queues) (lkid_at q') (λ k. refl) (queued_lkids s.processes s.queues.locks q'.locks c.disarm.ensures.kin) kept.locks;
+      locks = Indexes-same (get nat_eq s.lock_index) (get nat_eq s.lock_index) (lkid_at s.queues) (lkid_at q') (λ k. refl) (queued_lkids s.processes s.queues.locks q'.locks c.disarm.ensures.kept.kin) kept.locks;
       resources = Indexes-same (get is_same_key s.resource_index) (get is_same_key s.resource_index) (key_at s.queues) (key_at q') (λ k. refl) (keys_same but_queues (λ r. refl) s.queues.resources q'.resources rest) kept.resources;
-      owned = queued_owned s.processes s.queues.locks q'.locks c.disarm.ensures.kin None kept.owned;
-      below = queued_below s.processes s.queues.locks q'.locks c.disarm.ensures.kin None kept.below;
-      named = queued_named s.processes s.queues.locks q'.locks c.disarm.ensures.kin kept.named;
+      owned = queued_owned s.processes s.queues.locks q'.locks c.disarm.ensures.kept.kin None kept.owned;
+      below = queued_below s.processes s.queues.locks q'.locks c.disarm.ensures.kept.kin None kept.below;
+      named = queued_named s.processes s.queues.locks q'.locks c.disarm.ensures.kept.kin kept.named;
       processes_linked = kept.processes_linked;
       processes_ordered = kept.processes_ordered;
       processes = kept.processes;
@@ -49,11 +49,11 @@ pub returns : goal.returns
 returns c =
     let s = c.self.inside in
     let q' = c.disarm.new.self in
-    let rest = c.disarm.ensures.rest in
+    let rest = c.disarm.ensures.kept.rest in
     let is = rw c.slot.ensures at c.disarm.ensures in
     rw (← c.self.view_is)
     (lists_changed (tables s.queues s.order (beside_shown s)) (tables q' s.order (beside_shown (record s { queues = q' }))) (disarming c.args.lock) (faces_same s.queues.resources q'.resources rest)
     (λ p. ap (map (under_handle (rows q'))) (is.handles p) ∙ disarming-under_handle (rows s.queues) (rows q') c.args.lock is.row is.rows p (handles_at s.queues p))
     (order_handles but_queues (λ r. refl) s.queues.resources q'.resources rest s.order c.self.invariant.linked)
-    (queued_processes s.processes s.queues.locks q'.locks c.disarm.ensures.kin s.process_order c.self.invariant.owned c.self.invariant.below)
-    (queues_room s q' c.disarm.ensures.locks_room c.disarm.ensures.resources_room))
+    (queued_processes s.processes s.queues.locks q'.locks c.disarm.ensures.kept.kin s.process_order c.self.invariant.owned c.self.invariant.below)
+    (queues_room s q' c.disarm.ensures.kept.locks_room c.disarm.ensures.kept.resources_room))

@@ -60,7 +60,7 @@ pub join_line-requires-clause-present : goal.join_line-requires-clause-present
 join_line-requires-clause-present c =
     let s = c.self.inside in
     let is = rw (← c.self.view_is) at c.requires.lock in
-    there_through but_queued c.leave_line.new.locks c.move_to.new.self.locks c.move_to.ensures.kin c.slot-at.result
+    there_through but_queued c.leave_line.new.locks c.move_to.new.self.locks c.move_to.ensures.kept.kin c.slot-at.result
     (there_through but_in_line s.queues.locks c.leave_line.new.locks c.leave_line.ensures.rest c.slot-at.result
     (rw c.slot-at.ensures (stored_there s.queues s.order (beside_shown s) c.self.invariant.placed c.args.lock is.0 is.1.0).0))
 
@@ -79,10 +79,10 @@ invariant_of-self c =
     let locks3 = c.join_line.new.locks in
     let q3 = record q2 { locks = locks3 } in
     let moved = c.move_to.ensures in
-    let rest = moved.rest in
+    let rest = moved.kept.rest in
     let kin3 = line_kin q2.locks locks3 c.join_line.ensures.rest in
     let placed3 = kin_placed q2 locks3 kin3 moved.laid_out.placed in
-    let queued = same_then but_queued s.queues.locks q2.locks locks3 (same_then but_queued s.queues.locks locks1 q2.locks (line_queued s.queues.locks locks1 c.leave_line.ensures.rest) moved.kin)
+    let queued = same_then but_queued s.queues.locks q2.locks locks3 (same_then but_queued s.queues.locks locks1 q2.locks (line_queued s.queues.locks locks1 c.leave_line.ensures.rest) moved.kept.kin)
     (line_queued q2.locks locks3 c.join_line.ensures.rest) in
     record {
       placed = placed3;
@@ -111,7 +111,7 @@ returns c =
     let locks1 = c.leave_line.new.locks in
     let locks3 = c.join_line.new.locks in
     let q3 = record q2 { locks = locks3 } in
-    let rest = c.move_to.ensures.rest in
+    let rest = c.move_to.ensures.kept.rest in
     let moved = rw c.slot-at.ensures at c.move_to.ensures in
     let kin1 = line_kin s.queues.locks locks1 c.leave_line.ensures.rest in
     let kin3 = line_kin q2.locks locks3 c.join_line.ensures.rest in
@@ -119,7 +119,7 @@ returns c =
     let handles3 = kin_handles q2 locks3 kin3 moved.laid_out.placed in
     let rows1 = kin_rows s.queues locks1 kin1 in
     let rows3 = kin_rows q2 locks3 kin3 in
-    let queued = same_then but_queued s.queues.locks q2.locks locks3 (same_then but_queued s.queues.locks locks1 q2.locks (line_queued s.queues.locks locks1 c.leave_line.ensures.rest) moved.kin)
+    let queued = same_then but_queued s.queues.locks q2.locks locks3 (same_then but_queued s.queues.locks locks1 q2.locks (line_queued s.queues.locks locks1 c.leave_line.ensures.rest) moved.kept.kin)
     (line_queued q2.locks locks3 c.join_line.ensures.rest) in
     rw (← c.self.view_is)
     (lists_changed (tables s.queues s.order (beside_shown s)) (tables q3 s.order (beside_shown (record s { queues = q3; line = c.join_line.new.line }))) (moving c.args.to (record { at = c.args.lock; row = c.args.row }))
@@ -128,7 +128,7 @@ returns c =
     (handles3 c.args.to ∙ moved.here ∙ ap (λ ks. without c.args.lock ks ++ c.args.lock ∷ []) (handles1 c.args.to)) (λ p differs. handles3 p ∙ moved.elsewhere p differs ∙ ap (without c.args.lock) (handles1 p)))
     (order_handles but_queues (λ r. refl) s.queues.resources q3.resources rest s.order kept.linked)
     (queued_processes s.processes s.queues.locks locks3 queued s.process_order kept.owned kept.below)
-    (queues_room s q3 (c.join_line.ensures.room ∙ c.move_to.ensures.locks_room ∙ c.leave_line.ensures.room) c.move_to.ensures.resources_room))
+    (queues_room s q3 (c.join_line.ensures.room ∙ c.move_to.ensures.kept.locks_room ∙ c.leave_line.ensures.room) c.move_to.ensures.kept.resources_room))
 
 pub move_to-requires-clause-laid_out : goal.move_to-requires-clause-laid_out
 move_to-requires-clause-laid_out c = record {

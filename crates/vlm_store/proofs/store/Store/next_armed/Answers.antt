@@ -1,7 +1,7 @@
 use Rattle.std.proofs.Common.{◌∙◌, ap, subst, sym}
-use Rattle.vlm_links.specs.Lists.{IsIn, handle_after}
+use Rattle.vlm_links.specs.Lists.{Lists, handle_after}
 use Rattle.vlm_links.proofs.Walks.{handle_after-in}
-use Rattle.vlm_records.specs.Armed.{armed_list_handles}
+use Rattle.vlm_records.specs.Armed.{armed_links, armed_list_handles, armed_list_in}
 use Rattle.vlm_store.specs.Records.{at_after}
 use Rattle.vlm_records.specs.Shown.{rows}
 use Rattle.vlm_store.proofs.ArmedSeen.{armed_at_listed, armed_listed, armed_shown, resource_is_there}
@@ -11,12 +11,16 @@ use Rattle.vlm_store.proofs.store.Store.next_armed.Goals as goal
 pub index-requires : goal.index-requires
 index-requires c = rw c.slot.ensures (resource_is_there c.self.inside c.self.invariant c.args.res (rw (← c.self.view_is) at c.requires.there))
 
-pub next-requires-clause-listed : goal.next-requires-clause-listed
-next-requires-clause-listed c =
+pub next-requires : goal.next-requires
+next-requires c =
     let s = c.self.inside in
     let has = rw (← c.self.view_is) at c.requires.there in
-    let listed = armed_listed s c.self.invariant c.args.res has c.index.result.now (rw c.slot.ensures at c.index.ensures) in
-    rw c.slot-2.ensures (subst (IsIn c.args.lock) (sym listed) (armed_at_listed s c.self.invariant c.args.res has c.args.lock (rw (← c.self.view_is) at c.requires.armed)))
+    rw c.slot-2.ensures
+    (subst (λ l. Lists armed_links s.queues.locks l c.args.lock) (ap armed_list_in (rw c.slot.ensures at c.index.ensures))
+    (record {
+      linked = c.self.invariant.armed.linked c.args.res;
+      listed = armed_at_listed s c.self.invariant c.args.res has c.args.lock (rw (← c.self.view_is) at c.requires.armed);
+    }))
 
 pub of-requires : goal.of-requires
 of-requires c =

@@ -7,10 +7,14 @@ use Rattle.vlm_store.proofs.Layouts.{HasResource-order, resource_after-is}
 use Rattle.vlm_store.specs.Kept.{beside_shown}
 use Rattle.vlm_store.proofs.store.Store.next_resource.Goals as goal
 
-pub next-requires-clause-listed : goal.next-requires-clause-listed
-next-requires-clause-listed c =
+pub next-requires : goal.next-requires
+next-requires c =
     let s = c.self.inside in
-    rw c.slot.ensures (HasResource-order (tables s.queues s.order (beside_shown s)) c.args.res (rw (← c.self.view_is) at c.requires))
+    rw c.slot.ensures
+    (record {
+      linked = c.self.invariant.linked;
+      listed = HasResource-order (tables s.queues s.order (beside_shown s)) c.args.res (rw (← c.self.view_is) at c.requires);
+    })
 
 pub of-requires : goal.of-requires
 of-requires c =

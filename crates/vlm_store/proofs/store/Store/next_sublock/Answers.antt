@@ -1,8 +1,8 @@
 use Rattle.std.proofs.Common.{◌∙◌, ap, sym, subst}
 use Rattle.std.proofs.lemmas.Option.{none-some}
-use Rattle.vlm_links.specs.Lists.{IsIn, handle_after}
+use Rattle.vlm_links.specs.Lists.{Lists, handle_after}
 use Rattle.vlm_links.proofs.Walks.{handle_after-in}
-use Rattle.vlm_records.specs.Kin.{below_handles, parent_in}
+use Rattle.vlm_records.specs.Kin.{below_handles, below_in, below_links, parent_in}
 use Rattle.vlm_store.proofs.Living.{lock_there}
 use Rattle.vlm_store.proofs.Siblings.{below_listed, below_of_lock, seen_below, unseen_below}
 use Rattle.vlm_store.proofs.store.Store.next_sublock.Goals as goal
@@ -16,11 +16,16 @@ pub returns-in_default-clause-after : goal.returns-in_default-clause-after
 returns-in_default-clause-after c parent found =
     absurd (unseen_below c.self.inside c.self.invariant c.args.lock parent (ap parent_in (rw c.slot.ensures at c.index.ensures) ∙ c.in_default.is) (rw (← c.self.view_is) at found))
 
-pub next-requires-clause-listed : goal.next-requires-clause-listed
-next-requires-clause-listed c =
+pub next-requires : goal.next-requires
+next-requires c =
+    let s = c.self.inside in
     let notes = ap parent_in (rw c.slot.ensures at c.index.ensures) ∙ c.in-Some.is in
-    let listed = below_listed c.self.inside c.self.invariant c.in-Some.parent c.index-2.result.now (rw c.slot-2.ensures at c.index-2.ensures) in
-    rw c.slot-3.ensures (subst (IsIn c.args.lock) (sym listed) (c.self.invariant.below.stands c.in-Some.parent c.args.lock (λ e. none-some c.args.lock (sym e)) notes))
+    rw c.slot-3.ensures
+    (subst (λ l. Lists below_links s.queues.locks l c.args.lock) (ap below_in (rw c.slot-2.ensures at c.index-2.ensures))
+    (record {
+      linked = c.self.invariant.below.linked c.in-Some.parent;
+      listed = c.self.invariant.below.stands c.in-Some.parent c.args.lock (λ e. none-some c.args.lock (sym e)) notes;
+    }))
 
 pub of-requires : goal.of-requires
 of-requires c =

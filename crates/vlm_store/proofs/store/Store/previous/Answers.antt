@@ -22,12 +22,15 @@ index-requires c =
     let stored = rw (← c.self.view_is) at c.requires in
     rw c.slot.ensures (stored_there s.queues s.order (beside_shown s) c.self.invariant.placed c.args.lock stored.0 stored.1).0
 
-pub previous-requires-clause-listed : goal.previous-requires-clause-listed
-previous-requires-clause-listed c =
+pub previous-requires : goal.previous-requires
+previous-requires c =
     let s = c.self.inside in
     let place = c.index.result.now.place in
     rw (c.list-list.ensures, c.slot-2.ensures)
-    (c.self.invariant.placed.stands place c.args.lock (λ e. none-some c.args.lock (sym e)) (ap noted_in (rw c.slot.ensures at c.index.ensures)))
+    (record {
+      linked = c.self.invariant.placed.linked place;
+      listed = c.self.invariant.placed.stands place c.args.lock (λ e. none-some c.args.lock (sym e)) (ap noted_in (rw c.slot.ensures at c.index.ensures));
+    })
 
 pub of-requires : goal.of-requires
 of-requires c =

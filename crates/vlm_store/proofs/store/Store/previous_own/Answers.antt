@@ -1,8 +1,8 @@
 use Rattle.std.proofs.Common.{◌∙◌, ap, sym, subst}
 use Rattle.std.proofs.lemmas.Option.{none-some}
-use Rattle.vlm_links.specs.Lists.{IsIn, handle_before}
+use Rattle.vlm_links.specs.Lists.{Lists, handle_before}
 use Rattle.vlm_links.proofs.Walks.{handle_before-in}
-use Rattle.vlm_records.specs.Kin.{own_handles, owner_in}
+use Rattle.vlm_records.specs.Kin.{own_handles, own_in, own_links, owner_in}
 use Rattle.vlm_store.proofs.Living.{lock_there}
 use Rattle.vlm_store.proofs.Siblings.{own_listed, own_of_lock}
 use Rattle.vlm_store.proofs.store.Store.previous_own.Goals as goal
@@ -12,12 +12,16 @@ index-requires c =
     let stored = rw (← c.self.view_is) at c.requires in
     rw c.slot.ensures (lock_there c.self.inside c.self.invariant c.args.lock stored.0 stored.1).0
 
-pub previous-requires-clause-listed : goal.previous-requires-clause-listed
-previous-requires-clause-listed c =
-    let listed = own_listed c.self.inside c.self.invariant c.index.result.now.owner c.index-2.result.now (rw c.slot-2.ensures at c.index-2.ensures) in
+pub previous-requires : goal.previous-requires
+previous-requires c =
+    let s = c.self.inside in
+    let owner = c.index.result.now.owner in
     rw c.slot-3.ensures
-    (subst (IsIn c.args.lock) (sym listed)
-    (c.self.invariant.owned.stands c.index.result.now.owner c.args.lock (λ e. none-some c.args.lock (sym e)) (ap owner_in (rw c.slot.ensures at c.index.ensures))))
+    (subst (λ l. Lists own_links s.queues.locks l c.args.lock) (ap own_in (rw c.slot-2.ensures at c.index-2.ensures))
+    (record {
+      linked = c.self.invariant.owned.linked owner;
+      listed = c.self.invariant.owned.stands owner c.args.lock (λ e. none-some c.args.lock (sym e)) (ap owner_in (rw c.slot.ensures at c.index.ensures));
+    }))
 
 pub of-requires : goal.of-requires
 of-requires c =

@@ -1,0 +1,38 @@
+-- What stays as the locks of a resource leave their lists, join them and are counted.
+use Rattle.std.specs.Prelude.{◌≡◌, ◌≢◌, ℕ, None}
+use Rattle.slab.specs.Slab.{get}
+use Rattle.vlm_records.specs.declared.handles.Place.{Place}
+use Rattle.vlm_records.specs.declared.locks.Lock.{Lock}
+use Rattle.vlm_records.specs.declared.queues.Queues.{Queues}
+use Rattle.vlm_records.specs.declared.resources.Resource.{Resource}
+use Rattle.vlm_records.specs.Shown.{IsPlaced, IsTallied, SameBut, but_armed, but_in_armed, but_requeued, but_tally, handles_at, room_in, rows}
+
+-- each lock and each resource shows what it showed, and both have the room that they had
+pub record Keeps (of_lock : Lock → Lock) (of_resource : Resource → Resource) (old new : Queues) : Type 0 where
+  pub kin : SameBut of_lock old.locks new.locks
+  pub rest : SameBut of_resource old.resources new.resources
+  pub locks_room : room_in new.locks ≡ room_in old.locks
+  pub resources_room : room_in new.resources ≡ room_in old.resources
+
+-- each lock stands where it stood, with its row, as one leaves the armed locks of its resource or joins them
+pub record KeepsPlaces (old new : Queues) : Type 0 where
+  pub placed : IsPlaced new None
+  pub tallied : IsTallied new None
+  pub handles : (place : Place) → handles_at new place ≡ handles_at old place
+  pub rows : (other : ℕ) → rows new other ≡ rows old other
+  pub records : Keeps but_in_armed but_armed old new
+
+-- the counts of resources alone are written
+pub record WritesCounts (old new : Queues) : Type 0 where
+  pub locks : new.locks ≡ old.locks
+  pub loose : new.loose ≡ old.loose
+  pub rest : SameBut but_tally old.resources new.resources
+  pub resources_room : room_in new.resources ≡ room_in old.resources
+
+-- the record of one lock alone is written, and there what it holds and wants, or its place
+pub record WritesLock (at : ℕ) (old new : Queues) : Type 0 where
+  pub others : (other : ℕ) → other ≢ at → get new.locks other ≡ get old.locks other
+  pub kin : SameBut but_requeued old.locks new.locks
+  pub resources : new.resources ≡ old.resources
+  pub loose : new.loose ≡ old.loose
+  pub locks_room : room_in new.locks ≡ room_in old.locks
