@@ -78,6 +78,18 @@ module _ (first : State) where
   pub part : {last : State} (before behind : List Entry) → JournalFrom first (before ++ behind) last → Parts before behind last
   part before behind journal = part_all before behind (by_end behind) journal refl
 
+  -- the last entry of a journal, and the journal before it
+  pub last_of : {all : List Entry} {last : State} (before : List Entry) (x : Entry) → JournalFrom first all last → all ≡ before ++ x ∷ []
+      → (old : State) × JournalFrom first before old × IsAllowed x × Outcome old x.step last x.answer
+  last_of before x begin is = absurd (not_empty before x (sym is))
+  last_of {last = last} before x (next {entries} {old} {entry = entry} journal allowed outcome) is =
+      let same = same_end entries before entry x is in (
+        old,
+        subst (λ (es : List Entry). JournalFrom first es old) same.0 journal,
+        subst IsAllowed same.1 allowed,
+        subst (λ (e : Entry). Outcome old e.step last e.answer) same.1 outcome,
+      )
+
   -- ---- journals as runs
 
   pub run_of : {entries : List Entry} {last : State} → JournalFrom first entries last → Legal first (steps_of entries) (answers_of entries) last

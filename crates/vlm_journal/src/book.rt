@@ -1,15 +1,18 @@
 //! The core with its journal: each step that is made is written down.
 
-ghost use Rattle.std.specs.Prelude.{◌≡◌, ◌∷◌, ◌+◌, ◌++◌, ◌-◌, ◌^◌, ◌/◌, ◌<◌, ◌≤◌, [], OnErr, OnOk, Some, length, min};
+ghost use Rattle.std.specs.Prelude.{◌≡◌, ◌⊎◌, ◌∷◌, ◌+◌, ◌++◌, ◌-◌, ◌^◌, ◌/◌, ◌<◌, ◌≤◌, ℕ, [], OnErr, OnOk, Some, length, min};
+ghost use Rattle.vlm_words.specs.declared.conditions.Cond.TheVariants.{Departed, Normal};
 ghost use Rattle.vlm_words.specs.Pending.{first_pending};
+ghost use Rattle.vlm_words.specs.Reasons.{HasDeparted};
 ghost use Rattle.vlm_words.specs.State.{start};
 ghost use Rattle.vlm_words.specs.Stepped.{Outcome};
 ghost use Rattle.vlm_journal.specs.Books.{GoesOn};
+ghost use Rattle.vlm_journal.specs.Departed.{StaysDeparted};
 ghost use Rattle.vlm_journal.specs.Journals.{IsPostOf, JournalFrom};
 ghost use Rattle.vlm_journal.specs.Lengthening.{LengthensLittle};
 
 use crate::entries::{Entry, Part};
-use crate::laws::{law_draw, law_entry};
+use crate::laws::{law_departed, law_draw, law_entry};
 use std::alloc::{AllocError, Global};
 use std::marker::Model;
 use std::mem;
@@ -80,12 +83,17 @@ impl Book {
         ensures outcome { Outcome self.old.state step self.new.state result }
         ensures entries { self.new.entries ≡ self.old.entries
             ++ record { sender = sender; step = step; answer = result } ∷ [] }
-        ensures leads { JournalFrom self.old.state (record { sender = sender; step = step; answer = result } ∷ []) self.new.state }
-        ensures told { LengthensLittle self.old.entries (record { sender = sender; step = step; answer = result }) }
+        ensures leads { JournalFrom self.old.state
+            (record { sender = sender; step = step; answer = result } ∷ []) self.new.state }
+        ensures departed { (node : ℕ) → HasDeparted self.old.state node → StaysDeparted node
+            (record { sender = sender; step = step; answer = result } ∷ []) self.new.state }
+        ensures told { LengthensLittle self.old.entries
+            (record { sender = sender; step = step; answer = result }) }
         ensures base { self.new.base ≡ self.old.base }
         ensures room { self.new.room + 1 ≡ self.old.room }
     {
         law_entry();
+        law_departed();
         let asked = step;
         let answer = self.core.step(step);
         self.entries.push_reserved(entry(sender, asked, answer));
@@ -105,11 +113,19 @@ impl Book {
     pub fn draw(&mut self, node: u8, pid: u32) -> Ast
         requires room { 0 < self.old.room }
         requires pending { first_pending node self.old.state.processes ≡ Some pid }
-        ensures outcome { Outcome self.old.state (Step.Take pid) self.new.state (Answer.Taken (Some result)) }
-        ensures entries { self.new.entries ≡ self.old.entries
-            ++ record { sender = 0; step = Step.Take pid; answer = Answer.Taken (Some result) } ∷ [] }
+        ensures outcome { Outcome self.old.state (Step.Take pid) self.new.state
+            (Answer.Taken (Some result)) }
+        ensures entries { self.new.entries ≡ self.old.entries ++ record {
+          sender = 0;
+          step = Step.Take pid;
+          answer = Answer.Taken (Some result);
+        } ∷ [] }
         ensures leads { JournalFrom self.old.state
-            (record { sender = 0; step = Step.Take pid; answer = Answer.Taken (Some result) } ∷ []) self.new.state }
+            (record { sender = 0; step = Step.Take pid; answer = Answer.Taken (Some result) } ∷ [])
+            self.new.state }
+        ensures departed { (gone : ℕ) → HasDeparted self.old.state gone → StaysDeparted gone
+            (record { sender = 0; step = Step.Take pid; answer = Answer.Taken (Some result) } ∷ [])
+            self.new.state }
         ensures told { LengthensLittle self.old.entries
             (record { sender = 0; step = Step.Take pid; answer = Answer.Taken (Some result) }) }
         ensures node { pid / 65536 ≡ node }
@@ -118,6 +134,7 @@ impl Book {
     {
         law_draw();
         law_entry();
+        law_departed();
         let answer = self.core.step(Step::Take(pid));
         let ast = ast_of(answer);
         self.entries
@@ -134,12 +151,17 @@ impl Book {
             ++ record { sender = 0; step = Step.Leave node; answer = result } ∷ [] }
         ensures leads { JournalFrom self.old.state
             (record { sender = 0; step = Step.Leave node; answer = result } ∷ []) self.new.state }
+        ensures departed { (gone : ℕ) → HasDeparted self.old.state gone → StaysDeparted gone
+            (record { sender = 0; step = Step.Leave node; answer = result } ∷ []) self.new.state }
+        ensures leaves { (result ≡ Answer.Plain Normal) ⊎ (result ≡ Answer.Plain Departed)
+            → HasDeparted self.new.state node }
         ensures told { LengthensLittle self.old.entries
             (record { sender = 0; step = Step.Leave node; answer = result }) }
         ensures base { self.new.base ≡ self.old.base }
         ensures room { self.new.room + 1 ≡ self.old.room }
     {
         law_entry();
+        law_departed();
         let answer = self.core.step(Step::Leave(node));
         let written = entry(0, Step::Leave(node), answer);
         self.entries.push_reserved(written);

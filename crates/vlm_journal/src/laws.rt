@@ -1,15 +1,17 @@
 //! What holds of every journal. The functions do nothing, but that some call a law that they rest on: their contracts are
 //! the laws.
 
-ghost use Rattle.std.specs.Prelude.{◌≡◌, ◌↔◌, ◌++◌, ◌<◌, ◌≤◌, ℕ, All, List, [], Some};
+ghost use Rattle.std.specs.Prelude.{◌≡◌, ◌↔◌, ◌∷◌, ◌++◌, ◌<◌, ◌≤◌, ℕ, All, List, [], Some};
 ghost use Rattle.vlm_words.specs.declared.steps.Answer.{Answer};
 ghost use Rattle.vlm_words.specs.declared.steps.Step.TheVariants.{Take};
 ghost use Rattle.vlm_words.specs.Pending.{first_pending};
+ghost use Rattle.vlm_words.specs.Reasons.{HasDeparted};
 ghost use Rattle.vlm_words.specs.Runs.{History, Legal, Run};
 ghost use Rattle.vlm_words.specs.State.{State};
 ghost use Rattle.vlm_words.specs.Stepped.{Outcome};
 ghost use Rattle.vlm_journal.specs.declared.entries.Entry.{Entry};
-ghost use Rattle.vlm_journal.specs.Departed.{IsAnsweredDeparted};
+ghost use Rattle.vlm_journal.specs.Books.{GoesOn};
+ghost use Rattle.vlm_journal.specs.Departed.{IsAnsweredDeparted, ShowsDeparture, StaysDeparted};
 ghost use Rattle.vlm_journal.specs.Drawing.{GivesAst};
 ghost use Rattle.vlm_journal.specs.Journals.{IsAllowed, Journal, JournalFrom, answers_of, steps_of};
 ghost use Rattle.vlm_journal.specs.Lengthening.{IsSilent, LengthensLittle};
@@ -42,14 +44,22 @@ pub fn law_join()
 /// that AST.
 pub fn law_entry()
     ensures first { IsSilent [] }
-    ensures more { (entries : List Entry) (entry : Entry) → IsAllowed entry → LengthensLittle entries entry }
+    ensures more { (entries : List Entry) (entry : Entry) → IsAllowed entry
+        → LengthensLittle entries entry }
 {}
 
 /// Once the departure of a node is accepted, whether the node asked for it or the hub, each entry of the node is answered
-/// DEPARTED.
+/// DEPARTED. An entry by which a node departs, or is told that it has, leads to a state in which it has departed; from
+/// such a state on, cut or not, each entry of the node is answered DEPARTED, and it has departed still.
 pub fn law_departed()
-    ensures { (entries : List Entry) (last : State) → Journal entries last
+    ensures answered { (entries : List Entry) (last : State) → Journal entries last
         → (node : ℕ) → 0 < node → IsAnsweredDeparted node entries }
+    ensures departs { (base : ℕ) (entries : List Entry) (entry : Entry) (last : State)
+        → GoesOn base (entries ++ entry ∷ []) last
+        → (node : ℕ) → ShowsDeparture node entry → HasDeparted last node }
+    ensures since { (base : ℕ) (entries more : List Entry) (between last : State)
+        → GoesOn base entries between → JournalFrom between more last
+        → (node : ℕ) → HasDeparted between node → StaysDeparted node more last }
 {
     law_a_departed_node_is_answered_departed();
 }
@@ -59,7 +69,8 @@ pub fn law_departed()
 pub fn law_draw()
     ensures { (history : History) (last : State) → Run history last
         → (node pid : ℕ) → first_pending node last.processes ≡ Some pid
-        → (new : State) (answer : Answer) → Outcome last (Take pid) new answer → GivesAst node pid answer }
+        → (new : State) (answer : Answer) → Outcome last (Take pid) new answer
+        → GivesAst node pid answer }
 {
     law_a_departed_node_is_answered_departed();
     law_no_process_of_a_departed_node_lives();

@@ -320,6 +320,7 @@ pub told_always : (history : History) (last : State) → Run history last → De
 told_always history last run =
     let followed : IsFollowed history last = followed_always history last run in
     record {
+      departed = λ node. (followed.only node, followed.gone node);
       told = λ node left step of_node new answer outcome.
           refused_outcome Departed last new step answer
           (told_by_checks last node (given_always history last run).eight (followed.gone node left) step of_node) outcome;

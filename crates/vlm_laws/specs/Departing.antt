@@ -1,10 +1,11 @@
 -- Which nodes have departed, and what is so from then on.
-use Rattle.std.specs.Prelude.{◌≡◌, ◌≢◌, ◌/◌, ℕ, List, All}
+use Rattle.std.specs.Prelude.{◌≡◌, ◌≢◌, ◌↔◌, ◌/◌, ℕ, List, All}
 use Rattle.vlm_words.specs.declared.conditions.Cond.TheVariants.{Departed, Normal}
 use Rattle.vlm_words.specs.declared.steps.Answer.TheVariants.{Plain}
 use Rattle.vlm_words.specs.declared.steps.Answer.{Answer}
 use Rattle.vlm_words.specs.declared.steps.Step.TheVariants.{Declare, SetValue, Enq, Convert, Deq, Rundown, Leave, Search, Take}
 use Rattle.vlm_words.specs.declared.steps.Step.{Step}
+use Rattle.vlm_words.specs.Reasons.{HasDeparted}
 use Rattle.vlm_words.specs.State.{State}
 use Rattle.vlm_words.specs.Stepped.{Outcome}
 use Rattle.vlm_words.specs.Runs.{History}
@@ -30,8 +31,10 @@ IsDeparture node step answer = (step ≡ Leave node) × (answer ≡ Plain Normal
 abbrev pub HasLeft : ℕ → List Step → List Answer → Type 0
 HasLeft node steps answers = HasHappened (IsDeparture node) steps answers
 
--- each step of a node that has departed is answered DEPARTED, and no other step is
+-- a node has departed just where its departure was accepted; each step of such a node is answered DEPARTED, and no other
+-- step is
 pub record DepartedNodesAreToldSo (history : History) (last : State) : Type 0 where
+  pub departed : (node : ℕ) → HasDeparted last node ↔ HasLeft node history.steps history.answers
   pub told : (node : ℕ) → HasLeft node history.steps history.answers
       → (step : Step) → IsStepOf node step
       → (new : State) (answer : Answer) (outcome : Outcome last step new answer)

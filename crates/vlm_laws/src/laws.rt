@@ -96,7 +96,8 @@ pub fn law_a_warned_lock_is_in_the_way()
 
 /// A node that has departed does not come back: from its accepted departure on, to the end of the run, each step of the
 /// node or of a process of it, a second departure too, is answered DEPARTED. Such a step changes nothing, ends no
-/// request and queues nothing. No step is answered DEPARTED but that of a node whose departure was accepted.
+/// request and queues nothing. No step is answered DEPARTED but that of a node whose departure was accepted. A node has
+/// departed in the state behind the run just where its departure was accepted in it.
 pub fn law_a_departed_node_is_answered_departed()
     ensures { (history : History) (last : State) → Run history last
         → DepartedNodesAreToldSo history last }

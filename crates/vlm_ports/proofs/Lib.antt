@@ -3,3 +3,4 @@ pub mod Lines
 pub mod Resting
 pub mod Losing
 pub mod Asking
+pub mod Making

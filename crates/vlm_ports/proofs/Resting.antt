@@ -4,8 +4,13 @@ use Rattle.std.proofs.lemmas.Bool.{cases_eq}
 use Rattle.vlm_journal.specs.declared.entries.Entry.{Entry}
 use Rattle.std.specs.Prelude.{None}
 use Rattle.std.proofs.lemmas.List.{get_or-map, length-map}
+use Rattle.std.proofs.lemmas.List.Elements.{All-append, All-nil}
+use Rattle.vlm_words.specs.declared.conditions.Cond.TheVariants.{Departed}
+use Rattle.vlm_words.specs.declared.steps.Answer.TheVariants.{Plain}
 use Rattle.vlm_words.specs.Pending.{first_pending}
+use Rattle.vlm_words.specs.Reasons.{HasDeparted}
 use Rattle.vlm_words.specs.State.{State}
+use Rattle.vlm_journal.specs.Departed.{StaysDeparted}
 use Rattle.vlm_journal.specs.Journals.{JournalFrom, begin}
 use Rattle.vlm_journal.proofs.Joining.{join}
 use Rattle.vlm_ports.specs.declared.hub.Hub.{Hub}
@@ -20,15 +25,22 @@ grew_none js ks s t same stays = record {
   is = same ∙ sym (append-nil js);
   count = refl;
   legal = subst (λ (x : State). JournalFrom s [] x) (sym stays) begin;
+  departed = λ node gone. record { departed = subst (λ (x : State). HasDeparted x node) (sym stays) gone; told = All-nil _ };
 }
 
-pub grew_one : (js room ks : List Entry) (s r t : State) (e : Entry) → room ≡ js → r ≡ s → ks ≡ room ++ e ∷ [] → JournalFrom r (e ∷ []) t → Grew 1 js s ks t
-grew_one js room ks s r t e same stays is leads = record {
+pub grew_one : (js room ks : List Entry) (s r t : State) (e : Entry) → room ≡ js → r ≡ s → ks ≡ room ++ e ∷ [] → JournalFrom r (e ∷ []) t
+    → ((node : ℕ) → HasDeparted r node → StaysDeparted node (e ∷ []) t) → Grew 1 js s ks t
+grew_one js room ks s r t e same stays is leads departed = record {
   more = e ∷ [];
   is = is ∙ ap (λ (es : List Entry). es ++ e ∷ []) same;
   count = refl;
   legal = subst (λ (x : State). JournalFrom x (e ∷ []) t) stays leads;
+  departed = λ node gone. departed node (subst (λ (x : State). HasDeparted x node) (sym stays) gone);
 }
+
+-- entries behind one another of a node that had departed
+stays_on : {node : ℕ} {a b : List Entry} {t u : State} → StaysDeparted node a t → StaysDeparted node b u → StaysDeparted node (a ++ b) u
+stays_on {node} {a} {b} first then = record { departed = then.departed; told = All-append (λ (e : Entry). e.sender ≡ node → e.answer ≡ Plain Departed) a b first.told then.told }
 
 pub grew_add : {m n : ℕ} {js ks ls : List Entry} {s t u : State} → Grew m js s ks t → Grew n ks t ls u → Grew (m + n) js s ls u
 grew_add {m} {n} {js} {ks} {ls} {s} a b = record {
@@ -36,6 +48,7 @@ grew_add {m} {n} {js} {ks} {ls} {s} a b = record {
   is = b.is ∙ (ap (λ (xs : List Entry). xs ++ b.more) a.is ∙ append_assoc js a.more b.more);
   count = length-append a.more b.more ∙ (ap (λ (x : ℕ). x + length b.more) a.count ∙ ap (λ (x : ℕ). m + x) b.count);
   legal = join s a.more b.more a.legal b.legal;
+  departed = λ node gone. let first = a.departed node gone in stays_on first (b.departed node first.departed);
 }
 
 -- the lines below the next place may rest

@@ -2,9 +2,11 @@
 use Rattle.std.specs.Prelude.{◌≡◌, ◌⊎◌, ◌<◌, ◌≤◌, ◌-◌, ◌+◌, ◌++◌, ℕ, List, [], length, map, slice_get, slice_index_or, Some, None}
 use Rattle.vlm_words.specs.declared.steps.Step.{Step}
 use Rattle.vlm_words.specs.Pending.{first_pending}
+use Rattle.vlm_words.specs.Reasons.{HasDeparted}
 use Rattle.vlm_words.specs.State.{State, start}
 use Rattle.vlm_journal.specs.declared.entries.Entry.{Entry}
 use Rattle.vlm_journal.specs.declared.entries.Item.{Item}
+use Rattle.vlm_journal.specs.Departed.{StaysDeparted}
 use Rattle.vlm_journal.specs.Journals.{JournalFrom}
 use Rattle.vlm_journal.specs.Told.{asked}
 use Rattle.vlm_ports.specs.declared.hub.Hub.{Hub}
@@ -72,12 +74,22 @@ pub record IsSameBut (at : ℕ) (old new : Hub) : Type 0 where
   pub state : new.book.state ≡ old.book.state
   pub lines : (k : ℕ) (d : Line) → (k ≡ at → ⊥) → slice_index_or new.lines.items k d ≡ slice_index_or old.lines.items k d
 
--- so many entries were put at the end, and they are legal from the state before them and lead to that behind them
+-- so many entries were put at the end, they are legal from the state before them and lead to that behind them, and of a
+-- node that had departed each is answered DEPARTED
 pub record Grew (n : ℕ) (before : List Entry) (old : State) (now : List Entry) (new : State) : Type 0 where
   pub more : List Entry
   pub is : now ≡ before ++ more
   pub count : length more ≡ n
   pub legal : JournalFrom old more new
+  pub departed : (node : ℕ) → HasDeparted old node → StaysDeparted node more new
+
+-- the hub has put so many entries at the end
+abbrev pub HubGrew : ℕ → Hub → Hub → Type 0
+HubGrew n old new = Grew n (journal old) (state old) (journal new) (state new)
+
+-- the hub has put none at the end, and its state is the same
+abbrev pub IsAsWritten : Hub → Hub → Type 0
+IsAsWritten old new = (journal new ≡ journal old) × (state new ≡ state old)
 
 -- by these entries no node asks for more
 abbrev pub NoneAsks : List Entry → List Entry → Type 0

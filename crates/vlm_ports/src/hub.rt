@@ -1,6 +1,6 @@
 //! The hub: it alone owns the core and its journal.
 
-ghost use Rattle.std.specs.Prelude.{◌≡◌, ◌⊎◌, ◌≤◌, ◌<◌, ◌+◌, ◌*◌, ◌∷◌, ◌++◌, ◌-◌, ◌^◌, [], length, min, vec_len, IfOk, OnErr, IsFalse, map, ℕ};
+ghost use Rattle.std.specs.Prelude.{◌≡◌, ◌⊎◌, ◌≤◌, ◌<◌, ◌+◌, ◌*◌, ◌∷◌, ◌++◌, ◌-◌, ◌^◌, [], length, min, vec_len, IfOk, OnErr, OnOk, IsFalse, All, map, ℕ};
 ghost use Rattle.vlm_ports.specs.Links.{AreFresh, AreLinked, line_identity};
 ghost use Rattle.vlm_ports.specs.Ports.{AreNew as AreNewPorts, identity as port_identity};
 
@@ -41,6 +41,7 @@ struct Attended {
 }
 
 impl Hub {
+    ghost use Rattle.vlm_words.specs.Reasons.{HasDeparted};
     ghost use Rattle.vlm_words.specs.State.{start};
     ghost use Rattle.vlm_words.specs.declared.steps.Step.TheVariants.{Leave};
     ghost use Rattle.vlm_words.specs.declared.steps.Answer.TheVariants.{Plain};
@@ -49,7 +50,7 @@ impl Hub {
     ghost use Rattle.vlm_journal.specs.Books.{GoesOn};
     ghost use Rattle.vlm_journal.specs.Told.{asked, told};
     ghost use Rattle.vlm_ports.specs.Turns.{IsIdle, IsServed, turn_entries};
-    ghost use Rattle.vlm_ports.specs.Hubs.{EachAsksOnce, Grew, IsDrawnAt, IsNewHub, IsPortOf, IsSameBut, MayIdle, MayRestAt, NoneAsks, OneAsks, asked_before, base, bases, free_for, journal, nodes, rings, state, told_before, waiting};
+    ghost use Rattle.vlm_ports.specs.Hubs.{EachAsksOnce, HubGrew, IsAsWritten, IsDrawnAt, IsNewHub, IsPortOf, IsSameBut, MayIdle, MayRestAt, NoneAsks, OneAsks, asked_before, base, bases, free_for, journal, nodes, rings, state, told_before, waiting};
     ghost use Rattle.vlm_ports.specs.Ports.{AreNew, arrived, identity, posted, taken};
 
     /// How many nodes it serves.
@@ -74,6 +75,7 @@ impl Hub {
         ensures hub { IfOk result (λ r. IsNewHub count r.0) }
         ensures ports { IfOk result (λ r. (length r.1.items ≡ count) × AreNew r.1.items) }
         ensures rings { IfOk result (λ r. map identity r.1.items ≡ rings r.0) }
+        ensures ours { IfOk result (λ r. All (IsPortOf r.0) r.1.items) }
     {
         Hub::with_core(alloc, Core::new(alloc), count)
     }
@@ -89,6 +91,7 @@ impl Hub {
         ensures hub { IfOk result (λ r. IsNewHub count r.0) }
         ensures ports { IfOk result (λ r. (length r.1.items ≡ count) × AreNew r.1.items) }
         ensures rings { IfOk result (λ r. map identity r.1.items ≡ rings r.0) }
+        ensures ours { IfOk result (λ r. All (IsPortOf r.0) r.1.items) }
     {
         let (lines, ports) = ring_ends(alloc, count)?;
         let hub = Hub {
@@ -98,13 +101,13 @@ impl Hub {
         Ok((hub, ports))
     }
 
-    /// Attends to each node once: takes and sends at most one AST of it, and makes and answers at most one of its posts.
-    /// Idle comes only where the hub knows no free place on the item ring of any node that has an AST pending or a post
+    /// Attends to each node once: takes and sends at most one AST of it, and makes and answers at most one of its posts. What
+    /// it makes of a node that has departed, or was lost, is answered DEPARTED. Idle comes only where the hub knows no free place on the item ring of any node that has an AST pending or a post
     /// that the hub knows to lie on its request ring. It waits for nobody.
     pub fn turn(&mut self) -> Turn
         ensures rings { rings self.new ≡ rings self.old }
         ensures base { (base self.new ≡ base self.old) × (bases self.new ≡ bases self.old) }
-        ensures made { Grew (turn_entries result) (journal self.old) (state self.old) (journal self.new) (state self.new) }
+        ensures made { HubGrew (turn_entries result) self.old self.new }
         ensures some { IsServed result → 0 < turn_entries result }
         ensures most { turn_entries result ≤ 2 * nodes self.old }
         ensures once { EachAsksOnce (journal self.old) (journal self.new) }
@@ -132,11 +135,13 @@ impl Hub {
         ensures rings { rings self.new ≡ rings self.old }
         ensures base { (base self.new ≡ base self.old) × (bases self.new ≡ bases self.old) }
         ensures waiting { waiting self.new ≡ waiting self.old }
-        ensures lost { IfOk result (λ cond. journal self.new
-            ≡ journal self.old ++ record { sender = 0; step = Leave node; answer = Plain cond } ∷ []) }
-        ensures outcome { IfOk result (λ cond. Outcome (state self.old) (Leave node) (state self.new) (Plain cond)) }
+        ensures lost { IfOk result (λ cond. journal self.new ≡ journal self.old
+            ++ record { sender = 0; step = Leave node; answer = Plain cond } ∷ []) }
+        ensures outcome { IfOk result (λ cond.
+            Outcome (state self.old) (Leave node) (state self.new) (Plain cond)) }
+        ensures departed { OnOk result (HasDeparted (state self.new) node) }
         ensures answer { IfOk result (λ cond. (cond ≡ Normal) ⊎ (cond ≡ Departed)) }
-        ensures refused { OnErr result ((journal self.new ≡ journal self.old) × (state self.new ≡ state self.old)) }
+        ensures refused { OnErr result (IsAsWritten self.old self.new) }
     {
         self.book.reserve()?;
         let answer = self.book.lose(node);
@@ -172,12 +177,15 @@ impl Hub {
         ensures number { result.base ≡ base self.old }
         ensures legal { GoesOn result.base result.entries.items (state self.new) }
         ensures left { journal self.new ≡ [] }
-        ensures next { base self.new ≡ min (base self.old + length (journal self.old)) (2 ^ 64 - 1) }
+        ensures next { base self.new
+            ≡ min (base self.old + length (journal self.old)) (2 ^ 64 - 1) }
         ensures state { state self.new ≡ state self.old }
         ensures waiting { waiting self.new ≡ waiting self.old }
         ensures before { (node : ℕ) → 0 < node → node ≤ nodes self.old
-            → (asked_before self.new node ≡ asked_before self.old node ++ asked node (journal self.old))
-            × (told_before self.new node ≡ told_before self.old node ++ told node (journal self.old)) }
+            → (asked_before self.new node
+            ≡ asked_before self.old node ++ asked node (journal self.old))
+            × (told_before self.new node
+            ≡ told_before self.old node ++ told node (journal self.old)) }
     {
         self.book.cut()
     }
@@ -197,10 +205,11 @@ impl Hub {
         requires { at < nodes self.old }
         ensures rings { rings self.new ≡ rings self.old }
         ensures base { (base self.new ≡ base self.old) × (bases self.new ≡ bases self.old) }
-        ensures grew { Grew result.made (journal self.old) (state self.old) (journal self.new) (state self.new) }
+        ensures grew { HubGrew result.made self.old self.new }
         ensures most { result.made ≤ 2 }
         ensures once { OneAsks at (journal self.old) (journal self.new) }
-        ensures idle { result.made ≡ 0 → IsFalse result.refused → IsSameBut at self.old self.new × MayRestAt self.new at }
+        ensures idle { result.made ≡ 0 → IsFalse result.refused
+            → IsSameBut at self.old self.new × MayRestAt self.new at }
     {
         match self.draw(at) {
             Err(_) => Attended {
@@ -225,11 +234,11 @@ impl Hub {
         requires { at < nodes self.old }
         ensures rings { rings self.new ≡ rings self.old }
         ensures base { (base self.new ≡ base self.old) × (bases self.new ≡ bases self.old) }
-        ensures grew { IfOk result (λ n.
-            (n ≤ 1) × Grew n (journal self.old) (state self.old) (journal self.new) (state self.new)) }
+        ensures grew { IfOk result (λ n. (n ≤ 1) × HubGrew n self.old self.new) }
         ensures none_asks { IfOk result (λ n. NoneAsks (journal self.old) (journal self.new)) }
-        ensures drawn { IfOk result (λ n. n ≡ 0 → IsSameBut at self.old self.new × IsDrawnAt self.new at) }
-        ensures refused { OnErr result ((journal self.new ≡ journal self.old) × (state self.new ≡ state self.old)) }
+        ensures drawn { IfOk result (λ n. n ≡ 0
+            → IsSameBut at self.old self.new × IsDrawnAt self.new at) }
+        ensures refused { OnErr result (IsAsWritten self.old self.new) }
     {
         let line = &mut self.lines[at];
         if !line.has_place() {
@@ -251,12 +260,11 @@ impl Hub {
         requires { at < nodes self.old }
         ensures rings { rings self.new ≡ rings self.old }
         ensures base { (base self.new ≡ base self.old) × (bases self.new ≡ bases self.old) }
-        ensures grew { IfOk result (λ n.
-            (n ≤ 1) × Grew n (journal self.old) (state self.old) (journal self.new) (state self.new)) }
+        ensures grew { IfOk result (λ n. (n ≤ 1) × HubGrew n self.old self.new) }
         ensures once { IfOk result (λ n. OneAsks at (journal self.old) (journal self.new)) }
         ensures served { IfOk result (λ n. n ≡ 0
             → IsSameBut at self.old self.new × (IsDrawnAt self.old at → MayRestAt self.new at)) }
-        ensures refused { OnErr result ((journal self.new ≡ journal self.old) × (state self.new ≡ state self.old)) }
+        ensures refused { OnErr result (IsAsWritten self.old self.new) }
     {
         let line = &mut self.lines[at];
         if !line.has_known_place() {

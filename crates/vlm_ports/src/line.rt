@@ -42,7 +42,8 @@ impl Line {
     /// The rings of a node, for the hub and for the node.
     pub(crate) fn make(alloc: Global, node: u8) -> Result<(Line, Port), AllocError>
         ensures rings { IfOk result (λ r. line_identity r.0 ≡ identity r.1) }
-        ensures line { IfOk result (λ r. (r.0.node ≡ node) × (has_taken r.0 ≡ []) × (has_told r.0 ≡ [])) }
+        ensures line { IfOk result (λ r.
+            (r.0.node ≡ node) × (has_taken r.0 ≡ []) × (has_told r.0 ≡ [])) }
         ensures port { IfOk result (λ r. (r.1.node ≡ node) × (posted r.1 ≡ []) × (taken r.1 ≡ [])) }
     {
         let (to_hub, requests) = RingBuffer::new(alloc, PLACES)?;

@@ -65,8 +65,10 @@ impl Port {
         ensures same { identity self.new ≡ identity self.old }
         ensures taken { taken self.new ≡ taken self.old }
         ensures arrived { arrived self.new ≡ arrived self.old }
-        ensures ok { OnOk result (posted self.new ≡ posted self.old ++ Step.Leave self.old.node ∷ []) }
-        ensures full { OnErr result ((posted self.new ≡ posted self.old) × (free_places self.new ≡ 0)) }
+        ensures ok { OnOk result (posted self.new
+            ≡ posted self.old ++ Step.Leave self.old.node ∷ []) }
+        ensures full { OnErr result (
+            (posted self.new ≡ posted self.old) × (free_places self.new ≡ 0)) }
         ensures known { 0 < free_places self.old → IsOk result }
     {
         self.post(Step::Leave(self.node))

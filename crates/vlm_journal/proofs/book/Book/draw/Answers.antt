@@ -3,7 +3,7 @@ use Rattle.vlm_words.specs.declared.steps.Answer.TheVariants.{Taken}
 use Rattle.vlm_words.specs.declared.steps.Step.TheVariants.{Take}
 use Rattle.vlm_words.specs.Pending.{first_pending}
 use Rattle.vlm_words.specs.Stepped.{Outcome}
-use Rattle.vlm_journal.specs.Books.{Account}
+use Rattle.vlm_journal.specs.Books.{Account, GoesOn}
 use Rattle.vlm_journal.specs.Journals.{takes}
 use Rattle.vlm_journal.proofs.GoingOn.{draws, goes_on, one_leads}
 use Rattle.vlm_journal.proofs.book.Book.draw.Goals as goal
@@ -33,3 +33,8 @@ pub returns-clause-leads : goal.returns-clause-leads
 returns-clause-leads c =
     one_leads (record { sender = 0; step = Take c.args.pid; answer = Taken (Some c.ast_of-ast.result) }) (inl (refl, takes c.args.pid c.ast_of-ast.result))
     (subst (λ (b : Account). Outcome b.state (Take c.args.pid) c.step-answer.new.self (Taken (Some c.ast_of-ast.result))) c.self.view_is (rw (sym c.ast_of-ast.ensures) c.step-answer.ensures))
+
+-- who had departed is told so
+pub returns-clause-departed : goal.returns-clause-departed
+returns-clause-departed c gone =
+    c.law_departed.ensures.since _ _ _ _ _ (subst (λ (b : Account). GoesOn b.base b.entries b.state) c.self.view_is c.self.invariant) (returns-clause-leads c) gone

@@ -1,6 +1,6 @@
 use Rattle.std.proofs.Common.{inr, subst}
 use Rattle.vlm_words.specs.Stepped.{Outcome}
-use Rattle.vlm_journal.specs.Books.{Account}
+use Rattle.vlm_journal.specs.Books.{Account, GoesOn}
 use Rattle.vlm_journal.proofs.GoingOn.{goes_on, one_leads}
 use Rattle.vlm_journal.proofs.book.Book.serve.Goals as goal
 
@@ -16,3 +16,8 @@ returns-clause-told c = c.law_entry.ensures.more _ _ (inr (c.requires.sender.0, 
 pub returns-clause-leads : goal.returns-clause-leads
 returns-clause-leads c =
     one_leads (record { sender = c.args.sender; step = c.args.step; answer = c.step-answer.result }) (inr (c.requires.sender.0, c.requires.sender.1, c.requires.post)) (subst (λ (b : Account). Outcome b.state c.args.step c.step-answer.new.self c.step-answer.result) c.self.view_is c.step-answer.ensures)
+
+-- who had departed is told so
+pub returns-clause-departed : goal.returns-clause-departed
+returns-clause-departed c gone =
+    c.law_departed.ensures.since _ _ _ _ _ (subst (λ (b : Account). GoesOn b.base b.entries b.state) c.self.view_is c.self.invariant) (returns-clause-leads c) gone

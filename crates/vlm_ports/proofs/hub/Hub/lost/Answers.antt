@@ -1,6 +1,7 @@
-use Rattle.std.proofs.Common.{◌≡◌, ◌⊎◌, ◌∙◌, sym, subst}
+use Rattle.std.proofs.Common.{◌≡◌, ◌⊎◌, ◌∙◌, ap, inl, inr, sym, subst}
 use Rattle.vlm_words.specs.declared.conditions.Cond.TheVariants.{Departed, Normal}
 use Rattle.vlm_words.specs.declared.conditions.Cond.{Cond}
+use Rattle.vlm_words.specs.declared.steps.Answer.TheVariants.{Plain}
 use Rattle.vlm_ports.proofs.Lines.{lost_follows}
 use Rattle.vlm_ports.proofs.Losing.{leave_answers, same_condition}
 use Rattle.vlm_ports.proofs.hub.Hub.lost.Goals as goal
@@ -17,3 +18,8 @@ returns-clause-answer c =
     let left = leave_answers c.reserve.new.self.state c.lose-answer.new.self.state c.args.node c.lose-answer.result c.requires.node.0 c.requires.node.1 c.lose-answer.ensures.outcome in
     let P : Cond → Type 0 = λ x. (x ≡ Normal) ⊎ (x ≡ Departed) in
     subst P (same_condition left.cond c.condition_of.result (sym left.answered ∙ c.condition_of.ensures)) left.which
+
+pub returns-clause-departed : goal.returns-clause-departed
+returns-clause-departed c =
+    let left = leave_answers c.reserve.new.self.state c.lose-answer.new.self.state c.args.node c.lose-answer.result c.requires.node.0 c.requires.node.1 c.lose-answer.ensures.outcome in
+    c.lose-answer.ensures.leaves (elim left.which [ inl normal ↦ inl (left.answered ∙ ap Plain normal) | inr late ↦ inr (left.answered ∙ ap Plain late) ])

@@ -78,7 +78,7 @@ returns-clause-grew c =
     let e : Entry = record { sender = c.request-step.new.self.node; step = c.request-step.result; answer = c.serve-answer.result } in (
       omega arith,
       grew_one c.args.self.now.book.entries c.reserve.new.self.entries c.serve-answer.new.self.entries c.args.self.now.book.state c.reserve.new.self.state c.serve-answer.new.self.state e
-          c.reserve.ensures.entries c.reserve.ensures.state c.serve-answer.ensures.entries c.serve-answer.ensures.leads,
+          c.reserve.ensures.entries c.reserve.ensures.state c.serve-answer.ensures.entries c.serve-answer.ensures.leads c.serve-answer.ensures.departed,
     )
 
 pub returns-then-not-has_known_place-clause-grew : goal.returns-then-not-has_known_place-clause-grew

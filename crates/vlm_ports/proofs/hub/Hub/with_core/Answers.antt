@@ -1,7 +1,8 @@
 use Rattle.std.proofs.Common.{◌≡◌, ◌≤◌, ◌<◌, ◌-◌, ℕ, [], List, sym, subst, get_or, map, arith, length}
 use Rattle.vlm_journal.specs.declared.entries.Entry.{Entry}
-use Rattle.vlm_ports.specs.Links.{line_base, no_base}
+use Rattle.vlm_ports.specs.Links.{line_base, line_identity, no_base}
 use Rattle.vlm_ports.proofs.Lines.{none_before}
+use Rattle.vlm_ports.proofs.Making.{each_of_rings}
 use Rattle.vlm_ports.proofs.hub.Hub.with_core.Goals as goal
 
 pub returns-clause-hub : goal.returns-clause-hub
@@ -20,3 +21,6 @@ returns-clause-hub c =
       asked = λ node some within. (nothing node some within).0;
       told = λ node some within. (nothing node some within).1;
     }
+
+pub returns-clause-ours : goal.returns-clause-ours
+returns-clause-ours c = each_of_rings (map line_identity c.in_ok-lines.lines.items) c.in_ok-lines.ports.items c.in_ok-lines.ensures.ports.1 c.in_ok-lines.ensures.rings
