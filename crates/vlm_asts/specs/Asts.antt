@@ -21,18 +21,18 @@ asts_in None = []
 asts_in (Some ring) = ring.items
 
 -- how many ASTs a buffer has room for
-abbrev pub room_in : Option (Buffer Ast) → ℕ
-room_in None = 0
-room_in (Some ring) = ring.capacity
+abbrev pub ast_room : Option (Buffer Ast) → ℕ
+ast_room None = 0
+ast_room (Some ring) = ring.capacity
 
 -- what the fields show
 abbrev pub asts_shown : Inside → Asts
 asts_shown q = record {
   pending = asts_in q.ring;
   due = q.due;
-  free = room_in q.ring - (length (asts_in q.ring) + q.due);
+  free = ast_room q.ring - (length (asts_in q.ring) + q.due);
 }
 
 -- there is room for what is queued and what is owed
 pub record HasRoomForDue (q : Inside) : Type 0 where
-  pub room : length (asts_in q.ring) + q.due ≤ room_in q.ring
+  pub room : length (asts_in q.ring) + q.due ≤ ast_room q.ring

@@ -13,7 +13,7 @@ use Rattle.vlm_store.specs.Plain.{plain_resource}
 use Rattle.vlm_store.specs.Records.{AreApart, IsSound, Records, StoredLock, StoredResource, Stores, locks_at, queued, resource_at, rows_of_locks}
 use Rattle.vlm_store.proofs.Records.{queue_at, resource_is}
 use Rattle.vlm_locks.proofs.Stood.{queued_stored}
-use Rattle.vlm_cycle.specs.Waiting.{IsWaitedFor, OwnsBefore, OwnsBlocker, OwnsKeeper, rows_before, searched}
+use Rattle.vlm_cycle.specs.Waiting.{OwnsWaitedFor, OwnsBefore, OwnsBlocker, OwnsKeeper, rows_before, searched}
 use Rattle.vlm_cycle.proofs.Listed.{RowsApart, among_is, any_resource, apart_both, before_differs, before_is, before_passes, before_stops, in_either, in_first, in_second, is_among, lock_of, row_in, some_resource, split_before}
 
 -- a lock that is queued and not granted
@@ -168,7 +168,7 @@ module _ (s : Records) (sound : IsSound s) where
           pub owner : other.pid ≡ pid
           pub not_granted : queue ≢ Granted
 
-        pub waits_here : (pid : ℕ) → IsWaitedFor s lock.row pid → WaitsHere pid
+        pub waits_here : (pid : ℕ) → OwnsWaitedFor s lock.row pid → WaitsHere pid
         waits_here pid waited =
             let w = waiting_on s lock.row waited.0 waited.1.0 in
             let one : Queued own.at queue ≡ Queued w.resource.at w.stands.queue =
@@ -187,7 +187,7 @@ module _ (s : Records) (sound : IsSound s) where
 
         module _ (request : Request) (wanted : lock.row.want ≡ Some request) where
           -- whoever is waited for owns a keeper
-          pub waited_keeps : (pid : ℕ) → IsWaitedFor s lock.row pid
+          pub waited_keeps : (pid : ℕ) → OwnsWaitedFor s lock.row pid
               → OwnsKeeper lock.row.lkid request.mode queue (rows_of_locks own.granted) (rows_of_locks own.converting) (rows_of_locks own.waiting) pid
           waited_keeps pid waited =
               let w = waits_here pid waited in
@@ -217,7 +217,7 @@ module _ (s : Records) (sound : IsSound s) where
           -- and whoever owns one is waited for
           pub keeper_waited : queue ≢ Granted → has_flag (flag_bits request.flags) nodlckwt ≡ false → (pid : ℕ)
               → OwnsKeeper lock.row.lkid request.mode queue (rows_of_locks own.granted) (rows_of_locks own.converting) (rows_of_locks own.waiting) pid
-              → IsWaitedFor s lock.row pid
+              → OwnsWaitedFor s lock.row pid
           keeper_waited not counted pid keeper = elim keeper [
             | inl granted ↦
                 waited granted.0 granted.1.1.0
@@ -232,7 +232,7 @@ module _ (s : Records) (sound : IsSound s) where
             ]
           ]
             where
-              waited : (other : Row) → other.lkid ≢ lock.row.lkid → KeepsWaiting (plain_resource own) request lock.row other → other.pid ≡ pid → IsWaitedFor s lock.row pid
+              waited : (other : Row) → other.lkid ≢ lock.row.lkid → KeepsWaiting (plain_resource own) request lock.row other → other.pid ≡ pid → OwnsWaitedFor s lock.row pid
               waited other differs kept owner = (
                 other,
                 (
@@ -249,7 +249,7 @@ module _ (s : Records) (sound : IsSound s) where
                 ),
               )
 
-              of_blocker : OwnsBlocker (rows_before lock.row.lkid (queue_of (plain_resource own))) pid → IsWaitedFor s lock.row pid
+              of_blocker : OwnsBlocker (rows_before lock.row.lkid (queue_of (plain_resource own))) pid → OwnsWaitedFor s lock.row pid
               of_blocker found =
                   let whole = queue_of (plain_resource own) in
                   let split = split_before whole lock.row queue_apart (in_whole queue not among) in
@@ -266,7 +266,7 @@ module _ (s : Records) (sound : IsSound s) where
                   found.1.2
 
           -- a request with NODLCKWT waits for nobody
-          pub none_waited : has_flag (flag_bits request.flags) nodlckwt ≡ true → (pid : ℕ) → IsWaitedFor s lock.row pid → ⊥
+          pub none_waited : has_flag (flag_bits request.flags) nodlckwt ≡ true → (pid : ℕ) → OwnsWaitedFor s lock.row pid → ⊥
           none_waited uncounted pid waited =
               let w = waits_here pid waited in
               let same : request ≡ w.waits.request = same_Some request w.waits.request (sym wanted ∙ w.waits.wanted) in
@@ -274,7 +274,7 @@ module _ (s : Records) (sound : IsSound s) where
               cc
 
         -- nor does what is not wanted
-        pub none_wanted : lock.row.want ≡ None → (pid : ℕ) → IsWaitedFor s lock.row pid → ⊥
+        pub none_wanted : lock.row.want ≡ None → (pid : ℕ) → OwnsWaitedFor s lock.row pid → ⊥
         none_wanted none pid waited =
             let w = waits_here pid waited in
             let never : None ≡ Some w.waits.request = sym none ∙ w.waits.wanted in

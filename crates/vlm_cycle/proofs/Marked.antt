@@ -6,7 +6,7 @@ use Rattle.vlm_marks.specs.Nodes.{Writes, is_marked, is_node, place_of}
 use Rattle.vlm_store.specs.Records.{IsProcess, Records}
 use Rattle.vlm_cycle.specs.declared.ranks.Ranks.{Ranks}
 use Rattle.vlm_cycle.specs.declared.scratch.Scratch.{Scratch}
-use Rattle.vlm_cycle.specs.Marking.{HasRoom, KeepsRoom, Marks}
+use Rattle.vlm_cycle.specs.Marking.{HasRoomInBoth, KeepsRoom, Marks}
 use Rattle.vlm_cycle.specs.Waiting.{IsRoomy}
 
 -- a mark is there or not
@@ -75,8 +75,8 @@ pub other_ranks : (marks : Scratch) (ranks : Ranks) → KeepsRoom marks (record 
 other_ranks marks ranks pid room = record { seen = room.seen; todo = room.todo }
 
 -- the owner of a lock has room
-pub owner_room : (s : Records) (marks : Scratch) → IsRoomy s marks → (at pid : ℕ) → IsProcess at pid s → HasRoom marks pid × (is_node (pid / 65536) ≡ true)
-owner_room s marks roomy at pid lives = subst (λ n. HasRoom marks n × (is_node (n / 65536) ≡ true)) lives.1.2 (roomy lives.0 lives.1.0)
+pub owner_room : (s : Records) (marks : Scratch) → IsRoomy s marks → (at pid : ℕ) → IsProcess at pid s → HasRoomInBoth marks pid × (is_node (pid / 65536) ≡ true)
+owner_room s marks roomy at pid lives = subst (λ n. HasRoomInBoth marks n × (is_node (n / 65536) ≡ true)) lives.1.2 (roomy lives.0 lives.1.0)
 
 -- a process is found that was not
 pub marks_one : (pid : ℕ) (ranks : Ranks) (old_seen seen old_todo todo : List (List Bool)) → is_node (pid / 65536) ≡ true → is_marked old_seen pid ≡ false

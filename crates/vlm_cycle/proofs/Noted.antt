@@ -13,7 +13,7 @@ use Rattle.vlm_records.specs.declared.handles.Place.{Place}
 use Rattle.vlm_store.specs.Records.{IsProcess, IsSound, IsStored, Records, StoredLock, at_after, locks_at, own_handles_at}
 use Rattle.vlm_store.proofs.Walks.{at_lock}
 use Rattle.vlm_locks.proofs.RunsDown.{its_handles, owned_here, stored_here}
-use Rattle.vlm_cycle.specs.Notes.{IsThere}
+use Rattle.vlm_cycle.specs.Notes.{LivesAt}
 
 -- what is written in the place of a whole list holds of all that then stands there
 pub all_written : {X : Type 0} (P : X → Type 0) (new old : List X) (count : ℕ) → length new ≡ length old → All P new → All P (take count (new ++ drop (length new) old))
@@ -55,7 +55,7 @@ module _ (s : Records) (sound : IsSound s) where
       (there.0, (place, there.1))
 
   -- the first lock of a process is there
-  pub first_own_there : (owner : ℕ) (first : Option ℕ) → IsThere s owner → first ≡ first_handle (own_handles_at owner s) → ForSome first (λ at. IsStored at s)
+  pub first_own_there : (owner : ℕ) (first : Option ℕ) → LivesAt s owner → first ≡ first_handle (own_handles_at owner s) → ForSome first (λ at. IsStored at s)
   first_own_there owner first lives is_first at is =
       let here = stored_here owner lives.0 s sound lives.1 at (first_handle-in (own_handles_at owner s) at (sym is ∙ is_first)) in
       (here.0, here.1.0)

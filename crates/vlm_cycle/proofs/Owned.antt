@@ -12,7 +12,7 @@ use Rattle.vlm_locks.proofs.RunsDown.{its_handles, owned_here, stored_here}
 use Rattle.vlm_locks.proofs.Stood.{one_lock}
 use Rattle.vlm_cycle.specs.declared.scratch.Scratch.{Scratch}
 use Rattle.vlm_cycle.specs.Marking.{Marks}
-use Rattle.vlm_cycle.specs.Waiting.{IsBehind, IsWaitedFor}
+use Rattle.vlm_cycle.specs.Waiting.{IsBehind, OwnsWaitedFor}
 use Rattle.vlm_cycle.proofs.Keeping.{row_stored}
 use Rattle.vlm_cycle.proofs.Listed.{in_second}
 use Rattle.vlm_cycle.proofs.Marked.{GoesOn, goes_step}
@@ -23,7 +23,7 @@ IsAtOwn at handles = ForSome at (λ lock. IsIn lock handles)
 
 -- the process owns a lock for which the request of one of these locks waits
 abbrev pub OwnWaitFor : Records → List ℕ → ℕ → Type 0
-OwnWaitFor s handles pid = (at : ℕ) × (row : Row) × (IsIn at handles × Stores s at row × IsWaitedFor s row pid)
+OwnWaitFor s handles pid = (at : ℕ) × (row : Row) × (IsIn at handles × Stores s at row × OwnsWaitedFor s row pid)
 
 -- ---- walks
 
@@ -77,9 +77,9 @@ fewer lock rest left is = rw is (omega arith)
 module _ (s : Records) (sound : IsSound s) where
   -- one lock more is looked at
   pub owns_on : (lock : ℕ) (row : Row) → Stores s lock row → (left rest all : List ℕ) (initial now after : Scratch) → left ≡ lock ∷ rest
-      → Marks (IsWaitedFor s row) now after → GoesOn (OwnWaitFor s) left all initial now → GoesOn (OwnWaitFor s) rest all initial after
+      → Marks (OwnsWaitedFor s row) now after → GoesOn (OwnWaitFor s) left all initial now → GoesOn (OwnWaitFor s) rest all initial after
   owns_on lock row stored left rest all initial now after is marks goes =
-      goes_step (OwnWaitFor s) (IsWaitedFor s row) left rest all initial now after
+      goes_step (OwnWaitFor s) (OwnsWaitedFor s row) left rest all initial now after
       (λ pid either. subst (λ hs. OwnWaitFor s hs pid) (sym is) (elim either [
         | inl here ↦ (lock, row, (inl refl, stored, here))
         | inr later ↦ (later.0, later.1, (inr later.2.0, later.2.1, later.2.2))
@@ -87,9 +87,9 @@ module _ (s : Records) (sound : IsSound s) where
       (λ pid some. cases pid (subst (λ hs. OwnWaitFor s hs pid) is some))
       marks goes
     where
-      cases : (pid : ℕ) → OwnWaitFor s (lock ∷ rest) pid → IsWaitedFor s row pid ⊎ OwnWaitFor s rest pid
+      cases : (pid : ℕ) → OwnWaitFor s (lock ∷ rest) pid → OwnsWaitedFor s row pid ⊎ OwnWaitFor s rest pid
       cases pid some = elim some.2.0 [
-        | inl here ↦ inl (subst (λ r. IsWaitedFor s r pid) (one_lock s sound lock some.1 row (subst (λ h. Stores s h some.1) (sym here) some.2.1) stored) some.2.2)
+        | inl here ↦ inl (subst (λ r. OwnsWaitedFor s r pid) (one_lock s sound lock some.1 row (subst (λ h. Stores s h some.1) (sym here) some.2.1) stored) some.2.2)
         | inr later ↦ inr (some.0, some.1, (later, some.2.1, some.2.2))
       ]
 

@@ -14,7 +14,7 @@ use Rattle.vlm_links.specs.Lists.{IsIn}
 use Rattle.vlm_records.specs.declared.handles.Place.TheVariants.{Queued}
 use Rattle.vlm_store.specs.Records.{AreProcessesApart, HasResource, IsProcess, IsSound, Records, StoredLock, StoredProcess, StoredResource, Stores, at_after, locks_at, queued, resource_at, rows_of_locks}
 use Rattle.vlm_store.proofs.Walks.{at_lock}
-use Rattle.vlm_queue.specs.Walks.{IsInQueue, rows_left, rows_queued}
+use Rattle.vlm_queue.specs.Walks.{IsInQueue, rows_to_walk, rows_queued}
 use Rattle.vlm_queue.proofs.Walking.{passes}
 use Rattle.vlm_locks.proofs.Stood.{one_lock, resource_among}
 use Rattle.vlm_locks.specs.declared.finding.Standing.{Standing}
@@ -22,8 +22,8 @@ use Rattle.vlm_locks.specs.Standing.{IsStanding}
 use Rattle.vlm_cycle.specs.declared.gauge.Gauge.{Gauge}
 use Rattle.vlm_cycle.specs.declared.gauge.Peak.{Peak}
 use Rattle.vlm_cycle.specs.declared.ranks.Ranks.{Ranks}
-use Rattle.vlm_cycle.specs.Ranking.{CountsHeld, CountsHolders, Falls, FallsOn, HasPassed, IsAboveAll, IsGaugeAt, IsGaugeOf, Passes, PassesOne, rank_at, rank_of}
-use Rattle.vlm_cycle.specs.Waiting.{IsWaitedFor, OwnsBefore, OwnsBlocker, OwnsHolder, OwnsKeeper, rows_before, searched}
+use Rattle.vlm_cycle.specs.Ranking.{CountsHeld, CountsHolders, Falls, FallsOn, HasPassed, IsAboveAll, IsGaugeAt, IsGaugeOf, PassesQueue, PassesOne, rank_at, rank_of}
+use Rattle.vlm_cycle.specs.Waiting.{OwnsWaitedFor, OwnsBefore, OwnsBlocker, OwnsHolder, OwnsKeeper, rows_before, searched}
 use Rattle.vlm_cycle.proofs.Keeping.{none_waited, none_wanted, waited_keeps}
 use Rattle.vlm_cycle.proofs.Listed.{in_either}
 use Rattle.vlm_cycle.proofs.Walked.{before_step}
@@ -62,14 +62,14 @@ leads_down s ranks falls pid (next ∷ others) last leads =
 
 -- so a request that waits for lower ranks alone is not deadlocked
 pub below_alive : (s : Records) (ranks : Ranks) → Falls s ranks → (row : Row)
-    → ((pid : ℕ) → IsWaitedFor s row pid → rank_of s ranks pid < rank_of s ranks row.pid) → IsDeadlocked (searched s) row → ⊥
+    → ((pid : ℕ) → OwnsWaitedFor s row pid → rank_of s ranks pid < rank_of s ranks row.pid) → IsDeadlocked (searched s) row → ⊥
 below_alive s ranks falls row below dead =
     let first = below dead.lock.pid (dead.lock, (dead.waits, refl)) in
     let last = leads_down s ranks falls dead.lock.pid dead.others row.pid dead.leads in
     omega (arith, first, last)
 
 pub certain_alive : (s : Records) (ranks : Ranks) (row : Row) (rank top : ℕ) → Falls s ranks → rank ≡ rank_of s ranks row.pid → top ≤ rank
-    → ((pid : ℕ) → IsWaitedFor s row pid → rank_of s ranks pid < top) → IsDeadlocked (searched s) row → ⊥
+    → ((pid : ℕ) → OwnsWaitedFor s row pid → rank_of s ranks pid < top) → IsDeadlocked (searched s) row → ⊥
 certain_alive s ranks row rank top falls is less below =
     below_alive s ranks falls row (λ pid waited. (let under = below pid waited in omega (arith, under, less, is)))
 
@@ -122,7 +122,7 @@ flag_set false = inr refl
 pub top_above : (s : Records) (ranks : Ranks) → IsSound s → (gauge : Gauge) (f : Standing) → IsStanding f s → IsGaugeAt s ranks gauge f → (top : ℕ)
     → ((want : Request) → f.row.want ≡ Some want → has_flag (flag_bits want.flags) nodlckwt ≡ false → IsAboveAll gauge.held want.mode f.row.lkid top)
     → ((want : Request) → f.row.want ≡ Some want → has_flag (flag_bits want.flags) nodlckwt ≡ false → gauge.before ≤ top)
-    → (pid : ℕ) → IsWaitedFor s f.row pid → rank_of s ranks pid < top
+    → (pid : ℕ) → OwnsWaitedFor s f.row pid → rank_of s ranks pid < top
 top_above s ranks sound gauge f standing at top above before pid waited = of_want f.row.want refl
   where
     own : StoredResource
@@ -153,7 +153,7 @@ top_above s ranks sound gauge f standing at top above before pid waited = of_wan
 -- a walk has come to this row
 pub record IsAtRow (s : Records) (res : ℕ) (queue : Queue) (lock : ℕ) (row : Row) : Type 0 where
   pub rest : List Row
-  pub left : rows_left res queue (Some lock) s ≡ row ∷ rest
+  pub left : rows_to_walk res queue (Some lock) s ≡ row ∷ rest
 
 pub at_row : (s : Records) (res : ℕ) (queue : Queue) (lock : ℕ) (row : Row) → IsSound s → IsInQueue res queue (Some lock) s → ((r : Row) → Stores s lock r → r ≡ row) → IsAtRow s res queue lock row
 at_row s res queue lock row sound come only =
@@ -162,7 +162,7 @@ at_row s res queue lock row sound come only =
     let stands = at_lock lock ks (sound.locks_apart (Queued res queue)) (come lock refl) in
     let one = passes s res queue lock next sound come
     (λ place r there. ap (λ p. at_after lock (locks_at p s)) (sound.one_place lock stands.row r (Queued res queue) place stands.among there)) in
-    record { rest = rows_left res queue next s; left = one.left ∙ ap (λ (r : Row). r ∷ rows_left res queue next s) (only one.row one.stored) }
+    record { rest = rows_to_walk res queue next s; left = one.left ∙ ap (λ (r : Row). r ∷ rows_to_walk res queue next s) (only one.row one.stored) }
 
 -- the requests of a queue are passed up to those that are left
 pub record IsPassing (s : Records) (ranks : Ranks) (all left : List Row) (old now : Gauge) : Type 0 where
@@ -198,7 +198,7 @@ passing_on s ranks all left rest row old now after is one passing = record {
 }
 
 -- at its end all are passed
-pub passing_ended : (s : Records) (ranks : Ranks) (all left : List Row) (old now : Gauge) → left ≡ [] → IsPassing s ranks all left old now → Passes s ranks all old now
+pub passing_ended : (s : Records) (ranks : Ranks) (all left : List Row) (old now : Gauge) → left ≡ [] → IsPassing s ranks all left old now → PassesQueue s ranks all old now
 passing_ended s ranks all left old now is passing = record {
   held = passing.held;
   before = passing.before;
@@ -238,7 +238,7 @@ gauge_at s ranks res queue left rest old now f is its_res its_queue of passing =
     ]
 
 -- behind the conversions the gauge is at the head of the waiting ones
-pub gauge_next : (s : Records) (ranks : Ranks) (res : ℕ) (old now : Gauge) → IsGaugeOf s ranks old res Conversion → Passes s ranks (rows_queued res Conversion s) old now → IsGaugeOf s ranks now res Waiting
+pub gauge_next : (s : Records) (ranks : Ranks) (res : ℕ) (old now : Gauge) → IsGaugeOf s ranks old res Conversion → PassesQueue s ranks (rows_queued res Conversion s) old now → IsGaugeOf s ranks now res Waiting
 gauge_next s ranks res old now of passes = record {
   granted = subst (λ h. CountsHolders s ranks h (rows_queued res Granted s)) (sym passes.held) of.granted;
   converting = subst (λ h. CountsHolders s ranks h (rows_queued res Conversion s)) (sym passes.held) of.converting;
@@ -272,7 +272,7 @@ falls_ended s ranks all left is but row lock there waits = elim (but row lock th
 
 -- one request falls where what is above all that it waits for is at most one more than the rank of its owner
 pub falls_one : (s : Records) (ranks : Ranks) (row : Row) (rank top : ℕ) → rank ≡ rank_of s ranks row.pid → top ≤ rank + 1
-    → ((pid : ℕ) → IsWaitedFor s row pid → rank_of s ranks pid < top) → FallsOn s ranks (row ∷ [])
+    → ((pid : ℕ) → OwnsWaitedFor s row pid → rank_of s ranks pid < top) → FallsOn s ranks (row ∷ [])
 falls_one s ranks row rank top is less below x lock there waits = elim there [
   | inl here ↦
       (let under = below lock.pid (lock, (subst (λ y. WaitsFor (searched s) y lock) (sym here) waits, refl)) in

@@ -8,15 +8,15 @@ use Rattle.vlm_links.specs.Lists.{IsIn}
 use Rattle.vlm_marks.specs.Nodes.{is_marked}
 use Rattle.vlm_store.specs.Records.{IsSound, Records, StoredProcess}
 use Rattle.vlm_cycle.specs.declared.scratch.Scratch.{Scratch}
-use Rattle.vlm_cycle.specs.Marking.{IsClear, IsTaken, Marks}
-use Rattle.vlm_cycle.specs.Waiting.{IsBehind, IsRoomy, IsWaitedFor, searched}
+use Rattle.vlm_cycle.specs.Marking.{IsClear, TakesNext, Marks}
+use Rattle.vlm_cycle.specs.Waiting.{IsBehind, IsRoomy, OwnsWaitedFor, searched}
 use Rattle.vlm_cycle.proofs.Keeping.{lock_stored}
 use Rattle.vlm_cycle.proofs.Marked.{of_mark, roomy_still}
 
 -- the process is led to from a lock that the request waits for
 pub record IsLedTo (s : Records) (row : Row) (pid : ℕ) : Type 0 where
   pub first : ℕ
-  pub waits : IsWaitedFor s row first
+  pub waits : OwnsWaitedFor s row first
   pub others : List ℕ
   pub leads : LeadsTo (searched s) first others pid
 
@@ -36,7 +36,7 @@ IsLiving s pid = (p : StoredProcess) × (IsIn p s.processes × (p.process.pid �
 -- what is found is led to; those that begin are found, and those behind each one that the search need not go to
 pub record IsSearched (s : Records) (row : Row) (marks : Scratch) : Type 0 where
   pub led : (pid : ℕ) → is_marked marks.seen pid ≡ true → IsLedTo s row pid
-  pub begun : (pid : ℕ) → IsWaitedFor s row pid → is_marked marks.seen pid ≡ true
+  pub begun : (pid : ℕ) → OwnsWaitedFor s row pid → is_marked marks.seen pid ≡ true
   pub closed : (pid other : ℕ) → is_marked marks.seen pid ≡ true → is_marked marks.todo pid ≡ false → IsBehind s pid other → is_marked marks.seen other ≡ true
   pub within : (pid : ℕ) → is_marked marks.todo pid ≡ true → is_marked marks.seen pid ≡ true
   pub living : (pid : ℕ) → is_marked marks.seen pid ≡ true → IsLiving s pid
@@ -66,7 +66,7 @@ module _ (s : Records) (sound : IsSound s) where
       (owned.0, (owned.2.0, owned.2.1 ∙ is))
 
   -- at first those are found that the request waits for
-  pub searched_begun : (row : Row) (a b : Scratch) → IsClear a → Marks (IsWaitedFor s row) a b → IsRoomy s b → IsSearched s row b
+  pub searched_begun : (row : Row) (a b : Scratch) → IsClear a → Marks (OwnsWaitedFor s row) a b → IsRoomy s b → IsSearched s row b
   searched_begun row a b clear marks roomy = record {
     led = λ pid is. elim (marks.others pid (clear.seen pid)) [
       | inl found ↦ record { first = pid; waits = found.1; others = []; leads = refl }
@@ -96,7 +96,7 @@ module _ (s : Records) (sound : IsSound s) where
   lead_more first [] pid other leads behind = (subst (λ p. IsBehind s p other) (sym leads) behind, refl)
   lead_more first (next ∷ others) pid other leads behind = (leads.0, lead_more next others pid other leads.1 behind)
 
-  module _ (row : Row) (a b c : Scratch) (pid : ℕ) (so_far : IsSearched s row a) (taken : IsTaken (Some pid) a b) (marks : Marks (IsBehind s pid) b c) where
+  module _ (row : Row) (a b c : Scratch) (pid : ℕ) (so_far : IsSearched s row a) (taken : TakesNext (Some pid) a b) (marks : Marks (IsBehind s pid) b c) where
     same_seen : (other : ℕ) → is_marked b.seen other ≡ is_marked a.seen other
     same_seen other = ap (λ m. is_marked m other) taken.2
 

@@ -4,13 +4,13 @@ use Rattle.vlm_marks.specs.Nodes.{HasRoomFor, is_marked}
 use Rattle.vlm_cycle.specs.declared.scratch.Scratch.{Scratch}
 
 -- there is room to mark the process in both sets
-pub record HasRoom (marks : Scratch) (pid : ℕ) : Type 0 where
+pub record HasRoomInBoth (marks : Scratch) (pid : ℕ) : Type 0 where
   pub seen : HasRoomFor marks.seen pid
   pub todo : HasRoomFor marks.todo pid
 
 -- each process has the room that it had
 abbrev pub KeepsRoom : Scratch → Scratch → Type 0
-KeepsRoom old new = (pid : ℕ) → HasRoom old pid → HasRoom new pid
+KeepsRoom old new = (pid : ℕ) → HasRoomInBoth old pid → HasRoomInBoth new pid
 
 -- no process is marked
 pub record IsClear (marks : Scratch) : Type 0 where
@@ -36,9 +36,9 @@ pub record Marks (these : ℕ → Type 0) (old new : Scratch) : Type 0 where
   pub ranks : new.ranks ≡ old.ranks
 
 -- the search has to go to no process of a node; or this is one to which it had to go, and it need not go there again
-abbrev pub IsTaken : Option ℕ → Scratch → Scratch → Type 0
-IsTaken None old new = (new ≡ old) × ((pid : ℕ) → is_marked old.todo pid ≡ false)
-IsTaken (Some taken) old new =
+abbrev pub TakesNext : Option ℕ → Scratch → Scratch → Type 0
+TakesNext None old new = (new ≡ old) × ((pid : ℕ) → is_marked old.todo pid ≡ false)
+TakesNext (Some taken) old new =
     (is_marked old.todo taken ≡ true) × (is_marked new.todo taken ≡ false) × (new.seen ≡ old.seen)
     × ((other : ℕ) → ¬ (other ≡ taken) → is_marked new.todo other ≡ is_marked old.todo other)
     × KeepsRoom old new

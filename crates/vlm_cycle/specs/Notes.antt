@@ -9,13 +9,13 @@ use Rattle.vlm_cycle.specs.declared.ranks.Ranks.{Ranks}
 use Rattle.vlm_cycle.specs.declared.wanting.Wanting.{Wanting}
 
 -- a process of this handle lives
-abbrev pub IsThere : Records → ℕ → Type 0
-IsThere s at = (pid : ℕ) × IsProcess at pid s
+abbrev pub LivesAt : Records → ℕ → Type 0
+LivesAt s at = (pid : ℕ) × IsProcess at pid s
 
 -- each lock and each process that the note names is there
 pub record IsNote (s : Records) (note : Note) : Type 0 where
-  pub caller : ForSome note.caller (IsThere s)
-  pub opened : ForSome note.opened (IsThere s)
+  pub caller : ForSome note.caller (LivesAt s)
+  pub opened : ForSome note.opened (LivesAt s)
   pub own : ForSome note.own (λ lock. IsStored lock s)
   pub at : ForSome note.at (λ lock. IsStored lock s)
 
@@ -25,8 +25,8 @@ AreNotes s ranks = All (IsNote s) ranks.notes.items
 
 -- each process that the walk names is there
 pub record IsWalk (s : Records) (walk : Walk) : Type 0 where
-  pub process : ForSome walk.process (IsThere s)
-  pub opened : ForSome walk.opened (IsThere s)
+  pub process : ForSome walk.process (LivesAt s)
+  pub opened : ForSome walk.opened (LivesAt s)
 
 -- the lock and the resource of the request are there
 pub record IsWanting (s : Records) (wanting : Wanting) : Type 0 where

@@ -99,7 +99,7 @@ pub record IsGaugeAt (s : Records) (ranks : Ranks) (gauge : Gauge) (f : Standing
   pub passed : (pid : ℕ) → OwnsBefore f.row.lkid f.queue (rows_queued f.res Conversion s) (rows_queued f.res Waiting s) pid → rank_of s ranks pid < gauge.before
 
 -- the gauge passes a queue
-pub record Passes (s : Records) (ranks : Ranks) (rows : List Row) (old new : Gauge) : Type 0 where
+pub record PassesQueue (s : Records) (ranks : Ranks) (rows : List Row) (old new : Gauge) : Type 0 where
   pub held : new.held ≡ old.held
   pub before : old.before ≤ new.before
   pub passed : HasPassedAll s ranks new.before rows

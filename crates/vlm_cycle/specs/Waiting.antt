@@ -11,7 +11,7 @@ use Rattle.vlm_marks.specs.Nodes.{is_node}
 use Rattle.vlm_store.specs.Plain.{plain_resources}
 use Rattle.vlm_store.specs.Records.{Records, StoredProcess}
 use Rattle.vlm_cycle.specs.declared.scratch.Scratch.{Scratch}
-use Rattle.vlm_cycle.specs.Marking.{HasRoom}
+use Rattle.vlm_cycle.specs.Marking.{HasRoomInBoth}
 
 -- the plain machine with the resources of the records: a search reads nothing else of it
 abbrev pub searched : Records → State
@@ -19,11 +19,11 @@ searched s = record start { resources = plain_resources s }
 
 -- each living process is of a node, 1 to 8, and has room for its marks
 abbrev pub IsRoomy : Records → Scratch → Type 0
-IsRoomy s marks = (p : StoredProcess) → IsIn p s.processes → HasRoom marks p.process.pid × (is_node (p.process.pid / 65536) ≡ true)
+IsRoomy s marks = (p : StoredProcess) → IsIn p s.processes → HasRoomInBoth marks p.process.pid × (is_node (p.process.pid / 65536) ≡ true)
 
 -- the process owns a lock for which the request of the row waits
-abbrev pub IsWaitedFor : Records → Row → ℕ → Type 0
-IsWaitedFor s row pid = (lock : Row) × (WaitsFor (searched s) row lock × (lock.pid ≡ pid))
+abbrev pub OwnsWaitedFor : Records → Row → ℕ → Type 0
+OwnsWaitedFor s row pid = (lock : Row) × (WaitsFor (searched s) row lock × (lock.pid ≡ pid))
 
 -- one of the requests of the process waits for a lock of the other
 abbrev pub IsBehind : Records → ℕ → ℕ → Type 0

@@ -7,7 +7,7 @@ ghost use Rattle.vlm_queue.specs.Walks.{rows_queued};
 ghost use Rattle.vlm_locks.specs.Standing.{IsStanding};
 ghost use Rattle.vlm_cycle.specs.Finding.{StandsIfAny};
 ghost use Rattle.vlm_cycle.specs.Leading.{IsFirstOn, rows_in_line};
-ghost use Rattle.vlm_cycle.specs.Ranking.{Falls, FallsOn, IsGaugeOf, Passes};
+ghost use Rattle.vlm_cycle.specs.Ranking.{Falls, FallsOn, IsGaugeOf, PassesQueue};
 
 use crate::finding::is_later;
 use crate::gauge::Gauge;
@@ -59,7 +59,7 @@ fn fall_of_queue(
     requires there { HasResource res store.now }
     requires gauge { IsGaugeOf store.now ranks.now gauge.old res queue }
     requires stands { StandsIfAny store.now fall.guess }
-    ensures passes { Passes store.now ranks.now (rows_queued res queue store.now) gauge.old
+    ensures passes { PassesQueue store.now ranks.now (rows_queued res queue store.now) gauge.old
         gauge.new }
     ensures before { result.falls ≡ true → fall.falls ≡ true }
     ensures falls { result.falls ≡ true

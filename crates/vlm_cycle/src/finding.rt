@@ -11,8 +11,8 @@ ghost use Rattle.vlm_locks.specs.Standing.{IsStanding};
 ghost use Rattle.vlm_cycle.specs.Finding.{Improves, IsFit, IsLater, IsNotLater, IsVictimOf, StandsIfAny};
 ghost use Rattle.vlm_cycle.specs.Leading.{IsFirstOn, rows_in_line};
 ghost use Rattle.vlm_cycle.specs.Marking.{KeepsRoom};
-ghost use Rattle.vlm_cycle.specs.Ranking.{Falls, IsGaugeOf, Passes, rank_of};
-ghost use Rattle.vlm_cycle.specs.Waiting.{IsRoomy, IsWaitedFor};
+ghost use Rattle.vlm_cycle.specs.Ranking.{Falls, IsGaugeOf, PassesQueue, rank_of};
+ghost use Rattle.vlm_cycle.specs.Waiting.{IsRoomy, OwnsWaitedFor};
 ghost use Rattle.vlm_words.specs.declared.locks.Row.{Row};
 
 use crate::falling::fall_of_all;
@@ -81,7 +81,7 @@ fn better(
     requires roomy { IsRoomy store.now scratch.old }
     requires falls { falls ≡ true → Falls store.now scratch.old.ranks }
     requires rank { judged.rank ≡ rank_of store.now scratch.old.ranks waiting.now.row.pid }
-    requires top { (pid : ℕ) → IsWaitedFor store.now waiting.now.row pid
+    requires top { (pid : ℕ) → OwnsWaitedFor store.now waiting.now.row pid
         → rank_of store.now scratch.old.ranks pid < judged.top }
     ensures improves { Improves store.now (waiting.now.row ∷ []) best result }
     ensures room { KeepsRoom scratch.old scratch.new }
@@ -117,7 +117,7 @@ fn best_of_queue(
     ensures improves { Improves store.now (rows_queued res queue store.now) best result }
     ensures room { KeepsRoom scratch.old scratch.new }
     ensures ranks { scratch.new.ranks ≡ scratch.old.ranks }
-    ensures passes { Passes store.now scratch.old.ranks (rows_queued res queue store.now) gauge.old
+    ensures passes { PassesQueue store.now scratch.old.ranks (rows_queued res queue store.now) gauge.old
         gauge.new }
 {
     let mut best = best;

@@ -8,7 +8,7 @@ ghost use Rattle.vlm_store.specs.Records.{HasResource, IsStored, Stores};
 ghost use Rattle.vlm_queue.specs.Walks.{IsInQueue, rows_queued};
 ghost use Rattle.vlm_locks.specs.Standing.{IsStanding};
 ghost use Rattle.vlm_cycle.specs.Ranking.{CountsHolders, IsCounted, IsGaugeAt, IsGaugeOf, PassesOne, peak_of, rank_of};
-ghost use Rattle.vlm_cycle.specs.Waiting.{IsWaitedFor};
+ghost use Rattle.vlm_cycle.specs.Waiting.{OwnsWaitedFor};
 
 use crate::gauge::Gauge;
 use crate::ranks::Ranks;
@@ -104,7 +104,7 @@ pub(crate) fn judge(store: &Store, ranks: &Ranks, gauge: &mut Gauge, waiting: &S
     requires standing { IsStanding waiting.now store.now }
     requires gauge { IsGaugeAt store.now ranks.now gauge.old waiting.now }
     ensures rank { result.rank ≡ rank_of store.now ranks.now waiting.now.row.pid }
-    ensures top { (pid : ℕ) → IsWaitedFor store.now waiting.now.row pid
+    ensures top { (pid : ℕ) → OwnsWaitedFor store.now waiting.now.row pid
         → rank_of store.now ranks.now pid < result.top }
     ensures passes { PassesOne waiting.now.row (rank_of store.now ranks.now waiting.now.row.pid)
         gauge.old gauge.new }

@@ -7,8 +7,8 @@ ghost use Rattle.vlm_marks.specs.Nodes.{is_node};
 ghost use Rattle.vlm_store.specs.Records.{HasResource};
 ghost use Rattle.vlm_queue.specs.Walks.{rows_queued};
 ghost use Rattle.vlm_locks.specs.Standing.{IsStanding};
-ghost use Rattle.vlm_cycle.specs.Marking.{HasRoom, Marks};
-ghost use Rattle.vlm_cycle.specs.Waiting.{IsHolder, IsRoomy, IsWaitedFor, OwnsBefore, OwnsBlocker, OwnsHolder, OwnsKeeper, rows_before};
+ghost use Rattle.vlm_cycle.specs.Marking.{HasRoomInBoth, Marks};
+ghost use Rattle.vlm_cycle.specs.Waiting.{IsHolder, IsRoomy, OwnsWaitedFor, OwnsBefore, OwnsBlocker, OwnsHolder, OwnsKeeper, rows_before};
 
 use crate::scratch::Scratch;
 use crate::waiting::{blocks_those_behind, holds_against};
@@ -23,7 +23,7 @@ use vlm_words::resources::Queue;
 
 // Finds the owner of a lock, if it is another one that is held against the mode.
 fn find_holder(scratch: &mut Scratch, row: &Row, lkid: u32, mode: Mode)
-    requires room { HasRoom scratch.old row.now.pid }
+    requires room { HasRoomInBoth scratch.old row.now.pid }
     requires node { is_node (row.now.pid / 65536) ≡ true }
     ensures { Marks (λ pid. IsHolder lkid mode row.now × (row.now.pid ≡ pid)) scratch.old
         scratch.new }
@@ -37,7 +37,7 @@ fn find_holder(scratch: &mut Scratch, row: &Row, lkid: u32, mode: Mode)
 
 // Finds the owner of a lock, if those behind its request wait for it.
 fn find_blocker(scratch: &mut Scratch, row: &Row)
-    requires room { HasRoom scratch.old row.now.pid }
+    requires room { HasRoomInBoth scratch.old row.now.pid }
     requires node { is_node (row.now.pid / 65536) ≡ true }
     ensures { Marks (λ pid. BlocksThoseBehind row.now.want × (row.now.pid ≡ pid)) scratch.old
         scratch.new }
@@ -127,7 +127,7 @@ fn find_keepers(
 pub(crate) fn find_waited_for(store: &Store, scratch: &mut Scratch, waiting: &Standing)
     requires standing { IsStanding waiting.now store.now }
     requires roomy { IsRoomy store.now scratch.old }
-    ensures { Marks (IsWaitedFor store.now waiting.now.row) scratch.old scratch.new }
+    ensures { Marks (OwnsWaitedFor store.now waiting.now.row) scratch.old scratch.new }
 {
     law_records_are_sound(store);
     if waiting.is_granted() {

@@ -11,7 +11,7 @@
 
 ghost use Rattle.std.specs.Option.{ForSome};
 ghost use Rattle.vlm_store.specs.Records.{IsStored, Records};
-ghost use Rattle.vlm_cycle.specs.Notes.{AreNotes, IsNote, IsThere, IsWalk, IsWanting};
+ghost use Rattle.vlm_cycle.specs.Notes.{AreNotes, IsNote, LivesAt, IsWalk, IsWanting};
 
 use crate::notes::Part;
 use crate::ranks::{Note, Ranks};
@@ -37,7 +37,7 @@ pub(crate) struct Walk {
 impl Walk {
     // The walk once so many components are closed; the process is the last one that is not.
     fn with_closed(&self, opened: Option<ProcAt>, closed: u32) -> Walk
-        ensures { (s : Records) → IsWalk s self.now → ForSome opened (IsThere s) → IsWalk s result }
+        ensures { (s : Records) → IsWalk s self.now → ForSome opened (LivesAt s) → IsWalk s result }
     {
         Walk {
             process: self.process,
@@ -125,7 +125,7 @@ fn with_next(store: &Store, ranks: &Ranks, note: &Note, wanting: &Wanting, lock:
 
 // The walk goes down to a process that was not found, if there is room for its note.
 fn go_down(store: &Store, ranks: &mut Ranks, walk: Walk, process: ProcAt) -> Walk
-    requires process { IsThere store.now process }
+    requires process { LivesAt store.now process }
     requires walk { IsWalk store.now walk }
     requires notes { AreNotes store.now ranks.old }
     ensures walk { IsWalk store.now result }
@@ -157,7 +157,7 @@ fn go_down(store: &Store, ranks: &mut Ranks, walk: Walk, process: ProcAt) -> Wal
 
 // The walk goes along a wait of the process at which it stands.
 fn go_along(store: &Store, ranks: &mut Ranks, walk: Walk, process: ProcAt, target: ProcAt) -> Walk
-    requires target { IsThere store.now target }
+    requires target { LivesAt store.now target }
     requires walk { IsWalk store.now walk }
     requires notes { AreNotes store.now ranks.old }
     ensures walk { IsWalk store.now result }
@@ -273,7 +273,7 @@ fn step(store: &Store, ranks: &mut Ranks, walk: Walk, process: ProcAt) -> Walk
 
 // The walk goes to all that a process leads to, if the process was not found.
 fn walk_from(store: &Store, ranks: &mut Ranks, walk: Walk, root: ProcAt) -> Walk
-    requires root { IsThere store.now root }
+    requires root { LivesAt store.now root }
     requires walk { IsWalk store.now walk }
     requires notes { AreNotes store.now ranks.old }
     ensures walk { IsWalk store.now result }

@@ -2,7 +2,7 @@
 
 ghost use Rattle.std.specs.Prelude.{◌≡◌, ◌/◌, ℕ, true, OnOk};
 ghost use Rattle.vlm_marks.specs.Nodes.{is_marked, is_node};
-ghost use Rattle.vlm_cycle.specs.Marking.{HasRoom, IsClear, IsTaken, KeepsRoom, Marks};
+ghost use Rattle.vlm_cycle.specs.Marking.{HasRoomInBoth, IsClear, TakesNext, KeepsRoom, Marks};
 
 use crate::ranks::Ranks;
 use std::alloc::{AllocError, Global};
@@ -32,7 +32,7 @@ impl Scratch {
     /// Makes room to mark the process, and 64 of its node at a time, and to rank it beside so many living ones. Where
     /// memory is refused there may be more room than there was.
     pub fn make_room(&mut self, pid: u32, living: usize) -> Result<(), AllocError>
-        ensures room { OnOk result (HasRoom self.new pid) }
+        ensures room { OnOk result (HasRoomInBoth self.new pid) }
         ensures kept { KeepsRoom self.old self.new }
     {
         self.seen.make_room(pid)?;
@@ -52,7 +52,7 @@ impl Scratch {
 
     /// A process is found: where it was not before, the search has to go to it.
     pub(crate) fn find(&mut self, pid: u32)
-        requires room { HasRoom self.old pid }
+        requires room { HasRoomInBoth self.old pid }
         requires node { is_node (pid / 65536) ≡ true }
         ensures { Marks (λ other. other ≡ pid) self.old self.new }
     {
@@ -64,8 +64,8 @@ impl Scratch {
 
     /// A process to which the search has to go: it need not go there again. None where there is none.
     pub(crate) fn take(&mut self) -> Option<u32>
-        requires { (pid : ℕ) → is_marked self.old.todo pid ≡ true → HasRoom self.old pid }
-        ensures { IsTaken result self.old self.new }
+        requires { (pid : ℕ) → is_marked self.old.todo pid ≡ true → HasRoomInBoth self.old pid }
+        ensures { TakesNext result self.old self.new }
     {
         for node in 1..9 {
             if let Some(pid) = self.todo.first(node) {

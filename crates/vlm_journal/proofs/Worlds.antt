@@ -10,7 +10,7 @@ use Rattle.vlm_words.specs.declared.steps.Step.{Step}
 use Rattle.vlm_journal.specs.declared.entries.Entry.{Entry}
 use Rattle.vlm_journal.specs.Journals.{IsPostOf, Journal, begin as journal_begin, leaves, next as journal_next, takes}
 use Rattle.vlm_journal.specs.Told.{told}
-use Rattle.vlm_journal.specs.Worlds.{Event, Happens, IsInOrder, IsNext, IsNode, IsRight, Lists, Reached, World, begin, draw, lose, next, post, send, serve, take, with_lists}
+use Rattle.vlm_journal.specs.Worlds.{Event, Happens, IsInOrder, IsNext, IsNode, IsRight, Lists, Reached, World, begin, draw, lose, next, post, send, serve, take, with_lists_of}
 use Rattle.vlm_journal.proofs.Appending.{asks_no_other, asks_step, told-append}
 
 -- ---- lists
@@ -59,7 +59,7 @@ record Kept (n : ℕ) (w : World) : Type 0 where
   nodes : (k : ℕ) → IsNode n k → Fine k w.journal (w.lists k)
 
 -- the lists of one node are others
-with_cases : (P : ℕ → Lists → Type 0) (at : ℕ → Lists) (k : ℕ) (l : Lists) → P k l → (j : ℕ) → (j ≢ k → P j (at j)) → P j (with_lists at k l j)
+with_cases : (P : ℕ → Lists → Type 0) (at : ℕ → Lists) (k : ℕ) (l : Lists) → P k l → (j : ℕ) → (j ≢ k → P j (at j)) → P j (with_lists_of at k l j)
 with_cases P at k l here j there =
     elim (cases_eq j k) [
       | inl e ↦ let t : (j == k) ≡ true = (Decides-eqb j k).1 e in rw t (let Q : ℕ → Type 0 = λ m. P m l in subst Q (sym e) here)

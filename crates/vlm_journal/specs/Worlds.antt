@@ -35,8 +35,8 @@ abbrev pub first_world : World
 first_world = record { journal = []; state = start; lists = λ node. no_lists }
 
 -- the lists of one node are others
-abbrev pub with_lists : (ℕ → Lists) → ℕ → Lists → ℕ → Lists
-with_lists lists node own other = if other == node then own else lists other
+abbrev pub with_lists_of : (ℕ → Lists) → ℕ → Lists → ℕ → Lists
+with_lists_of lists node own other = if other == node then own else lists other
 
 -- the world with an entry more
 abbrev pub with_entry : World → Entry → State → (ℕ → Lists) → World
@@ -44,7 +44,7 @@ with_entry w entry state lists = record { journal = w.journal ++ entry ∷ []; s
 
 -- the world with other lists of one node
 abbrev pub with_node : World → ℕ → Lists → World
-with_node w node own = record { journal = w.journal; state = w.state; lists = with_lists w.lists node own }
+with_node w node own = record { journal = w.journal; state = w.state; lists = with_lists_of w.lists node own }
 
 -- the kinds of event: of a node, or a draw of a process
 pub data Event : Type 0 where
@@ -79,7 +79,7 @@ pub record Serves (nodes : ℕ) (w : World) (node : ℕ) (v : World) : Type 0 wh
   pub follows : IsNext step (w.lists node).served (w.lists node).posted
   pub outcome : Outcome w.state step state answer
   pub becomes : v ≡ with_entry w (record { sender = node; step = step; answer = answer }) state
-      (with_lists w.lists node (record (w.lists node) { served = (w.lists node).served ++ step ∷ [] }))
+      (with_lists_of w.lists node (record (w.lists node) { served = (w.lists node).served ++ step ∷ [] }))
 
 -- the hub takes an AST of a process, and writes it down
 pub record Draws (w : World) (pid : ℕ) (v : World) : Type 0 where

@@ -37,7 +37,7 @@ use Rattle.vlm_words.specs.Enqueue.{enq_at_once, enq_change, enq_endings, enq_re
 use Rattle.vlm_words.specs.Convert.{ConversionAdmission, conversion_endings, convert_blocks, convert_change, convert_lkid, resource_after_conversion, resource_after_conversion_of, resource_without_granted, wanting_row}
 use Rattle.vlm_words.specs.Runs.{History, Run}
 use Rattle.vlm_words.specs.Stepped.{IsChoice, Stepped, conversion_change, refused_or, step_change, step_refusal, stepped_after_sweep}
-use Rattle.vlm_laws.specs.Owners.{IsCaller, OthersAreLeftAlone}
+use Rattle.vlm_laws.specs.Owners.{IsConcerned, OthersAreLeftAlone}
 use Rattle.vlm_words.proofs.Always.{admission_of}
 use Rattle.vlm_words.proofs.Apart.{Apart, apart_always, standing, stands}
 use Rattle.vlm_words.proofs.Each.{each_append, each_filter, each_map, each_weaker}
@@ -215,9 +215,9 @@ withdrawals_keep is_one pid lkid differs (w ∷ withdrawals) apart resources not
 
 -- of endings that are all grants there is nothing to say
 grants_alone : (step : Step) (choice : Option Row) (endings : List Ending) → AllByRecursion (λ ending. IsGrant ending.how) endings
-    → AllByRecursion (λ ending. (IsGrant ending.how → ⊥) → IsCaller step choice ending.pid) endings
+    → AllByRecursion (λ ending. (IsGrant ending.how → ⊥) → IsConcerned step choice ending.pid) endings
 grants_alone step choice endings each =
-    each_weaker (λ ending. IsGrant ending.how) (λ ending. (IsGrant ending.how → ⊥) → IsCaller step choice ending.pid)
+    each_weaker (λ ending. IsGrant ending.how) (λ ending. (IsGrant ending.how → ⊥) → IsConcerned step choice ending.pid)
     (λ ending grants no. absurd (no grants)) endings each
 
 -- the grant at once of a row, if it is granted at once
@@ -232,16 +232,16 @@ at_once_alone step false row = tt
 -- what is so of a step that is made is so of the step
 abbrev IsLeftAlone : State → Step → Option Row → Stepped → Type 0
 IsLeftAlone s step choice made =
-    AllByRecursion (λ ending. (IsGrant ending.how → ⊥) → IsCaller step choice ending.pid) made.endings
-    × ((pid lkid : ℕ) → (IsCaller step choice pid → ⊥) → sum_by (weigh (locks pid lkid)) s.resources ≤ sum_by (weigh (locks pid lkid)) made.state.resources)
+    AllByRecursion (λ ending. (IsGrant ending.how → ⊥) → IsConcerned step choice ending.pid) made.endings
+    × ((pid lkid : ℕ) → (IsConcerned step choice pid → ⊥) → sum_by (weigh (locks pid lkid)) s.resources ≤ sum_by (weigh (locks pid lkid)) made.state.resources)
 
 -- a change whose endings and locks are left alone, once it is swept
 swept_alone : (s : State) (step : Step) (choice : Option Row) (change : Stepped)
-    → AllByRecursion (λ ending. (IsGrant ending.how → ⊥) → IsCaller step choice ending.pid) change.endings
-    → ((pid lkid : ℕ) → (IsCaller step choice pid → ⊥) → sum_by (weigh (locks pid lkid)) s.resources ≤ sum_by (weigh (locks pid lkid)) change.state.resources)
+    → AllByRecursion (λ ending. (IsGrant ending.how → ⊥) → IsConcerned step choice ending.pid) change.endings
+    → ((pid lkid : ℕ) → (IsConcerned step choice pid → ⊥) → sum_by (weigh (locks pid lkid)) s.resources ≤ sum_by (weigh (locks pid lkid)) change.state.resources)
     → IsLeftAlone s step choice (stepped_after_sweep change)
 swept_alone s step choice change ends kept = (
-  each_append (λ ending. (IsGrant ending.how → ⊥) → IsCaller step choice ending.pid) change.endings (sweep_endings change.state.resources) ends
+  each_append (λ ending. (IsGrant ending.how → ⊥) → IsConcerned step choice ending.pid) change.endings (sweep_endings change.state.resources) ends
       (grants_alone step choice (sweep_endings change.state.resources)
       (swept_ends change.state.resources (resources_after_sweep change.state.processes change.state.resources) (sweep_endings change.state.resources)
       (sweep_in_order change.state.processes change.state.resources))),
@@ -320,12 +320,12 @@ left_alone_always history old run step choice chosen =
     let so = of_refusal (step_refusal old step) (λ passed. left_alone old (apart_always history old run) step choice chosen passed) in
     record { endings = so.0; locks = so.1 }
   where
-    told : (made : Stepped) → IsLeftAlone old step choice made → All (λ ending. (IsGrant ending.how → ⊥) → IsCaller step choice ending.pid) made.endings
-    told made so = All-from_recursion (λ ending. (IsGrant ending.how → ⊥) → IsCaller step choice ending.pid) made.endings so.0
+    told : (made : Stepped) → IsLeftAlone old step choice made → All (λ ending. (IsGrant ending.how → ⊥) → IsConcerned step choice ending.pid) made.endings
+    told made so = All-from_recursion (λ ending. (IsGrant ending.how → ⊥) → IsConcerned step choice ending.pid) made.endings so.0
 
     of_refusal : (refusal : Option Cond) → (refusal ≡ None → IsLeftAlone old step choice (stepped_after_sweep (step_change old step choice)))
-        → (All (λ ending. (IsGrant ending.how → ⊥) → IsCaller step choice ending.pid) (refused_or refusal old (step_change old step choice)).endings)
-        × ((pid lkid : ℕ) → (IsCaller step choice pid → ⊥) → sum_by (weigh (locks pid lkid)) old.resources
+        → (All (λ ending. (IsGrant ending.how → ⊥) → IsConcerned step choice ending.pid) (refused_or refusal old (step_change old step choice)).endings)
+        × ((pid lkid : ℕ) → (IsConcerned step choice pid → ⊥) → sum_by (weigh (locks pid lkid)) old.resources
         ≤ sum_by (weigh (locks pid lkid)) (refused_or refusal old (step_change old step choice)).state.resources)
     of_refusal None so = (told (stepped_after_sweep (step_change old step choice)) (so refl), (so refl).1)
-    of_refusal (Some refusal) so = (All-from_recursion (λ ending. (IsGrant ending.how → ⊥) → IsCaller step choice ending.pid) [] tt, λ pid lkid stranger. omega arith)
+    of_refusal (Some refusal) so = (All-from_recursion (λ ending. (IsGrant ending.how → ⊥) → IsConcerned step choice ending.pid) [] tt, λ pid lkid stranger. omega arith)

@@ -37,7 +37,7 @@ use Rattle.vlm_words.proofs.Rooted.{AllRooted, is_parent, is_rooted, is_up, posi
 use Rattle.vlm_words.proofs.Trees.{Tree, tree_always}
 use Rattle.vlm_words.proofs.Weights.{weigh}
 use Rattle.vlm_words.proofs.WhoseLocks.{NoStrangers, each_passing, own_are_theirs, strangers}
-use Rattle.vlm_laws.specs.TakenBelow.{HasParent, IsBelow, IsTaken, LosesLocks, LosesRows, TakesThoseBelowAlone, has_parent_below, is_sublock, none_left, row_goes, row_stays}
+use Rattle.vlm_laws.specs.TakenBelow.{HasParent, IsDescendant, IsDequeued, LosesLocks, LosesRows, TakesThoseBelowAlone, has_parent_below, is_sublock, none_left, row_goes, row_stays}
 
 -- ---- the chain of parents, and the walk along it
 
@@ -72,7 +72,7 @@ parent_told s apart lkid parent has =
     (λ row r there among named above. ap (λ (n : ℕ). parent_of n s.resources) (sym named) ∙ parent_is s apart row r there among ∙ above) has
 
 -- 0 is below no lock
-none_below_0 : (s : State) → Apart s → (top : ℕ) → top ≢ 0 → (lkid : ℕ) → lkid ≡ 0 → IsBelow s top lkid → ⊥
+none_below_0 : (s : State) → Apart s → (top : ℕ) → top ≢ 0 → (lkid : ℕ) → lkid ≡ 0 → IsDescendant s top lkid → ⊥
 none_below_0 s apart top some lkid none (is_sublock has) =
     some (sym (parent_told s apart lkid top has) ∙ ap (λ (n : ℕ). parent_of n s.resources) none ∙ parent_of_0 s apart)
 none_below_0 s apart top some lkid none (has_parent_below {parent} has above) =
@@ -82,10 +82,10 @@ none_below_0 s apart top some lkid none (has_parent_below {parent} has above) =
 module _ (s : State) (apart : Apart s) (tree : Tree s) where
   -- a lock that the walk finds below another has a chain of parents to it
   chain_of_walk : (top : ℕ) → top ≢ 0 → (levels level lkid : ℕ) → StandsAtMost s.resources level lkid
-      → is_below levels top s.resources lkid ≡ true → IsBelow s top lkid
+      → is_below levels top s.resources lkid ≡ true → IsDescendant s top lkid
   chain_of_walk top some zero level lkid standing below = let no : false ≡ true = below in cc
   chain_of_walk top some (suc levels) level lkid standing below =
-      stands_so s apart tree.rooted (IsBelow s top lkid) level lkid
+      stands_so s apart tree.rooted (IsDescendant s top lkid) level lkid
       (λ row r low there among named root.
       of_row row r low there among named (ap (λ (n : ℕ). parent_of n s.resources) (sym named) ∙ parent_is s apart row r there among) root
       (chain_of_walk top some levels level row.parent))
@@ -93,14 +93,14 @@ module _ (s : State) (apart : Apart s) (tree : Tree s) where
     where
       of_row : (row : Row) (r : Resource) → r.level ≤ level → IsRowIn (rows_on r) row → Any (λ x. r ≡ x) s.resources → row.lkid ≡ lkid
           → parent_of lkid s.resources ≡ row.parent → HasRoot s.resources r row
-          → (StandsAtMost s.resources level row.parent → is_below levels top s.resources row.parent ≡ true → IsBelow s top row.parent) → IsBelow s top lkid
+          → (StandsAtMost s.resources level row.parent → is_below levels top s.resources row.parent ≡ true → IsDescendant s top row.parent) → IsDescendant s top lkid
       of_row row r low there among named is root higher =
           elim (or_cases (parent_of lkid s.resources == top) (is_below levels top s.resources (parent_of lkid s.resources)) below) [
             | inl here ↦ is_sublock (row_tells s row r there among lkid top named (sym is ∙ eqb-true (parent_of lkid s.resources) top here))
             | inr above ↦ of_root root (subst (λ (n : ℕ). is_below levels top s.resources n ≡ true) is above)
           ]
         where
-          of_root : HasRoot s.resources r row → is_below levels top s.resources row.parent ≡ true → IsBelow s top lkid
+          of_root : HasRoot s.resources r row → is_below levels top s.resources row.parent ≡ true → IsDescendant s top lkid
           of_root (at_root none) above =
               let nothing : is_below levels top s.resources row.parent ≡ false =
               ap (λ (n : ℕ). is_below levels top s.resources n) none ∙ nothing_is_above_0 s apart top levels some in
@@ -142,7 +142,7 @@ module _ (s : State) (apart : Apart s) (tree : Tree s) where
           s.resources (Any-from_list_any (is_up (position r) row.pid row.parent) s.resources up))
 
   -- a lock that has a chain of parents to another is found below it, by as many steps as it has levels
-  walk_of_chain : (top : ℕ) → top ≢ 0 → (lkid : ℕ) → IsBelow s top lkid → (level : ℕ) → StandsAtMost s.resources level lkid
+  walk_of_chain : (top : ℕ) → top ≢ 0 → (lkid : ℕ) → IsDescendant s top lkid → (level : ℕ) → StandsAtMost s.resources level lkid
       → is_below level top s.resources lkid ≡ true
   walk_of_chain top some lkid (is_sublock has) zero standing = absurd (none_above_root lkid top some has standing)
   walk_of_chain top some lkid (is_sublock has) (suc level) standing =
@@ -259,7 +259,7 @@ module _ (s : State) (d : Dequeue) (apart : Apart s) (tree : Tree s) (passed : d
       has
 
   -- and so is each lock below one of the caller's
-  below_is_own : (top : ℕ) → is_in top (own_lkids (is_caller d) s) ≡ true → (lkid : ℕ) → IsBelow s top lkid
+  below_is_own : (top : ℕ) → is_in top (own_lkids (is_caller d) s) ≡ true → (lkid : ℕ) → IsDescendant s top lkid
       → is_in lkid (own_lkids (is_caller d) s) ≡ true
   below_is_own top own lkid (is_sublock has) = with_parent lkid top has own
   below_is_own top own lkid (has_parent_below {parent} has above) = with_parent lkid parent has (below_is_own top own parent above)
@@ -274,7 +274,7 @@ module _ (s : State) (d : Dequeue) (apart : Apart s) (tree : Tree s) (passed : d
 
   -- a lock that is listed is taken, and the caller's
   listed_is_taken : (row : Row) (r : Resource) → IsRowIn (rows_on r) row → Any (λ x. r ≡ x) s.resources
-      → is_in row.lkid (taken_lkids s d) ≡ true → IsTaken s d row × (row.pid ≡ d.pid)
+      → is_in row.lkid (taken_lkids s d) ≡ true → IsDequeued s d row × (row.pid ≡ d.pid)
   listed_is_taken row r there among listed = (of_top (dequeue_lkid s d) refl takes, callers)
     where
       callers : row.pid ≡ d.pid
@@ -284,19 +284,19 @@ module _ (s : State) (d : Dequeue) (apart : Apart s) (tree : Tree s) (passed : d
       takes =
           of_listed (λ n. is_dequeued s d n ≡ true) row.lkid (taken_lkids s d) (each_passing (is_dequeued s d) (own_lkids (is_caller d) s)) listed
 
-      of_top : (top : ℕ) → dequeue_lkid s d ≡ top → ((top == 0) || is_below 15 top s.resources row.lkid) ≡ true → IsTaken s d row
+      of_top : (top : ℕ) → dequeue_lkid s d ≡ top → ((top == 0) || is_below 15 top s.resources row.lkid) ≡ true → IsDequeued s d row
       of_top zero is taken = inl (is, callers)
       of_top (suc n) is taken =
           inr (
             (λ none. absurd (omega (arith, is, none))),
-            subst (λ (top : ℕ). IsBelow s top row.lkid) (sym is)
+            subst (λ (top : ℕ). IsDescendant s top row.lkid) (sym is)
                 (chain_of_walk s apart tree (suc n) (λ same. absurd (omega (arith, same))) 15 15 row.lkid (low_at row r there among)
                 (or_below n (is_below 15 (suc n) s.resources row.lkid) taken)),
           )
 
   -- and one that is taken is listed
   taken_is_listed : (row : Row) (r : Resource) → IsRowIn (rows_on r) row → Any (λ x. r ≡ x) s.resources
-      → IsTaken s d row → is_in row.lkid (taken_lkids s d) ≡ true
+      → IsDequeued s d row → is_in row.lkid (taken_lkids s d) ≡ true
   taken_is_listed row r there among (inl all) =
       in_filter (is_dequeued s d) row.lkid takes (own_lkids (is_caller d) s)
       (row_listed (is_caller d) s apart r among row.lkid
@@ -352,20 +352,20 @@ one_stays (w ∷ withdrawals) row rows is =
 -- a withdrawn lock is taken, and the caller's, and one that is taken is withdrawn
 abbrev IsTakenRightly : State → Dequeue → List Withdrawal → Row → Type 0
 IsTakenRightly s d withdrawals row =
-    (is_withdrawn withdrawals row ≡ true → IsTaken s d row × (row.pid ≡ d.pid)) × (IsTaken s d row → is_withdrawn withdrawals row ≡ true)
+    (is_withdrawn withdrawals row ≡ true → IsDequeued s d row × (row.pid ≡ d.pid)) × (IsDequeued s d row → is_withdrawn withdrawals row ≡ true)
 
 queue_loses : (s : State) (d : Dequeue) (withdrawals : List Withdrawal) (rows : List Row) → AllByRecursion (IsTakenRightly s d withdrawals) rows
-    → LosesRows d.pid (IsTaken s d) rows (rows_left withdrawals rows)
-queue_loses s d withdrawals [] each = subst (λ (left : List Row). LosesRows d.pid (IsTaken s d) [] left) (sym (none_of_none withdrawals)) none_left
+    → LosesRows d.pid (IsDequeued s d) rows (rows_left withdrawals rows)
+queue_loses s d withdrawals [] each = subst (λ (left : List Row). LosesRows d.pid (IsDequeued s d) [] left) (sym (none_of_none withdrawals)) none_left
 queue_loses s d withdrawals (row ∷ rows) each = of_test (is_withdrawn withdrawals row) refl (queue_loses s d withdrawals rows each.1)
   where
-    of_test : (b : Bool) → is_withdrawn withdrawals row ≡ b → LosesRows d.pid (IsTaken s d) rows (rows_left withdrawals rows)
-        → LosesRows d.pid (IsTaken s d) (row ∷ rows) (rows_left withdrawals (row ∷ rows))
+    of_test : (b : Bool) → is_withdrawn withdrawals row ≡ b → LosesRows d.pid (IsDequeued s d) rows (rows_left withdrawals rows)
+        → LosesRows d.pid (IsDequeued s d) (row ∷ rows) (rows_left withdrawals (row ∷ rows))
     of_test true is behind =
         let taken = each.0.0 is in
-        subst (λ (left : List Row). LosesRows d.pid (IsTaken s d) (row ∷ rows) left) (sym (one_goes withdrawals row rows is)) (row_goes taken.0 taken.1 behind)
+        subst (λ (left : List Row). LosesRows d.pid (IsDequeued s d) (row ∷ rows) left) (sym (one_goes withdrawals row rows is)) (row_goes taken.0 taken.1 behind)
     of_test false is behind =
-        subst (λ (left : List Row). LosesRows d.pid (IsTaken s d) (row ∷ rows) left) (sym (one_stays withdrawals row rows is))
+        subst (λ (left : List Row). LosesRows d.pid (IsDequeued s d) (row ∷ rows) left) (sym (one_stays withdrawals row rows is))
         (row_stays (λ taken. let no : false ≡ true = sym is ∙ each.0.1 taken in cc) behind)
 
 module _ (s : State) (d : Dequeue) (apart : Apart s) (tree : Tree s) (passed : deq_refusal s d ≡ None) where
@@ -383,29 +383,29 @@ module _ (s : State) (d : Dequeue) (apart : Apart s) (tree : Tree s) (passed : d
 
   -- so each resource loses those that are taken
   resource_loses : AllGo (map (withdrawal_of d) (taken_lkids s d)) → (r : Resource) → Any (λ x. r ≡ x) s.resources
-      → LosesLocks d.pid (IsTaken s d) r (resource_after_withdrawals (map (withdrawal_of d) (taken_lkids s d)) r)
+      → LosesLocks d.pid (IsDequeued s d) r (resource_after_withdrawals (map (withdrawal_of d) (taken_lkids s d)) r)
   resource_loses go r among =
       let withdrawals : List Withdrawal = map (withdrawal_of d) (taken_lkids s d) in
       let left : RowsLeft withdrawals r (resource_after_withdrawals withdrawals r) = rows_left_behind withdrawals go r in
       record {
         same = withdrawals_keep_place withdrawals r;
-        granted = subst (λ (rows : List Row). LosesRows d.pid (IsTaken s d) r.granted rows) (sym left.granted)
+        granted = subst (λ (rows : List Row). LosesRows d.pid (IsDequeued s d) r.granted rows) (sym left.granted)
             (queue_loses s d withdrawals r.granted (rows_rightly r among r.granted (granted_on r)));
-        converting = subst (λ (rows : List Row). LosesRows d.pid (IsTaken s d) r.converting rows) (sym left.converting)
+        converting = subst (λ (rows : List Row). LosesRows d.pid (IsDequeued s d) r.converting rows) (sym left.converting)
             (queue_loses s d withdrawals r.converting (rows_rightly r among r.converting (converting_on r)));
-        waiting = subst (λ (rows : List Row). LosesRows d.pid (IsTaken s d) r.waiting rows) (sym left.waiting)
+        waiting = subst (λ (rows : List Row). LosesRows d.pid (IsDequeued s d) r.waiting rows) (sym left.waiting)
             (queue_loses s d withdrawals r.waiting (rows_rightly r among r.waiting (waiting_on r)));
       }
 
   each_loses : AllGo (map (withdrawal_of d) (taken_lkids s d)) → (resources : List Resource) → AllByRecursion (λ r. Any (λ x. r ≡ x) s.resources) resources
-      → AllZip (LosesLocks d.pid (IsTaken s d)) resources (map (resource_after_withdrawals (map (withdrawal_of d) (taken_lkids s d))) resources)
+      → AllZip (LosesLocks d.pid (IsDequeued s d)) resources (map (resource_after_withdrawals (map (withdrawal_of d) (taken_lkids s d))) resources)
   each_loses go [] among = tt
   each_loses go (r ∷ rest) among = (resource_loses go r among.0, each_loses go rest among.1)
 
   takes_those : has_flag d.flags deqall ≡ true → (choice : Option Row) → TakesThoseBelowAlone s d choice
   unfolding deq_change
   takes_those all choice =
-      subst (λ (b : Bool). AllZip (LosesLocks d.pid (IsTaken s d)) s.resources
+      subst (λ (b : Bool). AllZip (LosesLocks d.pid (IsDequeued s d)) s.resources
       (map (resource_after_withdrawals (map (withdrawal_of d) (cond b (taken_lkids s d) (dequeue_lkid s d ∷ [])))) s.resources)) (sym all)
       (each_loses (all_dequeued_go d (flags_go_together s d passed all) (taken_lkids s d)) s.resources (each_member s.resources))
 

@@ -13,16 +13,16 @@ IsChosenOwner None pid = ⊥
 IsChosenOwner (Some chosen) pid = pid ≡ chosen.pid
 
 -- the process is the one that makes the step, or one of the node that departs, or the owner of what a search chooses
-abbrev pub IsCaller : Step → Option Row → ℕ → Type 0
-IsCaller (Declare d) choice pid = ⊥
-IsCaller (SetValue v) choice pid = pid ≡ v.pid
-IsCaller (Enq e) choice pid = pid ≡ e.pid
-IsCaller (Convert c) choice pid = pid ≡ c.pid
-IsCaller (Deq d) choice pid = pid ≡ d.pid
-IsCaller (Rundown process) choice pid = pid ≡ process
-IsCaller (Leave node) choice pid = pid / 65536 ≡ node
-IsCaller (Search node) choice pid = IsChosenOwner choice pid
-IsCaller (Take process) choice pid = pid ≡ process
+abbrev pub IsConcerned : Step → Option Row → ℕ → Type 0
+IsConcerned (Declare d) choice pid = ⊥
+IsConcerned (SetValue v) choice pid = pid ≡ v.pid
+IsConcerned (Enq e) choice pid = pid ≡ e.pid
+IsConcerned (Convert c) choice pid = pid ≡ c.pid
+IsConcerned (Deq d) choice pid = pid ≡ d.pid
+IsConcerned (Rundown process) choice pid = pid ≡ process
+IsConcerned (Leave node) choice pid = pid / 65536 ≡ node
+IsConcerned (Search node) choice pid = IsChosenOwner choice pid
+IsConcerned (Take process) choice pid = pid ≡ process
 
 -- how many rows of a resource are those of this lock of this process
 abbrev pub lock_rows : ℕ → ℕ → Resource → ℕ
@@ -34,7 +34,7 @@ lock_rows pid lkid r =
 -- a step ends no request of another process but by a grant, and no lock of another process leaves
 pub record OthersAreLeftAlone (old : State) (step : Step) (choice : Option Row) : Type 0 where
   pub endings :
-      All (λ ending. (IsGrant ending.how → ⊥) → IsCaller step choice ending.pid) (stepped old step choice).endings
-  pub locks : (pid lkid : ℕ) → (IsCaller step choice pid → ⊥)
+      All (λ ending. (IsGrant ending.how → ⊥) → IsConcerned step choice ending.pid) (stepped old step choice).endings
+  pub locks : (pid lkid : ℕ) → (IsConcerned step choice pid → ⊥)
       → sum_by (lock_rows pid lkid) old.resources
       ≤ sum_by (lock_rows pid lkid) (stepped old step choice).state.resources

@@ -16,15 +16,15 @@ HasParent s lkid parent =
     Any (λ r. Any (λ row. (row.lkid ≡ lkid) × (row.parent ≡ parent)) (r.granted ++ r.converting ++ r.waiting)) s.resources
 
 -- a chain of parent locks leads from the lock to this one
-pub data IsBelow (s : State) (top : ℕ) : ℕ → Type 0 where
-  is_sublock : {lkid : ℕ} → HasParent s lkid top → IsBelow s top lkid
-  has_parent_below : {lkid parent : ℕ} → HasParent s lkid parent → IsBelow s top parent → IsBelow s top lkid
+pub data IsDescendant (s : State) (top : ℕ) : ℕ → Type 0 where
+  is_sublock : {lkid : ℕ} → HasParent s lkid top → IsDescendant s top lkid
+  has_parent_below : {lkid parent : ℕ} → HasParent s lkid parent → IsDescendant s top parent → IsDescendant s top lkid
 
 -- the dequeue takes the lock: it names none and the lock is its caller's, or the lock is below the one that it names
-abbrev pub IsTaken : State → Dequeue → Row → Type 0
-IsTaken s d row =
+abbrev pub IsDequeued : State → Dequeue → Row → Type 0
+IsDequeued s d row =
     ((named_lkid s d.pid d.lock ≡ 0) × (row.pid ≡ d.pid))
-    ⊎ ((named_lkid s d.pid d.lock ≢ 0) × IsBelow s (named_lkid s d.pid d.lock) row.lkid)
+    ⊎ ((named_lkid s d.pid d.lock ≢ 0) × IsDescendant s (named_lkid s d.pid d.lock) row.lkid)
 
 -- row by row: each that is taken goes, and is the caller's; each other stays as it was, in its order
 pub data LosesRows (caller : ℕ) (Taken : Row → Type 0) : List Row → List Row → Type 0 where
@@ -44,7 +44,7 @@ pub record LosesLocks (caller : ℕ) (Taken : Row → Type 0) (before after : Re
 -- the change of such a dequeue, before its sweep, takes these locks and no other, on each resource
 abbrev pub TakesThoseBelowAlone : State → Dequeue → Option Row → Type 0
 TakesThoseBelowAlone old d choice =
-    AllZip (LosesLocks d.pid (IsTaken old d)) old.resources (step_change old (Deq d) choice).state.resources
+    AllZip (LosesLocks d.pid (IsDequeued old d)) old.resources (step_change old (Deq d) choice).state.resources
 
 -- the requests that end in it, before the sweep, are aborted, by rising identification of their locks
 pub record AbortsByRisingIdentification (old : State) (d : Dequeue) (choice : Option Row) : Type 0 where

@@ -23,8 +23,8 @@ abbrev pub is_armed_lock : ℕ → Row → Bool
 is_armed_lock lkid row = (row.lkid == lkid) && row.armed
 
 -- how many rows of a resource are those of the lock, and armed
-abbrev pub armed_on : ℕ → Resource → ℕ
-armed_on lkid r =
+abbrev pub armed_rows_of : ℕ → Resource → ℕ
+armed_rows_of lkid r =
     count_by (is_armed_lock lkid) r.granted + count_by (is_armed_lock lkid) r.converting
     + count_by (is_armed_lock lkid) r.waiting
 
@@ -45,5 +45,5 @@ is_grant_to_warn lkid ending =
 -- warning that is still to come counts as one
 abbrev pub EachGrantIsWarnedAtMostOnce : History → State → Type 0
 EachGrantIsWarnedAtMostOnce history last = (lkid : ℕ)
-    → count_by (is_warning_of lkid) history.queued + sum_by (armed_on lkid) last.resources
+    → count_by (is_warning_of lkid) history.queued + sum_by (armed_rows_of lkid) last.resources
     ≤ count_by (is_grant_to_warn lkid) history.endings

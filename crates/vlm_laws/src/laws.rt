@@ -75,7 +75,8 @@ pub fn law_a_warning_calls_what_a_granted_request_named()
 /// No more ASTs were queued to a process, from the start of the run, than it named routines in its requests that
 /// were accepted.
 pub fn law_no_more_is_queued_than_was_named()
-    ensures { (history : History) (last : State) → Run history last → NoMoreIsQueuedThanNamed history }
+    ensures { (history : History) (last : State) → Run history last
+        → NoMoreIsQueuedThanNamed history }
 {}
 
 /// Each grant is warned at most once. The warnings of a lock that were queued, from the start of the run, and the one

@@ -154,8 +154,8 @@ lock_named word =
     else number_within 4294967295 word >>= (λ lkid. Ok (Id lkid))
 
 -- the identification that no process has: a line names its process
-abbrev pub no_process : ℕ
-no_process = 0
+abbrev pub unnamed_process : ℕ
+unnamed_process = 0
 
 -- nothing of a declare line's keyed words is read yet
 abbrev pub no_declare_words : DeclareWords
@@ -284,8 +284,8 @@ enq_word e word =
     else request_word e.request word >>= (λ r. Ok (record e { request = r }))
 
 -- without the word the identification 0 names no parent
-abbrev pub parent_of : EnqWords → Which
-parent_of e = unwrap_or e.parent (Id 0)
+abbrev pub parent_named : EnqWords → Which
+parent_named e = unwrap_or e.parent (Id 0)
 
 -- enq NAME MODE name=RES block=N [parent=LOCK] [ast=N] [bast=N] [param=N] [flags] [bits=N]
 unfoldable pub enq_line : List (List ℕ) → Result Line LineFault
@@ -298,11 +298,11 @@ enq_line words =
     given e.resource >>= λ resource.
     given e.request.block >>= λ block.
     Ok (Enq name (record {
-      pid = no_process;
+      pid = unnamed_process;
       mode = mode;
       name = resource;
       block = block;
-      parent = parent_of e;
+      parent = parent_named e;
       flags = flags_of e.request.flags;
       ast = e.request.ast;
       bast = e.request.bast;
@@ -321,7 +321,7 @@ cvt_line words =
     all_words request_word no_request_words third.1 >>= λ r.
     given r.block >>= λ block.
     Ok (Cvt name (record {
-      pid = no_process;
+      pid = unnamed_process;
       lock = lock;
       mode = mode;
       block = block;
@@ -350,7 +350,7 @@ deq_line words =
     next_word first.1 >>= λ second.
     lock_named second.0 >>= λ lock.
     all_words deq_word no_deq_words second.1 >>= λ d.
-    Ok (Deq name (record { pid = no_process; lock = lock; value = d.value; flags = flags_of d.flags }))
+    Ok (Deq name (record { pid = unnamed_process; lock = lock; value = d.value; flags = flags_of d.flags }))
 
 -- nothing of a set line's keyed words is read yet
 abbrev pub no_set_words : SetWords
@@ -373,7 +373,7 @@ set_line words =
     all_words set_word no_set_words first.1 >>= λ s.
     given s.block >>= λ block.
     given s.value >>= λ value.
-    Ok (Set name (record { pid = no_process; block = block; value = value }))
+    Ok (Set name (record { pid = unnamed_process; block = block; value = value }))
 
 -- end NAME
 unfoldable pub end_line : List (List ℕ) → Result Line LineFault

@@ -7,7 +7,7 @@ use Rattle.vlm_words.specs.State.{Resource}
 use Rattle.vlm_store.specs.Plain.{plain_processes, plain_resource, plain_resources}
 use Rattle.vlm_store.specs.Records.{Records, SameButNotices, StoredResource, resource_at}
 use Rattle.vlm_locks.specs.declared.finding.Standing.{Standing}
-use Rattle.vlm_locks.specs.Converting.{IsConverted, admission_on, processes_accepted}
+use Rattle.vlm_locks.specs.Converting.{IsConverted, admission_on, processes_converting}
 use Rattle.vlm_locks.specs.Standing.{IsStanding}
 
 -- the lock stands where it stood
@@ -23,18 +23,18 @@ abbrev made : Standing → Request → StoredResource → ValueBlock → List Re
 made f asked r block rs = map (resource_after_conversion asked (admission_on f asked r).at_once f.row.pid f.row.lkid block) rs
 
 -- its conversion
-pub converted_accepted : (f : Standing) (asked : Request) (s t new : Records) → SameButNotices s t → plain_processes t ≡ processes_accepted f asked s
+pub converted_accepted : (f : Standing) (asked : Request) (s t new : Records) → SameButNotices s t → plain_processes t ≡ processes_converting f asked s
     → IfSome (resource_at f.res t.resources) (λ r. IsConverted f asked (plain_processes t) r t new)
-    → IfSome (resource_at f.res s.resources) (λ r. IsConverted f asked (processes_accepted f asked s) r s new)
+    → IfSome (resource_at f.res s.resources) (λ r. IsConverted f asked (processes_converting f asked s) r s new)
 converted_accepted f asked s t new same accepted converted =
     of_found (resource_at f.res s.resources) (subst (λ rs. IfSome (resource_at f.res rs) (λ r. IsConverted f asked (plain_processes t) r t new)) same.resources converted)
   where
-    of_found : (found : Option StoredResource) → IfSome found (λ r. IsConverted f asked (plain_processes t) r t new) → IfSome found (λ r. IsConverted f asked (processes_accepted f asked s) r s new)
+    of_found : (found : Option StoredResource) → IfSome found (λ r. IsConverted f asked (plain_processes t) r t new) → IfSome found (λ r. IsConverted f asked (processes_converting f asked s) r s new)
     of_found None none = tt
     of_found (Some r) done = record {
       resources =
           done.resources
           ∙ ap (λ ps. made f asked r (conversion_blocks (admission_on f asked r) ps).value_block (plain_resources t)) accepted
-          ∙ ap (λ rs. made f asked r (conversion_blocks (admission_on f asked r) (processes_accepted f asked s)).value_block (map plain_resource rs)) same.resources;
+          ∙ ap (λ rs. made f asked r (conversion_blocks (admission_on f asked r) (processes_converting f asked s)).value_block (map plain_resource rs)) same.resources;
       statuses = done.statuses ∙ ap (λ ps. (conversion_blocks (admission_on f asked r) ps).processes) accepted;
     }

@@ -27,7 +27,7 @@ use Rattle.vlm_locks.specs.GivingUp.{HaveEnded, IsPaidBut, Rise, is_chosen}
 use Rattle.vlm_locks.specs.Left.{giving_up, is_among}
 use Rattle.vlm_locks.specs.Owing.{IsPaid, OwedMoves, row_at_end}
 use Rattle.vlm_locks.specs.Rest.{IsAtRest}
-use Rattle.vlm_locks.specs.Rising.{ComesBefore, StandByIdentification, own_handles}
+use Rattle.vlm_locks.specs.Rising.{IsOlder, StandByIdentification, handles_of_own}
 use Rattle.vlm_locks.proofs.Chosen.{absent_before, among_in, on_from, on_from_first, rise_push}
 use Rattle.vlm_locks.proofs.Changed.{rests_still}
 use Rattle.vlm_locks.proofs.Granting.{blocks_after_append}
@@ -44,7 +44,7 @@ pub same_handles : (s t : Records) → IsSound s → IsSound t → SameButNotice
 same_handles s t sound sound_t same owner pid lives =
     let q = same_process_of s.processes t.processes same.processes lives.0 lives.1.0 in
     its_handles owner pid t sound_t (q.0, (q.1.0, q.1.1 ∙ lives.1.1, q.1.2 ∙ lives.1.2))
-    ∙ ap own_handles q.1.3 ∙ sym (its_handles owner pid s sound lives)
+    ∙ ap handles_of_own q.1.3 ∙ sym (its_handles owner pid s sound lives)
 
 -- and each lock stands as it did
 pub stands_alike : (at : ℕ) (row : Row) (s t : Records) → t.resources ≡ s.resources → t.loose ≡ s.loose → (place : Place)
@@ -54,10 +54,10 @@ stands_alike at row s t resources loose (Queued res queue) among =
     subst (λ rs. IsIn (record { at = at; row = row }) (option_map_or (queued queue) (resource_at res rs) [])) (sym resources) among
 
 -- each of the first stands before each of the others
-pub stand_before : (s : Records) (first second : List ℕ) → StandByIdentification s (first ++ second) → (a b : ℕ) → IsIn a first → IsIn b second → ComesBefore s a b
+pub stand_before : (s : Records) (first second : List ℕ) → StandByIdentification s (first ++ second) → (a b : ℕ) → IsIn a first → IsIn b second → IsOlder s a b
 stand_before s [] second stand a b in_first in_second = absurd in_first
 stand_before s (x ∷ first) second stand a b in_first in_second = elim in_first [
-  | inl here ↦ subst (λ h. ComesBefore s h b) here (stand.0 b (behind first))
+  | inl here ↦ subst (λ h. IsOlder s h b) here (stand.0 b (behind first))
   | inr later ↦ stand_before s first second stand.1 a b later in_second
 ]
   where

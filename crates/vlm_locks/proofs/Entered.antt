@@ -25,7 +25,7 @@ use Rattle.vlm_locks.proofs.Keyed.{AreKeyed, finds_one, key_cases}
 use Rattle.vlm_locks.proofs.Replaced.{keyed_still, others_stay, still_there, stored_cases}
 use Rattle.vlm_locks.proofs.Moves.{locks_found}
 use Rattle.vlm_locks.proofs.OtherLocks.{added_alone, locks_stay_over, moved_alone}
-use Rattle.vlm_locks.specs.Rising.{IsAboveAll}
+use Rattle.vlm_locks.specs.Rising.{IsAboveEachLock}
 use Rattle.vlm_locks.proofs.Rising.{AllRise, all_rise_with}
 use Rattle.vlm_locks.proofs.Staying.{among_last, of_joined}
 use Rattle.vlm_locks.proofs.Stood.{queued_stored}
@@ -203,7 +203,7 @@ module _ (s : Records) (sound : IsSound s) (rest : IsAtRest s) (e : Entry) (keye
             by_place (Queued r queue) here = (Queued r queue, here)
 
     -- what held between two steps holds with it
-    rest_with : ¬ IsStored at s → IsSameLock e.row row → IsAboveAll e.row.lkid s → IsAtRest new
+    rest_with : ¬ IsStored at s → IsSameLock e.row row → IsAboveEachLock e.row.lkid s → IsAtRest new
     rest_with fresh same above = record {
       none_loose = new_loose;
       keyed = keyed_still res found.0 left (owned_by e at s) new replaced rest.keyed;
@@ -258,7 +258,7 @@ module _ (s : Records) (sound : IsSound s) (rest : IsAtRest s) (e : Entry) (keye
     }
 
     -- the lock has entered the resource
-    pub entered_by : ¬ IsStored at s → IsSameLock e.row row → IsAboveAll e.row.lkid s → IsProcess e.owner e.row.pid s → plain_resource left ≡ resource_after_entry e.row e.at_once (plain_resource found.0)
+    pub entered_by : ¬ IsStored at s → IsSameLock e.row row → IsAboveEachLock e.row.lkid s → IsProcess e.owner e.row.pid s → plain_resource left ≡ resource_after_entry e.row e.at_once (plain_resource found.0)
         → IsEntered e res s new
     entered_by fresh same above owner after = record {
       taken = record {

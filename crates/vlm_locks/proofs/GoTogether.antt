@@ -15,7 +15,7 @@ use Rattle.vlm_locks.specs.declared.giving_up.Choice.TheVariants.{All, Below}
 use Rattle.vlm_locks.specs.GivingUp.{AreChosen, AreGone, CanGo, IsPaidBut, is_chosen}
 use Rattle.vlm_locks.specs.Left.{is_among}
 use Rattle.vlm_locks.specs.Owing.{LosesOne}
-use Rattle.vlm_locks.specs.Rising.{ComesBefore, StandByIdentification}
+use Rattle.vlm_locks.specs.Rising.{IsOlder, StandByIdentification}
 use Rattle.vlm_locks.specs.RunningDown.{CanEndProcesses}
 use Rattle.vlm_locks.specs.Touched.{Touches}
 use Rattle.vlm_locks.specs.Withdrawing.{owned_after}
@@ -224,7 +224,7 @@ module _ (choice : Choice) (invalidates : Bool) (owner pid : ℕ) (old s : Recor
             can_go.closed sub lock below.1 row (were sub below.1 below.2.1) (were lock row stored) (below.2.2 ∙ ap (λ (x : Row). x.lkid) up_is) (sym chosen_still ∙ is) in
             let listed : is_among so_far.lkids below.1 ≡ true =
             listed_is choice owner pid old so_far.lkids so_far.chosen sound_old was sub below.1 (were sub below.1 below.2.1) own_one ∙ too in
-            let after : ComesBefore s lock sub = subst (λ h. ComesBefore s h sub) same (((going.rest.rising q in_q).sublocks own in_own).0 sub there) in
+            let after : IsOlder s lock sub = subst (λ h. IsOlder s h sub) same (((going.rest.rising q in_q).sublocks own in_own).0 sub there) in
             of_place below.1 below.2.1 listed (after row below.1 stored below.2.1)
             (two init (lock ∷ so_far.kept) (subst (IsIn sub) whole (subst (IsIn sub) (sym (its_handles owner pid s going.sound going.lives)) (owned_here owner pid s going.sound going.lives sub below.1 below.2.1 own_one))))
           where

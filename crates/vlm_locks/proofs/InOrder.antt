@@ -12,7 +12,7 @@ use Rattle.vlm_links.specs.Lists.{IsIn}
 use Rattle.vlm_locks.specs.declared.touched.Touch.{Touch}
 use Rattle.vlm_store.specs.Records.{StoredResource}
 use Rattle.vlm_locks.specs.Sweeping.{StandInOrder}
-use Rattle.vlm_locks.specs.Touched.{AreAmong, IsNoted, RiseBySerial, SerialsRise, touched_handles}
+use Rattle.vlm_locks.specs.Touched.{AreAmong, IsNoted, RiseBySerial, StandBySerial, touched_handles}
 
 -- two notes of one serial
 abbrev pub same_serial : Touch → Touch → Bool
@@ -127,10 +127,10 @@ record Behind (r : StoredResource) (resources : List StoredResource) : Type 0 wh
   before : List StoredResource
   after : List StoredResource
   parted : resources ≡ before ++ r ∷ after
-  rise : SerialsRise after
+  rise : StandBySerial after
   higher : (q : StoredResource) → IsIn q resources → r.serial < q.serial → IsIn q after
 
-behind : (r : StoredResource) (resources : List StoredResource) → IsIn r resources → SerialsRise resources → Behind r resources
+behind : (r : StoredResource) (resources : List StoredResource) → IsIn r resources → StandBySerial resources → Behind r resources
 behind r [] none rise = absurd none
 behind r (x ∷ xs) (inl here) rise = record {
   before = [];
@@ -158,7 +158,7 @@ behind r (x ∷ xs) (inr there) rise =
 
 -- the touched resources stand in order
 pub touches_stand : (touches : List Touch) (resources : List StoredResource) → RiseBySerial touches → AreAmong touches resources
-    → SerialsRise resources → StandInOrder (touched_handles touches) resources
+    → StandBySerial resources → StandInOrder (touched_handles touches) resources
 touches_stand [] resources rise among up = tt
 touches_stand (t ∷ touches) resources rise among up =
     let own = among t (inl refl) in
@@ -175,7 +175,7 @@ touches_stand (t ∷ touches) resources rise among up =
 -- ---- what is touched still
 
 -- two resources of one serial are the same
-one_of_serial : (resources : List StoredResource) → SerialsRise resources → (r q : StoredResource) → IsIn r resources → IsIn q resources
+one_of_serial : (resources : List StoredResource) → StandBySerial resources → (r q : StoredResource) → IsIn r resources → IsIn q resources
     → r.serial ≡ q.serial → r ≡ q
 one_of_serial [] rise r q none there same = absurd none
 one_of_serial (x ∷ xs) rise r q (inl here) (inl there) same = sym here ∙ there
@@ -197,7 +197,7 @@ touch_of handle (x ∷ xs) (inl here) = (x, (inl refl, here))
 touch_of handle (x ∷ xs) (inr there) = let found = touch_of handle xs there in (found.0, (inr found.1.0, found.1.1))
 
 -- the handle of a noted resource is there still where of each serial one is left
-pub handles_left : (old new : List Touch) (resources : List StoredResource) → SerialsRise resources → AreAmong old resources
+pub handles_left : (old new : List Touch) (resources : List StoredResource) → StandBySerial resources → AreAmong old resources
     → ((t : Touch) → IsIn t new → IsIn t old) → ((t : Touch) → IsIn t old → IsNoted t.serial new)
     → (handle : ℕ) → IsIn handle (touched_handles old) → IsIn handle (touched_handles new)
 handles_left old new resources rise among within each handle there =

@@ -17,7 +17,7 @@ use Rattle.vlm_locks.specs.declared.entering.Entry.{Entry}
 use Rattle.vlm_locks.specs.Entering.{IsEntered, resource_for}
 use Rattle.vlm_words.specs.Resources.{IsKeyed}
 use Rattle.vlm_locks.specs.Rest.{IsAtRest}
-use Rattle.vlm_locks.specs.Rising.{IsAboveAll}
+use Rattle.vlm_locks.specs.Rising.{IsAboveEachLock}
 use Rattle.vlm_locks.proofs.Rising.{all_rise_still}
 use Rattle.vlm_locks.proofs.Staying.{same_lock}
 use Rattle.vlm_locks.proofs.Keyed.{AreKeyed, IsKeyFree, find-free, find-key, key_cases}
@@ -87,7 +87,7 @@ module _ (e : Entry) (res : ℕ) (room : Rooms) (s : Records) where
   was_stored : (at : ℕ) (row : Row) → Stores (with_made e res room s) at row → Stores s at row
   was_stored at row stored = (stored.0, subst (IsIn (record { at = at; row = row })) (same_locks stored.0) stored.1)
 
-  pub above_still : (lkid : ℕ) → IsAboveAll lkid s → IsAboveAll lkid (with_made e res room s)
+  pub above_still : (lkid : ℕ) → IsAboveEachLock lkid s → IsAboveEachLock lkid (with_made e res room s)
   above_still lkid above at row stored = above at row (was_stored at row stored)
 
   -- a parent is stored still

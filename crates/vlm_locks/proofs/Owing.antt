@@ -20,7 +20,7 @@ use Rattle.vlm_words.specs.Grants.{grant_act, grant_endings, granted_row, is_arm
 use Rattle.vlm_records.specs.declared.handles.Place.TheVariants.{Queued}
 use Rattle.vlm_store.specs.Records.{DueChanges, DuesStay, HasResource, IsIdle, IsProcess, IsSound, Records, Room, SameButNotices, StoredLock, StoredProcess, Stores, due_of, leaving, moving, on_resource, process_at, process_without_lock, resource_with, with_lists, with_resource_room, without_lock, without_resource}
 use Rattle.vlm_store.proofs.Plain.{process_at-stored}
-use Rattle.vlm_locks.specs.Owing.{DueMoves, IsPaid, LosesOne, WeighsTheSame, weight_of, OwedMoves, blocks_written, completions_queued, completions_spared, due_for, row_after_end, row_at_end}
+use Rattle.vlm_locks.specs.Owing.{DueMoves, IsPaid, LosesOne, WeighsTheSame, total_weight, OwedMoves, blocks_written, completions_queued, completions_spared, due_for, row_after_end, row_at_end}
 use Rattle.vlm_locks.specs.Withdrawing.{owned_after}
 use Rattle.vlm_locks.proofs.Found.{process_still}
 use Rattle.vlm_words.specs.declared.resources.ValueBlock.{ValueBlock}
@@ -283,7 +283,7 @@ paid_withdrawn was now gone lock s t u v paid owed same left left_due part part_
 pub weighs_gone : (s : Records) → IsSound s → (at : ℕ) (row : Row) → Stores s at row → (t : Records) → t.resources ≡ map (resource_with (leaving at)) s.resources
     → t.loose ≡ without_lock at s.loose → LosesOne (record { at = at; row = row }) s t
 weighs_gone s sound at row stored t resources loose measure =
-    let gone : weight_of measure t ≡ weight_of measure (with_lists (leaving at) s) = rw (resources, loose) refl in
+    let gone : total_weight measure t ≡ total_weight measure (with_lists (leaving at) s) = rw (resources, loose) refl in
     omega (arith, gone, gone_weighs measure s sound at row stored)
 
 -- for a lock at its end nothing is due

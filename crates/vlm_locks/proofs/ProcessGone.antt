@@ -17,7 +17,7 @@ use Rattle.vlm_store.specs.Plain.{plain_processes, plain_resources}
 use Rattle.vlm_store.specs.Records.{AreProcessesApart, HasNoLocks, IsProcess, IsSound, Records, Room, StoredLock, StoredProcess, StoredResource, Stores, due_of, locks_at, own_handles_at, with_process_room, without_process}
 use Rattle.vlm_locks.specs.Owing.{IsPaid, due_among, due_for, due_on}
 use Rattle.vlm_locks.specs.Rest.{IsAtRest}
-use Rattle.vlm_locks.specs.Rising.{own_handles}
+use Rattle.vlm_locks.specs.Rising.{handles_of_own}
 use Rattle.vlm_locks.specs.RunningDown.{AreEnded, CanEndProcesses, SublocksAreOwn, resource_after_rundown}
 use Rattle.vlm_locks.specs.Touched.{AreStillNoted, OnlyTouched, Touches}
 use Rattle.vlm_locks.proofs.Rising.{rises_still, were_stored}
@@ -178,7 +178,7 @@ pub process_ended : (old mid new : Records) (before noted : Touches) (owner pid 
 process_ended old mid new before noted owner pid room sound lives none is resources statuses kept only_touched same_room = record {
   resources = ap plain_resources is ∙ resources;
   processes =
-      ap plain_processes is ∙ processes_left mid sound owner pid lives (ap own_handles none) ∙ ap (processes_but (λ p. p == pid)) statuses;
+      ap plain_processes is ∙ processes_left mid sound owner pid lives (ap handles_of_own none) ∙ ap (processes_but (λ p. p == pid)) statuses;
   kept = kept;
   only_touched = λ r there untouched. only_touched r (subst (λ (s : Records). IsIn r s.resources) is there) untouched;
   same_room = same_room;
@@ -189,10 +189,10 @@ pub others_can_end : (mid new : Records) (touched : Touches) (owner pid : ℕ) (
     → CanEndProcesses touched mid → CanEndProcesses touched new
 others_can_end mid new touched owner pid room sound lives none is can_end =
     subst (CanEndProcesses touched) (sym is) (record {
-      rest = rest_left mid sound owner pid lives (ap own_handles none) room can_end.rest;
-      together = together_left mid sound owner pid lives (ap own_handles none) room can_end.together;
+      rest = rest_left mid sound owner pid lives (ap handles_of_own none) room can_end.rest;
+      together = together_left mid sound owner pid lives (ap handles_of_own none) room can_end.together;
       granted = can_end.granted;
-      paid = paid_left mid sound owner pid lives (ap own_handles none) room can_end.rest.none_loose can_end.paid;
+      paid = paid_left mid sound owner pid lives (ap handles_of_own none) room can_end.rest.none_loose can_end.paid;
       noted = can_end.noted;
       room = can_end.room;
     })

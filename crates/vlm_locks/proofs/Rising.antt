@@ -12,7 +12,7 @@ use Rattle.vlm_records.specs.declared.handles.Place.TheVariants.{Loose, Queued}
 use Rattle.vlm_store.proofs.Counted.{own_handle}
 use Rattle.vlm_store.specs.Records.{IsNewLock, IsRowOf, IsSound, IsStored, OwnLock, Records, StoredProcess, StoredResource, Stores, but_notices, locks_at, new_own, process_with_lock, process_without_lock, queued, resource_at, with_sublock, without_sublock}
 use Rattle.vlm_locks.specs.Staying.{LocksStayAmong}
-use Rattle.vlm_locks.specs.Rising.{ComesBefore, HasRisingLocks, IsAboveAll, StandByIdentification, own_handles}
+use Rattle.vlm_locks.specs.Rising.{IsOlder, HasRisingLocks, IsAboveEachLock, StandByIdentification, handles_of_own}
 use Rattle.vlm_locks.proofs.Staying.{same_back, same_lock}
 use Rattle.vlm_locks.proofs.Stood.{queued_stored, resource_among}
 
@@ -27,7 +27,7 @@ WereStored old new = (at : ℕ) (row : Row) → Stores new at row → IsRowOf at
 -- ---- handles
 
 -- handles of which each two keep their order stand by it still
-stand_still : (s t : Records) (handles : List ℕ) → ((a b : ℕ) → IsIn a handles → IsIn b handles → ComesBefore s a b → ComesBefore t a b)
+stand_still : (s t : Records) (handles : List ℕ) → ((a b : ℕ) → IsIn a handles → IsIn b handles → IsOlder s a b → IsOlder t a b)
     → StandByIdentification s handles → StandByIdentification t handles
 stand_still s t [] kept stand = tt
 stand_still s t (at ∷ rest) kept stand = (
@@ -45,20 +45,20 @@ stand_without s lock (at ∷ rest) stand =
     ]
 
 -- and with a last one that each of them comes before
-stand_with : (s : Records) (handles : List ℕ) (last : ℕ) → ((at : ℕ) → IsIn at handles → ComesBefore s at last) → StandByIdentification s handles
+stand_with : (s : Records) (handles : List ℕ) (last : ℕ) → ((at : ℕ) → IsIn at handles → IsOlder s at last) → StandByIdentification s handles
     → StandByIdentification s (handles ++ last ∷ [])
 stand_with s [] last before stand = (λ later there. absurd there, tt)
 stand_with s (at ∷ rest) last before stand = (
   λ later there. elim (IsIn-push last later rest there) [
     | inl was ↦ stand.0 later was
-    | inr is ↦ subst (ComesBefore s at) is (before at (inl refl))
+    | inr is ↦ subst (IsOlder s at) is (before at (inl refl))
   ],
   stand_with s rest last (λ other there. before other (inr there)) stand.1,
 )
 
 -- ---- locks that change
 
-before_still : (old new : Records) → WereStored old new → (first second : ℕ) → ComesBefore old first second → ComesBefore new first second
+before_still : (old new : Records) → WereStored old new → (first second : ℕ) → IsOlder old first second → IsOlder new first second
 before_still old new were first second before a b in_a in_b =
     let was_a = were first a in_a in
     let was_b = were second b in_b in
@@ -114,7 +114,7 @@ same_own (y ∷ old) (x ∷ new) same p among =
 -- a process has rising locks where its locks were those of one that had
 pub rises_still : (old new : Records) (q p : StoredProcess) → WereStored old new → q.own ≡ p.own → HasRisingLocks old q → HasRisingLocks new p
 rises_still old new q p were same rises = record {
-  own = subst (λ owns. StandByIdentification new (own_handles owns)) same (stand_still old new (own_handles q.own) (λ a b in_a in_b. before_still old new were a b) rises.own);
+  own = subst (λ owns. StandByIdentification new (handles_of_own owns)) same (stand_still old new (handles_of_own q.own) (λ a b in_a in_b. before_still old new were a b) rises.own);
   sublocks = λ own among. stand_still old new (own.at ∷ own.sublocks) (λ a b in_a in_b. before_still old new were a b) (rises.sublocks own (subst (IsIn own) (sym same) among));
 }
 
@@ -150,7 +150,7 @@ was_own lock (x ∷ owns) own among =
     ]
 
 -- of the handles just its own goes
-pub handles_without : (lock : ℕ) (owns : List OwnLock) → own_handles (map (without_sublock lock) (filter (λ (o : OwnLock). not (o.at == lock)) owns)) ≡ without lock (own_handles owns)
+pub handles_without : (lock : ℕ) (owns : List OwnLock) → handles_of_own (map (without_sublock lock) (filter (λ (o : OwnLock). not (o.at == lock)) owns)) ≡ without lock (handles_of_own owns)
 handles_without lock [] = refl
 handles_without lock (x ∷ owns) =
     elim (cases_eq x.at lock) [
@@ -160,7 +160,7 @@ handles_without lock (x ∷ owns) =
 
 rises_without : (s : Records) (lock : ℕ) (q : StoredProcess) → HasRisingLocks s q → HasRisingLocks s (process_without_lock lock q)
 rises_without s lock q rises = record {
-  own = subst (StandByIdentification s) (sym (handles_without lock q.own)) (stand_without s lock (own_handles q.own) rises.own);
+  own = subst (StandByIdentification s) (sym (handles_without lock q.own)) (stand_without s lock (handles_of_own q.own) rises.own);
   sublocks = λ own among.
       let was = was_own lock q.own own among in
       let stand = rises.sublocks was.0 was.1.0 in
@@ -177,7 +177,7 @@ all_rise_without s lock ps rising p among =
 -- ---- a lock that is made
 
 -- an identification above all is new
-pub new_above : (lkid : ℕ) (s : Records) → IsAboveAll lkid s → IsNewLock lkid s
+pub new_above : (lkid : ℕ) (s : Records) → IsAboveEachLock lkid s → IsNewLock lkid s
 new_above lkid s above at row stored same = absurd (omega (arith, above at row stored, same))
 
 module _ (owner : ℕ) (parent : Option ℕ) (lock : ℕ) where
@@ -204,21 +204,21 @@ module _ (owner : ℕ) (parent : Option ℕ) (lock : ℕ) where
       of_test true = refl
       of_test false = refl
 
-  handles_with : (owns : List OwnLock) → own_handles (map (with_sublock parent lock) owns) ≡ own_handles owns
+  handles_with : (owns : List OwnLock) → handles_of_own (map (with_sublock parent lock) owns) ≡ handles_of_own owns
   handles_with [] = refl
-  handles_with (o ∷ owns) = ap (λ at. at ∷ own_handles (map (with_sublock parent lock) owns)) (same_at parent o) ∙ ap (λ handles. o.at ∷ handles) (handles_with owns)
+  handles_with (o ∷ owns) = ap (λ at. at ∷ handles_of_own (map (with_sublock parent lock) owns)) (same_at parent o) ∙ ap (λ handles. o.at ∷ handles) (handles_with owns)
 
-  module _ (s new : Records) (sound : IsSound s) (lkid : ℕ) (fresh : ¬ IsStored lock s) (above : IsAboveAll lkid s)
+  module _ (s new : Records) (sound : IsSound s) (lkid : ℕ) (fresh : ¬ IsStored lock s) (above : IsAboveEachLock lkid s)
       (cases : (at : ℕ) (row : Row) → Stores new at row → ((at ≡ lock) × (row.lkid ≡ lkid)) ⊎ Stores s at row) where
     -- another lock was stored
     was_stored : (at : ℕ) → IsStored at s → (row : Row) → Stores new at row → Stores s at row
     was_stored at stored row now = elim (cases at row now) [ inl is ↦ absurd (fresh (subst (λ k. IsStored k s) is.0 stored)) | inr was ↦ was ]
 
-    before_kept : (first second : ℕ) → IsStored first s → IsStored second s → ComesBefore s first second → ComesBefore new first second
+    before_kept : (first second : ℕ) → IsStored first s → IsStored second s → IsOlder s first second → IsOlder new first second
     before_kept first second stored_first stored_second before a b in_a in_b = before a b (was_stored first stored_first a in_a) (was_stored second stored_second b in_b)
 
     -- each comes before the new one
-    before_last : (at : ℕ) → IsStored at s → ComesBefore new at lock
+    before_last : (at : ℕ) → IsStored at s → IsOlder new at lock
     before_last at stored a b in_a in_b =
         elim (cases lock b in_b) [
           | inl is ↦ omega (arith, above at a (was_stored at stored a in_a), is.1)
@@ -241,7 +241,7 @@ module _ (owner : ℕ) (parent : Option ℕ) (lock : ℕ) where
       ];
     }
       where
-        own_stored : (at : ℕ) → IsIn at (own_handles q.own) → IsStored at s
+        own_stored : (at : ℕ) → IsIn at (handles_of_own q.own) → IsStored at s
         own_stored at there =
             let found = own_handle q.own at there in
             let owned = sound.owned.owns q found.0 among found.1.0 in
@@ -253,15 +253,15 @@ module _ (owner : ℕ) (parent : Option ℕ) (lock : ℕ) where
           | inr later ↦ (let below = sound.owned.below q o at among own later in (below.1, below.2.1))
         ]
 
-        of_owner : (mine : Bool) → StandByIdentification new (own_handles (map (with_sublock parent lock) q.own ++ cond mine (new_own lock) []))
+        of_owner : (mine : Bool) → StandByIdentification new (handles_of_own (map (with_sublock parent lock) q.own ++ cond mine (new_own lock) []))
         of_owner true =
             subst (StandByIdentification new)
             (sym (map-append (λ (o : OwnLock). o.at) (map (with_sublock parent lock) q.own) (new_own lock) ∙ ap (λ handles. handles ++ lock ∷ []) (handles_with q.own)))
-            (stand_joined (own_handles q.own) own_stored rises.own)
+            (stand_joined (handles_of_own q.own) own_stored rises.own)
         of_owner false =
             subst (StandByIdentification new)
             (sym (map-append (λ (o : OwnLock). o.at) (map (with_sublock parent lock) q.own) [] ∙ append-nil _ ∙ handles_with q.own))
-            (stand_kept (own_handles q.own) own_stored rises.own)
+            (stand_kept (handles_of_own q.own) own_stored rises.own)
 
         of_parent : (up : Option ℕ) (o : OwnLock) → IsIn o q.own
             → StandByIdentification new ((with_sublock up lock o).at ∷ (with_sublock up lock o).sublocks)

@@ -19,7 +19,7 @@ use Rattle.vlm_words.specs.declared.locks.Row.{Row}
 use Rattle.vlm_words.specs.declared.resources.Queue.TheVariants.{Granted, Conversion, Waiting}
 use Rattle.vlm_store.proofs.Counted.{one_process, own_handle, own_handles-apart, own_under_handle}
 use Rattle.vlm_store.proofs.Plain.{process_at-stored}
-use Rattle.vlm_locks.specs.Rising.{ComesBefore, HasRisingLocks, StandByIdentification, own_handles}
+use Rattle.vlm_locks.specs.Rising.{IsOlder, HasRisingLocks, StandByIdentification, handles_of_own}
 use Rattle.vlm_locks.proofs.Left.{IsOthers, nothing_left, IsOwnRow, OwnRows, one_withdrawn}
 use Rattle.vlm_locks.proofs.Stood.{one_lock, queued_stored, only, own_among, resource_among, stored}
 use Rattle.vlm_links.proofs.HandleLists.{IsIn-without, length-without}
@@ -88,18 +88,18 @@ last_in (x ∷ rest) last is = elim (last_among rest x last is) [
 
 -- and each other comes before it
 all_before_last : (s : Records) (handles : List ℕ) (first last other : ℕ) → StandByIdentification s (first ∷ handles) → last_from (Some first) handles ≡ Some last
-    → IsIn other (first ∷ handles) → (other ≡ last) ⊎ ComesBefore s other last
+    → IsIn other (first ∷ handles) → (other ≡ last) ⊎ IsOlder s other last
 all_before_last s [] first last other stand is among = elim among [
   | inl here ↦ inl (sym here ∙ same_Some first last is)
   | inr none ↦ absurd none
 ]
 all_before_last s (x ∷ rest) first last other stand is among = elim among [
-  | inl here ↦ inr (subst (λ h. ComesBefore s h last) here (stand.0 last (last_in (x ∷ rest) last is)))
+  | inl here ↦ inr (subst (λ h. IsOlder s h last) here (stand.0 last (last_in (x ∷ rest) last is)))
   | inr later ↦ all_before_last s rest x last other stand.1 is later
 ]
 
 before_last : (s : Records) (handles : List ℕ) (last other : ℕ) → StandByIdentification s handles → last_handle handles ≡ Some last
-    → IsIn other handles → (other ≡ last) ⊎ ComesBefore s other last
+    → IsIn other handles → (other ≡ last) ⊎ IsOlder s other last
 before_last s [] last other stand is among = absurd among
 before_last s (x ∷ rest) last other stand is among = all_before_last s rest x last other stand is among
 
@@ -112,7 +112,7 @@ none_at_all (x ∷ rest) is = absurd (some_last rest x is)
     some_last [] first none = none-some first (sym none)
     some_last (y ∷ ys) first none = some_last ys y none
 
-no_own : (owns : List OwnLock) → own_handles owns ≡ [] → owns ≡ []
+no_own : (owns : List OwnLock) → handles_of_own owns ≡ [] → owns ≡ []
 no_own [] is = refl
 no_own (own ∷ owns) is = cc
 
@@ -153,8 +153,8 @@ module _ (owner pid : ℕ) (s : Records) (sound : IsSound s) (lives : IsProcess 
   its_own : own_at owner s ≡ p.own
   its_own = ap (λ (o : Option StoredProcess). option_map_or (λ q. q.own) o []) found
 
-  pub its_handles : own_handles_at owner s ≡ own_handles p.own
-  its_handles = ap own_handles its_own
+  pub its_handles : own_handles_at owner s ≡ handles_of_own p.own
+  its_handles = ap handles_of_own its_own
 
   -- each of its locks is there once
   pub handles_apart : IsApart (own_handles_at owner s)
@@ -169,11 +169,11 @@ module _ (owner pid : ℕ) (s : Records) (sound : IsSound s) (lives : IsProcess 
   only_it q among same = one_process s.processes sound.processes_apart q p among lives.1.0 (same ∙ sym lives.1.2)
 
   -- each of its locks is among its own
-  pub owned_here : (at : ℕ) (row : Row) → Stores s at row → row.pid ≡ pid → IsIn at (own_handles p.own)
+  pub owned_here : (at : ℕ) (row : Row) → Stores s at row → row.pid ≡ pid → IsIn at (handles_of_own p.own)
   owned_here at row stored mine =
       let owned = sound.owned.owned at row stored in
       let same : owned.0 ≡ p = only_it owned.0 owned.2.0 (owned.2.1 ∙ mine) in
-      subst (λ h. IsIn h (own_handles p.own)) owned.2.3 (own_under_handle p.own owned.1 (subst (λ (q : StoredProcess). IsIn owned.1 q.own) same owned.2.2))
+      subst (λ h. IsIn h (handles_of_own p.own)) owned.2.3 (own_under_handle p.own owned.1 (subst (λ (q : StoredProcess). IsIn owned.1 q.own) same owned.2.2))
 
   -- and stands with its identification
   pub stored_here : (at : ℕ) → IsIn at (own_handles_at owner s) → (row : Row) × (Stores s at row × (row.pid ≡ pid))
@@ -196,7 +196,7 @@ module _ (owner pid : ℕ) (s : Records) (sound : IsSound s) (lives : IsProcess 
         rises : HasRisingLocks s q
         rises = rest.rising q in_q
 
-        of_order : (up row : Row) (sub : ℕ) → up.lkid < row.lkid → (sub ≡ lock) ⊎ ComesBefore s sub lock → Stores s lock up → Stores s sub row → ⊥
+        of_order : (up row : Row) (sub : ℕ) → up.lkid < row.lkid → (sub ≡ lock) ⊎ IsOlder s sub lock → Stores s lock up → Stores s sub row → ⊥
         of_order up row sub more (inl is) stored_up stored_row =
             omega (arith, more, ap (λ (x : Row). x.lkid) (one_lock s sound lock up row stored_up (subst (λ h. Stores s h row) is stored_row)))
         of_order up row sub more (inr before) stored_up stored_row = omega (arith, more, before row up stored_row stored_up)
@@ -209,8 +209,8 @@ module _ (owner pid : ℕ) (s : Records) (sound : IsSound s) (lives : IsProcess 
             let up_same : here.0 ≡ below.0 = one_lock s sound lock here.0 below.0 here.1.0 up_stored in
             let mine : below.1.pid ≡ pid =
             together sub lock below.1 below.0 below.2.1 up_stored below.2.2 ∙ ap (λ (row : Row). row.pid) (sym up_same) ∙ here.1.1 in
-            let after : ComesBefore s lock sub = subst (λ h. ComesBefore s h sub) same ((rises.sublocks own in_own).0 sub there) in
-            let order = before_last s (own_handles p.own) lock sub (rest.rising p lives.1.0).own (sym (ap last_handle its_handles) ∙ last)
+            let after : IsOlder s lock sub = subst (λ h. IsOlder s h sub) same ((rises.sublocks own in_own).0 sub there) in
+            let order = before_last s (handles_of_own p.own) lock sub (rest.rising p lives.1.0).own (sym (ap last_handle its_handles) ∙ last)
             (owned_here sub below.1 below.2.1 mine) in
             of_order below.0 below.1 sub (after below.0 below.1 up_stored below.2.1) order up_stored below.2.1
 
@@ -326,11 +326,11 @@ module _ (s new : Records) (sound : IsSound s) (sound_new : IsSound new) (f : St
   gone row stored =
       let owned = sound_new.owned.owned f.lock row stored in
       let was = same_own (map (process_without_lock f.lock) s.processes) new.processes own_locks owned.0 owned.2.0 in
-      let here : IsIn f.lock (own_handles was.0.own) =
-      subst (λ owns. IsIn f.lock (own_handles owns)) (sym was.1.1) (subst (λ h. IsIn h (own_handles owned.0.own)) owned.2.3 (own_under_handle owned.0.own owned.1 owned.2.2)) in
+      let here : IsIn f.lock (handles_of_own was.0.own) =
+      subst (λ owns. IsIn f.lock (handles_of_own owns)) (sym was.1.1) (subst (λ h. IsIn h (handles_of_own owned.0.own)) owned.2.3 (own_under_handle owned.0.own owned.1 owned.2.2)) in
       let had = was_process (process_without_lock f.lock) s.processes was.0 was.1.0 in
-      (IsIn-without f.lock f.lock (own_handles had.0.own)
-      (subst (IsIn f.lock) (ap (λ (q : StoredProcess). own_handles q.own) (sym had.1.1) ∙ handles_without f.lock had.0.own) here)).1 refl
+      (IsIn-without f.lock f.lock (handles_of_own had.0.own)
+      (subst (IsIn f.lock) (ap (λ (q : StoredProcess). handles_of_own q.own) (sym had.1.1) ∙ handles_without f.lock had.0.own) here)).1 refl
 
   -- each lock was there
   pub one_were_there : WereThere s new
@@ -360,7 +360,7 @@ module _ (s new : Records) (sound : IsSound s) (sound_new : IsSound new) (f : St
     unfolding lives_on process_left
     handles_left =
         its_handles owner pid new sound_new lives_on
-        ∙ ap own_handles process_left.1.3 ∙ handles_without f.lock lives.0.own
+        ∙ ap handles_of_own process_left.1.3 ∙ handles_without f.lock lives.0.own
         ∙ ap (without f.lock) (sym (its_handles owner pid s sound lives))
 
   -- what was not touched is as it was

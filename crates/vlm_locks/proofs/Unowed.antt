@@ -9,7 +9,7 @@ use Rattle.vlm_records.specs.declared.handles.Place.TheVariants.{Loose}
 use Rattle.vlm_store.specs.Records.{IsSound, Records, SameButNotices, StoredLock, Stores, due_of}
 use Rattle.vlm_locks.specs.GivingUp.{IsPaidBut, due_but}
 use Rattle.vlm_locks.specs.Left.{is_among}
-use Rattle.vlm_locks.specs.Owing.{IsPaid, LosesOne, OwedMoves, row_at_end, weight_of, weight_on}
+use Rattle.vlm_locks.specs.Owing.{IsPaid, LosesOne, OwedMoves, row_at_end, total_weight, weight_on}
 use Rattle.vlm_locks.specs.Withdrawing.{owned_after}
 use Rattle.vlm_locks.proofs.Chosen.{among_push}
 use Rattle.vlm_locks.proofs.Owing.{due_own, nothing_due, owed_by_locks}
@@ -17,7 +17,7 @@ use Rattle.vlm_locks.proofs.Stood.{one_lock, queued_stored}
 use Rattle.vlm_locks.proofs.Weighing.{only, stored_weighs, sum_alike, sum_both}
 
 -- measures that are the same of each stored lock come to the same
-pub weigh_alike : (s : Records) → IsSound s → (f h : StoredLock → ℕ) → ((k : StoredLock) → Stores s k.at k.row → f k ≡ h k) → weight_of f s ≡ weight_of h s
+pub weigh_alike : (s : Records) → IsSound s → (f h : StoredLock → ℕ) → ((k : StoredLock) → Stores s k.at k.row → f k ≡ h k) → total_weight f s ≡ total_weight h s
 weigh_alike s sound f h same =
     omega (
       arith,
@@ -32,7 +32,7 @@ weigh_alike s sound f h same =
     )
 
 -- two measures together
-weigh_both : (f h : StoredLock → ℕ) (s : Records) → weight_of (λ k. f k + h k) s ≡ weight_of f s + weight_of h s
+weigh_both : (f h : StoredLock → ℕ) (s : Records) → total_weight (λ k. f k + h k) s ≡ total_weight f s + total_weight h s
 weigh_both f h s =
     omega (
       arith,
@@ -44,7 +44,7 @@ weigh_both f h s =
 
 module _ (lkids : List ℕ) (s : Records) (sound : IsSound s) (at : ℕ) (row : Row) (stored : Stores s at row) (fresh : is_among lkids row ≡ false) where
   -- what is due for a lock is not due once it is one of these
-  pub one_fewer : (pid : ℕ) → weight_of (due_but (lkids ++ row.lkid ∷ []) pid) s + due_to pid row ≡ weight_of (due_but lkids pid) s
+  pub one_fewer : (pid : ℕ) → total_weight (due_but (lkids ++ row.lkid ∷ []) pid) s + due_to pid row ≡ total_weight (due_but lkids pid) s
   one_fewer pid =
       omega (
         arith,
@@ -81,7 +81,7 @@ module _ (lkids : List ℕ) (s : Records) (sound : IsSound s) (at : ℕ) (row : 
   -- once its request has ended it is one of these
   pub paid_on : IsPaidBut lkids s → (t : Records) → SameButNotices s t → OwedMoves row (row_at_end row) s t → IsPaidBut (lkids ++ row.lkid ∷ []) t
   paid_on paid t same owed pid =
-      let there : weight_of (due_but (lkids ++ row.lkid ∷ []) pid) t ≡ weight_of (due_but (lkids ++ row.lkid ∷ []) pid) s = rw (same.resources, same.loose) refl in
+      let there : total_weight (due_but (lkids ++ row.lkid ∷ []) pid) t ≡ total_weight (due_but (lkids ++ row.lkid ∷ []) pid) s = rw (same.resources, same.loose) refl in
       omega (arith, owed pid, paid pid, one_fewer pid, there, nothing_due row pid)
 
 -- one of these goes

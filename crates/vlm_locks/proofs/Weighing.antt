@@ -11,7 +11,7 @@ use Rattle.vlm_words.specs.declared.resources.Queue.TheVariants.{Granted, Conver
 use Rattle.vlm_links.specs.Lists.{IsIn}
 use Rattle.vlm_records.specs.declared.handles.Place.{Place}
 use Rattle.vlm_records.specs.declared.handles.Place.TheVariants.{Loose, Queued}
-use Rattle.vlm_locks.specs.Owing.{weight_of as all, weight_on as on_one}
+use Rattle.vlm_locks.specs.Owing.{total_weight as all, weight_on as on_one}
 use Rattle.vlm_store.specs.Records.{AreApart, AreResourcesApart, HasResource, IsIdle, IsSound, Records, StoredLock, StoredResource, Stores, disarmed, disarming, is_queue, leaving, locks_at, moving, on_resource, queued, resource_at, resource_with, with_lists, without_lock, without_resource}
 use Rattle.vlm_store.proofs.Records.{queue_at}
 use Rattle.vlm_locks.specs.Sweeping.{Parted}

@@ -25,8 +25,8 @@ admission_on f asked r = record {
 }
 
 -- the processes once the request of the lock is accepted: its status block is that of a pending request
-abbrev pub processes_accepted : Standing → Request → Records → List Process
-processes_accepted f asked s = processes_after_acceptance f.row.pid asked.block f.row.lkid (plain_processes s)
+abbrev pub processes_converting : Standing → Request → Records → List Process
+processes_converting f asked s = processes_after_acceptance f.row.pid asked.block f.row.lkid (plain_processes s)
 
 -- the lock is converted on its resource as the plain machine does it, from these processes
 pub record IsConverted (f : Standing) (asked : Request) (accepted : List Process) (r : StoredResource) (old new : Records) : Type 0 where

@@ -15,7 +15,7 @@ use Rattle.vlm_store.specs.Records.{DueChanges, DuesStay, HasResource, HasRoomFo
 use Rattle.vlm_locks.specs.declared.entering.Entry.{Entry}
 use Rattle.vlm_locks.specs.Owing.{IsPaid, due_for}
 use Rattle.vlm_locks.specs.Rest.{IsAtRest, OtherLocksStay, OthersStay}
-use Rattle.vlm_locks.specs.Rising.{IsAboveAll}
+use Rattle.vlm_locks.specs.Rising.{IsAboveEachLock}
 
 -- the resource that the lock finds under its key: a new one where none is there
 abbrev pub resource_for : Entry → List Resource → Resource
@@ -25,7 +25,7 @@ resource_for e resources = unwrap_or (find (is_at e.site.key) resources) (new_re
 -- there, and the handle of its resource fits the domain
 pub record MayEnter (e : Entry) (s : Records) : Type 0 where
   pub rest : IsAtRest s
-  pub rising : IsAboveAll e.row.lkid s
+  pub rising : IsAboveEachLock e.row.lkid s
   pub owner : IsProcess e.owner e.row.pid s
   pub parent : IsParentOf e.parent e.row s
   pub keyed : IsKeyed e.site.domain e.site.key

@@ -14,7 +14,7 @@ use Rattle.vlm_store.specs.Total.{lock_total}
 use Rattle.vlm_locks.specs.declared.giving_up.Choice.{Choice}
 use Rattle.vlm_locks.specs.declared.giving_up.Choice.TheVariants.{All, Below}
 use Rattle.vlm_locks.specs.Left.{giving_up, is_among, resource_left}
-use Rattle.vlm_locks.specs.Owing.{weight_of}
+use Rattle.vlm_locks.specs.Owing.{total_weight}
 use Rattle.vlm_locks.specs.Rest.{IsAtRest}
 use Rattle.vlm_locks.specs.RunningDown.{GrantedWantNothing, SublocksAreOwn}
 use Rattle.vlm_locks.specs.Touched.{AreStillNoted, AreThere, OnlyTouched, Touches}
@@ -51,7 +51,7 @@ due_but lkids pid k = if is_among lkids k.row then 0 else due_to pid k.row
 
 -- each process is owed what is due to it for its locks but for these, and no more
 abbrev pub IsPaidBut : List ℕ → Records → Type 0
-IsPaidBut lkids s = (pid : ℕ) → due_of pid s ≡ weight_of (due_but lkids pid) s
+IsPaidBut lkids s = (pid : ℕ) → due_of pid s ≡ total_weight (due_but lkids pid) s
 
 -- ---- what becomes of them
 

@@ -26,16 +26,16 @@ abbrev pub weight_on : (StoredLock → ℕ) → StoredResource → ℕ
 weight_on measure r = sum_by measure r.granted + sum_by measure r.converting + sum_by measure r.waiting
 
 -- what all locks come to
-abbrev pub weight_of : (StoredLock → ℕ) → Records → ℕ
-weight_of measure s = sum_by (weight_on measure) s.resources + sum_by measure s.loose
+abbrev pub total_weight : (StoredLock → ℕ) → Records → ℕ
+total_weight measure s = sum_by (weight_on measure) s.resources + sum_by measure s.loose
 
 -- by whichever measure, all locks come to less by this one, which is gone
 abbrev pub LosesOne : StoredLock → Records → Records → Type 0
-LosesOne lock old new = (measure : StoredLock → ℕ) → weight_of measure new + measure lock ≡ weight_of measure old
+LosesOne lock old new = (measure : StoredLock → ℕ) → total_weight measure new + measure lock ≡ total_weight measure old
 
 -- by whichever measure, all locks come to the same
 abbrev pub WeighsTheSame : Records → Records → Type 0
-WeighsTheSame old new = (measure : StoredLock → ℕ) → weight_of measure new ≡ weight_of measure old
+WeighsTheSame old new = (measure : StoredLock → ℕ) → total_weight measure new ≡ total_weight measure old
 
 -- each process is owed the ASTs that are due to it, and no more
 abbrev pub IsPaid : Records → Type 0

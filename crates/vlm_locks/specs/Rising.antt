@@ -5,23 +5,23 @@ use Rattle.vlm_links.specs.Lists.{IsIn}
 use Rattle.vlm_store.specs.Records.{OwnLock, Records, StoredProcess, Stores}
 
 -- the lock of the one handle has a lower identification than that of the other
-abbrev pub ComesBefore : Records → ℕ → ℕ → Type 0
-ComesBefore s first second = (a b : Row) → Stores s first a → Stores s second b → a.lkid < b.lkid
+abbrev pub IsOlder : Records → ℕ → ℕ → Type 0
+IsOlder s first second = (a b : Row) → Stores s first a → Stores s second b → a.lkid < b.lkid
 
 -- the locks of these handles stand by rising identification
 abbrev pub StandByIdentification : Records → List ℕ → Type 0
 StandByIdentification s [] = ⊤
-StandByIdentification s (at ∷ rest) = ((later : ℕ) → IsIn later rest → ComesBefore s at later) × StandByIdentification s rest
+StandByIdentification s (at ∷ rest) = ((later : ℕ) → IsIn later rest → IsOlder s at later) × StandByIdentification s rest
 
 -- the handles of the locks of a process
-abbrev pub own_handles : List OwnLock → List ℕ
-own_handles locks = map (λ own. own.at) locks
+abbrev pub handles_of_own : List OwnLock → List ℕ
+handles_of_own locks = map (λ own. own.at) locks
 
 -- the locks of the process stand by rising identification, and so does each of these with the locks below it
 pub record HasRisingLocks (s : Records) (p : StoredProcess) : Type 0 where
-  pub own : StandByIdentification s (own_handles p.own)
+  pub own : StandByIdentification s (handles_of_own p.own)
   pub sublocks : (own : OwnLock) → IsIn own p.own → StandByIdentification s (own.at ∷ own.sublocks)
 
 -- each stored lock has a lower identification
-abbrev pub IsAboveAll : ℕ → Records → Type 0
-IsAboveAll lkid s = (at : ℕ) (row : Row) → Stores s at row → row.lkid < lkid
+abbrev pub IsAboveEachLock : ℕ → Records → Type 0
+IsAboveEachLock lkid s = (at : ℕ) (row : Row) → Stores s at row → row.lkid < lkid

@@ -41,6 +41,6 @@ abbrev pub OnlyTouched : List Touch → Records → Records → Type 0
 OnlyTouched touches old new = (r : StoredResource) → IsIn r new.resources → (IsIn r.at (touched_handles touches) → ⊥) → IsIn r old.resources
 
 -- resources stand by rising serial
-abbrev pub SerialsRise : List StoredResource → Type 0
-SerialsRise [] = ⊤
-SerialsRise (r ∷ resources) = AllByRecursion (λ later. r.serial < later.serial) resources × SerialsRise resources
+abbrev pub StandBySerial : List StoredResource → Type 0
+StandBySerial [] = ⊤
+StandBySerial (r ∷ resources) = AllByRecursion (λ later. r.serial < later.serial) resources × StandBySerial resources

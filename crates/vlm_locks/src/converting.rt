@@ -8,7 +8,7 @@ ghost use Rattle.vlm_words.specs.Grants.{fits, granted_row};
 ghost use Rattle.vlm_words.specs.Rows.{rows_without};
 ghost use Rattle.vlm_store.specs.Plain.{plain_processes, plain_resource};
 ghost use Rattle.vlm_store.specs.Records.{DuesStay, IsSameLock, StoredResource, due_of, resource_at, rows_of_locks};
-ghost use Rattle.vlm_locks.specs.Converting.{IsConverted, IsConvertedAtOnce, moved_in, processes_accepted};
+ghost use Rattle.vlm_locks.specs.Converting.{IsConverted, IsConvertedAtOnce, moved_in, processes_converting};
 ghost use Rattle.vlm_locks.specs.Owing.{DueMoves, IsPaid, OwedMoves, OwesMore};
 ghost use Rattle.vlm_locks.specs.Rest.{IsAtRest, IsReplaced, LeavesOthers, OtherLocksStay, OwnLocksStay};
 ghost use Rattle.vlm_locks.specs.Standing.{IsStanding};
@@ -144,7 +144,7 @@ pub fn convert(
     requires paid { IsPaid store.old }
     ensures converted { OnOk result (IfSome (resource_at standing.now.res store.old.resources)
         (λ r. IsConverted standing.now asked.now
-        (processes_accepted standing.now asked.now store.old) r store.old store.new)) }
+        (processes_converting standing.now asked.now store.old) r store.old store.new)) }
     ensures beside { OnOk result
         (LeavesOthers standing.now.res standing.now.lock store.old store.new) }
     ensures own_locks { OnOk result (OwnLocksStay store.old store.new) }

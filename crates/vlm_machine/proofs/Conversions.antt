@@ -15,7 +15,7 @@ use Rattle.vlm_words.specs.State.{Process, Resource, State}
 use Rattle.vlm_words.specs.StatusBlocks.{processes_after_acceptance}
 use Rattle.vlm_store.specs.Plain.{plain_processes, plain_resources}
 use Rattle.vlm_store.specs.Records.{Records, StoredResource, resource_at}
-use Rattle.vlm_locks.specs.Converting.{IsConverted, admission_on, processes_accepted}
+use Rattle.vlm_locks.specs.Converting.{IsConverted, admission_on, processes_converting}
 use Rattle.vlm_machine.specs.declared.converting.AdmittedConversion.{AdmittedConversion}
 use Rattle.vlm_machine.specs.Admissions.{IsAdmittedConversion}
 use Rattle.vlm_machine.specs.Machine.{MachineState, plain_state}
@@ -30,7 +30,7 @@ module _ (old : MachineState) (c : Conversion) (a : AdmittedConversion) (admitte
   admission = admission_on a.standing a.asked own
 
   -- what the conversion writes, once its status block is accepted
-  blocks_is : conversion_blocks admission (processes_accepted a.standing a.asked old.records) ≡ convert_blocks (plain_state old) c admission
+  blocks_is : conversion_blocks admission (processes_converting a.standing a.asked old.records) ≡ convert_blocks (plain_state old) c admission
   unfolding convert_blocks
   blocks_is =
       ap (λ pid. conversion_blocks admission (processes_after_acceptance pid a.asked.block a.standing.row.lkid (plain_processes old.records))) admitted.standing.owned
@@ -38,7 +38,7 @@ module _ (old : MachineState) (c : Conversion) (a : AdmittedConversion) (admitte
       ∙ ap (λ (asked : Request). conversion_blocks admission (processes_after_acceptance c.pid asked.block (convert_lkid (plain_state old) c) (plain_processes old.records))) admitted.asked
 
   -- the resources once the lock is converted
-  resources_are : (new : Records) → IsConverted a.standing a.asked (processes_accepted a.standing a.asked old.records) own old.records new
+  resources_are : (new : Records) → IsConverted a.standing a.asked (processes_converting a.standing a.asked old.records) own old.records new
       → plain_resources new ≡ map (resource_after_conversion a.asked admission.at_once c.pid (convert_lkid (plain_state old) c) (convert_blocks (plain_state old) c admission).value_block) (plain_resources old.records)
   resources_are new converted =
       converted.resources
@@ -51,12 +51,12 @@ module _ (old : MachineState) (c : Conversion) (a : AdmittedConversion) (admitte
 
   -- the state once the lock is converted and the request number is used up
   pub state_converted : (new : Records)
-      → IfSome (resource_at a.standing.res old.records.resources) (λ r. IsConverted a.standing a.asked (processes_accepted a.standing a.asked old.records) r old.records new)
+      → IfSome (resource_at a.standing.res old.records.resources) (λ r. IsConverted a.standing a.asked (processes_converting a.standing a.asked old.records) r old.records new)
       → (there : ConversionAdmission) → convert_admission (plain_state old) c ≡ Some there
       → plain_state (record old { records = new; next_request = old.next_request + 1 }) ≡ convert_change (plain_state old) c there
   unfolding convert_change
   state_converted new converts there found =
-      let converted : IsConverted a.standing a.asked (processes_accepted a.standing a.asked old.records) own old.records new = rw admitted.standing.standing.found at converts in
+      let converted : IsConverted a.standing a.asked (processes_converting a.standing a.asked old.records) own old.records new = rw admitted.standing.standing.found at converts in
       ap (λ ps. with_parts ps (plain_resources new)) (converted.statuses ∙ ap (λ (b : Blocks). b.processes) blocks_is)
       ∙ ap (λ rs. with_parts (convert_blocks (plain_state old) c admission).processes rs) (resources_are new converted)
       ∙ ap (convert_change (plain_state old) c) (same_Some admission there (sym admitted.found ∙ found))

@@ -15,7 +15,7 @@ use Rattle.vlm_locks.specs.Owing.{IsPaid}
 use Rattle.vlm_locks.specs.Rest.{IsAtRest}
 use Rattle.vlm_locks.specs.RunningDown.{AreEnded, CanEndProcesses}
 use Rattle.vlm_locks.specs.declared.touched.Touch.{Touch}
-use Rattle.vlm_locks.specs.Touched.{AreThere, OnlyTouched, SerialsRise, Touches}
+use Rattle.vlm_locks.specs.Touched.{AreThere, OnlyTouched, StandBySerial, Touches}
 use Rattle.vlm_locks.proofs.TogetherDown.{rundown_by_rows}
 use Rattle.vlm_machine.specs.Between.{IsBetweenSteps}
 use Rattle.vlm_machine.specs.Machine.{MachineState, plain_state}
@@ -54,7 +54,7 @@ state_ended old is_one nodes new before after apart ended =
     with_parts ps rs = record (plain_state old) { nodes = nodes; processes = ps; resources = rs }
 
 -- serials rise among the records as among the plain resources
-rise_plain : (rs : List StoredResource) → EachPair (λ a b. a.serial < b.serial) (map plain_resource rs) → SerialsRise rs
+rise_plain : (rs : List StoredResource) → EachPair (λ a b. a.serial < b.serial) (map plain_resource rs) → StandBySerial rs
 rise_plain [] pairs = tt
 rise_plain (r ∷ rs) pairs = (each_above rs pairs.0, rise_plain rs pairs.1)
   where

@@ -15,14 +15,14 @@ use Rattle.vlm_store.specs.Total.{lock_total}
 use Rattle.vlm_locks.specs.Touched.{Touches}
 use Rattle.vlm_locks.proofs.RunsDown.{total_is}
 use Rattle.vlm_machine.specs.Machine.{MachineState, plain_state}
-use Rattle.vlm_machine.specs.Notes.{HasRoomToNote, locks_on}
+use Rattle.vlm_machine.specs.Notes.{HasRoomToNote, total_locks_on}
 
 -- each row counts as one
 ones : (rows : List Row) → sum_by one_each rows ≡ length rows
 ones [] = refl
 ones (row ∷ rows) = omega (arith, ones rows, sum_by-cons one_each row rows)
 
-counted : (rs : List Resource) → locks_on rs ≡ total rs
+counted : (rs : List Resource) → total_locks_on rs ≡ total rs
 counted [] = refl
 counted (r ∷ rs) =
     omega (
@@ -36,16 +36,16 @@ counted (r ∷ rs) =
     )
 
 -- as many locks are stored as stand on the resources, where none is loose
-pub as_many_stored : (s : Records) → s.loose ≡ [] → lock_total s ≡ locks_on (plain_resources s)
+pub as_many_stored : (s : Records) → s.loose ≡ [] → lock_total s ≡ total_locks_on (plain_resources s)
 as_many_stored s none_loose = omega (arith, counted (plain_resources s), total_is s.resources, ap (λ (locks : List StoredLock). length locks) none_loose)
 
 -- at the start there is none
 pub none_at_start : (m : MachineState) (touched : Touches) → plain_state m ≡ start → touched.noted ≡ [] → HasRoomToNote touched m
-none_at_start m touched is none = record { none = none; room = omega (arith, ap (λ (s : State). locks_on s.resources) is) }
+none_at_start m touched is none = record { none = none; room = omega (arith, ap (λ (s : State). total_locks_on s.resources) is) }
 
 -- a step leaves room where there was room for what it may add
 pub room_after : (old new : MachineState) (touched : Touches) (step : Step) (answer : Answer) → Outcome (plain_state old) step (plain_state new) answer → touched.noted ≡ []
-    → locks_on (plain_state old).resources + most_added step ≤ touched.room → HasRoomToNote touched new
+    → total_locks_on (plain_state old).resources + most_added step ≤ touched.room → HasRoomToNote touched new
 room_after old new touched step answer (inl made) none room = record {
   none = none;
   room =
@@ -60,5 +60,5 @@ room_after old new touched step answer (inl made) none room = record {
 }
 room_after old new touched step answer (inr short) none room = record {
   none = none;
-  room = omega (arith, room, ap (λ (s : State). locks_on s.resources) short.state);
+  room = omega (arith, room, ap (λ (s : State). total_locks_on s.resources) short.state);
 }

@@ -29,26 +29,26 @@ use Rattle.vlm_words.proofs.Processes.{kept_converted, kept_ended, kept_entered,
 use Rattle.vlm_links.specs.Lists.{IsIn}
 use Rattle.vlm_store.specs.Records.{StoredProcess}
 use Rattle.vlm_cycle.specs.declared.scratch.Scratch.{Scratch}
-use Rattle.vlm_cycle.specs.Marking.{HasRoom, KeepsRoom}
+use Rattle.vlm_cycle.specs.Marking.{HasRoomInBoth, KeepsRoom}
 use Rattle.vlm_cycle.specs.Waiting.{IsRoomy}
 use Rattle.vlm_machine.specs.Machine.{MachineState, plain_state}
 use Rattle.vlm_machine.specs.Notes.{HasRoomToMark}
 
 -- at the start no process lives
 pub none_lives_at_start : (m : MachineState) (marks : Scratch) → plain_state m ≡ start → HasRoomToMark marks m
-none_lives_at_start m marks is = subst (λ (s : State). AllByRecursion (λ p. HasRoom marks p.pid) s.processes) (sym is) tt
+none_lives_at_start m marks is = subst (λ (s : State). AllByRecursion (λ p. HasRoomInBoth marks p.pid) s.processes) (sym is) tt
 
 -- a search finds room for each stored process, and each is of one of the eight nodes
 pub roomy : (m : MachineState) (marks : Scratch) → All (λ p. is_node (node_of_pid p.pid) ≡ true) (plain_state m).processes → HasRoomToMark marks m → IsRoomy m.records marks
 roomy m marks named room = of_list m.records.processes (recursion_from_All (λ (p : Process). is_node (node_of_pid p.pid) ≡ true) (plain_state m).processes named) room
   where
     of_list : (ps : List StoredProcess) → AllByRecursion (λ (p : Process). is_node (node_of_pid p.pid) ≡ true) (map (λ (x : StoredProcess). x.process) ps)
-        → AllByRecursion (λ (p : Process). HasRoom marks p.pid) (map (λ (x : StoredProcess). x.process) ps)
-        → (p : StoredProcess) → IsIn p ps → HasRoom marks p.process.pid × (is_node (p.process.pid / 65536) ≡ true)
+        → AllByRecursion (λ (p : Process). HasRoomInBoth marks p.pid) (map (λ (x : StoredProcess). x.process) ps)
+        → (p : StoredProcess) → IsIn p ps → HasRoomInBoth marks p.process.pid × (is_node (p.process.pid / 65536) ≡ true)
     of_list [] of_nodes rooms p there = absurd there
     of_list (x ∷ ps) of_nodes rooms p there =
         elim there [
-          | inl here ↦ subst (λ (y : StoredProcess). HasRoom marks y.process.pid × (is_node (y.process.pid / 65536) ≡ true)) here (rooms.0, of_nodes.0)
+          | inl here ↦ subst (λ (y : StoredProcess). HasRoomInBoth marks y.process.pid × (is_node (y.process.pid / 65536) ≡ true)) here (rooms.0, of_nodes.0)
           | inr later ↦ of_list ps of_nodes.1 rooms.1 p later
         ]
 
@@ -131,7 +131,7 @@ module _ (P : ℕ → Type 0) where
 
 -- a step leaves room for the marks of those that live after it
 pub marks_after : (old new : MachineState) (before after : Scratch) (step : Step) (answer : Answer) → Outcome (plain_state old) step (plain_state new) answer
-    → KeepsRoom before after → HasNew (HasRoom after) step answer → HasRoomToMark before old → HasRoomToMark after new
+    → KeepsRoom before after → HasNew (HasRoomInBoth after) step answer → HasRoomToMark before old → HasRoomToMark after new
 marks_after old new before after step answer outcome kept has room =
-    living_after (HasRoom after) (plain_state old) (plain_state new) step answer outcome has
-    (each_weaker (λ p. HasRoom before p.pid) (λ p. HasRoom after p.pid) (λ p. kept p.pid) (plain_state old).processes room)
+    living_after (HasRoomInBoth after) (plain_state old) (plain_state new) step answer outcome has
+    (each_weaker (λ p. HasRoomInBoth before p.pid) (λ p. HasRoomInBoth after p.pid) (λ p. kept p.pid) (plain_state old).processes room)

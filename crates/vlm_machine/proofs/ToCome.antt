@@ -19,7 +19,7 @@ use Rattle.vlm_records.specs.declared.handles.Place.{Place}
 use Rattle.vlm_records.specs.declared.handles.Place.TheVariants.{Loose, Queued}
 use Rattle.vlm_store.specs.Plain.{plain_resource, plain_resources}
 use Rattle.vlm_store.specs.Records.{IsNewLock, IsNewProcess, Records, StoredLock, StoredProcess, StoredResource, locks_at, queued, resource_at, rows_of_locks}
-use Rattle.vlm_locks.specs.Rising.{IsAboveAll}
+use Rattle.vlm_locks.specs.Rising.{IsAboveEachLock}
 use Rattle.vlm_locks.proofs.Stood.{resource_among}
 use Rattle.vlm_machine.specs.Machine.{MachineState, plain_state}
 use Rattle.vlm_machine.proofs.Wanting.{each_of}
@@ -74,7 +74,7 @@ new_lock s lkid none_loose none at row stored same = by_place stored.0 stored.1
             absurd (omega (arith, one, all, none))
 
 -- where none is counted from an identification on, it is above all
-pub above_all : (s : Records) (lkid : ℕ) → s.loose ≡ [] → ((other : ℕ) → lkid ≤ other → sum_by (rows_on other) (plain_resources s) ≡ 0) → IsAboveAll lkid s
+pub above_all : (s : Records) (lkid : ℕ) → s.loose ≡ [] → ((other : ℕ) → lkid ≤ other → sum_by (rows_on other) (plain_resources s) ≡ 0) → IsAboveEachLock lkid s
 above_all s lkid none_loose none at row stored = lt_of_not-le (λ from. new_lock s row.lkid none_loose (none row.lkid from) at row stored refl)
 
 -- ---- processes

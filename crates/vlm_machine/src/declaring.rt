@@ -6,7 +6,7 @@ ghost use Rattle.vlm_words.specs.Declare.{declare_change, declare_refusal, next_
 ghost use Rattle.vlm_words.specs.State.{node_at};
 ghost use Rattle.vlm_words.specs.Stepped.{Outcome};
 ghost use Rattle.vlm_store.specs.Records.{IsNewProcess, IsUnchanged};
-ghost use Rattle.vlm_cycle.specs.Marking.{HasRoom, KeepsRoom};
+ghost use Rattle.vlm_cycle.specs.Marking.{HasRoomInBoth, KeepsRoom};
 ghost use Rattle.vlm_machine.specs.Between.{IsBetweenSteps};
 ghost use Rattle.vlm_machine.specs.Machine.{plain_state};
 
@@ -25,7 +25,7 @@ impl Machine {
         requires { IsBetweenSteps (plain_state self.old) }
         ensures outcome { Outcome (plain_state self.old) (Step.Declare declaration)
             (plain_state self.new) result }
-        ensures room { (pid : ℕ) → result ≡ Answer.Process pid → HasRoom scratch.new pid }
+        ensures room { (pid : ℕ) → result ≡ Answer.Process pid → HasRoomInBoth scratch.new pid }
         ensures kept { KeepsRoom scratch.old scratch.new }
     {
         if let Err(refusal) = self.check_declaration(&declaration) {
@@ -84,7 +84,7 @@ impl Machine {
             (plain_state self.new ≡ declare_change (plain_state self.old) declaration.now) }
         ensures state { OnErr result (plain_state self.new ≡ plain_state self.old) }
         ensures unchanged { OnErr result (IsUnchanged self.old.records self.new.records) }
-        ensures room { IfOk result (λ pid. HasRoom scratch.new pid) }
+        ensures room { IfOk result (λ pid. HasRoomInBoth scratch.new pid) }
         ensures kept { KeepsRoom scratch.old scratch.new }
     {
         let pid = self.next_pid(declaration.node);

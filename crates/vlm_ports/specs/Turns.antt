@@ -10,13 +10,13 @@ turn_entries Idle = 0
 turn_entries (NoMemory n) = n
 
 -- the turn served
-abbrev pub IsServed : Turn → Type 0
-IsServed (Served n) = Unit {0}
-IsServed Idle = ⊥
-IsServed (NoMemory n) = ⊥
+abbrev pub IsServedTurn : Turn → Type 0
+IsServedTurn (Served n) = Unit {0}
+IsServedTurn Idle = ⊥
+IsServedTurn (NoMemory n) = ⊥
 
 -- the turn found nothing to do
-abbrev pub IsIdle : Turn → Type 0
-IsIdle (Served n) = ⊥
-IsIdle Idle = Unit {0}
-IsIdle (NoMemory n) = ⊥
+abbrev pub IsIdleTurn : Turn → Type 0
+IsIdleTurn (Served n) = ⊥
+IsIdleTurn Idle = Unit {0}
+IsIdleTurn (NoMemory n) = ⊥

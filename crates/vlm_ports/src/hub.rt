@@ -49,7 +49,7 @@ impl Hub {
     ghost use Rattle.vlm_words.specs.Stepped.{Outcome};
     ghost use Rattle.vlm_journal.specs.Books.{GoesOn};
     ghost use Rattle.vlm_journal.specs.Told.{asked, told};
-    ghost use Rattle.vlm_ports.specs.Turns.{IsIdle, IsServed, turn_entries};
+    ghost use Rattle.vlm_ports.specs.Turns.{IsIdleTurn, IsServedTurn, turn_entries};
     ghost use Rattle.vlm_ports.specs.Hubs.{EachAsksOnce, HubGrew, IsAsWritten, IsDrawnAt, IsNewHub, IsPortOf, IsSameBut, MayIdle, MayRestAt, NoneAsks, OneAsks, asked_before, base, bases, free_for, journal, nodes, rings, state, told_before, waiting};
     ghost use Rattle.vlm_ports.specs.Ports.{AreNew, arrived, identity, posted, taken};
 
@@ -108,10 +108,10 @@ impl Hub {
         ensures rings { rings self.new ≡ rings self.old }
         ensures base { (base self.new ≡ base self.old) × (bases self.new ≡ bases self.old) }
         ensures made { HubGrew (turn_entries result) self.old self.new }
-        ensures some { IsServed result → 0 < turn_entries result }
+        ensures some { IsServedTurn result → 0 < turn_entries result }
         ensures most { turn_entries result ≤ 2 * nodes self.old }
         ensures once { EachAsksOnce (journal self.old) (journal self.new) }
-        ensures idle { IsIdle result → MayIdle self.new }
+        ensures idle { IsIdleTurn result → MayIdle self.new }
     {
         let mut made = 0usize;
         for at in 0..self.nodes() {

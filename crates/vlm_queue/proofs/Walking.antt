@@ -12,7 +12,7 @@ use Rattle.vlm_store.specs.Plain.{plain_resource}
 use Rattle.vlm_store.specs.Records.{HasResource, IsSound, IsStored, Records, StoredLock, StoredResource, Stores, at_after, first_at, first_resource_at, locks_at, queued, resource_at, resource_at_after, rows_of_locks}
 use Rattle.vlm_store.proofs.Walks.{at_lock, at_resource, first-there, first_resource-there, locks_from, resources_from as stored_from}
 use Rattle.vlm_queue.specs.Views.{rows_in}
-use Rattle.vlm_queue.specs.Walks.{IsInQueue, resource_of, resources_from, resources_left, rows_from, rows_left, rows_queued}
+use Rattle.vlm_queue.specs.Walks.{IsInQueue, plain_resource_at, resources_from, resources_left, rows_from, rows_to_walk, rows_queued}
 
 -- ---- resources
 
@@ -41,14 +41,14 @@ next_there s res sound there = (at_resource res s.resources sound.resources_apar
 
 -- behind a resource the others are left
 pub one_left : (s : Records) (res : ℕ) → IsSound s → HasResource res s
-    → IfSome (resource_of res s) (λ r. resources_left (Some res) s ≡ r ∷ resources_left (resource_at_after res s.resources) s)
+    → IfSome (plain_resource_at res s) (λ r. resources_left (Some res) s ≡ r ∷ resources_left (resource_at_after res s.resources) s)
 one_left s res sound there =
     let stands = at_resource res s.resources sound.resources_apart there in
     rw (ap (option_map plain_resource) stands.found)
     (plain_from (Some res) s.resources ∙ ap (map plain_resource) stands.left ∙ ap (λ rs. plain_resource stands.r ∷ rs) (sym (plain_from (resource_at_after res s.resources) s.resources)))
 
 -- a resource that is stored is there in the plain machine
-pub is_there : (res : ℕ) (s : Records) → HasResource res s → IsSome (resource_of res s)
+pub is_there : (res : ℕ) (s : Records) → HasResource res s → IsSome (plain_resource_at res s)
 is_there res s there = of_some (resource_at res s.resources) there
   where
     of_some : (o : Option StoredResource) → IsSome o → IsSome (option_map plain_resource o)
@@ -58,7 +58,7 @@ is_there res s there = of_some (resource_at res s.resources) there
 -- ---- rows
 
 -- the rows of a queue are those that the plain machine has there
-pub rows_plain : (res : ℕ) (queue : Queue) (s : Records) → IfSome (resource_of res s) (λ r. rows_queued res queue s ≡ rows_in queue r)
+pub rows_plain : (res : ℕ) (queue : Queue) (s : Records) → IfSome (plain_resource_at res s) (λ r. rows_queued res queue s ≡ rows_in queue r)
 rows_plain res queue s = of_found (resource_at res s.resources) queue
   where
     of_found : (o : Option StoredResource) (queue : Queue) → IfSome (option_map plain_resource o) (λ r. rows_of_locks (option_map_or (queued queue) o []) ≡ rows_in queue r)
@@ -85,7 +85,7 @@ all_rows (k ∷ rest) = rw (eq-eqb k.at k.at refl) refl
 -- a walk of a queue begins at its head
 pub record Begins (res : ℕ) (queue : Queue) (head : Option ℕ) (s : Records) : Type 0 where
   pub there : IsInQueue res queue head s
-  pub left : rows_left res queue head s ≡ rows_queued res queue s
+  pub left : rows_to_walk res queue head s ≡ rows_queued res queue s
 
 pub begins : (s : Records) (res : ℕ) (queue : Queue) (head : Option ℕ) → head ≡ first_at (locks_at (Queued res queue) s) → Begins res queue head s
 begins s res queue head first =
@@ -96,7 +96,7 @@ begins s res queue head first =
 pub record Passes (res : ℕ) (queue : Queue) (lock : ℕ) (next : Option ℕ) (s : Records) : Type 0 where
   pub row : Row
   pub stored : Stores s lock row
-  pub left : rows_left res queue (Some lock) s ≡ row ∷ rows_left res queue next s
+  pub left : rows_to_walk res queue (Some lock) s ≡ row ∷ rows_to_walk res queue next s
   pub there : IsInQueue res queue next s
 
 -- fewer are left behind a row

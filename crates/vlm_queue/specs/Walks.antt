@@ -14,8 +14,8 @@ pub use Rattle.vlm_store.specs.Records.{HasResource}
 -- ---- resources
 
 -- the resource of this handle as the plain machine has it, if it is there
-abbrev pub resource_of : ℕ → Records → Option Resource
-resource_of res s = option_map plain_resource (resource_at res s.resources)
+abbrev pub plain_resource_at : ℕ → Records → Option Resource
+plain_resource_at res s = option_map plain_resource (resource_at res s.resources)
 
 -- the resources from the one of this handle on, as the plain machine has them
 abbrev pub resources_from : Option ℕ → List StoredResource → List Resource
@@ -44,8 +44,8 @@ rows_from (Some at) [] = []
 rows_from (Some at) (k ∷ rest) = if k.at == at then rows_of_locks (k ∷ rest) else rows_from (Some at) rest
 
 -- the rows that a walk of a queue has left, that of the lock of this handle first
-abbrev pub rows_left : ℕ → Queue → Option ℕ → Records → List Row
-rows_left res queue next s = rows_from next (locks_at (Queued res queue) s)
+abbrev pub rows_to_walk : ℕ → Queue → Option ℕ → Records → List Row
+rows_to_walk res queue next s = rows_from next (locks_at (Queued res queue) s)
 
 -- a walk of a queue has come to one of its locks, or to its end
 abbrev pub IsInQueue : ℕ → Queue → Option ℕ → Records → Type 0

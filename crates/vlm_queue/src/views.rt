@@ -5,7 +5,7 @@ ghost use Rattle.vlm_words.specs.declared.locks.Row.{Row};
 ghost use Rattle.vlm_words.specs.Resources.{key_name, key_parent};
 ghost use Rattle.vlm_store.specs.Records.{HasResource, IsStored, Stores};
 ghost use Rattle.vlm_queue.specs.Views.{resource_view, row_view};
-ghost use Rattle.vlm_queue.specs.Walks.{resource_of};
+ghost use Rattle.vlm_queue.specs.Walks.{plain_resource_at};
 
 use vlm_store::{LockAt, ResAt, Resource, Store};
 use vlm_words::locks::Row;
@@ -83,7 +83,7 @@ impl RowView {
 /// What is shown of a resource of the store.
 pub fn resource_view(store: &Store, res: ResAt) -> ResourceView
     requires { HasResource res store.now }
-    ensures { IfSome (resource_of res store.now) (λ r. result ≡ resource_view r) }
+    ensures { IfSome (plain_resource_at res store.now) (λ r. result ≡ resource_view r) }
 {
     ResourceView::of(store.resource_record(res))
 }

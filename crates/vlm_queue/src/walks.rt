@@ -6,7 +6,7 @@ ghost use Rattle.vlm_records.specs.declared.handles.Place.{Place};
 ghost use Rattle.vlm_store.specs.Plain.{plain_resources};
 ghost use Rattle.vlm_store.specs.Records.{HasResource, IsSound, IsStored, locks_at};
 ghost use Rattle.vlm_queue.specs.Views.{resource_view, row_shown};
-ghost use Rattle.vlm_queue.specs.Walks.{lock_at_index, resource_at_index, resource_of, resources_left};
+ghost use Rattle.vlm_queue.specs.Walks.{lock_at_index, resource_at_index, plain_resource_at, resources_left};
 
 use crate::queues::{head, next};
 use crate::views::{ResourceView, RowView, resource_view, row_view};
@@ -26,7 +26,7 @@ pub fn first_resource(store: &Store) -> Option<ResAt>
 pub fn next_resource(store: &Store, res: ResAt) -> Option<ResAt>
     requires { HasResource res store.now }
     ensures there { ForSome result (λ next. HasResource next store.now) }
-    ensures left { IfSome (resource_of res store.now) (λ r. resources_left (Some res) store.now
+    ensures left { IfSome (plain_resource_at res store.now) (λ r. resources_left (Some res) store.now
         ≡ r ∷ resources_left result store.now) }
 {
     law_records_are_sound(store);

@@ -11,7 +11,7 @@ use Rattle.vlm_records.specs.declared.handles.Place.{Place}
 use Rattle.vlm_records.specs.declared.handles.Place.TheVariants.{Loose, Queued}
 use Rattle.vlm_records.specs.declared.locks.InLine.{InLine}
 use Rattle.vlm_records.specs.declared.locks.Lock.{Lock}
-use Rattle.vlm_records.specs.Line.{IsLine, is_queued, line_handles, line_in, line_links, line_of, with_line_links}
+use Rattle.vlm_records.specs.Line.{IsLine, is_queued, line_handles, line_in, line_links, queued_line, with_line_links}
 use Rattle.vlm_records.specs.Shown.{SameBut, but_in_line}
 use Rattle.vlm_records.proofs.Families.{family-put, family-taken, family-unnoted}
 
@@ -20,13 +20,13 @@ one_line : (i j : Unit {0}) → (i ≡ j) ⊎ (i ≢ j)
 one_line i j = inl refl
 
 -- a lock whose request is queued notes it
-pub queued_noted : (place : Place) → is_queued place ≡ true → line_of place ≡ Some tt
+pub queued_noted : (place : Place) → is_queued place ≡ true → queued_line place ≡ Some tt
 queued_noted Loose is = cc
 queued_noted (Queued res Granted) is = cc
 queued_noted (Queued res Conversion) is = refl
 queued_noted (Queued res Waiting) is = refl
 
-pub unqueued_noted : (place : Place) → is_queued place ≡ false → line_of place ≡ None
+pub unqueued_noted : (place : Place) → is_queued place ≡ false → queued_line place ≡ None
 unqueued_noted Loose is = refl
 unqueued_noted (Queued res Granted) is = refl
 unqueued_noted (Queued res Conversion) is = cc

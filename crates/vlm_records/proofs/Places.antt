@@ -16,7 +16,7 @@ use Rattle.vlm_records.specs.declared.locks.Lock.{Lock}
 use Rattle.vlm_records.specs.declared.queues.Queues.{Queues}
 use Rattle.vlm_records.specs.declared.resources.Resource.{Resource}
 use Rattle.vlm_records.proofs.Families.{family-handles, family-kept, family-put, family-put_here, family-put_others, family-taken, family-taken_handles, one_list}
-use Rattle.vlm_records.specs.Kin.{named_lock}
+use Rattle.vlm_records.specs.Kin.{lasting_part}
 use Rattle.vlm_records.specs.Shown.{IsPlaced, IsThere, SameBut, but_lists, but_place, but_queued, but_row, but_tally, handles_at, list_at, list_in, lkid_of, noted, noted_in, no_list, queue_links, row_in, tally_in, with_queue_links}
 
 pub queue_cases : (p q : Queue) → (p ≡ q) ⊎ (p ≢ q)
@@ -256,6 +256,6 @@ lkid_told None lkid is = absurd (none-some lkid is)
 lkid_told (Some l) lkid is = (refl, same_Some l.row.lkid lkid is)
 
 -- what names a lock stays where only its queue changes
-pub named-queued : (slot : Option Lock) → option_map named_lock (option_map but_queued slot) ≡ option_map named_lock slot
+pub named-queued : (slot : Option Lock) → option_map lasting_part (option_map but_queued slot) ≡ option_map lasting_part slot
 named-queued None = refl
 named-queued (Some l) = refl

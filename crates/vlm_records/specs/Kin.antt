@@ -70,8 +70,8 @@ abbrev pub but_below : Lock → Lock
 but_below l = record l { of_parent = no_links; sublocks = no_list }
 
 -- what of a lock never changes: its names, its owner and its parent
-abbrev pub named_lock : Lock → Lock
-named_lock l = but_kin (but_queued l)
+abbrev pub lasting_part : Lock → Lock
+lasting_part l = but_kin (but_queued l)
 
 -- what the record of a process tells
 abbrev pub plain_process : Process → PlainProcess

@@ -27,16 +27,16 @@ is_queued (Queued res Conversion) = true
 is_queued (Queued res Waiting) = true
 
 -- the one list there is, where the request of the lock is queued
-abbrev pub line_of : Place → Option (Unit {0})
-line_of Loose = None
-line_of (Queued res Granted) = None
-line_of (Queued res Conversion) = Some tt
-line_of (Queued res Waiting) = Some tt
+abbrev pub queued_line : Place → Option (Unit {0})
+queued_line Loose = None
+queued_line (Queued res Granted) = None
+queued_line (Queued res Conversion) = Some tt
+queued_line (Queued res Waiting) = Some tt
 
 -- the same, read off the record of a lock if there is one
 abbrev pub line_in : Option Lock → Option (Unit {0})
 line_in None = None
-line_in (Some l) = line_of l.place
+line_in (Some l) = queued_line l.place
 
 -- the handles of the list, in its order
 abbrev pub line_handles : Slab Lock → LinkedList InLine → List ℕ

@@ -13,6 +13,6 @@ pub record IsToldOf (p : Process) (marks : List (List Bool)) : Type 0 where
   pub room : HasRoomFor marks p.pid
 
 -- no mark changes but that of the process with this identification, and no room goes
-pub record OthersStay (pid : ℕ) (old new : List (List Bool)) : Type 0 where
+pub record OtherMarksStay (pid : ℕ) (old new : List (List Bool)) : Type 0 where
   pub marks : (other : ℕ) → ¬ (other ≡ pid) → is_marked new other ≡ is_marked old other
   pub room : (other : ℕ) → HasRoomFor old other → HasRoomFor new other

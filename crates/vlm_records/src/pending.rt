@@ -1,7 +1,7 @@
 //! What is pending for a process: its ASTs as they are queued and taken, and the mark that says that it has one.
 
 ghost use Rattle.std.specs.Prelude.{◌≡◌, ◌<◌, ◌-◌, ◌++◌, ◌∷◌, [], drop, slice_get};
-ghost use Rattle.vlm_records.specs.Pending.{IsToldOf, OthersStay};
+ghost use Rattle.vlm_records.specs.Pending.{IsToldOf, OtherMarksStay};
 
 use crate::processes::Process;
 use vlm_marks::NodeMarks;
@@ -16,7 +16,7 @@ impl Process {
         ensures left { self.new.asts.pending ≡ drop 1 self.old.asts.pending }
         ensures due { self.new.asts.due ≡ self.old.asts.due }
         ensures told { IsToldOf self.new pending.new }
-        ensures others { OthersStay self.old.pid pending.old pending.new }
+        ensures others { OtherMarksStay self.old.pid pending.old pending.new }
     {
         let taken = self.asts.take();
         if self.asts.len() == 0 {
@@ -36,7 +36,7 @@ impl Process {
           };
         } }
         ensures told { IsToldOf self.new pending.new }
-        ensures others { OthersStay self.old.pid pending.old pending.new }
+        ensures others { OtherMarksStay self.old.pid pending.old pending.new }
     {
         self.asts.queue(ast);
         pending.mark(self.pid);

@@ -13,7 +13,7 @@ use Rattle.vlm_words.specs.declared.steps.Step.{Step}
 use Rattle.vlm_words.specs.State.{State, start}
 use Rattle.vlm_words.specs.StatusBlocks.{status_block_at}
 use Rattle.vlm_words.specs.Stepped.{Outcome}
-use Rattle.vlm_lines.specs.Lines.{is_text, line_read, lines_of, no_process}
+use Rattle.vlm_lines.specs.Lines.{is_text, line_read, lines_of, unnamed_process}
 use Rattle.vlm_script.specs.Texts.{answer_line, node_line, resources_text, status_block_line}
 
 -- a name of the script, and the process that it is bound to
@@ -120,10 +120,10 @@ Runs old (Set name setting) text new = Makes old name (set_step setting) text ne
 Runs old (Enq name request) text new = Makes old name (enq_step request) text new
 Runs old (Cvt name conversion) text new = Makes old name (convert_step conversion) text new
 Runs old (Deq name dequeue) text new = Makes old name (deq_step dequeue) text new
-Runs old (End name) text new = Makes old name (Rundown no_process) text new
+Runs old (End name) text new = Makes old name (Rundown unnamed_process) text new
 Runs old (Leave node) text new = Steps old (leave_step node) (node_line node) text new
 Runs old (Search node) text new = Steps old (search_step node) (answer_line (codes "search")) text new
-Runs old (Ast name) text new = Makes old name (Take no_process) text new
+Runs old (Ast name) text new = Makes old name (Take unnamed_process) text new
 Runs old (Block name number) text new =
     Shows old name (λ pid. status_block_line name number (status_block_at old.state.processes pid number)) text new
 Runs old Show text new = Prints old (resources_text old.state.resources) text new

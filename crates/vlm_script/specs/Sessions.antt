@@ -18,7 +18,7 @@ pub record IsRun (old : Session) (line : Line) (new : Session) (before after : L
   pub printed : after ≡ before ++ text
 
 -- a step is made by the process that the name is bound to, and its answer is put at the end of the text before it
-pub record IsMade (old : Session) (name : List ℕ) (step : Step) (new : Session) (before after : List ℕ) : Type 0 where
+pub record RunsStep (old : Session) (name : List ℕ) (step : Step) (new : Session) (before after : List ℕ) : Type 0 where
   pub text : List ℕ
   pub faultless : unknown_fault (bound_to old.names name) ≡ None
   pub makes : Makes old name step text new

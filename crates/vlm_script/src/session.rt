@@ -3,7 +3,7 @@
 ghost use Rattle.std.specs.Prelude.{◌≡◌, ◌++◌, None, Some, MatchResult};
 ghost use Rattle.vlm_script.specs.Scripts.{bound_to, of_process, opening};
 ghost use Rattle.vlm_script.specs.Texts.{answer_line};
-ghost use Rattle.vlm_script.specs.Sessions.{IsMade, IsRun, IsPrinted, StopsBytes, StopsLine, StopsName};
+ghost use Rattle.vlm_script.specs.Sessions.{RunsStep, IsRun, IsPrinted, StopsBytes, StopsLine, StopsName};
 
 use crate::bindings::{Bindings, bind_reserved, bound_to};
 use crate::printing::{answer_line, node_line, status_block_line};
@@ -112,7 +112,7 @@ impl Session {
     // Makes a step by the process that the name is bound to, and prints the answer.
     fn make(&mut self, name: ProcessName, step: Step, out: &mut Vec<u8>) -> Result<(), Stop>
         ensures { MatchResult result
-            (λ _. IsMade self.old name step self.new out.old.items out.new.items)
+            (λ _. RunsStep self.old name step self.new out.old.items out.new.items)
             (λ stop. StopsName self.old.names name stop) }
     {
         let pid = self.process(&name)?;

@@ -2,7 +2,7 @@
 
 ghost use Rattle.std.specs.Prelude.{◌≡◌, ◌++◌, IfSome, OnOk, flat_map};
 ghost use Rattle.vlm_queue.specs.Views.{resource_view};
-ghost use Rattle.vlm_queue.specs.Walks.{HasResource, resource_of, rows_queued};
+ghost use Rattle.vlm_queue.specs.Walks.{HasResource, plain_resource_at, rows_queued};
 ghost use Rattle.vlm_script.specs.Texts.{queue_lines, resource_line, resource_text, resources_text, row_line};
 
 use crate::printing::{converting_line, granted_line, no_resources, resource_line, waiting_line};
@@ -40,7 +40,7 @@ fn show_resources(core: &Core, out: &mut Vec<u8>) -> Result<(), AllocError>
 // Prints a resource with its three queues.
 fn show_resource(store: &Store, res: ResAt, out: &mut Vec<u8>) -> Result<(), AllocError>
     requires { HasResource res store.now }
-    ensures { OnOk result (IfSome (resource_of res store.now)
+    ensures { OnOk result (IfSome (plain_resource_at res store.now)
         (λ r. out.new.items ≡ out.old.items ++ resource_text r)) }
 {
     resource_line(out, &resource_view(store, res))?;

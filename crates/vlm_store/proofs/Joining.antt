@@ -13,7 +13,7 @@ use Rattle.vlm_store.specs.declared.store.Store.TheInside.{Inside}
 use Rattle.vlm_store.specs.Kept.{IsKept, processes_shown, records_shown}
 use Rattle.vlm_store.specs.Records.{IsParentOf, IsProcess, process_with_lock}
 use Rattle.vlm_records.specs.Shown.{SameBut, but_kin, but_queued, lkid_of, new_lock}
-use Rattle.vlm_records.specs.Kin.{IsBelow, IsNamed, IsOwned, NamesParent, below_in, below_handles, below_links, below_list, but_below, but_own, named_lock, own_handles, own_links, own_list, owner_in, parent_in, with_own_links}
+use Rattle.vlm_records.specs.Kin.{IsBelow, IsNamed, IsOwned, NamesParent, below_in, below_handles, below_links, below_list, but_below, but_own, lasting_part, own_handles, own_links, own_list, owner_in, parent_in, with_own_links}
 use Rattle.vlm_store.specs.Holdings.{holding, processes_of}
 use Rattle.vlm_records.proofs.Families.{family-grown, family-other_handles}
 use Rattle.vlm_store.proofs.Kinship.{below-queued, below_kin, below_named, below_next-queued, below_own_handles, below_owned, below_prev-queued, lkid-named, lkid-queued, named-added, named-kept, own_below_handles, own_kin, own_named, own_next-queued, own_pids, own_faces, own_prev-queued, own_process_handles, owner-queued, owner_fits, parent-queued, parent_fits, queued_below, queued_below_handles, queued_own_handles, queued_owned}
@@ -21,7 +21,7 @@ use Rattle.vlm_records.proofs.Places.{by_part, there_by_part, lkid_of_row, named
 use Rattle.vlm_store.proofs.Living.{lock_there, process_named}
 use Rattle.vlm_store.proofs.Members.{lock_joined}
 
-parent-named : (slot : Option Lock) → parent_in (option_map named_lock slot) ≡ parent_in slot
+parent-named : (slot : Option Lock) → parent_in (option_map lasting_part slot) ≡ parent_in slot
 parent-named None = refl
 parent-named (Some l) = refl
 
@@ -114,11 +114,11 @@ module _ (s : Inside) (kept : IsKept s) (locks1 locks2 : Slab Lock) (at : ℕ) (
   pub no_own_parent : parent ≢ Some at
   no_own_parent is = was_other at (parent_was_there at is) refl
 
-  named_other : (k : ℕ) → k ≢ at → option_map named_lock (get locks2 k) ≡ option_map named_lock (get s.queues.locks k)
-  named_other k differs = by_part but_queued (option_map named_lock) named-queued (get locks2 k) (get locks1 k) (kin k differs) ∙ ap (option_map named_lock) (same1 k)
+  named_other : (k : ℕ) → k ≢ at → option_map lasting_part (get locks2 k) ≡ option_map lasting_part (get s.queues.locks k)
+  named_other k differs = by_part but_queued (option_map lasting_part) named-queued (get locks2 k) (get locks1 k) (kin k differs) ∙ ap (option_map lasting_part) (same1 k)
 
-  new_names : option_map named_lock (get locks2 at) ≡ option_map named_lock (Some (new_lock row owner parent))
-  new_names = by_part but_queued (option_map named_lock) named-queued (get locks2 at) (Some (new_lock row owner parent)) lock
+  new_names : option_map lasting_part (get locks2 at) ≡ option_map lasting_part (Some (new_lock row owner parent))
+  new_names = by_part but_queued (option_map lasting_part) named-queued (get locks2 at) (Some (new_lock row owner parent)) lock
 
   pub new_named : IsNamed s.processes locks2
   new_named =
@@ -130,7 +130,7 @@ module _ (s : Inside) (kept : IsKept s) (locks1 locks2 : Slab Lock) (at : ℕ) (
       names None is none = none
       names (Some k) is up =
           let there = lock_there s kept k up.0 up.1.0 in
-          by_part named_lock (option_map lkid_of) lkid-named (get locks2 k) (get s.queues.locks k) (named_other k (was_other k there.0))
+          by_part lasting_part (option_map lkid_of) lkid-named (get locks2 k) (get s.queues.locks k) (named_other k (was_other k there.0))
           ∙ lkid_of_row (get s.queues.locks k) there.0 ∙ ap (λ (r : Row). Some r.lkid) there.2 ∙ ap Some up.1.1
 
   pub new_lkid : option_map lkid_of (get locks2 at) ≡ Some row.lkid
@@ -145,7 +145,7 @@ module _ (s : Inside) (kept : IsKept s) (locks1 locks2 : Slab Lock) (at : ℕ) (
 
   pub linked_parent_there : (locks3 : Slab Lock) → Relinks with_own_links locks2 locks3 → (k : ℕ) → parent_in (get locks3 at) ≡ Some k → ContainsKey locks3 k
   linked_parent_there locks3 relinks k is =
-      there_through but_kin locks2 locks3 (own_kin locks2 locks3 relinks) k (parent_there k (sym new_parent ∙ sym (by_part named_lock parent_in parent-named (get locks3 at) (get locks2 at) (own_named locks2 locks3 relinks at)) ∙ is))
+      there_through but_kin locks2 locks3 (own_kin locks2 locks3 relinks) k (parent_there k (sym new_parent ∙ sym (by_part lasting_part parent_in parent-named (get locks3 at) (get locks2 at) (own_named locks2 locks3 relinks at)) ∙ is))
 
   -- it is linked
   module _ (processes3 : Slab Process) (locks3 locks4 : Slab Lock) (owned3 : IsOwned processes3 locks3 None)
@@ -154,7 +154,7 @@ module _ (s : Inside) (kept : IsKept s) (locks1 locks2 : Slab Lock) (at : ℕ) (
       (rest3 : SameBut but_own s.processes processes3) (here4 : (k : ℕ) → parent_in (get locks3 at) ≡ Some k → below_handles locks4 k ≡ below_handles locks3 k ++ at ∷ [])
       (others4 : (k : ℕ) → parent_in (get locks3 at) ≢ Some k → below_handles locks4 k ≡ below_handles locks3 k) (rest4 : SameBut but_below locks3 locks4) where
     parent3 : parent_in (get locks3 at) ≡ parent
-    parent3 = by_part named_lock parent_in parent-named (get locks3 at) (get locks2 at) (own_named locks2 locks3 relinks3 at) ∙ new_parent
+    parent3 = by_part lasting_part parent_in parent-named (get locks3 at) (get locks2 at) (own_named locks2 locks3 relinks3 at) ∙ new_parent
 
     pub joined_kin : SameBut but_kin locks2 locks4
     joined_kin = same_then but_kin locks2 locks3 locks4 (own_kin locks2 locks3 relinks3) (below_kin s.processes locks3 locks4 rest4)
@@ -162,14 +162,14 @@ module _ (s : Inside) (kept : IsKept s) (locks1 locks2 : Slab Lock) (at : ℕ) (
     pub joined_owned : IsOwned processes3 locks4 None
     joined_owned = below_owned processes3 locks3 locks4 rest4 None owned3
 
-    names34 : SameBut named_lock locks2 locks4
-    names34 = same_then named_lock locks2 locks3 locks4 (own_named locks2 locks3 relinks3) (below_named s.processes locks3 locks4 rest4)
+    names34 : SameBut lasting_part locks2 locks4
+    names34 = same_then lasting_part locks2 locks3 locks4 (own_named locks2 locks3 relinks3) (below_named s.processes locks3 locks4 rest4)
 
     pub joined_named : IsNamed processes3 locks4
     joined_named = named-kept s.processes processes3 locks2 locks4 (own_pids s.processes processes3 rest3) names34 new_named
 
     pub joined_lkids : (k : ℕ) → option_map lkid_of (get locks4 k) ≡ option_map lkid_of (get locks2 k)
-    joined_lkids k = by_part named_lock (option_map lkid_of) lkid-named (get locks4 k) (get locks2 k) (names34 k)
+    joined_lkids k = by_part lasting_part (option_map lkid_of) lkid-named (get locks4 k) (get locks2 k) (names34 k)
 
     below34 : (k : ℕ) → below_handles locks3 k ≡ below_handles s.queues.locks k
     below34 k = own_below_handles locks2 locks3 relinks3 (Some at) new_below k ∙ new_below_handles k

@@ -17,7 +17,7 @@ use Rattle.vlm_records.specs.declared.queues.Queues.{Queues}
 use Rattle.vlm_records.specs.declared.resources.InOrder.{InOrder}
 use Rattle.vlm_store.specs.Records.{IsSameLock, StoredProcess}
 use Rattle.vlm_records.specs.Shown.{IsPlaced, IsTallied, SameBut, but_kin, but_queued, handles_at, lkid_of, named_row, noted_in, queue_links, row_in}
-use Rattle.vlm_records.specs.Kin.{IsBelow, IsNamed, IsOwned, NamesParent, OwnerFits, ParentFits, below_in, below_handles, below_links, below_list, but_below, but_own, named_lock, own_handles, own_links, own_list, owner_in, parent_in, pid_of, process_links, with_own_links}
+use Rattle.vlm_records.specs.Kin.{IsBelow, IsNamed, IsOwned, NamesParent, OwnerFits, ParentFits, below_in, below_handles, below_links, below_list, but_below, but_own, lasting_part, own_handles, own_links, own_list, owner_in, parent_in, pid_of, process_links, with_own_links}
 use Rattle.vlm_store.specs.Holdings.{holding, process_face_in, processes_of}
 use Rattle.vlm_store.specs.Store.{Beside, Layout, records_of, tables}
 use Rattle.vlm_tallies.specs.Tallies.{weight_of}
@@ -74,34 +74,34 @@ lkid-queued (Some l) = refl
 -- ---- what the row of a lock names
 
 -- what fits one record fits another that tells the same names
-pub owner_fits : (processes processes' : Slab Process) → ((p : ℕ) → option_map pid_of (get processes' p) ≡ option_map pid_of (get processes p)) → (a b : Option Lock) → option_map named_lock a ≡ option_map named_lock b
+pub owner_fits : (processes processes' : Slab Process) → ((p : ℕ) → option_map pid_of (get processes' p) ≡ option_map pid_of (get processes p)) → (a b : Option Lock) → option_map lasting_part a ≡ option_map lasting_part b
     → OwnerFits processes b → OwnerFits processes' a
 owner_fits processes processes' pids None b same fits = tt
 owner_fits processes processes' pids (Some l) None same fits = cc
 owner_fits processes processes' pids (Some l) (Some l') same fits =
-    let is : named_lock l ≡ named_lock l' = same_Some (named_lock l) (named_lock l') same in
+    let is : lasting_part l ≡ lasting_part l' = same_Some (lasting_part l) (lasting_part l') same in
     pids l.owner ∙ ap (λ (x : Lock). option_map pid_of (get processes x.owner)) is ∙ fits ∙ sym (ap (λ (x : Lock). Some x.row.pid) is)
 
 names_parent : (locks locks' : Slab Lock) (parent : Option ℕ) (lkid : ℕ) → ((k : ℕ) → parent ≡ Some k → option_map lkid_of (get locks' k) ≡ option_map lkid_of (get locks k)) → NamesParent locks parent lkid → NamesParent locks' parent lkid
 names_parent locks locks' None lkid same names = names
 names_parent locks locks' (Some k) lkid same names = same k refl ∙ names
 
-pub parent_fits : (locks locks' : Slab Lock) (a b : Option Lock) → option_map named_lock a ≡ option_map named_lock b → ((k : ℕ) → parent_in b ≡ Some k → option_map lkid_of (get locks' k) ≡ option_map lkid_of (get locks k))
+pub parent_fits : (locks locks' : Slab Lock) (a b : Option Lock) → option_map lasting_part a ≡ option_map lasting_part b → ((k : ℕ) → parent_in b ≡ Some k → option_map lkid_of (get locks' k) ≡ option_map lkid_of (get locks k))
     → ParentFits locks b → ParentFits locks' a
 parent_fits locks locks' None b same lkids fits = tt
 parent_fits locks locks' (Some l) None same lkids fits = cc
 parent_fits locks locks' (Some l) (Some l') same lkids fits =
-    let is : named_lock l' ≡ named_lock l = sym (same_Some (named_lock l) (named_lock l') same) in
+    let is : lasting_part l' ≡ lasting_part l = sym (same_Some (lasting_part l) (lasting_part l') same) in
     subst (λ (x : Lock). NamesParent locks' x.parent x.row.parent) is (names_parent locks locks' l'.parent l'.row.parent lkids fits)
 
-pub lkid-named : (slot : Option Lock) → option_map lkid_of (option_map named_lock slot) ≡ option_map lkid_of slot
+pub lkid-named : (slot : Option Lock) → option_map lkid_of (option_map lasting_part slot) ≡ option_map lkid_of slot
 lkid-named None = refl
 lkid-named (Some l) = refl
 
-pub lkids_named : (locks locks' : Slab Lock) → SameBut named_lock locks locks' → SameBut lkid_of locks locks'
-lkids_named locks locks' same k = by_part named_lock (option_map lkid_of) lkid-named (get locks' k) (get locks k) (same k)
+pub lkids_named : (locks locks' : Slab Lock) → SameBut lasting_part locks locks' → SameBut lkid_of locks locks'
+lkids_named locks locks' same k = by_part lasting_part (option_map lkid_of) lkid-named (get locks' k) (get locks k) (same k)
 
-pub named-kept : (processes processes' : Slab Process) (locks locks' : Slab Lock) → ((p : ℕ) → option_map pid_of (get processes' p) ≡ option_map pid_of (get processes p)) → SameBut named_lock locks locks'
+pub named-kept : (processes processes' : Slab Process) (locks locks' : Slab Lock) → ((p : ℕ) → option_map pid_of (get processes' p) ≡ option_map pid_of (get processes p)) → SameBut lasting_part locks locks'
     → IsNamed processes locks → IsNamed processes' locks'
 named-kept processes processes' locks locks' pids same named = record {
   owners = λ at. owner_fits processes processes' pids (get locks' at) (get locks at) (same at) (named.owners at);
@@ -109,7 +109,7 @@ named-kept processes processes' locks locks' pids same named = record {
 }
 
 -- a lock comes that names a process and a parent that are there
-pub named-added : (processes : Slab Process) (locks locks' : Slab Lock) (at : ℕ) → get locks at ≡ None → ((k : ℕ) → k ≢ at → option_map named_lock (get locks' k) ≡ option_map named_lock (get locks k))
+pub named-added : (processes : Slab Process) (locks locks' : Slab Lock) (at : ℕ) → get locks at ≡ None → ((k : ℕ) → k ≢ at → option_map lasting_part (get locks' k) ≡ option_map lasting_part (get locks k))
     → OwnerFits processes (get locks' at) → ParentFits locks' (get locks' at) → IsNamed processes locks → IsNamed processes locks'
 named-added processes locks locks' at fresh same owner parent named = record {
   owners = λ k. elim (cases k) [
@@ -131,12 +131,12 @@ named-added processes locks locks' at fresh same owner parent named = record {
 
     lkid_stays : (up : ℕ) → IsSome (get locks up) → option_map lkid_of (get locks' up) ≡ option_map lkid_of (get locks up)
     lkid_stays up there =
-        by_part named_lock (option_map lkid_of) lkid-named (get locks' up) (get locks up)
+        by_part lasting_part (option_map lkid_of) lkid-named (get locks' up) (get locks up)
         (same up (λ is. let nothing : IsSome {T = Lock} None = rw (ap (get locks) is ∙ fresh) at there in absurd (cc)))
 
 -- a lock goes below which no other stands
 pub named-removed : (processes processes' : Slab Process) (locks locks' : Slab Lock) (at : ℕ) → get locks' at ≡ None → ((p : ℕ) → option_map pid_of (get processes' p) ≡ option_map pid_of (get processes p))
-    → ((k : ℕ) → k ≢ at → option_map named_lock (get locks' k) ≡ option_map named_lock (get locks k)) → ((k : ℕ) → parent_in (get locks k) ≢ Some at) → IsNamed processes locks → IsNamed processes' locks'
+    → ((k : ℕ) → k ≢ at → option_map lasting_part (get locks' k) ≡ option_map lasting_part (get locks k)) → ((k : ℕ) → parent_in (get locks k) ≢ Some at) → IsNamed processes locks → IsNamed processes' locks'
 named-removed processes processes' locks locks' at gone pids same childless named = record {
   owners = λ k. elim (cases_eq k at) [
     | inl is ↦ subst (OwnerFits processes') (sym (ap (get locks') is ∙ gone)) tt
@@ -146,7 +146,7 @@ named-removed processes processes' locks locks' at gone pids same childless name
     | inl is ↦ subst (ParentFits locks') (sym (ap (get locks') is ∙ gone)) tt
     | inr differs ↦
         parent_fits locks locks' (get locks' k) (get locks k) (same k differs)
-        (λ up noted. by_part named_lock (option_map lkid_of) lkid-named (get locks' up) (get locks up) (same up (λ is. childless k (noted ∙ ap Some is)))) (named.parents k)
+        (λ up noted. by_part lasting_part (option_map lkid_of) lkid-named (get locks' up) (get locks up) (same up (λ is. childless k (noted ∙ ap Some is)))) (named.parents k)
   ];
 }
 
@@ -178,7 +178,7 @@ module _ (processes : Slab Process) (locks locks' : Slab Lock) (same : SameBut b
         (λ i k _. through but_queued (prev_in below_links) below_prev-queued locks locks' same k) (λ i k _. there_through but_queued locks locks' same k)
 
   pub queued_named : IsNamed processes locks → IsNamed processes locks'
-  queued_named = named-kept processes processes locks locks' (λ p. refl) (λ k. by_part but_queued (option_map named_lock) named-queued (get locks' k) (get locks k) (same k))
+  queued_named = named-kept processes processes locks locks' (λ p. refl) (λ k. by_part but_queued (option_map lasting_part) named-queued (get locks' k) (get locks k) (same k))
 
   pub queued_lkids : SameBut lkid_of locks locks'
   queued_lkids = through but_queued (option_map lkid_of) lkid-queued locks locks' same
@@ -240,8 +240,8 @@ module _ (locks locks' : Slab Lock) (relinks : Relinks with_own_links locks lock
   pub own_kin : SameBut but_kin locks locks'
   own_kin = relinked_same with_own_links (option_map but_kin) (λ l pair. refl) locks locks' relinks
 
-  pub own_named : SameBut named_lock locks locks'
-  own_named = relinked_same with_own_links (option_map named_lock) (λ l pair. refl) locks locks' relinks
+  pub own_named : SameBut lasting_part locks locks'
+  own_named = relinked_same with_own_links (option_map lasting_part) (λ l pair. refl) locks locks' relinks
 
   module _ (out : Option ℕ) (below : IsBelow locks out) where
     pub own_below : IsBelow locks' out
@@ -274,10 +274,10 @@ module _ (processes : Slab Process) (locks locks' : Slab Lock) (same : SameBut b
       again None = refl
       again (Some l) = refl
 
-  pub below_named : SameBut named_lock locks locks'
-  below_named k = by_part but_below (option_map named_lock) again (get locks' k) (get locks k) (same k)
+  pub below_named : SameBut lasting_part locks locks'
+  below_named k = by_part but_below (option_map lasting_part) again (get locks' k) (get locks k) (same k)
     where
-      again : (slot : Option Lock) → option_map named_lock (option_map but_below slot) ≡ option_map named_lock slot
+      again : (slot : Option Lock) → option_map lasting_part (option_map but_below slot) ≡ option_map lasting_part slot
       again None = refl
       again (Some l) = refl
 

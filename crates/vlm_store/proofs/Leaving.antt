@@ -11,7 +11,7 @@ use Rattle.vlm_store.specs.declared.store.Store.TheInside.{Inside}
 use Rattle.vlm_store.specs.Kept.{IsKept, processes_shown}
 use Rattle.vlm_store.specs.Records.{process_without_lock}
 use Rattle.vlm_records.specs.Shown.{SameBut, but_kin, but_queued, lkid_of}
-use Rattle.vlm_records.specs.Kin.{IsBelow, IsNamed, IsOwned, below_in, below_handles, below_links, below_list, but_below, but_own, named_lock, own_handles, own_links, own_list, owner_in, parent_in, with_own_links}
+use Rattle.vlm_records.specs.Kin.{IsBelow, IsNamed, IsOwned, below_in, below_handles, below_links, below_list, but_below, but_own, lasting_part, own_handles, own_links, own_list, owner_in, parent_in, with_own_links}
 use Rattle.vlm_store.specs.Holdings.{holding, processes_of}
 use Rattle.vlm_records.proofs.Families.{family-other_handles, family-shrunk}
 use Rattle.vlm_store.proofs.Kinship.{below-queued, below_kin, below_named, below_next-queued, below_own_handles, below_prev-queued, lkid-named, named-removed, own_below, own_below_handles, own_kin, own_named, own_next-queued, own_pids, own_faces, own_prev-queued, own_process_handles, owner-queued, parent-queued}
@@ -67,12 +67,12 @@ module _ (s : Inside) (kept : IsKept s) (at : ℕ) (childless : below_handles s.
       family-shrunk below_links parent_in locks2 (below_list locks2) (Some at) below2 locks3 (below_list locks3) heads at (λ p. below2.gone p at refl) below_nexts below_prevs there3
       (λ k differs. by_part but_queued parent_in parent-queued (get locks3 k) (get locks2 k) (kin3 k differs)) (λ p is. none-some p (sym (ap parent_in gone3) ∙ is)) refl
 
-  named_same : (k : ℕ) → k ≢ at → option_map named_lock (get locks3 k) ≡ option_map named_lock (get s.queues.locks k)
+  named_same : (k : ℕ) → k ≢ at → option_map lasting_part (get locks3 k) ≡ option_map lasting_part (get s.queues.locks k)
   named_same k differs =
-      by_part but_queued (option_map named_lock) named-queued (get locks3 k) (get locks2 k) (kin3 k differs) ∙ own_named locks1 locks2 relinks2 k ∙ below_named s.processes s.queues.locks locks1 rest1 k
+      by_part but_queued (option_map lasting_part) named-queued (get locks3 k) (get locks2 k) (kin3 k differs) ∙ own_named locks1 locks2 relinks2 k ∙ below_named s.processes s.queues.locks locks1 rest1 k
 
   pub left_lkids : (k : ℕ) → k ≢ at → option_map lkid_of (get locks3 k) ≡ option_map lkid_of (get s.queues.locks k)
-  left_lkids k differs = by_part named_lock (option_map lkid_of) lkid-named (get locks3 k) (get s.queues.locks k) (named_same k differs)
+  left_lkids k differs = by_part lasting_part (option_map lkid_of) lkid-named (get locks3 k) (get s.queues.locks k) (named_same k differs)
 
   pub left_named : IsNamed processes2 locks3
   left_named =

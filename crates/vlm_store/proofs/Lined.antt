@@ -14,7 +14,7 @@ use Rattle.vlm_records.specs.declared.locks.InLine.{InLine}
 use Rattle.vlm_records.specs.declared.locks.Lock.{Lock}
 use Rattle.vlm_records.specs.declared.queues.Queues.{Queues}
 use Rattle.vlm_records.specs.Kin.{but_below, with_own_links}
-use Rattle.vlm_records.specs.Line.{IsLine, line_handles, line_in, line_links, line_of}
+use Rattle.vlm_records.specs.Line.{IsLine, line_handles, line_in, line_links, queued_line}
 use Rattle.vlm_records.specs.Shown.{IsPlaced, SameBut, but_in_line, but_kin, but_queued, handles_at, noted, noted_in}
 use Rattle.vlm_records.proofs.Families.{family-empty, family-grown, family-kept, family-shrunk}
 use Rattle.vlm_records.proofs.Lining.{unqueued_joined}
@@ -38,7 +38,7 @@ prev_by (Some l) (Some l') same = ap (λ x. x.prev) (same_Some l.in_line l'.in_l
 -- whether it stands in it, by the place that it notes
 abbrev pub line_at : Option Place → Option (Unit {0})
 line_at None = None
-line_at (Some p) = line_of p
+line_at (Some p) = queued_line p
 
 pub line_noted : (slot : Option Lock) → line_in slot ≡ line_at (noted_in slot)
 line_noted None = refl

@@ -12,7 +12,7 @@ use Rattle.vlm_records.specs.declared.processes.Process.{Process}
 use Rattle.vlm_records.specs.Kin.{but_order, but_own, pid_at, pid_of}
 use Rattle.vlm_store.specs.Index.{Indexes}
 use Rattle.vlm_store.specs.Pending.{IsMarked, is_of_nodes, waits_in}
-use Rattle.vlm_records.specs.Pending.{IsToldOf, OthersStay, is_waiting}
+use Rattle.vlm_records.specs.Pending.{IsToldOf, OtherMarksStay, is_waiting}
 use Rattle.vlm_records.specs.Shown.{SameBut}
 use Rattle.vlm_records.proofs.Places.{by_part, through}
 use Rattle.vlm_store.proofs.Kinship.{own_pids}
@@ -28,10 +28,10 @@ and_true true = refl
 and_true false = refl
 
 -- what one write leaves alone
-pub written_others : (pid : ℕ) (value : Bool) (old new : List (List Bool)) → Writes pid value old new → OthersStay pid old new
+pub written_others : (pid : ℕ) (value : Bool) (old new : List (List Bool)) → Writes pid value old new → OtherMarksStay pid old new
 written_others pid value old new written = record { marks = written.others; room = written.room }
 
-pub none_written : (pid : ℕ) (marks : List (List Bool)) → OthersStay pid marks marks
+pub none_written : (pid : ℕ) (marks : List (List Bool)) → OtherMarksStay pid marks marks
 none_written pid marks = record { marks = λ other differs. refl; room = λ other room. room }
 
 -- a new process waits for nothing
@@ -115,7 +115,7 @@ told_of processes marks at p here marked = record {
 module _ (tells : Option Process → Bool) (old new : Slab Process) (at : ℕ) (pid_other : (p : ℕ) → p ≢ at → pid_at new p ≡ pid_at old p) (tells_other : (p : ℕ) → p ≢ at → tells (get new p) ≡ tells (get old p)) where
   -- a process comes, and its mark is written
   pub added_marked : (marks marks' : List (List Bool)) (mine : ℕ) → get old at ≡ None → pid_at new at ≡ Some mine → ((k : ℕ) → pid_at old k ≢ Some mine)
-      → is_marked marks' mine ≡ tells (get new at) → HasRoomFor marks mine → OthersStay mine marks marks' → IsMarked tells old marks → IsMarked tells new marks'
+      → is_marked marks' mine ≡ tells (get new at) → HasRoomFor marks mine → OtherMarksStay mine marks marks' → IsMarked tells old marks → IsMarked tells new marks'
   added_marked marks marks' mine vacant here fresh told room others marked = record {
     told = λ k pid is. elim (cases_eq k at) [
       | inl same ↦ ap (is_marked marks') (sym (same_pid k pid same is)) ∙ told ∙ sym (ap (λ x. tells (get new x)) same)
@@ -168,7 +168,7 @@ module _ (tells : Option Process → Bool) (old new : Slab Process) (at : ℕ) (
           (differs, sym (pid_other k differs) ∙ is)
 
 -- a process is written, and its mark with it
-pub written_marked : (processes : Slab Process) (marks marks' : List (List Bool)) (at : ℕ) (was now : Process) → get processes at ≡ Some was → now.pid ≡ was.pid → IsToldOf now marks' → OthersStay was.pid marks marks'
+pub written_marked : (processes : Slab Process) (marks marks' : List (List Bool)) (at : ℕ) (was now : Process) → get processes at ≡ Some was → now.pid ≡ was.pid → IsToldOf now marks' → OtherMarksStay was.pid marks marks'
     → ((a b x : ℕ) → pid_at processes a ≡ Some x → pid_at processes b ≡ Some x → a ≡ b) → IsMarked waits_in processes marks → IsMarked waits_in (with_value processes at now) marks'
 written_marked processes marks marks' at was now here pid told others apart marked =
     let there : ContainsKey processes at = rw here refl in

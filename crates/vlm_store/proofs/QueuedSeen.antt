@@ -9,7 +9,7 @@ use Rattle.vlm_words.specs.declared.resources.Queue.TheVariants.{Granted, Conver
 use Rattle.vlm_records.specs.declared.handles.Place.{Place}
 use Rattle.vlm_records.specs.declared.handles.Place.TheVariants.{Loose, Queued}
 use Rattle.vlm_records.specs.declared.locks.Lock.{Lock}
-use Rattle.vlm_records.specs.Line.{is_queued, line_handles, line_in, line_of}
+use Rattle.vlm_records.specs.Line.{is_queued, line_handles, line_in, queued_line}
 use Rattle.vlm_records.proofs.Lining.{queued_noted}
 use Rattle.vlm_records.proofs.Places.{stands_there}
 use Rattle.vlm_records.specs.Shown.{IsThere, handles_at, noted_in, rows}
@@ -60,7 +60,7 @@ listed_at : (slot : Option Lock) → line_in slot ≡ Some tt → (place : Place
 listed_at None is = absurd (none-some tt is)
 listed_at (Some l) is = (l.place, (refl, of_place l.place is))
   where
-    of_place : (place : Place) → line_of place ≡ Some tt → is_queued place ≡ true
+    of_place : (place : Place) → queued_line place ≡ Some tt → is_queued place ≡ true
     of_place Loose is = absurd (none-some tt is)
     of_place (Queued res Granted) is = absurd (none-some tt is)
     of_place (Queued res Conversion) is = refl

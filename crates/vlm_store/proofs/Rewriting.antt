@@ -11,7 +11,7 @@ use Rattle.vlm_store.specs.Holdings.{faced, holding, process_face, process_face_
 use Rattle.vlm_records.specs.Kin.{pid_at, plain_process, process_links}
 use Rattle.vlm_store.specs.Kept.{IsKept, beside_shown, records_shown, rooms_shown}
 use Rattle.vlm_store.specs.Pending.{IsMarked, is_of_nodes, waits_in}
-use Rattle.vlm_records.specs.Pending.{IsToldOf, OthersStay}
+use Rattle.vlm_records.specs.Pending.{IsToldOf, OtherMarksStay}
 use Rattle.vlm_store.specs.Records.{OwnLock, StoredProcess, changed_process, on_stored, owed_more}
 use Rattle.vlm_store.specs.Store.{tables}
 use Rattle.vlm_store.proofs.Declaring.{process_named, process_own_handles, process_owned, rewritten, written_face, written_handles, written_linked, written_others, written_owns, written_pids, written_whole}
@@ -66,7 +66,7 @@ module _ (s : Inside) (kept : IsKept s) (at : ℕ) (was now : Process) (here : g
       (written_same s.processes at was now waits_in here (waits_same was now pid pending)) kept.marked)
 
   -- and where the process's mark is written with it
-  pub written_kept : (marks : List (List Bool)) → IsToldOf now marks → OthersStay was.pid s.pending marks
+  pub written_kept : (marks : List (List Bool)) → IsToldOf now marks → OtherMarksStay was.pid s.pending marks
       → IsKept (record s { processes = rewritten s.processes at was now here own order pid; pending = marks })
   written_kept marks told others =
       remarked_kept marks (written_marked s.processes s.pending marks at was now here pid told others (pids_apart s.processes (found nat_eq s.process_index) kept.processes) kept.marked)

@@ -37,8 +37,9 @@ impl Flags for EnqFlags {
 
     ghost exact = { ⊤ };
 
-    ghost table = { (codes "VALBLK", valblk) ∷ (codes "NOQUEUE", noqueue) ∷ (codes "SYNCSTS", syncsts)
-        ∷ (codes "SYSTEM", system) ∷ (codes "EXPEDITE", expedite) ∷ (codes "QUECVT", quecvt)
+    ghost table = { (codes "VALBLK", valblk) ∷ (codes "NOQUEUE", noqueue)
+        ∷ (codes "SYNCSTS", syncsts) ∷ (codes "SYSTEM", system)
+        ∷ (codes "EXPEDITE", expedite) ∷ (codes "QUECVT", quecvt)
         ∷ (codes "NODLCKWT", nodlckwt) ∷ (codes "NODLCKBLK", nodlckblk) ∷ [] };
 
     ghost set_of = { λ f. f.0 };
@@ -86,7 +87,8 @@ impl Flags for DeqFlags {
 
     ghost exact = { ⊤ };
 
-    ghost table = { (codes "DEQALL", deqall) ∷ (codes "CANCEL", cancel) ∷ (codes "INVVALBLK", invvalblk) ∷ [] };
+    ghost table = { (codes "DEQALL", deqall) ∷ (codes "CANCEL", cancel)
+        ∷ (codes "INVVALBLK", invvalblk) ∷ [] };
 
     ghost set_of = { λ f. f.0 };
 

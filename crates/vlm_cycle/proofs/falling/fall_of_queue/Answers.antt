@@ -1,6 +1,6 @@
 use Rattle.std.proofs.Common.{◌∷◌, ◌∙◌, [], ap}
 use Rattle.vlm_words.specs.declared.locks.Row.{Row}
-use Rattle.vlm_queue.specs.Walks.{rows_left, rows_queued}
+use Rattle.vlm_queue.specs.Walks.{rows_to_walk, rows_queued}
 use Rattle.vlm_queue.proofs.Walking.{begins, come_stored, fewer_rows, passes}
 use Rattle.vlm_cycle.proofs.Ranked.{at_row, falls_begun, falls_ended, falls_on, falls_one, gauge_at, passing_begun, passing_ended, passing_on}
 use Rattle.vlm_cycle.proofs.falling.fall_of_queue.Goals as goal
@@ -13,9 +13,9 @@ loop-at-init c =
     let first = begins s c.args.res c.args.queue c.head-at.result c.head-at.ensures.first in
     record {
       there = first.there;
-      passing = passing_begun s c.args.ranks.now all (rows_left c.args.res c.args.queue c.head-at.result s) c.args.gauge.now first.left;
+      passing = passing_begun s c.args.ranks.now all (rows_to_walk c.args.res c.args.queue c.head-at.result s) c.args.gauge.now first.left;
       before = λ is. is;
-      falls = λ is. falls_begun s c.args.ranks.now all (rows_left c.args.res c.args.queue c.head-at.result s) first.left;
+      falls = λ is. falls_begun s c.args.ranks.now all (rows_to_walk c.args.res c.args.queue c.head-at.result s) first.left;
       stands = c.requires.stands;
     }
 
@@ -24,8 +24,8 @@ pub judge-judged-requires-clause-gauge : goal.judge-judged-requires-clause-gauge
 judge-judged-requires-clause-gauge c =
     let s = c.args.store.now in
     let one = at_row s c.args.res c.args.queue c.in-Some.lock c.standing_in-standing.result.row c.head-at.ensures.sound (rw c.in-Some.is at c.loop-at.invariant.there) c.standing_in-standing.ensures.only in
-    gauge_at s c.args.ranks.now c.args.res c.args.queue (rows_left c.args.res c.args.queue c.loop-at.at s) one.rest c.args.gauge.now c.loop-at.gauge c.standing_in-standing.result
-    (ap (λ at. rows_left c.args.res c.args.queue at s) c.in-Some.is ∙ one.left) c.standing_in-standing.ensures.res c.standing_in-standing.ensures.queue c.requires.gauge c.loop-at.invariant.passing
+    gauge_at s c.args.ranks.now c.args.res c.args.queue (rows_to_walk c.args.res c.args.queue c.loop-at.at s) one.rest c.args.gauge.now c.loop-at.gauge c.standing_in-standing.result
+    (ap (λ at. rows_to_walk c.args.res c.args.queue at s) c.in-Some.is ∙ one.left) c.standing_in-standing.ensures.res c.standing_in-standing.ensures.queue c.requires.gauge c.loop-at.invariant.passing
 
 pub next-at-requires : goal.next-at-requires
 next-at-requires c = come_stored c.args.store.now c.args.res c.args.queue c.in-Some.lock (rw c.in-Some.is at c.loop-at.invariant.there)
@@ -34,18 +34,18 @@ pub loop-at-smaller : goal.loop-at-smaller
 loop-at-smaller c =
     let s = c.args.store.now in
     let one = passes s c.args.res c.args.queue c.in-Some.lock c.next-at.result c.head-at.ensures.sound (rw c.in-Some.is at c.loop-at.invariant.there) c.next-at.ensures in
-    rw c.in-Some.is (fewer_rows one.row (rows_left c.args.res c.args.queue c.next-at.result s) _ one.left)
+    rw c.in-Some.is (fewer_rows one.row (rows_to_walk c.args.res c.args.queue c.next-at.result s) _ one.left)
 
 pub loop-at-preserved : goal.loop-at-preserved
 loop-at-preserved c =
     let s = c.args.store.now in
     let ranks = c.args.ranks.now in
     let all = rows_queued c.args.res c.args.queue s in
-    let left = rows_left c.args.res c.args.queue c.loop-at.at s in
-    let rest = rows_left c.args.res c.args.queue c.next-at.result s in
+    let left = rows_to_walk c.args.res c.args.queue c.loop-at.at s in
+    let rest = rows_to_walk c.args.res c.args.queue c.next-at.result s in
     let row = c.standing_in-standing.result.row in
     let one = passes s c.args.res c.args.queue c.in-Some.lock c.next-at.result c.head-at.ensures.sound (rw c.in-Some.is at c.loop-at.invariant.there) c.next-at.ensures in
-    let came = ap (λ at. rows_left c.args.res c.args.queue at s) c.in-Some.is ∙ one.left ∙ ap (λ (r : Row). r ∷ rest) (c.standing_in-standing.ensures.only one.row one.stored) in
+    let came = ap (λ at. rows_to_walk c.args.res c.args.queue at s) c.in-Some.is ∙ one.left ∙ ap (λ (r : Row). r ∷ rest) (c.standing_in-standing.ensures.only one.row one.stored) in
     record {
       there = one.there;
       passing = passing_on s ranks all left rest row c.args.gauge.now c.loop-at.gauge c.judge-judged.new.gauge came c.judge-judged.ensures.passes c.loop-at.invariant.passing;
@@ -60,11 +60,11 @@ loop-at-preserved c =
 pub returns-clause-passes : goal.returns-clause-passes
 returns-clause-passes c =
     let s = c.args.store.now in
-    passing_ended s c.args.ranks.now (rows_queued c.args.res c.args.queue s) (rows_left c.args.res c.args.queue c.loop-at.at s) c.args.gauge.now c.loop-at.gauge
-    (ap (λ at. rows_left c.args.res c.args.queue at s) c.in_default.is) c.loop-at.invariant.passing
+    passing_ended s c.args.ranks.now (rows_queued c.args.res c.args.queue s) (rows_to_walk c.args.res c.args.queue c.loop-at.at s) c.args.gauge.now c.loop-at.gauge
+    (ap (λ at. rows_to_walk c.args.res c.args.queue at s) c.in_default.is) c.loop-at.invariant.passing
 
 pub returns-clause-falls : goal.returns-clause-falls
 returns-clause-falls c is =
     let s = c.args.store.now in
-    falls_ended s c.args.ranks.now (rows_queued c.args.res c.args.queue s) (rows_left c.args.res c.args.queue c.loop-at.at s)
-    (ap (λ at. rows_left c.args.res c.args.queue at s) c.in_default.is) (c.loop-at.invariant.falls is)
+    falls_ended s c.args.ranks.now (rows_queued c.args.res c.args.queue s) (rows_to_walk c.args.res c.args.queue c.loop-at.at s)
+    (ap (λ at. rows_to_walk c.args.res c.args.queue at s) c.in_default.is) (c.loop-at.invariant.falls is)

@@ -1,5 +1,5 @@
 use Rattle.std.proofs.Common.{◌≡◌, length}
-use Rattle.vlm_queue.specs.Walks.{IsInQueue, rows_left, rows_queued}
+use Rattle.vlm_queue.specs.Walks.{IsInQueue, rows_to_walk, rows_queued}
 use Rattle.vlm_cycle.specs.Waiting.{IsRoomy}
 use Rattle.vlm_cycle.specs.Marking.{KeepsRoom}
 use Rattle.vlm_cycle.proofs.Found.{BestGoesOn}
@@ -13,9 +13,9 @@ invariant-loop-at l = record {
   roomy : IsRoomy l.store l.scratch;
   room : KeepsRoom l.initial.scratch l.scratch;
   ranks : l.scratch.ranks ≡ l.initial.scratch.ranks;
-  passing : IsPassing l.store l.initial.scratch.ranks (rows_queued l.fn.res l.fn.queue l.store) (rows_left l.fn.res l.fn.queue l.at l.store) l.initial.gauge l.gauge;
-  goes_on : BestGoesOn l.store (rows_left l.fn.res l.fn.queue l.at l.store) (rows_queued l.fn.res l.fn.queue l.store) l.initial.best l.best;
+  passing : IsPassing l.store l.initial.scratch.ranks (rows_queued l.fn.res l.fn.queue l.store) (rows_to_walk l.fn.res l.fn.queue l.at l.store) l.initial.gauge l.gauge;
+  goes_on : BestGoesOn l.store (rows_to_walk l.fn.res l.fn.queue l.at l.store) (rows_queued l.fn.res l.fn.queue l.store) l.initial.best l.best;
 }
 
 abbrev pub decreases-loop-at : goal.decreases-loop-at
-decreases-loop-at l = length (rows_left l.fn.res l.fn.queue l.at l.store)
+decreases-loop-at l = length (rows_to_walk l.fn.res l.fn.queue l.at l.store)

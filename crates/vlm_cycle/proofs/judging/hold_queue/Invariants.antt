@@ -1,5 +1,5 @@
 use Rattle.std.proofs.Common.{length}
-use Rattle.vlm_queue.specs.Walks.{IsInQueue, rows_left, rows_queued}
+use Rattle.vlm_queue.specs.Walks.{IsInQueue, rows_to_walk, rows_queued}
 use Rattle.vlm_cycle.proofs.Peaks.{HoldersBut, KeepsPeaks}
 use Rattle.vlm_cycle.proofs.judging.hold_queue.Given as goal
 
@@ -7,9 +7,9 @@ use Rattle.vlm_cycle.proofs.judging.hold_queue.Given as goal
 abbrev pub invariant-loop-at : goal.invariant-loop-at
 invariant-loop-at l = record {
   there : IsInQueue l.fn.res l.fn.queue l.at l.store;
-  counted : HoldersBut l.store l.ranks l.gauge.held (rows_queued l.fn.res l.fn.queue l.store) (rows_left l.fn.res l.fn.queue l.at l.store);
+  counted : HoldersBut l.store l.ranks l.gauge.held (rows_queued l.fn.res l.fn.queue l.store) (rows_to_walk l.fn.res l.fn.queue l.at l.store);
   kept : KeepsPeaks l.initial.gauge.held l.gauge.held;
 }
 
 abbrev pub decreases-loop-at : goal.decreases-loop-at
-decreases-loop-at l = length (rows_left l.fn.res l.fn.queue l.at l.store)
+decreases-loop-at l = length (rows_to_walk l.fn.res l.fn.queue l.at l.store)

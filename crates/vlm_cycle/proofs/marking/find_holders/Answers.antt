@@ -1,6 +1,6 @@
 use Rattle.std.proofs.Common.{◌≡◌, ◌∷◌, ◌∙◌, [], ap, subst}
 use Rattle.vlm_words.specs.declared.locks.Row.{Row}
-use Rattle.vlm_queue.specs.Walks.{rows_left, rows_queued}
+use Rattle.vlm_queue.specs.Walks.{rows_to_walk, rows_queued}
 use Rattle.vlm_queue.proofs.Walking.{begins, come_stored, fewer_rows, passes}
 use Rattle.vlm_cycle.specs.Waiting.{OwnsHolder}
 use Rattle.vlm_cycle.specs.Marking.{Marks}
@@ -25,25 +25,25 @@ pub loop-at-smaller : goal.loop-at-smaller
 loop-at-smaller c =
     let s = c.args.store.now in
     let one = passes s c.args.res c.args.queue c.in-Some.lock c.next-at.result c.head-at.ensures.sound (rw c.in-Some.is at c.loop-at.invariant.there) c.next-at.ensures in
-    rw c.in-Some.is (fewer_rows one.row (rows_left c.args.res c.args.queue c.next-at.result s) _ one.left)
+    rw c.in-Some.is (fewer_rows one.row (rows_to_walk c.args.res c.args.queue c.next-at.result s) _ one.left)
 
 pub loop-at-preserved : goal.loop-at-preserved
 loop-at-preserved c =
     let s = c.args.store.now in
     let one = passes s c.args.res c.args.queue c.in-Some.lock c.next-at.result c.head-at.ensures.sound (rw c.in-Some.is at c.loop-at.invariant.there) c.next-at.ensures in
-    let came = ap (λ at. rows_left c.args.res c.args.queue at s) c.in-Some.is ∙ one.left in
+    let came = ap (λ at. rows_to_walk c.args.res c.args.queue at s) c.in-Some.is ∙ one.left in
     record {
       there = one.there;
       roomy = roomy_still s c.loop-at.scratch c.find_holder.new.scratch c.find_holder.ensures.room c.loop-at.invariant.roomy;
       goes_on =
-          holders_on c.args.lkid c.args.mode c.lock_record.result.now.row (rows_left c.args.res c.args.queue c.loop-at.at s) (rows_left c.args.res c.args.queue c.next-at.result s) (rows_queued c.args.res c.args.queue s)
+          holders_on c.args.lkid c.args.mode c.lock_record.result.now.row (rows_to_walk c.args.res c.args.queue c.loop-at.at s) (rows_to_walk c.args.res c.args.queue c.next-at.result s) (rows_queued c.args.res c.args.queue s)
           c.args.scratch.now c.loop-at.scratch c.find_holder.new.scratch
-          (came ∙ ap (λ (r : Row). r ∷ rows_left c.args.res c.args.queue c.next-at.result s) (c.lock_record.ensures.only one.row one.stored)) c.find_holder.ensures c.loop-at.invariant.goes_on;
+          (came ∙ ap (λ (r : Row). r ∷ rows_to_walk c.args.res c.args.queue c.next-at.result s) (c.lock_record.ensures.only one.row one.stored)) c.find_holder.ensures c.loop-at.invariant.goes_on;
     }
 
 pub returns : goal.returns
 returns c =
     let s = c.args.store.now in
-    let left = rows_left c.args.res c.args.queue c.loop-at.at s in
-    let none : left ≡ [] = ap (λ at. rows_left c.args.res c.args.queue at s) c.in_default.is in
+    let left = rows_to_walk c.args.res c.args.queue c.loop-at.at s in
+    let none : left ≡ [] = ap (λ at. rows_to_walk c.args.res c.args.queue at s) c.in_default.is in
     c.loop-at.invariant.goes_on c.loop-at.scratch (marks_none (OwnsHolder c.args.lkid c.args.mode left) c.loop-at.scratch (no_holder c.args.lkid c.args.mode left none))

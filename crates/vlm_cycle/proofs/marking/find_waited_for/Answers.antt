@@ -4,7 +4,7 @@ use Rattle.vlm_words.specs.declared.resources.Queue.TheVariants.{Granted, Conver
 use Rattle.vlm_store.specs.Records.{StoredLock, StoredResource, queued, rows_of_locks}
 use Rattle.vlm_queue.specs.Walks.{rows_queued}
 use Rattle.vlm_locks.proofs.Stood.{resource_among}
-use Rattle.vlm_cycle.specs.Waiting.{IsWaitedFor, OwnsKeeper}
+use Rattle.vlm_cycle.specs.Waiting.{OwnsWaitedFor, OwnsKeeper}
 use Rattle.vlm_cycle.proofs.Keeping.{keeper_waited, waited_keeps, waits_here}
 use Rattle.vlm_cycle.proofs.Marked.{marks_as, marks_none}
 use Rattle.vlm_cycle.proofs.marking.find_waited_for.Goals as goal
@@ -17,7 +17,7 @@ returns-then-is_granted c =
     let own = c.requires.standing.resource in
     let there = resource_among f.res s.resources own c.requires.standing.found in
     let lock : StoredLock = record { at = f.lock; row = f.row } in
-    marks_none (IsWaitedFor s f.row) c.args.scratch.now
+    marks_none (OwnsWaitedFor s f.row) c.args.scratch.now
     (λ pid waited. (waits_here s c.law_records_are_sound.ensures own there lock f.queue c.requires.standing.among pid waited).not_granted c.if-is_granted.ensures.granted)
 
 pub returns : goal.returns
@@ -31,7 +31,7 @@ returns c =
     let request = c.in-Some.request in
     let keeps = λ (o : Option StoredResource) (pid : ℕ). OwnsKeeper f.row.lkid request.mode f.queue
     (rows_of_locks (option_map_or (queued Granted) o [])) (rows_of_locks (option_map_or (queued Conversion) o [])) (rows_of_locks (option_map_or (queued Waiting) o [])) pid in
-    marks_as (OwnsKeeper f.row.lkid request.mode f.queue (rows_queued f.res Granted s) (rows_queued f.res Conversion s) (rows_queued f.res Waiting s)) (IsWaitedFor s f.row)
+    marks_as (OwnsKeeper f.row.lkid request.mode f.queue (rows_queued f.res Granted s) (rows_queued f.res Conversion s) (rows_queued f.res Waiting s)) (OwnsWaitedFor s f.row)
     c.args.scratch.now c.find_keepers.new.scratch
     (λ pid keeper. keeper_waited s c.law_records_are_sound.ensures own there lock f.queue c.requires.standing.among request c.in-Some.is c.if-is_granted.ensures.queued
     (sym c.has.ensures ∙ c.if-has.false) pid (subst (λ o. keeps o pid) found keeper))

@@ -1,4 +1,4 @@
-use Rattle.vlm_cycle.specs.Notes.{IsThere}
+use Rattle.vlm_cycle.specs.Notes.{LivesAt}
 use Rattle.vlm_cycle.proofs.Noted.{none_there}
 use Rattle.vlm_cycle.proofs.ranking.close.Goals as goal
 
@@ -9,7 +9,7 @@ loop-preserved c s are opened =
     (c.put.ensures s so_far.0 (c.ranked.ensures s note), note.opened)
 
 pub returns-in_default : goal.returns-in_default
-returns-in_default c s are walk = ((c.loop.invariant s are walk.opened).0, c.with_closed.ensures s walk (none_there (IsThere s)))
+returns-in_default c s are walk = ((c.loop.invariant s are walk.opened).0, c.with_closed.ensures s walk (none_there (LivesAt s)))
 
 pub returns-then-slot : goal.returns-then-slot
 returns-then-slot c s are walk =

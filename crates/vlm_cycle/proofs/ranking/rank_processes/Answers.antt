@@ -1,6 +1,6 @@
 use Rattle.std.proofs.Common.{inl, inr, refl, subst, sym}
 use Rattle.vlm_links.specs.Lists.{IsIn}
-use Rattle.vlm_cycle.specs.Notes.{IsThere}
+use Rattle.vlm_cycle.specs.Notes.{LivesAt}
 use Rattle.vlm_cycle.proofs.Led.{queued_is_stored}
 use Rattle.vlm_cycle.proofs.Noted.{none_there}
 use Rattle.vlm_cycle.proofs.ranking.rank_processes.Goals as goal
@@ -8,7 +8,7 @@ use Rattle.vlm_cycle.proofs.ranking.rank_processes.Goals as goal
 pub loop-lock-init : goal.loop-lock-init
 loop-lock-init c = record {
   queued = λ at found. c.queued_locks-lock-items.ensures.queued at (subst (IsIn at) c.into_iter-lock-iterator.ensures.into_iter_gives found);
-  walk = record { process = none_there (IsThere c.args.store.now); opened = none_there (IsThere c.args.store.now) };
+  walk = record { process = none_there (LivesAt c.args.store.now); opened = none_there (LivesAt c.args.store.now) };
   notes = c.clear.ensures c.args.store.now;
 }
 

@@ -1,7 +1,7 @@
 use Rattle.std.proofs.Common.{◌≡◌, ap, sym, arith, ◌∙◌, refl}
 use Rattle.vlm_store.specs.Plain.{plain_resources}
 use Rattle.vlm_machine.specs.Machine.{MachineState}
-use Rattle.vlm_machine.specs.Notes.{locks_on}
+use Rattle.vlm_machine.specs.Notes.{total_locks_on}
 use Rattle.vlm_machine.proofs.Noting.{as_many_stored, room_after}
 use Rattle.vlm_words.specs.declared.locks.Row.{Row}
 use Rattle.vlm_words.specs.declared.steps.Answer.TheVariants.{Lock}
@@ -34,8 +34,8 @@ returns-in-Ok-enq_change-clause-outcome c =
 pub returns-in-Ok-enq_change-clause-notes : goal.returns-in-Ok-enq_change-clause-notes
 returns-in-Ok-enq_change-clause-notes c =
     let stored = as_many_stored c.self.inside.store c.self.invariant.rest.none_loose in
-    let same : locks_on (plain_state c.args.self.now).resources ≡ locks_on (plain_resources c.self.inside.store) =
-    ap (λ (m : MachineState). locks_on (plain_state m).resources) (sym c.self.view_is) in
+    let same : total_locks_on (plain_state c.args.self.now).resources ≡ total_locks_on (plain_resources c.self.inside.store) =
+    ap (λ (m : MachineState). total_locks_on (plain_state m).resources) (sym c.self.view_is) in
     room_after c.args.self.now c.sweep.new.self c.make_room_beyond.new.self (Enq c.args.request) (Lock c.in-Ok.admitted.answer c.in-Ok.admitted.entry.row.lkid)
     (returns-in-Ok-enq_change-clause-outcome c) c.make_room_beyond.ensures.none
     (omega (arith, stored, same, c.in-Ok-make_room_beyond.ensures.room, c.total_locks.ensures))
