@@ -1,6 +1,6 @@
 //! Lists of steps that come from anywhere: they are looked at before they are served.
 
-ghost use Rattle.std.specs.Prelude.{◌≤◌, ◌<◌, ◌×◌, length, IsTrue};
+ghost use Rattle.std.specs.Prelude.{◌≤◌, ◌<◌, length, IsTrue};
 ghost use Rattle.vlm_cluster.specs.Posts.{AreListsOfPosts};
 
 use std::alloc::Global;

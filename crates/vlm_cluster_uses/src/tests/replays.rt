@@ -5,7 +5,7 @@ use std::alloc::{AllocError, Global};
 use std::test::Fail;
 use vlm_cluster::Report;
 use vlm_core::{Core, run_steps};
-use vlm_journal::entries::{Entry, Part};
+use vlm_journal::entries::Part;
 use vlm_words::modes::Mode;
 use vlm_words::names::NameArg;
 use vlm_words::steps::{Answer, Conversion, Dequeue, NewRequest, Step, Which};
@@ -21,16 +21,16 @@ const NAMES: [&[u8]; 2] = [b"A", b"B"];
 struct Chance(u32);
 
 impl Chance {
-    // A number below this one.
-    fn below(&mut self, bound: u32) -> u32 {
+    // A number below this one, or 0.
+    fn below(&mut self, bound: u32) -> u8 {
         self.0 ^= self.0 << 13;
         self.0 ^= self.0 >> 17;
         self.0 ^= self.0 << 5;
-        self.0.checked_rem(bound).unwrap_or(0)
+        u8::try_from(self.0.checked_rem(bound).unwrap_or(0)).unwrap_or(0)
     }
 
     fn mode(&mut self) -> Mode {
-        MODES[self.below(6) as usize % 6]
+        MODES[usize::from(self.below(6)) % 6]
     }
 
     fn routine(&mut self) -> Option<u32> {
@@ -38,17 +38,17 @@ impl Chance {
     }
 
     fn lock(&mut self) -> Which {
-        Which::Block(self.below(3) as u8)
+        Which::Block(self.below(3))
     }
 
     fn request(&mut self, pid: u32) -> Step {
         Step::Enq(NewRequest {
             pid,
             mode: self.mode(),
-            name: NameArg::of(NAMES[self.below(2) as usize % 2]),
-            block: 1 + self.below(2) as u8 % 2,
+            name: NameArg::of(NAMES[usize::from(self.below(2)) % 2]),
+            block: 1 + self.below(2) % 2,
             parent: Which::Id(0),
-            flags: self.below(8) as u16,
+            flags: u16::from(self.below(8)),
             ast: self.routine(),
             bast: self.routine(),
             param: 0,
@@ -61,7 +61,7 @@ impl Chance {
             lock: self.lock(),
             mode: self.mode(),
             block: 1,
-            flags: self.below(8) as u16,
+            flags: u16::from(self.below(8)),
             ast: self.routine(),
             bast: self.routine(),
             param: 0,
@@ -73,7 +73,7 @@ impl Chance {
             pid,
             lock: self.lock(),
             value: None,
-            flags: self.below(8) as u16,
+            flags: u16::from(self.below(8)),
         })
     }
 
@@ -83,7 +83,7 @@ impl Chance {
         match self.below(16) {
             0 => declaration(node, 9),
             1 => Step::Search(node),
-            2 => Step::Rundown(pid.wrapping_add(self.below(2))),
+            2 => Step::Rundown(pid.wrapping_add(u32::from(self.below(2)))),
             3..8 => self.request(pid),
             8..12 => self.conversion(pid),
             _ => self.dequeue(pid),
@@ -105,29 +105,42 @@ fn lists_by(alloc: Global, chance: &mut Chance) -> Result<Vec<Vec<Step>>, AllocE
     Ok(lists)
 }
 
-// The entries of a journal, in order.
-fn journal(report: &Report) -> impl Iterator<Item = &Entry> {
-    report
-        .parts
-        .iter()
-        .flat_map(entries_in)
-        .chain(entries_in(&report.rest))
+// The steps of a journal, and what each was answered.
+#[derive(Drop)]
+struct Made {
+    steps: Vec<Step>,
+    answers: Vec<Answer>,
 }
 
-fn entries_in(part: &Part) -> impl Iterator<Item = &Entry> {
-    part.entries.iter()
-}
-
-// The steps of the journal, made in one thread, are answered as it says.
-fn is_replayed(alloc: Global, report: &Report) -> Result<bool, AllocError> {
-    let mut steps = Vec::new(alloc);
-    for entry in journal(report) {
-        steps.push(entry.step)?;
+impl Made {
+    // Puts the entries of a part behind the others.
+    fn add(&mut self, part: &Part) -> Result<(), AllocError> {
+        for entry in part.entries.iter() {
+            self.steps.push(entry.step)?;
+            self.answers.push(entry.answer)?;
+        }
+        Ok(())
     }
-    let mut answers: Vec<Answer> = Vec::new(alloc);
-    let made = run_steps(&mut Core::new(alloc), &steps, &mut answers);
-    let told = journal(report).map(|entry| entry.answer);
-    Ok(made.is_ok() && told.eq(answers.iter().copied()))
+
+    // The steps, made in one thread, are answered the same.
+    fn is_replayed(&self, alloc: Global) -> bool {
+        let mut answers = Vec::new(alloc);
+        let made = run_steps(&mut Core::new(alloc), &self.steps, &mut answers);
+        made.is_ok() && answers.as_slice() == self.answers.as_slice()
+    }
+}
+
+// What was made in a run.
+fn made_in(alloc: Global, report: &Report) -> Result<Made, AllocError> {
+    let mut made = Made {
+        steps: Vec::new(alloc),
+        answers: Vec::new(alloc),
+    };
+    for part in report.parts.iter() {
+        made.add(part)?;
+    }
+    made.add(&report.rest)?;
+    Ok(made)
 }
 
 #[test]
@@ -139,7 +152,10 @@ fn lists_by_chance(rt: HostRuntime) -> Result<(), Fail> {
             assert!(&rt; false, "in run {run}");
             return Ok(());
         };
-        assert!(&rt; is_replayed(rt.alloc(), &report)?, "in run {run}");
+        assert!(&rt;
+            made_in(rt.alloc(), &report)?.is_replayed(rt.alloc()),
+            "in run {run}"
+        );
     }
     Ok(())
 }

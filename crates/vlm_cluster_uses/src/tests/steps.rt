@@ -108,36 +108,49 @@ pub fn entries_of(report: &Report) -> Option<u64> {
 }
 
 // The items are these answers, in order, and then NORMAL.
-pub fn are_answers(items: &[Item], answers: impl Iterator<Item = Answer>) -> bool {
-    let departure = Answer::Plain(Cond::Normal);
-    items
-        .iter()
-        .map(answer_of)
-        .eq(answers.chain([departure]).map(Some))
+pub fn are_answers(items: &[Item], answers: &[Answer]) -> bool {
+    let Some((last, before)) = items.split_last() else {
+        return false;
+    };
+    is_answer(last, Answer::Plain(Cond::Normal))
+        && before.len() == answers.len()
+        && before
+            .iter()
+            .zip(answers)
+            .all(|(item, answer)| is_answer(item, *answer))
 }
 
-fn answer_of(item: &Item) -> Option<Answer> {
+// The item is this answer.
+pub fn is_answer(item: &Item, answer: Answer) -> bool {
     match item {
-        Item::Answer(answer) => Some(*answer),
-        Item::Ast(_, _) => None,
+        Item::Answer(told) => *told == answer,
+        Item::Ast(_, _) => false,
     }
 }
 
-// What the node with 199 requests is told: its process, and its locks.
-pub fn locks_of_third() -> impl Iterator<Item = Answer> {
-    let locks = (1..200u32).map(|lkid| Answer::Lock(Cond::Normal, lkid));
-    [Answer::Process(first_process(3))].into_iter().chain(locks)
+// The node with 199 requests is told its process, and then its locks.
+fn are_locks(items: &[Item]) -> bool {
+    let [first, locks @ .., last] = items else {
+        return false;
+    };
+    is_answer(first, Answer::Process(first_process(3)))
+        && is_answer(last, Answer::Plain(Cond::Normal))
+        && locks.len() == 199
+        && locks.iter().enumerate().all(|(at, item)| is_answer(
+            item,
+            Answer::Lock(Cond::Normal, at as u32 + 1),
+        ))
 }
 
 // Three lists were served whole, and in parts of so many entries at least.
 pub fn are_three_served(report: &Report, every: usize) -> bool {
+    let [first, second, third] = report.items.as_slice() else {
+        return false;
+    };
     entries_of(report) == Some(204)
         && report.parts.iter().all(|part| part.entries.len() >= every)
         && report.posted.as_slice() == [0, 1, 200].as_slice()
-        && are_answers(&report.items[0], [].into_iter())
-        && are_answers(
-            &report.items[1],
-            [Answer::Process(first_process(2))].into_iter(),
-        )
-        && are_answers(&report.items[2], locks_of_third())
+        && are_answers(first, [].as_slice())
+        && are_answers(second, [Answer::Process(first_process(2))].as_slice())
+        && are_locks(third)
 }

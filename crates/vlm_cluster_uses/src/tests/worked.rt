@@ -2,12 +2,13 @@
 
 use crate::tests::gates::{Closing, Heard, Meeting, Slow};
 use crate::tests::steps::{
-    are_answers, are_three_served, declaration, entries_of, open_gates, report_of, searches,
-    three_lists,
+    are_answers, are_three_served, declaration, entries_of, is_answer, open_gates, report_of,
+    searches, three_lists,
 };
 use std::sync::Arc;
 use std::sync::atomic::{AtomicU64, Ordering};
 use std::test::Fail;
+use vlm_cluster::Report;
 use vlm_words::conditions::Cond;
 use vlm_words::steps::{Answer, Step};
 
@@ -40,14 +41,17 @@ fn a_node_departs_first(rt: HostRuntime) -> Result<(), Fail> {
     Ok(())
 }
 
-fn is_departure_first(report: &vlm_cluster::Report) -> bool {
-    let normal = Answer::Plain(Cond::Normal);
-    let departed = Answer::Plain(Cond::Departed);
-    let told = report.items[0].iter().map(|item| match item {
-        vlm_journal::entries::Item::Answer(answer) => Some(*answer),
-        _ => None,
-    });
-    told.eq([normal, departed, departed].into_iter().map(Some))
+// The only node was told that it departs, and twice that it has departed.
+fn is_departure_first(report: &Report) -> bool {
+    let conditions = [Cond::Normal, Cond::Departed, Cond::Departed];
+    let [items] = report.items.as_slice() else {
+        return false;
+    };
+    items.len() == 3
+        && items.iter().zip(conditions).all(|(item, condition)| is_answer(
+            item,
+            Answer::Plain(condition),
+        ))
 }
 
 // Where a gate stops, the rest of its list is not posted, but the departure is.
@@ -60,11 +64,19 @@ fn a_gate_stops(rt: HostRuntime) -> Result<(), Fail> {
     assert!(&rt;
         report.is_some_and(|report| {
             report.posted.as_slice() == [2, 1].as_slice()
-                && are_answers(&report.items[1], [Answer::Victim(None)].into_iter())
+                && is_told_of_search(&report)
                 && entries_of(&report) == Some(5)
         })
     );
     Ok(())
+}
+
+// The second node was told of one search, and of its departure.
+fn is_told_of_search(report: &Report) -> bool {
+    let [_, items] = report.items.as_slice() else {
+        return false;
+    };
+    are_answers(items, [Answer::Victim(None)].as_slice())
 }
 
 // Each gate waits for all others in the middle of its list.
