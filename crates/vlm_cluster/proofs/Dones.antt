@@ -1,0 +1,103 @@
+-- What workers hand back, while it is settled.
+use Rattle.std.proofs.Common.{◌≡◌, ◌≢◌, ◌+◌, ◌-◌, ◌<◌, ℕ, zero, suc, Bool, List, [], ◌∷◌, ◌++◌, Some, length, map, get_or, replicate, set, take, refl, sym, ap, ◌∙◌, subst, arith, get_or-set_same, get_or-set_other, below_more}
+use Rattle.std.specs.List.{slice_get}
+use Rattle.std.proofs.Math.Seq.{map-set_same}
+use Rattle.std.proofs.lemmas.List.{get_or-map, length-map, take-append-le, take_all}
+use Rattle.vlm_journal.specs.declared.entries.Entry.{Entry}
+use Rattle.vlm_ports.specs.declared.hub.Hub.{Hub}
+use Rattle.vlm_ports.specs.Hubs.{IsPortOf, rings}
+use Rattle.vlm_ports.specs.Ports.{identity}
+use Rattle.vlm_ports.specs.Rings.{RingName}
+use Rattle.vlm_cluster.specs.declared.worker.Done.{Done}
+use Rattle.vlm_cluster.specs.Headline.{Items}
+use Rattle.vlm_cluster.specs.Works.{AreBegun, ArePortsOf, AreWhole, IsBegun, IsWhole, Work, work_of}
+
+-- an element of a list that is long enough
+pub element : {X : Type 0} (xs : List X) (k : ℕ) → k < length xs → X
+element [] k lt = absurd (omega (arith, lt))
+element (x ∷ xs) zero lt = x
+element (x ∷ xs) (suc k) lt = element xs k (omega (arith, lt))
+
+-- inside a list no default is read
+pub any_default : {X : Type 0} (xs : List X) (k : ℕ) (d e : X) → k < length xs → get_or xs k d ≡ get_or xs k e
+any_default [] k d e lt = absurd (omega (arith, lt))
+any_default (x ∷ xs) zero d e lt = refl
+any_default (x ∷ xs) (suc k) d e lt = any_default xs k d e (omega (arith, lt))
+
+-- what holds of each element, and of one that is put at the end, holds of each
+pub all_more : {X : Type 0} (P : ℕ → X → Type 0) (xs : List X) (x : X) → ((k : ℕ) (d : X) → k < length xs → P k (get_or xs k d)) → P (length xs) x
+    → (k : ℕ) (d : X) → k < length xs + 1 → P k (get_or (xs ++ x ∷ []) k d)
+all_more P [] x before here zero d lt = here
+all_more P [] x before here (suc k) d lt = absurd (omega (arith, lt))
+all_more P (y ∷ ys) x before here zero d lt = before zero d (omega arith)
+all_more P (y ∷ ys) x before here (suc k) d lt =
+    all_more (λ m z. P (suc m) z) ys x (λ m e low. before (suc m) e (omega (arith, low))) here k d (omega (arith, lt))
+
+-- a Vec that was lent as a slice has what the slice has then
+pub after_lend : {X : Type 0} (n : ℕ) (xs rest : List X) → length xs ≡ n → take n (xs ++ rest) ≡ xs
+after_lend n xs rest long =
+    take-append-le n xs rest (omega (arith, long)) ∙ take_all n xs (omega (arith, long))
+
+-- zeros are 0, and nothing is behind them
+pub zeros : (n k : ℕ) → (let z : ℕ = 0 in get_or (replicate n z) k z ≡ z)
+zeros zero k = refl
+zeros (suc n) zero = refl
+zeros (suc n) (suc k) = zeros n k
+
+module _ {G : Type 0} where
+  pub works_set : (ds : List (Done G)) (at : ℕ) (d was : Done G) → was ≡ get_or ds at was → work_of d ≡ work_of was → map work_of (set ds at d) ≡ map work_of ds
+  works_set ds at d was is same = map-set_same work_of ds at d was (same ∙ ap work_of is)
+
+  pub as_many : (xs bs : List (Done G)) → map work_of xs ≡ map work_of bs → length xs ≡ length bs
+  as_many xs bs same = sym (length-map xs work_of) ∙ ap (λ (ws : List Work). length ws) same ∙ length-map bs work_of
+
+  -- the same work at each place
+  pub work_at : (xs bs : List (Done G)) → map work_of xs ≡ map work_of bs → (k : ℕ) (d : Done G) → k < length xs → work_of (get_or xs k d) ≡ work_of (get_or bs k d)
+  work_at xs bs same k d lt =
+      let n = as_many xs bs same in
+      sym (get_or-map work_of xs k d (work_of d) lt) ∙ ap (λ (ws : List Work). get_or ws k (work_of d)) same ∙ get_or-map work_of bs k d (work_of d) (omega (arith, n, lt))
+
+  pub ports_kept : (h i : Hub) (xs bs : List (Done G)) → rings i ≡ rings h → map work_of bs ≡ map work_of xs → ArePortsOf h xs → ArePortsOf i bs
+  ports_kept h i xs bs same_rings same are k d lt =
+      let n = as_many bs xs same in
+      let P : List (ℕ × RingName × RingName) → ℕ × RingName × RingName → Type 0 = λ rs port. (0 < port.0) × (slice_get rs (port.0 - 1) ≡ Some port) in
+      let port : identity (get_or bs k d).basket.port ≡ identity (get_or xs k d).basket.port = ap (λ (w : Work). w.port) (work_at bs xs same k d lt) in
+      subst (λ rs. P rs (identity (get_or bs k d).basket.port)) (sym same_rings) (subst (λ port. P (rings h) port) (sym port) (are k d (omega (arith, n, lt))))
+
+  pub begun_more : (es : List Entry) (ds : List (Done G)) (at : ℕ) (d : Done G) → at < length ds → AreBegun es ds at → IsBegun es (work_of d) d.basket.items.items
+      → AreBegun es (set ds at d) (at + 1)
+  begun_more es ds at d lt before here k e below =
+      let P : Done G → Type 0 = λ x. IsBegun es (work_of x) x.basket.items.items in
+      below_more (λ m. P (get_or (set ds at d) m e)) at
+      (λ m low. let ne : m ≢ at = omega (arith, low) in subst P (sym (get_or-set_other ds at m d e ne)) (before m e low))
+      (subst P (sym (get_or-set_same ds at d e lt)) here)
+      k below
+
+  pub whole_more : (es : List Entry) (ds : List (Done G)) (at : ℕ) (d : Done G) → at < length ds → AreWhole es ds at → IsWhole es (work_of d) d.basket.items.items
+      → AreWhole es (set ds at d) (at + 1)
+  whole_more es ds at d lt before here k e below =
+      let P : Done G → Type 0 = λ x. IsWhole es (work_of x) x.basket.items.items in
+      below_more (λ m. P (get_or (set ds at d) m e)) at
+      (λ m low. let ne : m ≢ at = omega (arith, low) in subst P (sym (get_or-set_other ds at m d e ne)) (before m e low))
+      (subst P (sym (get_or-set_same ds at d e lt)) here)
+      k below
+
+  -- what was taken and settled, of what was handed back
+  module _ (ds xs : List (Done G)) (es : List Entry) (vs : List Items) (same : map work_of xs ≡ map work_of ds)
+      (are : vs ≡ map (λ (x : Done G). x.basket.items) xs) where
+    item_at : (k : ℕ) (d : Done G) (v : Items) → k < length xs → get_or vs k v ≡ (get_or xs k d).basket.items
+    item_at k d v lt = ap (λ (ys : List Items). get_or ys k v) are ∙ get_or-map (λ (x : Done G). x.basket.items) xs k d v lt
+
+    pub begun_at : AreBegun es xs (length xs) → (k : ℕ) (d : Done G) (v : Items) → k < length ds → IsBegun es (work_of (get_or ds k d)) (get_or vs k v).items
+    begun_at begun k d v below =
+        let n = as_many xs ds same in
+        let lt : k < length xs = omega (arith, n, below) in
+        subst (λ (w : Work). IsBegun es w (get_or vs k v).items) (work_at xs ds same k d lt)
+        (subst (λ (x : Items). IsBegun es (work_of (get_or xs k d)) x.items) (sym (item_at k d v lt)) (begun k d lt))
+
+    pub whole_at : AreWhole es xs (length xs) → (k : ℕ) (d : Done G) (v : Items) → k < length ds → IsWhole es (work_of (get_or ds k d)) (get_or vs k v).items
+    whole_at whole k d v below =
+        let n = as_many xs ds same in
+        let lt : k < length xs = omega (arith, n, below) in
+        subst (λ (w : Work). IsWhole es w (get_or vs k v).items) (work_at xs ds same k d lt)
+        (subst (λ (x : Items). IsWhole es (work_of (get_or xs k d)) x.items) (sym (item_at k d v lt)) (whole k d lt))

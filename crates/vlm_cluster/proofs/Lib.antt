@@ -1,0 +1,6 @@
+mod Accounting
+mod Assembled
+mod Dones
+mod Outcomes
+mod Settled
+mod Throughout

@@ -1,0 +1,6 @@
+use Rattle.std.proofs.Common.{◌≡◌}
+use Rattle.vlm_ports.specs.Ports.{identity, posted}
+use Rattle.vlm_cluster.proofs.basket.Basket.await_answers.Given as goal
+
+abbrev pub invariant-loop : goal.invariant-loop
+invariant-loop g l = (identity l.self.port ≡ identity l.initial.self.port) × (posted l.self.port ≡ posted l.initial.self.port)

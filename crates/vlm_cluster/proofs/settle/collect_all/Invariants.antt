@@ -1,0 +1,6 @@
+use Rattle.std.proofs.Common.{◌≡◌, map}
+use Rattle.vlm_cluster.specs.Works.{work_of}
+use Rattle.vlm_cluster.proofs.settle.collect_all.Given as goal
+
+abbrev pub invariant-loop-at : goal.invariant-loop-at
+invariant-loop-at g l = map work_of l.dones ≡ map work_of l.initial.dones

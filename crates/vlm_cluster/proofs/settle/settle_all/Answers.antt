@@ -1,0 +1,30 @@
+use Rattle.std.proofs.Common.{◌≡◌, ◌<◌, true, false, List, length, arith, rules, ◌∙◌, sym, subst}
+use Rattle.std.specs.Prelude.{IsTrue}
+use Rattle.std.proofs.Math.Seq.{map-set_same}
+use Rattle.vlm_journal.specs.declared.entries.Entry.{Entry}
+use Rattle.vlm_cluster.specs.Works.{AreBegun, AreWhole, entries_at, work_of}
+use Rattle.vlm_cluster.proofs.Dones.{begun_more, ports_kept, whole_more}
+use Rattle.vlm_cluster.proofs.settle.settle_all.Goals as goal
+use Rattle.vlm_cluster.proofs.settle.settle_all.Goals.{then-not-settle, else-not-settle}
+
+pub settle-requires-clause-port : goal.settle-requires-clause-port
+settle-requires-clause-port g c =
+    let lt : c.loop-at.at < length c.loop-at.dones = omega arith in
+    ports_kept c.args.desk.now.hub c.loop-at.desk.hub c.args.dones.now c.loop-at.dones c.loop-at.invariant.rings c.loop-at.invariant.same c.requires.ports c.loop-at.at _ lt
+
+pub loop-at-preserved : goal.loop-at-preserved
+loop-at-preserved g c =
+    let ds = c.loop-at.dones in let at = c.loop-at.at in let d = c.settle.new.done in let was = c.loop-at.invariant in let new = c.settle.ensures in
+    let lt : at < length ds = omega arith in record {
+      rings = new.rings ∙ was.rings;
+      same = map-set_same work_of ds at d c.index-dones-at.result new.same ∙ was.same;
+      accounted = new.accounted;
+      begun = begun_more (entries_at c.settle.new.desk) ds at d lt (subst (λ (es : List Entry). AreBegun es ds at) (sym new.entries) was.begun) new.begun;
+      whole = λ all. elim c.if-not-settle.branch [
+        | then-not-settle w ↦ let f : true ≡ false = sym all ∙ w.all-is in absurd (grind rules)
+        | else-not-settle w ↦
+            let t : IsTrue c.settle.result = search rules in
+            let before : c.loop-at.all ≡ true = sym w.all-is ∙ all in
+            whole_more (entries_at c.settle.new.desk) ds at d lt (subst (λ (es : List Entry). AreWhole es ds at) (sym new.entries) (was.whole before)) (new.whole t)
+      ];
+    }

@@ -1,0 +1,41 @@
+use Rattle.std.proofs.Common.{◌≡◌, ℕ, ◌+◌, ◌<◌, ◌≤◌, List, length, get_or, vec_len, arith, rules, ap, sym, ◌∙◌, subst}
+use Rattle.std.specs.Prelude.{vec_capacity}
+use Rattle.std.specs.declared.alloc.Global.{Global}
+use Rattle.std.specs.declared.thread.PromisedHandle.{PromisedHandle}
+use Rattle.std.specs.declared.vec.Vec.{Vec}
+use Rattle.vlm_words.specs.declared.steps.Step.{Step}
+use Rattle.vlm_ports.specs.declared.port.Port.{Port}
+use Rattle.vlm_cluster.specs.declared.threads.Given.{Given}
+use Rattle.vlm_cluster.specs.declared.worker.Done.{Done}
+use Rattle.vlm_cluster.proofs.Dones.{all_more, any_default}
+use Rattle.vlm_cluster.proofs.threads.start_all.Goals as goal
+
+pub loop-at-preserved : goal.loop-at-preserved
+loop-at-preserved g c =
+    let at = c.loop-at.at in let was = c.loop-at.invariant in let ports = c.args.ports.items in let lists = c.args.lists.items in
+    let child = c.in-Ok.child in let old = c.loop-at.children.items in
+    let H = PromisedHandle (Done g.row.G.Denot) Given in
+    let P : ℕ → H → Type 0 = λ m h. (p : Port) (x : Vec Step Global) → (h.promise.port.value ≡ get_or ports m p) × (h.promise.list.value ≡ get_or lists m x) in
+    let some_port : at < length ports = omega arith in
+    let some_list : at < length lists = omega arith in
+    let long : length old ≡ at = (let ok = c.loop-at.children.ok in let n = was.started in omega arith) in
+    let here : P at child = λ p x. (
+      c.in-Ok.ensures.port ∙ (c.remove-port.ensures.value ∙ (was.next_port 0 c.remove-port.result ∙ (ap (λ (n : ℕ). get_or ports n c.remove-port.result) (omega arith) ∙ any_default ports at c.remove-port.result p some_port))),
+      c.in-Ok.ensures.list ∙ (c.remove-list.ensures.value ∙ (was.next_list 0 c.remove-list.result ∙ (ap (λ (n : ℕ). get_or lists n c.remove-list.result) (omega arith) ∙ any_default lists at c.remove-list.result x some_list))),
+    ) in record {
+      started = (let n = was.started in let m = c.push_reserved.ensures.len in omega arith);
+      room = (let n = was.room in let m = c.push_reserved.ensures.capacity in omega arith);
+      gates = (let n = was.gates in let m = c.remove-gate.ensures.len in omega arith);
+      ports = (let n = was.ports in let m = c.remove-port.ensures.len in omega arith);
+      lists = (let n = was.lists in let m = c.remove-list.ensures.len in omega arith);
+      next_port = λ k p. c.remove-port.ensures.by_index.1 k p (omega arith) ∙ (was.next_port (k + 1) p ∙ ap (λ (n : ℕ). get_or ports n p) (omega arith));
+      next_list = λ k x. c.remove-list.ensures.by_index.1 k x (omega arith) ∙ (was.next_list (k + 1) x ∙ ap (λ (n : ℕ). get_or lists n x) (omega arith));
+      each = λ k h p x below. subst (λ (hs : List H). P k (get_or hs k h)) (sym c.push_reserved.ensures.items)
+          (all_more P old child (λ m e low y z. was.each m e y z (omega (arith, low, long))) (subst (λ (m : ℕ). P m child) (sym long) here) k h (omega (arith, below, long))) p x;
+    }
+
+pub returns-in_default-clause-each : goal.returns-in_default-clause-each
+returns-in_default-clause-each g c k h p l lt = c.loop-at.invariant.each k h p l (let n = c.loop-at.invariant.started in omega (arith, lt, n))
+
+pub returns-clause-each : goal.returns-clause-each
+returns-clause-each g c k h p l lt = c.loop-at.invariant.each k h p l (let n = c.loop-at.invariant.started in omega (arith, lt, n))

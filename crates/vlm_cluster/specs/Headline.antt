@@ -1,0 +1,95 @@
+-- What a run of lists comes to.
+use Rattle.std.specs.Prelude.{◌≡◌, ◌<◌, ◌≤◌, ◌+◌, ◌++◌, ℕ, List, [], ◌∷◌, None, Option, Some, length, slice_get, take, ⊤}
+use Rattle.std.specs.declared.alloc.Global.{Global}
+use Rattle.std.specs.declared.vec.Vec.{Vec}
+use mathlib.Core.List.{IsPrefix}
+use Rattle.vlm_words.specs.declared.locks.Row.{Row}
+use Rattle.vlm_words.specs.declared.steps.Step.{Step}
+use Rattle.vlm_words.specs.declared.steps.Step.TheVariants.{Leave}
+use Rattle.vlm_words.specs.Laws.{EachRequestEndsOnce, GrantsFollowQueueOrder, HeldModesAreCompatible}
+use Rattle.vlm_words.specs.Runs.{History, Legal}
+use Rattle.vlm_words.specs.State.{State, start}
+use Rattle.vlm_words.specs.Stepped.{IsChoice, step_refusal}
+use Rattle.vlm_journal.specs.declared.entries.Entry.{Entry}
+use Rattle.vlm_journal.specs.declared.entries.Item.{Item}
+use Rattle.vlm_journal.specs.Departed.{IsAnsweredDeparted}
+use Rattle.vlm_journal.specs.Journals.{Journal, JournalFrom, answers_of, steps_of}
+use Rattle.vlm_journal.specs.Told.{asked, told}
+use Rattle.vlm_cluster.specs.declared.report.Fault.{Fault}
+use Rattle.vlm_cluster.specs.declared.report.Fault.TheVariants.{Memory}
+use Rattle.vlm_cluster.specs.declared.report.Report.{Report}
+use Rattle.vlm_cluster.specs.Parts.{AreNumbered}
+use Rattle.vlm_cluster.specs.Reports.{entries_of, parts_of}
+
+-- a list of steps, and the items that a node is told
+abbrev pub Steps : Type 0
+Steps = Vec Step Global
+
+abbrev pub Items : Type 0
+Items = Vec Item Global
+
+-- what holds of every report: there is something for each list, and no more of it was posted than it has; the journal is
+-- legal and leads to the core's state, the base of each of its parts says how many entries stand before it, and a node
+-- that has departed is answered so
+pub record IsReport (lists : List Steps) (r : Report) : Type 0 where
+  pub counts : (length r.items.items ≡ length lists) × (length r.posted.items ≡ length lists)
+  pub within : (k n : ℕ) (list : Steps) → slice_get lists k ≡ Some list → slice_get r.posted.items k ≡ Some n
+      → n ≤ length list.items
+  pub legal : Journal (entries_of r) r.core
+  pub numbered : AreNumbered (parts_of r)
+  pub departed : (node : ℕ) → 0 < node → IsAnsweredDeparted node (entries_of r)
+
+-- each node has asked for what was posted of its list and then for its departure, in order, and was told all that the
+-- journal tells it
+pub record AreServed (lists : List Steps) (r : Report) : Type 0 where
+  pub report : IsReport lists r
+  pub asked : (k n : ℕ) (list : Steps) → slice_get lists k ≡ Some list → slice_get r.posted.items k ≡ Some n
+      → asked (k + 1) (entries_of r) ≡ take n list.items ++ Leave (k + 1) ∷ []
+  pub told : (k : ℕ) (items : Items) → slice_get r.items.items k ≡ Some items → items.items ≡ told (k + 1) (entries_of r)
+
+-- each node has asked for the first of that, and was told the first of what the journal tells it
+pub record AreServedInPart (lists : List Steps) (r : Report) : Type 0 where
+  pub report : IsReport lists r
+  pub asked : (k n : ℕ) (list : Steps) → slice_get lists k ≡ Some list → slice_get r.posted.items k ≡ Some n
+      → IsPrefix (asked (k + 1) (entries_of r)) (take n list.items ++ Leave (k + 1) ∷ [])
+  pub told : (k : ℕ) (items : Items) → slice_get r.items.items k ≡ Some items
+      → IsPrefix items.items (told (k + 1) (entries_of r))
+
+-- where memory was refused and something was started, that much was done
+abbrev pub IsCutShort : List Steps → Fault → Type 0
+IsCutShort lists (Memory None) = ⊤
+IsCutShort lists (Memory (Some r)) = AreServedInPart lists r
+
+-- all of each list was posted
+abbrev pub AreAllPosted : List Steps → Report → Type 0
+AreAllPosted lists r = (k n : ℕ) (list : Steps) → slice_get lists k ≡ Some list → slice_get r.posted.items k ≡ Some n
+    → n ≡ length list.items
+
+-- at a place of a journal: the entries before it are a run of the machine to a state from which those behind it go on,
+-- and the fact holds of that run and that state
+pub record IsReached (P : History → State → Type 0) (before behind : List Entry) (last : State) : Type 0 where
+  pub state : State
+  pub legal : Journal before state
+  pub goes_on : JournalFrom state behind last
+  pub run : Legal start (steps_of before) (answers_of before) state
+  pub holds : P run.history state
+
+-- the fact holds at each place of a journal
+abbrev pub HoldsThroughout : (History → State → Type 0) → List Entry → State → Type 0
+HoldsThroughout P entries last = (before behind : List Entry) → entries ≡ before ++ behind → IsReached P before behind last
+
+-- in each resource the held modes of any two locks are compatible, at each place of the journal
+abbrev pub ModesStayCompatible : List Entry → State → Type 0
+ModesStayCompatible entries last = HoldsThroughout (λ history state. HeldModesAreCompatible state) entries last
+
+-- each accepted request is wanted and has not ended, or has ended once, at each place of the journal
+abbrev pub RequestsEndOnce : List Entry → State → Type 0
+RequestsEndOnce entries last = HoldsThroughout (λ history state. EachRequestEndsOnce history.endings state) entries last
+
+-- each step that is not refused grants in the order of the queues, conversions before new requests, at each place of the
+-- journal
+abbrev pub GrantsKeepOrder : List Entry → State → Type 0
+GrantsKeepOrder entries last = HoldsThroughout
+    (λ history state. (step : Step) (choice : Option Row) → IsChoice state step choice → step_refusal state step ≡ None
+    → GrantsFollowQueueOrder state step choice)
+    entries last

@@ -1,0 +1,6 @@
+pub mod Posts
+pub mod Parts
+pub mod Settling
+pub mod Works
+pub mod Reports
+pub mod Headline

@@ -1,0 +1,68 @@
+-- What a worker does with a port and a list.
+use Rattle.std.specs.Prelude.{◌≡◌, ◌<◌, ◌≤◌, ◌++◌, ℕ, Bool, true, false, List, [], ◌∷◌, length, slice_index_or, take}
+use mathlib.Core.List.{IsPrefix}
+use Rattle.vlm_words.specs.declared.steps.Step.{Step}
+use Rattle.vlm_words.specs.declared.steps.Step.TheVariants.{Leave}
+use Rattle.vlm_journal.specs.declared.entries.Entry.{Entry}
+use Rattle.vlm_journal.specs.declared.entries.Item.{Item}
+use Rattle.vlm_journal.specs.Told.{asked, told}
+use Rattle.vlm_ports.specs.declared.hub.Hub.{Hub}
+use Rattle.vlm_ports.specs.declared.port.Port.{Port}
+use Rattle.vlm_ports.specs.Hubs.{IsPortOf, journal}
+use Rattle.vlm_ports.specs.Ports.{identity, posted}
+use Rattle.vlm_ports.specs.Rings.{RingName}
+use Rattle.vlm_cluster.specs.declared.desk.Desk.{Desk}
+use Rattle.vlm_cluster.specs.declared.worker.Done.{Done}
+use Rattle.vlm_cluster.specs.Parts.{entries_in}
+
+-- the departure, if it was posted
+abbrev pub farewell : ℕ → Bool → List Step
+farewell node true = Leave node ∷ []
+farewell node false = []
+
+-- what no settling and no taking changes of what a worker hands back: the port, what was posted on it, how much of the
+-- list that was, and whether the departure was posted behind it
+pub record Work : Type 0 where
+  pub port : ℕ × RingName × RingName
+  pub posts : List Step
+  pub count : ℕ
+  pub left : Bool
+
+abbrev pub work_of : {G : Type 0} → Done G → Work
+work_of d = record { port = identity d.basket.port; posts = posted d.basket.port; count = d.posted; left = d.left }
+
+-- the worker has posted so many steps of the list, and then the departure, if it has; all of them, if its gate stops it
+-- never and it has left
+pub record IsWorkOn (never_stops : Bool) (port : Port) (list : List Step) (w : Work) : Type 0 where
+  pub port_is : w.port ≡ identity port
+  pub posts_are : w.posts ≡ take w.count list ++ farewell port.node w.left
+  pub within : w.count ≤ length list
+  pub whole : never_stops ≡ true → w.left ≡ true → w.count ≡ length list
+
+-- all entries of the journal
+abbrev pub entries_at : Desk → List Entry
+entries_at desk = entries_in desk.parts.items ++ journal desk.hub
+
+-- each port was made with the hub
+abbrev pub ArePortsOf : {G : Type 0} → Hub → List (Done G) → Type 0
+ArePortsOf {G} h dones = (k : ℕ) (d : Done G) → k < length dones → IsPortOf h (slice_index_or dones k d).basket.port
+
+-- what the journal asks for begins what was posted, and these items begin what it tells
+pub record IsBegun (entries : List Entry) (w : Work) (items : List Item) : Type 0 where
+  pub asked : IsPrefix (asked w.port.0 entries) w.posts
+  pub told : IsPrefix items (told w.port.0 entries)
+
+-- the departure was posted, what the journal asks for is what was posted, and these items are what it tells
+pub record IsWhole (entries : List Entry) (w : Work) (items : List Item) : Type 0 where
+  pub left : w.left ≡ true
+  pub asked : asked w.port.0 entries ≡ w.posts
+  pub told : items ≡ told w.port.0 entries
+
+-- so for the first of what is handed back
+abbrev pub AreBegun : {G : Type 0} → List Entry → List (Done G) → ℕ → Type 0
+AreBegun {G} entries dones n = (k : ℕ) (d : Done G) → k < n
+    → IsBegun entries (work_of (slice_index_or dones k d)) (slice_index_or dones k d).basket.items.items
+
+abbrev pub AreWhole : {G : Type 0} → List Entry → List (Done G) → ℕ → Type 0
+AreWhole {G} entries dones n = (k : ℕ) (d : Done G) → k < n
+    → IsWhole entries (work_of (slice_index_or dones k d)) (slice_index_or dones k d).basket.items.items

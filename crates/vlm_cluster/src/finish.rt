@@ -1,0 +1,117 @@
+//! The report of a run, from what the workers hand back.
+
+ghost use Rattle.std.specs.Prelude.{◌≡◌, ◌<◌, ◌≤◌, [], ℕ, IsTrue, length, map, replicate, slice_index, slice_index_or, vec_capacity, vec_len};
+ghost use Rattle.vlm_journal.specs.Journals.{Journal};
+ghost use Rattle.vlm_cluster.specs.Parts.{AreNumbered, IsAccounted};
+ghost use Rattle.vlm_cluster.specs.Reports.{entries_of, parts_of};
+ghost use Rattle.vlm_cluster.specs.Works.{ArePortsOf, IsBegun, IsWhole, entries_at, work_of};
+
+use crate::desk::Desk;
+use crate::gate::Gate;
+use crate::report::Report;
+use crate::settle::close;
+use crate::signals::Signals;
+use crate::worker::Done;
+use std::alloc::Global;
+use std::sync::Wait;
+use vlm_journal::entries::Item;
+
+/// A report, and whether each list is whole.
+#[derive(Drop)]
+pub(crate) struct Finished {
+    pub(crate) report: Report,
+    pub(crate) whole: bool,
+}
+
+/// Serves and takes what is left, and reports. It takes no memory but for items and entries.
+pub(crate) fn finish<G: Gate>(
+    rt: &impl Wait,
+    signals: &Signals,
+    desk: Desk,
+    dones: Vec<Done<G>>,
+    items: Vec<Vec<Item>>,
+    posted: Vec<usize>,
+) -> Finished
+    requires ports { ArePortsOf desk.hub dones.items }
+    requires accounted { IsAccounted desk.parts.items desk.hub }
+    requires items { (vec_len items ≡ 0) × (vec_len dones ≤ vec_capacity items) }
+    requires posted { vec_len posted ≡ vec_len dones }
+    ensures legal { Journal (entries_of result.report) result.report.core }
+    ensures numbered { AreNumbered (parts_of result.report) }
+    ensures counts { (vec_len result.report.items ≡ vec_len dones)
+        × (vec_len result.report.posted ≡ vec_len dones) }
+    ensures posted { (k : ℕ) (d : _) → k < vec_len dones
+        → slice_index result.report.posted.items k ≡ (slice_index_or dones.items k d).posted }
+    ensures begun { (k : ℕ) (d : _) (v : _) → k < vec_len dones
+        → IsBegun (entries_of result.report) (work_of (slice_index_or dones.items k d))
+        (slice_index_or result.report.items.items k v).items }
+    ensures whole { IsTrue result.whole → (k : ℕ) (d : _) (v : _) → k < vec_len dones
+        → IsWhole (entries_of result.report) (work_of (slice_index_or dones.items k d))
+        (slice_index_or result.report.items.items k v).items }
+{
+    let mut desk = desk;
+    let mut dones = dones;
+    let mut items = items;
+    let mut posted = posted;
+    let whole = close(rt, signals, &mut desk, dones.as_mut_slice());
+    note_posted(dones.as_slice(), posted.as_mut_slice());
+    take_items(dones, &mut items);
+    Finished {
+        report: desk.report(items, posted),
+        whole,
+    }
+}
+
+/// The report where a later worker could not be started: the hub has made no turn, and nobody was told anything.
+pub(crate) fn give_up<G: Gate>(
+    alloc: Global,
+    desk: Desk,
+    dones: &[Done<G>],
+    items: Vec<Vec<Item>>,
+    posted: Vec<usize>,
+) -> Report
+    requires quiet { entries_at desk ≡ [] }
+    requires accounted { IsAccounted desk.parts.items desk.hub }
+    requires items { (vec_len items ≡ 0) × (vec_len posted ≤ vec_capacity items) }
+    requires few { length dones.now ≤ vec_len posted }
+    requires posted { posted.items ≡ replicate (vec_len posted) 0 }
+    ensures entries { entries_of result ≡ [] }
+    ensures legal { Journal (entries_of result) result.core }
+    ensures numbered { AreNumbered (parts_of result) }
+    ensures counts { (vec_len result.items ≡ vec_len posted) × (vec_len result.posted ≡ vec_len posted) }
+    ensures items { (k : ℕ) (v : _) → k < vec_len posted → (slice_index_or result.items.items k v).items ≡ [] }
+    ensures posted { (k : ℕ) (d : _) → k < length dones.now
+        → slice_index result.posted.items k ≡ (slice_index_or dones.now k d).posted }
+    ensures others { (k : ℕ) → length dones.now ≤ k → slice_index result.posted.items k ≡ 0 }
+{
+    let mut items = items;
+    let mut posted = posted;
+    for _ in 0..posted.len() {
+        items.push_reserved(Vec::new(alloc));
+    }
+    note_posted(dones, posted.as_mut_slice());
+    desk.report(items, posted)
+}
+
+// Notes how much each worker has posted.
+fn note_posted<G: Gate>(dones: &[Done<G>], posted: &mut [usize])
+    requires { length dones.now ≤ length posted.old }
+    ensures each { (k : ℕ) (d : _) → k < length dones.now
+        → slice_index posted.new k ≡ (slice_index_or dones.now k d).posted }
+    ensures others { (k : ℕ) → length dones.now ≤ k → slice_index posted.new k ≡ slice_index posted.old k }
+{
+    for at in 0..dones.len() {
+        posted[at] = dones[at].posted;
+    }
+}
+
+// Takes the items out of what the workers hand back, in order.
+fn take_items<G: Gate>(dones: Vec<Done<G>>, items: &mut Vec<Vec<Item>>)
+    requires none { vec_len items.old ≡ 0 }
+    requires room { vec_len dones ≤ vec_capacity items.old }
+    ensures { items.new.items ≡ map (λ d. d.basket.items) dones.items }
+{
+    for done in dones {
+        items.push_reserved(done.into_items());
+    }
+}

@@ -1,0 +1,60 @@
+//! What a run comes to.
+
+ghost use Rattle.std.specs.Prelude.{◌≡◌};
+ghost use Rattle.vlm_journal.specs.Journals.{Journal};
+ghost use Rattle.vlm_cluster.specs.Parts.{AreNumbered, IsAccounted};
+ghost use Rattle.vlm_cluster.specs.Reports.{entries_of, parts_of};
+ghost use Rattle.vlm_cluster.specs.Works.{entries_at};
+
+use crate::desk::Desk;
+use vlm_core::Core;
+use vlm_journal::entries::{Item, Part};
+
+/// What happened in a run.
+#[derive(Drop)]
+pub struct Report {
+    /// The parts that were cut off the journal, in order. Each has at least as many entries as was asked for.
+    pub parts: Vec<Part>,
+    /// The rest of the journal, behind all parts.
+    pub rest: Part,
+    /// For each list, what its worker was told, in order.
+    pub items: Vec<Vec<Item>>,
+    /// For each list, how many of its steps were posted, the departure not counted.
+    pub posted: Vec<usize>,
+    /// The core, behind the last entry.
+    pub core: Core,
+}
+
+/// Why a run did not come to its end.
+#[derive(Drop)]
+pub enum Fault {
+    /// Memory, or a thread, was refused. With no report nothing was started; else it is the report of what was done.
+    Memory(Option<Report>),
+}
+
+impl Desk {
+    /// Cuts the rest off, and makes the report. It takes no memory.
+    pub(crate) fn report(self, items: Vec<Vec<Item>>, posted: Vec<usize>) -> Report
+        requires { IsAccounted self.parts.items self.hub }
+        ensures entries { entries_of result ≡ entries_at self }
+        ensures legal { Journal (entries_of result) result.core }
+        ensures numbered { AreNumbered (parts_of result) }
+        ensures items { result.items ≡ items }
+        ensures posted { result.posted ≡ posted }
+    {
+        let Desk {
+            mut hub,
+            parts,
+            every: _,
+        } = self;
+        let rest = hub.cut();
+        let (_, core) = hub.finish();
+        Report {
+            parts,
+            rest,
+            items,
+            posted,
+            core,
+        }
+    }
+}

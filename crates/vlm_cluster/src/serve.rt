@@ -1,0 +1,146 @@
+//! Lists of steps are served, each in a thread of its own.
+
+ghost use Rattle.std.specs.Prelude.{◌≡◌, ◌<◌, ◌≤◌, [], IfErr, IfOk, map, replicate, true, vec_capacity, vec_len};
+ghost use Rattle.vlm_words.specs.State.{start};
+ghost use Rattle.vlm_ports.specs.Hubs.{rings};
+ghost use Rattle.vlm_ports.specs.Ports.{AreNew, identity};
+ghost use Rattle.vlm_cluster.specs.Headline.{AreAllPosted, AreServed, GrantsKeepOrder, IsCutShort, ModesStayCompatible, RequestsEndOnce};
+ghost use Rattle.vlm_cluster.specs.Parts.{IsAccounted};
+ghost use Rattle.vlm_cluster.specs.Posts.{AreListsOfPosts};
+ghost use Rattle.vlm_cluster.specs.Reports.{entries_of};
+ghost use Rattle.vlm_cluster.specs.Works.{entries_at};
+
+use crate::desk::Desk;
+use crate::finish::{finish, give_up};
+use crate::gate::Gate;
+use crate::laws::{law_grants_keep_order, law_modes_stay_compatible, law_requests_end_once};
+use crate::report::{Fault, Report};
+use crate::room::Room;
+use crate::threads::{join_all, start_all};
+use std::alloc::Global;
+use std::sync::Wait;
+use std::thread::Threads;
+use std::time::Clock;
+use vlm_core::Core;
+use vlm_journal::laws::law_departed;
+use vlm_ports::{Hub, Port};
+use vlm_words::steps::Step;
+
+/// Serves up to eight lists of steps, list i for node i + 1, each posted by a worker in a thread of its own, as its gate
+/// says, while the hub turns in this thread over a new core. A part of the journal is cut off after a turn that leaves
+/// `every` entries or more. It returns when all threads are joined.
+///
+/// [`Fault::Memory`] comes where memory or a thread is refused: with no report before the first worker has started, and
+/// else with the report of what was done, when all workers have ended early. What it takes grows with the lists and with
+/// the number of entries.
+pub fn serve_lists<R: Threads + Wait + Clock + Copy + Send + 'static, G: Gate + Send + 'static>(
+    rt: &R,
+    alloc: Global,
+    gates: Vec<G>,
+    lists: Vec<Vec<Step>>,
+    every: usize,
+) -> Result<Report, Fault>
+    requires lens { (0 < vec_len lists) × (vec_len lists ≤ 8) × (vec_len gates ≡ vec_len lists) }
+    requires posts { AreListsOfPosts lists.items }
+    requires every { 0 < every }
+    ensures served { IfOk result (λ r. AreServed lists.items r) }
+    ensures whole { G.never_stops ≡ true → IfOk result (λ r. AreAllPosted lists.items r) }
+    ensures modes { IfOk result (λ r. ModesStayCompatible (entries_of r) r.core) }
+    ensures once { IfOk result (λ r. RequestsEndOnce (entries_of r) r.core) }
+    ensures order { IfOk result (λ r. GrantsKeepOrder (entries_of r) r.core) }
+    ensures cut_short { IfErr result (λ fault. IsCutShort lists.items fault) }
+{
+    serve_lists_over(rt, alloc, Core::new(alloc), gates, lists, every)
+}
+
+/// The same over a core that is made: with [`Core::with_keys`] where others choose the names of resources.
+pub fn serve_lists_over<
+    R: Threads + Wait + Clock + Copy + Send + 'static,
+    G: Gate + Send + 'static,
+>(
+    rt: &R,
+    alloc: Global,
+    core: Core,
+    gates: Vec<G>,
+    lists: Vec<Vec<Step>>,
+    every: usize,
+) -> Result<Report, Fault>
+    requires start { core ≡ start }
+    requires lens { (0 < vec_len lists) × (vec_len lists ≤ 8) × (vec_len gates ≡ vec_len lists) }
+    requires posts { AreListsOfPosts lists.items }
+    requires every { 0 < every }
+    ensures served { IfOk result (λ r. AreServed lists.items r) }
+    ensures whole { G.never_stops ≡ true → IfOk result (λ r. AreAllPosted lists.items r) }
+    ensures modes { IfOk result (λ r. ModesStayCompatible (entries_of r) r.core) }
+    ensures once { IfOk result (λ r. RequestsEndOnce (entries_of r) r.core) }
+    ensures order { IfOk result (λ r. GrantsKeepOrder (entries_of r) r.core) }
+    ensures cut_short { IfErr result (λ fault. IsCutShort lists.items fault) }
+{
+    let Ok(room) = Room::new(alloc, lists.len()) else {
+        return Err(Fault::Memory(None));
+    };
+    let Ok((hub, ports)) = Hub::with_core(alloc, core, lists.len()) else {
+        return Err(Fault::Memory(None));
+    };
+    let desk = Desk::new(alloc, hub, every);
+    run(rt, alloc, desk, room, gates, ports, lists)
+}
+
+// Starts the workers, has the hub serve them, and reports.
+fn run<R: Threads + Wait + Clock + Copy + Send + 'static, G: Gate + Send + 'static>(
+    rt: &R,
+    alloc: Global,
+    desk: Desk,
+    room: Room<G>,
+    gates: Vec<G>,
+    ports: Vec<Port>,
+    lists: Vec<Vec<Step>>,
+) -> Result<Report, Fault>
+    requires lens { (vec_len ports ≡ vec_len lists) × (vec_len gates ≡ vec_len lists) }
+    requires posts { AreListsOfPosts lists.items }
+    requires new { AreNew ports.items × (map identity ports.items ≡ rings desk.hub) }
+    requires quiet { entries_at desk ≡ [] }
+    requires accounted { IsAccounted desk.parts.items desk.hub }
+    requires children { (vec_len room.children ≡ 0) × (vec_len lists ≤ vec_capacity room.children) }
+    requires dones { (vec_len room.dones ≡ 0) × (vec_len lists ≤ vec_capacity room.dones) }
+    requires items { (vec_len room.items ≡ 0) × (vec_len lists ≤ vec_capacity room.items) }
+    requires posted { room.posted.items ≡ replicate (vec_len lists) 0 }
+    ensures served { IfOk result (λ r. AreServed lists.items r) }
+    ensures whole { G.never_stops ≡ true → IfOk result (λ r. AreAllPosted lists.items r) }
+    ensures modes { IfOk result (λ r. ModesStayCompatible (entries_of r) r.core) }
+    ensures once { IfOk result (λ r. RequestsEndOnce (entries_of r) r.core) }
+    ensures order { IfOk result (λ r. GrantsKeepOrder (entries_of r) r.core) }
+    ensures cut_short { IfErr result (λ fault. IsCutShort lists.items fault) }
+{
+    let Room {
+        signals,
+        mut children,
+        mut dones,
+        items,
+        posted,
+    } = room;
+    let mut desk = desk;
+    let count = lists.len();
+    start_all(rt, alloc, &signals, &mut children, gates, ports, lists);
+    let started = children.len();
+    if started == 0 {
+        return Err(Fault::Memory(None));
+    }
+    law_departed();
+    if started < count {
+        join_all(rt, children, &mut dones);
+        let report = give_up(alloc, desk, dones.as_slice(), items, posted);
+        return Err(Fault::Memory(Some(report)));
+    }
+    desk.serve(rt, &signals, count as u64);
+    join_all(rt, children, &mut dones);
+    let finished = finish(rt, &signals, desk, dones, items, posted);
+    law_modes_stay_compatible();
+    law_requests_end_once();
+    law_grants_keep_order();
+    if finished.whole {
+        Ok(finished.report)
+    } else {
+        Err(Fault::Memory(Some(finished.report)))
+    }
+}

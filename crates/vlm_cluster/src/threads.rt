@@ -1,0 +1,123 @@
+//! Workers in threads of their own: how they are started and joined.
+
+ghost use Rattle.std.specs.Prelude.{◌≡◌, ◌<◌, ◌≤◌, [], ℕ, IfOk, slice_index_or, vec_capacity, vec_len};
+ghost use Rattle.vlm_ports.specs.Ports.{AreNew, posted, taken};
+ghost use Rattle.vlm_cluster.specs.Posts.{AreListsOfPosts, ArePostsOf};
+ghost use Rattle.vlm_cluster.specs.Works.{IsWorkOn, work_of};
+
+use crate::gate::Gate;
+use crate::signals::Signals;
+use crate::worker::{Done, work};
+use std::alloc::{AllocError, Global};
+use std::snapshot::Snapshot;
+use std::sync::{Arc, Wait};
+use std::thread;
+use std::thread::{Promise, PromisedHandle, Threads};
+use std::time::Clock;
+use vlm_ports::Port;
+use vlm_words::steps::Step;
+
+/// What a worker was given.
+#[derive(Drop)]
+pub(crate) struct Given {
+    pub(crate) port: Snapshot<Port>,
+    pub(crate) list: Snapshot<Vec<Step>>,
+}
+
+// What the worker hands back is its work on that.
+impl<G: Gate> Promise<Done<G>> for Given {
+    ghost kept_by = { λ p r. IsWorkOn G.never_stops p.port.value p.list.value.items (work_of r) };
+}
+
+/// Starts a worker for each list, or for the first of them: where a thread is refused, all are to end early. It makes no
+/// room for the handles.
+pub(crate) fn start_all<
+    R: Threads + Wait + Clock + Copy + Send + 'static,
+    G: Gate + Send + 'static,
+>(
+    rt: &R,
+    alloc: Global,
+    signals: &Arc<Signals>,
+    children: &mut Vec<PromisedHandle<Done<G>, Given>>,
+    gates: Vec<G>,
+    ports: Vec<Port>,
+    lists: Vec<Vec<Step>>,
+)
+    requires none { vec_len children.old ≡ 0 }
+    requires room { vec_len ports ≤ vec_capacity children.old }
+    requires lens { (vec_len gates ≡ vec_len ports) × (vec_len lists ≡ vec_len ports) }
+    requires new { AreNew ports.items }
+    requires posts { AreListsOfPosts lists.items }
+    ensures few { vec_len children.new ≤ vec_len ports }
+    ensures each { (k : ℕ) (h : _) (p : _) (l : _) → k < vec_len children.new
+        → ((slice_index_or children.new.items k h).promise.port.value ≡ slice_index_or ports.items k p)
+        × ((slice_index_or children.new.items k h).promise.list.value ≡ slice_index_or lists.items k l) }
+{
+    let mut gates = gates;
+    let mut ports = ports;
+    let mut lists = lists;
+    for at in 0..ports.len() {
+        let _at = at;
+        let gate = gates.remove(0);
+        let port = ports.remove(0);
+        let list = lists.remove(0);
+        let Ok(child) = start(rt, alloc, signals, gate, port, list) else {
+            signals.stop();
+            return;
+        };
+        children.push_reserved(child);
+    }
+}
+
+// Starts a worker.
+fn start<R: Threads + Wait + Clock + Copy + Send + 'static, G: Gate + Send + 'static>(
+    rt: &R,
+    alloc: Global,
+    signals: &Arc<Signals>,
+    gate: G,
+    port: Port,
+    list: Vec<Step>,
+) -> Result<PromisedHandle<Done<G>, Given>, AllocError>
+    requires new { (posted port ≡ []) × (taken port ≡ []) }
+    requires posts { ArePostsOf port.node list.items }
+    ensures port { IfOk result (λ h. h.promise.port.value ≡ port) }
+    ensures list { IfOk result (λ h. h.promise.list.value ≡ list) }
+{
+    let theirs = Arc::try_clone(signals)?;
+    let given = Given {
+        port: Snapshot::of(&port),
+        list: Snapshot::of(&list),
+    };
+    let handle = *rt;
+    let child = thread::spawn_with(
+        rt,
+        given,
+        move || -> Done<G>
+            requires { (posted port ≡ []) × (taken port ≡ []) × ArePostsOf port.node list.items }
+            ensures { IsWorkOn G.never_stops port list.items (work_of result) }
+        {
+            let done = work(&handle, alloc, &theirs, gate, port, list.as_slice());
+            theirs.end();
+            done
+        },
+    )?;
+    Ok(child)
+}
+
+/// Joins each worker, and puts in order what they hand back. It takes no memory.
+pub(crate) fn join_all<R: Threads, G: Gate + Send + 'static>(
+    rt: &R,
+    children: Vec<PromisedHandle<Done<G>, Given>>,
+    dones: &mut Vec<Done<G>>,
+)
+    requires none { vec_len dones.old ≡ 0 }
+    requires room { vec_len children ≤ vec_capacity dones.old }
+    ensures len { vec_len dones.new ≡ vec_len children }
+    ensures each { (k : ℕ) (d : _) (h : _) → k < vec_len children
+        → IsWorkOn G.never_stops (slice_index_or children.items k h).promise.port.value
+        (slice_index_or children.items k h).promise.list.value.items (work_of (slice_index_or dones.new.items k d)) }
+{
+    for child in children {
+        dones.push_reserved(child.join(rt));
+    }
+}
