@@ -1,5 +1,6 @@
 mod Bound
 mod FirstLine
+mod Lists
 pub mod Hexadecimal
 mod Shown
 mod Progress

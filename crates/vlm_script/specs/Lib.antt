@@ -4,3 +4,5 @@ pub mod Bindings
 pub mod Sessions
 pub mod Plays
 pub mod Faults
+pub mod Shares
+pub mod Sharing

@@ -68,6 +68,23 @@ answer_line name answer = name ++ codes ": " ++ answer_text answer ++ line_feed
 unfoldable pub node_line : ℕ → Answer → List ℕ
 node_line node answer = codes "node " ++ decimal node ++ codes ": " ++ answer_text answer ++ line_feed
 
+-- an item's line begins so: its node, and its number among the node's items
+unfoldable pub item_text : ℕ → ℕ → List ℕ
+item_text node number = codes "node " ++ decimal node ++ codes " item " ++ decimal number ++ codes ": "
+
+-- the line that tells an answer as an item
+unfoldable pub answer_item_line : ℕ → ℕ → Answer → List ℕ
+answer_item_line node number answer = item_text node number ++ answer_text answer ++ line_feed
+
+-- the line that tells an AST as an item, with its process
+unfoldable pub ast_item_line : ℕ → ℕ → ℕ → Ast → List ℕ
+ast_item_line node number pid ast =
+    item_text node number ++ ast_text ast ast.kind ++ codes " process " ++ decimal pid ++ line_feed
+
+-- the line that tells how many entries a journal has
+unfoldable pub journal_line : ℕ → List ℕ
+journal_line entries = codes "journal " ++ decimal entries ++ line_feed
+
 -- a status block under its process's name: what stands in it, or that the process has no such block
 unfoldable pub status_block_line : List ℕ → ℕ → Option Block → List ℕ
 status_block_line name number None = name ++ codes ": block " ++ decimal number ++ codes " none" ++ line_feed

@@ -1,13 +1,14 @@
 //! The names that a script has bound.
 
-ghost use Rattle.std.specs.Prelude.{◌≡◌, ◌<◌, [], ◌∷◌, ◌++◌, None};
+ghost use Rattle.std.specs.Prelude.{◌≡◌, ◌<◌, [], ◌∷◌, ◌++◌, None, Some, MatchResult};
 ghost use Rattle.indexmap.specs.IndexMap.{spare};
 ghost use Rattle.vlm_script.specs.Scripts.{bound_to};
 ghost use Rattle.vlm_script.specs.Bindings.{bindings_of};
 
+use crate::stops::Stop;
 use indexmap::IndexMap;
 use vlm_core::HashKeys;
-use vlm_lines::ProcessName;
+use vlm_lines::{LineFault, ProcessName};
 
 /// The names of the script, each with its process, in the order of their declarations.
 pub(crate) type Bindings = IndexMap<ProcessName, u32, HashKeys>;
@@ -17,6 +18,16 @@ pub(crate) fn bound_to(names: &Bindings, name: &ProcessName) -> Option<u32>
     ensures { result ≡ bound_to (bindings_of names.now) name.now }
 {
     names.get(name).copied()
+}
+
+/// The process that a line's name is bound to, or the fault that it is bound to none.
+pub(crate) fn process_of(names: &Bindings, name: &ProcessName) -> Result<u32, Stop>
+    ensures { MatchResult result
+        (λ pid. bound_to (bindings_of names.now) name.now ≡ Some pid)
+        (λ stop. (bound_to (bindings_of names.now) name.now ≡ None)
+        × (stop ≡ Stop.Fault LineFault.UnknownName)) }
+{
+    bound_to(names, name).ok_or(Stop::Fault(LineFault::UnknownName))
 }
 
 /// Binds a new name to a process, in room that is there.

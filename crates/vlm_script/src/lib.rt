@@ -11,12 +11,16 @@ mod faults;
 mod printing;
 mod runs;
 mod session;
+mod shares;
+mod sharing;
 mod show;
 mod stops;
 mod streams;
 
 pub use faults::PlayFault;
+pub use printing::{answer_item_line, ast_item_line, journal_line};
 pub use runs::play;
+pub use shares::read_lists;
 pub use streams::write_whole;
 pub use vlm_core::HashKeys;
 pub use vlm_lines::{read_line, read_res};

@@ -3,11 +3,13 @@
 //! Where memory runs out, some part of the text may stand there.
 
 pub(crate) use answers::{answer_line, node_line};
+pub use items::{answer_item_line, ast_item_line, journal_line};
 pub(crate) use locks::{converting_line, granted_line, waiting_line};
 pub(crate) use resources::{no_resources, resource_line};
 pub(crate) use status_blocks::status_block_line;
 
 mod answers;
+mod items;
 mod locks;
 mod resources;
 mod status_blocks;

@@ -1,11 +1,11 @@
 //! A session: the machine, and the names that the script has bound.
 
-ghost use Rattle.std.specs.Prelude.{◌≡◌, ◌++◌, None, Some, MatchResult};
-ghost use Rattle.vlm_script.specs.Scripts.{bound_to, of_process, opening};
+ghost use Rattle.std.specs.Prelude.{◌≡◌, ◌++◌, MatchResult};
+ghost use Rattle.vlm_script.specs.Scripts.{of_process, opening};
 ghost use Rattle.vlm_script.specs.Texts.{answer_line};
 ghost use Rattle.vlm_script.specs.Sessions.{RunsStep, IsRun, IsPrinted, StopsBytes, StopsLine, StopsName};
 
-use crate::bindings::{Bindings, bind_reserved, bound_to};
+use crate::bindings::{Bindings, bind_reserved, bound_to, process_of};
 use crate::printing::{answer_line, node_line, status_block_line};
 use crate::show::show;
 use crate::stops::Stop;
@@ -76,16 +76,6 @@ impl Session {
         }
     }
 
-    // The process that a line's name is bound to.
-    fn process(&self, name: &ProcessName) -> Result<u32, Stop>
-        ensures { MatchResult result
-            (λ pid. bound_to self.now.names name.now ≡ Some pid)
-            (λ stop. (bound_to self.now.names name.now ≡ None)
-            × (stop ≡ Stop.Fault LineFault.UnknownName)) }
-    {
-        bound_to(&self.names, name).ok_or(Stop::Fault(LineFault::UnknownName))
-    }
-
     // Declares a process, prints the answer, and binds the name where it is accepted.
     fn declare(
         &mut self,
@@ -115,7 +105,7 @@ impl Session {
             (λ _. RunsStep self.old name step self.new out.old.items out.new.items)
             (λ stop. StopsName self.old.names name stop) }
     {
-        let pid = self.process(&name)?;
+        let pid = process_of(&self.names, &name)?;
         let answer = self.core.step(of_process(pid, step));
         print_answer(name, answer, out)
     }
@@ -153,7 +143,7 @@ impl Session {
             (λ _. IsRun self.now (Line.Block name number) self.now out.old.items out.new.items)
             (λ stop. StopsLine self.now.names (Line.Block name number) stop) }
     {
-        let pid = self.process(&name)?;
+        let pid = process_of(&self.names, &name)?;
         let block = self.core.block(pid, number);
         status_block_line(out, name.bytes(), number, block)?;
         Ok(())
@@ -170,8 +160,8 @@ fn print_answer(name: ProcessName, answer: Answer, out: &mut Vec<u8>) -> Result<
     Ok(())
 }
 
-// The step, made by this process. Some steps are of none.
-fn of_process(pid: u32, step: Step) -> Step
+/// The step, made by this process. Some steps are of none.
+pub(crate) fn of_process(pid: u32, step: Step) -> Step
     ensures { result ≡ of_process pid step }
 {
     match step {

@@ -31,8 +31,9 @@ pub(crate) fn node_line(out: &mut Vec<u8>, node: u8, answer: Answer) -> Result<(
     text(out, b"\n")
 }
 
+/// An answer without the name in front of it.
 #[tactic(auto, unfolding(crate::specs::Texts::answer_text))]
-fn answer_text(out: &mut Vec<u8>, answer: Answer) -> Result<(), AllocError>
+pub(super) fn answer_text(out: &mut Vec<u8>, answer: Answer) -> Result<(), AllocError>
     ensures { OnOk result (out.new.items ≡ out.old.items ++ answer_text answer) }
 {
     match answer {
@@ -56,7 +57,8 @@ fn answer_text(out: &mut Vec<u8>, answer: Answer) -> Result<(), AllocError>
     }
 }
 
-fn ast_text(out: &mut Vec<u8>, ast: Ast) -> Result<(), AllocError>
+/// An AST: its kind, routine, parameter and lock.
+pub(super) fn ast_text(out: &mut Vec<u8>, ast: Ast) -> Result<(), AllocError>
     ensures { OnOk result (out.new.items ≡ out.old.items ++ ast_text ast ast.kind) }
 {
     match ast.kind {

@@ -21,6 +21,14 @@ pub(crate) fn decimal(out: &mut Vec<u8>, n: u32) -> Result<(), AllocError>
     out.extend_from_slice(buffer.format(n).as_bytes())
 }
 
+/// A number of 64 bits in decimal digits.
+pub(crate) fn decimal_usize(out: &mut Vec<u8>, n: usize) -> Result<(), AllocError>
+    ensures { OnOk result (out.new.items ≡ out.old.items ++ decimal n) }
+{
+    let mut buffer = Buffer::new();
+    out.extend_from_slice(buffer.format(n).as_bytes())
+}
+
 /// Two hexadecimal digits for each byte.
 pub(crate) fn hexadecimal(out: &mut Vec<u8>, bytes: &[u8]) -> Result<(), AllocError>
     ensures { OnOk result (out.new.items ≡ out.old.items ++ hex_text bytes.now) }

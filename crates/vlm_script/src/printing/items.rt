@@ -1,0 +1,69 @@
+//! Items of nodes: what each node's list has come to, item by item.
+
+ghost use Rattle.std.specs.Prelude.{◌≡◌, ◌++◌, OnOk};
+ghost use Rattle.vlm_script.specs.Texts.{answer_item_line, ast_item_line, item_text, journal_line};
+
+use super::answers::{answer_text, ast_text};
+use super::texts::{decimal, decimal_usize, text};
+use std::alloc::AllocError;
+use vlm_words::asts::Ast;
+use vlm_words::steps::Answer;
+
+/// Puts the line `node K item J: TEXT` at the end of `out`: an answer, as a node's item of this
+/// number. It is refused for want of memory alone, and then some part of the line may stand there.
+#[tactic(auto, unfolding(crate::specs::Texts::answer_item_line))]
+pub fn answer_item_line(
+    out: &mut Vec<u8>,
+    node: u8,
+    number: usize,
+    answer: Answer,
+) -> Result<(), AllocError>
+    ensures { OnOk result (out.new.items ≡ out.old.items ++ answer_item_line node number answer) }
+{
+    item_text(out, node, number)?;
+    answer_text(out, answer)?;
+    text(out, b"\n")
+}
+
+/// Puts the line `node K item J: TEXT process P` at the end of `out`: an AST of this process, as a
+/// node's item of this number. It is refused for want of memory alone, and then some part of the
+/// line may stand there.
+#[tactic(auto, unfolding(crate::specs::Texts::ast_item_line))]
+pub fn ast_item_line(
+    out: &mut Vec<u8>,
+    node: u8,
+    number: usize,
+    pid: u32,
+    ast: Ast,
+) -> Result<(), AllocError>
+    ensures { OnOk result (out.new.items ≡ out.old.items ++ ast_item_line node number pid ast) }
+{
+    item_text(out, node, number)?;
+    ast_text(out, ast)?;
+    text(out, b" process ")?;
+    decimal(out, pid)?;
+    text(out, b"\n")
+}
+
+/// Puts the line `journal M` at the end of `out`: how many entries a journal has. It is refused for
+/// want of memory alone, and then some part of the line may stand there.
+#[tactic(auto, unfolding(crate::specs::Texts::journal_line))]
+pub fn journal_line(out: &mut Vec<u8>, entries: usize) -> Result<(), AllocError>
+    ensures { OnOk result (out.new.items ≡ out.old.items ++ journal_line entries) }
+{
+    text(out, b"journal ")?;
+    decimal_usize(out, entries)?;
+    text(out, b"\n")
+}
+
+// The beginning of an item's line.
+#[tactic(auto, unfolding(crate::specs::Texts::item_text))]
+fn item_text(out: &mut Vec<u8>, node: u8, number: usize) -> Result<(), AllocError>
+    ensures { OnOk result (out.new.items ≡ out.old.items ++ item_text node number) }
+{
+    text(out, b"node ")?;
+    decimal(out, u32::from(node))?;
+    text(out, b" item ")?;
+    decimal_usize(out, number)?;
+    text(out, b": ")
+}

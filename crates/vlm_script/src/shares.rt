@@ -1,0 +1,100 @@
+//! A script for several nodes, whose steps are shared out to lists, one for each node.
+
+ghost use Rattle.std.specs.Prelude.{◌≡◌, ◌<◌, ◌≤◌, length, map, IfErr, IfOk, IfSome, IsOkAnd, MatchResult, Ok};
+ghost use Rattle.vlm_lines.specs.Lines.{lines_of};
+ghost use Rattle.vlm_script.specs.Plays.{ConsumesAtMost};
+ghost use Rattle.vlm_script.specs.Shares.{AreListed, StopsShares, no_shares, shares};
+ghost use Rattle.vlm_script.specs.Sharing.{StopsShareLines};
+
+use crate::cuts::next_line;
+use crate::faults::PlayFault;
+use crate::sharing::Sharing;
+use crate::streams::read_whole;
+use std::alloc::Global;
+use std::io::Read;
+use vlm_core::HashKeys;
+use vlm_words::steps::Step;
+
+/// Reads a script for the nodes 1 to `nodes` whole, and shares its steps out to lists, one for
+/// each node, node 1 first. Each list has the node's steps in the script's order.
+///
+/// A declare line is a step of the node that it names. It binds its name to the process whose
+/// identification is 65,536 times the node, and the line's number among the node's declare lines,
+/// from 1, whether or not the declaration will be accepted. A set, enq, cvt, deq or end line is a
+/// step of that process, in the list of the process's node. A leave or search line is a step of
+/// the node that it names.
+///
+/// The script has at most 16,777,216 bytes: past that the fault is `Long`, once one byte more is
+/// read. A read that fails is `Read`. A refused growth is `Memory`, here and below. Only once the
+/// script is read whole, its lines are gone through in order, and the first that has a fault ends
+/// this with `Line` and its number, from 1. A fault of the line's bytes comes first. Then it is
+/// `NumberOutOfRange` where a declare, leave or search line names a node that there is not, or a
+/// declare line one that has 65,535 declare lines already; after that `NameUsed` where a declare
+/// line's name is bound. It is `UnknownName` where the name of a set, enq, cvt, deq or end line is
+/// not bound, and `UnknownCommand` for an ast, block or show line, whatever its name. Nothing is
+/// written, so `Write` never comes.
+///
+/// Memory and time grow with the script's bytes. No script is slow by its names where nobody could
+/// foresee the keys.
+pub fn read_lists<R: Read>(
+    alloc: Global,
+    keys: HashKeys,
+    nodes: u8,
+    reader: &mut R,
+) -> Result<Vec<Vec<Step>>, PlayFault>
+    requires { (0 < nodes) × (nodes ≤ 8) }
+
+    // What comes of the script, where the reader tells its bytes.
+    ensures shared { IfSome (R.remaining reader.old) (λ input.
+        let shared = shares nodes (no_shares nodes) 0 (lines_of input) in
+        MatchResult result
+        (λ lists. IsOkAnd shared (λ s. s.lists ≡ map (λ l. l.items) lists.items))
+        (λ fault. StopsShares input shared fault)) }
+
+    // Whatever the reader tells.
+    ensures count { IfOk result (λ lists. length lists.items ≡ nodes) }
+    ensures listed { IfOk result (λ lists. AreListed (map (λ l. l.items) lists.items)) }
+    ensures no_write { IfErr result (λ fault. ¬ (fault ≡ PlayFault.Write)) }
+    ensures reads { ConsumesAtMost 16777217 (R.remaining reader.old) (R.remaining reader.new) }
+{
+    let input = read_whole(alloc, reader)?;
+    share_script(alloc, keys, nodes, &input)
+}
+
+// Shares out the steps of a script.
+fn share_script(
+    alloc: Global,
+    keys: HashKeys,
+    nodes: u8,
+    input: &[u8],
+) -> Result<Vec<Vec<Step>>, PlayFault>
+    ensures shared { let shared = shares nodes (no_shares nodes) 0 (lines_of input.now) in
+        MatchResult result
+        (λ lists. IsOkAnd shared (λ s. s.lists ≡ map (λ l. l.items) lists.items))
+        (λ fault. StopsShareLines shared fault) }
+    ensures count { IfOk result (λ lists. length lists.items ≡ nodes) }
+    ensures listed { IfOk result (λ lists. AreListed (map (λ l. l.items) lists.items)) }
+{
+    let mut sharing = Sharing::new(alloc, keys, nodes)?;
+    share_lines(&mut sharing, input)?;
+    Ok(sharing.into_lists())
+}
+
+// Shares out the lines of a script, behind what is shared already.
+fn share_lines(sharing: &mut Sharing, input: &[u8]) -> Result<(), PlayFault>
+    ensures shared { let nodes = length sharing.old.lists in
+        let shared = shares nodes sharing.old 0 (lines_of input.now) in
+        MatchResult result (λ _. shared ≡ Ok sharing.new) (λ fault. StopsShareLines shared fault) }
+    ensures count { length sharing.new.lists ≡ length sharing.old.lists }
+{
+    let mut rest = input;
+    let mut count = 0;
+    while let Some((line, after)) = next_line(rest) {
+        if let Err(stop) = sharing.share(line) {
+            return Err(stop.at(count + 1));
+        }
+        rest = after;
+        count += 1;
+    }
+    Ok(())
+}
