@@ -1,12 +1,11 @@
 -- The report of a run, from what each worker hands back.
-use Rattle.std.proofs.Common.{◌≡◌, ◌⊎◌, ◌+◌, ◌-◌, ◌<◌, ◌≤◌, ◌++◌, ℕ, Bool, true, List, [], ◌∷◌, Some, length, map, get_or, take, refl, sym, ap, ◌∙◌, subst, arith, inl, inr}
+use Rattle.std.proofs.Common.{◌≡◌, ◌+◌, ◌-◌, ◌<◌, ◌≤◌, ◌++◌, ℕ, Bool, true, List, [], ◌∷◌, Some, length, map, get_or, take, refl, sym, ap, ◌∙◌, subst, arith, inl, inr}
 use Rattle.std.specs.List.{slice_get}
 use Rattle.std.proofs.lemmas.Bool.{cases_lt}
 use Rattle.std.proofs.lemmas.List.{get_or-map, length-map}
 use Rattle.std.proofs.lemmas.Option.{get_or_from_slice_get, slice_get-get_or, slice_get_within}
 use Rattle.std.specs.declared.thread.PromisedHandle.{PromisedHandle}
 use mathlib.Core.List.{IsPrefix}
-use Rattle.vlm_words.specs.declared.steps.Step.{Step}
 use Rattle.vlm_words.specs.declared.steps.Step.TheVariants.{Leave}
 use Rattle.vlm_words.specs.State.{State}
 use Rattle.vlm_journal.specs.declared.entries.Entry.{Entry}
@@ -16,7 +15,7 @@ use Rattle.vlm_journal.specs.Journals.{Journal}
 use Rattle.vlm_journal.specs.Told.{asked, told}
 use Rattle.vlm_ports.specs.declared.hub.Hub.{Hub}
 use Rattle.vlm_ports.specs.declared.port.Port.{Port}
-use Rattle.vlm_ports.specs.Hubs.{IsPortOf, rings}
+use Rattle.vlm_ports.specs.Hubs.{rings}
 use Rattle.vlm_ports.specs.Ports.{AreNew, identity}
 use Rattle.vlm_ports.specs.Rings.{RingName}
 use Rattle.vlm_cluster.specs.declared.report.Report.{Report}
@@ -25,7 +24,7 @@ use Rattle.vlm_cluster.specs.declared.worker.Done.{Done}
 use Rattle.vlm_cluster.specs.Headline.{AreAllPosted, AreServed, AreServedInPart, IsReport, Items, Steps}
 use Rattle.vlm_cluster.specs.Parts.{AreNumbered}
 use Rattle.vlm_cluster.specs.Reports.{entries_of, parts_of}
-use Rattle.vlm_cluster.specs.Works.{ArePortsOf, IsBegun, IsWhole, IsWorkOn, Work, work_of}
+use Rattle.vlm_cluster.specs.Works.{ArePortsOf, IsBegun, IsWhole, IsWorkOn, work_of}
 use Rattle.vlm_cluster.proofs.Dones.{element}
 use Rattle.vlm_cluster.proofs.Outcomes.{begun_asked, begun_told, whole_asked, whole_told}
 

@@ -1,11 +1,11 @@
 -- What workers hand back, while it is settled.
-use Rattle.std.proofs.Common.{◌≡◌, ◌≢◌, ◌+◌, ◌-◌, ◌<◌, ℕ, zero, suc, Bool, List, [], ◌∷◌, ◌++◌, Some, length, map, get_or, replicate, set, take, refl, sym, ap, ◌∙◌, subst, arith, get_or-set_same, get_or-set_other, below_more}
+use Rattle.std.proofs.Common.{◌≡◌, ◌≢◌, ◌+◌, ◌-◌, ◌<◌, ℕ, zero, suc, List, [], ◌∷◌, ◌++◌, Some, length, map, get_or, replicate, set, take, refl, sym, ap, ◌∙◌, subst, arith, get_or-set_same, get_or-set_other, below_more}
 use Rattle.std.specs.List.{slice_get}
 use Rattle.std.proofs.Math.Seq.{map-set_same}
 use Rattle.std.proofs.lemmas.List.{get_or-map, length-map, take-append-le, take_all}
 use Rattle.vlm_journal.specs.declared.entries.Entry.{Entry}
 use Rattle.vlm_ports.specs.declared.hub.Hub.{Hub}
-use Rattle.vlm_ports.specs.Hubs.{IsPortOf, rings}
+use Rattle.vlm_ports.specs.Hubs.{rings}
 use Rattle.vlm_ports.specs.Ports.{identity}
 use Rattle.vlm_ports.specs.Rings.{RingName}
 use Rattle.vlm_cluster.specs.declared.worker.Done.{Done}

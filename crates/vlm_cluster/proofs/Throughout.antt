@@ -1,5 +1,5 @@
 -- What holds at each place of a journal.
-use Rattle.std.proofs.Common.{◌≡◌, ◌↔◌, List, ◌++◌, subst}
+use Rattle.std.proofs.Common.{◌↔◌, List, ◌++◌, subst}
 use Rattle.std.specs.Prelude.{All}
 use Rattle.vlm_words.specs.Runs.{History, Legal, Run}
 use Rattle.vlm_words.specs.State.{State, start}

@@ -46,8 +46,8 @@ impl Basket {
         }
     }
 
-    /// Takes an item, if one is known to have come, and tells the gate. Says whether it took one. Refused, nothing is
-    /// taken.
+    /// Takes an item, if one is known to have come, and tells the gate. Says whether it took one.
+    /// Refused, nothing is taken.
     pub(crate) fn collect<G: Gate>(&mut self, gate: &mut G) -> Result<bool, AllocError>
         ensures same { identity self.new.port ≡ identity self.old.port }
         ensures posted { posted self.new.port ≡ posted self.old.port }
@@ -64,7 +64,8 @@ impl Basket {
         Ok(true)
     }
 
-    /// A round of a worker that waits: it takes an item, or rests where none has come. Refused, all are to end early.
+    /// A round of a worker that waits: it takes an item, or rests where none has come. Refused, all
+    /// are to end early.
     pub(crate) fn wait<R: Clock, G: Gate>(
         &mut self,
         rt: &R,
@@ -156,11 +157,13 @@ impl Basket {
         requires { IsPortOf hub.old self.old.port }
         ensures standing { standing hub.new ≡ standing hub.old }
         ensures same { (identity self.new.port ≡ identity self.old.port)
-            × (posted self.new.port ≡ posted self.old.port) × (taken self.new.port ≡ taken self.old.port) }
+            × (posted self.new.port ≡ posted self.old.port)
+            × (taken self.new.port ≡ taken self.old.port) }
         ensures begun { HasBegun hub.new self.new.port }
         ensures steps { result.steps ≡ 0
             → asked_by hub.new self.new.port.node ≡ posted self.new.port }
-        ensures items { result.items ≡ 0 → told_by hub.new self.new.port.node ≡ taken self.new.port }
+        ensures items { result.items ≡ 0
+            → told_by hub.new self.new.port.node ≡ taken self.new.port }
     {
         hub.settle(&mut self.port)
     }

@@ -37,8 +37,8 @@ impl Desk {
         }
     }
 
-    /// Has the hub make a turn, and cuts a part off where it has entries enough. Says whether any entry was made. Refused,
-    /// the entries that were made stand.
+    /// Has the hub make a turn, and cuts a part off where it has entries enough. Says whether any
+    /// entry was made. Refused, the entries that were made stand.
     pub(crate) fn turn(&mut self) -> Result<bool, AllocError>
         requires { IsAccounted self.old.parts.items self.old.hub }
         ensures rings { rings self.new.hub ≡ rings self.old.hub }

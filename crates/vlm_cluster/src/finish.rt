@@ -62,7 +62,8 @@ pub(crate) fn finish<G: Gate>(
     }
 }
 
-/// The report where a later worker could not be started: the hub has made no turn, and nobody was told anything.
+/// The report where a later worker could not be started: the hub has made no turn, and nobody was
+/// told anything.
 pub(crate) fn give_up<G: Gate>(
     alloc: Global,
     desk: Desk,
@@ -78,8 +79,10 @@ pub(crate) fn give_up<G: Gate>(
     ensures entries { entries_of result ≡ [] }
     ensures legal { Journal (entries_of result) result.core }
     ensures numbered { AreNumbered (parts_of result) }
-    ensures counts { (vec_len result.items ≡ vec_len posted) × (vec_len result.posted ≡ vec_len posted) }
-    ensures items { (k : ℕ) (v : _) → k < vec_len posted → (slice_index_or result.items.items k v).items ≡ [] }
+    ensures counts { (vec_len result.items ≡ vec_len posted)
+        × (vec_len result.posted ≡ vec_len posted) }
+    ensures items { (k : ℕ) (v : _) → k < vec_len posted
+        → (slice_index_or result.items.items k v).items ≡ [] }
     ensures posted { (k : ℕ) (d : _) → k < length dones.now
         → slice_index result.posted.items k ≡ (slice_index_or dones.now k d).posted }
     ensures others { (k : ℕ) → length dones.now ≤ k → slice_index result.posted.items k ≡ 0 }
@@ -98,7 +101,8 @@ fn note_posted<G: Gate>(dones: &[Done<G>], posted: &mut [usize])
     requires { length dones.now ≤ length posted.old }
     ensures each { (k : ℕ) (d : _) → k < length dones.now
         → slice_index posted.new k ≡ (slice_index_or dones.now k d).posted }
-    ensures others { (k : ℕ) → length dones.now ≤ k → slice_index posted.new k ≡ slice_index posted.old k }
+    ensures others { (k : ℕ) → length dones.now ≤ k
+        → slice_index posted.new k ≡ slice_index posted.old k }
 {
     for at in 0..dones.len() {
         posted[at] = dones[at].posted;

@@ -22,8 +22,8 @@ pub trait Gate: Drop {
     /// Whether no answer is [`Go::Stop`].
     ghost never_stops: { Bool };
 
-    /// Asked before post `n` of the list, from 0, and again for the same where it answers [`Go::Later`]. The departure is
-    /// not asked for.
+    /// Asked before post `n` of the list, from 0, and again for the same where it answers
+    /// [`Go::Later`]. The departure is not asked for.
     fn before(&mut self, n: usize) -> Go
         ensures { Self.never_stops ≡ true → result ≢ Stop };
 

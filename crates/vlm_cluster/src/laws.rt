@@ -1,5 +1,5 @@
-//! What holds throughout every journal. The functions do nothing but call the laws that they rest on: their contracts are
-//! the laws.
+//! What holds throughout every journal. The functions do nothing but call the laws that they rest
+//! on: their contracts are the laws.
 
 ghost use Rattle.std.specs.Prelude.{List};
 ghost use Rattle.vlm_words.specs.State.{State};
@@ -14,7 +14,8 @@ use vlm_words::laws::{
 
 /// In each resource the held modes of any two locks are compatible.
 pub(crate) fn law_modes_stay_compatible()
-    ensures { (entries : List Entry) (last : State) → Journal entries last → ModesStayCompatible entries last }
+    ensures { (entries : List Entry) (last : State)
+        → Journal entries last → ModesStayCompatible entries last }
 {
     law_join();
     law_journal();
@@ -23,7 +24,8 @@ pub(crate) fn law_modes_stay_compatible()
 
 /// Each accepted request is wanted and has not ended, or has ended once.
 pub(crate) fn law_requests_end_once()
-    ensures { (entries : List Entry) (last : State) → Journal entries last → RequestsEndOnce entries last }
+    ensures { (entries : List Entry) (last : State)
+        → Journal entries last → RequestsEndOnce entries last }
 {
     law_join();
     law_journal();
@@ -32,7 +34,8 @@ pub(crate) fn law_requests_end_once()
 
 /// Each step that is not refused grants in the order of the queues.
 pub(crate) fn law_grants_keep_order()
-    ensures { (entries : List Entry) (last : State) → Journal entries last → GrantsKeepOrder entries last }
+    ensures { (entries : List Entry) (last : State)
+        → Journal entries last → GrantsKeepOrder entries last }
 {
     law_join();
     law_journal();

@@ -6,8 +6,8 @@ ghost use Rattle.vlm_cluster.specs.Posts.{ArePostsOf};
 
 use vlm_words::steps::Step;
 
-/// Whether a node may post each step of a list: each is of that node, and none is a take. It takes no memory, and goes over
-/// the list once.
+/// Whether a node may post each step of a list: each is of that node, and none is a take. It takes
+/// no memory, and goes over the list once.
 pub fn posts_of(node: u8, list: &[Step]) -> bool
     ensures { IsTrue result ↔ ArePostsOf node list.now }
 {

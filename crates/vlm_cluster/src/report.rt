@@ -13,7 +13,8 @@ use vlm_journal::entries::{Item, Part};
 /// What happened in a run.
 #[derive(Drop)]
 pub struct Report {
-    /// The parts that were cut off the journal, in order. Each has at least as many entries as was asked for.
+    /// The parts that were cut off the journal, in order. Each has at least as many entries as was
+    /// asked for.
     pub parts: Vec<Part>,
     /// The rest of the journal, behind all parts.
     pub rest: Part,
@@ -28,7 +29,8 @@ pub struct Report {
 /// Why a run did not come to its end.
 #[derive(Drop)]
 pub enum Fault {
-    /// Memory, or a thread, was refused. With no report nothing was started; else it is the report of what was done.
+    /// Memory, or a thread, was refused. With no report nothing was started; else it is the report
+    /// of what was done.
     Memory(Option<Report>),
 }
 

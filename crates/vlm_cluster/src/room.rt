@@ -28,7 +28,8 @@ pub(crate) struct Room<G: Gate> {
 impl<G: Gate> Room<G> {
     /// The room for so many workers.
     pub(crate) fn new(alloc: Global, count: usize) -> Result<Room<G>, AllocError>
-        ensures children { IfOk result (λ r. (vec_len r.children ≡ 0) × (count ≤ vec_capacity r.children)) }
+        ensures children { IfOk result (λ r.
+            (vec_len r.children ≡ 0) × (count ≤ vec_capacity r.children)) }
         ensures dones { IfOk result (λ r. (vec_len r.dones ≡ 0) × (count ≤ vec_capacity r.dones)) }
         ensures items { IfOk result (λ r. (vec_len r.items ≡ 0) × (count ≤ vec_capacity r.items)) }
         ensures posted { IfOk result (λ r. r.posted.items ≡ replicate count 0) }

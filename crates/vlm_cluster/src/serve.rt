@@ -26,13 +26,14 @@ use vlm_journal::laws::law_departed;
 use vlm_ports::{Hub, Port};
 use vlm_words::steps::Step;
 
-/// Serves up to eight lists of steps, list i for node i + 1, each posted by a worker in a thread of its own, as its gate
-/// says, while the hub turns in this thread over a new core. A part of the journal is cut off after a turn that leaves
-/// `every` entries or more. It returns when all threads are joined.
+/// Serves up to eight lists of steps, list i for node i + 1, each posted by a worker in a thread of
+/// its own, as its gate says, while the hub turns in this thread over a new core. A part of the
+/// journal is cut off after a turn that leaves `every` entries or more. It returns when all threads
+/// are joined.
 ///
-/// [`Fault::Memory`] comes where memory or a thread is refused: with no report before the first worker has started, and
-/// else with the report of what was done, when all workers have ended early. What it takes grows with the lists and with
-/// the number of entries.
+/// [`Fault::Memory`] comes where memory or a thread is refused. With no report, no worker was
+/// started. Else all workers are over, something is left undone, and the report says what was
+/// done. What a run takes grows with its lists and with the entries that it makes.
 pub fn serve_lists<R: Threads + Wait + Clock + Copy + Send + 'static, G: Gate + Send + 'static>(
     rt: &R,
     alloc: Global,
@@ -53,7 +54,8 @@ pub fn serve_lists<R: Threads + Wait + Clock + Copy + Send + 'static, G: Gate + 
     serve_lists_over(rt, alloc, Core::new(alloc), gates, lists, every)
 }
 
-/// The same over a core that is made: with [`Core::with_keys`] where others choose the names of resources.
+/// The same over a core that is made: with [`Core::with_keys`] where others choose the names of
+/// resources.
 pub fn serve_lists_over<
     R: Threads + Wait + Clock + Copy + Send + 'static,
     G: Gate + Send + 'static,

@@ -12,8 +12,8 @@ use crate::worker::Done;
 use std::alloc::AllocError;
 use std::sync::Wait;
 
-/// Serves and takes what is left, if no worker has ended early. Says whether each list is whole: each of its posts and the
-/// departure behind them is answered, and each item is taken.
+/// Serves and takes what is left, if no worker has ended early. Says whether each list is whole:
+/// each of its posts and the departure behind them is answered, and each item is taken.
 pub(crate) fn close<G: Gate>(
     rt: &impl Wait,
     signals: &Signals,

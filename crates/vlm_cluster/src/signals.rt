@@ -2,7 +2,8 @@
 
 use std::sync::atomic::{AtomicBool, AtomicU64, Ordering};
 
-/// What the hub's thread and the workers share. No contract says what another thread has written here.
+/// What the hub's thread and the workers share. No contract says what another thread has written
+/// here.
 #[derive(Drop)]
 pub(crate) struct Signals {
     // how many workers are over

@@ -29,8 +29,8 @@ impl<G: Gate> Promise<Done<G>> for Given {
     ghost kept_by = { λ p r. IsWorkOn G.never_stops p.port.value p.list.value.items (work_of r) };
 }
 
-/// Starts a worker for each list, or for the first of them: where a thread is refused, all are to end early. It makes no
-/// room for the handles.
+/// Starts a worker for each list, or for the first of them: where a thread is refused, all are to
+/// end early. It makes no room for the handles.
 pub(crate) fn start_all<
     R: Threads + Wait + Clock + Copy + Send + 'static,
     G: Gate + Send + 'static,
@@ -50,14 +50,15 @@ pub(crate) fn start_all<
     requires posts { AreListsOfPosts lists.items }
     ensures few { vec_len children.new ≤ vec_len ports }
     ensures each { (k : ℕ) (h : _) (p : _) (l : _) → k < vec_len children.new
-        → ((slice_index_or children.new.items k h).promise.port.value ≡ slice_index_or ports.items k p)
-        × ((slice_index_or children.new.items k h).promise.list.value ≡ slice_index_or lists.items k l) }
+        → ((slice_index_or children.new.items k h).promise.port.value
+        ≡ slice_index_or ports.items k p)
+        × ((slice_index_or children.new.items k h).promise.list.value
+        ≡ slice_index_or lists.items k l) }
 {
     let mut gates = gates;
     let mut ports = ports;
     let mut lists = lists;
-    for at in 0..ports.len() {
-        let _at = at;
+    for _ in 0..ports.len() {
         let gate = gates.remove(0);
         let port = ports.remove(0);
         let list = lists.remove(0);
@@ -115,7 +116,8 @@ pub(crate) fn join_all<R: Threads, G: Gate + Send + 'static>(
     ensures len { vec_len dones.new ≡ vec_len children }
     ensures each { (k : ℕ) (d : _) (h : _) → k < vec_len children
         → IsWorkOn G.never_stops (slice_index_or children.items k h).promise.port.value
-        (slice_index_or children.items k h).promise.list.value.items (work_of (slice_index_or dones.new.items k d)) }
+        (slice_index_or children.items k h).promise.list.value.items
+        (work_of (slice_index_or dones.new.items k d)) }
 {
     for child in children {
         dones.push_reserved(child.join(rt));

@@ -43,7 +43,8 @@ struct Posted {
     early: bool,
 }
 
-/// Posts a list and the departure, and takes items until every post is answered, or all are to end early.
+/// Posts a list and the departure, and takes items until every post is answered, or all are to end
+/// early.
 pub(crate) fn work<R: Wait + Clock, G: Gate>(
     rt: &R,
     alloc: Global,

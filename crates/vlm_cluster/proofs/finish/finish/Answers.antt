@@ -1,8 +1,6 @@
 use Rattle.std.proofs.Common.{◌≡◌, ◌<◌, ℕ, List, length, map, get_or, drop, arith, sym, ap, ◌∙◌, subst}
 use Rattle.vlm_journal.specs.declared.entries.Entry.{Entry}
 use Rattle.vlm_cluster.specs.declared.worker.Done.{Done}
-use Rattle.vlm_cluster.specs.Headline.{Items}
-use Rattle.vlm_cluster.specs.Reports.{entries_of}
 use Rattle.vlm_cluster.specs.Works.{IsBegun, IsWhole, Work, entries_at, work_of}
 use Rattle.vlm_cluster.proofs.Dones.{after_lend, as_many, begun_at, whole_at, work_at}
 use Rattle.vlm_cluster.proofs.finish.finish.Goals as goal

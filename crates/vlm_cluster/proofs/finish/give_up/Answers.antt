@@ -1,4 +1,4 @@
-use Rattle.std.proofs.Common.{◌≡◌, ◌+◌, ◌<◌, ℕ, List, [], length, get_or, drop, vec_len, rules, arith, sym, subst, ap, ◌∙◌}
+use Rattle.std.proofs.Common.{◌≡◌, ◌<◌, ℕ, List, [], length, get_or, drop, vec_len, arith, sym, subst, ap, ◌∙◌}
 use Rattle.vlm_cluster.specs.Headline.{Items}
 use Rattle.vlm_cluster.proofs.Dones.{after_lend, all_more, zeros}
 use Rattle.vlm_cluster.proofs.finish.give_up.Goals as goal

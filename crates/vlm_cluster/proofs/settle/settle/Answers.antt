@@ -1,9 +1,5 @@
 use Rattle.std.proofs.Common.{◌≡◌, true, rules, ap}
-use Rattle.std.specs.Prelude.{IsTrue}
-use Rattle.std.proofs.lemmas.Bool.{eqb-true}
-use Rattle.vlm_ports.specs.Hubs.{IsPortOf}
 use Rattle.vlm_cluster.specs.declared.worker.Done.{Done}
-use Rattle.vlm_cluster.specs.Parts.{IsAccounted}
 use Rattle.vlm_cluster.proofs.Accounting.{accounts_stand}
 use Rattle.vlm_cluster.proofs.Settled.{begun_of, port_stays, whole_of}
 use Rattle.vlm_cluster.proofs.settle.settle.Goals as goal

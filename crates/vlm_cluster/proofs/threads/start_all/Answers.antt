@@ -1,5 +1,4 @@
-use Rattle.std.proofs.Common.{◌≡◌, ℕ, ◌+◌, ◌<◌, ◌≤◌, List, length, get_or, vec_len, arith, rules, ap, sym, ◌∙◌, subst}
-use Rattle.std.specs.Prelude.{vec_capacity}
+use Rattle.std.proofs.Common.{◌≡◌, ℕ, ◌+◌, ◌<◌, List, length, get_or, arith, ap, sym, ◌∙◌, subst}
 use Rattle.std.specs.declared.alloc.Global.{Global}
 use Rattle.std.specs.declared.thread.PromisedHandle.{PromisedHandle}
 use Rattle.std.specs.declared.vec.Vec.{Vec}
@@ -10,15 +9,15 @@ use Rattle.vlm_cluster.specs.declared.worker.Done.{Done}
 use Rattle.vlm_cluster.proofs.Dones.{all_more, any_default}
 use Rattle.vlm_cluster.proofs.threads.start_all.Goals as goal
 
-pub loop-at-preserved : goal.loop-at-preserved
-loop-at-preserved g c =
-    let at = c.loop-at.at in let was = c.loop-at.invariant in let ports = c.args.ports.items in let lists = c.args.lists.items in
-    let child = c.in-Ok.child in let old = c.loop-at.children.items in
+pub loop-preserved : goal.loop-preserved
+loop-preserved g c =
+    let at = c.loop.counter in let was = c.loop.invariant in let ports = c.args.ports.items in let lists = c.args.lists.items in
+    let child = c.in-Ok.child in let old = c.loop.children.items in
     let H = PromisedHandle (Done g.row.G.Denot) Given in
     let P : ℕ → H → Type 0 = λ m h. (p : Port) (x : Vec Step Global) → (h.promise.port.value ≡ get_or ports m p) × (h.promise.list.value ≡ get_or lists m x) in
     let some_port : at < length ports = omega arith in
     let some_list : at < length lists = omega arith in
-    let long : length old ≡ at = (let ok = c.loop-at.children.ok in let n = was.started in omega arith) in
+    let long : length old ≡ at = (let ok = c.loop.children.ok in let n = was.started in omega arith) in
     let here : P at child = λ p x. (
       c.in-Ok.ensures.port ∙ (c.remove-port.ensures.value ∙ (was.next_port 0 c.remove-port.result ∙ (ap (λ (n : ℕ). get_or ports n c.remove-port.result) (omega arith) ∙ any_default ports at c.remove-port.result p some_port))),
       c.in-Ok.ensures.list ∙ (c.remove-list.ensures.value ∙ (was.next_list 0 c.remove-list.result ∙ (ap (λ (n : ℕ). get_or lists n c.remove-list.result) (omega arith) ∙ any_default lists at c.remove-list.result x some_list))),
@@ -35,7 +34,7 @@ loop-at-preserved g c =
     }
 
 pub returns-in_default-clause-each : goal.returns-in_default-clause-each
-returns-in_default-clause-each g c k h p l lt = c.loop-at.invariant.each k h p l (let n = c.loop-at.invariant.started in omega (arith, lt, n))
+returns-in_default-clause-each g c k h p l lt = c.loop.invariant.each k h p l (let n = c.loop.invariant.started in omega (arith, lt, n))
 
 pub returns-clause-each : goal.returns-clause-each
-returns-clause-each g c k h p l lt = c.loop-at.invariant.each k h p l (let n = c.loop-at.invariant.started in omega (arith, lt, n))
+returns-clause-each g c k h p l lt = c.loop.invariant.each k h p l (let n = c.loop.invariant.started in omega (arith, lt, n))

@@ -1,10 +1,9 @@
 use Rattle.std.proofs.Common.{◌≡◌, List, [], ◌++◌, ◌∷◌, sym, ap, subst, ◌∙◌, append-nil}
 use Rattle.vlm_words.specs.State.{State}
 use Rattle.vlm_journal.specs.declared.entries.Entry.{Entry}
-use Rattle.vlm_journal.specs.declared.entries.Part.{Part}
 use Rattle.vlm_journal.specs.Journals.{Journal}
 use Rattle.vlm_ports.specs.Hubs.{journal, state}
-use Rattle.vlm_cluster.specs.Parts.{AreNumbered, entries_in}
+use Rattle.vlm_cluster.specs.Parts.{entries_in}
 use Rattle.vlm_cluster.proofs.Accounting.{accounts_cut, entries_with}
 use Rattle.vlm_cluster.proofs.desk.Desk.report.Goals as goal
 
