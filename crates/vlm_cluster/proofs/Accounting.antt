@@ -5,6 +5,7 @@ use Rattle.std.proofs.Math.Seq.{take-append_seam}
 use Rattle.std.proofs.lemmas.List.{length-append, length-map, take-append-le}
 use Rattle.std.proofs.lemmas.Option.{slice_get_within}
 use Rattle.vlm_words.specs.declared.steps.Step.{Step}
+use Rattle.vlm_words.specs.Reasons.{HasDeparted}
 use Rattle.vlm_words.specs.State.{State, start}
 use Rattle.vlm_journal.specs.declared.entries.Entry.{Entry}
 use Rattle.vlm_journal.specs.declared.entries.Item.{Item}
@@ -91,7 +92,13 @@ pub accounts_stand : (ps : List Part) (h i : Hub) → standing i ≡ standing h 
 accounts_stand ps h i same was =
     let ends : JournalFrom (state h) [] (state i) = subst (λ (s : State). JournalFrom (state h) [] s) (sym (ap (λ s. s.3) same)) begin in
     accounts_go_on 0 ps h i was (ap (λ s. s.0) same) (ap (λ s. s.4) same) (ap (λ s. s.1) same)
-    (record { more = []; is = ap (λ s. s.2) same ∙ sym (append-nil (journal h)); count = refl; legal = ends })
+    (record {
+      more = [];
+      is = ap (λ s. s.2) same ∙ sym (append-nil (journal h));
+      count = refl;
+      legal = ends;
+      departed = λ node gone. record { departed = subst (λ (s : State). HasDeparted s node) (sym (ap (λ s. s.3) same)) gone; told = λ k entry lt. absurd (omega arith) };
+    })
 
 -- what each node had asked for and was told is put before
 abbrev pub PutsBefore : Hub → Hub → Type 0

@@ -5,7 +5,7 @@ use Rattle.vlm_lines.specs.declared.lines.Line.TheVariants.{Empty, Declare, Set,
 use Rattle.vlm_lines.specs.declared.lines.Line.{Line}
 use Rattle.vlm_lines.specs.declared.faults.LineFault.TheVariants.{UnknownCommand, NumberOutOfRange}
 use Rattle.vlm_lines.specs.declared.faults.LineFault.{LineFault}
-use Rattle.vlm_lines.specs.Lines.{line_read, no_process}
+use Rattle.vlm_lines.specs.Lines.{line_read, unnamed_process}
 use Rattle.vlm_words.specs.declared.steps.Declaration.{Declaration}
 use Rattle.vlm_words.specs.declared.steps.Step.TheVariants.{Declare as declare_step, SetValue as set_step, Enq as enq_step, Convert as convert_step, Deq as deq_step, Rundown, Leave as leave_step, Search as search_step, Take}
 use Rattle.vlm_words.specs.declared.steps.Step.{Step}
@@ -94,7 +94,7 @@ share_line s (Set name setting) = share_named s (bound_to s.names name) (set_ste
 share_line s (Enq name request) = share_named s (bound_to s.names name) (enq_step request)
 share_line s (Cvt name conversion) = share_named s (bound_to s.names name) (convert_step conversion)
 share_line s (Deq name dequeue) = share_named s (bound_to s.names name) (deq_step dequeue)
-share_line s (End name) = share_named s (bound_to s.names name) (Rundown no_process)
+share_line s (End name) = share_named s (bound_to s.names name) (Rundown unnamed_process)
 share_line s (Leave node) = share_step s node (leave_step node)
 share_line s (Search node) = share_step s node (search_step node)
 share_line s (Ast name) = s

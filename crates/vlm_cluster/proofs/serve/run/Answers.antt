@@ -45,7 +45,7 @@ returns-then-finished-clause-served g c =
     let posted : length r.posted.items ≡ length dones = omega arith in
     let noted : AreNoted dones r.posted.items = λ k d lt. c.finish-finished.ensures.posted k d (omega arith) in
     served g.G.Gate.never_stops ports lists dones r c.requires.new.0 as_many fewer works noted all items posted
-    c.finish-finished.ensures.legal c.finish-finished.ensures.numbered c.law_departed.ensures
+    c.finish-finished.ensures.legal c.finish-finished.ensures.numbered c.law_departed.ensures.answered
     (λ k d v lt. c.finish-finished.ensures.whole c.if-finished.true k d v (omega arith))
 
 pub returns-then-finished-clause-whole : goal.returns-then-finished-clause-whole
@@ -68,7 +68,7 @@ returns-then-finished-clause-whole g c = λ never.
     let posted : length r.posted.items ≡ length dones = omega arith in
     let noted : AreNoted dones r.posted.items = λ k d lt. c.finish-finished.ensures.posted k d (omega arith) in
     all_posted g.G.Gate.never_stops ports lists dones r c.requires.new.0 as_many fewer works noted all items posted
-    c.finish-finished.ensures.legal c.finish-finished.ensures.numbered c.law_departed.ensures never
+    c.finish-finished.ensures.legal c.finish-finished.ensures.numbered c.law_departed.ensures.answered never
     (λ k d v lt. c.finish-finished.ensures.whole c.if-finished.true k d v (omega arith))
 
 pub returns-then-finished-clause-modes : goal.returns-then-finished-clause-modes
@@ -100,7 +100,7 @@ returns-clause-cut_short g c =
     let posted : length r.posted.items ≡ length dones = omega arith in
     let noted : AreNoted dones r.posted.items = λ k d lt. c.finish-finished.ensures.posted k d (omega arith) in
     begun g.G.Gate.never_stops ports lists dones r c.requires.new.0 as_many fewer works noted all items posted
-    c.finish-finished.ensures.legal c.finish-finished.ensures.numbered c.law_departed.ensures
+    c.finish-finished.ensures.legal c.finish-finished.ensures.numbered c.law_departed.ensures.answered
     (λ k d v lt. c.finish-finished.ensures.begun k d v (omega arith))
 
 pub returns-then-started-count-clause-cut_short : goal.returns-then-started-count-clause-cut_short
@@ -124,6 +124,6 @@ returns-then-started-count-clause-cut_short g c =
     (let ok = c.args.room.posted.ok in let n = ap (λ (xs : List ℕ). length xs) c.requires.posted in omega (arith, n, length-replicate {A = ℕ})) in
     let noted : AreNoted dones r.posted.items = λ k d lt. c.give_up-report.ensures.posted k d (omega (arith, long, lt)) ∙ ap (λ (xs : List D). (get_or xs k d).posted) now in
     given_up g.G.Gate.never_stops ports lists dones r c.requires.new.0 as_many fewer works noted
-    c.give_up-report.ensures.entries (omega arith) (omega arith) c.give_up-report.ensures.legal c.give_up-report.ensures.numbered c.law_departed.ensures
+    c.give_up-report.ensures.entries (omega arith) (omega arith) c.give_up-report.ensures.legal c.give_up-report.ensures.numbered c.law_departed.ensures.answered
     (λ k v lt. c.give_up-report.ensures.items k v (omega arith))
     (λ k above. c.give_up-report.ensures.others k (omega (arith, long, above)))
