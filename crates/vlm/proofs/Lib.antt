@@ -1,2 +1,6 @@
+mod Asked
+mod Clustered
 mod Errors
+mod Listed
 mod Play
+mod Printed

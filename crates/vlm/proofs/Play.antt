@@ -1,16 +1,27 @@
--- The words `NAME play` get no error but want of memory.
-use Rattle.std.proofs.Common.{◌≡◌, ℕ, List, [], ◌∷◌, codes, inl, inr, refl, subst}
+-- The words `NAME play` get no error but want of memory, and name the command play.
+use Rattle.std.proofs.Common.{◌≡◌, ℕ, List, [], ◌∷◌, Some, codes, inl, inr, refl, subst, sym, ◌∙◌}
 use Rattle.clap.proofs.OnLiterals.{clap_on_literals}
 use Rattle.clap.specs.Words.{IsAmong, Text}
 use Rattle.clap.specs.declared.error.kind.ErrorKind.{ErrorKind}
 use Rattle.clap.specs.declared.error.kind.ErrorKind.TheVariants.{OutOfMemory}
-use Rattle.vlm.specs.Words.{IsErrorOf, IsHelp, word_errors}
+use Rattle.vlm.specs.Words.{IsErrorOf, IsHelp, named_command, word_errors}
 use Rattle.vlm.specs.Ends.{EndsByError, Output, WantsMemory}
 
 -- no error is found in these words
 no_errors : (name : Text) → word_errors (name ∷ codes "play" ∷ []) ≡ []
 unfolding clap_on_literals
 no_errors name = refl
+
+-- and they name that command
+play_named : (name : Text) → named_command (name ∷ codes "play" ∷ []) ≡ Some (codes "play")
+unfolding clap_on_literals
+play_named name = refl
+
+-- so they ask for no cluster
+pub play_is_no_cluster : (name : Text) (words : List Text) → words ≡ name ∷ codes "play" ∷ [] → named_command words ≡ Some (codes "cluster") → ⊥
+play_is_no_cluster name words are named =
+    let bad : Some (codes "play") ≡ Some (codes "cluster") = sym (play_named name) ∙ subst (λ w. named_command w ≡ Some (codes "cluster")) are named in
+    cc
 
 -- so the only error is want of memory
 memory_alone : (name : Text) (kind : ErrorKind) → IsErrorOf (name ∷ codes "play" ∷ []) kind → kind ≡ OutOfMemory

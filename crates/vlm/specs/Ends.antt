@@ -1,10 +1,11 @@
 -- What a call of the program comes to: its exit status, and what it has then read and written.
-use Rattle.std.specs.Prelude.{◌≡◌, ◌≢◌, ℕ, List, [], ◌⊎◌, Option, Result, Ok, Err, IfSome, codes}
+use Rattle.std.specs.Prelude.{◌≡◌, ◌≢◌, ℕ, List, [], ◌⊎◌, Option, Some, Result, Ok, Err, IfSome, codes}
 use Rattle.std.specs.Io.KnownBytes.{Appends}
 use Rattle.clap.specs.Words.{Text}
 use Rattle.clap.specs.declared.error.kind.ErrorKind.{ErrorKind}
 use Rattle.clap.specs.declared.error.kind.ErrorKind.TheVariants.{OutOfMemory}
-use Rattle.vlm.specs.Words.{IsErrorOf, IsHelp, word_errors}
+use Rattle.vlm.specs.Clusters.{PrintsCluster}
+use Rattle.vlm.specs.Words.{AskForCluster, IsErrorOf, IsHelp, named_command, word_errors}
 use Rattle.vlm_script.specs.declared.faults.PlayFault.{PlayFault}
 use Rattle.vlm_script.specs.declared.faults.PlayFault.TheVariants.{Line, Memory, Read, Write, Long}
 use Rattle.vlm_script.specs.Faults.{fault_line}
@@ -67,6 +68,28 @@ abbrev pub StartsRun : Option (List ℕ) → Option (List ℕ) → Output → Ou
 StartsRun script left old new status =
     RunsScript script left old new status ⊎ ((left ≡ script) × WantsRandomBytes old new status)
 
+-- a script was served by so many nodes: the status and the line on standard error are those of its end
+pub record RunsCluster (nodes : ℕ) (script left : Option (List ℕ)) (old new : Output) (status : ℕ)
+    : Type 0 where
+  pub end : Result (Unit {0}) PlayFault
+  pub printed : PrintsCluster nodes script end old.printed new.printed
+  pub reads : ConsumesAtMost 16777217 script left
+  pub ended : status ≡ status_of end
+  pub faults : PrintsEnd end old.faults new.faults
+
+-- a script was served by so many nodes, or the system gave no random bytes, and nothing was read
+abbrev pub StartsCluster : ℕ → Option (List ℕ) → Option (List ℕ) → Output → Output → ℕ → Type 0
+StartsCluster nodes script left old new status =
+    RunsCluster nodes script left old new status
+    ⊎ ((left ≡ script) × WantsRandomBytes old new status)
+
+-- what the words ask for was started: a cluster where they name it, and else a run
+abbrev pub StartsTask : List Text → Option (List ℕ) → Option (List ℕ)
+    → Output → Output → ℕ → Type 0
+StartsTask words script left old new status =
+    (¬ (named_command words ≡ Some (codes "cluster")) × StartsRun script left old new status)
+    ⊎ ((nodes : ℕ) × AskForCluster words nodes × StartsCluster nodes script left old new status)
+
 -- the help that was asked for stands on standard output
 pub record GivesHelp (old new : Output) (status : ℕ) : Type 0 where
   pub help : List ℕ
@@ -101,11 +124,11 @@ EndsByError kind old new status =
     ⊎ (IsHelp kind × (GivesHelp old new status ⊎ FailsHelp old new status))
     ⊎ ((kind ≢ OutOfMemory) × (IsHelp kind → ⊥) × RefusesWords old new status)
 
--- the words ask for a run, and it was started; or they get an error, and nothing was read
+-- the words get no error, and what they ask for was started; or they get one, and nothing was read
 abbrev pub EndsByWords : List Text → Option (List ℕ) → Option (List ℕ)
     → Output → Output → ℕ → Type 0
 EndsByWords words script left old new status =
-    ((word_errors words ≡ []) × StartsRun script left old new status)
+    ((word_errors words ≡ []) × StartsTask words script left old new status)
     ⊎ ((left ≡ script)
     × ((kind : ErrorKind) × IsErrorOf words kind × EndsByError kind old new status))
 

@@ -1,7 +1,10 @@
 //! Runs scripts of lock requests, and prints what the lock manager answers.
 #![tactic(auto)]
 
+mod cluster;
 mod run;
+mod told;
+mod words;
 
 use std::process::ExitCode;
 use std::{env, io};

@@ -1,0 +1,17 @@
+use Rattle.std.proofs.Common.{refl}
+use Rattle.vlm.proofs.Listed.{listed_posts}
+use Rattle.vlm.proofs.cluster.serve_lists.Goals as goal
+
+-- each list holds posts of its node alone
+pub serve_lists_over-requires-clause-posts : goal.serve_lists_over-requires-clause-posts
+serve_lists_over-requires-clause-posts g c κs within = listed_posts c.args.lists.items c.requires.listed
+
+-- the gates never stop
+pub returns-in-Ok : goal.returns-in-Ok
+returns-in-Ok g c = record {
+  served = c.in-Ok.ensures.served;
+  posted = c.in-Ok.ensures.whole refl;
+  modes = c.in-Ok.ensures.modes;
+  once = c.in-Ok.ensures.once;
+  order = c.in-Ok.ensures.order;
+}

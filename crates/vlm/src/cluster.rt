@@ -1,0 +1,135 @@
+//! A script that is served by several nodes.
+
+ghost use Rattle.std.specs.Prelude.{◌≡◌, ◌<◌, ◌≤◌, IfOk, MatchResult, map, vec_len};
+ghost use Rattle.vlm_script.specs.Plays.{ConsumesAtMost};
+ghost use Rattle.vlm_script.specs.Shares.{AreListed};
+ghost use Rattle.vlm.specs.Ends.{RunsCluster, StartsCluster, output_of};
+ghost use Rattle.vlm.specs.Clusters.{IsClusterText, IsServed, PrintsCluster, StopsCluster};
+
+use crate::run::{DONE, failed, random_keys, without_random_bytes};
+use crate::told::report_text;
+use std::alloc::{AllocError, Global};
+use std::io::{Read, Write};
+use std::random::RandomSource;
+use std::sync::Wait;
+use std::thread::Threads;
+use std::time::Clock;
+use vlm_cluster::{Gate, Go, Report, serve_lists_over};
+use vlm_core::Core;
+use vlm_journal::entries::Item;
+use vlm_script::{HashKeys, PlayFault, read_lists, write_whole};
+use vlm_words::steps::Step;
+
+// How many entries of the journal are cut off at once, at least.
+const PART: usize = 65_536;
+
+/// Serves the script by so many nodes, where the system gives the bytes by which the indexes hash.
+pub(crate) fn start_cluster<R: Read, W: Write, F: Write>(
+    rt: &(impl AllocGlobal + RandomSource + Threads + Wait + Clock + Copy + Send + 'static),
+    nodes: u8,
+    reader: &mut R,
+    writer: &mut W,
+    faults: &mut F,
+) -> u8
+    requires { (1 ≤ nodes) × (nodes ≤ 8) }
+    ensures { StartsCluster nodes (R.remaining reader.old) (R.remaining reader.new)
+        (output_of (W.contents writer.old) (F.contents faults.old))
+        (output_of (W.contents writer.new) (F.contents faults.new)) result }
+{
+    match random_keys(rt) {
+        Some(keys) => run_cluster(rt, keys, nodes, reader, writer, faults),
+        None => without_random_bytes(faults),
+    }
+}
+
+// Serves the script by so many nodes, and prints the fault that ended it.
+fn run_cluster<R: Read, W: Write, F: Write>(
+    rt: &(impl AllocGlobal + Threads + Wait + Clock + Copy + Send + 'static),
+    keys: HashKeys,
+    nodes: u8,
+    reader: &mut R,
+    writer: &mut W,
+    faults: &mut F,
+) -> u8
+    requires { (1 ≤ nodes) × (nodes ≤ 8) }
+    ensures { RunsCluster nodes (R.remaining reader.old) (R.remaining reader.new)
+        (output_of (W.contents writer.old) (F.contents faults.old))
+        (output_of (W.contents writer.new) (F.contents faults.new)) result }
+{
+    match serve_script(rt, keys, nodes, reader, writer) {
+        Ok(()) => DONE,
+        Err(fault) => failed(&fault, faults),
+    }
+}
+
+// Serves the script, and writes what each node was told once all is told. Memory grows with the
+// script and with what its steps need.
+fn serve_script<R: Read, W: Write>(
+    rt: &(impl AllocGlobal + Threads + Wait + Clock + Copy + Send + 'static),
+    keys: HashKeys,
+    nodes: u8,
+    reader: &mut R,
+    writer: &mut W,
+) -> Result<(), PlayFault>
+    requires { (1 ≤ nodes) × (nodes ≤ 8) }
+    ensures printed { PrintsCluster nodes (R.remaining reader.old) result
+        (W.contents writer.old) (W.contents writer.new) }
+    ensures reads { ConsumesAtMost 16777217 (R.remaining reader.old) (R.remaining reader.new) }
+{
+    let text = cluster_text(rt, keys, nodes, reader)?;
+    write_whole(writer, &text)
+}
+
+// The text of what each node of a script was told.
+fn cluster_text<R: Read>(
+    rt: &(impl AllocGlobal + Threads + Wait + Clock + Copy + Send + 'static),
+    keys: HashKeys,
+    nodes: u8,
+    reader: &mut R,
+) -> Result<Vec<u8>, PlayFault>
+    requires { (1 ≤ nodes) × (nodes ≤ 8) }
+    ensures text { MatchResult result
+        (λ text. IsClusterText nodes (R.remaining reader.old) text.items)
+        (λ fault. StopsCluster nodes (R.remaining reader.old) fault) }
+    ensures reads { ConsumesAtMost 16777217 (R.remaining reader.old) (R.remaining reader.new) }
+{
+    let alloc = rt.alloc();
+    let lists = read_lists(alloc, keys, nodes, reader)?;
+    let report = serve_lists(rt, keys, lists)?;
+    Ok(report_text(alloc, &report)?)
+}
+
+// Serves each node's list, all of it.
+fn serve_lists(
+    rt: &(impl AllocGlobal + Threads + Wait + Clock + Copy + Send + 'static),
+    keys: HashKeys,
+    lists: Vec<Vec<Step>>,
+) -> Result<Report, AllocError>
+    requires count { (0 < vec_len lists) × (vec_len lists ≤ 8) }
+    requires listed { AreListed (map (λ l. l.items) lists.items) }
+    ensures { IfOk result (IsServed lists.items) }
+{
+    let alloc = rt.alloc();
+    let gates = Vec::from_elem(alloc, OpenGate, lists.len())?;
+    let core = Core::with_keys(alloc, keys);
+    match serve_lists_over(rt, alloc, core, gates, lists, PART) {
+        Ok(report) => Ok(report),
+        Err(_) => Err(AllocError),
+    }
+}
+
+// Lets each step be posted at once.
+#[derive(Clone, Copy, Drop)]
+struct OpenGate;
+
+impl Gate for OpenGate {
+    ghost use Rattle.std.specs.Prelude.{true};
+
+    ghost never_stops = { true };
+
+    fn before(&mut self, _n: usize) -> Go {
+        Go::Post
+    }
+
+    fn after(&mut self, _item: &Item) {}
+}
