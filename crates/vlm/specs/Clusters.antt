@@ -4,12 +4,12 @@ use Rattle.vlm_lines.specs.Lines.{lines_of}
 use Rattle.vlm_journal.specs.declared.entries.Item.{Item}
 use Rattle.vlm_journal.specs.declared.entries.Item.TheVariants.{Answer, Ast}
 use Rattle.vlm_cluster.specs.declared.report.Report.{Report}
-use Rattle.vlm_cluster.specs.Headline.{AreAllPosted, AreServed, GrantsKeepOrder, Items, ModesStayCompatible, RequestsEndOnce, Steps}
+use Rattle.vlm_cluster.specs.Headline.{AreAllPosted, AreServed, GrantsKeepOrder, Items, ModesStayCompatible, RequestsEndOnce, StepList}
 use Rattle.vlm_cluster.specs.Reports.{entries_of}
 use Rattle.vlm_script.specs.declared.faults.PlayFault.{PlayFault}
 use Rattle.vlm_script.specs.declared.faults.PlayFault.TheVariants.{Line, Memory, Read, Write, Long}
 use Rattle.vlm_script.specs.Plays.{PassesPart, Wrote}
-use Rattle.vlm_script.specs.Shares.{StopsShares, no_shares, shares}
+use Rattle.vlm_script.specs.Shares.{StopsShares, no_shares, shared_out}
 use Rattle.vlm_script.specs.Texts.{answer_item_line, ast_item_line, journal_line}
 
 -- the line of an item, by its node and its number
@@ -35,7 +35,7 @@ report_text r = nodes_text 0 r.items.items ++ journal_line (length (entries_of r
 
 -- all of each list is served: each node was told what the journal tells it of its list and its departure, and the journal
 -- keeps the laws at each of its places
-pub record IsServed (lists : List Steps) (r : Report) : Type 0 where
+pub record IsServedText (lists : List StepList) (r : Report) : Type 0 where
   pub served : AreServed lists r
   pub posted : AreAllPosted lists r
   pub modes : ModesStayCompatible (entries_of r) r.core
@@ -44,18 +44,18 @@ pub record IsServed (lists : List Steps) (r : Report) : Type 0 where
 
 -- the text of a script that so many nodes have served: its steps were shared out to their lists, and all of these are served
 pub record IsClusterText (nodes : ℕ) (script : Option (List ℕ)) (text : List ℕ) : Type 0 where
-  pub lists : List Steps
+  pub lists : List StepList
   pub report : Report
   pub count : length lists ≡ nodes
-  pub shared : IfSome script (λ input. IsOkAnd (shares nodes (no_shares nodes) 0 (lines_of input))
+  pub shared : IfSome script (λ input. IsOkAnd (shared_out nodes (no_shares nodes) 0 (lines_of input))
       (λ s. s.lists ≡ map (λ l. l.items) lists))
-  pub served : IsServed lists report
+  pub served : IsServedText lists report
   pub printed : text ≡ report_text report
 
 -- why a script was not served by so many nodes, before anything was written
 pub record StopsCluster (nodes : ℕ) (script : Option (List ℕ)) (fault : PlayFault) : Type 0 where
   pub stopped : IfSome script
-      (λ input. StopsShares input (shares nodes (no_shares nodes) 0 (lines_of input)) fault)
+      (λ input. StopsShares input (shared_out nodes (no_shares nodes) 0 (lines_of input)) fault)
   pub no_write : ¬ (fault ≡ Write)
 
 -- nothing was written, since this fault came first

@@ -4,7 +4,7 @@ ghost use Rattle.std.specs.Prelude.{◌≡◌, ◌<◌, ◌≤◌, IfOk, MatchRe
 ghost use Rattle.vlm_script.specs.Plays.{ConsumesAtMost};
 ghost use Rattle.vlm_script.specs.Shares.{AreListed};
 ghost use Rattle.vlm.specs.Ends.{RunsCluster, StartsCluster, output_of};
-ghost use Rattle.vlm.specs.Clusters.{IsClusterText, IsServed, PrintsCluster, StopsCluster};
+ghost use Rattle.vlm.specs.Clusters.{IsClusterText, IsServedText, PrintsCluster, StopsCluster};
 
 use crate::run::{DONE, failed, random_keys, without_random_bytes};
 use crate::told::report_text;
@@ -107,7 +107,7 @@ fn serve_lists(
 ) -> Result<Report, AllocError>
     requires count { (0 < vec_len lists) × (vec_len lists ≤ 8) }
     requires listed { AreListed (map (λ l. l.items) lists.items) }
-    ensures { IfOk result (IsServed lists.items) }
+    ensures { IfOk result (IsServedText lists.items) }
 {
     let alloc = rt.alloc();
     let gates = Vec::from_elem(alloc, OpenGate, lists.len())?;

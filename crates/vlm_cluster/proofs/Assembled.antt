@@ -21,7 +21,7 @@ use Rattle.vlm_ports.specs.Rings.{RingName}
 use Rattle.vlm_cluster.specs.declared.report.Report.{Report}
 use Rattle.vlm_cluster.specs.declared.threads.Given.{Given}
 use Rattle.vlm_cluster.specs.declared.worker.Done.{Done}
-use Rattle.vlm_cluster.specs.Headline.{AreAllPosted, AreServed, AreServedInPart, IsReport, Items, Steps}
+use Rattle.vlm_cluster.specs.Headline.{AreAllPosted, AreServed, AreServedInPart, IsReport, Items, StepList}
 use Rattle.vlm_cluster.specs.Parts.{AreNumbered}
 use Rattle.vlm_cluster.specs.Reports.{entries_of, parts_of}
 use Rattle.vlm_cluster.specs.Works.{ArePortsOf, IsBegun, IsWhole, IsWorkOn, work_of}
@@ -37,27 +37,27 @@ abbrev told_items : Report → ℕ → List Item
 told_items r k = told (k + 1) (entries_of r)
 
 -- what each of the workers has done
-abbrev pub AreWorks : {G : Type 0} → Bool → List Port → List Steps → List (Done G) → Type 0
-AreWorks {G} never ports lists dones = (k : ℕ) (d : Done G) (p : Port) (l : Steps) → k < length dones
+abbrev pub AreWorks : {G : Type 0} → Bool → List Port → List StepList → List (Done G) → Type 0
+AreWorks {G} never ports lists dones = (k : ℕ) (d : Done G) (p : Port) (l : StepList) → k < length dones
     → IsWorkOn never (get_or ports k p) (get_or lists k l).items (work_of (get_or dones k d))
 
 -- what is noted as posted is what each worker says, and nothing where there was none
 abbrev pub AreNoted : {G : Type 0} → List (Done G) → List ℕ → Type 0
 AreNoted {G} dones posted = (k : ℕ) (d : Done G) → k < length dones → get_or posted k 0 ≡ (get_or dones k d).posted
 
-module _ {G : Type 0} (never : Bool) (ports : List Port) (lists : List Steps) (dones : List (Done G)) (r : Report)
+module _ {G : Type 0} (never : Bool) (ports : List Port) (lists : List StepList) (dones : List (Done G)) (r : Report)
     (new : AreNew ports) (as_many : length ports ≡ length lists) (few : length dones ≤ length lists) (works : AreWorks never ports lists dones)
     (noted : AreNoted dones r.posted.items) where
   -- the work on a list, and how much of it is noted
-  on_list : (k n : ℕ) (list : Steps) → slice_get lists k ≡ Some list → slice_get r.posted.items k ≡ Some n → k < length dones → (p : Port) (d : Done G)
+  on_list : (k n : ℕ) (list : StepList) → slice_get lists k ≡ Some list → slice_get r.posted.items k ≡ Some n → k < length dones → (p : Port) (d : Done G)
       → IsWorkOn never (get_or ports k p) list.items (work_of (get_or dones k d)) × (n ≡ (get_or dones k d).posted)
   on_list k n list at_list at_n lt p d = (
-    subst (λ (l : Steps). IsWorkOn never (get_or ports k p) l.items (work_of (get_or dones k d))) (get_or_from_slice_get lists k list list at_list) (works k d p list lt),
+    subst (λ (l : StepList). IsWorkOn never (get_or ports k p) l.items (work_of (get_or dones k d))) (get_or_from_slice_get lists k list list at_list) (works k d p list lt),
     sym (get_or_from_slice_get r.posted.items k n 0 at_n) ∙ noted k d lt,
   )
 
   -- no more of a list is noted than it has
-  noted_within : (k n : ℕ) (list : Steps) → slice_get lists k ≡ Some list → slice_get r.posted.items k ≡ Some n → k < length dones → n ≤ length list.items
+  noted_within : (k n : ℕ) (list : StepList) → slice_get lists k ≡ Some list → slice_get r.posted.items k ≡ Some n → k < length dones → n ≤ length list.items
   noted_within k n list at_list at_n lt =
       let on = on_list k n list at_list at_n lt (element ports k (omega (arith, lt, few, as_many))) (element dones k lt) in
       subst (λ (m : ℕ). m ≤ length list.items) (sym on.1) on.0.within
@@ -147,7 +147,7 @@ module _ {G : Type 0} (never : Bool) (ports : List Port) (lists : List Steps) (d
   }
 
 -- each worker has a port of the hub
-pub ports_of_works : {G : Type 0} (never : Bool) (ports : List Port) (lists : List Steps) (dones : List (Done G)) (h : Hub) → AreNew ports → AreWorks never ports lists dones
+pub ports_of_works : {G : Type 0} (never : Bool) (ports : List Port) (lists : List StepList) (dones : List (Done G)) (h : Hub) → AreNew ports → AreWorks never ports lists dones
     → length dones ≤ length ports → length dones ≤ length lists → rings h ≡ map identity ports → ArePortsOf h dones
 ports_of_works never ports lists dones h new works few_ports few_lists same k d lt =
     let some : k < length ports = omega (arith, lt, few_ports) in
@@ -164,8 +164,8 @@ ports_of_works never ports lists dones h new works few_ports few_lists same k d 
     )
 
 -- what each worker was given, and what it made of that
-pub works_of : {G : Type 0} (never : Bool) (ports : List Port) (lists : List Steps) (children : List (PromisedHandle (Done G) Given)) (dones : List (Done G)) (n : ℕ)
-    → ((k : ℕ) (h : PromisedHandle (Done G) Given) (p : Port) (l : Steps) → k < n
+pub works_of : {G : Type 0} (never : Bool) (ports : List Port) (lists : List StepList) (children : List (PromisedHandle (Done G) Given)) (dones : List (Done G)) (n : ℕ)
+    → ((k : ℕ) (h : PromisedHandle (Done G) Given) (p : Port) (l : StepList) → k < n
     → ((get_or children k h).promise.port.value ≡ get_or ports k p) × ((get_or children k h).promise.list.value ≡ get_or lists k l))
     → ((k : ℕ) (d : Done G) (h : PromisedHandle (Done G) Given) → k < n
     → IsWorkOn never (get_or children k h).promise.port.value (get_or children k h).promise.list.value.items (work_of (get_or dones k d)))
@@ -175,4 +175,4 @@ works_of {G} never ports lists children dones n given made same long k d p l lt 
     let at : k < n = omega (arith, lt, same) in
     let was = given k h p l at in
     subst (λ (port : Port). IsWorkOn never port (get_or lists k l).items (work_of (get_or dones k d))) was.0
-    (subst (λ (list : Steps). IsWorkOn never (get_or children k h).promise.port.value list.items (work_of (get_or dones k d))) was.1 (made k d h at))
+    (subst (λ (list : StepList). IsWorkOn never (get_or children k h).promise.port.value list.items (work_of (get_or dones k d))) was.1 (made k d h at))

@@ -22,8 +22,8 @@ use Rattle.vlm_cluster.specs.Parts.{AreNumbered}
 use Rattle.vlm_cluster.specs.Reports.{entries_of, parts_of}
 
 -- a list of steps
-abbrev pub Steps : Type 0
-Steps = Vec Step Global
+abbrev pub StepList : Type 0
+StepList = Vec Step Global
 
 -- the items that a node is told
 abbrev pub Items : Type 0
@@ -32,9 +32,9 @@ Items = Vec Item Global
 -- what holds of every report: there is something for each list, and no more of it was posted than it has; the journal is
 -- legal and leads to the core's state, the base of each of its parts says how many entries stand before it, and a node
 -- that has departed is answered so
-pub record IsReport (lists : List Steps) (r : Report) : Type 0 where
+pub record IsReport (lists : List StepList) (r : Report) : Type 0 where
   pub counts : (length r.items.items ≡ length lists) × (length r.posted.items ≡ length lists)
-  pub within : (k n : ℕ) (list : Steps) → slice_get lists k ≡ Some list → slice_get r.posted.items k ≡ Some n
+  pub within : (k n : ℕ) (list : StepList) → slice_get lists k ≡ Some list → slice_get r.posted.items k ≡ Some n
       → n ≤ length list.items
   pub legal : Journal (entries_of r) r.core
   pub numbered : AreNumbered (parts_of r)
@@ -42,28 +42,28 @@ pub record IsReport (lists : List Steps) (r : Report) : Type 0 where
 
 -- each node has asked for what was posted of its list and then for its departure, in order, and was told all that the
 -- journal tells it
-pub record AreServed (lists : List Steps) (r : Report) : Type 0 where
+pub record AreServed (lists : List StepList) (r : Report) : Type 0 where
   pub report : IsReport lists r
-  pub asked : (k n : ℕ) (list : Steps) → slice_get lists k ≡ Some list → slice_get r.posted.items k ≡ Some n
+  pub asked : (k n : ℕ) (list : StepList) → slice_get lists k ≡ Some list → slice_get r.posted.items k ≡ Some n
       → asked (k + 1) (entries_of r) ≡ take n list.items ++ Leave (k + 1) ∷ []
   pub told : (k : ℕ) (items : Items) → slice_get r.items.items k ≡ Some items → items.items ≡ told (k + 1) (entries_of r)
 
 -- each node has asked for the first of that, and was told the first of what the journal tells it
-pub record AreServedInPart (lists : List Steps) (r : Report) : Type 0 where
+pub record AreServedInPart (lists : List StepList) (r : Report) : Type 0 where
   pub report : IsReport lists r
-  pub asked : (k n : ℕ) (list : Steps) → slice_get lists k ≡ Some list → slice_get r.posted.items k ≡ Some n
+  pub asked : (k n : ℕ) (list : StepList) → slice_get lists k ≡ Some list → slice_get r.posted.items k ≡ Some n
       → IsPrefix (asked (k + 1) (entries_of r)) (take n list.items ++ Leave (k + 1) ∷ [])
   pub told : (k : ℕ) (items : Items) → slice_get r.items.items k ≡ Some items
       → IsPrefix items.items (told (k + 1) (entries_of r))
 
 -- where memory was refused and something was started, that much was done
-abbrev pub IsCutShort : List Steps → Fault → Type 0
+abbrev pub IsCutShort : List StepList → Fault → Type 0
 IsCutShort lists (Memory None) = ⊤
 IsCutShort lists (Memory (Some r)) = AreServedInPart lists r
 
 -- all of each list was posted
-abbrev pub AreAllPosted : List Steps → Report → Type 0
-AreAllPosted lists r = (k n : ℕ) (list : Steps) → slice_get lists k ≡ Some list → slice_get r.posted.items k ≡ Some n
+abbrev pub AreAllPosted : List StepList → Report → Type 0
+AreAllPosted lists r = (k n : ℕ) (list : StepList) → slice_get lists k ≡ Some list → slice_get r.posted.items k ≡ Some n
     → n ≡ length list.items
 
 -- at a place of a journal: the entries before it are a run of the machine to a state from which those behind it go on,

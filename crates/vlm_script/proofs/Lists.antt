@@ -12,7 +12,7 @@ use Rattle.vlm_words.specs.declared.steps.Step.TheVariants.{Declare as declare_s
 use Rattle.vlm_words.specs.Steps.{node_of_pid}
 use Rattle.vlm_script.specs.Scripts.{Binding, bound_to}
 use Rattle.vlm_script.specs.Shares.{AreListed, IsListed, Shares, can_declare, declared_by, has_node, next_process, share_declaration, with_step}
-use Rattle.vlm_script.specs.Sharing.{AreOfNodes, IsNode, IsSharing}
+use Rattle.vlm_script.specs.Sharing.{AreOfNodes, IsOneOfNodes, IsSharing}
 
 -- a list that has grown by a step, among lists of any kind that have these steps
 module _ {V : Type 0} (steps_of : V → List Step) (vecs : List V) (node : ℕ) (old new : V) (is : old ≡ get_or vecs (node - 1) old) where
@@ -30,13 +30,13 @@ module _ {V : Type 0} (steps_of : V → List Step) (vecs : List V) (node : ℕ) 
   steps-unchanged same = map-set_same steps_of vecs (node - 1) new old (same ∙ ap steps_of is)
 
 -- a number that passes the test is that of a node
-pub is_node : (nodes node : ℕ) → has_node nodes node ≡ true → IsNode nodes node
+pub is_node : (nodes node : ℕ) → has_node nodes node ≡ true → IsOneOfNodes nodes node
 is_node nodes node is =
     let parts = and_parts (nat_le 1 node) (nat_le node nodes) is in
     record { above = leb-true 1 node parts.0; within = leb-true node nodes parts.1 }
 
 -- a node that may have one more declare line is one of the nodes, and has fewer than 65,535
-pub is_declarable : (nodes : ℕ) (s : Shares) (node : ℕ) → can_declare nodes s node ≡ true → IsNode nodes node × (declared_by s node < 65535)
+pub is_declarable : (nodes : ℕ) (s : Shares) (node : ℕ) → can_declare nodes s node ≡ true → IsOneOfNodes nodes node × (declared_by s node < 65535)
 is_declarable nodes s node is =
     let parts = and_parts (has_node nodes node) (nat_lt (declared_by s node) 65535) is in
     (is_node nodes node parts.0, ltb-true (declared_by s node) 65535 parts.1)
@@ -63,7 +63,7 @@ unfolding with_step
 length-with_step lists node step = length-set lists (node - 1) (get_or lists (node - 1) [] ++ step ∷ [])
 
 -- a step of the node joins its list
-listed-with_step : (lists : List (List Step)) (node : ℕ) (step : Step) → IsNode (length lists) node → IsListed node step → AreListed lists
+listed-with_step : (lists : List (List Step)) (node : ℕ) (step : Step) → IsOneOfNodes (length lists) node → IsListed node step → AreListed lists
     → AreListed (with_step lists node step)
 unfolding with_step
 listed-with_step lists node step there of_node listed k below =
@@ -81,23 +81,23 @@ listed-with_step lists node step there of_node listed k below =
 
 module _ (nodes : ℕ) where
   -- a bound name is bound to a process of one of the nodes
-  pub bound_node : (names : List Binding) (name : List ℕ) (pid : ℕ) → AreOfNodes nodes names → bound_to names name ≡ Some pid → IsNode nodes (node_of_pid pid)
+  pub bound_node : (names : List Binding) (name : List ℕ) (pid : ℕ) → AreOfNodes nodes names → bound_to names name ≡ Some pid → IsOneOfNodes nodes (node_of_pid pid)
   bound_node [] name pid all is = cc
   bound_node (b ∷ names) name pid all is = first (is_text b.name name) is (bound_node names name pid all.1)
     where
       first : (same : Bool) → option_map (λ (e : Binding). e.pid) (cond same (Some b) (find (λ e. is_text e.name name) names)) ≡ Some pid
-          → (bound_to names name ≡ Some pid → IsNode nodes (node_of_pid pid)) → IsNode nodes (node_of_pid pid)
-      first true here rest = let same : b.pid ≡ pid = cc here in subst (λ p. IsNode nodes (node_of_pid p)) same all.0
+          → (bound_to names name ≡ Some pid → IsOneOfNodes nodes (node_of_pid pid)) → IsOneOfNodes nodes (node_of_pid pid)
+      first true here rest = let same : b.pid ≡ pid = cc here in subst (λ p. IsOneOfNodes nodes (node_of_pid p)) same all.0
       first false here rest = rest here
 
   -- one more name
-  bound_more : (names : List Binding) (b : Binding) → AreOfNodes nodes names → IsNode nodes (node_of_pid b.pid) → AreOfNodes nodes (names ++ b ∷ [])
+  bound_more : (names : List Binding) (b : Binding) → AreOfNodes nodes names → IsOneOfNodes nodes (node_of_pid b.pid) → AreOfNodes nodes (names ++ b ∷ [])
   bound_more [] b all there = (there, tt)
   bound_more (e ∷ names) b all there = (all.0, bound_more names b all.1 there)
 
 module _ (names : List Binding) (declared : List ℕ) (lists : List (List Step)) (node : ℕ) (step : Step) where
   -- a step of a node goes to its list
-  pub sharing-with_step : IsSharing names declared lists → IsNode (length lists) node → IsListed node step → IsSharing names declared (with_step lists node step)
+  pub sharing-with_step : IsSharing names declared lists → IsOneOfNodes (length lists) node → IsListed node step → IsSharing names declared (with_step lists node step)
   sharing-with_step s there of_node = record {
     counted = s.counted ∙ sym (length-with_step lists node step);
     bound = subst (λ nodes. AreOfNodes nodes names) (sym (length-with_step lists node step)) s.bound;
@@ -105,10 +105,10 @@ module _ (names : List Binding) (declared : List ℕ) (lists : List (List Step))
   }
 
   -- a declare line does so too, and binds its name to a process of the node
-  pub sharing-declared : (b : Binding) (count : ℕ) → IsSharing names declared lists → IsNode (length lists) node → IsListed node step → node_of_pid b.pid ≡ node
+  pub sharing-declared : (b : Binding) (count : ℕ) → IsSharing names declared lists → IsOneOfNodes (length lists) node → IsListed node step → node_of_pid b.pid ≡ node
       → IsSharing (names ++ b ∷ []) (set declared (node - 1) count) (with_step lists node step)
   sharing-declared b count s there of_node is =
-      let more = bound_more (length lists) names b s.bound (subst (IsNode (length lists)) (sym is) there) in
+      let more = bound_more (length lists) names b s.bound (subst (IsOneOfNodes (length lists)) (sym is) there) in
       record {
         counted = length-set declared (node - 1) count ∙ s.counted ∙ sym (length-with_step lists node step);
         bound = subst (λ nodes. AreOfNodes nodes (names ++ b ∷ [])) (sym (length-with_step lists node step)) more;

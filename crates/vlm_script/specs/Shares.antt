@@ -101,7 +101,7 @@ share_line s (Ast name) = s
 share_line s (Block name number) = s
 share_line s Show = s
 
--- the shares, unless the line has a fault
+-- what is shared by then, unless the line has a fault
 abbrev pub unless_fault : Option LineFault → Shares → Result Shares LineFault
 unless_fault None s = Ok s
 unless_fault (Some fault) s = Err fault
@@ -117,10 +117,10 @@ then_shares (Ok s) number rest = rest s
 then_shares (Err fault) number rest = Err (number, fault)
 
 -- the lines behind the first `count`, shared in order, or the first fault with its line's number from 1
-abbrev pub shares : ℕ → Shares → ℕ → List (List ℕ) → Result Shares (ℕ × LineFault)
-shares nodes s count [] = Ok s
-shares nodes s count (bytes ∷ lines) =
-    then_shares (line_shared nodes s (line_read bytes)) (count + 1) (λ more. shares nodes more (count + 1) lines)
+abbrev pub shared_out : ℕ → Shares → ℕ → List (List ℕ) → Result Shares (ℕ × LineFault)
+shared_out nodes s count [] = Ok s
+shared_out nodes s count (bytes ∷ lines) =
+    then_shares (line_shared nodes s (line_read bytes)) (count + 1) (λ more. shared_out nodes more (count + 1) lines)
 
 -- the step takes an AST
 abbrev pub is_taking : Step → Bool

@@ -13,14 +13,14 @@ use Rattle.vlm_script.specs.declared.stops.Stop.{Stop}
 use Rattle.vlm_script.specs.declared.stops.Stop.TheVariants.{Fault, Memory}
 
 -- the number is that of one of so many nodes
-pub record IsNode (nodes node : ℕ) : Type 0 where
+pub record IsOneOfNodes (nodes node : ℕ) : Type 0 where
   pub above : 0 < node
   pub within : node ≤ nodes
 
 -- each name is bound to a process of one of the nodes
 abbrev pub AreOfNodes : ℕ → List Binding → Type 0
 AreOfNodes nodes [] = Unit {0}
-AreOfNodes nodes (b ∷ bs) = IsNode nodes (node_of_pid b.pid) × AreOfNodes nodes bs
+AreOfNodes nodes (b ∷ bs) = IsOneOfNodes nodes (node_of_pid b.pid) × AreOfNodes nodes bs
 
 -- each node has its count and its list, names are bound to processes of the nodes, and each list holds steps of its node
 pub record IsSharing (names : List Binding) (declared : List ℕ) (lists : List (List Step)) : Type 0 where
@@ -34,7 +34,7 @@ pub record IsShared (old : Shares) (line : Line) (new : Shares) : Type 0 where
   pub becomes : new ≡ share_line old line
 
 -- a step goes to the list of the node of the process that the name is bound to
-pub record IsNamed (old : Shares) (name : List ℕ) (step : Step) (new : Shares) : Type 0 where
+pub record IsSharedByName (old : Shares) (name : List ℕ) (step : Step) (new : Shares) : Type 0 where
   pub pid : ℕ
   pub bound : bound_to old.names name ≡ Some pid
   pub becomes : new ≡ share_step old (node_of_pid pid) (of_process pid step)

@@ -3,7 +3,7 @@
 ghost use Rattle.std.specs.Prelude.{◌≡◌, ◌<◌, ◌≤◌, length, map, IfErr, IfOk, IfSome, IsOkAnd, MatchResult, Ok};
 ghost use Rattle.vlm_lines.specs.Lines.{lines_of};
 ghost use Rattle.vlm_script.specs.Plays.{ConsumesAtMost};
-ghost use Rattle.vlm_script.specs.Shares.{AreListed, StopsShares, no_shares, shares};
+ghost use Rattle.vlm_script.specs.Shares.{AreListed, StopsShares, no_shares, shared_out};
 ghost use Rattle.vlm_script.specs.Sharing.{StopsShareLines};
 
 use crate::cuts::next_line;
@@ -46,7 +46,7 @@ pub fn read_lists<R: Read>(
 
     // What comes of the script, where the reader tells its bytes.
     ensures shared { IfSome (R.remaining reader.old) (λ input.
-        let shared = shares nodes (no_shares nodes) 0 (lines_of input) in
+        let shared = shared_out nodes (no_shares nodes) 0 (lines_of input) in
         MatchResult result
         (λ lists. IsOkAnd shared (λ s. s.lists ≡ map (λ l. l.items) lists.items))
         (λ fault. StopsShares input shared fault)) }
@@ -68,7 +68,7 @@ fn share_script(
     nodes: u8,
     input: &[u8],
 ) -> Result<Vec<Vec<Step>>, PlayFault>
-    ensures shared { let shared = shares nodes (no_shares nodes) 0 (lines_of input.now) in
+    ensures shared { let shared = shared_out nodes (no_shares nodes) 0 (lines_of input.now) in
         MatchResult result
         (λ lists. IsOkAnd shared (λ s. s.lists ≡ map (λ l. l.items) lists.items))
         (λ fault. StopsShareLines shared fault) }
@@ -83,7 +83,7 @@ fn share_script(
 // Shares out the lines of a script, behind what is shared already.
 fn share_lines(sharing: &mut Sharing, input: &[u8]) -> Result<(), PlayFault>
     ensures shared { let nodes = length sharing.old.lists in
-        let shared = shares nodes sharing.old 0 (lines_of input.now) in
+        let shared = shared_out nodes sharing.old 0 (lines_of input.now) in
         MatchResult result (λ _. shared ≡ Ok sharing.new) (λ fault. StopsShareLines shared fault) }
     ensures count { length sharing.new.lists ≡ length sharing.old.lists }
 {

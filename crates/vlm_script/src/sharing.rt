@@ -3,7 +3,7 @@
 ghost use Rattle.std.specs.Prelude.{◌≡◌, ◌<◌, ◌+◌, ◌-◌, ◌*◌, ℕ, [], length, map, replicate, slice_index, slice_set, vec_len, IfOk, MatchResult, OnErr, OnOk, Ok};
 ghost use Rattle.vlm_lines.specs.Lines.{line_read};
 ghost use Rattle.vlm_script.specs.Shares.{AreListed, no_shares, with_step};
-ghost use Rattle.vlm_script.specs.Sharing.{IsNode};
+ghost use Rattle.vlm_script.specs.Sharing.{IsOneOfNodes};
 
 use crate::bindings::{Bindings, bind_reserved, bound_to, process_of};
 use crate::session::of_process;
@@ -51,7 +51,7 @@ impl Sharing {
     ghost use Rattle.vlm_script.specs.Scripts.{of_process};
     ghost use Rattle.vlm_script.specs.Sessions.{StopsName};
     ghost use Rattle.vlm_script.specs.Shares.{IsListed, can_declare, has_node, line_shared};
-    ghost use Rattle.vlm_script.specs.Sharing.{IsNamed, IsPut, IsShared, StopsNode, StopsShare, StopsShareBytes};
+    ghost use Rattle.vlm_script.specs.Sharing.{IsSharedByName, IsPut, IsShared, StopsNode, StopsShare, StopsShareBytes};
 
     /// Nothing is shared, and each node has its list.
     pub(crate) fn new(alloc: Global, keys: HashKeys, nodes: u8) -> Result<Self, AllocError>
@@ -135,7 +135,7 @@ impl Sharing {
     fn put_named(&mut self, name: ProcessName, step: Step) -> Result<(), Stop>
         requires { (pid : ℕ) → IsListed (node_of_pid pid) (of_process pid step) }
         ensures shared { MatchResult result
-            (λ _. IsNamed self.old name step self.new)
+            (λ _. IsSharedByName self.old name step self.new)
             (λ stop. StopsName self.old.names name stop) }
         ensures count { length self.new.lists ≡ length self.old.lists }
     {
@@ -195,7 +195,7 @@ fn empty_lists(alloc: Global, nodes: u8) -> Result<Vec<Vec<Step>>, AllocError>
 
 // Puts a step at the end of a node's list.
 fn add_step(lists: &mut Vec<Vec<Step>>, node: usize, step: Step) -> Result<(), AllocError>
-    requires { IsNode (vec_len lists.old) node }
+    requires { IsOneOfNodes (vec_len lists.old) node }
     ensures ok { OnOk result (map (λ l. l.items) lists.new.items
         ≡ with_step (map (λ l. l.items) lists.old.items) node step) }
     ensures err { OnErr result
@@ -207,7 +207,7 @@ fn add_step(lists: &mut Vec<Vec<Step>>, node: usize, step: Step) -> Result<(), A
 
 // Counts one more declare line of a node, and gives the process of it.
 fn next_process(declared: &mut Vec<u16>, node: u8) -> u32
-    requires node { IsNode (vec_len declared.old) node }
+    requires node { IsOneOfNodes (vec_len declared.old) node }
     requires room { slice_index declared.old.items (node - 1) < 65535 }
     ensures pid { result ≡ node * 65536 + (slice_index declared.old.items (node - 1) + 1) }
     ensures counted { declared.new.items ≡ slice_set declared.old.items (node - 1)

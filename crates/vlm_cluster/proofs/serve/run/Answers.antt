@@ -5,14 +5,14 @@ use Rattle.vlm_ports.specs.declared.port.Port.{Port}
 use Rattle.vlm_cluster.specs.declared.report.Report.{Report}
 use Rattle.vlm_cluster.specs.declared.threads.Given.{Given}
 use Rattle.vlm_cluster.specs.declared.worker.Done.{Done}
-use Rattle.vlm_cluster.specs.Headline.{Steps}
+use Rattle.vlm_cluster.specs.Headline.{StepList}
 use Rattle.vlm_cluster.proofs.Assembled.{AreNoted, AreWorks, all_posted, begun, given_up, ports_of_works, served, works_of}
 use Rattle.vlm_cluster.proofs.serve.run.Goals as goal
 
 pub finish-finished-requires-clause-ports : goal.finish-finished-requires-clause-ports
 finish-finished-requires-clause-ports g c =
     let D = Done g.row.G.Denot in
-    let ports : List Port = c.args.ports.items in let lists : List Steps = c.args.lists.items in
+    let ports : List Port = c.args.ports.items in let lists : List StepList = c.args.lists.items in
     let children : List (PromisedHandle D Given) = c.start_all.new.children.items in let dones : List D = c.join_all-2.new.dones.items in
     let op = c.args.ports.ok in let ol = c.args.lists.ok in let oc = c.start_all.new.children.ok in let od = c.join_all-2.new.dones.ok in
     let ports_are : vec_len c.args.ports ≡ vec_len c.args.lists = c.requires.lens.0 in
@@ -28,7 +28,7 @@ finish-finished-requires-clause-ports g c =
 pub returns-then-finished-clause-served : goal.returns-then-finished-clause-served
 returns-then-finished-clause-served g c =
     let D = Done g.row.G.Denot in
-    let ports : List Port = c.args.ports.items in let lists : List Steps = c.args.lists.items in
+    let ports : List Port = c.args.ports.items in let lists : List StepList = c.args.lists.items in
     let children : List (PromisedHandle D Given) = c.start_all.new.children.items in let dones : List D = c.join_all-2.new.dones.items in
     let op = c.args.ports.ok in let ol = c.args.lists.ok in let oc = c.start_all.new.children.ok in let od = c.join_all-2.new.dones.ok in
     let ports_are : vec_len c.args.ports ≡ vec_len c.args.lists = c.requires.lens.0 in
@@ -51,7 +51,7 @@ returns-then-finished-clause-served g c =
 pub returns-then-finished-clause-whole : goal.returns-then-finished-clause-whole
 returns-then-finished-clause-whole g c = λ never.
     let D = Done g.row.G.Denot in
-    let ports : List Port = c.args.ports.items in let lists : List Steps = c.args.lists.items in
+    let ports : List Port = c.args.ports.items in let lists : List StepList = c.args.lists.items in
     let children : List (PromisedHandle D Given) = c.start_all.new.children.items in let dones : List D = c.join_all-2.new.dones.items in
     let op = c.args.ports.ok in let ol = c.args.lists.ok in let oc = c.start_all.new.children.ok in let od = c.join_all-2.new.dones.ok in
     let ports_are : vec_len c.args.ports ≡ vec_len c.args.lists = c.requires.lens.0 in
@@ -83,7 +83,7 @@ returns-then-finished-clause-order g c = c.law_grants_keep_order.ensures _ _ c.f
 pub returns-clause-cut_short : goal.returns-clause-cut_short
 returns-clause-cut_short g c =
     let D = Done g.row.G.Denot in
-    let ports : List Port = c.args.ports.items in let lists : List Steps = c.args.lists.items in
+    let ports : List Port = c.args.ports.items in let lists : List StepList = c.args.lists.items in
     let children : List (PromisedHandle D Given) = c.start_all.new.children.items in let dones : List D = c.join_all-2.new.dones.items in
     let op = c.args.ports.ok in let ol = c.args.lists.ok in let oc = c.start_all.new.children.ok in let od = c.join_all-2.new.dones.ok in
     let ports_are : vec_len c.args.ports ≡ vec_len c.args.lists = c.requires.lens.0 in
@@ -106,7 +106,7 @@ returns-clause-cut_short g c =
 pub returns-then-started-count-clause-cut_short : goal.returns-then-started-count-clause-cut_short
 returns-then-started-count-clause-cut_short g c =
     let D = Done g.row.G.Denot in
-    let ports : List Port = c.args.ports.items in let lists : List Steps = c.args.lists.items in
+    let ports : List Port = c.args.ports.items in let lists : List StepList = c.args.lists.items in
     let children : List (PromisedHandle D Given) = c.start_all.new.children.items in let dones : List D = c.join_all.new.dones.items in
     let op = c.args.ports.ok in let ol = c.args.lists.ok in let oc = c.start_all.new.children.ok in let od = c.join_all.new.dones.ok in
     let ports_are : vec_len c.args.ports ≡ vec_len c.args.lists = c.requires.lens.0 in
