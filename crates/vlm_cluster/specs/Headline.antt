@@ -21,10 +21,11 @@ use Rattle.vlm_cluster.specs.declared.report.Report.{Report}
 use Rattle.vlm_cluster.specs.Parts.{AreNumbered}
 use Rattle.vlm_cluster.specs.Reports.{entries_of, parts_of}
 
--- a list of steps, and the items that a node is told
+-- a list of steps
 abbrev pub Steps : Type 0
 Steps = Vec Step Global
 
+-- the items that a node is told
 abbrev pub Items : Type 0
 Items = Vec Item Global
 

@@ -28,6 +28,7 @@ pub record Work : Type 0 where
   pub count : ℕ
   pub left : Bool
 
+-- the work that a worker hands back
 abbrev pub work_of : {G : Type 0} → Done G → Work
 work_of d = record { port = identity d.basket.port; posts = posted d.basket.port; count = d.posted; left = d.left }
 
@@ -58,11 +59,12 @@ pub record IsWhole (entries : List Entry) (w : Work) (items : List Item) : Type 
   pub asked : asked w.port.0 entries ≡ w.posts
   pub told : items ≡ told w.port.0 entries
 
--- so for the first of what is handed back
+-- so begun are the first of what is handed back
 abbrev pub AreBegun : {G : Type 0} → List Entry → List (Done G) → ℕ → Type 0
 AreBegun {G} entries dones n = (k : ℕ) (d : Done G) → k < n
     → IsBegun entries (work_of (slice_index_or dones k d)) (slice_index_or dones k d).basket.items.items
 
+-- so whole are the first of what is handed back
 abbrev pub AreWhole : {G : Type 0} → List Entry → List (Done G) → ℕ → Type 0
 AreWhole {G} entries dones n = (k : ℕ) (d : Done G) → k < n
     → IsWhole entries (work_of (slice_index_or dones k d)) (slice_index_or dones k d).basket.items.items

@@ -27,11 +27,11 @@ pub(crate) fn close<G: Gate>(
     ensures begun { AreBegun (entries_at desk.new) dones.new (length dones.new) }
     ensures whole { IsTrue result → AreWhole (entries_at desk.new) dones.new (length dones.new) }
 {
-    let _ = serve_rest(rt, signals, desk, dones);
-    settle_all(desk, dones)
+    let served = serve_rest(rt, signals, desk, dones);
+    settle_all(desk, dones) && served.is_ok()
 }
 
-// Serves and takes what is left, unless all were to end early.
+// Serves and takes what is left. Refused where memory is, or was before.
 fn serve_rest<G: Gate>(
     rt: &impl Wait,
     signals: &Signals,
@@ -46,7 +46,7 @@ fn serve_rest<G: Gate>(
 {
     for _ in rt.forever() {
         if signals.is_stopped() {
-            return Ok(());
+            return Err(AllocError);
         }
         if settle_all(desk, dones) {
             return Ok(());

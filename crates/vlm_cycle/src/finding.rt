@@ -117,8 +117,8 @@ fn best_of_queue(
     ensures improves { Improves store.now (rows_queued res queue store.now) best result }
     ensures room { KeepsRoom scratch.old scratch.new }
     ensures ranks { scratch.new.ranks ≡ scratch.old.ranks }
-    ensures passes { PassesQueue store.now scratch.old.ranks (rows_queued res queue store.now) gauge.old
-        gauge.new }
+    ensures passes { PassesQueue store.now scratch.old.ranks (rows_queued res queue store.now)
+        gauge.old gauge.new }
 {
     let mut best = best;
     let mut at = head(store, res, queue);

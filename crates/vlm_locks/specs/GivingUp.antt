@@ -56,8 +56,8 @@ IsPaidBut lkids s = (pid : ℕ) → due_of pid s ≡ total_weight (due_but lkids
 -- ---- what becomes of them
 
 -- the requests of these locks have ended, one after the other
-abbrev pub AreEnded : List ℕ → Bool → Records → Records → Type 0
-AreEnded lkids invalidates old new =
+abbrev pub RequestsHaveEnded : List ℕ → Bool → Records → Records → Type 0
+RequestsHaveEnded lkids invalidates old new =
     plain_processes new
     ≡ processes_after (withdrawn_endings (map (giving_up by_abort by_abort invalidates) lkids) (plain_resources old)) (plain_processes old)
 
@@ -65,7 +65,7 @@ AreEnded lkids invalidates old new =
 pub record HaveEnded (choice : Choice) (invalidates : Bool) (pid : ℕ) (old new : Records) : Type 0 where
   pub lkids : List ℕ
   pub chosen : AreChosen choice pid old lkids
-  pub statuses : AreEnded lkids invalidates old new
+  pub statuses : RequestsHaveEnded lkids invalidates old new
   pub only_notices : SameButNotices old new
   pub paid : IsPaidBut lkids new
 
@@ -98,4 +98,4 @@ pub record AreGivenUp (choice : Choice) (invalidates : Bool) (pid : ℕ) (old ne
   pub lkids : List ℕ
   pub chosen : AreChosen choice pid old lkids
   pub left : HaveLeft lkids invalidates old new before after
-  pub statuses : AreEnded lkids invalidates old new
+  pub statuses : RequestsHaveEnded lkids invalidates old new

@@ -1,5 +1,5 @@
 -- Ports that are made have the rings that they were made with.
-use Rattle.std.proofs.Common.{◌≡◌, ◌∙◌, ◌+◌, ◌-◌, ◌<◌, ℕ, List, Some, ap, arith, get_or, length, map, sym, subst}
+use Rattle.std.proofs.Common.{◌≡◌, ◌∙◌, ◌+◌, ◌-◌, ◌<◌, ℕ, zero, suc, List, [], ◌∷◌, ◌++◌, Some, ap, arith, get_or, length, map, sym, subst}
 use Rattle.std.specs.Prelude.{All}
 use Rattle.std.specs.List.{slice_get}
 use Rattle.std.specs.Option.{option_map}
@@ -18,3 +18,12 @@ each_of_rings rings ports new same = λ k d lt.
       omega (arith, node),
       subst (λ n. slice_get rings n ≡ Some (identity (get_or ports k d))) (sym before) (subst (λ rs. slice_get rs k ≡ Some (identity (get_or ports k d))) same at),
     )
+
+-- what holds of each of a list by its place, and of one more behind them, holds of each of all
+pub pushed_each : {X : Type 0} (P : ℕ → X → Type 0) (xs : List X) (x : X) → ((k : ℕ) (d : X) → k < length xs → P k (get_or xs k d)) → P (length xs) x
+    → (k : ℕ) (d : X) → k < length (xs ++ x ∷ []) → P k (get_or (xs ++ x ∷ []) k d)
+pushed_each P [] x each last zero d lt = last
+pushed_each P [] x each last (suc k) d lt = absurd (omega (arith, lt))
+pushed_each P (y ∷ xs) x each last zero d lt = each zero d (omega arith)
+pushed_each P (y ∷ xs) x each last (suc k) d lt =
+    pushed_each (λ j. P (suc j)) xs x (λ j e l. each (suc j) e (omega (arith, l))) last k d (omega (arith, lt))

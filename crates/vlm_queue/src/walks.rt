@@ -26,8 +26,8 @@ pub fn first_resource(store: &Store) -> Option<ResAt>
 pub fn next_resource(store: &Store, res: ResAt) -> Option<ResAt>
     requires { HasResource res store.now }
     ensures there { ForSome result (λ next. HasResource next store.now) }
-    ensures left { IfSome (plain_resource_at res store.now) (λ r. resources_left (Some res) store.now
-        ≡ r ∷ resources_left result store.now) }
+    ensures left { IfSome (plain_resource_at res store.now) (λ r.
+        resources_left (Some res) store.now ≡ r ∷ resources_left result store.now) }
 {
     law_records_are_sound(store);
     store.next_resource(res)

@@ -1,0 +1,115 @@
+//! Gates.
+
+ghost use Rattle.std.specs.Prelude.{false, true};
+
+use std::sync::Arc;
+use std::sync::atomic::{AtomicU64, Ordering};
+use vlm_cluster::{Gate, Go};
+use vlm_journal::entries::Item;
+
+// How often a gate looks for the others.
+const LOOKS: u32 = 200_000_000;
+
+/// Lets every post through.
+#[derive(Drop)]
+pub struct Open;
+
+impl Gate for Open {
+    ghost never_stops = { true };
+
+    fn before(&mut self, _n: usize) -> Go {
+        Go::Post
+    }
+
+    fn after(&mut self, _item: &Item) {}
+}
+
+/// Stops before a post.
+#[derive(Drop)]
+pub struct Closing {
+    pub at: usize,
+}
+
+impl Gate for Closing {
+    ghost never_stops = { false };
+
+    fn before(&mut self, n: usize) -> Go {
+        if n == self.at { Go::Stop } else { Go::Post }
+    }
+
+    fn after(&mut self, _item: &Item) {}
+}
+
+/// Before the second post it waits until so many gates have come there, and stops if they do not.
+#[derive(Drop)]
+pub struct Meeting {
+    pub arrived: Arc<AtomicU64>,
+    pub all: u64,
+}
+
+impl Gate for Meeting {
+    ghost never_stops = { false };
+
+    fn before(&mut self, n: usize) -> Go {
+        if n != 1 {
+            return Go::Post;
+        }
+        self.arrived.fetch_add(1, Ordering::SeqCst);
+        for _ in 0..LOOKS {
+            if self.arrived.load(Ordering::SeqCst) >= self.all {
+                return Go::Post;
+            }
+        }
+        Go::Stop
+    }
+
+    fn after(&mut self, _item: &Item) {}
+}
+
+/// What a gate was asked and told.
+#[derive(Drop)]
+pub struct Heard {
+    pub first: AtomicU64,
+    pub second: AtomicU64,
+    pub items: AtomicU64,
+}
+
+impl Heard {
+    pub fn new() -> Heard {
+        Heard {
+            first: AtomicU64::new(0),
+            second: AtomicU64::new(0),
+            items: AtomicU64::new(0),
+        }
+    }
+}
+
+/// Lets each post through where it is asked for it the third time.
+#[derive(Drop)]
+pub struct Slow {
+    pub heard: Arc<Heard>,
+    pub asked: u32,
+}
+
+impl Gate for Slow {
+    ghost never_stops = { true };
+
+    fn before(&mut self, n: usize) -> Go {
+        let counter = if n == 0 {
+            &self.heard.first
+        } else {
+            &self.heard.second
+        };
+        counter.fetch_add(1, Ordering::SeqCst);
+        self.asked = self.asked.wrapping_add(1);
+        if self.asked < 3 {
+            return Go::Later;
+        }
+        self.asked = 0;
+        Go::Post
+    }
+
+    fn after(&mut self, _item: &Item) {
+        self.heard.items.fetch_add(1, Ordering::SeqCst);
+    }
+}
