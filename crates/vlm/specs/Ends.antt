@@ -136,3 +136,8 @@ EndsByWords words script left old new status =
 abbrev pub RunsOrWantsMemory : Option (List ℕ) → Option (List ℕ) → Output → Output → ℕ → Type 0
 RunsOrWantsMemory script left old new status =
     StartsRun script left old new status ⊎ ((left ≡ script) × WantsMemory old new status)
+
+-- a cluster of so many nodes was started, or memory ran out before
+abbrev pub ClustersOrWantsMemory : ℕ → Option (List ℕ) → Option (List ℕ) → Output → Output → ℕ → Type 0
+ClustersOrWantsMemory nodes script left old new status =
+    StartsCluster nodes script left old new status ⊎ ((left ≡ script) × WantsMemory old new status)

@@ -63,3 +63,9 @@ pub record AskForCluster (words : List Text) (nodes : ℕ) : Type 0 where
 abbrev pub AskFor : List Text → Task → Type 0
 AskFor words Play = ¬ (named_command words ≡ Some (codes "cluster"))
 AskFor words (Cluster nodes) = AskForCluster words nodes
+
+-- the words `NAME cluster --nodes N`, or `NAME cluster` where it is two nodes
+abbrev pub AreClusterWords : Text → ℕ → List Text → Type 0
+AreClusterWords name nodes words =
+    (words ≡ name ∷ codes "cluster" ∷ codes "--nodes" ∷ decimal nodes ∷ [])
+    ⊎ ((nodes ≡ 2) × (words ≡ name ∷ codes "cluster" ∷ []))

@@ -1,8 +1,9 @@
 //! The program by its words.
 
-ghost use Rattle.std.specs.Prelude.{◌≡◌, ◌⊎◌, ℕ, List, [], ◌∷◌, Err, codes, map};
+ghost use Rattle.std.specs.Prelude.{◌≡◌, ◌⊎◌, ◌≤◌, ℕ, List, [], ◌∷◌, Err, codes, map};
 ghost use Rattle.clap.specs.Words.{kind_of};
-ghost use Rattle.vlm.specs.Ends.{EndsByError, EndsByWords, FailsHelp, GivesHelp, PrintsFault, PrintsNoRandomBytes, RunsOrWantsMemory, RunsScript, StartsRun, output_of, status_of};
+ghost use Rattle.vlm.specs.Words.{AreClusterWords};
+ghost use Rattle.vlm.specs.Ends.{ClustersOrWantsMemory, EndsByError, EndsByWords, FailsHelp, GivesHelp, PrintsFault, PrintsNoRandomBytes, RunsOrWantsMemory, RunsScript, StartsRun, output_of, status_of};
 
 use crate::cluster::start_cluster;
 use crate::words::{Task, chosen};
@@ -45,6 +46,13 @@ pub fn run_words<S: AsStr, R: Read, W: Write, F: Write>(
     // The words `NAME play` run the script.
     ensures play { (name : List ℕ) → map S.text words.now ≡ name ∷ codes "play" ∷ []
         → RunsOrWantsMemory (R.remaining reader.old) (R.remaining reader.new)
+        (output_of (W.contents writer.old) (F.contents faults.old))
+        (output_of (W.contents writer.new) (F.contents faults.new)) result }
+
+    // The words `NAME cluster --nodes N` serve it by so many nodes, and `NAME cluster` by two.
+    ensures cluster { (name : List ℕ) (nodes : ℕ) → 1 ≤ nodes → nodes ≤ 8
+        → AreClusterWords name nodes (map S.text words.now)
+        → ClustersOrWantsMemory nodes (R.remaining reader.old) (R.remaining reader.new)
         (output_of (W.contents writer.old) (F.contents faults.old))
         (output_of (W.contents writer.new) (F.contents faults.new)) result }
 {
