@@ -32,8 +32,8 @@ use vlm_words::steps::Step;
 /// are joined.
 ///
 /// [`Fault::Memory`] comes where memory or a thread is refused. With no report, no worker was
-/// started. Else all workers are over, something is left undone, and the report says what was
-/// done. What a run takes grows with its lists and with the entries that it makes.
+/// started. Else all workers are over, and the report says what was done: all of it, where only
+/// room that came too late was refused. What a run takes grows with its lists and its entries.
 pub fn serve_lists<R: Threads + Wait + Clock + Copy + Send + 'static, G: Gate + Send + 'static>(
     rt: &R,
     alloc: Global,
