@@ -18,6 +18,7 @@ returns-clause-hub c =
       state = c.new.ensures.state;
       base = c.new.ensures.base;
       nodes = long;
+      unwatched = tt;
       asked = λ node some within. (nothing node some within).0;
       told = λ node some within. (nothing node some within).1;
     }
