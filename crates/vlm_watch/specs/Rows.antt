@@ -2,7 +2,8 @@
 use Rattle.std.specs.Prelude.{◌≡◌, ◌+◌, ◌-◌, ◌^◌, ℕ, true, List, length, map, min, replicate, take, Option, None, Some}
 use Rattle.std.specs.Option.{option_map}
 use Rattle.vlm_queue.specs.declared.views.Usage.{Usage}
-use Rattle.vlm_queue.specs.Views.{root_of, usage}
+use Rattle.vlm_queue.specs.Views.{usage}
+use Rattle.vlm_core.specs.Readers.{root_of}
 use Rattle.vlm_journal.specs.Books.{Account, made}
 use Rattle.vlm_watch.specs.declared.rows.Change.{Change}
 use Rattle.vlm_watch.specs.declared.rows.RootKey.{RootKey}
