@@ -6,6 +6,7 @@ ghost use Rattle.vlm_words.specs.Pending.{first_pending};
 ghost use Rattle.vlm_words.specs.Reasons.{HasDeparted};
 ghost use Rattle.vlm_words.specs.State.{start};
 ghost use Rattle.vlm_words.specs.Stepped.{Outcome};
+ghost use Rattle.std.specs.Option.{option_map};
 ghost use Rattle.vlm_queue.specs.Views.{usage};
 ghost use Rattle.vlm_core.specs.Readers.{root_of};
 ghost use Rattle.vlm_journal.specs.Books.{GoesOn, made};

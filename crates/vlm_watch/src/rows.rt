@@ -59,20 +59,17 @@ impl Row {
     fn of(usage: Option<Usage>, journal: u64) -> Row
         ensures { result ≡ row_with usage journal }
     {
-        match usage {
-            None => Row {
-                journal,
-                ..Row::absent()
-            },
-            Some(usage) => Row {
-                held: usage.held,
-                conversions: usage.conversions,
-                waiters: usage.waiters,
-                value: usage.value,
-                valid: usage.valid,
-                journal,
-            },
+        let mut row = Row::absent();
+        row.journal = journal;
+        if let Some(usage) = usage {
+            let (held, value) = (usage.held, usage.value);
+            row.held = held;
+            row.conversions = usage.conversions;
+            row.waiters = usage.waiters;
+            row.value = value;
+            row.valid = usage.valid;
         }
+        row
     }
 
     // Whether the two are equal. An answer of a derive says less of arrays.

@@ -17,5 +17,5 @@ loop-at-preserved c =
     let is : row ≡ shows (get_or keys c.loop-at.at key) = c.root_row.ensures ∙ ap shows (sym here) in (
       length-set c.loop-at.rows c.loop-at.at row ∙ was.0,
       take_more_set c.loop-at.rows c.loop-at.at row at_row
-      ∙ ((λ k. was.1 k ++ is k ∷ []) ∙ sym (map_more shows keys c.loop-at.at key at_key)),
+          ∙ ((λ k. was.1 k ++ is k ∷ []) ∙ sym (map_more shows keys c.loop-at.at key at_key)),
     )
