@@ -97,7 +97,11 @@ impl Pair {
 
     /// Ends it. It waits for nobody.
     pub fn close(self) {
-        let Pair { hub, .. } = self;
+        let Pair {
+            hub,
+            first: _,
+            second: _,
+        } = self;
         hub.close();
     }
 

@@ -121,7 +121,12 @@ impl WatchedHub {
     pub fn close<R: Wait>(self, rt: &R) -> Vec<Onlooker>
         ensures { All (λ o. 0 < o.watcher.keys) result.items }
     {
-        let WatchedHub { hub, onlookers, .. } = self;
+        let WatchedHub {
+            hub,
+            port: _,
+            keys: _,
+            onlookers,
+        } = self;
         hub.finish(rt);
         onlookers
     }
