@@ -1,7 +1,8 @@
 //! A hub that is watched, with a node's port and its watchers in one hand.
 
-ghost use Rattle.std.specs.Prelude.{◌≡◌, ◌<◌, ◌≤◌, All, length, vec_len};
-ghost use Rattle.vlm_ports.specs.Hubs.{IsPortOf, rings};
+ghost use Rattle.std.specs.Prelude.{◌≡◌, ◌<◌, ◌≤◌, All, length, map, vec_capacity, vec_len};
+ghost use Rattle.vlm_ports.specs.Hubs.{IsPortOf};
+ghost use Rattle.vlm_hub_uses.specs.Audiences.{LookedOn};
 ghost use Rattle.vlm_ports.specs.Watched.{IsWatched, IsWatchedAsBefore, Watches, watched_keys};
 
 use crate::onlookers::Onlooker;
@@ -50,9 +51,7 @@ impl WatchedHub {
         let count = keys.len();
         match hub.watch(rt, alloc, keys, watchers) {
             Ok(all) => {
-                for watcher in all {
-                    onlookers.push_reserved(Onlooker::new(watcher));
-                }
+                seat(all, &mut onlookers);
                 Ok(WatchedHub {
                     hub,
                     port,
@@ -69,7 +68,13 @@ impl WatchedHub {
 
     /// Posts a step, has the hub make a turn, and takes what has come.
     pub fn make(&mut self, step: Step) -> Option<Item> {
-        make(&mut self.hub, &mut self.port, step)
+        make(&mut self.hub, &mut self.port, &step)
+    }
+
+    /// Has the hub make one more turn, and takes what has come.
+    pub fn go_on(&mut self) -> Option<Item> {
+        self.hub.turn();
+        self.port.take()
     }
 
     /// Publishes, and tells each watcher so.
@@ -92,29 +97,14 @@ impl WatchedHub {
 
     /// Has each watcher look so many times in a thread of its own, while the hub makes the step as often in this one and
     /// publishes behind each.
-    pub fn look_in_threads<R: Threads + Wait + Sync>(
-        self,
-        rt: &R,
-        step: Step,
-        times: usize,
-    ) -> WatchedHub {
+    pub fn look_in_threads<R: Threads + Wait + Sync>(&mut self, rt: &R, step: &Step, times: usize) {
         let WatchedHub {
-            mut hub,
-            mut port,
-            keys,
-            mut onlookers,
-        } = self;
-        join_mut(
-            rt,
-            &mut || for_each_mut(rt, onlookers.as_mut_slice(), 8, &|_, o| o.look_often(times)),
-            &mut || serve(rt, &mut hub, &mut port, step, times),
-        );
-        WatchedHub {
             hub,
             port,
-            keys,
+            keys: _,
             onlookers,
-        }
+        } = self;
+        look_beside(rt, hub, port, onlookers, step, times);
     }
 
     /// Ends it, and hands out what the watchers have seen.
@@ -132,13 +122,24 @@ impl WatchedHub {
     }
 }
 
+// Has watchers look on, in their order.
+fn seat(all: Vec<Watcher>, onlookers: &mut Vec<Onlooker>)
+    requires none { vec_len onlookers.old ≡ 0 }
+    requires room { vec_len all ≤ vec_capacity onlookers.old }
+    ensures { map (λ o. o.watcher) onlookers.new.items ≡ all.items }
+{
+    for watcher in all {
+        onlookers.push_reserved(Onlooker::new(watcher));
+    }
+}
+
 // Posts a step, has the hub make a turn, and takes what has come.
-fn make(hub: &mut Hub, port: &mut Port, step: Step) -> Option<Item>
+fn make(hub: &mut Hub, port: &mut Port, step: &Step) -> Option<Item>
     requires { IsPortOf hub.old port.old }
     ensures ours { IsPortOf hub.new port.new }
     ensures watched { IsWatched hub.old → IsWatchedAsBefore hub.old hub.new }
 {
-    if port.may_post(&step) && port.post(step).is_err() {
+    if port.may_post(step) && port.post(*step).is_err() {
         return None;
     }
     hub.turn();
@@ -146,14 +147,52 @@ fn make(hub: &mut Hub, port: &mut Port, step: Step) -> Option<Item>
 }
 
 // Makes the step so many times, and publishes behind each.
-fn serve<R: Wait>(rt: &R, hub: &mut Hub, port: &mut Port, step: Step, times: usize)
+fn serve<R: Wait>(rt: &R, hub: &mut Hub, port: &mut Port, step: &Step, times: usize)
     requires ours { IsPortOf hub.old port.old }
     requires watched { IsWatched hub.old }
     ensures ours { IsPortOf hub.new port.new }
     ensures watched { IsWatchedAsBefore hub.old hub.new }
 {
     for _ in 0..times {
-        make(hub, port, step);
-        let _refused = hub.publish(rt).is_err();
+        let _item = make(hub, port, step);
+        let _told = hub.publish(rt).is_ok();
     }
+}
+
+// Has each watcher look so many times, in a thread of its own.
+fn look_all<R: Threads + Sync>(rt: &R, onlookers: &mut Vec<Onlooker>, times: usize)
+    requires { All (λ o. 0 < o.watcher.keys) onlookers.old.items }
+    ensures { LookedOn onlookers.old.items onlookers.new.items }
+{
+    for_each_mut(rt, onlookers.as_mut_slice(), 8, &|_, o| o.look_often(times));
+}
+
+// Has each watcher look, while the hub serves and publishes.
+fn look_beside<R: Threads + Wait + Sync>(
+    rt: &R,
+    hub: &mut Hub,
+    port: &mut Port,
+    onlookers: &mut Vec<Onlooker>,
+    step: &Step,
+    times: usize,
+)
+    requires ours { IsPortOf hub.old port.old }
+    requires watched { IsWatched hub.old }
+    requires keys { All (λ o. 0 < o.watcher.keys) onlookers.old.items }
+    ensures ours { IsPortOf hub.new port.new }
+    ensures watched { IsWatchedAsBefore hub.old hub.new }
+    ensures looked { LookedOn onlookers.old.items onlookers.new.items }
+{
+    join_mut(
+        rt,
+        &mut ||
+            requires { All (λ o. 0 < o.watcher.keys) onlookers.now.items }
+            ensures { LookedOn onlookers.entry.now.items onlookers.exit.now.items }
+        { look_all(rt, onlookers, times) },
+        &mut ||
+            requires { IsPortOf hub.now port.now × IsWatched hub.now }
+            ensures ours { IsPortOf hub.exit.now port.exit.now }
+            ensures watched { IsWatchedAsBefore hub.entry.now hub.exit.now }
+        { serve(rt, hub, port, step, times) },
+    );
 }

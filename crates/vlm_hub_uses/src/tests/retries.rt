@@ -1,10 +1,12 @@
 //! Two nodes in one hand. What is refused for want of memory has changed nothing, and is tried once more.
 
 use crate::Node::{First, Second};
-use crate::tests::steps::{P, Q, declaration, exclusive, is_answer, is_ast};
-use crate::{Node, Pair};
+use crate::tests::steps::{P, Q, declaration, exclusive, give_up, is_answer, is_ast, quiet};
+use crate::tests::watchers::{roots, shows};
+use crate::{Node, Pair, WatchedHub};
 use std::alloc::{AllocError, Global};
 use std::process::Abort;
+use std::sync::Wait;
 use std::test::Fail;
 use vlm_journal::entries::Item;
 use vlm_ports::Turn;
@@ -84,5 +86,64 @@ fn a_hub_goes_on_without_memory(rt: HostRuntime) -> Result<(), Fail> {
     assert!(&rt; is_ast(pair.take(Second), Q, AstKind::Completion));
     assert!(&rt; pair.turn() == Turn::Idle);
     pair.close();
+    Ok(())
+}
+
+// A hub that is watched, opened once more where that was refused.
+fn watched<R: Abort + AllocGlobal + Wait>(rt: &R) -> Result<WatchedHub, Fail> {
+    match try_watched(rt) {
+        Some(hub) => Ok(hub),
+        None => match try_watched(rt) {
+            Some(hub) => Ok(hub),
+            None => Err(Fail::from("no watchers")),
+        },
+    }
+}
+
+fn try_watched<R: AllocGlobal + Wait>(rt: &R) -> Option<WatchedHub> {
+    let keys = roots(rt.alloc(), 1).ok()?;
+    if keys.is_empty() || 16 < keys.len() {
+        return None;
+    }
+    WatchedHub::open(rt, rt.alloc(), keys, 8).ok()
+}
+
+// Has a step made, and made once more where its answer was INSFMEM, in a turn more where the journal could not grow.
+fn make_watched(rt: &impl Abort, hub: &mut WatchedHub, step: &Step, want: Answer) {
+    for _ in 0..2 {
+        let item = match hub.make(*step) {
+            None => hub.go_on(),
+            item => item,
+        };
+        if is_answer(item, want) {
+            return;
+        }
+        assert!(rt; is_answer(item, Answer::Plain(Cond::Insfmem)));
+    }
+    assert!(rt; false);
+}
+
+// Publishes, and once more where that was refused; then each watcher still sees what it saw.
+fn publish<R: Abort + Wait>(rt: &R, hub: &mut WatchedHub, before: u32, after: u32) {
+    if hub.publish(rt).is_err() {
+        assert!(rt; shows(hub.see(0, 0), before) && shows(hub.see(7, 0), before));
+        assert!(rt; hub.publish(rt).is_ok());
+    }
+    for watcher in 0..8 {
+        assert!(rt; shows(hub.see(watcher, 0), after));
+    }
+}
+
+// A lock comes and goes before the eyes of eight watchers.
+#[test]
+fn a_watched_hub_goes_on_without_memory(rt: HostRuntime) -> Result<(), Fail> {
+    let mut hub = watched(&rt)?;
+    make_watched(&rt, &mut hub, &declaration(1), Answer::Process(P));
+    publish(&rt, &mut hub, 0, 0);
+    make_watched(&rt, &mut hub, &quiet(P), Answer::Lock(Cond::Normal, 1));
+    publish(&rt, &mut hub, 0, 1);
+    make_watched(&rt, &mut hub, &give_up(P, 1), Answer::Plain(Cond::Normal));
+    publish(&rt, &mut hub, 1, 0);
+    hub.close(&rt);
     Ok(())
 }

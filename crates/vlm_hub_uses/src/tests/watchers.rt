@@ -4,12 +4,14 @@ use crate::WatchedHub;
 use crate::tests::steps::{P, declaration, give_up, is_answer, quiet};
 use std::alloc::{AllocError, Global};
 use std::process::Abort;
+use std::sync::Wait;
 use std::test::Fail;
+use std::thread::Threads;
 use vlm_ports::{RootKey, Row};
 use vlm_words::conditions::Cond;
 use vlm_words::names::Name;
 use vlm_words::resources::Domain;
-use vlm_words::steps::Answer;
+use vlm_words::steps::{Answer, Step};
 
 // The roots of one letter in group 1, from A on.
 pub fn roots(alloc: Global, count: u8) -> Result<Vec<RootKey>, AllocError> {
@@ -93,6 +95,36 @@ fn sixteen_resources_are_told_apart(rt: HostRuntime) -> Result<(), Fail> {
     hub.close(&rt);
     assert!(&rt; held == 1);
     Ok(())
+}
+
+// Watchers look in threads of their own while the hub makes steps and publishes: none sees fewer entries than before, and
+// once it is told each sees the last publish.
+fn look_on<R: Abort + AllocGlobal + Threads + Wait + Sync>(
+    rt: &R,
+    watchers: usize,
+) -> Result<(), Fail> {
+    let mut hub = watched(rt, 1, watchers)?;
+    hub.look_in_threads(rt, &Step::Search(1), 100);
+    assert!(rt; hub.publish(rt).is_ok());
+    for at in 0..watchers {
+        assert!(rt; entries(hub.see(at, 0)) == Some(100));
+    }
+    let onlookers = hub.close(rt);
+    assert!(rt; onlookers.len() == watchers);
+    for onlooker in &onlookers {
+        assert!(rt; !onlooker.fell && onlooker.last.is_some());
+    }
+    Ok(())
+}
+
+#[test]
+fn two_watchers_look_on(rt: HostRuntime) -> Result<(), Fail> {
+    look_on(&rt, 2)
+}
+
+#[test]
+fn eight_watchers_look_on(rt: HostRuntime) -> Result<(), Fail> {
+    look_on(&rt, 8)
 }
 
 // A watcher that outlives its hub sees nothing more.

@@ -12,4 +12,4 @@ invariant_of-result c =
     let all : c.in_ok-hub.ports.items ≡ a ∷ b ∷ rest =
     sym c.into_iter-ports.ensures.rest ∙ c.in-Some-Some.ensures.items ∙ ap (λ ps. a ∷ ps) c.in-Some-Some.ensures'.items in
     let ours : All (IsPortOf hub) (a ∷ b ∷ rest) = subst (All (IsPortOf hub)) all c.in_ok-hub.ensures.ours in
-    record { ours = (ours 0 a (omega arith), ours 1 a (omega arith)) }
+    record { ours = (ours 0 a (omega arith), ours 1 a (omega arith)); unwatched = c.in_ok-hub.ensures.hub.unwatched }
