@@ -6,3 +6,4 @@ mod Memory
 mod Numbered
 mod Play
 mod Printed
+mod WatchWords

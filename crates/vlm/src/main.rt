@@ -2,8 +2,10 @@
 #![tactic(auto)]
 
 mod cluster;
+mod ends;
 mod run;
 mod told;
+mod watch;
 mod words;
 
 use std::process::ExitCode;
