@@ -1,4 +1,5 @@
 mod Bound
+mod Collected
 mod FirstLine
 mod Lists
 pub mod Hexadecimal

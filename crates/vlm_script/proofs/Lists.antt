@@ -13,6 +13,7 @@ use Rattle.vlm_words.specs.Steps.{node_of_pid}
 use Rattle.vlm_script.specs.Scripts.{Binding, bound_to}
 use Rattle.vlm_script.specs.Shares.{AreListed, IsListed, Shares, can_declare, declared_by, has_node, next_process, share_declaration, with_step}
 use Rattle.vlm_script.specs.Sharing.{AreOfNodes, IsOneOfNodes, IsSharing}
+use Rattle.vlm_script.specs.Steps.{IsPostable}
 
 -- a list that has grown by a step, among lists of any kind that have these steps
 module _ {V : Type 0} (steps_of : V → List Step) (vecs : List V) (node : ℕ) (old new : V) (is : old ≡ get_or vecs (node - 1) old) where
@@ -40,6 +41,13 @@ pub is_declarable : (nodes : ℕ) (s : Shares) (node : ℕ) → can_declare node
 is_declarable nodes s node is =
     let parts = and_parts (has_node nodes node) (nat_lt (declared_by s node) 65535) is in
     (is_node nodes node parts.0, ltb-true (declared_by s node) 65535 parts.1)
+
+-- a step of the list of a node that there is may be posted
+pub is_postable : (nodes node : ℕ) (step : Step) → IsListed node step → IsOneOfNodes nodes node → IsPostable nodes step
+is_postable nodes node step listed there = record {
+  listed = record { of_node = refl; untaken = listed.untaken };
+  of_nodes = subst (IsOneOfNodes nodes) (sym listed.of_node) there;
+}
 
 -- where there is no answer, it is none
 pub is_none : {T : Type 0} (o : Option T) → is_some o ≡ false → o ≡ None

@@ -6,3 +6,4 @@ pub mod Plays
 pub mod Faults
 pub mod Shares
 pub mod Sharing
+pub mod Steps

@@ -112,7 +112,7 @@ line_shared nodes s (Err fault) = Err fault
 line_shared nodes s (Ok line) = unless_fault (share_fault nodes s line) (share_line s line)
 
 -- the lines behind a line of this number, or the line's fault
-abbrev pub then_shares : Result Shares LineFault → ℕ → (Shares → Result Shares (ℕ × LineFault)) → Result Shares (ℕ × LineFault)
+abbrev pub then_shares : {T : Type 0} → Result Shares LineFault → ℕ → (Shares → Result T (ℕ × LineFault)) → Result T (ℕ × LineFault)
 then_shares (Ok s) number rest = rest s
 then_shares (Err fault) number rest = Err (number, fault)
 
@@ -143,8 +143,8 @@ pub record IsListed (node : ℕ) (step : Step) : Type 0 where
 abbrev pub AreListed : List (List Step) → Type 0
 AreListed lists = (k : ℕ) → k < length lists → All (IsListed (k + 1)) (slice_index_or lists k [])
 
--- why no lists came of a script: its first line with a fault, want of memory, a failed read, or too many bytes
-abbrev pub StopsShares : List ℕ → Result Shares (ℕ × LineFault) → PlayFault → Type 0
+-- why nothing came of a script: its first line with a fault, want of memory, a failed read, or too many bytes
+abbrev pub StopsShares : {T : Type 0} → List ℕ → Result T (ℕ × LineFault) → PlayFault → Type 0
 StopsShares input shared (line_fault number fault) = shared ≡ Err (number, fault)
 StopsShares input shared Memory = Unit {0}
 StopsShares input shared Read = Unit {0}

@@ -60,7 +60,7 @@ StopsShareBytes s bytes (Fault fault) = line_shared (length s.lists) s (line_rea
 StopsShareBytes s bytes Memory = Unit {0}
 
 -- lines stop the sharing by their first fault, or for want of memory
-abbrev pub StopsShareLines : Result Shares (ℕ × LineFault) → PlayFault → Type 0
+abbrev pub StopsShareLines : {T : Type 0} → Result T (ℕ × LineFault) → PlayFault → Type 0
 StopsShareLines shared (line_fault number fault) = shared ≡ Err (number, fault)
 StopsShareLines shared memory_fault = Unit {0}
 StopsShareLines shared Read = ⊥

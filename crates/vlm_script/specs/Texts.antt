@@ -20,6 +20,7 @@ use Rattle.vlm_words.specs.declared.resources.Queue.TheVariants.{Granted, Conver
 use Rattle.vlm_queue.specs.declared.views.ResourceView.{ResourceView}
 use Rattle.vlm_queue.specs.declared.views.RowView.{RowView}
 use Rattle.vlm_queue.specs.Views.{resource_view, row_view}
+use Rattle.vlm_script.specs.declared.printing.rows.WatchedRow.{WatchedRow}
 
 -- the end of a line
 abbrev pub line_feed : List ℕ
@@ -157,3 +158,14 @@ resource_text r =
 unfoldable pub resources_text : List Resource → List ℕ
 resources_text [] = codes "no resources" ++ line_feed
 resources_text (r ∷ rest) = resource_text r ++ flat_map resource_text rest
+
+-- counts, each behind a space
+abbrev pub counts_text : List ℕ → List ℕ
+counts_text [] = []
+counts_text (count ∷ counts) = codes " " ++ decimal count ++ counts_text counts
+
+-- the line that tells of a resource that is watched how it stands behind a line of the script
+unfoldable pub watch_line : ℕ → WatchedRow → List ℕ
+watch_line line row =
+    codes "line " ++ decimal line ++ codes " held" ++ counts_text row.held ++ codes " conversions " ++ decimal row.conversions
+    ++ codes " waiters " ++ decimal row.waiters ++ codes " value " ++ hex_text row.value ++ codes " " ++ validity row.valid ++ line_feed

@@ -14,13 +14,15 @@ mod session;
 mod shares;
 mod sharing;
 mod show;
+mod steps;
 mod stops;
 mod streams;
 
 pub use faults::PlayFault;
-pub use printing::{answer_item_line, ast_item_line, journal_line};
+pub use printing::{WatchedRow, answer_item_line, ast_item_line, journal_line, watch_line};
 pub use runs::play;
 pub use shares::read_lists;
+pub use steps::{ScriptStep, read_steps};
 pub use streams::write_whole;
 pub use vlm_core::HashKeys;
 pub use vlm_lines::{read_line, read_res};

@@ -1,6 +1,6 @@
 //! What is shared out of a script for several nodes: its names, and the steps of each node.
 
-ghost use Rattle.std.specs.Prelude.{◌≡◌, ◌<◌, ◌+◌, ◌-◌, ◌*◌, ℕ, [], length, map, replicate, slice_index, slice_set, vec_len, IfOk, MatchResult, OnErr, OnOk, Ok};
+ghost use Rattle.std.specs.Prelude.{◌≡◌, ◌<◌, ◌+◌, ◌-◌, ◌*◌, ℕ, [], length, map, replicate, slice_index, slice_set, vec_len, IfOk, IfSome, MatchResult, OnErr, OnOk, Ok, Some};
 ghost use Rattle.vlm_lines.specs.Lines.{line_read};
 ghost use Rattle.vlm_script.specs.Shares.{AreListed, no_shares, with_step};
 ghost use Rattle.vlm_script.specs.Sharing.{IsOneOfNodes};
@@ -48,10 +48,11 @@ impl Model for Sharing {
 
 impl Sharing {
     ghost use Rattle.vlm_words.specs.Steps.{node_of_pid};
-    ghost use Rattle.vlm_script.specs.Scripts.{of_process};
+    ghost use Rattle.vlm_script.specs.Scripts.{bound_to, of_process};
     ghost use Rattle.vlm_script.specs.Sessions.{StopsName};
     ghost use Rattle.vlm_script.specs.Shares.{IsListed, can_declare, has_node, line_shared};
     ghost use Rattle.vlm_script.specs.Sharing.{IsSharedByName, IsPut, IsShared, StopsNode, StopsShare, StopsShareBytes};
+    ghost use Rattle.vlm_script.specs.Steps.{IsPostable, line_step, named_step, read_step};
 
     /// Nothing is shared, and each node has its list.
     pub(crate) fn new(alloc: Global, keys: HashKeys, nodes: u8) -> Result<Self, AllocError>
@@ -72,26 +73,32 @@ impl Sharing {
         self.lists
     }
 
-    /// Shares out a line of the script.
-    pub(crate) fn share(&mut self, bytes: &[u8]) -> Result<(), Stop>
+    /// Shares out a line of the script, and answers its step. An empty line has none.
+    pub(crate) fn share(&mut self, bytes: &[u8]) -> Result<Option<Step>, Stop>
         ensures shared { MatchResult result
             (λ _. line_shared (length self.old.lists) self.old (line_read bytes.now) ≡ Ok self.new)
             (λ stop. StopsShareBytes self.old bytes.now stop) }
+        ensures step { IfOk result (λ asked. asked ≡ read_step self.old (line_read bytes.now)) }
+        ensures postable { IfOk result (λ asked.
+            IfSome asked (IsPostable (length self.old.lists))) }
         ensures count { length self.new.lists ≡ length self.old.lists }
     {
         let line = read_line(bytes)?;
         self.share_line(line)
     }
 
-    // Shares out a line that was read.
-    fn share_line(&mut self, line: Line) -> Result<(), Stop>
+    // Shares out a line that was read, and answers its step.
+    fn share_line(&mut self, line: Line) -> Result<Option<Step>, Stop>
         ensures shared { MatchResult result
             (λ _. IsShared self.old line self.new)
             (λ stop. StopsShare self.old line stop) }
+        ensures step { IfOk result (λ asked. asked ≡ line_step self.old line) }
+        ensures postable { IfOk result (λ asked.
+            IfSome asked (IsPostable (length self.old.lists))) }
         ensures count { length self.new.lists ≡ length self.old.lists }
     {
         match line {
-            Line::Empty => Ok(()),
+            Line::Empty => Ok(None),
             Line::Declare(name, declaration) => self.declare(name, declaration),
             Line::Set(name, setting) => self.put_named(name, Step::SetValue(setting)),
             Line::Enq(name, request) => self.put_named(name, Step::Enq(request)),
@@ -106,11 +113,14 @@ impl Sharing {
         }
     }
 
-    // Shares out a declare line: its name is bound to the node's next process.
-    fn declare(&mut self, name: ProcessName, declaration: Declaration) -> Result<(), Stop>
+    // Shares out a declare line, its name bound to the node's next process, and answers its step.
+    fn declare(&mut self, name: ProcessName, declaration: Declaration) -> Result<Option<Step>, Stop>
         ensures shared { MatchResult result
             (λ _. IsShared self.old (Line.Declare name declaration) self.new)
             (λ stop. StopsShare self.old (Line.Declare name declaration) stop) }
+        ensures step { IfOk result (λ asked. asked ≡ Some (Step.Declare declaration)) }
+        ensures postable { IfOk result (λ asked.
+            IfSome asked (IsPostable (length self.old.lists))) }
         ensures count { length self.new.lists ≡ length self.old.lists }
     {
         let node = declaration.node;
@@ -124,40 +134,49 @@ impl Sharing {
         add_step(
             &mut self.lists,
             usize::from(node),
-            Step::Declare(declaration),
+            &Step::Declare(declaration),
         )?;
         let pid = next_process(&mut self.declared, node);
         bind_reserved(&mut self.names, name, pid);
-        Ok(())
+        Ok(Some(Step::Declare(declaration)))
     }
 
-    // Puts a step of the process that the name is bound to into the list of the process's node.
-    fn put_named(&mut self, name: ProcessName, step: Step) -> Result<(), Stop>
+    // Puts a step into the list of its process's node, and answers it: the process is the one that
+    // the name is bound to.
+    fn put_named(&mut self, name: ProcessName, step: Step) -> Result<Option<Step>, Stop>
         requires { (pid : ℕ) → IsListed (node_of_pid pid) (of_process pid step) }
         ensures shared { MatchResult result
             (λ _. IsSharedByName self.old name step self.new)
             (λ stop. StopsName self.old.names name stop) }
+        ensures step { IfOk result (λ asked.
+            asked ≡ named_step (bound_to self.old.names name) step) }
+        ensures postable { IfOk result (λ asked.
+            IfSome asked (IsPostable (length self.old.lists))) }
         ensures count { length self.new.lists ≡ length self.old.lists }
     {
         let pid = process_of(&self.names, &name)?;
         let node = (pid / PROCESSES) as usize;
-        add_step(&mut self.lists, node, of_process(pid, step))?;
-        Ok(())
+        let step = of_process(pid, step);
+        add_step(&mut self.lists, node, &step)?;
+        Ok(Some(step))
     }
 
-    // Puts a step into the list of its node.
-    fn put(&mut self, node: u8, step: Step) -> Result<(), Stop>
+    // Puts a step into the list of its node, and answers it.
+    fn put(&mut self, node: u8, step: Step) -> Result<Option<Step>, Stop>
         requires { IsListed node step }
         ensures shared { MatchResult result
             (λ _. IsPut self.old node step self.new)
             (λ stop. StopsNode (length self.old.lists) node stop) }
+        ensures step { IfOk result (λ asked. asked ≡ Some step) }
+        ensures postable { IfOk result (λ asked.
+            IfSome asked (IsPostable (length self.old.lists))) }
         ensures count { length self.new.lists ≡ length self.old.lists }
     {
         if !self.has_node(node) {
             return Err(Stop::Fault(LineFault::NumberOutOfRange));
         }
-        add_step(&mut self.lists, usize::from(node), step)?;
-        Ok(())
+        add_step(&mut self.lists, usize::from(node), &step)?;
+        Ok(Some(step))
     }
 
     // Whether the node may have one more declare line.
@@ -194,14 +213,14 @@ fn empty_lists(alloc: Global, nodes: u8) -> Result<Vec<Vec<Step>>, AllocError>
 }
 
 // Puts a step at the end of a node's list.
-fn add_step(lists: &mut Vec<Vec<Step>>, node: usize, step: Step) -> Result<(), AllocError>
+fn add_step(lists: &mut Vec<Vec<Step>>, node: usize, step: &Step) -> Result<(), AllocError>
     requires { IsOneOfNodes (vec_len lists.old) node }
     ensures ok { OnOk result (map (λ l. l.items) lists.new.items
-        ≡ with_step (map (λ l. l.items) lists.old.items) node step) }
+        ≡ with_step (map (λ l. l.items) lists.old.items) node step.now) }
     ensures err { OnErr result
         (map (λ l. l.items) lists.new.items ≡ map (λ l. l.items) lists.old.items) }
 {
-    lists[node - 1].push(step)?;
+    lists[node - 1].push(*step)?;
     Ok(())
 }
 

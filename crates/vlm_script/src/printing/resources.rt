@@ -74,7 +74,8 @@ fn all_visible(name: &[u8]) -> bool
     name.iter().all(|byte| 33 <= *byte && *byte <= 126)
 }
 
-fn validity(valid: bool) -> &'static str
+/// Whether a value block is valid.
+pub(super) fn validity(valid: bool) -> &'static str
     ensures { result.now ≡ validity valid }
 {
     if valid { "valid" } else { "invalid" }

@@ -6,7 +6,7 @@ use Rattle.vlm_script.proofs.sharing.add_step.Goals as goal
 -- the list has grown by the step
 pub returns-clause-ok : goal.returns-clause-ok
 returns-clause-ok c =
-    with_step-grown (λ l. l.items) c.args.lists.now.items c.args.node c.index_mut.result.now c.push.new.self c.index_mut.ensures.value c.args.step
+    with_step-grown (λ l. l.items) c.args.lists.now.items c.args.node c.index_mut.result.now c.push.new.self c.index_mut.ensures.value c.args.step.now
     (omega (arith, c.args.lists.now.ok.0)) c.in_ok-push.ensures.items
 
 -- or it is as it was

@@ -6,7 +6,7 @@ use Rattle.vlm_script.specs.Bindings.{bindings_of}
 use Rattle.vlm_script.specs.Scripts.{Binding, bound_to}
 use Rattle.vlm_script.specs.Shares.{Shares, can_declare, declared_by}
 use Rattle.vlm_script.specs.Sharing.{IsShared}
-use Rattle.vlm_script.proofs.Lists.{is_declarable, is_none, length-with_step, node_of_next, shares-declared, sharing-declared}
+use Rattle.vlm_script.proofs.Lists.{is_declarable, is_none, is_postable, length-with_step, node_of_next, shares-declared, sharing-declared}
 use Rattle.vlm_script.proofs.sharing.Sharing.declare.Goals as goal
 
 -- what was shared before
@@ -58,3 +58,9 @@ returns-clause-shared c =
 pub returns-clause-count : goal.returns-clause-count
 returns-clause-count c =
     ap length c.in_ok-add_step.ensures.ok ∙ length-with_step _ _ _ ∙ ap (λ s. length s.lists) c.self.view_is
+
+-- the step may be posted
+pub returns-clause-postable : goal.returns-clause-postable
+returns-clause-postable c =
+    let may = is_declarable _ c.args.self.now _ (sym c.can_declare.ensures ∙ c.if-not-can_declare.false) in
+    is_postable _ _ _ (record { of_node = refl; untaken = refl }) may.0

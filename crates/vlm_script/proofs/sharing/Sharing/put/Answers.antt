@@ -1,7 +1,7 @@
 use Rattle.std.proofs.Common.{◌≡◌, ◌∙◌, length, true, ap, sym, subst}
 use Rattle.vlm_script.specs.Shares.{has_node}
 use Rattle.vlm_script.specs.Sharing.{IsOneOfNodes}
-use Rattle.vlm_script.proofs.Lists.{is_node, length-with_step, sharing-with_step}
+use Rattle.vlm_script.proofs.Lists.{is_node, is_postable, length-with_step, sharing-with_step}
 use Rattle.vlm_script.proofs.sharing.Sharing.put.Goals as goal
 
 -- the step is in the list of its node
@@ -16,3 +16,8 @@ invariant_of-self-2 c =
 pub returns-clause-count : goal.returns-clause-count
 returns-clause-count c =
     ap length c.in_ok-add_step.ensures.ok ∙ length-with_step _ _ _ ∙ ap (λ s. length s.lists) c.self.view_is
+
+-- the step may be posted
+pub returns-clause-postable : goal.returns-clause-postable
+returns-clause-postable c =
+    is_postable _ _ _ c.requires (is_node _ _ (sym c.has_node.ensures ∙ c.if-not-has_node.false))
