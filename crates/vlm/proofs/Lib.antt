@@ -7,3 +7,4 @@ mod Numbered
 mod Play
 mod Printed
 mod WatchWords
+mod WatchedSteps

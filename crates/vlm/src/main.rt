@@ -6,6 +6,7 @@ mod ends;
 mod run;
 mod told;
 mod watch;
+mod watched;
 mod words;
 
 use std::process::ExitCode;
