@@ -13,7 +13,9 @@ use Rattle.vlm_journal.specs.declared.entries.Part.{Part}
 use Rattle.vlm_journal.specs.Journals.{Journal, JournalFrom, begin}
 use Rattle.vlm_journal.specs.Told.{asked, told}
 use Rattle.vlm_journal.proofs.Appending.{asked-append, told-append}
+use Rattle.vlm_journal.proofs.GoingOn.{counts_on}
 use Rattle.vlm_journal.proofs.Joining.{join}
+use Rattle.vlm_journal.proofs.Lists.{by_place}
 use Rattle.vlm_ports.specs.declared.hub.Hub.{Hub}
 use Rattle.vlm_ports.specs.declared.port.Port.{Port}
 use Rattle.vlm_ports.specs.Hubs.{Grew, IsNewHub, IsPortOf, asked_before, base, bases, journal, nodes, rings, state, told_before}
@@ -33,13 +35,6 @@ entries_in-append (p ∷ ps) qs =
 pub entries_with : (ps : List Part) (p : Part) → entries_in (ps ++ p ∷ []) ≡ entries_in ps ++ p.entries.items
 entries_with ps p = entries_in-append ps (p ∷ []) ∙ ap (λ (es : List Entry). entries_in ps ++ es) (append-nil p.entries.items)
 
--- an element of a longer list is one of the list, or the last
-by_place : {X : Type 0} (xs : List X) (y z : X) (i : ℕ) → slice_get (xs ++ y ∷ []) i ≡ Some z → (slice_get xs i ≡ Some z) ⊎ ((i ≡ length xs) × (y ≡ z))
-by_place [] y z zero h = inr (refl, cc)
-by_place [] y z (suc i) h = cc
-by_place (x ∷ xs) y z zero h = inl h
-by_place (x ∷ xs) y z (suc i) h = elim (by_place xs y z i h) [ inl e ↦ inl e | inr e ↦ inr (ap suc e.0, e.1) ]
-
 pub numbered_more : (ps : List Part) (p : Part) → AreNumbered ps → p.base ≡ base_behind (entries_in ps) → AreNumbered (ps ++ p ∷ [])
 numbered_more ps p before is k q at =
     elim (by_place ps p q k at) [
@@ -53,10 +48,6 @@ numbered_more ps p before is k q at =
           ∙ ap (λ (xs : List Part). base_behind (entries_in xs)) (sym front)
           ∙ ap (λ (m : ℕ). base_behind (entries_in (take m (ps ++ p ∷ [])))) (sym e.0)
     ]
-
--- as many as stand before, and these
-pub counts_on : (before entries most : ℕ) → min (min before most + entries) most ≡ min (before + entries) most
-counts_on before entries most = grind arith
 
 -- ---- the hub
 

@@ -18,12 +18,6 @@ element [] k lt = absurd (omega (arith, lt))
 element (x ∷ xs) zero lt = x
 element (x ∷ xs) (suc k) lt = element xs k (omega (arith, lt))
 
--- inside a list no default is read
-pub any_default : {X : Type 0} (xs : List X) (k : ℕ) (d e : X) → k < length xs → get_or xs k d ≡ get_or xs k e
-any_default [] k d e lt = absurd (omega (arith, lt))
-any_default (x ∷ xs) zero d e lt = refl
-any_default (x ∷ xs) (suc k) d e lt = any_default xs k d e (omega (arith, lt))
-
 -- what holds of each element, and of one that is put at the end, holds of each
 pub all_more : {X : Type 0} (P : ℕ → X → Type 0) (xs : List X) (x : X) → ((k : ℕ) (d : X) → k < length xs → P k (get_or xs k d)) → P (length xs) x
     → (k : ℕ) (d : X) → k < length xs + 1 → P k (get_or (xs ++ x ∷ []) k d)

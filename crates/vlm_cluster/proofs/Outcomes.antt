@@ -6,14 +6,11 @@ use Rattle.vlm_words.specs.declared.steps.Step.TheVariants.{Leave}
 use Rattle.vlm_journal.specs.declared.entries.Entry.{Entry}
 use Rattle.vlm_journal.specs.declared.entries.Item.{Item}
 use Rattle.vlm_journal.specs.Told.{asked, told}
+use Rattle.vlm_journal.proofs.Lists.{prefix_more, prefix_then}
 use Rattle.vlm_ports.specs.declared.port.Port.{Port}
 use Rattle.vlm_ports.specs.Ports.{AreNew}
 use Rattle.vlm_ports.specs.Rings.{RingName}
 use Rattle.vlm_cluster.specs.Works.{IsBegun, IsWhole, IsWorkOn, Work, farewell}
-
--- what begins one list begins a longer one
-prefix_more : {X : Type 0} (xs ys zs : List X) → IsPrefix xs ys → IsPrefix xs (ys ++ zs)
-prefix_more xs ys zs h = (h.0 ++ zs, sym (append_assoc xs h.0 zs) ∙ ap (λ (l : List _). l ++ zs) h.1)
 
 -- a departure that is posted or not begins one that is
 farewell_begins : (node : ℕ) (left : Bool) → IsPrefix (farewell node left) (Leave node ∷ [])
@@ -22,9 +19,6 @@ farewell_begins node false = (Leave node ∷ [], refl)
 
 prefix_behind : {X : Type 0} (xs ys zs : List X) → IsPrefix ys zs → IsPrefix (xs ++ ys) (xs ++ zs)
 prefix_behind xs ys zs h = (h.0, append_assoc xs ys h.0 ∙ ap (λ (l : List _). xs ++ l) h.1)
-
-prefix_then : {X : Type 0} (xs ys zs : List X) → IsPrefix xs ys → IsPrefix ys zs → IsPrefix xs zs
-prefix_then xs ys zs h i = (h.0 ++ i.0, sym (append_assoc xs h.0 i.0) ∙ ap (λ (l : List _). l ++ i.0) h.1 ∙ i.1)
 
 module _ (never : Bool) (ports : List Port) (new : AreNew ports) (k : ℕ) (p : Port) (lt : k < length ports) (list : List Step) (w : Work)
     (is : IsWorkOn never (get_or ports k p) list w) where

@@ -13,8 +13,7 @@ use std::time::Clock;
 use vlm_journal::entries::Part;
 use vlm_ports::{Hub, Turn};
 
-/// The hub, and the parts that were cut off its journal.
-#[derive(Drop)]
+/// The hub, and the parts that were cut off its journal. It can't be dropped: end it by `report` or `close`.
 pub(crate) struct Desk {
     pub(crate) hub: Hub,
     pub(crate) parts: Vec<Part>,

@@ -57,7 +57,7 @@ pub(crate) fn finish<G: Gate>(
     note_posted(dones.as_slice(), posted.as_mut_slice());
     take_items(dones, &mut items);
     Finished {
-        report: desk.report(items, posted),
+        report: desk.report(rt, items, posted),
         whole,
     }
 }
@@ -65,6 +65,7 @@ pub(crate) fn finish<G: Gate>(
 /// The report where a later worker could not be started: the hub has made no turn, and nobody was
 /// told anything.
 pub(crate) fn give_up<G: Gate>(
+    rt: &impl Wait,
     alloc: Global,
     desk: Desk,
     dones: &[Done<G>],
@@ -93,7 +94,7 @@ pub(crate) fn give_up<G: Gate>(
         items.push_reserved(Vec::new(alloc));
     }
     note_posted(dones, posted.as_mut_slice());
-    desk.report(items, posted)
+    desk.report(rt, items, posted)
 }
 
 // Notes how much each worker has posted.

@@ -7,6 +7,7 @@ ghost use Rattle.vlm_cluster.specs.Reports.{entries_of, parts_of};
 ghost use Rattle.vlm_cluster.specs.Works.{entries_at};
 
 use crate::desk::Desk;
+use std::sync::Wait;
 use vlm_core::Core;
 use vlm_journal::entries::{Item, Part};
 
@@ -36,7 +37,7 @@ pub enum Fault {
 
 impl Desk {
     /// Cuts the rest off, and makes the report. It takes no memory.
-    pub(crate) fn report(self, items: Vec<Vec<Item>>, posted: Vec<usize>) -> Report
+    pub(crate) fn report(self, rt: &impl Wait, items: Vec<Vec<Item>>, posted: Vec<usize>) -> Report
         requires { IsAccounted self.parts.items self.hub }
         ensures entries { entries_of result ≡ entries_at self }
         ensures legal { Journal (entries_of result) result.core }
@@ -50,7 +51,7 @@ impl Desk {
             every: _,
         } = self;
         let rest = hub.cut();
-        let (_, core) = hub.finish();
+        let (_, core) = hub.finish(rt);
         Report {
             parts,
             rest,
@@ -58,5 +59,15 @@ impl Desk {
             posted,
             core,
         }
+    }
+
+    /// Ends it with nothing to report.
+    pub(crate) fn close(self, rt: &impl Wait) {
+        let Desk {
+            hub,
+            parts: _,
+            every: _,
+        } = self;
+        hub.finish(rt);
     }
 }

@@ -126,12 +126,13 @@ fn run<R: Threads + Wait + Clock + Copy + Send + 'static, G: Gate + Send + 'stat
     start_all(rt, alloc, &signals, &mut children, gates, ports, lists);
     let started = children.len();
     if started == 0 {
+        desk.close(rt);
         return Err(Fault::Memory(None));
     }
     law_departed();
     if started < count {
         join_all(rt, children, &mut dones);
-        let report = give_up(alloc, desk, dones.as_slice(), items, posted);
+        let report = give_up(rt, alloc, desk, dones.as_slice(), items, posted);
         return Err(Fault::Memory(Some(report)));
     }
     desk.serve(rt, &signals, count as u64);

@@ -1,3 +1,4 @@
 pub mod FirstPending
 pub mod Making
 pub mod Reaching
+pub mod Rooted

@@ -2,7 +2,8 @@
 //!
 //! Inside, a machine of records makes the parts of a step (`vlm_machine`); outside, [`Core`] makes whole steps, so that
 //! every law of the plain machine holds of every core (`public`). The readers show the status blocks, whose ASTs are
-//! pending, and the resources and their queues (`readers`); [`run_steps`] makes many steps in order (`running`).
+//! pending, the resources and their queues, and how a root is used (`readers`); [`run_steps`] makes many steps in order
+//! (`running`).
 #![tactic(auto)]
 
 mod public;
@@ -11,5 +12,5 @@ mod running;
 
 pub use public::Core;
 pub use running::{Stopped, run_steps};
-pub use vlm_queue::{ResourceView, RowView};
+pub use vlm_queue::{ResourceView, RowView, Usage};
 pub use vlm_store::HashKeys;

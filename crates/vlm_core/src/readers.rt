@@ -1,20 +1,22 @@
-//! The readers: they show the status blocks, whose ASTs are pending, and the resources and their queues, take no memory
-//! and change nothing.
+//! The readers: they show the status blocks, whose ASTs are pending, the resources and their queues, and how a root is
+//! used, take no memory and change nothing.
 
 ghost use Rattle.std.specs.Prelude.{◌≡◌, length, slice_get};
 ghost use Rattle.std.specs.Option.{option_map};
 ghost use Rattle.vlm_words.specs.Pending.{first_pending};
 ghost use Rattle.vlm_words.specs.State.{process_of};
 ghost use Rattle.vlm_words.specs.StatusBlocks.{status_block_at};
-ghost use Rattle.vlm_queue.specs.Views.{resource_view, row_shown};
+ghost use Rattle.vlm_queue.specs.Views.{resource_view, row_shown, usage};
+ghost use Rattle.vlm_core.specs.Readers.{root_of};
 
 use crate::public::Core;
 use vlm_machine::living;
 use vlm_procs::{pending, status_block};
-use vlm_queue::{ResourceView, RowView, resource_at, row_at};
+use vlm_queue::{ResourceView, RowView, Usage, resource_at, row_at, usage_of};
 use vlm_words::blocks::Block;
 use vlm_words::laws::law_identifications_of_processes_rise;
-use vlm_words::resources::Queue;
+use vlm_words::names::Name;
+use vlm_words::resources::{Domain, Key, Queue};
 
 impl Core {
     /// The status block of this number, from 1, of a process. None where no living process has the
@@ -66,5 +68,14 @@ impl Core {
         ensures { result ≡ row_shown (slice_get self.now.resources resource) queue index }
     {
         row_at(&self.machine.store, resource, queue, index)
+    }
+
+    /// How the root resource of this name in this domain is used. None where no lock stands on it. It reads counts
+    /// alone: its cost does not grow with what is held.
+    pub fn usage(&self, domain: Domain, name: Name) -> Option<Usage>
+        ensures { result ≡ option_map usage (root_of self.now.resources domain name) }
+    {
+        let res = self.machine.store.resource(&Key::Root(domain, name))?;
+        Some(usage_of(&self.machine.store, res))
     }
 }

@@ -4,6 +4,7 @@ ghost use Rattle.std.specs.Prelude.{◌≡◌, [], IfOk};
 ghost use Rattle.vlm_journal.specs.Journals.{IsPostOf};
 ghost use Rattle.vlm_ports.specs.Hubs.{IsPortOf, journal};
 ghost use Rattle.vlm_ports.specs.Ports.{identity};
+ghost use Rattle.vlm_ports.specs.Watched.{IsUnwatched, board};
 
 use std::alloc::{AllocError, Global};
 use vlm_journal::entries::{Item, Part};
@@ -20,13 +21,13 @@ pub enum Node {
     Second,
 }
 
-/// A hub that serves two nodes, and their ports.
-#[derive(Drop)]
+/// A hub that serves two nodes, and their ports. End it by [`Pair::close`].
 pub struct Pair {
     pub(crate) hub: Hub,
     pub(crate) first: Port,
     pub(crate) second: Port,
     ghost ours: { IsPortOf hub first × IsPortOf hub second },
+    ghost unwatched: { IsUnwatched hub },
 }
 
 impl Pair {
@@ -37,6 +38,7 @@ impl Pair {
         let (hub, ports) = Hub::make(alloc, 2)?;
         let mut ports = ports.into_iter();
         let (Some(first), Some(second)) = (ports.next(), ports.next()) else {
+            hub.close();
             return Err(AllocError);
         };
         Ok(Pair { hub, first, second })
@@ -91,6 +93,12 @@ impl Pair {
     /// Hands out the entries since the last cut.
     pub fn cut(&mut self) -> Part {
         self.hub.cut()
+    }
+
+    /// Ends it. It waits for nobody.
+    pub fn close(self) {
+        let Pair { hub, .. } = self;
+        hub.close();
     }
 
     /// How many entries there are since the last cut.

@@ -4,3 +4,4 @@ mod hub;
 mod retries;
 mod steps;
 mod threads;
+mod watchers;

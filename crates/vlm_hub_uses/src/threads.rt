@@ -3,6 +3,7 @@
 ghost use Rattle.std.specs.Prelude.{◌≡◌, IfOk};
 ghost use Rattle.vlm_ports.specs.Hubs.{rings};
 ghost use Rattle.vlm_ports.specs.Ports.{identity};
+ghost use Rattle.vlm_ports.specs.Watched.{board};
 
 use crate::pair::Pair;
 use std::alloc::AllocError;
@@ -38,10 +39,14 @@ impl Pair {
             first,
             second,
         } = self;
-        let one = start(rt, first, times)?;
+        let Ok(one) = start(rt, first, times) else {
+            hub.close();
+            return Err(AllocError);
+        };
         let Ok(two) = start(rt, second, times) else {
             serve(rt, &mut hub, times);
             one.join(rt);
+            hub.close();
             return Err(AllocError);
         };
         serve(rt, &mut hub, times.saturating_mul(2));
@@ -96,7 +101,8 @@ fn search(rt: &impl Wait, port: Port, times: usize) -> Port
 
 // Has the hub make so many entries.
 fn serve(rt: &impl Wait, hub: &mut Hub, entries: usize)
-    ensures { rings hub.new ≡ rings hub.old }
+    ensures rings { rings hub.new ≡ rings hub.old }
+    ensures board { board hub.new ≡ board hub.old }
 {
     for _ in rt.forever() {
         if hub.journal().len() >= entries {

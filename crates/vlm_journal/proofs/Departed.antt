@@ -22,13 +22,7 @@ use Rattle.vlm_journal.specs.Books.{GoesOn}
 use Rattle.vlm_journal.specs.Departed.{IsAnsweredDeparted, ShowsDeparture, StaysDeparted}
 use Rattle.vlm_journal.specs.Journals.{IsAllowed, Journal, JournalFrom, answers_of, begin, next, steps_of}
 use Rattle.vlm_journal.proofs.Joining.{join, last_of, run_of}
-
--- an element of a longer list is one of the list, or the last
-by_place : {X : Type 0} (xs : List X) (y z : X) (i : ℕ) → slice_get (xs ++ y ∷ []) i ≡ Some z → (slice_get xs i ≡ Some z) ⊎ ((i ≡ length xs) × (y ≡ z))
-by_place [] y z zero h = inr (refl, cc)
-by_place [] y z (suc i) h = cc
-by_place (x ∷ xs) y z zero h = inl h
-by_place (x ∷ xs) y z (suc i) h = elim (by_place xs y z i h) [ inl e ↦ inl e | inr e ↦ inr (ap suc e.0, e.1) ]
+use Rattle.vlm_journal.proofs.Lists.{by_place}
 
 -- what an entry of a journal is has happened
 has_happened : (P : Step → Answer → Type 0) (entries : List Entry) (i : ℕ) (entry : Entry) → slice_get entries i ≡ Some entry

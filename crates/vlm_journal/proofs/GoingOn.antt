@@ -29,7 +29,7 @@ goes_on entry book allowed outcome = record {
 }
 
 -- as many as were handed out, and these
-counts_on : (before entries most : ℕ) → min (min before most + entries) most ≡ min (before + entries) most
+pub counts_on : (before entries most : ℕ) → min (min before most + entries) most ≡ min (before + entries) most
 counts_on before entries most = grind arith
 
 -- behind a cut

@@ -1,3 +1,4 @@
+pub mod Lists
 pub mod Appending
 pub mod Joining
 pub mod Worlds

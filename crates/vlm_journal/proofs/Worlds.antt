@@ -12,11 +12,9 @@ use Rattle.vlm_journal.specs.Journals.{IsPostOf, Journal, begin as journal_begin
 use Rattle.vlm_journal.specs.Told.{told}
 use Rattle.vlm_journal.specs.Worlds.{Event, Happens, IsInOrder, IsNext, IsNode, IsRight, Lists, Reached, World, begin, draw, lose, next, post, send, serve, take, with_lists_of}
 use Rattle.vlm_journal.proofs.Appending.{asks_no_other, asks_step, told-append}
+use Rattle.vlm_journal.proofs.Lists.{prefix_more}
 
 -- ---- lists
-
-prefix_more : {X : Type 0} (xs ys zs : List X) → IsPrefix xs ys → IsPrefix xs (ys ++ zs)
-prefix_more xs ys zs h = (h.0 ++ zs, sym (append_assoc xs h.0 zs) ∙ ap (λ (l : List _). l ++ zs) h.1)
 
 next_prefix : {X : Type 0} (x : X) (xs ys : List X) → IsNext x xs ys → IsPrefix (xs ++ x ∷ []) ys
 next_prefix x xs ys h = (h.0, append_assoc xs (x ∷ []) h.0 ∙ sym h.1)

@@ -1,5 +1,5 @@
 -- What a book holds: the entries since its last cut, and what stands behind them.
-use Rattle.std.specs.Prelude.{◌≡◌, ◌-◌, ◌^◌, ℕ, List, length, min}
+use Rattle.std.specs.Prelude.{◌≡◌, ◌+◌, ◌-◌, ◌^◌, ℕ, List, length, min}
 use Rattle.vlm_words.specs.State.{State}
 use Rattle.vlm_journal.specs.declared.entries.Entry.{Entry}
 use Rattle.vlm_journal.specs.Journals.{Journal, JournalFrom}
@@ -11,6 +11,10 @@ pub record Account : Type 0 where
   pub state : State
   pub base : ℕ
   pub room : ℕ
+
+-- how many entries were made, those that were handed out too, or 2 ^ 64 - 1 where there were more
+abbrev pub made : Account → ℕ
+made a = min (a.base + length a.entries) (2 ^ 64 - 1)
 
 -- some legal journal, of as many entries as the base says, leads to a state from which these entries are legal and lead
 -- to the last one; a base of 2 ^ 64 - 1 says that many or more

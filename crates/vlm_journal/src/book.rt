@@ -6,7 +6,10 @@ ghost use Rattle.vlm_words.specs.Pending.{first_pending};
 ghost use Rattle.vlm_words.specs.Reasons.{HasDeparted};
 ghost use Rattle.vlm_words.specs.State.{start};
 ghost use Rattle.vlm_words.specs.Stepped.{Outcome};
-ghost use Rattle.vlm_journal.specs.Books.{GoesOn};
+ghost use Rattle.std.specs.Option.{option_map};
+ghost use Rattle.vlm_queue.specs.Views.{usage};
+ghost use Rattle.vlm_core.specs.Readers.{root_of};
+ghost use Rattle.vlm_journal.specs.Books.{GoesOn, made};
 ghost use Rattle.vlm_journal.specs.Departed.{StaysDeparted};
 ghost use Rattle.vlm_journal.specs.Journals.{IsPostOf, JournalFrom};
 ghost use Rattle.vlm_journal.specs.Lengthening.{LengthensLittle};
@@ -16,8 +19,10 @@ use crate::laws::{law_departed, law_draw, law_entry};
 use std::alloc::{AllocError, Global};
 use std::marker::Model;
 use std::mem;
-use vlm_core::Core;
+use vlm_core::{Core, Usage};
 use vlm_words::asts::Ast;
+use vlm_words::names::Name;
+use vlm_words::resources::Domain;
 use vlm_words::steps::{Answer, Step};
 
 /// A core with its journal: the entries since the last cut, and how many were handed out before them. All entries, from
@@ -168,6 +173,20 @@ impl Book {
         answer
     }
 
+    /// How the root resource of this name in this domain is used, as [`Core::usage`] says.
+    pub fn usage(&self, domain: Domain, name: Name) -> Option<Usage>
+        ensures { result ≡ option_map usage (root_of self.now.state.resources domain name) }
+    {
+        self.core.usage(domain, name)
+    }
+
+    /// How many entries were made, those that were handed out too; `u64::MAX` where there were more.
+    pub fn made(&self) -> u64
+        ensures { result ≡ made self.now }
+    {
+        self.base.saturating_add(self.entries.len() as u64)
+    }
+
     /// The entries since the last cut, or all where there was none.
     pub fn entries(&self) -> &[Entry]
         ensures same { result.now ≡ self.now.entries }
@@ -183,12 +202,12 @@ impl Book {
         ensures base { result.base ≡ self.old.base }
         ensures legal { GoesOn result.base result.entries.items self.new.state }
         ensures left { self.new.entries ≡ [] }
-        ensures next { self.new.base ≡ min (self.old.base + length self.old.entries) (2 ^ 64 - 1) }
+        ensures next { self.new.base ≡ made self.old }
         ensures state { self.new.state ≡ self.old.state }
     {
+        let made = self.made();
+        let base = mem::replace(&mut self.base, made);
         let entries = mem::replace(&mut self.entries, Vec::new(self.alloc));
-        let base = self.base;
-        self.base = base.saturating_add(entries.len() as u64);
         Part { base, entries }
     }
 

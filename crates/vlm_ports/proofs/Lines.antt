@@ -2,7 +2,7 @@
 use Rattle.std.proofs.Common.{◌≡◌, ◌≢◌, ◌+◌, ◌-◌, ◌/◌, ◌<◌, ◌≤◌, ◌⊎◌, ℕ, zero, suc, List, [], ◌∷◌, ◌++◌, refl, ap, ◌∙◌, sym, subst, append-nil, arith, length, map, get_or, set, length-set, get_or-set_same, get_or-set_other, inl, inr, Some}
 use Rattle.std.proofs.Math.Seq.{map-set_same}
 use Rattle.std.proofs.lemmas.Bool.{cases_eq}
-use Rattle.std.proofs.lemmas.List.{get_or-map, length-map}
+use Rattle.std.proofs.lemmas.List.{get_or-map, get_or_default, length-map}
 use Rattle.std.proofs.lemmas.Option.{slice_get_within}
 use Rattle.std.specs.List.{slice_get}
 use Rattle.vlm_words.specs.declared.asts.Ast.{Ast}
@@ -28,12 +28,6 @@ rings_set ls at l was is same = map-set_same line_identity ls at l was (same ∙
 
 pub line_within : (ls : List Line) (at : ℕ) (r : ℕ × RingName × RingName) → slice_get (map line_identity ls) at ≡ Some r → at < length ls
 line_within ls at r is = let w = slice_get_within (map line_identity ls) at r is in omega (arith, length-map ls line_identity)
-
--- within a list no default is read
-any_default : {X : Type 0} (xs : List X) (at : ℕ) (d e : X) → at < length xs → get_or xs at d ≡ get_or xs at e
-any_default [] at d e within = absurd (omega (arith, within))
-any_default (x ∷ xs) zero d e within = refl
-any_default (x ∷ xs) (suc at) d e within = any_default xs at d e (omega (arith, within))
 
 -- ---- one line
 
@@ -121,7 +115,7 @@ module _ (ls : List Line) (js ks : List Entry) (linked : AreLinked ls js) where
               let P : ℕ → Type 0 = λ m. IsLinked m (get_or (set ls at l) m d) ks × (line_base ks (get_or (set ls at l) m d) ≡ line_base js (get_or ls m d)) in
               let Q : Line → Type 0 = λ x. IsLinked at x ks × (line_base ks x ≡ line_base js (get_or ls at d)) in
               subst P (sym e) (subst Q (sym (get_or-set_same ls at l d lt))
-              (linked_more at l was js ks was_linked more, base_stays at l was js ks was_linked more ∙ ap (line_base js) (is ∙ any_default ls at was d lt)))
+              (linked_more at l was js ks was_linked more, base_stays at l was js ks was_linked more ∙ ap (line_base js) (is ∙ get_or_default ls at was d lt)))
           | inr ne ↦
               let Q : Line → Type 0 = λ x. IsLinked k x ks × (line_base ks x ≡ line_base js (get_or ls k d)) in
               subst Q (sym (get_or-set_other ls at k l d ne)) (unasked k d within (others k ne))

@@ -1,5 +1,5 @@
 -- What a hub has written down, and what it knows of its ports.
-use Rattle.std.specs.Prelude.{◌≡◌, ◌⊎◌, ◌<◌, ◌≤◌, ◌-◌, ◌+◌, ◌++◌, ℕ, List, [], length, map, slice_get, slice_index_or, Some, None}
+use Rattle.std.specs.Prelude.{◌≡◌, ◌⊎◌, ◌<◌, ◌≤◌, ◌-◌, ◌+◌, ◌++◌, ℕ, List, [], length, map, slice_get, slice_index_or, Some, None, IsNone}
 use Rattle.vlm_words.specs.declared.steps.Step.{Step}
 use Rattle.vlm_words.specs.Pending.{first_pending}
 use Rattle.vlm_words.specs.Reasons.{HasDeparted}
@@ -104,12 +104,13 @@ pub record OneAsks (at : ℕ) (old new : List Entry) : Type 0 where
 abbrev pub EachAsksOnce : List Entry → List Entry → Type 0
 EachAsksOnce old new = (node : ℕ) → 0 < node → length (asked node new) ≤ length (asked node old) + 1
 
--- a hub of so many nodes that has made nothing: nothing is written down, and no node has asked for anything or been told
--- anything
+-- a hub of so many nodes that has made nothing: nothing is written down, no node has asked for anything or been told
+-- anything, and nobody watches
 pub record IsNewHub (count : ℕ) (h : Hub) : Type 0 where
   pub journal : journal h ≡ []
   pub state : state h ≡ start
   pub base : base h ≡ 0
   pub nodes : nodes h ≡ count
+  pub unwatched : IsNone h.board
   pub asked : (node : ℕ) → 0 < node → node ≤ count → asked_before h node ≡ []
   pub told : (node : ℕ) → 0 < node → node ≤ count → told_before h node ≡ []

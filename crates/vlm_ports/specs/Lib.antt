@@ -4,3 +4,4 @@ pub mod Ports
 pub mod Links
 pub mod Hubs
 pub mod Turns
+pub mod Watched

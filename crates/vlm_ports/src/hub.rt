@@ -7,17 +7,21 @@ ghost use Rattle.vlm_ports.specs.Ports.{AreNew as AreNewPorts, identity as port_
 use crate::line::{Line, Settled};
 use crate::port::Port;
 use std::alloc::{AllocError, Global};
+use std::sync::Wait;
 use vlm_core::Core;
 use vlm_journal::book::Book;
 use vlm_journal::entries::{Entry, Item, Part};
+use vlm_watch::Board;
 use vlm_words::conditions::Cond;
 use vlm_words::steps::Answer;
 
-/// The hub: it makes what the ports post, and alone owns the core and its journal.
-#[derive(Drop)]
+/// The hub: it makes what the ports post, and alone owns the core and its journal. It can't be dropped, since one that is
+/// watched may have to wait: end it by [`Hub::finish`], or where it is not watched by [`Hub::close`].
 pub struct Hub {
-    book: Book,
+    pub(crate) book: Book,
     lines: Vec<Line>,
+    // what is published to its watchers, once it is watched
+    pub(crate) board: Option<Board>,
     ghost few: { vec_len lines ≤ 8 },
     ghost linked: { AreLinked lines.items book.entries },
 }
@@ -47,11 +51,12 @@ impl Hub {
     ghost use Rattle.vlm_words.specs.declared.steps.Answer.TheVariants.{Plain};
     ghost use Rattle.vlm_words.specs.declared.conditions.Cond.TheVariants.{Departed, Normal};
     ghost use Rattle.vlm_words.specs.Stepped.{Outcome};
-    ghost use Rattle.vlm_journal.specs.Books.{GoesOn};
+    ghost use Rattle.vlm_journal.specs.Books.{GoesOn, made};
     ghost use Rattle.vlm_journal.specs.Told.{asked, told};
     ghost use Rattle.vlm_ports.specs.Turns.{IsIdleTurn, IsServedTurn, turn_entries};
     ghost use Rattle.vlm_ports.specs.Hubs.{EachAsksOnce, HubGrew, IsAsWritten, IsDrawnAt, IsNewHub, IsPortOf, IsSameBut, MayIdle, MayRestAt, NoneAsks, OneAsks, asked_before, base, bases, free_for, journal, nodes, rings, state, told_before, waiting};
     ghost use Rattle.vlm_ports.specs.Ports.{AreNew, arrived, identity, posted, taken};
+    ghost use Rattle.vlm_ports.specs.Watched.{IsUnwatched, board};
 
     /// How many nodes it serves.
     pub fn nodes(&self) -> usize
@@ -97,6 +102,7 @@ impl Hub {
         let hub = Hub {
             book: Book::new(core, alloc),
             lines,
+            board: None,
         };
         Ok((hub, ports))
     }
@@ -107,6 +113,7 @@ impl Hub {
     pub fn turn(&mut self) -> Turn
         ensures rings { rings self.new ≡ rings self.old }
         ensures base { (base self.new ≡ base self.old) × (bases self.new ≡ bases self.old) }
+        ensures board { board self.new ≡ board self.old }
         ensures made { HubGrew (turn_entries result) self.old self.new }
         ensures some { IsServedTurn result → 0 < turn_entries result }
         ensures most { turn_entries result ≤ 2 * nodes self.old }
@@ -134,6 +141,7 @@ impl Hub {
         requires node { (0 < node) × (node ≤ 8) }
         ensures rings { rings self.new ≡ rings self.old }
         ensures base { (base self.new ≡ base self.old) × (bases self.new ≡ bases self.old) }
+        ensures board { board self.new ≡ board self.old }
         ensures waiting { waiting self.new ≡ waiting self.old }
         ensures lost { IfOk result (λ cond. journal self.new ≡ journal self.old
             ++ record { sender = 0; step = Leave node; answer = Plain cond } ∷ []) }
@@ -154,6 +162,7 @@ impl Hub {
         requires { IsPortOf self.old port.old }
         ensures rings { rings self.new ≡ rings self.old }
         ensures base { (base self.new ≡ base self.old) × (bases self.new ≡ bases self.old) }
+        ensures board { board self.new ≡ board self.old }
         ensures journal { journal self.new ≡ journal self.old }
         ensures state { state self.new ≡ state self.old }
         ensures same { (identity port.new ≡ identity port.old) × (posted port.new ≡ posted port.old)
@@ -173,12 +182,12 @@ impl Hub {
     /// Hands out the entries since the last cut, and begins anew behind them. It takes no memory.
     pub fn cut(&mut self) -> Part
         ensures rings { rings self.new ≡ rings self.old }
+        ensures board { board self.new ≡ board self.old }
         ensures entries { result.entries.items ≡ journal self.old }
         ensures number { result.base ≡ base self.old }
         ensures legal { GoesOn result.base result.entries.items (state self.new) }
         ensures left { journal self.new ≡ [] }
-        ensures next { base self.new
-            ≡ min (base self.old + length (journal self.old)) (2 ^ 64 - 1) }
+        ensures next { base self.new ≡ made self.old.book }
         ensures state { state self.new ≡ state self.old }
         ensures waiting { waiting self.new ≡ waiting self.old }
         ensures before { (node : ℕ) → 0 < node → node ≤ nodes self.old
@@ -190,14 +199,36 @@ impl Hub {
         self.book.cut()
     }
 
-    /// Gives out the entries since the last cut, and the core.
-    pub fn finish(self) -> (Vec<Entry>, Core)
+    /// Ends a hub that is not watched: gives out the entries since the last cut, and the core. It waits for nobody.
+    pub fn close(self) -> (Vec<Entry>, Core)
+        requires { IsUnwatched self }
         ensures entries { result.0.items ≡ journal self }
         ensures state { result.1 ≡ state self }
         ensures legal { GoesOn (base self) result.0.items result.1 }
     {
-        let Hub { book, lines: _ } = self;
-        book.finish()
+        let Hub {
+            book,
+            lines: _,
+            board,
+        } = self;
+        match board {
+            None => book.finish(),
+            Some(_) => unreachable!(),
+        }
+    }
+
+    /// Ends the hub: gives out the entries since the last cut, and the core. Where it is watched it may wait for watchers that
+    /// are reading, and a watcher that lives on then sees nothing more.
+    pub fn finish<R: Wait>(self, rt: &R) -> (Vec<Entry>, Core)
+        ensures entries { result.0.items ≡ journal self }
+        ensures state { result.1 ≡ state self }
+        ensures legal { GoesOn (base self) result.0.items result.1 }
+    {
+        let mut hub = self;
+        if let Some(board) = hub.board.take() {
+            board.close(rt);
+        }
+        hub.close()
     }
 
     // Draws and serves for the node at a place.
@@ -205,6 +236,7 @@ impl Hub {
         requires { at < nodes self.old }
         ensures rings { rings self.new ≡ rings self.old }
         ensures base { (base self.new ≡ base self.old) × (bases self.new ≡ bases self.old) }
+        ensures board { board self.new ≡ board self.old }
         ensures grew { HubGrew result.made self.old self.new }
         ensures most { result.made ≤ 2 }
         ensures once { OneAsks at (journal self.old) (journal self.new) }
@@ -234,6 +266,7 @@ impl Hub {
         requires { at < nodes self.old }
         ensures rings { rings self.new ≡ rings self.old }
         ensures base { (base self.new ≡ base self.old) × (bases self.new ≡ bases self.old) }
+        ensures board { board self.new ≡ board self.old }
         ensures grew { IfOk result (λ n. (n ≤ 1) × HubGrew n self.old self.new) }
         ensures none_asks { IfOk result (λ n. NoneAsks (journal self.old) (journal self.new)) }
         ensures drawn { IfOk result (λ n. n ≡ 0
@@ -260,6 +293,7 @@ impl Hub {
         requires { at < nodes self.old }
         ensures rings { rings self.new ≡ rings self.old }
         ensures base { (base self.new ≡ base self.old) × (bases self.new ≡ bases self.old) }
+        ensures board { board self.new ≡ board self.old }
         ensures grew { IfOk result (λ n. (n ≤ 1) × HubGrew n self.old self.new) }
         ensures once { IfOk result (λ n. OneAsks at (journal self.old) (journal self.new)) }
         ensures served { IfOk result (λ n. n ≡ 0

@@ -9,7 +9,9 @@ mod hub;
 mod line;
 mod port;
 mod posts;
+mod watching;
 
 pub use hub::{Hub, Turn};
 pub use line::Settled;
 pub use port::{Full, Port};
+pub use vlm_watch::{BoardFault, RootKey, Row, Told, Watcher};

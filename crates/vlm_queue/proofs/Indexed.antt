@@ -1,19 +1,21 @@
 -- The resource and the lock at an index, and the rows of a queue in turn.
-use Rattle.std.proofs.Common.{◌≡◌, ℕ, zero, suc, ◌≤◌, List, [], ◌∷◌, ◌++◌, map, Option, None, Some, IfSome, IsSome, slice_get, refl, sym, ap, ◌∙◌, subst, inl, inr, append_assoc, eq-eqb, ne_eqb, arith}
+use Rattle.std.proofs.Common.{◌≡◌, ℕ, zero, suc, ◌≤◌, List, [], ◌∷◌, ◌++◌, length, map, Option, None, Some, IfSome, IsSome, slice_get, refl, sym, ap, ◌∙◌, subst, inl, inr, append_assoc, eq-eqb, ne_eqb, arith}
 use Rattle.std.specs.Option.{ForSome, option_map, option_map_or}
+use Rattle.std.proofs.lemmas.List.{length-map}
 use Rattle.std.proofs.lemmas.Option.{same_Some}
 use Rattle.vlm_words.specs.declared.locks.Row.{Row}
 use Rattle.vlm_words.specs.declared.resources.Queue.{Queue}
 use Rattle.vlm_words.specs.declared.resources.Queue.TheVariants.{Granted, Conversion, Waiting}
 use Rattle.vlm_links.specs.Lists.{IsIn}
 use Rattle.vlm_records.specs.declared.handles.Place.TheVariants.{Queued}
+use Rattle.vlm_store.specs.Held.{held_counts}
 use Rattle.vlm_store.specs.Plain.{plain_resource}
 use Rattle.vlm_store.specs.Records.{AreApart, AreResourcesApart, IsSound, Records, StoredLock, StoredResource, Stores, at_after, first_at, first_resource_at, locks_at, queued, resource_at, resource_at_after, rows_of_locks}
 use Rattle.vlm_store.proofs.Walks.{after-among, lock_among}
 use Rattle.vlm_store.proofs.Records.{resource_is}
 use Rattle.vlm_queue.specs.declared.views.ResourceView.{ResourceView}
 use Rattle.vlm_queue.specs.declared.views.RowView.{RowView}
-use Rattle.vlm_queue.specs.Views.{resource_view, row_shown, row_view, rows_in}
+use Rattle.vlm_queue.specs.Views.{resource_view, row_shown, row_view, rows_in, usage}
 use Rattle.vlm_queue.specs.Walks.{GivesInTurn, IsGivenFrom, lock_at_index, resource_at_index}
 use Rattle.vlm_words.specs.declared.resources.Key.{Key}
 use Rattle.vlm_words.specs.declared.resources.Domain.{Domain}
@@ -125,6 +127,15 @@ pub record_shown : (o : Option StoredResource) (serial : ℕ) (key : Key) (domai
     → IfSome (option_map plain_resource o) (λ r. record { serial = serial; parent = key_parent key; domain = domain; name = key_name key; value = value_block.value; valid = value_block.valid } ≡ resource_view r)
 record_shown None serial key domain value_block a b c d = tt
 record_shown (Some r) serial key domain value_block a b c d = rw (a, b, c, d) refl
+
+-- how a stored resource is used is how the plain resource is
+pub usage_shown : (o : Option StoredResource) (held : List ℕ) (conversions waiters : ℕ) (value_block : ValueBlock)
+    → IfSome o (λ r. held ≡ held_counts (rows_of_locks r.granted ++ rows_of_locks r.converting)) → IfSome o (λ r. conversions ≡ length (queued Conversion r))
+    → IfSome o (λ r. waiters ≡ length (queued Waiting r)) → IfSome o (λ r. value_block ≡ r.value_block)
+    → IfSome (option_map plain_resource o) (λ r. record { held = held; conversions = conversions; waiters = waiters; value = value_block.value; valid = value_block.valid } ≡ usage r)
+usage_shown None held conversions waiters value_block a b c d = tt
+usage_shown (Some r) held conversions waiters value_block a b c d =
+    rw (a, b, c, d, length-map r.converting (λ (k : StoredLock). k.row), length-map r.waiting (λ (k : StoredLock). k.row)) refl
 
 -- the resource at an index is shown as it is stored
 pub resource_shown : (i : ℕ) (rs : List StoredResource) (res : ℕ) (view : ResourceView) → AreResourcesApart rs → resource_at_index i rs ≡ Some res

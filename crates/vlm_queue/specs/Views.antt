@@ -1,13 +1,15 @@
--- What is shown of a resource and of a lock.
-use Rattle.std.specs.Prelude.{ℕ, List, Option, None, Some, slice_get}
+-- What is shown of a resource and of a lock, and how a resource is used.
+use Rattle.std.specs.Prelude.{ℕ, List, ◌++◌, length, Option, None, Some, slice_get}
 use Rattle.std.specs.Option.{option_map}
 use Rattle.vlm_words.specs.declared.locks.Row.{Row}
 use Rattle.vlm_words.specs.declared.resources.Queue.{Queue}
 use Rattle.vlm_words.specs.declared.resources.Queue.TheVariants.{Granted, Conversion, Waiting}
 use Rattle.vlm_words.specs.Rows.{mode_asked}
 use Rattle.vlm_words.specs.State.{Resource}
+use Rattle.vlm_store.specs.Held.{held_counts}
 use Rattle.vlm_queue.specs.declared.views.ResourceView.{ResourceView}
 use Rattle.vlm_queue.specs.declared.views.RowView.{RowView}
+use Rattle.vlm_queue.specs.declared.views.Usage.{Usage}
 
 -- a resource without its queues
 abbrev pub resource_view : Resource → ResourceView
@@ -16,6 +18,17 @@ resource_view r = record {
   parent = r.parent;
   domain = r.domain;
   name = r.name;
+  value = r.value_block.value;
+  valid = r.value_block.valid;
+}
+
+-- how a resource is used: how many of its rows hold each mode, granted or converting, how many requests wait, and its
+-- value block
+abbrev pub usage : Resource → Usage
+usage r = record {
+  held = held_counts (r.granted ++ r.converting);
+  conversions = length r.converting;
+  waiters = length r.waiting;
   value = r.value_block.value;
   valid = r.value_block.valid;
 }

@@ -1,17 +1,17 @@
-//! What is shown of a resource and of a lock.
+//! What is shown of a resource and of a lock, and how a resource is used.
 
 ghost use Rattle.std.specs.Prelude.{◌≡◌, IfSome};
 ghost use Rattle.vlm_words.specs.declared.locks.Row.{Row};
 ghost use Rattle.vlm_words.specs.Resources.{key_name, key_parent};
 ghost use Rattle.vlm_store.specs.Records.{HasResource, IsStored, Stores};
-ghost use Rattle.vlm_queue.specs.Views.{resource_view, row_view};
+ghost use Rattle.vlm_queue.specs.Views.{resource_view, row_view, usage};
 ghost use Rattle.vlm_queue.specs.Walks.{plain_resource_at};
 
 use vlm_store::{LockAt, ResAt, Resource, Store};
 use vlm_words::locks::Row;
 use vlm_words::modes::Mode;
 use vlm_words::names::Name;
-use vlm_words::resources::Domain;
+use vlm_words::resources::{Domain, Queue};
 
 /// A resource without its queues.
 #[derive(Clone, Copy)]
@@ -41,6 +41,21 @@ pub struct RowView {
     pub held: Option<Mode>,
     /// The mode that it waits for, if it waits.
     pub want: Option<Mode>,
+}
+
+/// How a resource is used.
+#[derive(Clone, Copy)]
+pub struct Usage {
+    /// How many locks hold each mode, from NL to EX: the granted and the converting.
+    pub held: [u32; 6],
+    /// How many conversions wait.
+    pub conversions: u32,
+    /// How many new requests wait.
+    pub waiters: u32,
+    /// Its value block.
+    pub value: [u8; 16],
+    /// Whether the value block is valid.
+    pub valid: bool,
 }
 
 impl ResourceView {
@@ -94,4 +109,20 @@ pub fn row_view(store: &Store, lock: LockAt) -> RowView
     ensures { (row : Row) → Stores store.now lock row → result ≡ row_view row }
 {
     RowView::of(&store.lock_record(lock).row)
+}
+
+/// How a resource of the store is used. It reads counts alone.
+pub fn usage_of(store: &Store, res: ResAt) -> Usage
+    requires { HasResource res store.now }
+    ensures { IfSome (plain_resource_at res store.now) (λ r. result ≡ usage r) }
+{
+    let resource = store.resource_record(res);
+    let held = store.held_counts(res);
+    Usage {
+        held,
+        conversions: store.queue_length(res, Queue::Conversion),
+        waiters: store.queue_length(res, Queue::Waiting),
+        value: resource.value_block.value,
+        valid: resource.value_block.valid,
+    }
 }

@@ -185,7 +185,8 @@ pub HasPlace-seen : (l : Layout) (p : Place) → HasPlace p (records_of l) → I
 HasPlace-seen l Loose has = tt
 HasPlace-seen l (Queued res queue) has = HasResource-order l res has
 
-queued-handles : (l : Layout) (queue : Queue) (r : ℕ) → queued queue (resource_of l r) ≡ map (under_handle l.rows) (l.handles (Queued r queue))
+-- the locks of a queue are those under its handles
+pub queued-handles : (l : Layout) (queue : Queue) (r : ℕ) → queued queue (resource_of l r) ≡ map (under_handle l.rows) (l.handles (Queued r queue))
 queued-handles l Granted r = refl
 queued-handles l Conversion r = refl
 queued-handles l Waiting r = refl

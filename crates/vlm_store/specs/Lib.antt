@@ -1,4 +1,5 @@
 pub mod Armed
+pub mod Held
 pub mod Holdings
 pub mod Index
 pub mod Kept

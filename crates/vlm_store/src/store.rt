@@ -7,8 +7,9 @@ ghost use Rattle.vlm_words.specs.declared.locks.Row.{Row};
 ghost use Rattle.vlm_links.specs.Lists.{IsIn, handle_before};
 ghost use Rattle.vlm_records.specs.declared.handles.Place.{Place};
 ghost use Rattle.vlm_words.specs.Asts.{has_to_warn, keeps_out};
+ghost use Rattle.vlm_store.specs.Held.{held_counts};
 ghost use Rattle.vlm_store.specs.Plain.{plain_resource};
-ghost use Rattle.vlm_store.specs.Records.{FindsLock, FindsResource, HasNoSublocks, HasPlace, HasResource, HasRoomForLock, HasRoomForResource, IsGivenBack, IsTaken, IsUnchanged, IsParentOf, IsProcess, at_after, disarming, first_at, first_resource_at, fits_beside, resource_at_after, resource_at, rows_of_locks, IsIdle, IsNewKey, IsNewLock, IsRowOf, IsSound, IsStored, Stores, locks_at, moving, new_stored_resource, nothing, on_resource, with_lists, with_lock_room, with_new_lock, with_resource_room, without_resource, without_stored_lock};
+ghost use Rattle.vlm_store.specs.Records.{FindsLock, FindsResource, HasNoSublocks, HasPlace, HasResource, HasRoomForLock, HasRoomForResource, IsGivenBack, IsTaken, IsUnchanged, IsParentOf, IsProcess, at_after, disarming, first_at, first_resource_at, fits_beside, resource_at_after, resource_at, rows_of_locks, IsIdle, IsNewKey, IsNewLock, IsRowOf, IsSound, IsStored, Stores, locks_at, moving, new_stored_resource, nothing, on_resource, queued, with_lists, with_lock_room, with_new_lock, with_resource_room, without_resource, without_stored_lock};
 ghost use Rattle.vlm_store.specs.Total.{lock_total};
 
 use indexmap::IndexMap;
@@ -23,7 +24,7 @@ use vlm_records::{
 };
 use vlm_words::locks::Row;
 use vlm_words::modes::Mode;
-use vlm_words::resources::{Key, Site, ValueBlock};
+use vlm_words::resources::{Key, Queue, Site, ValueBlock};
 
 /// The records of the machine. Each call takes constant time but for the growth of an add.
 pub struct Store {
@@ -395,5 +396,24 @@ impl Store {
             || list_any (λ row. keeps_out held row.want) (rows_of_locks r.waiting))) }
     {
         self.queues.resources[res.slot()].tally.keeps_out(held)
+    }
+
+    /// How many locks of the resource hold each mode, granted or converting, from NL to EX. It reads counts alone.
+    pub fn held_counts(&self, res: ResAt) -> [u32; 6]
+        requires { HasResource res self.now }
+        ensures { IfSome (resource_at res self.now.resources) (λ r. result
+            ≡ held_counts (rows_of_locks r.granted ++ rows_of_locks r.converting)) }
+    {
+        self.queues.resources[res.slot()].tally.held()
+    }
+
+    /// How many locks stand in a queue of the resource. It reads the length of the list.
+    pub fn queue_length(&self, res: ResAt, queue: Queue) -> u32
+        requires { HasResource res self.now }
+        ensures { IfSome (resource_at res self.now.resources) (λ r. result
+            ≡ length (queued queue r)) }
+    {
+        let list = self.queues.list(Place::Queued(res, queue));
+        list.len(&self.queues.locks) as u32
     }
 }

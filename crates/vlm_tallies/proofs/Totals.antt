@@ -4,7 +4,7 @@ use Rattle.std.specs.Prelude.{replicate}
 use Rattle.vlm_words.specs.declared.locks.Row.{Row}
 use Rattle.vlm_words.specs.declared.modes.Mode.{Mode}
 use Rattle.vlm_words.specs.declared.modes.Mode.TheVariants.{Nl, Cr, Cw, Pr, Pw, Ex}
-use Rattle.vlm_tallies.specs.Tallies.{Count, count_of, how_many, no_tally, total}
+use Rattle.vlm_tallies.specs.Tallies.{Count, by_mode, count_of, how_many, no_tally, total}
 use Rattle.vlm_tallies.specs.Tallies.Count.{of_armed, of_held, of_wanted}
 
 -- the rows of two lists
@@ -21,6 +21,17 @@ total-nothing rows (x ∷ xs) = omega (arith, total-nothing rows xs)
 pub total-length : (weight : Row → ℕ) (rows : ℕ → Row) → ((row : Row) → weight row ≤ 1) → (xs : List ℕ) → total weight rows xs ≤ length xs
 total-length weight rows one [] = omega arith
 total-length weight rows one (x ∷ xs) = omega (arith, one (rows x), total-length weight rows one xs)
+
+-- six counts are those of the six modes
+pub six_counts : (counts : List ℕ) → length counts ≡ 6 → counts ≡ by_mode (count_of counts)
+six_counts [] six = absurd (omega (arith, six))
+six_counts (a ∷ []) six = absurd (omega (arith, six))
+six_counts (a ∷ b ∷ []) six = absurd (omega (arith, six))
+six_counts (a ∷ b ∷ c ∷ []) six = absurd (omega (arith, six))
+six_counts (a ∷ b ∷ c ∷ d ∷ []) six = absurd (omega (arith, six))
+six_counts (a ∷ b ∷ c ∷ d ∷ e ∷ []) six = absurd (omega (arith, six))
+six_counts (a ∷ b ∷ c ∷ d ∷ e ∷ f ∷ []) six = refl
+six_counts (a ∷ b ∷ c ∷ d ∷ e ∷ f ∷ g ∷ rest) six = absurd (omega (arith, six))
 
 -- where nothing is counted each count is 0
 no_count : (mode : Mode) → count_of (replicate 6 0) mode ≡ 0

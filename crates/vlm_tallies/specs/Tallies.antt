@@ -34,6 +34,10 @@ how_many of_held tally mode = count_of tally.held mode
 how_many of_wanted tally mode = count_of tally.wanted mode
 how_many of_armed tally mode = count_of tally.armed mode
 
+-- the counts of the six modes, from NL to EX
+abbrev pub by_mode : (Mode → ℕ) → List ℕ
+by_mode counts = counts Nl ∷ counts Cr ∷ counts Cw ∷ counts Pr ∷ counts Pw ∷ counts Ex ∷ []
+
 -- what a lock holds while it is armed
 abbrev pub armed_request : Row → Option Request
 armed_request row = if row.armed then row.held else None

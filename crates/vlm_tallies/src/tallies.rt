@@ -3,7 +3,7 @@
 ghost use Rattle.std.specs.Prelude.{◌≡◌, ◌+◌, ◌<◌, ◌≤◌, ◌^◌, not};
 ghost use Rattle.vlm_words.specs.declared.modes.Mode.{Mode};
 ghost use Rattle.vlm_words.specs.Modes.{is_compatible};
-ghost use Rattle.vlm_tallies.specs.Tallies.{Count, armed_request, count_of, counts_fit, counts_warn, how_many, is_mode, none_or, one_if, weight_of};
+ghost use Rattle.vlm_tallies.specs.Tallies.{Count, armed_request, by_mode, count_of, counts_fit, counts_warn, how_many, is_mode, none_or, one_if, weight_of};
 ghost use Rattle.vlm_tallies.specs.Tallies.Count.{of_armed, of_held, of_wanted};
 
 use vlm_words::locks::{Request, Row};
@@ -121,6 +121,13 @@ impl Tally {
             }
             Queue::Waiting => count_out(&mut self.wanted, &row.want),
         }
+    }
+
+    /// How many locks hold each mode, from NL to EX.
+    pub fn held(&self) -> [u32; 6]
+        ensures { result ≡ by_mode (how_many of_held self.now) }
+    {
+        self.held
     }
 
     /// Whether the mode is compatible with every mode that is held.

@@ -4,7 +4,7 @@ use vlm_journal::entries::Item;
 use vlm_words::asts::AstKind;
 use vlm_words::modes::Mode;
 use vlm_words::names::NameArg;
-use vlm_words::steps::{Answer, Declaration, NewRequest, Step, Which};
+use vlm_words::steps::{Answer, Declaration, Dequeue, NewRequest, Step, Which};
 
 // The first process of either node.
 pub const P: u32 = 65_537;
@@ -40,6 +40,15 @@ pub fn declaration(node: u8) -> Step {
 
 // A request of EX on one name, with both routines.
 pub fn exclusive(pid: u32) -> Step {
+    request(pid, Some(8), Some(9))
+}
+
+// The same with none.
+pub fn quiet(pid: u32) -> Step {
+    request(pid, None, None)
+}
+
+fn request(pid: u32, ast: Option<u32>, bast: Option<u32>) -> Step {
     Step::Enq(NewRequest {
         pid,
         mode: Mode::Ex,
@@ -47,8 +56,18 @@ pub fn exclusive(pid: u32) -> Step {
         block: 1,
         parent: Which::Id(0),
         flags: 0,
-        ast: Some(8),
-        bast: Some(9),
+        ast,
+        bast,
         param: 0,
+    })
+}
+
+// A lock is given up.
+pub fn give_up(pid: u32, lock: u32) -> Step {
+    Step::Deq(Dequeue {
+        pid,
+        lock: Which::Id(lock),
+        value: None,
+        flags: 0,
     })
 }

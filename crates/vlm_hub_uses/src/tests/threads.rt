@@ -16,5 +16,6 @@ fn ports_in_threads(rt: HostRuntime) -> Result<(), Fail> {
         let settled = pair.settle(node);
         assert!(&rt; settled.steps == 0 && settled.items == 0);
     }
+    pair.close();
     Ok(())
 }

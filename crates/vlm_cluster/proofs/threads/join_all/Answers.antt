@@ -1,10 +1,11 @@
 use Rattle.std.proofs.Common.{◌≡◌, ◌+◌, ◌<◌, ℕ, List, length, rules, arith, get_or, vec_len, sym, subst, ◌∙◌}
+use Rattle.std.proofs.lemmas.List.{get_or_default}
 use Rattle.std.specs.declared.thread.PromisedHandle.{PromisedHandle}
 use Rattle.std.specs.Vec.Iter.{into_iter_items}
 use Rattle.vlm_cluster.specs.declared.threads.Given.{Given}
 use Rattle.vlm_cluster.specs.declared.worker.Done.{Done}
 use Rattle.vlm_cluster.specs.Works.{IsWorkOn, work_of}
-use Rattle.vlm_cluster.proofs.Dones.{all_more, any_default}
+use Rattle.vlm_cluster.proofs.Dones.{all_more}
 use Rattle.vlm_cluster.proofs.threads.join_all.Goals as goal
 
 -- the handle that is joined stood first among the rest, so it is the one at the next place
@@ -38,4 +39,4 @@ returns-clause-each g c k d h below =
     let at : kept.0 ≡ get_or children k kept.0 = subst (λ (hs : List H). kept.0 ≡ get_or hs k kept.0) began.0 kept.1 in
     let lt : k < length children = (let ok = c.args.children.ok in omega (arith, below)) in
     let P : H → Type 0 = λ x. IsWorkOn g.G.Gate.never_stops x.promise.port.value x.promise.list.value.items (work_of (get_or c.loop-child.dones.items k d)) in
-    subst P (at ∙ any_default children k kept.0 h lt) kept.2
+    subst P (at ∙ get_or_default children k kept.0 h lt) kept.2

@@ -1,4 +1,5 @@
 use Rattle.std.proofs.Common.{◌≡◌, ℕ, ◌+◌, ◌<◌, List, length, get_or, arith, ap, sym, ◌∙◌, subst}
+use Rattle.std.proofs.lemmas.List.{get_or_default}
 use Rattle.std.specs.declared.alloc.Global.{Global}
 use Rattle.std.specs.declared.thread.PromisedHandle.{PromisedHandle}
 use Rattle.std.specs.declared.vec.Vec.{Vec}
@@ -6,7 +7,7 @@ use Rattle.vlm_words.specs.declared.steps.Step.{Step}
 use Rattle.vlm_ports.specs.declared.port.Port.{Port}
 use Rattle.vlm_cluster.specs.declared.threads.Given.{Given}
 use Rattle.vlm_cluster.specs.declared.worker.Done.{Done}
-use Rattle.vlm_cluster.proofs.Dones.{all_more, any_default}
+use Rattle.vlm_cluster.proofs.Dones.{all_more}
 use Rattle.vlm_cluster.proofs.threads.start_all.Goals as goal
 
 pub loop-preserved : goal.loop-preserved
@@ -19,8 +20,8 @@ loop-preserved g c =
     let some_list : at < length lists = omega arith in
     let long : length old ≡ at = (let ok = c.loop.children.ok in let n = was.started in omega arith) in
     let here : P at child = λ p x. (
-      c.in-Ok.ensures.port ∙ (c.remove-port.ensures.value ∙ (was.next_port 0 c.remove-port.result ∙ (ap (λ (n : ℕ). get_or ports n c.remove-port.result) (omega arith) ∙ any_default ports at c.remove-port.result p some_port))),
-      c.in-Ok.ensures.list ∙ (c.remove-list.ensures.value ∙ (was.next_list 0 c.remove-list.result ∙ (ap (λ (n : ℕ). get_or lists n c.remove-list.result) (omega arith) ∙ any_default lists at c.remove-list.result x some_list))),
+      c.in-Ok.ensures.port ∙ (c.remove-port.ensures.value ∙ (was.next_port 0 c.remove-port.result ∙ (ap (λ (n : ℕ). get_or ports n c.remove-port.result) (omega arith) ∙ get_or_default ports at c.remove-port.result p some_port))),
+      c.in-Ok.ensures.list ∙ (c.remove-list.ensures.value ∙ (was.next_list 0 c.remove-list.result ∙ (ap (λ (n : ℕ). get_or lists n c.remove-list.result) (omega arith) ∙ get_or_default lists at c.remove-list.result x some_list))),
     ) in record {
       started = (let n = was.started in let m = c.push_reserved.ensures.len in omega arith);
       room = (let n = was.room in let m = c.push_reserved.ensures.capacity in omega arith);

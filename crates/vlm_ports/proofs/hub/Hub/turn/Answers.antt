@@ -13,6 +13,7 @@ pub loop-at-preserved : goal.loop-at-preserved
 loop-at-preserved c = record {
   rings = c.attend-attended.ensures.rings ∙ c.loop-at.invariant.rings;
   base = c.attend-attended.ensures.base.0 ∙ c.loop-at.invariant.base;
+  board = c.attend-attended.ensures.board ∙ c.loop-at.invariant.board;
   bases = c.attend-attended.ensures.base.1 ∙ c.loop-at.invariant.bases;
   grew = grew_add c.loop-at.invariant.grew c.attend-attended.ensures.grew;
   once = asked_more c.loop-at.at (journal c.args.self.now) (journal c.loop-at.self) (journal c.attend-attended.new.self) c.loop-at.invariant.once c.attend-attended.ensures.once;
@@ -42,6 +43,7 @@ pub loop-at-init : goal.loop-at-init
 loop-at-init c = record {
   rings = refl;
   base = refl;
+  board = refl;
   bases = refl;
   grew = grew_none (journal c.args.self.now) (journal c.args.self.now) (state c.args.self.now) (state c.args.self.now) refl refl;
   once = asked_first (journal c.args.self.now);

@@ -1,5 +1,6 @@
 use Rattle.std.proofs.Common.{◌≡◌, ℕ, ◌*◌, ◌≤◌, ◌<◌}
 use Rattle.vlm_ports.specs.Hubs.{Grew, MayRestAt, base, bases, journal, rings, state}
+use Rattle.vlm_ports.specs.Watched.{board}
 use Rattle.vlm_ports.proofs.Asking.{AskedBelow}
 use Rattle.vlm_ports.proofs.hub.Hub.turn.Given as goal
 
@@ -7,6 +8,7 @@ abbrev pub invariant-loop-at : goal.invariant-loop-at
 invariant-loop-at l = record {
   rings : rings l.self ≡ rings l.initial.self;
   base : base l.self ≡ base l.initial.self;
+  board : board l.self ≡ board l.initial.self;
   bases : bases l.self ≡ bases l.initial.self;
   grew : Grew l.made (journal l.initial.self) (state l.initial.self) (journal l.self) (state l.self);
   once : AskedBelow l.at (journal l.initial.self) (journal l.self);

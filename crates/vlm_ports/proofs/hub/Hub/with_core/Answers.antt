@@ -1,4 +1,4 @@
-use Rattle.std.proofs.Common.{◌≡◌, ◌≤◌, ◌<◌, ◌-◌, ℕ, [], List, sym, subst, get_or, map, arith, length}
+use Rattle.std.proofs.Common.{◌≡◌, refl, ◌≤◌, ◌<◌, ◌-◌, ℕ, [], List, sym, subst, get_or, map, arith, length}
 use Rattle.vlm_journal.specs.declared.entries.Entry.{Entry}
 use Rattle.vlm_ports.specs.Links.{line_base, line_identity, no_base}
 use Rattle.vlm_ports.proofs.Lines.{none_before}
@@ -18,6 +18,7 @@ returns-clause-hub c =
       state = c.new.ensures.state;
       base = c.new.ensures.base;
       nodes = long;
+      unwatched = refl;
       asked = λ node some within. (nothing node some within).0;
       told = λ node some within. (nothing node some within).1;
     }

@@ -1,0 +1,72 @@
+-- What contracts say of a hub that is watched.
+use Rattle.std.specs.Prelude.{◌≡◌, ◌++◌, ◌∷◌, List, [], length, Option, None, Some, IsNone, IsSome}
+use Rattle.logbook.specs.Pages.{Book}
+use Rattle.vlm_ports.specs.declared.hub.Hub.{Hub}
+use Rattle.vlm_watch.specs.declared.board.Board.{Board}
+use Rattle.vlm_watch.specs.declared.rows.Change.{Change}
+use Rattle.vlm_watch.specs.declared.rows.RootKey.{RootKey}
+use Rattle.vlm_watch.specs.declared.watcher.Watcher.{Watcher}
+use Rattle.vlm_watch.specs.Rows.{IsChangeOf}
+use Rattle.vlm_watch.specs.Watching.{board_of, keys_of, name_of, published as published_on}
+
+-- what is published to those who watch the hub, once somebody does
+abbrev pub board : Hub → Option Board
+board h = h.board
+
+-- somebody watches the hub
+abbrev pub IsWatched : Hub → Type 0
+IsWatched h = IsSome (board h)
+
+-- nobody watches the hub
+abbrev pub IsUnwatched : Hub → Type 0
+IsUnwatched h = IsNone (board h)
+
+-- no board
+abbrev pub no_name : Book
+no_name = record { number = 0; log_name = 0; cells_name = 0 }
+
+-- what tells a board from any other, if there is one
+abbrev pub name_in : Option Board → Book
+name_in None = no_name
+name_in (Some board) = name_of board
+
+-- the keys of a board, if there is one
+abbrev pub keys_in : Option Board → List RootKey
+keys_in None = []
+keys_in (Some board) = keys_of board
+
+-- what a board has published, if there is one
+abbrev pub published_in : Option Board → List Change
+published_in None = []
+published_in (Some board) = published_on board
+
+-- what tells a hub that is watched from any other
+abbrev pub board_name : Hub → Book
+board_name h = name_in (board h)
+
+-- the keys under which it is watched
+abbrev pub watched_keys : Hub → List RootKey
+watched_keys h = keys_in (board h)
+
+-- the changes that it has published, the oldest first
+abbrev pub published : Hub → List Change
+published h = published_in (board h)
+
+-- its journal, its core, its rings and what it knows of them are the same
+abbrev pub IsSameHub : Hub → Hub → Type 0
+IsSameHub old new = (new.book ≡ old.book) × (new.lines ≡ old.lines)
+
+-- it is watched as it was: by the same watchers, under the same keys
+abbrev pub IsWatchedAsBefore : Hub → Hub → Type 0
+IsWatchedAsBefore old new =
+    IsWatched new × (board_name new ≡ board_name old) × (watched_keys new ≡ watched_keys old)
+
+-- it has published one change more: the rows of its keys, as its core is, and with the entries made so far
+abbrev pub HasPublished : Hub → Hub → Type 0
+HasPublished old new =
+    (change : Change) × IsChangeOf old.book (watched_keys old) change
+    × (published new ≡ published old ++ change ∷ [])
+
+-- the watcher watches this hub, under as many keys
+abbrev pub Watches : Hub → Watcher → Type 0
+Watches h w = (board_of w ≡ board_name h) × (w.keys ≡ length (watched_keys h))

@@ -1,0 +1,4 @@
+pub mod Beginnings
+pub mod Sheets
+pub mod Lengthening
+pub mod Steps

@@ -1,0 +1,5 @@
+pub mod Rows
+pub mod Histories
+pub mod Sheets
+pub mod Rule
+pub mod Watching

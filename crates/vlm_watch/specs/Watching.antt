@@ -1,0 +1,61 @@
+-- What contracts say of boards, watchers and what these are told.
+use Rattle.std.specs.Prelude.{◌≡◌, ◌++◌, ◌∷◌, ℕ, List, []}
+use Rattle.left_right.specs.Sides.{view}
+use Rattle.logbook.specs.Pages.{Book}
+use Rattle.vlm_journal.specs.Books.{Account}
+use Rattle.vlm_watch.specs.declared.board.Board.{Board}
+use Rattle.vlm_watch.specs.declared.rows.Change.{Change}
+use Rattle.vlm_watch.specs.declared.rows.RootKey.{RootKey}
+use Rattle.vlm_watch.specs.declared.told.Told.{Told}
+use Rattle.vlm_watch.specs.declared.watcher.Watcher.{Watcher}
+use Rattle.vlm_watch.specs.Rows.{IsChangeOf}
+use Rattle.vlm_watch.specs.Rule.{book_of}
+use Rattle.vlm_watch.specs.Sheets.{changes_to}
+
+-- what tells a board from any other
+abbrev pub name_of : Board → Book
+name_of b = b.publisher.history.book
+
+-- the changes that a board has published, the oldest first
+abbrev pub published : Board → List Change
+published b = b.publisher.history.log
+
+-- the keys of a board
+abbrev pub keys_of : Board → List RootKey
+keys_of b = b.keys.items
+
+-- the board has published one change more: the rows of its keys, as the book stands
+abbrev pub HasPublished : Account → Board → Board → Type 0
+HasPublished book old new =
+    (change : Change) × IsChangeOf book (keys_of old) change × (published new ≡ published old ++ change ∷ [])
+
+-- the board that a watcher watches
+abbrev pub board_of : Watcher → Book
+board_of w = book_of (view w.reader.place)
+
+-- the changes that a watcher has seen, of which it showed the last
+abbrev pub seen : Watcher → List Change
+seen w = changes_to w.shown
+
+-- the changes that a watcher was told of
+abbrev pub learnt : Watcher → List Change
+learnt w = w.learnt.history.log
+
+-- it watches the same board, and as many keys
+abbrev pub IsAsBefore : Watcher → Watcher → Type 0
+IsAsBefore old new = (board_of new ≡ board_of old) × (new.keys ≡ old.keys)
+
+-- a watcher of this board and of so many keys, which has seen nothing and was told nothing
+pub record IsNew (board : Book) (keys : ℕ) (w : Watcher) : Type 0 where
+  pub board_is : board_of w ≡ board
+  pub keys_are : w.keys ≡ keys
+  pub blind : seen w ≡ []
+  pub untold : learnt w ≡ []
+
+-- the board of which it is told
+abbrev pub told_board : Told → Book
+told_board t = t.history.book
+
+-- the changes that it tells of
+abbrev pub told_changes : Told → List Change
+told_changes t = t.history.log

@@ -1,0 +1,79 @@
+//! A board: what is published of the resources under some keys.
+
+ghost use Rattle.std.specs.Prelude.{◌≡◌, ◌<◌, ◌≤◌, ◌++◌, ◌∷◌, [], All, IfOk, OnErr, OnOk, vec_len};
+
+use crate::faults::BoardFault;
+use crate::publisher::Publisher;
+use crate::rows::{Change, RootKey};
+use crate::told::Told;
+use crate::watcher::Watcher;
+use std::alloc::{AllocError, Global};
+use std::sync::Wait;
+use vlm_journal::book::Book;
+
+/// What is published of the resources under some keys. It can't be dropped: end it by [`Board::close`].
+pub struct Board {
+    pub(crate) publisher: Publisher,
+    pub(crate) keys: Vec<RootKey>,
+    ghost few: { vec_len keys ≤ 16 },
+}
+
+impl Board {
+    ghost use Rattle.vlm_watch.specs.Watching.{HasPublished, IsNew, keys_of, name_of, published, told_board, told_changes};
+
+    /// A board of 1 to 16 keys with nothing published, and so many watchers of it, 1 to 8. Refused, there is neither, and
+    /// the memory is given back: `Memory` comes first, `Seat` where there is no place for a watcher. It may wait only where
+    /// it is refused.
+    pub fn open<R: Wait>(
+        rt: &R,
+        alloc: Global,
+        keys: Vec<RootKey>,
+        watchers: usize,
+    ) -> Result<(Board, Vec<Watcher>), BoardFault>
+        requires keys { (0 < vec_len keys) × (vec_len keys ≤ 16) }
+        requires watchers { (0 < watchers) × (watchers ≤ 8) }
+        ensures board { IfOk result (λ r. (keys_of r.0 ≡ keys.items) × (published r.0 ≡ [])) }
+        ensures count { IfOk result (λ r. vec_len r.1 ≡ watchers) }
+        ensures each { IfOk result (λ r. All (IsNew (name_of r.0) (vec_len keys)) r.1.items) }
+    {
+        let mut publisher = match Publisher::open(rt, alloc, watchers) {
+            Ok(publisher) => publisher,
+            Err(AllocError) => return Err(BoardFault::Memory),
+        };
+        match publisher.watchers(alloc, keys.len(), watchers) {
+            Ok(all) => Ok((Board { publisher, keys }, all)),
+            Err(fault) => {
+                publisher.close(rt);
+                Err(fault)
+            }
+        }
+    }
+
+    /// Publishes the rows of the keys, as the book stands, and tells what is published then. Refused, where the writer's log
+    /// can't grow or there were 2 ^ 64 - 1 changes, nothing is published. It may wait for readers of the change before the
+    /// last. Its cost grows with the number of keys alone.
+    pub fn publish<R: Wait>(&mut self, rt: &R, book: &Book) -> Result<Told, AllocError>
+        ensures same { (name_of self.new ≡ name_of self.old) × (keys_of self.new ≡ keys_of self.old) }
+        ensures published { OnOk result (HasPublished book.now self.old self.new) }
+        ensures told { IfOk result (λ told. (told_board told ≡ name_of self.old)
+            × (told_changes told ≡ published self.new)) }
+        ensures refused { OnErr result (published self.new ≡ published self.old) }
+    {
+        let change = Change::of(book, self.keys.as_slice());
+        self.publisher.publish(rt, change)
+    }
+
+    /// Tells what is published once more.
+    pub fn tell(&self) -> Told
+        ensures board { told_board result ≡ name_of self.now }
+        ensures told { told_changes result ≡ published self.now }
+    {
+        self.publisher.tell()
+    }
+
+    /// Ends it. It waits for the readers that are in. A watcher that lives on then sees nothing more.
+    pub fn close<R: Wait>(self, rt: &R) {
+        let Board { publisher, keys: _ } = self;
+        publisher.close(rt);
+    }
+}

@@ -1,0 +1,14 @@
+//! Why there is no board.
+
+use thiserror::Error;
+
+/// Why there is no board.
+#[derive(Clone, Copy, Debug, Error, PartialEq, Eq)]
+pub enum BoardFault {
+    /// Memory was refused.
+    #[error("memory")]
+    Memory,
+    /// A place for a watcher was refused.
+    #[error("no seat")]
+    Seat,
+}

@@ -1,0 +1,120 @@
+//! What a watcher is shown of a resource, and a change: the rows of up to 16 resources.
+
+ghost use Rattle.std.specs.Prelude.{◌≡◌, ◌≤◌, IsTrue, length};
+ghost use Rattle.vlm_watch.specs.Rows.{IsChangeOf, absent, row_of, row_with};
+
+use vlm_core::Usage;
+use vlm_journal::book::Book;
+use vlm_words::names::Name;
+use vlm_words::resources::Domain;
+
+/// Where a root resource stands: its domain and its name.
+#[derive(Clone, Copy)]
+pub struct RootKey {
+    /// The space of names that it is in.
+    pub domain: Domain,
+    /// Its name.
+    pub name: Name,
+}
+
+/// What a watcher is shown of a resource. One that is not there has no locks, and a valid value block of zeros.
+#[derive(Clone, Copy, Debug)]
+pub struct Row {
+    /// How many locks hold each mode, from NL to EX: the granted and the converting.
+    pub held: [u32; 6],
+    /// How many conversions wait.
+    pub conversions: u32,
+    /// How many new requests wait.
+    pub waiters: u32,
+    /// The value block.
+    pub value: [u8; 16],
+    /// Whether the value block is valid.
+    pub valid: bool,
+    /// How many entries the hub had made as the row was published, or `u64::MAX` where there were more; 0 before.
+    pub journal: u64,
+}
+
+/// What is published at once: the rows of the keys in their order, and behind them rows of resources that are not there.
+#[derive(Clone, Copy)]
+pub(crate) struct Change {
+    pub(crate) rows: [Row; 16],
+}
+
+impl Row {
+    /// The row of a resource that is not there, before any entry.
+    pub(crate) fn absent() -> Row
+        ensures { result ≡ absent }
+    {
+        Row {
+            held: [0; 6],
+            conversions: 0,
+            waiters: 0,
+            value: [0; 16],
+            valid: true,
+            journal: 0,
+        }
+    }
+
+    // The row of a resource that is used so, or is not there, behind so many entries.
+    fn of(usage: Option<Usage>, journal: u64) -> Row
+        ensures { result ≡ row_with usage journal }
+    {
+        let mut row = Row::absent();
+        row.journal = journal;
+        if let Some(usage) = usage {
+            let (held, value) = (usage.held, usage.value);
+            row.held = held;
+            row.conversions = usage.conversions;
+            row.waiters = usage.waiters;
+            row.value = value;
+            row.valid = usage.valid;
+        }
+        row
+    }
+
+    // Whether the two are equal. An answer of a derive says less of arrays.
+    fn is_same(&self, other: &Row) -> bool
+        ensures { IsTrue result → self.now ≡ other.now }
+    {
+        if self.held != other.held || self.value != other.value {
+            return false;
+        }
+        if self.conversions != other.conversions || self.waiters != other.waiters {
+            return false;
+        }
+        self.valid == other.valid && self.journal == other.journal
+    }
+}
+
+// The row of a resource, as the book stands.
+fn root_row(book: &Book, key: &RootKey) -> Row
+    ensures { result ≡ row_of book.now key.now }
+{
+    Row::of(book.usage(key.domain, key.name), book.made())
+}
+
+impl Change {
+    /// The rows of the resources under these keys, as the book stands.
+    pub(crate) fn of(book: &Book, keys: &[RootKey]) -> Change
+        requires { length keys.now ≤ 16 }
+        ensures { IsChangeOf book.now keys.now result }
+    {
+        let mut rows = [Row::absent(); 16];
+        for (at, key) in keys.iter().enumerate() {
+            rows[at] = root_row(book, key);
+        }
+        Change { rows }
+    }
+
+    /// Whether the two are equal.
+    pub(crate) fn is_same(&self, other: &Change) -> bool
+        ensures { IsTrue result → self.now ≡ other.now }
+    {
+        for at in 0..16 {
+            if !self.rows[at].is_same(&other.rows[at]) {
+                return false;
+            }
+        }
+        true
+    }
+}

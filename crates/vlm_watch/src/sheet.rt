@@ -1,0 +1,80 @@
+//! What readers take, and what a publish asks for.
+
+ghost use Rattle.std.specs.Prelude.{◌≡◌, ◌<◌, None};
+ghost use Rattle.vlm_watch.specs.Sheets.{row_in};
+
+use crate::history::History;
+use crate::rows::{Change, Row};
+use left_right::Absorb;
+use std::alloc::AllocError;
+
+/// What readers take: the last change, if there was one, how many there were, and the history before the last.
+#[derive(Drop)]
+pub(crate) struct Sheet {
+    pub(crate) last: Option<Change>,
+    pub(crate) count: u64,
+    pub(crate) before: History,
+}
+
+/// What a publish asks for: the change, how many there are with it, and the history before it.
+#[derive(Drop)]
+pub(crate) struct Update {
+    pub(crate) change: Change,
+    pub(crate) count: u64,
+    pub(crate) before: History,
+}
+
+// A sheet is written whole, so an update that was never shown leaves nothing behind.
+impl Absorb<Update> for Sheet {
+    ghost use Rattle.vlm_watch.specs.Sheets.{updated};
+
+    type State = Sheet;
+
+    ghost state = { λ sheet. sheet };
+
+    ghost applied = { updated };
+
+    ghost never_fails = { Unit {0} };
+
+    fn absorb_first(&mut self, update: &Update, _other: &Sheet) -> Result<(), AllocError> {
+        self.last = Some(update.change);
+        self.count = update.count;
+        self.before = update.before.again();
+        Ok(())
+    }
+}
+
+impl Sheet {
+    /// A sheet that shows no change.
+    pub(crate) fn blank(history: &History) -> Sheet
+        ensures { result ≡ record { last = None; count = 0; before = history.now } }
+    {
+        Sheet {
+            last: None,
+            count: 0,
+            before: history.again(),
+        }
+    }
+
+    /// A copy.
+    pub(crate) fn again(&self) -> Sheet
+        ensures { result ≡ self.now }
+    {
+        Sheet {
+            last: self.last,
+            count: self.count,
+            before: self.before.again(),
+        }
+    }
+
+    /// The row at a place of the last change, or that of a resource that is not there where there was none.
+    pub(crate) fn row(&self, place: usize) -> Row
+        requires { place < 16 }
+        ensures { result ≡ row_in self.now.last place }
+    {
+        match self.last {
+            Some(change) => change.rows[place],
+            None => Row::absent(),
+        }
+    }
+}

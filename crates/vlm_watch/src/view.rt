@@ -1,0 +1,81 @@
+//! The rule of a board, and what each step on it tells.
+
+use crate::rows::Change;
+use crate::sheet::{Sheet, Update};
+use atomic_table::{Join, Split};
+use crossbeam_utils::rule::{Outcome, Protocol};
+use left_right::reader::Reader;
+use left_right::writer::Writer;
+
+/// What a place at the board knows: the changes that it saw, and of which board it is, as the numbers of its book, once it
+/// knows that. No value of it is made: a clause reads the array as a list of any length.
+pub(crate) struct View {
+    pub(crate) seen: [Change; 0],
+    pub(crate) knows: bool,
+    pub(crate) number: u64,
+    pub(crate) log_name: u64,
+    pub(crate) cells_name: u64,
+}
+
+/// What each place saw is a beginning of what is published.
+pub(crate) struct BeginsWithWhatWasSeen;
+
+impl Protocol<Sheet, View> for BeginsWithWhatWasSeen {
+    ghost use Rattle.vlm_watch.specs.Rule.{Kept, newcomer};
+
+    ghost holds = { Kept };
+
+    ghost first = { newcomer };
+}
+
+/// A reader enters: it sees what is published.
+pub(crate) struct Sees;
+
+impl Outcome<Sheet, View> for Sees {
+    ghost use Rattle.vlm_watch.specs.Rule.{See};
+
+    ghost then = { See };
+}
+
+/// The writer shows a sheet with one change more.
+pub(crate) struct Publishes;
+
+impl Outcome<Sheet, View> for Publishes {
+    ghost use Rattle.vlm_watch.specs.Rule.{Publish};
+
+    ghost then = { Publish };
+}
+
+/// The writer shows the first sheet, and learns of which board it is.
+pub(crate) struct Opens;
+
+impl Outcome<Sheet, View> for Opens {
+    ghost use Rattle.vlm_watch.specs.Rule.{Open};
+
+    ghost then = { Open };
+}
+
+/// A note says of which board it is, and nothing of what was seen. Its taker keeps what it saw.
+pub(crate) struct Notes;
+
+impl Split<View> for Notes {
+    ghost use Rattle.vlm_watch.specs.Rule.{note_of};
+
+    ghost left = { λ view. view };
+
+    ghost right = { note_of };
+}
+
+impl Join<View> for Notes {
+    ghost use Rattle.vlm_watch.specs.Rule.{informed, newcomer};
+
+    ghost both = { informed };
+
+    ghost spent = { newcomer };
+}
+
+/// A watcher's end of a board.
+pub(crate) type SheetReader = Reader<Sheet, View, BeginsWithWhatWasSeen>;
+
+/// The publisher's end of a board.
+pub(crate) type SheetWriter = Writer<Sheet, Update, View, BeginsWithWhatWasSeen>;

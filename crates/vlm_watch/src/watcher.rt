@@ -1,0 +1,132 @@
+//! A watcher: the end of a board that reads.
+
+ghost use Rattle.std.specs.Prelude.{◌≡◌, ◌<◌, ◌≤◌, true, take, length, IfSome, IfNone, OnSome};
+ghost use mathlib.Core.List.{IsPrefix};
+ghost use Rattle.left_right.specs.Sides.{view};
+ghost use Rattle.vlm_watch.specs.Rule.{book_of};
+ghost use Rattle.vlm_watch.specs.Sheets.{changes_to, row_shown};
+
+use crate::rows::Row;
+use crate::sheet::Sheet;
+use crate::told::Told;
+use crate::view::{Sees, SheetReader};
+use core::mem::replace_with;
+
+/// A watcher of a hub, for a thread of its own. Its calls wait for nobody and take no memory.
+#[derive(Drop)]
+pub struct Watcher {
+    pub(crate) reader: SheetReader,
+    // how many keys its board has
+    pub(crate) keys: usize,
+    // the longest of what it was told
+    pub(crate) learnt: Told,
+    // the sheet that it showed last
+    pub(crate) shown: Sheet,
+    ghost few: { keys ≤ 16 },
+    ghost knows: { (view reader.place).knows ≡ true },
+    ghost home: { learnt.history.book ≡ book_of (view reader.place) },
+    ghost saw: { take (length (changes_to shown)) (view reader.place).seen ≡ changes_to shown },
+}
+
+impl Watcher {
+    ghost use Rattle.vlm_watch.specs.Watching.{IsAsBefore, board_of, learnt, seen, told_board, told_changes};
+
+    // Looks at the sheet that is published, and shows its row at a place.
+    fn looking(self, place: usize) -> (Watcher, Option<Row>)
+        requires { place < self.keys }
+        ensures same { IsAsBefore self result.0 }
+        ensures learnt { learnt result.0 ≡ learnt self }
+        ensures row { IfSome result.1 (λ row. row ≡ row_shown (seen result.0) place) }
+        ensures saw { OnSome result.1 (IsPrefix (seen self) (seen result.0)) }
+        ensures told { OnSome result.1 (IsPrefix (learnt self) (seen result.0)) }
+        ensures none { IfNone result.1 (seen result.0 ≡ seen self) }
+    {
+        let Watcher {
+            reader,
+            keys,
+            learnt,
+            shown,
+        } = self;
+        let reading = match reader.enter_as::<Sees>() {
+            Ok(reading) => reading,
+            Err(reader) => {
+                let same = Watcher {
+                    reader,
+                    keys,
+                    learnt,
+                    shown,
+                };
+                return (same, None);
+            }
+        };
+        let sheet = reading.get();
+        if !learnt.begins(sheet) {
+            let same = Watcher {
+                reader: reading.leave(),
+                keys,
+                learnt,
+                shown,
+            };
+            return (same, None);
+        }
+        let shown = sheet.again();
+        let row = shown.row(place);
+        let watcher = Watcher {
+            reader: reading.leave(),
+            keys,
+            learnt,
+            shown,
+        };
+        (watcher, Some(row))
+    }
+
+    /// The row of the key at a place, from 0: of the last change of a list that begins with all that this watcher has seen,
+    /// and with all that it was told. Before any change it is the row of a resource that is not there, with `journal` 0.
+    /// None, and then nothing is changed, where the hub is finished, or where what is shown is less than what was told,
+    /// which comes to nothing: what is told was published before. It takes the same time however much is held.
+    pub fn see(&mut self, place: usize) -> Option<Row>
+        requires { place < self.old.keys }
+        ensures same { IsAsBefore self.old self.new }
+        ensures learnt { learnt self.new ≡ learnt self.old }
+        ensures row { IfSome result (λ row. row ≡ row_shown (seen self.new) place) }
+        ensures saw { OnSome result (IsPrefix (seen self.old) (seen self.new)) }
+        ensures told { OnSome result (IsPrefix (learnt self.old) (seen self.new)) }
+        ensures none { IfNone result (seen self.new ≡ seen self.old) }
+    {
+        replace_with(self, place, |watcher, place| watcher.looking(place))
+    }
+
+    // Takes in what it is told.
+    fn learning(self, told: Told) -> (Watcher, ())
+        requires { told_board told ≡ board_of self }
+        ensures same { IsAsBefore self result.0 }
+        ensures seen { seen result.0 ≡ seen self }
+        ensures learnt { IsPrefix (learnt self) (learnt result.0) }
+        ensures told { IsPrefix (told_changes told) (learnt result.0) }
+    {
+        let Watcher {
+            reader,
+            keys,
+            learnt,
+            shown,
+        } = self;
+        let watcher = Watcher {
+            reader,
+            keys,
+            learnt: learnt.longer(told),
+            shown,
+        };
+        (watcher, ())
+    }
+
+    /// What is seen from now on begins with what is told here. The told value, of the same hub, is used up.
+    pub fn learn(&mut self, told: Told)
+        requires { told_board told ≡ board_of self.old }
+        ensures same { IsAsBefore self.old self.new }
+        ensures seen { seen self.new ≡ seen self.old }
+        ensures learnt { IsPrefix (learnt self.old) (learnt self.new) }
+        ensures told { IsPrefix (told_changes told) (learnt self.new) }
+    {
+        replace_with(self, told, |watcher, told| watcher.learning(told))
+    }
+}
