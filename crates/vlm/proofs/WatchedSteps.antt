@@ -1,6 +1,6 @@
--- The lines of steps, one by one, and what a watch prints, by its end.
-use Rattle.std.proofs.Common.{◌≡◌, ◌∙◌, ◌+◌, ◌-◌, ◌<◌, ◌≤◌, ℕ, List, [], ◌∷◌, ◌++◌, Option, Result, Ok, Err, ap, append-nil, append_assoc, arith, get_or, inl, inr, length, length-append, refl, sym}
-use Rattle.std.specs.Prelude.{IfErr, IfSome, OnErr, OnOk}
+-- The lines of steps, one by one, and what a watch comes to, by its end.
+use Rattle.std.proofs.Common.{◌≡◌, ◌∙◌, ◌+◌, ◌-◌, ◌<◌, ◌≤◌, ℕ, List, [], ◌∷◌, ◌++◌, Option, None, Some, Result, Ok, Err, ap, append-nil, append_assoc, arith, codes, get_or, inl, inr, length, length-append, refl, sym}
+use Rattle.std.specs.Prelude.{IfSome}
 use Rattle.std.specs.Io.KnownBytes.{Appends}
 use Rattle.vlm_script.specs.declared.faults.PlayFault.{PlayFault}
 use Rattle.vlm_script.specs.declared.faults.PlayFault.TheVariants.{Line, Memory, Read, Write, Long}
@@ -11,6 +11,7 @@ use Rattle.vlm_script.specs.Shares.{StopsShares}
 use Rattle.vlm_script.specs.Texts.{watch_line}
 use Rattle.vlm.specs.declared.ends.WatchFault.{WatchFault}
 use Rattle.vlm.specs.declared.ends.WatchFault.TheVariants.{NoAnswer, NoSeat, Play}
+use Rattle.vlm.specs.Ends.{Output, PrintsLine, StartsWatch}
 use Rattle.vlm.specs.Watches.{AreWatched, EndsSteps, EndsWatched, IsWatchText, PrintsWatch, steps_of, watch_text}
 
 -- where there are no rows there are no lines
@@ -50,6 +51,10 @@ one_made steps index step row text next within here is made =
       count = omega (arith, length-append made.rows (row ∷ []), made.count);
       printed = is ∙ ap (λ (t : List ℕ). t ++ watch_line step.line row) made.printed ∙ sym (line_behind steps made.rows step row within here);
     }
+
+-- what comes before the first leaves all
+pub ended_before : (steps : List ScriptStep) (fault : WatchFault) (text : List ℕ) → EndsSteps fault → text ≡ [] → EndsWatched steps (Err fault) text
+ended_before steps fault text ends is = (ends, (length steps, record { rows = []; count = omega arith; printed = is ∙ sym (no_lines steps) }))
 
 -- what ends the steps leaves the others
 pub ended_behind : (steps : List ScriptStep) (index : ℕ) (fault : WatchFault) (text last : List ℕ) → index < length steps → EndsSteps fault → last ≡ text
@@ -94,3 +99,9 @@ module _ (script old new : Option (List ℕ)) where
       → EndsWatched steps end text → PassesPart old new text → PrintsWatch script (Err (Play Write)) old new
   prints_part steps (Ok done) text read made part = (0, text, watched_text script steps 0 text read made, part)
   prints_part steps (Err fault) text read made part = (made.1.0, text, watched_text script steps made.1.0 text read made.1.1, part)
+
+-- no resource has the name
+pub name_refused : (name script : Option (List ℕ)) (old new : Output) (status : ℕ) → name ≡ None → new.printed ≡ old.printed
+    → PrintsLine (codes "wrong name\n") old.faults new.faults → status ≡ 2 → StartsWatch name script script old new status
+name_refused None script old new status is same told ended = (refl, record { printed = same; faults = told; ended = ended })
+name_refused (Some name) script old new status is same told ended = cc

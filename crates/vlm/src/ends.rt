@@ -6,6 +6,7 @@ ghost use Rattle.vlm.specs.Ends.{PrintsLine, watch_fault_line, watch_status_of};
 use crate::run::{FAILED, failed, refused_by};
 use std::alloc::AllocError;
 use std::io::Write;
+use vlm_ports::BoardFault;
 use vlm_script::PlayFault;
 
 /// What ends a watch before the last step of its script.
@@ -56,5 +57,19 @@ impl From<AllocError> for WatchFault {
     /// Want of memory ends a watch.
     fn from(_refused: AllocError) -> WatchFault {
         WatchFault::Play(PlayFault::Memory)
+    }
+}
+
+impl From<BoardFault> for WatchFault {
+    ghost use Rattle.vlm.specs.Watches.{EndsSteps};
+
+    ghost from_gives = { λ _ ended. EndsSteps ended };
+
+    /// Without a board there is no watch.
+    fn from(fault: BoardFault) -> WatchFault {
+        match fault {
+            BoardFault::Memory => WatchFault::Play(PlayFault::Memory),
+            BoardFault::Seat => WatchFault::NoSeat,
+        }
     }
 }

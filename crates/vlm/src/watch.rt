@@ -1,18 +1,19 @@
 //! A resource that is watched while the steps of a script are made.
 
-ghost use Rattle.std.specs.Prelude.{◌≡◌, [], MatchResult};
+ghost use Rattle.std.specs.Prelude.{◌≡◌, []};
 ghost use Rattle.vlm_script.specs.Plays.{ConsumesAtMost};
 ghost use Rattle.vlm.specs.Ends.{RunsWatch, StartsNamedWatch, StartsWatch, output_of};
 ghost use Rattle.vlm.specs.Watches.{EndsWatched, PrintsWatch};
 
 use crate::ends::WatchFault;
 use crate::run::{DONE, REFUSED, random_keys, refused_by, without_random_bytes};
-use crate::watched::{NODES, RootKey, WatchedHub};
+use crate::watched::{NODES, WatchedHub};
 use crate::words::Subject;
 use std::alloc::Global;
 use std::io::{Read, Write};
 use std::random::RandomSource;
 use std::sync::Wait;
+use vlm_ports::RootKey;
 use vlm_script::{HashKeys, ScriptStep, read_steps, write_whole};
 
 /// Watches a resource by a script, where it has a name.
@@ -104,7 +105,10 @@ fn watch_steps(
     requires { text.old.items ≡ [] }
     ensures { EndsWatched steps.now result text.new.items }
 {
-    let mut watched = WatchedHub::open(rt, rt.alloc(), keys, key)?;
+    let mut watched = match WatchedHub::open(rt, rt.alloc(), keys, key) {
+        Ok(watched) => watched,
+        Err(fault) => return Err(fault),
+    };
     let end = watched.make_all(rt, rt.alloc(), steps, text);
     watched.finish(rt);
     end

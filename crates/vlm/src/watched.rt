@@ -1,6 +1,7 @@
 //! A hub that is watched, with its ports and its watcher in one hand.
 
-ghost use Rattle.std.specs.Prelude.{◌≡◌, ◌++◌, [], IfErr, OnErr, OnOk};
+ghost use Rattle.std.specs.Prelude.{◌≡◌, ◌++◌, ◌<◌, [], IfErr, OnErr, OnOk};
+ghost use Rattle.vlm_ports.specs.Watched.{IsWatched, Watches};
 ghost use Rattle.vlm_script.specs.Texts.{watch_line};
 ghost use Rattle.vlm_script.specs.declared.printing.rows.WatchedRow.{WatchedRow};
 ghost use Rattle.vlm.specs.Watches.{EndsSteps, EndsWatched};
@@ -8,32 +9,37 @@ ghost use Rattle.vlm.specs.Watches.{EndsSteps, EndsWatched};
 use crate::ends::WatchFault;
 use std::alloc::Global;
 use std::sync::Wait;
-use vlm_script::{HashKeys, ScriptStep, WatchedRow, watch_line};
-use vlm_words::names::Name;
-use vlm_words::resources::Domain;
+use vlm_core::Core;
+use vlm_journal::entries::Item;
+use vlm_ports::{Hub, Port, RootKey, Row, Turn, Watcher};
+use vlm_script::{HashKeys, PlayFault, ScriptStep, WatchedRow, watch_line};
 use vlm_words::steps::Step;
 
 /// How many nodes the hub serves.
 pub(crate) const NODES: u8 = 8;
 
-#[derive(Clone, Copy)]
-pub(crate) struct RootKey {
-    pub(crate) domain: Domain,
-    pub(crate) name: Name,
-}
+// How many turns in a row may bring a port nothing while it waits.
+const TURNS: usize = 10;
 
-#[derive(Clone, Copy)]
-struct Row {
-    held: [u32; 6],
-    conversions: u32,
-    waiters: u32,
-    value: [u8; 16],
-    valid: bool,
-}
-
-#[derive(Drop)]
+/// A hub of eight nodes that is watched, with their ports and a watcher of one resource. End it by
+/// [`WatchedHub::finish`].
 pub(crate) struct WatchedHub {
-    nodes: u8,
+    hub: Hub,
+    ports: Vec<Port>,
+    watcher: Watcher,
+    ghost watched: { IsWatched hub },
+    ghost ours: { Watches hub watcher },
+    ghost one: { 0 < watcher.keys },
+}
+
+// What came to a port.
+#[derive(Clone, Copy, PartialEq, Eq)]
+enum Came {
+    Nothing,
+    // ASTs alone
+    Asts,
+    // an answer, too
+    Answer,
 }
 
 impl WatchedHub {
@@ -46,7 +52,24 @@ impl WatchedHub {
     ) -> Result<WatchedHub, WatchFault>
         ensures { IfErr result EndsSteps }
     {
-        Err(WatchFault::NoSeat)
+        let subjects = Vec::from_elem(alloc, key, 1)?;
+        let (mut hub, ports) = Hub::with_core(alloc, Core::with_keys(alloc, keys), 8)?;
+        let mut watchers = match hub.watch(rt, alloc, subjects, 1) {
+            Ok(watchers) => watchers,
+            Err(fault) => {
+                hub.finish(rt);
+                return Err(WatchFault::from(fault));
+            }
+        };
+        let Some(watcher) = watchers.pop() else {
+            hub.finish(rt);
+            return Err(WatchFault::NoSeat);
+        };
+        Ok(WatchedHub {
+            hub,
+            ports,
+            watcher,
+        })
     }
 
     /// Makes steps in order, and puts the line of what is seen behind each into the text. Its cost for
@@ -85,7 +108,7 @@ impl WatchedHub {
         ensures same { OnErr result (text.new.items ≡ text.old.items) }
         ensures faults { IfErr result EndsSteps }
     {
-        let place = post(step.step)?;
+        let place = post(&mut self.ports, step.step)?;
         self.turn_until_answered(place)?;
         let row = self.publish(rt)?;
         line.clear();
@@ -94,27 +117,107 @@ impl WatchedHub {
         Ok(())
     }
 
+    // Has the hub make turns until the port at a place has an answer.
     fn turn_until_answered(&mut self, place: usize) -> Result<(), WatchFault>
         ensures { IfErr result EndsSteps }
     {
+        for _ in 0..u64::MAX {
+            if self.turn_until_told(place)? == Came::Answer {
+                return Ok(());
+            }
+        }
         Err(WatchFault::NoAnswer)
+    }
+
+    // Has the hub make turns until something comes to the port at a place.
+    fn turn_until_told(&mut self, place: usize) -> Result<Came, WatchFault>
+        ensures { IfErr result EndsSteps }
+    {
+        for _ in 0..TURNS {
+            let came = self.turn(place)?;
+            if came != Came::Nothing {
+                return Ok(came);
+            }
+        }
+        Err(WatchFault::NoAnswer)
+    }
+
+    // Has the hub make a turn, and says what came to the port at a place.
+    fn turn(&mut self, place: usize) -> Result<Came, WatchFault>
+        ensures { IfErr result EndsSteps }
+    {
+        match self.hub.turn() {
+            Turn::NoMemory(_) => Err(WatchFault::Play(PlayFault::Memory)),
+            Turn::Served(_) | Turn::Idle => Ok(take_all(&mut self.ports, place)),
+        }
     }
 
     // Publishes how the resource stands, and answers what the watcher sees of it then.
     fn publish<R: Wait>(&mut self, rt: &R) -> Result<Row, WatchFault>
         ensures { IfErr result EndsSteps }
     {
-        Err(WatchFault::NoSeat)
+        let told = self.hub.publish(rt)?;
+        self.hub.cut();
+        self.watcher.learn(told);
+        match self.watcher.see(0) {
+            Some(row) => Ok(row),
+            None => Err(WatchFault::NoSeat),
+        }
     }
 
     /// Ends it.
-    pub(crate) fn finish<R: Wait>(self, rt: &R) {}
+    pub(crate) fn finish<R: Wait>(self, rt: &R) {
+        let WatchedHub {
+            hub,
+            ports: _,
+            watcher: _,
+        } = self;
+        hub.finish(rt);
+    }
 }
 
-fn post(step: Step) -> Result<usize, WatchFault>
+// Posts a step at the port that may post it, and says at which place that is.
+fn post(ports: &mut [Port], step: Step) -> Result<usize, WatchFault>
     ensures { IfErr result EndsSteps }
 {
-    Ok(0)
+    for (place, port) in ports.iter_mut().enumerate() {
+        if port.may_post(&step) {
+            return match port.post(step) {
+                Ok(()) => Ok(place),
+                Err(_) => Err(WatchFault::NoAnswer),
+            };
+        }
+    }
+    Err(WatchFault::NoAnswer)
+}
+
+// Takes all that waits at each port, and says what came to the one at a place.
+fn take_all(ports: &mut [Port], place: usize) -> Came {
+    let mut came = Came::Nothing;
+    for (at, port) in ports.iter_mut().enumerate() {
+        let taken = take_items(port);
+        if at == place {
+            came = taken;
+        }
+    }
+    came
+}
+
+// Takes all that waits at a port.
+fn take_items(port: &mut Port) -> Came {
+    let mut came = Came::Nothing;
+    for _ in 0..u64::MAX {
+        match port.take() {
+            None => return came,
+            Some(Item::Answer(_)) => came = Came::Answer,
+            Some(Item::Ast(_, _)) => {
+                if came == Came::Nothing {
+                    came = Came::Asts;
+                }
+            }
+        }
+    }
+    came
 }
 
 // What is printed of a row.

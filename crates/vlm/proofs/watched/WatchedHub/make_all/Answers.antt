@@ -1,4 +1,3 @@
-use Rattle.std.proofs.Common.{rules}
 use Rattle.vlm.proofs.WatchedSteps.{ended_behind, none_left, none_made, one_made}
 use Rattle.vlm.proofs.watched.WatchedHub.make_all.Goals as goal
 

@@ -8,11 +8,11 @@ use Rattle.vlm_cluster.proofs.Accounting.{accounts_cut, entries_with}
 use Rattle.vlm_cluster.proofs.desk.Desk.report.Goals as goal
 
 pub returns-clause-entries : goal.returns-clause-entries
-returns-clause-entries c =
+returns-clause-entries g c =
     entries_with c.args.self.parts.items c.cut-rest.result ∙ ap (λ (es : List Entry). entries_in c.args.self.parts.items ++ es) c.cut-rest.ensures.entries
 
 pub returns-clause-legal : goal.returns-clause-legal
-returns-clause-legal c =
+returns-clause-legal g c =
     let cut = c.cut-rest.ensures in
     let all = accounts_cut c.args.self.parts.items c.cut-rest.result c.args.self.hub c.cut-rest.new.self c.requires
     cut.rings cut.entries cut.number cut.left cut.next cut.state cut.before in
@@ -21,7 +21,7 @@ returns-clause-legal c =
     subst (λ (s : State). Journal entries s) (sym c.finish-core.ensures.state) (subst (λ (es : List Entry). Journal es (state c.cut-rest.new.self)) rest all.legal)
 
 pub returns-clause-numbered : goal.returns-clause-numbered
-returns-clause-numbered c =
+returns-clause-numbered g c =
     let cut = c.cut-rest.ensures in
     (accounts_cut c.args.self.parts.items c.cut-rest.result c.args.self.hub c.cut-rest.new.self c.requires
     cut.rings cut.entries cut.number cut.left cut.next cut.state cut.before).numbered
