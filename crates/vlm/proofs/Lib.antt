@@ -6,3 +6,5 @@ mod Memory
 mod Numbered
 mod Play
 mod Printed
+mod WatchWords
+mod WatchedSteps

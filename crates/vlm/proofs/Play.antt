@@ -22,3 +22,9 @@ pub play_is_no_cluster : (name : Text) (words : List Text) → words ≡ name �
 play_is_no_cluster name words are named =
     let bad : Some (codes "play") ≡ Some (codes "cluster") = sym (play_named name) ∙ subst (λ w. named_command w ≡ Some (codes "cluster")) are named in
     cc
+
+-- and no watch
+pub play_is_no_watch : (name : Text) (words : List Text) → words ≡ name ∷ codes "play" ∷ [] → named_command words ≡ Some (codes "watch") → ⊥
+play_is_no_watch name words are named =
+    let bad : Some (codes "play") ≡ Some (codes "watch") = sym (play_named name) ∙ subst (λ w. named_command w ≡ Some (codes "watch")) are named in
+    cc

@@ -1,11 +1,15 @@
 -- What a call of the program comes to: its exit status, and what it has then read and written.
-use Rattle.std.specs.Prelude.{◌≡◌, ◌≢◌, ℕ, List, [], ◌⊎◌, Option, Some, Result, Ok, Err, IfSome, codes}
+use Rattle.std.specs.Prelude.{◌≡◌, ◌≢◌, ℕ, List, [], ◌⊎◌, Option, None, Some, Result, Ok, Err, IfSome, codes}
 use Rattle.std.specs.Io.KnownBytes.{Appends}
 use Rattle.clap.specs.Words.{Text}
 use Rattle.clap.specs.declared.error.kind.ErrorKind.{ErrorKind}
 use Rattle.clap.specs.declared.error.kind.ErrorKind.TheVariants.{OutOfMemory}
+use Rattle.vlm.specs.declared.ends.WatchFault.{WatchFault}
+use Rattle.vlm.specs.declared.ends.WatchFault.TheVariants.{NoAnswer, NoSeat, Play}
+use Rattle.vlm.specs.declared.words.Subject.{Subject}
 use Rattle.vlm.specs.Clusters.{PrintsCluster}
-use Rattle.vlm.specs.Words.{AskForCluster, IsErrorOf, IsHelp, named_command, word_errors}
+use Rattle.vlm.specs.Watches.{PrintsWatch}
+use Rattle.vlm.specs.Words.{AskForCluster, AskForPlay, AskForWatch, IsErrorOf, IsHelp, word_errors}
 use Rattle.vlm_script.specs.declared.faults.PlayFault.{PlayFault}
 use Rattle.vlm_script.specs.declared.faults.PlayFault.TheVariants.{Line, Memory, Read, Write, Long}
 use Rattle.vlm_script.specs.Faults.{fault_line}
@@ -29,10 +33,13 @@ status_of (Err Read) = 3
 status_of (Err Write) = 3
 status_of (Err Long) = 3
 
+-- this line is printed, or where a write fails only a first part of it
+abbrev pub PrintsLine : List ℕ → Option (List ℕ) → Option (List ℕ) → Type 0
+PrintsLine line old new = Appends old new line ⊎ PassesPart old new line
+
 -- a fault's line is printed, or where a write fails only a first part of it
 abbrev pub PrintsFault : PlayFault → Option (List ℕ) → Option (List ℕ) → Type 0
-PrintsFault fault old new =
-    Appends old new (fault_line fault) ⊎ PassesPart old new (fault_line fault)
+PrintsFault fault old new = PrintsLine (fault_line fault) old new
 
 -- what a run's end puts on standard error: nothing, or its fault
 abbrev pub PrintsEnd : Result (Unit {0}) PlayFault → Option (List ℕ) → Option (List ℕ) → Type 0
@@ -54,8 +61,7 @@ random_bytes_line = codes "no random bytes\n"
 
 -- that line is printed, or where a write fails only a first part of it
 abbrev pub PrintsNoRandomBytes : Option (List ℕ) → Option (List ℕ) → Type 0
-PrintsNoRandomBytes old new =
-    Appends old new random_bytes_line ⊎ PassesPart old new random_bytes_line
+PrintsNoRandomBytes old new = PrintsLine random_bytes_line old new
 
 -- the system gave no random bytes
 pub record WantsRandomBytes (old new : Output) (status : ℕ) : Type 0 where
@@ -83,12 +89,58 @@ StartsCluster nodes script left old new status =
     RunsCluster nodes script left old new status
     ⊎ ((left ≡ script) × WantsRandomBytes old new status)
 
--- what the words ask for was started: a cluster where they name it, and else a run
+-- the line of what ended a watch
+abbrev pub watch_fault_line : WatchFault → List ℕ
+watch_fault_line (Play fault) = fault_line fault
+watch_fault_line NoSeat = codes "no seat\n"
+watch_fault_line NoAnswer = codes "no answer\n"
+
+-- the exit status of a watch: that of a run where it ended as one, and else 3
+abbrev pub watch_status_of : Result (Unit {0}) WatchFault → ℕ
+watch_status_of (Ok done) = 0
+watch_status_of (Err (Play fault)) = status_of (Err fault)
+watch_status_of (Err NoSeat) = 3
+watch_status_of (Err NoAnswer) = 3
+
+-- what a watch's end puts on standard error: nothing, or its line
+abbrev pub PrintsWatchEnd : Result (Unit {0}) WatchFault → Option (List ℕ) → Option (List ℕ) → Type 0
+PrintsWatchEnd (Ok done) old new = new ≡ old
+PrintsWatchEnd (Err fault) old new = PrintsLine (watch_fault_line fault) old new
+
+-- a resource was watched by a script: the status and the line on standard error are those of its end
+pub record RunsWatch (script left : Option (List ℕ)) (old new : Output) (status : ℕ) : Type 0 where
+  pub end : Result (Unit {0}) WatchFault
+  pub printed : PrintsWatch script end old.printed new.printed
+  pub reads : ConsumesAtMost 16777217 script left
+  pub ended : status ≡ watch_status_of end
+  pub faults : PrintsWatchEnd end old.faults new.faults
+
+-- no resource has the name that the words give
+pub record RefusesName (old new : Output) (status : ℕ) : Type 0 where
+  pub printed : new.printed ≡ old.printed
+  pub faults : PrintsLine (codes "wrong name\n") old.faults new.faults
+  pub ended : status ≡ 2
+
+-- a resource was watched by a script, or the system gave no random bytes, and nothing was read
+abbrev pub StartsNamedWatch : Option (List ℕ) → Option (List ℕ) → Output → Output → ℕ → Type 0
+StartsNamedWatch script left old new status =
+    RunsWatch script left old new status
+    ⊎ ((left ≡ script) × WantsRandomBytes old new status)
+
+-- the resource of this name was to be watched, or no resource has the name that was given, and nothing was read
+abbrev pub StartsWatch : Option (List ℕ) → Option (List ℕ) → Option (List ℕ) → Output → Output → ℕ
+    → Type 0
+StartsWatch None script left old new status = (left ≡ script) × RefusesName old new status
+StartsWatch (Some name) script left old new status = StartsNamedWatch script left old new status
+
+-- what the words ask for was started: a cluster or a watch where they name it, and else a run
 abbrev pub StartsTask : List Text → Option (List ℕ) → Option (List ℕ)
     → Output → Output → ℕ → Type 0
 StartsTask words script left old new status =
-    (¬ (named_command words ≡ Some (codes "cluster")) × StartsRun script left old new status)
+    (AskForPlay words × StartsRun script left old new status)
     ⊎ ((nodes : ℕ) × AskForCluster words nodes × StartsCluster nodes script left old new status)
+    ⊎ ((subject : Subject) × AskForWatch words subject
+    × StartsWatch subject.name script left old new status)
 
 -- the help that was asked for stands on standard output
 pub record GivesHelp (old new : Output) (status : ℕ) : Type 0 where
@@ -141,3 +193,9 @@ RunsOrWantsMemory script left old new status =
 abbrev pub ClustersOrWantsMemory : ℕ → Option (List ℕ) → Option (List ℕ) → Output → Output → ℕ → Type 0
 ClustersOrWantsMemory nodes script left old new status =
     StartsCluster nodes script left old new status ⊎ ((left ≡ script) × WantsMemory old new status)
+
+-- a watch of the resource of this name was started, or memory ran out before
+abbrev pub WatchesOrWantsMemory : Option (List ℕ) → Option (List ℕ) → Option (List ℕ) → Output → Output → ℕ
+    → Type 0
+WatchesOrWantsMemory name script left old new status =
+    StartsWatch name script left old new status ⊎ ((left ≡ script) × WantsMemory old new status)

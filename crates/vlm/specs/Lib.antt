@@ -1,3 +1,4 @@
 pub mod Words
 pub mod Clusters
+pub mod Watches
 pub mod Ends

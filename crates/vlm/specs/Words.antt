@@ -1,11 +1,16 @@
 -- The words that the program takes, what they ask for, and the kinds of error that others get.
-use Rattle.std.specs.Prelude.{◌≡◌, ◌≤◌, ◌⊎◌, ℕ, List, [], ◌∷◌, Option, Some, true, codes, decimal, option_and_then, option_map, pos}
-use Rattle.clap.specs.Words.{App, IsAmong, Kinds, Rule, Text, fault_of, new_app, new_rule, one_of, subcommand_of, with_rule, with_subcommand}
+use Rattle.std.specs.Prelude.{◌≡◌, ◌≤◌, ◌⊎◌, ℕ, List, [], ◌∷◌, ◌++◌, Option, None, Some, true, codes, decimal, option_and_then, option_map, pos}
+use Rattle.std.specs.Result.{result_ok}
+use Rattle.clap.specs.Words.{App, IsAmong, Kinds, Rule, Text, fault_of, first_of, new_app, new_rule, one_of, subcommand_of, with_rule, with_subcommand}
 use Rattle.clap.specs.declared.builder.value_parser.ValueParser.TheVariants.{Signed}
 use Rattle.clap.specs.declared.error.kind.ErrorKind.{ErrorKind}
 use Rattle.clap.specs.declared.error.kind.ErrorKind.TheVariants.{DisplayHelp, DisplayVersion, OutOfMemory}
+use Rattle.vlm_words.specs.declared.resources.Domain.TheVariants.{Group, System}
+use Rattle.vlm_words.specs.Names.{name_of}
+use Rattle.vlm_lines.specs.Lines.{name_read}
+use Rattle.vlm.specs.declared.words.Subject.{Subject}
 use Rattle.vlm.specs.declared.words.Task.{Task}
-use Rattle.vlm.specs.declared.words.Task.TheVariants.{Cluster, Play}
+use Rattle.vlm.specs.declared.words.Task.TheVariants.{Cluster, Play, Watch}
 
 -- a command that needs one of its subcommands
 abbrev pub with_needed_subcommand : App → App
@@ -24,12 +29,36 @@ nodes_rule = record (new_rule (codes "nodes")) {
 abbrev pub cluster_command : App
 cluster_command = with_rule (new_app (codes "cluster")) nodes_rule
 
--- the program's commands, `play` and `cluster`, of which one is needed
-abbrev pub program_commands : App
-program_commands =
+-- the option of a resource's name, which has to be given
+abbrev pub name_rule : Rule
+name_rule = record (new_rule (codes "name")) {
+  long = Some (codes "name");
+  value_names = 1;
+  required = true;
+}
+
+-- the option of a group, from 0 to 65,535
+abbrev pub group_rule : Rule
+group_rule = record (new_rule (codes "group")) {
+  long = Some (codes "group");
+  value_names = 1;
+  parser = Some (Signed (pos 0) (pos 65535));
+}
+
+-- the command that has these two options
+abbrev pub watch_command : App
+watch_command = with_rule (with_rule (new_app (codes "watch")) name_rule) group_rule
+
+-- a command that needs one of these: `play`, or `cluster`
+abbrev pub play_or_cluster : App
+play_or_cluster =
     with_subcommand
     (with_subcommand (with_needed_subcommand (new_app (codes "vlm"))) (new_app (codes "play")).top)
     cluster_command.top
+
+-- the program's commands, `play`, `cluster` and `watch`, of which one is needed
+abbrev pub program_commands : App
+program_commands = with_subcommand play_or_cluster watch_command.top
 
 -- the kinds of error that the words may get: none where they ask for a run
 abbrev pub word_errors : List Text → Kinds
@@ -59,13 +88,49 @@ pub record AskForCluster (words : List Text) (nodes : ℕ) : Type 0 where
   pub most : nodes ≤ 8
   pub number : (n : ℕ) → 1 ≤ n → n ≤ 8 → named_nodes words ≡ Some (decimal n) → nodes ≡ n
 
--- the words ask for this: a cluster where they name it, and else a run
+-- the name that a text gives as in a script, if a resource has such a one
+abbrev pub name_given : Text → Option (List ℕ)
+name_given text = option_and_then (λ given. result_ok (name_of given)) (name_read text)
+
+-- the text that the words give as the name of a resource
+abbrev pub named_resource : List Text → Option Text
+named_resource words =
+    option_and_then (λ s. first_of (codes "name") s.1) (subcommand_of program_commands words)
+
+-- the name that the words give a resource, if a resource has such a one
+abbrev pub watched_name : List Text → Option (List ℕ)
+watched_name words = option_and_then name_given (named_resource words)
+
+-- the group that the words give it, as they write it
+abbrev pub named_group : List Text → Option Text
+named_group words =
+    option_and_then (λ s. one_of (codes "group") s.1) (subcommand_of program_commands words)
+
+-- the words ask that this be watched: the resource of the name that they give, in the group that they give, or in the
+-- system's domain where they give none
+pub record AskForWatch (words : List Text) (subject : Subject) : Type 0 where
+  pub command : named_command words ≡ Some (codes "watch")
+  pub name : subject.name ≡ watched_name words
+  pub group : (n : ℕ) → n ≤ 65535 → named_group words ≡ Some (decimal n) → subject.domain ≡ Group n
+  pub system : named_group words ≡ None → subject.domain ≡ System
+
+-- the words ask for a run: they name no other command
+pub record AskForPlay (words : List Text) : Type 0 where
+  pub no_cluster : ¬ (named_command words ≡ Some (codes "cluster"))
+  pub no_watch : ¬ (named_command words ≡ Some (codes "watch"))
+
+-- the words ask for this: a cluster or a watch where they name it, and else a run
 abbrev pub AskFor : List Text → Task → Type 0
-AskFor words Play = ¬ (named_command words ≡ Some (codes "cluster"))
+AskFor words Play = AskForPlay words
 AskFor words (Cluster nodes) = AskForCluster words nodes
+AskFor words (Watch subject) = AskForWatch words subject
 
 -- the words `NAME cluster --nodes N`, or `NAME cluster` where it is two nodes
 abbrev pub AreClusterWords : Text → ℕ → List Text → Type 0
 AreClusterWords name nodes words =
     (words ≡ name ∷ codes "cluster" ∷ codes "--nodes" ∷ decimal nodes ∷ [])
     ⊎ ((nodes ≡ 2) × (words ≡ name ∷ codes "cluster" ∷ []))
+
+-- the words `NAME watch --name=RES`
+abbrev pub AreWatchWords : Text → Text → List Text → Type 0
+AreWatchWords name res words = words ≡ name ∷ codes "watch" ∷ (codes "--name=" ++ res) ∷ []

@@ -2,10 +2,11 @@
 
 ghost use Rattle.std.specs.Prelude.{◌≡◌, ◌⊎◌, ◌≤◌, ℕ, List, [], ◌∷◌, Err, codes, map};
 ghost use Rattle.clap.specs.Words.{kind_of};
-ghost use Rattle.vlm.specs.Words.{AreClusterWords};
-ghost use Rattle.vlm.specs.Ends.{ClustersOrWantsMemory, EndsByError, EndsByWords, FailsHelp, GivesHelp, PrintsFault, PrintsNoRandomBytes, RunsOrWantsMemory, RunsScript, StartsRun, output_of, status_of};
+ghost use Rattle.vlm.specs.Words.{AreClusterWords, AreWatchWords, name_given};
+ghost use Rattle.vlm.specs.Ends.{ClustersOrWantsMemory, EndsByError, EndsByWords, FailsHelp, GivesHelp, PrintsFault, PrintsLine, PrintsNoRandomBytes, RunsOrWantsMemory, RunsScript, StartsRun, WatchesOrWantsMemory, output_of, status_of};
 
 use crate::cluster::start_cluster;
+use crate::watch::start_watch;
 use crate::words::{Task, chosen};
 use clap::Error;
 use clap::error::ErrorKind;
@@ -23,14 +24,14 @@ pub(crate) const DONE: u8 = 0;
 // A line of the script has a fault.
 const SCRIPT_FAULT: u8 = 1;
 // The command line is refused.
-const REFUSED: u8 = 2;
-// Memory, random bytes, a stream or the script's length did not serve.
-const FAILED: u8 = 3;
+pub(crate) const REFUSED: u8 = 2;
+// Memory, random bytes, a stream, the script's length or the hub did not serve.
+pub(crate) const FAILED: u8 = 3;
 
 /// Runs the program on its words, the first of which is its name, and answers its exit status: 0
 /// where it is done, or help was asked for and printed; 1 for a fault of the script; 2 where the
-/// command line is refused; 3 for want of memory or of random bytes, a failed read or write, or a script that
-/// is too long. What is wrong is printed on `faults`; where that fails, the status stays.
+/// command line is refused; 3 for want of memory, of random bytes, of a watcher's seat or of an answer,
+/// a failed read or write, or a script that is too long. What is wrong is printed on `faults`; where that fails, the status stays.
 pub fn run_words<S: AsStr, R: Read, W: Write, F: Write>(
     rt: &(impl AllocGlobal + RandomSource + Threads + Wait + Clock + Copy + Send + 'static),
     words: &[S],
@@ -55,11 +56,18 @@ pub fn run_words<S: AsStr, R: Read, W: Write, F: Write>(
         → ClustersOrWantsMemory nodes (R.remaining reader.old) (R.remaining reader.new)
         (output_of (W.contents writer.old) (F.contents faults.old))
         (output_of (W.contents writer.new) (F.contents faults.new)) result }
+
+    // The words `NAME watch --name=RES` have the resource watched whose name RES gives, if it gives one.
+    ensures watch { (name res : List ℕ) → AreWatchWords name res (map S.text words.now)
+        → WatchesOrWantsMemory (name_given res) (R.remaining reader.old) (R.remaining reader.new)
+        (output_of (W.contents writer.old) (F.contents faults.old))
+        (output_of (W.contents writer.new) (F.contents faults.new)) result }
 {
     let alloc = rt.alloc();
     match chosen(alloc, words) {
         Ok(Task::Play) => start_run(rt, reader, writer, faults),
         Ok(Task::Cluster(nodes)) => start_cluster(rt, nodes, reader, writer, faults),
+        Ok(Task::Watch(subject)) => start_watch(rt, subject, reader, writer, faults),
         Err(error) => refused(alloc, &error, writer, faults),
     }
 }
@@ -95,8 +103,16 @@ pub(crate) fn without_random_bytes<F: Write>(faults: &mut F) -> u8
     ensures status { result ≡ 3 }
     ensures faults { PrintsNoRandomBytes (F.contents faults.old) (F.contents faults.new) }
 {
-    let _ = write_whole(faults, b"no random bytes\n");
-    FAILED
+    refused_by(b"no random bytes\n", FAILED, faults)
+}
+
+/// Prints a line, and answers this exit status. A line that can't be printed changes no status.
+pub(crate) fn refused_by<F: Write>(line: &[u8], status: u8, faults: &mut F) -> u8
+    ensures status { result ≡ status }
+    ensures faults { PrintsLine line.now (F.contents faults.old) (F.contents faults.new) }
+{
+    let _ = write_whole(faults, line);
+    status
 }
 
 // Runs the script, and prints the fault that ended it.

@@ -1,13 +1,16 @@
 //! The words that the program takes, and what they ask for.
 
-ghost use Rattle.std.specs.Prelude.{◌≡◌, ◌≤◌, ℕ, IfOk, Some, codes, decimal, false, map};
-ghost use Rattle.clap.specs.Words.{FailsBy, app_of, found_of, new_app, one_text, rule_of};
+ghost use Rattle.std.specs.Prelude.{◌≡◌, ◌≤◌, ℕ, IfOk, None, Some, codes, decimal, false, map, option_and_then};
+ghost use Rattle.clap.specs.Words.{FailsBy, app_of, first_value, found_of, new_app, one_text, rule_of};
 ghost use Rattle.clap.specs.declared.builder.command.Command.TheViews.{out-Command as fields_of};
-ghost use Rattle.vlm.specs.Words.{AskFor, cluster_command, nodes_rule, program_commands, word_errors};
+ghost use Rattle.vlm.specs.Words.{AskFor, cluster_command, group_rule, name_given, name_rule, nodes_rule, program_commands, watch_command, word_errors};
 
 use clap::{Arg, ArgMatches, Command, Error, value_parser};
 use std::alloc::{AllocError, Global};
 use std::convert::AsStr;
+use vlm_script::read_res;
+use vlm_words::names::Name;
+use vlm_words::resources::Domain;
 
 const ABOUT: &str =
     "The lock manager of OpenVMS: lock modes, queues, value blocks, run from a script";
@@ -81,6 +84,46 @@ prints
   node 1 item 4: NORMAL
   journal 4";
 
+const WATCH_ABOUT: &str = "Watches a resource while a script's steps are made, one by one";
+
+const NAME_HELP: &str = "The name of the resource, as in a script";
+
+const GROUP_HELP: &str = "Its UIC group, 0 to 65535; without, it is of the system's domain";
+
+const WATCH_HELP: &str = "\
+The script is read from standard input. It is one that `vlm cluster --nodes 8` may have.
+Its steps are made one by one, in the order of their lines.
+
+Printed is what a watcher sees of the resource behind each step, by the step's line:
+  line N held A B C D E F conversions X waiters Y value HEX VALID
+How many locks hold NL, CR, CW, PR, PW and EX, how many conversions and how many new requests wait,
+and the value block, valid or invalid. A resource that is not there has no locks and a valid value
+block of zeros.
+
+Example:
+  vlm watch --name A --group 1 <<END
+  declare P node=1 group=1 quota=9 blocks=4
+  declare Q node=2 group=1 quota=9 blocks=4
+  enq P EX name=A block=1
+  enq Q EX name=A block=1
+  deq P 1
+  END
+prints
+  line 1 held 0 0 0 0 0 0 conversions 0 waiters 0 value 00000000000000000000000000000000 valid
+  line 2 held 0 0 0 0 0 0 conversions 0 waiters 0 value 00000000000000000000000000000000 valid
+  line 3 held 0 0 0 0 0 1 conversions 0 waiters 0 value 00000000000000000000000000000000 valid
+  line 4 held 0 0 0 0 0 1 conversions 0 waiters 1 value 00000000000000000000000000000000 valid
+  line 5 held 0 0 0 0 0 1 conversions 0 waiters 0 value 00000000000000000000000000000000 valid";
+
+/// What is watched: a root resource.
+#[derive(Clone, Copy)]
+pub(crate) struct Subject {
+    /// The space of names that it is in.
+    pub(crate) domain: Domain,
+    /// Its name, unless the words give one that no resource has.
+    pub(crate) name: Option<Name>,
+}
+
 /// What the words ask for.
 #[derive(Clone, Copy)]
 pub(crate) enum Task {
@@ -88,6 +131,8 @@ pub(crate) enum Task {
     Play,
     /// A script is served by so many nodes.
     Cluster(u8),
+    /// A resource is watched while a script is served.
+    Watch(Subject),
 }
 
 /// What the words ask for, or why they are refused.
@@ -97,8 +142,11 @@ pub(crate) fn chosen<S: AsStr>(alloc: Global, words: &[S]) -> Result<Task, Error
 {
     let command = program_commands(alloc)?;
     let matches = command.try_get_matches_from(words)?;
-    match matches.subcommand_matches("cluster") {
-        Some(options) => Ok(Task::Cluster(nodes_of(options))),
+    if let Some(options) = matches.subcommand_matches("cluster") {
+        return Ok(Task::Cluster(nodes_of(options)));
+    }
+    match matches.subcommand_matches("watch") {
+        Some(options) => Ok(Task::Watch(subject_of(options))),
         None => Ok(Task::Play),
     }
 }
@@ -113,16 +161,69 @@ fn nodes_of(options: &ArgMatches<'_>) -> u8
     options.get_one::<u8>("nodes").unwrap_or(2).clamp(1, 8)
 }
 
-// The program's commands, `play` and `cluster`.
+// What is to be watched.
+fn subject_of(options: &ArgMatches<'_>) -> Subject
+    ensures name { result.name
+        ≡ option_and_then name_given (first_value (found_of options.now) (codes "name")) }
+    ensures group { (n : ℕ) → n ≤ 65535
+        → one_text (found_of options.now) (codes "group") ≡ Some (decimal n)
+        → result.domain ≡ Domain.Group n }
+    ensures system { one_text (found_of options.now) (codes "group") ≡ None
+        → result.domain ≡ Domain.System }
+{
+    Subject {
+        domain: domain_of(options),
+        name: name_of(options),
+    }
+}
+
+// In which domain it is.
+fn domain_of(options: &ArgMatches<'_>) -> Domain
+    ensures group { (n : ℕ) → n ≤ 65535
+        → one_text (found_of options.now) (codes "group") ≡ Some (decimal n)
+        → result ≡ Domain.Group n }
+    ensures system { one_text (found_of options.now) (codes "group") ≡ None
+        → result ≡ Domain.System }
+{
+    match options.get_one::<u16>("group") {
+        Some(group) => Domain::Group(group),
+        None => Domain::System,
+    }
+}
+
+// Under which name it is.
+fn name_of(options: &ArgMatches<'_>) -> Option<Name>
+    ensures { result
+        ≡ option_and_then name_given (first_value (found_of options.now) (codes "name")) }
+{
+    match options.get_str("name") {
+        Some(text) => name_given(text),
+        None => None,
+    }
+}
+
+// The name that the text gives as in a script, if a resource has such a one.
+fn name_given(text: &str) -> Option<Name>
+    ensures { result ≡ name_given text.now }
+{
+    match read_res(text.as_bytes()) {
+        Some(given) => given.name().ok(),
+        None => None,
+    }
+}
+
+// The program's commands, `play`, `cluster` and `watch`.
 fn program_commands<'a>(alloc: Global) -> Result<Command<'a>, AllocError>
     ensures { IfOk result (λ command. app_of command ≡ program_commands) }
 {
     let cluster = cluster_command(alloc)?;
+    let watch = watch_command(alloc)?;
     Command::new(alloc, "vlm")
         .about(ABOUT)
         .subcommand_required(true)
         .subcommand(play_command(alloc))?
-        .subcommand(cluster)
+        .subcommand(cluster)?
+        .subcommand(watch)
 }
 
 fn play_command<'a>(alloc: Global) -> Command<'a>
@@ -154,4 +255,37 @@ fn nodes_option<'a>(alloc: Global) -> Arg<'a>
         .value_parser(value_parser!(u8).range(1..=8))
         .default_value("2")
         .help(NODES_HELP)
+}
+
+fn watch_command<'a>(alloc: Global) -> Result<Command<'a>, AllocError>
+    ensures app { IfOk result (λ command. app_of command ≡ watch_command) }
+    ensures local { IfOk result (λ command. (fields_of command).has_globals ≡ false) }
+{
+    Command::new(alloc, "watch")
+        .about(WATCH_ABOUT)
+        .after_help(WATCH_HELP)
+        .arg(name_option(alloc))?
+        .arg(group_option(alloc))
+}
+
+fn name_option<'a>(alloc: Global) -> Arg<'a>
+    ensures rule { rule_of result ≡ name_rule }
+    ensures local { result.global ≡ false }
+{
+    Arg::new(alloc, "name")
+        .long("name")
+        .value_name("RES")
+        .required(true)
+        .help(NAME_HELP)
+}
+
+fn group_option<'a>(alloc: Global) -> Arg<'a>
+    ensures rule { rule_of result ≡ group_rule }
+    ensures local { result.global ≡ false }
+{
+    Arg::new(alloc, "group")
+        .long("group")
+        .value_name("G")
+        .value_parser(value_parser!(u16))
+        .help(GROUP_HELP)
 }

@@ -1,6 +1,6 @@
 use Rattle.std.proofs.Common.{◌⊎◌, Ok, Err, Result, OnOk, OnErr, inl, inr}
 use Rattle.vlm_script.specs.declared.faults.PlayFault.{PlayFault}
-use Rattle.vlm.proofs.run.without_random_bytes.Goals as goal
+use Rattle.vlm.proofs.run.refused_by.Goals as goal
 
 -- a write puts the whole there, or a first part of it
 either : {A B : Type 0} (r : Result (Unit {0}) PlayFault) → OnOk r A → OnErr r B → A ⊎ B

@@ -1,0 +1,18 @@
+use Rattle.std.proofs.Common.{arith, decimal}
+use Rattle.std.specs.Str.Parse.{ExplainsUnsignedError, HasUnsignedDigitsIfOk, ParsesUnsigned}
+use Rattle.vlm.proofs.Asked.{read_as_decimal}
+use Rattle.vlm.proofs.words.domain_of.Goals as goal
+
+-- the number is the one that the text gives
+pub returns-in-Some-clause-group : goal.returns-in-Some-clause-group
+returns-in-Some-clause-group c = λ n most is.
+    let reads = c.get_one.ensures.value (decimal n) is in
+    let read = read_as_decimal _ (λ bs r. ParsesUnsigned 16 10 bs r × ExplainsUnsignedError 10 bs r × HasUnsignedDigitsIfOk bs r) 16 n c.get_one.result reads (λ u x g. g.0) (omega arith) most in
+    cc
+
+-- a number is read
+pub returns-in-None-clause-group : goal.returns-in-None-clause-group
+returns-in-None-clause-group c = λ n most is.
+    let reads = c.get_one.ensures.value (decimal n) is in
+    let read = read_as_decimal _ (λ bs r. ParsesUnsigned 16 10 bs r × ExplainsUnsignedError 10 bs r × HasUnsignedDigitsIfOk bs r) 16 n c.get_one.result reads (λ u x g. g.0) (omega arith) most in
+    cc

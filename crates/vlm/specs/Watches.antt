@@ -1,0 +1,80 @@
+-- What a script comes to by which a resource is watched, and what is printed of it.
+use Rattle.std.specs.Prelude.{◌≡◌, ◌+◌, ◌⊎◌, ℕ, List, [], ◌∷◌, ◌++◌, Option, Result, Ok, Err, IfSome, length}
+use Rattle.vlm_lines.specs.declared.faults.LineFault.{LineFault}
+use Rattle.vlm_lines.specs.Lines.{lines_of}
+use Rattle.vlm_script.specs.declared.faults.PlayFault.{PlayFault}
+use Rattle.vlm_script.specs.declared.faults.PlayFault.TheVariants.{Line, Memory, Read, Write, Long}
+use Rattle.vlm_script.specs.declared.printing.rows.WatchedRow.{WatchedRow}
+use Rattle.vlm_script.specs.declared.steps.ScriptStep.{ScriptStep}
+use Rattle.vlm_script.specs.Plays.{PassesPart, Wrote}
+use Rattle.vlm_script.specs.Shares.{StopsShares, no_shares}
+use Rattle.vlm_script.specs.Steps.{steps_out}
+use Rattle.vlm_script.specs.Texts.{watch_line}
+use Rattle.vlm.specs.declared.ends.WatchFault.{WatchFault}
+use Rattle.vlm.specs.declared.ends.WatchFault.TheVariants.{NoAnswer, NoSeat, Play}
+
+-- the steps of a script for eight nodes, or its first fault
+abbrev pub steps_of : List ℕ → Result (List ScriptStep) (ℕ × LineFault)
+steps_of input = steps_out 8 (no_shares 8) 0 (lines_of input)
+
+-- the lines of the first steps, in order, as far as there are rows for them
+abbrev pub watch_text : List ScriptStep → List WatchedRow → List ℕ
+watch_text [] rows = []
+watch_text (step ∷ steps) [] = []
+watch_text (step ∷ steps) (row ∷ rows) = watch_line step.line row ++ watch_text steps rows
+
+-- the lines of the steps, in order, but for the last so many: each with some row. Which row it is no definition says,
+-- since a watcher sees what it was told of, or more
+pub record AreWatched (steps : List ScriptStep) (left : ℕ) (text : List ℕ) : Type 0 where
+  pub rows : List WatchedRow
+  pub count : length rows + left ≡ length steps
+  pub printed : text ≡ watch_text steps rows
+
+-- the text of a script by which a resource is watched: the lines of its steps, but for the last so many
+pub record IsWatchText (script : Option (List ℕ)) (left : ℕ) (text : List ℕ) : Type 0 where
+  pub steps : List ScriptStep
+  pub read : IfSome script (λ input. steps_of input ≡ Ok steps)
+  pub watched : AreWatched steps left text
+
+-- what can end the steps of a script before the last
+abbrev pub EndsSteps : WatchFault → Type 0
+EndsSteps (Play Memory) = Unit {0}
+EndsSteps NoSeat = Unit {0}
+EndsSteps NoAnswer = Unit {0}
+EndsSteps (Play (Line number fault)) = ⊥
+EndsSteps (Play Read) = ⊥
+EndsSteps (Play Write) = ⊥
+EndsSteps (Play Long) = ⊥
+
+-- the text of steps of which all were made, or those before what ended them
+abbrev pub EndsWatched : List ScriptStep → Result (Unit {0}) WatchFault → List ℕ → Type 0
+EndsWatched steps (Ok done) text = AreWatched steps 0 text
+EndsWatched steps (Err fault) text = EndsSteps fault × ((left : ℕ) × AreWatched steps left text)
+
+-- nothing was written, since this fault came before any step
+abbrev pub StopsWatch : Option (List ℕ) → PlayFault → Option (List ℕ) → Option (List ℕ) → Type 0
+StopsWatch script fault old new =
+    IfSome script (λ input. StopsShares input (steps_of input) fault) × (new ≡ old)
+
+-- the lines of some first steps were written
+abbrev pub PrintsFirst : Option (List ℕ) → Option (List ℕ) → Option (List ℕ) → Type 0
+PrintsFirst script old new = (left : ℕ) × Wrote old new (IsWatchText script left)
+
+-- only a first part of the lines of some first steps was written
+abbrev pub PrintsPart : Option (List ℕ) → Option (List ℕ) → Option (List ℕ) → Type 0
+PrintsPart script old new =
+    (left : ℕ) × (text : List ℕ) × IsWatchText script left text × PassesPart old new text
+
+-- what a script by which a resource is watched puts on standard output: the lines of all its steps; of the first where it
+-- ends before the last, and only a part of these where a write fails; and nothing where it has a fault or is not read
+abbrev pub PrintsWatch : Option (List ℕ) → Result (Unit {0}) WatchFault
+    → Option (List ℕ) → Option (List ℕ) → Type 0
+PrintsWatch script (Ok done) old new = Wrote old new (IsWatchText script 0)
+PrintsWatch script (Err NoSeat) old new = PrintsFirst script old new
+PrintsWatch script (Err NoAnswer) old new = PrintsFirst script old new
+PrintsWatch script (Err (Play Memory)) old new = (new ≡ old) ⊎ PrintsFirst script old new
+PrintsWatch script (Err (Play Write)) old new = PrintsPart script old new
+PrintsWatch script (Err (Play (Line number fault))) old new =
+    StopsWatch script (Line number fault) old new
+PrintsWatch script (Err (Play Read)) old new = StopsWatch script Read old new
+PrintsWatch script (Err (Play Long)) old new = StopsWatch script Long old new

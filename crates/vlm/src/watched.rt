@@ -1,0 +1,232 @@
+//! A hub that is watched, with its ports and its watcher in one hand.
+
+ghost use Rattle.std.specs.Prelude.{◌≡◌, ◌++◌, ◌<◌, [], IfErr, OnErr, OnOk};
+ghost use Rattle.vlm_ports.specs.Watched.{IsWatched, Watches};
+ghost use Rattle.vlm_script.specs.Texts.{watch_line};
+ghost use Rattle.vlm_script.specs.declared.printing.rows.WatchedRow.{WatchedRow};
+ghost use Rattle.vlm.specs.Watches.{EndsSteps, EndsWatched};
+
+use crate::ends::WatchFault;
+use std::alloc::Global;
+use std::sync::Wait;
+use vlm_core::Core;
+use vlm_journal::entries::Item;
+use vlm_ports::{Hub, Port, RootKey, Row, Turn, Watcher};
+use vlm_script::{HashKeys, PlayFault, ScriptStep, WatchedRow, watch_line};
+use vlm_words::steps::Step;
+
+/// How many nodes the hub serves.
+pub(crate) const NODES: u8 = 8;
+
+// How many turns in a row may bring a port nothing while it waits.
+const TURNS: usize = 10;
+
+/// A hub of eight nodes that is watched, with their ports and a watcher of one resource. End it by
+/// [`WatchedHub::finish`].
+pub(crate) struct WatchedHub {
+    hub: Hub,
+    ports: Vec<Port>,
+    watcher: Watcher,
+    ghost watched: { IsWatched hub },
+    ghost ours: { Watches hub watcher },
+    ghost one: { 0 < watcher.keys },
+}
+
+// What came to a port.
+#[derive(Clone, Copy, PartialEq, Eq)]
+enum Came {
+    Nothing,
+    // ASTs alone
+    Asts,
+    // an answer, too
+    Answer,
+}
+
+impl WatchedHub {
+    /// A hub with nothing posted, and a watcher of the resource under this key. Refused, there is neither.
+    pub(crate) fn open<R: Wait>(
+        rt: &R,
+        alloc: Global,
+        keys: HashKeys,
+        key: RootKey,
+    ) -> Result<WatchedHub, WatchFault>
+        ensures { IfErr result EndsSteps }
+    {
+        let subjects = Vec::from_elem(alloc, key, 1)?;
+        let (mut hub, ports) = Hub::with_core(alloc, Core::with_keys(alloc, keys), 8)?;
+        let mut watchers = match hub.watch(rt, alloc, subjects, 1) {
+            Ok(watchers) => watchers,
+            Err(fault) => {
+                hub.finish(rt);
+                return Err(WatchFault::from(fault));
+            }
+        };
+        let Some(watcher) = watchers.pop() else {
+            hub.finish(rt);
+            return Err(WatchFault::NoSeat);
+        };
+        Ok(WatchedHub {
+            hub,
+            ports,
+            watcher,
+        })
+    }
+
+    /// Makes steps in order, and puts the line of what is seen behind each into the text. Its cost for
+    /// a step beyond the step's own does not grow with what is held.
+    pub(crate) fn make_all<R: Wait>(
+        &mut self,
+        rt: &R,
+        alloc: Global,
+        steps: &[ScriptStep],
+        text: &mut Vec<u8>,
+    ) -> Result<(), WatchFault>
+        requires { text.old.items ≡ [] }
+        ensures { EndsWatched steps.now result text.new.items }
+    {
+        let mut line = Vec::new(alloc);
+        for step in steps {
+            if let Err(fault) = self.make_step(rt, step, &mut line, text) {
+                return Err(fault);
+            }
+        }
+        Ok(())
+    }
+
+    // Makes a step, and puts the line of what is then seen at the end of the text. Where it ends here,
+    // the text is as it was: what of the line was made stands in `line` alone, whose room serves line
+    // after line.
+    fn make_step<R: Wait>(
+        &mut self,
+        rt: &R,
+        step: &ScriptStep,
+        line: &mut Vec<u8>,
+        text: &mut Vec<u8>,
+    ) -> Result<(), WatchFault>
+        ensures line { OnOk result ((row : WatchedRow)
+            × (text.new.items ≡ text.old.items ++ watch_line step.now.line row)) }
+        ensures same { OnErr result (text.new.items ≡ text.old.items) }
+        ensures faults { IfErr result EndsSteps }
+    {
+        let place = post(&mut self.ports, step.step)?;
+        self.turn_until_answered(place)?;
+        let row = self.publish(rt)?;
+        line.clear();
+        watch_line(line, step.line, &watched_row(&row))?;
+        text.extend_from_slice(line)?;
+        Ok(())
+    }
+
+    // Has the hub make turns until the port at a place has an answer.
+    fn turn_until_answered(&mut self, place: usize) -> Result<(), WatchFault>
+        ensures { IfErr result EndsSteps }
+    {
+        for _ in 0..u64::MAX {
+            if self.turn_until_told(place)? == Came::Answer {
+                return Ok(());
+            }
+        }
+        Err(WatchFault::NoAnswer)
+    }
+
+    // Has the hub make turns until something comes to the port at a place.
+    fn turn_until_told(&mut self, place: usize) -> Result<Came, WatchFault>
+        ensures { IfErr result EndsSteps }
+    {
+        for _ in 0..TURNS {
+            let came = self.turn(place)?;
+            if came != Came::Nothing {
+                return Ok(came);
+            }
+        }
+        Err(WatchFault::NoAnswer)
+    }
+
+    // Has the hub make a turn, and says what came to the port at a place.
+    fn turn(&mut self, place: usize) -> Result<Came, WatchFault>
+        ensures { IfErr result EndsSteps }
+    {
+        match self.hub.turn() {
+            Turn::NoMemory(_) => Err(WatchFault::Play(PlayFault::Memory)),
+            Turn::Served(_) | Turn::Idle => Ok(take_all(&mut self.ports, place)),
+        }
+    }
+
+    // Publishes how the resource stands, and answers what the watcher sees of it then.
+    fn publish<R: Wait>(&mut self, rt: &R) -> Result<Row, WatchFault>
+        ensures { IfErr result EndsSteps }
+    {
+        let told = self.hub.publish(rt)?;
+        self.hub.cut();
+        self.watcher.learn(told);
+        match self.watcher.see(0) {
+            Some(row) => Ok(row),
+            None => Err(WatchFault::NoSeat),
+        }
+    }
+
+    /// Ends it.
+    pub(crate) fn finish<R: Wait>(self, rt: &R) {
+        let WatchedHub {
+            hub,
+            ports: _,
+            watcher: _,
+        } = self;
+        hub.finish(rt);
+    }
+}
+
+// Posts a step at the port that may post it, and says at which place that is.
+fn post(ports: &mut [Port], step: Step) -> Result<usize, WatchFault>
+    ensures { IfErr result EndsSteps }
+{
+    for (place, port) in ports.iter_mut().enumerate() {
+        if port.may_post(&step) {
+            return match port.post(step) {
+                Ok(()) => Ok(place),
+                Err(_) => Err(WatchFault::NoAnswer),
+            };
+        }
+    }
+    Err(WatchFault::NoAnswer)
+}
+
+// Takes all that waits at each port, and says what came to the one at a place.
+fn take_all(ports: &mut [Port], place: usize) -> Came {
+    let mut came = Came::Nothing;
+    for (at, port) in ports.iter_mut().enumerate() {
+        let taken = take_items(port);
+        if at == place {
+            came = taken;
+        }
+    }
+    came
+}
+
+// Takes all that waits at a port.
+fn take_items(port: &mut Port) -> Came {
+    let mut came = Came::Nothing;
+    for _ in 0..u64::MAX {
+        match port.take() {
+            None => return came,
+            Some(Item::Answer(_)) => came = Came::Answer,
+            Some(Item::Ast(_, _)) => {
+                if came == Came::Nothing {
+                    came = Came::Asts;
+                }
+            }
+        }
+    }
+    came
+}
+
+// What is printed of a row.
+fn watched_row(row: &Row) -> WatchedRow {
+    WatchedRow {
+        held: row.held,
+        conversions: row.conversions,
+        waiters: row.waiters,
+        value: row.value,
+        valid: row.valid,
+    }
+}
