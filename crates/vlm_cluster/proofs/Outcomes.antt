@@ -6,7 +6,7 @@ use Rattle.vlm_words.specs.declared.steps.Step.TheVariants.{Leave}
 use Rattle.vlm_journal.specs.declared.entries.Entry.{Entry}
 use Rattle.vlm_journal.specs.declared.entries.Item.{Item}
 use Rattle.vlm_journal.specs.Told.{asked, told}
-use Rattle.vlm_journal.proofs.Lists.{prefix_more, prefix_then}
+use Rattle.vlm_journal.proofs.Lists.{prefix_then}
 use Rattle.vlm_ports.specs.declared.port.Port.{Port}
 use Rattle.vlm_ports.specs.Ports.{AreNew}
 use Rattle.vlm_ports.specs.Rings.{RingName}

@@ -1,5 +1,5 @@
 -- What a run of lists comes to.
-use Rattle.std.specs.Prelude.{◌≡◌, ◌<◌, ◌≤◌, ◌+◌, ◌++◌, ℕ, List, [], ◌∷◌, None, Option, Some, length, slice_get, take, ⊤}
+use Rattle.std.specs.Prelude.{◌≡◌, ◌<◌, ◌≤◌, ◌+◌, ◌++◌, ℕ, Bool, true, IfErr, IfOk, Result, List, [], ◌∷◌, None, Option, Some, length, slice_get, take, ⊤}
 use Rattle.std.specs.declared.alloc.Global.{Global}
 use Rattle.std.specs.declared.vec.Vec.{Vec}
 use mathlib.Core.List.{IsPrefix}
@@ -94,3 +94,14 @@ GrantsKeepOrder entries last = HoldsThroughout
     (λ history state. (step : Step) (choice : Option Row) → IsChoice state step choice → step_refusal state step ≡ None
     → GrantsFollowQueueOrder state step choice)
     entries last
+
+-- what serving lists comes to: a report that all was served, and posted where no gate ever stops; at each place of its
+-- journal the held modes are compatible, each request ends once, and grants keep the order of the queues; or what was
+-- done where memory was refused
+pub record IsServing (never_stops : Bool) (lists : List StepList) (result : Result Report Fault) : Type 0 where
+  pub served : IfOk result (λ r. AreServed lists r)
+  pub whole : never_stops ≡ true → IfOk result (λ r. AreAllPosted lists r)
+  pub modes : IfOk result (λ r. ModesStayCompatible (entries_of r) r.core)
+  pub once : IfOk result (λ r. RequestsEndOnce (entries_of r) r.core)
+  pub order : IfOk result (λ r. GrantsKeepOrder (entries_of r) r.core)
+  pub cut_short : IfErr result (λ fault. IsCutShort lists fault)

@@ -1,13 +1,12 @@
 //! Lists of steps are served, each in a thread of its own.
 
-ghost use Rattle.std.specs.Prelude.{◌≡◌, ◌<◌, ◌≤◌, [], IfErr, IfOk, map, replicate, true, vec_capacity, vec_len};
+ghost use Rattle.std.specs.Prelude.{◌≡◌, ◌<◌, ◌≤◌, [], map, replicate, vec_capacity, vec_len};
 ghost use Rattle.vlm_words.specs.State.{start};
 ghost use Rattle.vlm_ports.specs.Hubs.{rings};
 ghost use Rattle.vlm_ports.specs.Ports.{AreNew, identity};
-ghost use Rattle.vlm_cluster.specs.Headline.{AreAllPosted, AreServed, GrantsKeepOrder, IsCutShort, ModesStayCompatible, RequestsEndOnce};
+ghost use Rattle.vlm_cluster.specs.Headline.{IsServing};
 ghost use Rattle.vlm_cluster.specs.Parts.{IsAccounted};
 ghost use Rattle.vlm_cluster.specs.Posts.{AreListsOfPosts};
-ghost use Rattle.vlm_cluster.specs.Reports.{entries_of};
 ghost use Rattle.vlm_cluster.specs.Works.{entries_at};
 
 use crate::desk::Desk;
@@ -44,12 +43,7 @@ pub fn serve_lists<R: Threads + Wait + Clock + Copy + Send + 'static, G: Gate + 
     requires lens { (0 < vec_len lists) × (vec_len lists ≤ 8) × (vec_len gates ≡ vec_len lists) }
     requires posts { AreListsOfPosts lists.items }
     requires every { 0 < every }
-    ensures served { IfOk result (λ r. AreServed lists.items r) }
-    ensures whole { G.never_stops ≡ true → IfOk result (λ r. AreAllPosted lists.items r) }
-    ensures modes { IfOk result (λ r. ModesStayCompatible (entries_of r) r.core) }
-    ensures once { IfOk result (λ r. RequestsEndOnce (entries_of r) r.core) }
-    ensures order { IfOk result (λ r. GrantsKeepOrder (entries_of r) r.core) }
-    ensures cut_short { IfErr result (λ fault. IsCutShort lists.items fault) }
+    ensures { IsServing G.never_stops lists.items result }
 {
     serve_lists_over(rt, alloc, Core::new(alloc), gates, lists, every)
 }
@@ -71,12 +65,7 @@ pub fn serve_lists_over<
     requires lens { (0 < vec_len lists) × (vec_len lists ≤ 8) × (vec_len gates ≡ vec_len lists) }
     requires posts { AreListsOfPosts lists.items }
     requires every { 0 < every }
-    ensures served { IfOk result (λ r. AreServed lists.items r) }
-    ensures whole { G.never_stops ≡ true → IfOk result (λ r. AreAllPosted lists.items r) }
-    ensures modes { IfOk result (λ r. ModesStayCompatible (entries_of r) r.core) }
-    ensures once { IfOk result (λ r. RequestsEndOnce (entries_of r) r.core) }
-    ensures order { IfOk result (λ r. GrantsKeepOrder (entries_of r) r.core) }
-    ensures cut_short { IfErr result (λ fault. IsCutShort lists.items fault) }
+    ensures { IsServing G.never_stops lists.items result }
 {
     let Ok(room) = Room::new(alloc, lists.len()) else {
         return Err(Fault::Memory(None));
@@ -107,12 +96,7 @@ fn run<R: Threads + Wait + Clock + Copy + Send + 'static, G: Gate + Send + 'stat
     requires dones { (vec_len room.dones ≡ 0) × (vec_len lists ≤ vec_capacity room.dones) }
     requires items { (vec_len room.items ≡ 0) × (vec_len lists ≤ vec_capacity room.items) }
     requires posted { room.posted.items ≡ replicate (vec_len lists) 0 }
-    ensures served { IfOk result (λ r. AreServed lists.items r) }
-    ensures whole { G.never_stops ≡ true → IfOk result (λ r. AreAllPosted lists.items r) }
-    ensures modes { IfOk result (λ r. ModesStayCompatible (entries_of r) r.core) }
-    ensures once { IfOk result (λ r. RequestsEndOnce (entries_of r) r.core) }
-    ensures order { IfOk result (λ r. GrantsKeepOrder (entries_of r) r.core) }
-    ensures cut_short { IfErr result (λ fault. IsCutShort lists.items fault) }
+    ensures { IsServing G.never_stops lists.items result }
 {
     let Room {
         signals,

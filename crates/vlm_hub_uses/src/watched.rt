@@ -95,16 +95,22 @@ impl WatchedHub {
         self.onlookers[watcher].see(place)
     }
 
-    /// Has each watcher look so many times in a thread of its own, while the hub makes the step as often in this one and
+    /// Has each watcher look so many times in a thread of its own, while the hub makes the step so many times and
     /// publishes behind each.
-    pub fn look_in_threads<R: Threads + Wait + Sync>(&mut self, rt: &R, step: &Step, times: usize) {
+    pub fn look_in_threads<R: Threads + Wait + Sync>(
+        &mut self,
+        rt: &R,
+        step: &Step,
+        times: usize,
+        looks: usize,
+    ) {
         let WatchedHub {
             hub,
             port,
             keys: _,
             onlookers,
         } = self;
-        look_beside(rt, hub, port, onlookers, step, times);
+        look_beside(rt, hub, port, onlookers, step, times, looks);
     }
 
     /// Ends it, and says what its first watcher sees then.
@@ -188,6 +194,7 @@ fn look_beside<R: Threads + Wait + Sync>(
     onlookers: &mut Vec<Onlooker>,
     step: &Step,
     times: usize,
+    looks: usize,
 )
     requires ours { IsPortOf hub.old port.old }
     requires watched { IsWatched hub.old }
@@ -201,7 +208,7 @@ fn look_beside<R: Threads + Wait + Sync>(
         &mut ||
             requires { All (λ o. 0 < o.watcher.keys) onlookers.now.items }
             ensures { LookedOn onlookers.entry.now.items onlookers.exit.now.items }
-        { look_all(rt, onlookers, times) },
+        { look_all(rt, onlookers, looks) },
         &mut ||
             requires { IsPortOf hub.now port.now × IsWatched hub.now }
             ensures ours { IsPortOf hub.exit.now port.exit.now }

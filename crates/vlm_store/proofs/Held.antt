@@ -1,16 +1,12 @@
 -- The counts of a resource say how many of its locks hold each mode, and its lists how long its queues are.
-use Rattle.std.proofs.Common.{◌≡◌, ◌≤◌, ℕ, ◌+◌, cond, false, List, [], ◌∷◌, ◌++◌, length, map, count_by, Option, None, Some, refl, sym, ap, ◌∙◌, arith}
-use Rattle.std.specs.Prelude.{◌==◌}
-use Rattle.std.specs.Option.{option_map_or}
+use Rattle.std.proofs.Common.{◌≡◌, ◌≤◌, ℕ, ◌+◌, List, [], ◌∷◌, ◌++◌, length, map, count_by, None, refl, sym, ap, ◌∙◌, arith}
 use Rattle.std.proofs.Math.Path.{fun_ext}
 use Rattle.std.proofs.lemmas.List.{length-map}
 use Rattle.std.proofs.lemmas.List.Sums.{sum_by-append, sum_by-cons}
-use Rattle.vlm_words.specs.declared.locks.Request.{Request}
 use Rattle.vlm_words.specs.declared.locks.Row.{Row}
 use Rattle.vlm_words.specs.declared.modes.Mode.{Mode}
 use Rattle.vlm_words.specs.declared.resources.Queue.{Queue}
 use Rattle.vlm_words.specs.declared.resources.Queue.TheVariants.{Granted, Conversion, Waiting}
-use Rattle.vlm_words.specs.Modes.{rank}
 use Rattle.vlm_links.specs.declared.link.TheConstants.{LAST_HANDLE}
 use Rattle.vlm_links.proofs.HandleLists.{length-below}
 use Rattle.vlm_tallies.specs.Tallies.{by_mode, is_mode, one_if, total, weight_of}
@@ -20,25 +16,19 @@ use Rattle.vlm_records.specs.declared.handles.Place.{Place}
 use Rattle.vlm_records.specs.declared.handles.Place.TheVariants.{Queued}
 use Rattle.vlm_records.specs.declared.queues.Queues.{Queues}
 use Rattle.vlm_records.specs.Shown.{IsPlaced, handles_at, rows, shares}
-use Rattle.vlm_store.specs.Held.{held_counts, holds}
+use Rattle.vlm_store.specs.Held.{held_counts}
 use Rattle.vlm_store.specs.Records.{queued, rows_of_locks}
 use Rattle.vlm_store.specs.Store.{Layout, resource_of, under_handle}
 use Rattle.vlm_store.proofs.Layouts.{queued-handles}
 
 -- ---- how many hold each mode
 
--- what a lock holds is counted by the mode that its row holds
-holds_is : (mode : Mode) (held : Option Request) → is_mode mode held ≡ option_map_or (λ request. rank request.mode == rank mode) held false
-holds_is mode None = refl
-holds_is mode (Some request) = refl
-
 -- what the rows under these handles weigh together is how many of them hold the mode
-total-holds : (mode : Mode) (rows : ℕ → Row) (ks : List ℕ) → total (λ row. one_if (is_mode mode row.held)) rows ks ≡ count_by (holds mode) (rows_of_locks (map (under_handle rows) ks))
+total-holds : (mode : Mode) (rows : ℕ → Row) (ks : List ℕ) → total (λ row. one_if (is_mode mode row.held)) rows ks ≡ count_by (λ row. is_mode mode row.held) (rows_of_locks (map (under_handle rows) ks))
 total-holds mode rows [] = refl
 total-holds mode rows (k ∷ ks) =
-    ap (λ b. one_if b + total (λ row. one_if (is_mode mode row.held)) rows ks) (holds_is mode (rows k).held)
-    ∙ ap (λ n. one_if (holds mode (rows k)) + n) (total-holds mode rows ks)
-    ∙ sym (sum_by-cons (λ row. cond (holds mode row) 1 0) (rows k) (rows_of_locks (map (under_handle rows) ks)))
+    ap (λ n. one_if (is_mode mode (rows k).held) + n) (total-holds mode rows ks)
+    ∙ sym (sum_by-cons (λ row. one_if (is_mode mode row.held)) (rows k) (rows_of_locks (map (under_handle rows) ks)))
 
 -- counts that are the shares of a resource are those that a caller sees
 pub held_counts-handles : (q : Queues) (l : Layout) (r : ℕ) (held : Mode → ℕ) → ((m : Mode) → held m ≡ shares q (weight_of of_held m) None r) → l.handles ≡ handles_at q → l.rows ≡ rows q
@@ -47,14 +37,14 @@ held_counts-handles q l r held held_is handles rows_same =
     let seen : List ℕ → List Row = λ ks. rows_of_locks (map (under_handle (rows q)) ks) in
     let granted = handles_at q (Queued r Granted) in
     let converting = handles_at q (Queued r Conversion) in
-    let of_rows : (m : Mode) → held m ≡ count_by (holds m) (seen granted ++ seen converting) =
+    let of_rows : (m : Mode) → held m ≡ count_by (λ row. is_mode m row.held) (seen granted ++ seen converting) =
     λ m. omega (
       arith,
       held_is m,
       total-holds m (rows q) granted,
       total-holds m (rows q) converting,
       total-nothing (rows q) (handles_at q (Queued r Waiting)),
-      sum_by-append (λ row. cond (holds m row) 1 0) (seen granted) (seen converting),
+      sum_by-append (λ row. one_if (is_mode m row.held)) (seen granted) (seen converting),
     ) in
     rw (handles, rows_same) (ap by_mode (fun_ext of_rows))
 

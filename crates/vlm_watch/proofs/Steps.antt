@@ -1,5 +1,5 @@
 -- The steps on a board keep its rule.
-use Rattle.std.proofs.Common.{◌≡◌, ◌≢◌, ◌⊎◌, ℕ, true, false, List, [], ◌∷◌, ◌++◌, length, set, Result, Ok, Err, IsOk, MatchResult, refl, sym, ap, ◌∙◌, subst, ⊎_elim}
+use Rattle.std.proofs.Common.{◌≡◌, ◌≢◌, ℕ, List, [], ◌∷◌, ◌++◌, length, set, Result, Ok, Err, IsOk, MatchResult, refl, sym, ◌∙◌, subst, ⊎_elim}
 use mathlib.Core.Option.{some, some-ne-none}
 use mathlib.Core.List.{IsPrefix}
 use lib.ListN.{get_elem?}
@@ -9,7 +9,7 @@ use Rattle.vlm_journal.proofs.Lists.{prefix_more}
 use Rattle.vlm_watch.specs.declared.rows.Change.{Change}
 use Rattle.vlm_watch.specs.declared.sheet.Sheet.{Sheet}
 use Rattle.vlm_watch.specs.declared.view.View.{View}
-use Rattle.vlm_watch.specs.Rule.{Each, Fits, Kept, Open, Publish, See, book_of, informed, knowing, newcomer, note_of}
+use Rattle.vlm_watch.specs.Rule.{Each, Fits, Kept, Open, Publish, See, informed, knowing, newcomer, note_of}
 use Rattle.vlm_watch.specs.Sheets.{changes_to}
 use Rattle.vlm_watch.proofs.Beginnings.{begins_itself}
 

@@ -1,5 +1,5 @@
 -- What a watcher is shown of a resource.
-use Rattle.std.specs.Prelude.{◌≡◌, ◌+◌, ◌-◌, ◌^◌, ℕ, true, List, length, map, min, replicate, take, Option, None, Some}
+use Rattle.std.specs.Prelude.{◌≡◌, ℕ, true, List, length, map, replicate, take, Option, None, Some}
 use Rattle.std.specs.Option.{option_map}
 use Rattle.vlm_queue.specs.declared.views.Usage.{Usage}
 use Rattle.vlm_queue.specs.Views.{usage}

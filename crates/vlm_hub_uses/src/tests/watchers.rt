@@ -99,7 +99,7 @@ fn look_on<R: Abort + AllocGlobal + Threads + Wait + Sync>(
     watchers: usize,
 ) -> Result<(), Fail> {
     let mut hub = watched(rt, 1, watchers)?;
-    hub.look_in_threads(rt, &Step::Search(1), 100);
+    hub.look_in_threads(rt, &Step::Search(1), 100, 100);
     assert!(rt; hub.publish(rt).is_ok());
     for at in 0..watchers {
         assert!(rt; entries(hub.see(at, 0)) == Some(100));

@@ -25,8 +25,8 @@ finish-finished-requires-clause-ports g c =
     let all : length dones ≤ length ports = omega arith in
     ports_of_works g.G.Gate.never_stops ports lists dones c.serve.new.self.hub c.requires.new.0 works all fewer (c.serve.ensures.rings ∙ sym c.requires.new.1)
 
-pub returns-then-finished-clause-served : goal.returns-then-finished-clause-served
-returns-then-finished-clause-served g c =
+pub returns-then-finished : goal.returns-then-finished
+returns-then-finished g c =
     let D = Done g.row.G.Denot in
     let ports : List Port = c.args.ports.items in let lists : List StepList = c.args.lists.items in
     let children : List (PromisedHandle D Given) = c.start_all.new.children.items in let dones : List D = c.join_all-2.new.dones.items in
@@ -44,12 +44,23 @@ returns-then-finished-clause-served g c =
     let items : length r.items.items ≡ length dones = omega arith in
     let posted : length r.posted.items ≡ length dones = omega arith in
     let noted : AreNoted dones r.posted.items = λ k d lt. c.finish-finished.ensures.posted k d (omega arith) in
-    served g.G.Gate.never_stops ports lists dones r c.requires.new.0 as_many fewer works noted all items posted
-    c.finish-finished.ensures.legal c.finish-finished.ensures.numbered c.law_departed.ensures.answered
-    (λ k d v lt. c.finish-finished.ensures.whole c.if-finished.true k d v (omega arith))
+    record {
+      served =
+          served g.G.Gate.never_stops ports lists dones r c.requires.new.0 as_many fewer works noted all items posted
+          c.finish-finished.ensures.legal c.finish-finished.ensures.numbered c.law_departed.ensures.answered
+          (λ k d v lt. c.finish-finished.ensures.whole c.if-finished.true k d v (omega arith));
+      whole = λ never.
+          all_posted g.G.Gate.never_stops ports lists dones r c.requires.new.0 as_many fewer works noted all items posted
+          c.finish-finished.ensures.legal c.finish-finished.ensures.numbered c.law_departed.ensures.answered never
+          (λ k d v lt. c.finish-finished.ensures.whole c.if-finished.true k d v (omega arith));
+      modes = c.law_modes_stay_compatible.ensures _ _ c.finish-finished.ensures.legal;
+      once = c.law_requests_end_once.ensures _ _ c.finish-finished.ensures.legal;
+      order = c.law_grants_keep_order.ensures _ _ c.finish-finished.ensures.legal;
+      cut_short = tt;
+    }
 
-pub returns-then-finished-clause-whole : goal.returns-then-finished-clause-whole
-returns-then-finished-clause-whole g c = λ never.
+pub returns : goal.returns
+returns g c =
     let D = Done g.row.G.Denot in
     let ports : List Port = c.args.ports.items in let lists : List StepList = c.args.lists.items in
     let children : List (PromisedHandle D Given) = c.start_all.new.children.items in let dones : List D = c.join_all-2.new.dones.items in
@@ -67,44 +78,20 @@ returns-then-finished-clause-whole g c = λ never.
     let items : length r.items.items ≡ length dones = omega arith in
     let posted : length r.posted.items ≡ length dones = omega arith in
     let noted : AreNoted dones r.posted.items = λ k d lt. c.finish-finished.ensures.posted k d (omega arith) in
-    all_posted g.G.Gate.never_stops ports lists dones r c.requires.new.0 as_many fewer works noted all items posted
-    c.finish-finished.ensures.legal c.finish-finished.ensures.numbered c.law_departed.ensures.answered never
-    (λ k d v lt. c.finish-finished.ensures.whole c.if-finished.true k d v (omega arith))
+    record {
+      served = tt;
+      whole = λ never. tt;
+      modes = tt;
+      once = tt;
+      order = tt;
+      cut_short =
+          begun g.G.Gate.never_stops ports lists dones r c.requires.new.0 as_many fewer works noted all items posted
+          c.finish-finished.ensures.legal c.finish-finished.ensures.numbered c.law_departed.ensures.answered
+          (λ k d v lt. c.finish-finished.ensures.begun k d v (omega arith));
+    }
 
-pub returns-then-finished-clause-modes : goal.returns-then-finished-clause-modes
-returns-then-finished-clause-modes g c = c.law_modes_stay_compatible.ensures _ _ c.finish-finished.ensures.legal
-
-pub returns-then-finished-clause-once : goal.returns-then-finished-clause-once
-returns-then-finished-clause-once g c = c.law_requests_end_once.ensures _ _ c.finish-finished.ensures.legal
-
-pub returns-then-finished-clause-order : goal.returns-then-finished-clause-order
-returns-then-finished-clause-order g c = c.law_grants_keep_order.ensures _ _ c.finish-finished.ensures.legal
-
-pub returns-clause-cut_short : goal.returns-clause-cut_short
-returns-clause-cut_short g c =
-    let D = Done g.row.G.Denot in
-    let ports : List Port = c.args.ports.items in let lists : List StepList = c.args.lists.items in
-    let children : List (PromisedHandle D Given) = c.start_all.new.children.items in let dones : List D = c.join_all-2.new.dones.items in
-    let op = c.args.ports.ok in let ol = c.args.lists.ok in let oc = c.start_all.new.children.ok in let od = c.join_all-2.new.dones.ok in
-    let ports_are : vec_len c.args.ports ≡ vec_len c.args.lists = c.requires.lens.0 in
-    let few : vec_len c.start_all.new.children ≤ vec_len c.args.ports = c.start_all.ensures.few in
-    let joined : vec_len c.join_all-2.new.dones ≡ vec_len c.start_all.new.children = c.join_all-2.ensures.len in
-    let as_many : length ports ≡ length lists = omega arith in
-    let fewer : length dones ≤ length lists = omega arith in
-    let works : AreWorks g.G.Gate.never_stops ports lists dones =
-    works_of g.G.Gate.never_stops ports lists children dones (vec_len c.start_all.new.children) c.start_all.ensures.each c.join_all-2.ensures.each (omega arith) (omega arith) in
-    let all : length dones ≡ length lists = (let n = c.len-count.ensures in let m = c.len-started.ensures in let le = c.if-started-count.false in omega arith) in
-    let r : Report = c.finish-finished.result.report in
-    let oi = r.items.ok in let oq = r.posted.ok in let counts = c.finish-finished.ensures.counts in
-    let items : length r.items.items ≡ length dones = omega arith in
-    let posted : length r.posted.items ≡ length dones = omega arith in
-    let noted : AreNoted dones r.posted.items = λ k d lt. c.finish-finished.ensures.posted k d (omega arith) in
-    begun g.G.Gate.never_stops ports lists dones r c.requires.new.0 as_many fewer works noted all items posted
-    c.finish-finished.ensures.legal c.finish-finished.ensures.numbered c.law_departed.ensures.answered
-    (λ k d v lt. c.finish-finished.ensures.begun k d v (omega arith))
-
-pub returns-then-started-count-clause-cut_short : goal.returns-then-started-count-clause-cut_short
-returns-then-started-count-clause-cut_short g c =
+pub returns-then-started-count : goal.returns-then-started-count
+returns-then-started-count g c =
     let D = Done g.row.G.Denot in
     let ports : List Port = c.args.ports.items in let lists : List StepList = c.args.lists.items in
     let children : List (PromisedHandle D Given) = c.start_all.new.children.items in let dones : List D = c.join_all.new.dones.items in
@@ -123,7 +110,15 @@ returns-then-started-count-clause-cut_short g c =
     let zeros : vec_len c.args.room.posted ≡ vec_len c.args.lists =
     (let ok = c.args.room.posted.ok in let n = ap (λ (xs : List ℕ). length xs) c.requires.posted in omega (arith, n, length-replicate {A = ℕ})) in
     let noted : AreNoted dones r.posted.items = λ k d lt. c.give_up-report.ensures.posted k d (omega (arith, long, lt)) ∙ ap (λ (xs : List D). (get_or xs k d).posted) now in
-    given_up g.G.Gate.never_stops ports lists dones r c.requires.new.0 as_many fewer works noted
-    c.give_up-report.ensures.entries (omega arith) (omega arith) c.give_up-report.ensures.legal c.give_up-report.ensures.numbered c.law_departed.ensures.answered
-    (λ k v lt. c.give_up-report.ensures.items k v (omega arith))
-    (λ k above. c.give_up-report.ensures.others k (omega (arith, long, above)))
+    record {
+      served = tt;
+      whole = λ never. tt;
+      modes = tt;
+      once = tt;
+      order = tt;
+      cut_short =
+          given_up g.G.Gate.never_stops ports lists dones r c.requires.new.0 as_many fewer works noted
+          c.give_up-report.ensures.entries (omega arith) (omega arith) c.give_up-report.ensures.legal c.give_up-report.ensures.numbered c.law_departed.ensures.answered
+          (λ k v lt. c.give_up-report.ensures.items k v (omega arith))
+          (λ k above. c.give_up-report.ensures.others k (omega (arith, long, above)));
+    }

@@ -6,7 +6,7 @@ use Rattle.std.proofs.lemmas.List.{get_or-map, length-map}
 use Rattle.vlm_ports.specs.declared.port.Port.{Port}
 use Rattle.vlm_ports.specs.Hubs.{IsPortOf}
 use Rattle.vlm_ports.specs.Links.{line_identity}
-use Rattle.vlm_ports.specs.Watched.{Watches, board_name}
+use Rattle.vlm_ports.specs.Watched.{board_name}
 use Rattle.vlm_watch.specs.declared.watcher.Watcher.{Watcher}
 use Rattle.vlm_watch.specs.Watching.{IsNew}
 use Rattle.vlm_hub_uses.specs.declared.onlookers.Onlooker.{Onlooker}

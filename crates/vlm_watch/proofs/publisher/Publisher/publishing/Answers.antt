@@ -1,5 +1,4 @@
 use Rattle.std.proofs.Common.{◌≡◌, ◌+◌, ◌++◌, ◌∷◌, List, [], drop, length, length-append, arith, ap, sym, ◌∙◌}
-use Rattle.left_right.specs.Sides.{view}
 use Rattle.vlm_watch.specs.declared.rows.Change.{Change}
 use Rattle.vlm_watch.specs.declared.sheet.Sheet.{Sheet}
 use Rattle.vlm_watch.specs.declared.sheet.Update.{Update}

@@ -1,4 +1,4 @@
-use Rattle.std.proofs.Common.{◌≤◌, List, length, ap, subst, arith}
+use Rattle.std.proofs.Common.{List, ap, subst, arith}
 use mathlib.Core.List.{IsPrefix}
 use Rattle.vlm_watch.specs.declared.rows.Change.{Change}
 use Rattle.vlm_watch.proofs.Beginnings.{shorter_begins}
