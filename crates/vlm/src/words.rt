@@ -23,22 +23,24 @@ Commands of a script, one a line:
   declare NAME node=N group=N quota=N blocks=N [syslck]
   enq NAME MODE name=RES block=N [parent=LOCK] [ast=N] [bast=N] [param=N] [flags] [bits=N]
   cvt NAME LOCK MODE block=N [ast=N] [bast=N] [param=N] [flags] [bits=N]
-  deq NAME LOCK [value=HEX] [deqall] [cancel] [invvalblk] [bits=N]
-  set NAME block=N value=HEX
+  deq NAME LOCK [value=HEX] [tail=HEX] [deqall] [cancel] [invvalblk] [bits=N]
+  set NAME block=N value=HEX [tail=HEX]
   end NAME
   leave node=N
   search node=N
   ast NAME
   block NAME N
+  tail NAME N
   show
-The flags are valblk, noqueue, syncsts, system, expedite, quecvt, nodlckwt and nodlckblk.
+  tails
+The flags are valblk, noqueue, syncsts, system, expedite, quecvt, nodlckwt, nodlckblk and wide.
 More flags are the bits of a number, bits=N, 0 to 65535.
 A NAME is 1 to 15 letters, digits and underscores, the first a letter.
 A MODE is NL, CR, CW, PR, PW or EX.
 A RES is a name as it is, or x: and two hexadecimal digits for each of its bytes.
 A LOCK is its number, or @N for the lock in status block N.
-HEX is 32 hexadecimal digits. Nodes and blocks go from 0 to 255, groups and quotas from 0
-to 65535, locks, routines and parameters from 0 to 4294967295.
+HEX is hexadecimal digits, 32 of them behind value= and 96 behind tail=. Nodes and blocks go from
+0 to 255, groups and quotas from 0 to 65535, locks, routines and parameters from 0 to 4294967295.
 A line that begins with # is a comment. A line has at most 255 bytes.
 
 Example:
@@ -59,8 +61,8 @@ const CLUSTER_ABOUT: &str =
 const NODES_HELP: &str = "How many nodes there are, 1 to 8";
 
 const CLUSTER_HELP: &str = "\
-The script is read from standard input. Its commands are those of `vlm play`, but for ast, block
-and show. Nodes go from 1 to N.
+The script is read from standard input. Its commands are those of `vlm play`, but for ast, block,
+tail, show and tails. Nodes go from 1 to N.
 A NAME is the process that its declare line gives: by the order of the node's declare lines, the
 first process of node K is 65536 times K and 1, the second 65536 times K and 2, and so on.
 Each step goes to the list of its node, which posts its list in order and departs behind it.

@@ -26,8 +26,11 @@ use vlm_words::laws::{
 };
 use vlm_words::steps::{Answer, Conversion, Declaration, Dequeue, NewRequest, Step, ValueSetting};
 
-/// The lock manager's core: a machine that one thread steps. Some run of the plain machine leads to its
-/// state, so that each law of such runs holds of it.
+/// The lock manager's core: a machine that one thread steps. Some run of the plain machine leads to its state, so
+/// that each law of such runs holds of it.
+///
+/// A value block has 64 bytes (this project's own): the 16 of VMS, and a tail of 48, each with a mark that says
+/// whether they are valid. Who names no WIDE and gives no tail sees and writes the 16 alone.
 pub struct Core {
     pub(crate) machine: Machine,
     // what a step touches, for its sweep, with room for all that an ending can touch
@@ -135,8 +138,8 @@ impl Core {
         self.step(Step::Declare(declaration))
     }
 
-    /// Writes the value part of a status block of the caller, and nothing else (this project's own). It
-    /// takes no memory and answers NORMAL. Refused by DEPARTED, NONEXPR, ACCVIO.
+    /// Writes the value part of a status block of the caller, and its tail where one is given, and nothing else
+    /// (this project's own). It takes no memory and answers NORMAL. Refused by DEPARTED, NONEXPR, ACCVIO.
     pub fn set_value(&mut self, setting: ValueSetting) -> Answer
         ensures state { self.new ≡ (stepped self.old (Step.SetValue setting) None).state }
         ensures answer { result ≡ (stepped self.old (Step.SetValue setting) None).answer }
@@ -154,34 +157,36 @@ impl Core {
         self.step(Step::Take(pid))
     }
 
-    /// Asks for a new lock ($ENQ): below the resource of a parent lock of the caller, or on a root in its
-    /// group, or with SYSTEM in the system's domain. It answers NORMAL, or SYNCH where it is granted at
-    /// once with SYNCSTS. With VALBLK its grant returns the resource's value block. Where it names a
-    /// completion routine, its end queues an AST for that to the caller, but for a grant at once with
-    /// SYNCSTS; where it names a blocking routine, an AST for that is queued to the caller once, as soon as
-    /// the granted lock is in the way of a queued request. The locks in its own way are warned so. Refused by
-    /// DEPARTED, NONEXPR, BADPARAM for an unknown flag, ACCVIO, IVBUFLEN, UNSUPPORTED for EXPEDITE at a mode
-    /// other than NL, IVLOCKID where the parent is no lock of the caller, PARNOTGRANT where it waits, EXDEPTH
-    /// where it stands at level 15 (this project's own limit), NOSYSLCK for a root with SYSTEM without the
-    /// privilege, EXENQLM where the caller has as many locks as its quota, NOLOCKID, NOTQUEUED where it must
-    /// not queue and is not granted at once, INSFMEM.
+    /// Asks for a new lock ($ENQ): below the resource of a parent lock of the caller, or on a root in its group, or
+    /// with SYSTEM in the system's domain. It answers NORMAL, or SYNCH where it is granted at once with SYNCSTS.
+    /// With VALBLK its grant returns the resource's value block: the 16 bytes, and with WIDE the tail too (this
+    /// project's own). Its status block then tells VALNOTVALID where the 16 bytes are invalid, and with WIDE, where
+    /// the tail alone is, WIDENOTVALID. Where it names a completion routine, its end queues an AST for that to the
+    /// caller, but for a grant at once with SYNCSTS; where it names a blocking routine, an AST for that is queued to
+    /// the caller once, as soon as the granted lock is in the way of a queued request. The locks in its own way are
+    /// warned so. Refused by DEPARTED, NONEXPR, BADPARAM for an unknown flag, ACCVIO, IVBUFLEN, UNSUPPORTED for
+    /// EXPEDITE at a mode other than NL, IVLOCKID where the parent is no lock of the caller, PARNOTGRANT where it
+    /// waits, EXDEPTH where it stands at level 15 (this project's own limit), NOSYSLCK for a root with SYSTEM
+    /// without the privilege, EXENQLM where the caller has as many locks as its quota, NOLOCKID, NOTQUEUED where it
+    /// must not queue and is not granted at once, INSFMEM.
     pub fn enq(&mut self, request: NewRequest) -> Answer
         ensures { Outcome self.old (Step.Enq request) self.new result }
     {
         self.step(Step::Enq(request))
     }
 
-    /// Asks for another mode of a granted lock ($ENQ with LCK$M_CONVERT). It answers NORMAL, or SYNCH where
-    /// it is granted at once with SYNCSTS. With VALBLK its grant returns the value block of the resource,
-    /// writes it, or does neither, by the held and the wanted mode. Where it names a completion routine, its
-    /// end queues an AST for that to the caller, but for a grant at once with SYNCSTS. With its grant its
-    /// blocking routine, or none, takes the place of the one that the lock had: an AST for it is queued to
-    /// the caller once, as soon as the granted lock is in the way of a queued request. The locks in its own
-    /// way are warned so. Refused by DEPARTED, NONEXPR, BADPARAM for an unknown flag, ACCVIO, also where the
-    /// lock is named by a status block that is not there, IVLOCKID, CVTUNGRANT where the lock waits or
-    /// converts, BADPARAM where QUECVT does not go with the two modes, NOLOCKID, NOTQUEUED where it must not
-    /// queue and is not granted at once, INSFMEM, but only where it names a routine: without one it takes no
-    /// memory.
+    /// Asks for another mode of a granted lock ($ENQ with LCK$M_CONVERT). It answers NORMAL, or SYNCH where it is
+    /// granted at once with SYNCSTS. With VALBLK its grant returns the value block of the resource, writes it, or
+    /// does neither, by the held and the wanted mode. What is returned is told as that of a new request is. A write
+    /// takes the value part of the status block, and with WIDE its tail (this project's own); what it writes is
+    /// valid, and without WIDE the tail keeps its bytes, invalid. Where it names a completion routine, its end
+    /// queues an AST for that to the caller, but for a grant at once with SYNCSTS. With its grant its blocking
+    /// routine, or none, takes the place of the one that the lock had: an AST for it is queued to the caller once,
+    /// as soon as the granted lock is in the way of a queued request. The locks in its own way are warned so.
+    /// Refused by DEPARTED, NONEXPR, BADPARAM for an unknown flag, ACCVIO, also where the lock is named by a status
+    /// block that is not there, IVLOCKID, CVTUNGRANT where the lock waits or converts, BADPARAM where QUECVT does
+    /// not go with the two modes, NOLOCKID, NOTQUEUED where it must not queue and is not granted at once, INSFMEM,
+    /// but only where it names a routine: without one it takes no memory.
     pub fn convert(&mut self, conversion: Conversion) -> Answer
         ensures outcome { Outcome self.old (Step.Convert conversion) self.new result }
         ensures state { conversion.ast ≡ None → conversion.bast ≡ None
@@ -192,18 +197,19 @@ impl Core {
         self.step(Step::Convert(conversion))
     }
 
-    /// Gives a lock up, or with CANCEL ends its request ($DEQ). A lock that is held at PW or EX writes a
-    /// given value to the value block, and with INVVALBLK then marks it invalid; with CANCEL, at lower
-    /// modes and for a waiting lock both are ignored (this project's own). With DEQALL several locks are given
-    /// up together: all of the caller where 0 is named, else all that are below the named one, which stays. A
-    /// request that ends with its lock, by abort or cancel, queues an AST for its completion routine, if it names
-    /// one, those of one step by rising identification; of its blocking routine nothing comes, and a lock that goes
-    /// is not warned any more. It takes no memory. Refused by DEPARTED, NONEXPR, BADPARAM for an unknown flag and
-    /// for DEQALL with CANCEL or with a value, ACCVIO where the lock is named by a status block that is not
-    /// there, IVLOCKID, but not for DEQALL of 0, CANCELGRANT where a granted lock is to be cancelled, SUBLOCKS
-    /// where one that has sublocks is to be given up without DEQALL. With DEQALL its cost grows with the locks of
-    /// the caller and, for the order of what is swept, with the resources that those stood on that go times their
-    /// logarithm.
+    /// Gives a lock up, or with CANCEL ends its request ($DEQ). A lock that is held at PW or EX writes a given value
+    /// to the value block, and a given tail with it (this project's own); what it writes is valid, and without a
+    /// tail that of the value block keeps its bytes, invalid. With INVVALBLK it then marks all of the value block
+    /// invalid. With CANCEL, at lower modes and for a waiting lock value, tail and INVVALBLK are ignored (this
+    /// project's own). With DEQALL several locks are given up together: all of the caller where 0 is named, else all
+    /// that are below the named one, which stays. A request that ends with its lock, by abort or cancel, queues an
+    /// AST for its completion routine, if it names one, those of one step by rising identification; of its blocking
+    /// routine nothing comes, and a lock that goes is not warned any more. It takes no memory. Refused by DEPARTED,
+    /// NONEXPR, BADPARAM for an unknown flag, for DEQALL with CANCEL or with a value, and for a tail without a
+    /// value, ACCVIO where the lock is named by a status block that is not there, IVLOCKID, but not for DEQALL of 0,
+    /// CANCELGRANT where a granted lock is to be cancelled, SUBLOCKS where one that has sublocks is to be given up
+    /// without DEQALL. With DEQALL its cost grows with the locks of the caller and, for the order of what is swept,
+    /// with the resources that those stood on that go times their logarithm.
     pub fn deq(&mut self, dequeue: Dequeue) -> Answer
         ensures state { self.new ≡ (stepped self.old (Step.Deq dequeue) None).state }
         ensures answer { result ≡ (stepped self.old (Step.Deq dequeue) None).answer }
@@ -211,11 +217,12 @@ impl Core {
         self.step(Step::Deq(dequeue))
     }
 
-    /// Ends a process (process rundown). All its locks are given up together: its requests end without a status or an
-    /// AST, and on each resource on which it held PW or EX, granted or converting, the value block is marked invalid.
-    /// Then it is gone, with its status blocks and all its ASTs, and what its locks were in the way of is granted. It
-    /// takes no memory and answers NORMAL. Refused by DEPARTED, NONEXPR. Its cost grows with the locks that go and, for
-    /// the order of what is swept, with the resources that these stood on times their logarithm.
+    /// Ends a process (process rundown). All its locks are given up together: its requests end without a status or
+    /// an AST, and on each resource on which it held PW or EX, granted or converting, all of the value block is
+    /// marked invalid. Then it is gone, with its status blocks and all its ASTs, and what its locks were in the way
+    /// of is granted. It takes no memory and answers NORMAL. Refused by DEPARTED, NONEXPR. Its cost grows with the
+    /// locks that go and, for the order of what is swept, with the resources that these stood on times their
+    /// logarithm.
     pub fn rundown(&mut self, pid: u32) -> Answer
         ensures state { self.new ≡ (stepped self.old (Step.Rundown pid) None).state }
         ensures answer { result ≡ (stepped self.old (Step.Rundown pid) None).answer }

@@ -19,8 +19,8 @@ use vlm_words::names::Name;
 use vlm_words::resources::{Domain, Key, Queue};
 
 impl Core {
-    /// The status block of this number, from 1, of a process. None where no living process has the
-    /// identification, or it has no such block.
+    /// The status block of this number, from 1, of a process: its status, its lock, its value part and its tail.
+    /// None where no living process has the identification, or it has no such block.
     #[tactic(auto, unfolding(vlm_words::specs::StatusBlocks::status_block_at))]
     pub fn block(&self, pid: u32, number: u8) -> Option<Block>
         ensures { result ≡ status_block_at self.now.processes pid number }
@@ -54,8 +54,8 @@ impl Core {
         self.machine.store.resource_count()
     }
 
-    /// The resource at an index, from 0, by rising serial. None past the last. The cost grows with the
-    /// index: [`Core::store`] goes from one resource to the next.
+    /// The resource at an index, from 0, by rising serial, with its value block and the tail of that. None past the
+    /// last. The cost grows with the index: [`Core::store`] goes from one resource to the next.
     pub fn resource_at(&self, index: usize) -> Option<ResourceView>
         ensures { result ≡ option_map resource_view (slice_get self.now.resources index) }
     {
@@ -70,8 +70,8 @@ impl Core {
         row_at(&self.machine.store, resource, queue, index)
     }
 
-    /// How the root resource of this name in this domain is used. None where no lock stands on it. It reads counts
-    /// alone: its cost does not grow with what is held.
+    /// How the root resource of this name in this domain is used, and its value block without the tail. None where no
+    /// lock stands on it. It reads counts alone: its cost does not grow with what is held.
     pub fn usage(&self, domain: Domain, name: Name) -> Option<Usage>
         ensures { result ≡ option_map usage (root_of self.now.resources domain name) }
     {

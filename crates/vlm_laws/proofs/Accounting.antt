@@ -181,7 +181,7 @@ made_for_others : (s : State) (step : Step) (choice : Option Row) → ((pid : �
 unfolding set_change take_change deq_change search_change
 made_for_others s (Declare d) choice none passed = declared_for_others s d choice none
 made_for_others s (SetValue v) choice none passed =
-    swept_for_others s (SetValue v) (step_change s (SetValue v) choice) (kept_set named (λ _ _. refl) v.pid v.block v.value s.processes)
+    swept_for_others s (SetValue v) (step_change s (SetValue v) choice) (kept_set named (λ _ _. refl) v.pid v.block v.value v.tail s.processes)
     (λ pid out. record { queued = refl; locks = none pid out }) (λ pid out. refl)
 made_for_others s (Enq e) choice none passed =
     swept_for_others s (Enq e) (step_change s (Enq e) choice) (kept_entered named (λ _ _ _. refl) s e)

@@ -392,7 +392,7 @@ stay_always =
     (λ history s _ stay.
     kept_by_stepped (λ _ t. AllStay t) history.endings s stay
     (λ d passed. swept_stay (declare_change s d) (declared_stay s d passed stay))
-    (λ v _. swept_stay (set_change s v) (same_stay s (set_change s v) refl (kept_set (λ p. p.pid) (λ _ _. refl) v.pid v.block v.value s.processes) stay))
+    (λ v _. swept_stay (set_change s v) (same_stay s (set_change s v) refl (kept_set (λ p. p.pid) (λ _ _. refl) v.pid v.block v.value v.tail s.processes) stay))
     (λ taker _. swept_stay (take_change s taker) (same_stay s (take_change s taker) refl (kept_taken (λ p. p.pid) (λ _ _. refl) taker s.processes) stay))
     (λ e _. swept_stay (enq_change s e) (same_stay s (enq_change s e) refl (kept_entered (λ p. p.pid) (λ _ _ _. refl) s e) stay))
     (λ c a _ _. swept_stay (convert_change s c a) (same_stay s (convert_change s c a) refl (kept_converted (λ p. p.pid) (λ _ _ _. refl) s c a) stay))

@@ -186,7 +186,7 @@ made_gives : (s : State) (step : Step) (choice : Option Row) → AllGiven s → 
 unfolding set_change take_change enq_change convert_change deq_change search_change
 made_gives s (Declare d) choice given passed = declaration_gives s d choice given (ordinal_left s d passed)
 made_gives s (SetValue v) choice given passed =
-    none_given s (step_change s (SetValue v) choice) refl (kept_set named (λ _ _. refl) v.pid v.block v.value s.processes) (λ pid is. cc)
+    none_given s (step_change s (SetValue v) choice) refl (kept_set named (λ _ _. refl) v.pid v.block v.value v.tail s.processes) (λ pid is. cc)
 made_gives s (Enq e) choice given passed =
     none_given s (step_change s (Enq e) choice) refl (kept_entered named (λ _ _ _. refl) s e) (λ pid is. cc)
 made_gives s (Convert c) choice given passed =

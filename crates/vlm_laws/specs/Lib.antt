@@ -12,3 +12,4 @@ pub mod Happened
 pub mod Privileges
 pub mod Owners
 pub mod NoNewCircles
+pub mod TailMarks

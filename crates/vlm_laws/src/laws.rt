@@ -24,6 +24,7 @@ ghost use Rattle.vlm_laws.specs.Warning.{WarningsAreOfGrants};
 ghost use Rattle.vlm_laws.specs.WarnedOnce.{EachGrantIsWarnedAtMostOnce};
 ghost use Rattle.vlm_laws.specs.InTheWay.{WarnedLocksAreInTheWay};
 ghost use Rattle.vlm_laws.specs.NoNewCircles.{NoneIsCaughtAnew};
+ghost use Rattle.vlm_laws.specs.TailMarks.{TailsAreValidWithTheirValues};
 ghost use Rattle.vlm_laws.specs.TakenBelow.{AbortsByRisingIdentification, TakesThoseBelowAlone};
 
 use vlm_words::laws::law_asts_are_taken_in_order;
@@ -163,4 +164,10 @@ pub fn law_others_are_left_alone()
 pub fn law_a_search_catches_nobody_anew()
     ensures { (s : State) (node : ℕ) (choice : Option Row)
         → NoneIsCaughtAnew s (stepped s (Search node) choice).state }
+{}
+
+/// After each legal run, the tail of a resource's value block is valid only where its value is.
+pub fn law_a_tail_is_valid_with_its_value()
+    ensures { (history : History) (last : State) → Run history last
+        → TailsAreValidWithTheirValues last }
 {}

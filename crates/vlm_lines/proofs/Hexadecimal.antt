@@ -1,5 +1,5 @@
 -- What the crate hex reads is what the definitions read.
-use Rattle.std.proofs.Common.{◌≡◌, ◌≢◌, ◌⊎◌, ◌++◌, ℕ, zero, suc, ◌+◌, ◌*◌, ◌/◌, ◌%◌, true, false, cond, ◌&&◌, List, [], ◌∷◌, length, min, take, Bool, Result, Ok, Err, inl, inr, refl, sym, ap, ◌∙◌, arith}
+use Rattle.std.proofs.Common.{◌≡◌, ◌≢◌, ◌⊎◌, ◌++◌, ℕ, zero, suc, ◌+◌, ◌*◌, ◌/◌, ◌%◌, ◌==◌, true, false, cond, ◌&&◌, List, [], ◌∷◌, length, min, take, Bool, Result, Ok, Err, inl, inr, refl, sym, ap, ◌∙◌, arith}
 use Rattle.std.proofs.lemmas.Bool.{and_parts, cases_eq}
 use Rattle.std.proofs.lemmas.List.{length-take, length-take-le, take_all, take_at}
 use Rattle.std.proofs.lemmas.Bool.Decides.{nat_tests}
@@ -12,7 +12,7 @@ use Rattle.hex.specs.declared.error.FromHexError.TheVariants.{InvalidHexCharacte
 use Rattle.hex.proofs.HexLemmas.{decode_of-even, decode_sized-ok, decode_sized-twice}
 use Rattle.vlm_lines.specs.declared.faults.LineFault.{LineFault}
 use Rattle.vlm_lines.specs.declared.faults.LineFault.TheVariants.{WrongWord}
-use Rattle.vlm_lines.specs.Lines.{digit_value, hex_value, value_of}
+use Rattle.vlm_lines.specs.Lines.{bytes_of, digit_value, hex_value}
 
 -- what the crate refuses is a wrong word
 abbrev pub as_read : Result (List ℕ) FromHexError → Result (List ℕ) LineFault
@@ -50,15 +50,16 @@ not_ok : (r : Result (List ℕ) FromHexError) → ((bytes : List ℕ) → r ≡ 
 not_ok (Ok bytes) h = absurd (h bytes refl)
 not_ok (Err e) h = refl
 
--- what the crate reads into room for 16 bytes is a value block
-pub value_read : (word : List ℕ) → value_of word ≡ as_read (decode_sized word 16)
-unfolding value_of
-value_read word = elim (cases_eq (length word) 32) [
+-- what the crate reads into room for so many bytes are so many bytes
+pub bytes_read : (count : ℕ) (word : List ℕ) → bytes_of count word ≡ as_read (decode_sized word count)
+unfolding bytes_of
+bytes_read count word = elim (cases_eq (length word) (2 * count)) [
   | inl same ↦
-      let twice = decode_sized-twice word 16 same ∙ decode_of-even word (omega (arith, same)) in
-      rw (twice, same) (sym (pairs_read 0 word (omega (arith, same))))
+      let twice = decode_sized-twice word count same ∙ decode_of-even word (omega (arith, same)) in
+      let right : (length word == 2 * count) ≡ true = grind (arith, nat_tests) in
+      rw (twice, right) (sym (pairs_read 0 word (omega (arith, same))))
   | inr other ↦
-      let bad = not_ok (decode_sized word 16) (λ bytes h. other (decode_sized-ok word 16 bytes h)) in
+      let bad = not_ok (decode_sized word count) (λ bytes h. other (decode_sized-ok word count bytes h)) in
       rw bad (grind (arith, nat_tests))
 ]
 

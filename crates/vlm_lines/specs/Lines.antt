@@ -17,10 +17,10 @@ use Rattle.vlm_lines.specs.declared.keyed.SetWords.{SetWords}
 use Rattle.vlm_lines.specs.declared.keyed.NodeWords.{NodeWords}
 use Rattle.vlm_lines.specs.declared.flags.FlagWords.{FlagWords}
 use Rattle.vlm_lines.specs.declared.lines.Line.{Line}
-use Rattle.vlm_lines.specs.declared.lines.Line.TheVariants.{Empty, Declare, Enq, Cvt, Deq, Set, End, Leave, Search, Ast, Block as block_words, Show}
+use Rattle.vlm_lines.specs.declared.lines.Line.TheVariants.{Empty, Declare, Enq, Cvt, Deq, Set, End, Leave, Search, Ast, Block as block_words, Tail as tail_words, Show, Tails}
 use Rattle.vlm_lines.specs.declared.faults.LineFault.{LineFault}
 use Rattle.vlm_lines.specs.declared.faults.LineFault.TheVariants.{TooLong, UnknownCommand, WrongWord, NumberOutOfRange}
-use Rattle.vlm_words.specs.Flags.{cancel, deqall, expedite, has_flag, invvalblk, nodlckblk, nodlckwt, noqueue, quecvt, syncsts, system, valblk}
+use Rattle.vlm_words.specs.Flags.{cancel, deqall, expedite, has_flag, invvalblk, nodlckblk, nodlckwt, noqueue, quecvt, syncsts, system, valblk, wide}
 
 -- the byte goes to the front of the first piece
 abbrev pub onto : ℕ → List (List ℕ) → List (List ℕ)
@@ -143,9 +143,18 @@ hex_name digits =
 unfoldable pub name_read : List ℕ → Option (List ℕ)
 name_read bytes = if has_key (codes "x:") bytes then hex_name (behind (codes "x:") bytes) else Some (take 32 bytes)
 
+-- so many bytes: exactly two hexadecimal digits for each
+unfoldable pub bytes_of : ℕ → List ℕ → Result (List ℕ) LineFault
+bytes_of count word =
+    if (length word == 2 * count) && list_all is_ascii_hexdigit word then Ok (hex_value word) else Err WrongWord
+
 -- a value block: exactly 32 hexadecimal digits
-unfoldable pub value_of : List ℕ → Result (List ℕ) LineFault
-value_of word = if (length word == 32) && list_all is_ascii_hexdigit word then Ok (hex_value word) else Err WrongWord
+abbrev pub value_of : List ℕ → Result (List ℕ) LineFault
+value_of word = bytes_of 16 word
+
+-- the tail of a value block: exactly 96 hexadecimal digits
+abbrev pub tail_of : List ℕ → Result (List ℕ) LineFault
+tail_of word = bytes_of 48 word
 
 -- a lock: `@N` is the one whose identification stands in status block N, a number is its identification
 unfoldable pub lock_named : List ℕ → Result Which LineFault
@@ -219,6 +228,7 @@ enq_flag word =
     else if is_text word (codes "quecvt") then Some quecvt
     else if is_text word (codes "nodlckwt") then Some nodlckwt
     else if is_text word (codes "nodlckblk") then Some nodlckblk
+    else if is_text word (codes "wide") then Some wide
     else None
 
 -- the flag that a word of a deq line stands for
@@ -333,16 +343,18 @@ cvt_line words =
 
 -- nothing of a deq line's keyed words is read yet
 abbrev pub no_deq_words : DeqWords
-no_deq_words = record { value = None; flags = no_flag_words }
+no_deq_words = record { value = None; tail = None; flags = no_flag_words }
 
 -- one more keyed word or flag of a deq line
 unfoldable pub deq_word : DeqWords → List ℕ → Result DeqWords LineFault
 deq_word d word =
     if has_key (codes "value=") word then
     once d.value (value_of (behind (codes "value=") word)) >>= (λ value. Ok (record d { value = value }))
+    else if has_key (codes "tail=") word then
+    once d.tail (tail_of (behind (codes "tail=") word)) >>= (λ tail. Ok (record d { tail = tail }))
     else flag_word d.flags word (deq_flag word) >>= (λ flags. Ok (record d { flags = flags }))
 
--- deq NAME LOCK [value=HEX] [flags] [bits=N]
+-- deq NAME LOCK [value=HEX] [tail=HEX] [flags] [bits=N]
 unfoldable pub deq_line : List (List ℕ) → Result Line LineFault
 deq_line words =
     next_word words >>= λ first.
@@ -350,11 +362,17 @@ deq_line words =
     next_word first.1 >>= λ second.
     lock_named second.0 >>= λ lock.
     all_words deq_word no_deq_words second.1 >>= λ d.
-    Ok (Deq name (record { pid = unnamed_process; lock = lock; value = d.value; flags = flags_of d.flags }))
+    Ok (Deq name (record {
+      pid = unnamed_process;
+      lock = lock;
+      value = d.value;
+      tail = d.tail;
+      flags = flags_of d.flags;
+    }))
 
 -- nothing of a set line's keyed words is read yet
 abbrev pub no_set_words : SetWords
-no_set_words = record { block = None; value = None }
+no_set_words = record { block = None; value = None; tail = None }
 
 -- one more keyed word of a set line
 unfoldable pub set_word : SetWords → List ℕ → Result SetWords LineFault
@@ -363,9 +381,11 @@ set_word s word =
     once s.block (number_within 255 (behind (codes "block=") word)) >>= (λ n. Ok (record s { block = n }))
     else if has_key (codes "value=") word then
     once s.value (value_of (behind (codes "value=") word)) >>= (λ value. Ok (record s { value = value }))
+    else if has_key (codes "tail=") word then
+    once s.tail (tail_of (behind (codes "tail=") word)) >>= (λ tail. Ok (record s { tail = tail }))
     else Err WrongWord
 
--- set NAME block=N value=HEX
+-- set NAME block=N value=HEX [tail=HEX]
 unfoldable pub set_line : List (List ℕ) → Result Line LineFault
 set_line words =
     next_word words >>= λ first.
@@ -373,7 +393,7 @@ set_line words =
     all_words set_word no_set_words first.1 >>= λ s.
     given s.block >>= λ block.
     given s.value >>= λ value.
-    Ok (Set name (record { pid = unnamed_process; block = block; value = value }))
+    Ok (Set name (record { pid = unnamed_process; block = block; value = value; tail = s.tail }))
 
 -- end NAME
 unfoldable pub end_line : List (List ℕ) → Result Line LineFault
@@ -418,14 +438,26 @@ ast_line words =
     process_name first.0 >>= λ name.
     no_more (Ast name) first.1
 
--- block NAME N
-unfoldable pub block_command : List (List ℕ) → Result Line LineFault
-block_command words =
+-- NAME N and no other word: a process and the number of a status block of it
+unfoldable pub block_alone : List (List ℕ) → Result (List ℕ × ℕ) LineFault
+block_alone words =
     next_word words >>= λ first.
     process_name first.0 >>= λ name.
     next_word first.1 >>= λ second.
     number_within 255 second.0 >>= λ number.
-    no_more (block_words name number) second.1
+    no_more (name, number) second.1
+
+-- block NAME N
+unfoldable pub block_command : List (List ℕ) → Result Line LineFault
+block_command words =
+    block_alone words >>= λ block.
+    Ok (block_words block.0 block.1)
+
+-- tail NAME N
+unfoldable pub tail_command : List (List ℕ) → Result Line LineFault
+tail_command words =
+    block_alone words >>= λ block.
+    Ok (tail_words block.0 block.1)
 
 -- a line by its command
 unfoldable pub command_line : List ℕ → List (List ℕ) → Result Line LineFault
@@ -440,7 +472,9 @@ command_line command words =
     else if is_text command (codes "search") then search_line words
     else if is_text command (codes "ast") then ast_line words
     else if is_text command (codes "block") then block_command words
+    else if is_text command (codes "tail") then tail_command words
     else if is_text command (codes "show") then no_more Show words
+    else if is_text command (codes "tails") then no_more Tails words
     else Err UnknownCommand
 
 -- a line without words, or whose first word begins with `#`, does nothing

@@ -73,6 +73,8 @@ pub(crate) fn enq_flag(word: &[u8]) -> Option<u16>
         Some(EnqFlags::NODLCKWT.bits())
     } else if is_text(word, b"nodlckblk") {
         Some(EnqFlags::NODLCKBLK.bits())
+    } else if is_text(word, b"wide") {
+        Some(EnqFlags::WIDE.bits())
     } else {
         None
     }

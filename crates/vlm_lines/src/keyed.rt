@@ -9,7 +9,7 @@ use crate::flags::{FlagWords, deq_flag, enq_flag};
 use crate::locks::lock;
 use crate::names::read_res;
 use crate::numbers::{byte, long, short};
-use crate::values::value_of;
+use crate::values::{tail_of, value_of};
 use crate::words::{behind_key, is_text};
 use vlm_words::names::NameArg;
 use vlm_words::steps::Which;
@@ -190,6 +190,8 @@ impl Keyed for EnqWords {
 pub(crate) struct DeqWords {
     // what is to be written to the value block
     pub(crate) value: Option<[u8; 16]>,
+    // what is to be written to its tail
+    pub(crate) tail: Option<[u8; 48]>,
     pub(crate) flags: FlagWords,
 }
 
@@ -199,6 +201,7 @@ impl DeqWords {
     {
         DeqWords {
             value: None,
+            tail: None,
             flags: FlagWords::new(),
         }
     }
@@ -212,6 +215,9 @@ impl Keyed for DeqWords {
         if let Some(digits) = behind_key(b"value=", word) {
             let value = once(self.value, value_of(digits))?;
             Ok(DeqWords { value, ..self })
+        } else if let Some(digits) = behind_key(b"tail=", word) {
+            let tail = once(self.tail, tail_of(digits))?;
+            Ok(DeqWords { tail, ..self })
         } else {
             let flags = self.flags.with(word, deq_flag(word))?;
             Ok(DeqWords { flags, ..self })
@@ -226,6 +232,8 @@ pub(crate) struct SetWords {
     pub(crate) block: Option<u8>,
     // what its value part is to hold
     pub(crate) value: Option<[u8; 16]>,
+    // what its tail is to hold
+    pub(crate) tail: Option<[u8; 48]>,
 }
 
 impl SetWords {
@@ -235,6 +243,7 @@ impl SetWords {
         SetWords {
             block: None,
             value: None,
+            tail: None,
         }
     }
 }
@@ -250,6 +259,9 @@ impl Keyed for SetWords {
         } else if let Some(digits) = behind_key(b"value=", word) {
             let value = once(self.value, value_of(digits))?;
             Ok(SetWords { value, ..self })
+        } else if let Some(digits) = behind_key(b"tail=", word) {
+            let tail = once(self.tail, tail_of(digits))?;
+            Ok(SetWords { tail, ..self })
         } else {
             Err(LineFault::WrongWord)
         }

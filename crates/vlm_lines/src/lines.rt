@@ -17,7 +17,7 @@ pub enum Line {
     Empty,
     /// A process is declared under a name.
     Declare(ProcessName, Declaration),
-    /// The value part of a status block is set.
+    /// The value part of a status block is set, or its tail with it.
     Set(ProcessName, ValueSetting),
     /// A new lock is asked for.
     Enq(ProcessName, NewRequest),
@@ -35,6 +35,10 @@ pub enum Line {
     Ast(ProcessName),
     /// The status block of this number is printed.
     Block(ProcessName, u8),
+    /// Its tail is printed.
+    Tail(ProcessName, u8),
     /// Every resource is printed with its queues.
     Show,
+    /// Of every resource the tail of its value block is printed.
+    Tails,
 }

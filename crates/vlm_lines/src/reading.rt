@@ -1,12 +1,12 @@
 //! Lines by their commands.
 
 ghost use Rattle.std.specs.Prelude.{◌≡◌, MatchResult};
-ghost use Rattle.vlm_lines.specs.Lines.{ast_line, block_command, line_read, line_of, command_line, declare_line, enq_line, cvt_line, deq_line, set_line, end_line, leave_line, node_alone, search_line, declaration_of, words_of, next_word, no_more};
+ghost use Rattle.vlm_lines.specs.Lines.{ast_line, block_alone, block_command, line_read, line_of, command_line, declare_line, enq_line, cvt_line, deq_line, set_line, end_line, leave_line, node_alone, search_line, tail_command, declaration_of, words_of, next_word, no_more};
 
 use crate::cuts;
 use crate::faults::LineFault;
 use crate::keyed::{DeclareWords, DeqWords, EnqWords, Keyed, NodeWords, RequestWords, SetWords};
-use crate::lines::{Line, NO_PROCESS};
+use crate::lines::{Line, NO_PROCESS, ProcessName};
 use crate::locks::lock;
 use crate::numbers::byte;
 use crate::words::{behind_key, is_text, mode, process_name};
@@ -70,8 +70,12 @@ fn command_line(command: &[u8], rest: &[u8]) -> Result<Line, LineFault>
         ast_line(rest)
     } else if is_text(command, b"block") {
         block_line(rest)
+    } else if is_text(command, b"tail") {
+        tail_line(rest)
     } else if is_text(command, b"show") {
         no_more(Line::Show, rest)
+    } else if is_text(command, b"tails") {
+        no_more(Line::Tails, rest)
     } else {
         Err(LineFault::UnknownCommand)
     }
@@ -161,7 +165,7 @@ fn cvt_line(line: &[u8]) -> Result<Line, LineFault>
     Ok(Line::Cvt(name, conversion))
 }
 
-// The words of a deq line: NAME LOCK [value=HEX] and flags.
+// The words of a deq line: NAME LOCK [value=HEX] [tail=HEX] and flags.
 #[tactic(auto, unfolding(crate::specs::Lines::deq_line))]
 fn deq_line(line: &[u8]) -> Result<Line, LineFault>
     ensures { result ≡ deq_line (words_of line.now) }
@@ -175,12 +179,13 @@ fn deq_line(line: &[u8]) -> Result<Line, LineFault>
         pid: NO_PROCESS,
         lock,
         value: words.value,
+        tail: words.tail,
         flags: words.flags.flags(),
     };
     Ok(Line::Deq(name, dequeue))
 }
 
-// The words of a set line: NAME block=N value=HEX.
+// The words of a set line: NAME block=N value=HEX [tail=HEX].
 #[tactic(auto, unfolding(crate::specs::Lines::set_line))]
 fn set_line(line: &[u8]) -> Result<Line, LineFault>
     ensures { result ≡ set_line (words_of line.now) }
@@ -194,6 +199,7 @@ fn set_line(line: &[u8]) -> Result<Line, LineFault>
         pid: NO_PROCESS,
         block,
         value,
+        tail: words.tail,
     };
     Ok(Line::Set(name, setting))
 }
@@ -245,16 +251,34 @@ fn ast_line(line: &[u8]) -> Result<Line, LineFault>
     no_more(Line::Ast(name), rest)
 }
 
-// The words of a block line: NAME N.
-#[tactic(auto, unfolding(crate::specs::Lines::block_command))]
-fn block_line(line: &[u8]) -> Result<Line, LineFault>
-    ensures { result ≡ block_command (words_of line.now) }
+// The words of a line of a status block: NAME N.
+#[tactic(auto, unfolding(crate::specs::Lines::block_alone))]
+fn block_alone(line: &[u8]) -> Result<(ProcessName, u8), LineFault>
+    ensures { result ≡ block_alone (words_of line.now) }
 {
     let (first, after_name) = needed_word(line)?;
     let name = process_name(first)?;
     let (second, rest) = needed_word(after_name)?;
     let number = byte(second)?;
-    no_more(Line::Block(name, number), rest)
+    no_more((name, number), rest)
+}
+
+// A block line.
+#[tactic(auto, unfolding(crate::specs::Lines::block_command))]
+fn block_line(line: &[u8]) -> Result<Line, LineFault>
+    ensures { result ≡ block_command (words_of line.now) }
+{
+    let (name, number) = block_alone(line)?;
+    Ok(Line::Block(name, number))
+}
+
+// A tail line.
+#[tactic(auto, unfolding(crate::specs::Lines::tail_command))]
+fn tail_line(line: &[u8]) -> Result<Line, LineFault>
+    ensures { result ≡ tail_command (words_of line.now) }
+{
+    let (name, number) = block_alone(line)?;
+    Ok(Line::Tail(name, number))
 }
 
 fn needed_word(line: &[u8]) -> Result<(&[u8], &[u8]), LineFault>
@@ -265,12 +289,12 @@ fn needed_word(line: &[u8]) -> Result<(&[u8], &[u8]), LineFault>
     cuts::next_word(line).ok_or(LineFault::WrongWord)
 }
 
-// The line, which no word may follow.
-fn no_more(line: Line, rest: &[u8]) -> Result<Line, LineFault>
-    ensures { result ≡ no_more line (words_of rest.now) }
+// What was read, which no word may follow.
+fn no_more<T: Copy>(read: T, rest: &[u8]) -> Result<T, LineFault>
+    ensures { result ≡ no_more read (words_of rest.now) }
 {
     if cuts::next_word(rest).is_some() {
         return Err(LineFault::WrongWord);
     }
-    Ok(line)
+    Ok(read)
 }

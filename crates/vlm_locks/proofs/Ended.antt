@@ -1,7 +1,9 @@
 -- Two services, one after the other, and what a service of a resource comes to in the end.
 use Rattle.std.proofs.Common.{◌≡◌, ℕ, List, [], ◌∷◌, ◌++◌, map, true, false, None, Some, IfSome, IsSome, refl, sym, ap, ◌∙◌, subst, Option}
+use Rattle.std.proofs.lemmas.Bool.{and_parts}
 use Rattle.std.proofs.lemmas.List.{append-nil}
 use Rattle.std.proofs.lemmas.Option.{same_Some}
+use Rattle.vlm_words.specs.declared.locks.Row.{Row}
 use Rattle.vlm_words.specs.declared.resources.Queue.TheVariants.{Conversion, Waiting}
 use Rattle.vlm_words.specs.declared.resources.ValueBlock.{ValueBlock}
 use Rattle.vlm_words.specs.Effects.{Blocks, blocks_after, blocks_with, with_value_block}
@@ -11,11 +13,11 @@ use Rattle.vlm_words.specs.Sweeps.{blocks_after_service}
 use Rattle.vlm_records.specs.declared.handles.Place.TheVariants.{Queued}
 use Rattle.vlm_store.specs.Plain.{plain_processes, plain_resource}
 use Rattle.vlm_store.specs.Records.{HasResource, IsSound, Records, StoredLock, StoredResource, but_notices, first_at, locks_at, on_resource, resource_at, rows_of_locks}
-use Rattle.vlm_locks.specs.Serving.{IsLeft, IsServed, IsServiceOf, service_from, blocks_granted_from, HasGranted}
-use Rattle.vlm_locks.proofs.Found.{on_resource-put, resource_at-at, resource_at-put}
+use Rattle.vlm_locks.specs.Serving.{IsLeft, IsServed, IsServiceOf, nothing_queued, service_from, blocks_granted_from, HasGranted}
+use Rattle.vlm_locks.proofs.Found.{on_resource-own, on_resource-put, resource_at-at, resource_at-put}
 use Rattle.vlm_locks.specs.Staying.{LocksStay}
 use Rattle.vlm_locks.proofs.Granting.{blocks_after_append}
-use Rattle.vlm_locks.proofs.Staying.{none_joins_under_block, stay_twice, stays_under_block}
+use Rattle.vlm_locks.proofs.Staying.{all_stay, none_joins_under_block, stay_twice, stays_under_block}
 use Rattle.vlm_locks.proofs.Moves.{locks_found, none_queued}
 use Rattle.vlm_locks.specs.Warning.{IsWarned}
 use Rattle.vlm_locks.proofs.Replaced.{found_left, left_at}
@@ -151,6 +153,44 @@ module _ (res : ℕ) (old s new : Records) (old_block block : ValueBlock) (sound
     resource = served_here;
     statuses = ap plain_processes wrote ∙ ap (λ (b : Blocks). b.processes) blocks;
   }
+
+-- ---- nothing is queued
+
+-- a queue without locks
+empty_is : (rows : List Row) → is_empty rows ≡ true → rows ≡ []
+empty_is [] empty = refl
+empty_is (row ∷ rows) empty = cc
+
+-- nothing is granted then
+none_served : (r : Resource) → nothing_queued r ≡ true → service r ≡ no_service r
+unfolding service
+none_served r nothing =
+    let both = and_parts (is_empty r.converting) (is_empty r.waiting) nothing in
+    ap (λ (rows : List Row). service_then (service_of_conversions r rows) (service_of_new_requests (service_of_conversions r rows).resource)) (empty_is r.converting both.0)
+    ∙ rw (both.0, empty_is r.waiting both.1) refl
+
+pub none_granted : (res : ℕ) (s : Records) → IsSound s → HasResource res s → IfSome (resource_at res s.resources) (λ r. true ≡ nothing_queued (plain_resource r)) → HasGranted res s s
+none_granted res s sound there nothing = of_found (resource_at res s.resources) refl there nothing
+  where
+    of_found : (o : Option StoredResource) → resource_at res s.resources ≡ o → IsSome o → IfSome o (λ r. true ≡ nothing_queued (plain_resource r)) → HasGranted res s s
+    of_found None found none nothing = cc
+    of_found (Some r) found some nothing =
+        let none : service (plain_resource r) ≡ no_service (plain_resource r) = none_served (plain_resource r) (sym nothing) in
+        record {
+          had = r;
+          left = r;
+          replaced = record {
+            was = found;
+            same = refl;
+            resources = sym (on_resource-own res r s.resources sound.resources_apart found);
+            loose = refl;
+            processes = refl;
+          };
+          stay = all_stay r;
+          none_join = all_stay r;
+          resource = sym (ap (λ (d : Service). with_value_block (blocks_after d.endings (blocks_with r.value_block (plain_processes s))).value_block d.resource) none);
+          statuses = sym (ap (λ (d : Service). (blocks_after d.endings (blocks_with r.value_block (plain_processes s))).processes) none);
+        }
 
 -- a resource that is granted from and then warned is served
 pub served : (res : ℕ) (old s new : Records) → HasGranted res old s → IfSome (resource_at res s.resources) (λ r. IsWarned res r s new) → IsServed res old new

@@ -8,6 +8,7 @@ use Rattle.vlm_words.specs.declared.resources.ValueBlock.{ValueBlock}
 use Rattle.vlm_words.specs.Rows.{rows_without}
 use Rattle.vlm_words.specs.Endings.{How}
 use Rattle.vlm_words.specs.State.{Resource}
+use Rattle.vlm_words.specs.ValueBlocks.{invalid_value_block}
 use Rattle.vlm_words.specs.Withdrawals.{Withdrawal, has_writer, is_held_by_writer, is_writer, resource_after_withdrawals, resource_without, value_block_after_writer}
 use Rattle.vlm_locks.specs.Left.{giving_up, has_writer_among, resource_left, rows_left}
 
@@ -53,11 +54,11 @@ writers_parted goes lkid (row ∷ rows) own = of_test (row.lkid == lkid) refl (w
 
 -- a value block that may be invalid
 abbrev marked : Bool → ValueBlock → ValueBlock
-marked b block = cond b (record block { valid = false }) block
+marked b block = cond b (invalid_value_block block) block
 
 -- it is marked by one lock and by the others, or by all
 marked_twice : (invalidates : Bool) (a b : Bool) (block : ValueBlock)
-    → marked (invalidates && b) (cond a (record block { valid = not invalidates && block.valid }) block) ≡ marked (invalidates && (a || b)) block
+    → marked (invalidates && b) (cond a (marked invalidates block) block) ≡ marked (invalidates && (a || b)) block
 marked_twice true true true block = refl
 marked_twice true true false block = refl
 marked_twice true false b block = refl
@@ -106,7 +107,7 @@ one_withdrawn goes waiting_ends converting_ends invalidates lkid r own = of_test
         (four (has_writer lkid r.granted) (has_writer_among goes (rows_without lkid r.granted)) (has_writer lkid r.converting) (has_writer_among goes (rows_without lkid r.converting)))
 
     block : (b : Bool) → is_held_by_writer lkid r ≡ b
-        → marked (invalidates && left) (cond b (record r.value_block { valid = not invalidates && r.value_block.valid }) r.value_block)
+        → marked (invalidates && left) (cond b (marked invalidates r.value_block) r.value_block)
         ≡ marked (invalidates && (has_writer_among goes r.granted || has_writer_among goes r.converting)) r.value_block
     block b is =
         marked_twice invalidates b left r.value_block

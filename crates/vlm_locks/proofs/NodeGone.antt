@@ -5,6 +5,7 @@ use Rattle.vlm_words.specs.declared.locks.Row.{Row}
 use Rattle.vlm_words.specs.declared.resources.ValueBlock.{ValueBlock}
 use Rattle.vlm_words.specs.Rundown.{is_of_node, processes_but}
 use Rattle.vlm_words.specs.State.{Process, Resource}
+use Rattle.vlm_words.specs.ValueBlocks.{invalid_value_block}
 use Rattle.vlm_words.specs.Withdrawals.{is_writer}
 use Rattle.vlm_links.specs.Lists.{IsIn}
 use Rattle.vlm_store.specs.Plain.{plain_processes, plain_resources}
@@ -78,10 +79,10 @@ module _ (goes first : Row → Bool) (within : (row : Row) → first row ≡ tru
       (of_tests (has_writer_among first r.granted) (has_writer_among first r.converting) (has_writer_among goes (rows_left first r.granted)) (has_writer_among goes (rows_left first r.converting))))
     where
       invalid : ValueBlock
-      invalid = record r.value_block { valid = false }
+      invalid = invalid_value_block r.value_block
 
-      of_tests : (a b c d : Bool) → cond (c || d) (record (cond (a || b) (record r.value_block { valid = false }) r.value_block) { valid = false }) (cond (a || b) (record r.value_block { valid = false }) r.value_block)
-          ≡ cond ((a || c) || (b || d)) (record r.value_block { valid = false }) r.value_block
+      of_tests : (a b c d : Bool) → cond (c || d) (invalid_value_block (cond (a || b) invalid r.value_block)) (cond (a || b) invalid r.value_block)
+          ≡ cond ((a || c) || (b || d)) invalid r.value_block
       of_tests true true true d = refl
       of_tests true true false true = refl
       of_tests true true false false = refl

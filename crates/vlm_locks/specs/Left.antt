@@ -4,10 +4,11 @@ use Rattle.std.specs.List.{list_any}
 use Rattle.vlm_words.specs.declared.locks.Row.{Row}
 use Rattle.vlm_words.specs.Endings.{How}
 use Rattle.vlm_words.specs.State.{Resource}
+use Rattle.vlm_words.specs.ValueBlocks.{invalid_value_block}
 use Rattle.vlm_words.specs.Withdrawals.{Withdrawal, is_writer}
 
 -- a lock is given up: its request ends so where it waits and so where it converts, and it writes no value, but may
--- mark the value block invalid
+-- mark all of the value block invalid
 abbrev pub giving_up : How → How → Bool → ℕ → Withdrawal
 giving_up waiting converting invalidates lkid = record {
   lkid = lkid;
@@ -15,6 +16,7 @@ giving_up waiting converting invalidates lkid = record {
   converting = converting;
   stays = false;
   value = None;
+  tail = None;
   invalidates = invalidates;
 }
 
@@ -30,12 +32,13 @@ rows_left goes rows = filter (λ row. not (goes row)) rows
 abbrev pub has_writer_among : (Row → Bool) → List Row → Bool
 has_writer_among goes rows = list_any (λ row. goes row && is_writer row.held) rows
 
--- the resource without the rows that go; where they invalidate and one of them held PW or EX its value block is invalid
+-- the resource without the rows that go; where they invalidate and one of them held PW or EX all of its value block is
+-- invalid
 unfoldable pub resource_left : (Row → Bool) → Bool → Resource → Resource
 resource_left goes invalidates r = record r {
   value_block =
       if invalidates && (has_writer_among goes r.granted || has_writer_among goes r.converting)
-      then record r.value_block { valid = false } else r.value_block;
+      then invalid_value_block r.value_block else r.value_block;
   granted = rows_left goes r.granted;
   converting = rows_left goes r.converting;
   waiting = rows_left goes r.waiting;

@@ -1,11 +1,11 @@
 -- What the service of one resource leaves of the records.
-use Rattle.std.specs.Prelude.{◌≡◌, ℕ, Bool, false, List, [], Option, None, Some}
+use Rattle.std.specs.Prelude.{◌≡◌, ◌&&◌, ℕ, Bool, false, List, [], Option, None, Some}
 use Rattle.vlm_words.specs.declared.locks.Request.{Request}
 use Rattle.vlm_words.specs.declared.resources.Queue.{Queue}
 use Rattle.vlm_words.specs.declared.resources.Queue.TheVariants.{Granted, Conversion, Waiting}
 use Rattle.vlm_words.specs.declared.resources.ValueBlock.{ValueBlock}
 use Rattle.vlm_words.specs.Effects.{Blocks, blocks_after, blocks_with, with_value_block}
-use Rattle.vlm_words.specs.Grants.{Service, no_service, service, service_of_conversions, service_of_waiting}
+use Rattle.vlm_words.specs.Grants.{Service, is_empty, no_service, service, service_of_conversions, service_of_waiting}
 use Rattle.vlm_words.specs.State.{Process, Resource}
 use Rattle.vlm_words.specs.Sweeps.{blocks_after_service, resource_after_service}
 use Rattle.vlm_store.specs.Plain.{plain_processes, plain_resource}
@@ -44,6 +44,10 @@ pub record IsServed (res : ℕ) (old new : Records) : Type 0 where
   pub statuses : plain_processes new ≡ (blocks_after_service (plain_processes old) (plain_resource had)).processes
 
 -- ---- the parts of a service
+
+-- no request is queued on the resource
+abbrev pub nothing_queued : Resource → Bool
+nothing_queued r = is_empty r.converting && is_empty r.waiting
 
 -- what a lock wants fits beside the other locks of the resource
 abbrev pub wanted_fits_beside : Option Request → ℕ → StoredResource → Bool

@@ -21,5 +21,6 @@ plain_withdrawal w = record {
   converting = how_ended w.converting;
   stays = w.stays;
   value = w.value;
+  tail = w.tail;
   invalidates = w.invalidates;
 }

@@ -6,14 +6,16 @@ ghost use Rattle.vlm_words.specs.Effects.{blocks_after, blocks_with};
 ghost use Rattle.vlm_words.specs.Asts.{completion_asts, processes_after_asts};
 ghost use Rattle.vlm_words.specs.Dues.{one_where, row_due};
 ghost use Rattle.vlm_words.specs.Grants.{grant_act, grant_endings, granted_row};
+ghost use Rattle.vlm_words.specs.ValueBlocks.{value_block_written_from};
 ghost use Rattle.vlm_store.specs.Plain.{plain_processes};
 ghost use Rattle.vlm_store.specs.Records.{DueChanges, DuesStay, IsProcess, SameButNotices, due_of};
 ghost use Rattle.vlm_locks.specs.Owing.{OwedMoves, blocks_written, completions_queued, completions_spared};
 
-use vlm_procs::{end, end_with_return, forgive, queue, value};
+use vlm_procs::{end, end_with_return, forgive, queue, status_block_or_new};
 use vlm_store::laws::law_records_are_sound;
 use vlm_store::{ProcAt, Store};
 use vlm_words::asts::{Ast, AstKind};
+use vlm_words::blocks::Block;
 use vlm_words::conditions::Cond;
 use vlm_words::flags::EnqFlags;
 use vlm_words::locks::{Request, Row};
@@ -34,8 +36,16 @@ fn grant_act(held: Option<Request>, want: &Request) -> Act
     }
 }
 
+// Writes the value block from a status block: its value part, and its tail too where the write is wide.
+fn write_from(value_block: &mut ValueBlock, from: &Block, wide: bool)
+    ensures { value_block.new ≡ value_block_written_from wide from.now value_block.old }
+{
+    let tail = if wide { Some(from.tail) } else { None };
+    value_block.write(from.value, tail);
+}
+
 // The grant of what a lock wanted writes its status to the status block of the lock's process, and with VALBLK the
-// value block is returned there, or written from there.
+// value block is returned there, or written from there: with WIDE all 64 bytes of it.
 #[tactic(auto, unfolding(vlm_words::specs::Effects::blocks_after_return, vlm_words::specs::Effects::blocks_after_writing))]
 fn write_grant(
     value_block: &mut ValueBlock,
@@ -52,14 +62,13 @@ fn write_grant(
     ensures dues { DuesStay store.old store.new }
     ensures only_notices { SameButNotices store.old store.new }
 {
+    let wide = request.flags.has(EnqFlags::WIDE);
     match grant_act(row.held, request) {
         Act::Nothing => end(store, at, request.block, Cond::Normal),
-        Act::Return => end_with_return(store, at, request.block, value_block),
+        Act::Return => end_with_return(store, at, request.block, wide, value_block),
         Act::Write => {
-            *value_block = ValueBlock {
-                value: value(store, at, request.block),
-                valid: true,
-            };
+            let from = status_block_or_new(store, at, request.block);
+            write_from(value_block, &from, wide);
             end(store, at, request.block, Cond::Normal);
         }
     }

@@ -6,15 +6,15 @@ ghost use Rattle.vlm_words.specs.Dues.{row_due};
 ghost use Rattle.vlm_words.specs.Effects.{blocks_after, blocks_with};
 ghost use Rattle.vlm_words.specs.Grants.{grant_endings, granted_row, service};
 ghost use Rattle.vlm_records.specs.declared.handles.Place.{Place};
-ghost use Rattle.vlm_store.specs.Plain.{plain_processes};
+ghost use Rattle.vlm_store.specs.Plain.{plain_processes, plain_resource};
 ghost use Rattle.vlm_store.specs.Records.{HasResource, IsStored, SameButNotices, StoredLock, Stores, due_of, moving, resource_at, with_lists};
 ghost use Rattle.vlm_locks.specs.Owing.{IsPaid, OwedMoves};
-ghost use Rattle.vlm_locks.specs.Serving.{HasGranted, IsServed, IsServiceOf, service_from, wanted_fits_beside};
+ghost use Rattle.vlm_locks.specs.Serving.{HasGranted, IsServed, IsServiceOf, nothing_queued, service_from, wanted_fits_beside};
 
 use crate::endings::end_by_grant;
 use crate::grants::granted_row;
 use crate::warning::warn;
-use vlm_queue::{can_hold, head};
+use vlm_queue::{can_hold, head, is_empty};
 use vlm_store::laws::law_records_are_sound;
 use vlm_store::{LockAt, Place, ResAt, Store};
 use vlm_words::locks::{Request, Row};
@@ -86,7 +86,17 @@ fn serve_queues(value_block: &mut ValueBlock, store: &mut Store, res: ResAt)
     }
 }
 
-// Grants what can be granted on a resource, with the value block that the grants leave.
+// Whether no request is queued on the resource.
+fn nothing_queued(store: &Store, res: ResAt) -> bool
+    requires { HasResource res store.now }
+    ensures { IfSome (resource_at res store.now.resources) (λ r. result
+        ≡ nothing_queued (plain_resource r)) }
+{
+    is_empty(store, res, Queue::Conversion) && is_empty(store, res, Queue::Waiting)
+}
+
+// Grants what can be granted on a resource, with the value block that the grants leave. Where no request is queued no
+// value block is copied.
 fn grant_queued(store: &mut Store, res: ResAt)
     requires there { HasResource res store.old }
     requires paid { IsPaid store.old }
@@ -94,6 +104,10 @@ fn grant_queued(store: &mut Store, res: ResAt)
     ensures there { HasResource res store.new }
     ensures paid { IsPaid store.new }
 {
+    law_records_are_sound(store);
+    if nothing_queued(store, res) {
+        return;
+    }
     let mut value_block = store.resource_record(res).value_block;
     serve_queues(&mut value_block, store, res);
     law_records_are_sound(store);

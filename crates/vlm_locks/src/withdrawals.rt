@@ -51,7 +51,9 @@ pub struct Withdrawal {
     pub stays: bool,
     /// Written to the value block if the lock is held at PW or EX.
     pub value: Option<[u8; 16]>,
-    /// The value block is then marked invalid if the lock is held at PW or EX.
+    /// Written with the value; without one the tail of the value block becomes invalid as the value is written.
+    pub tail: Option<[u8; 48]>,
+    /// All of the value block is then marked invalid if the lock is held at PW or EX.
     pub invalidates: bool,
 }
 
@@ -66,6 +68,7 @@ impl Withdrawal {
             converting: End::RunDown,
             stays: false,
             value: None,
+            tail: None,
             invalidates: true,
         }
     }
@@ -80,6 +83,7 @@ impl Withdrawal {
             converting: End::Deadlocked,
             stays: true,
             value: None,
+            tail: None,
             invalidates: false,
         }
     }
@@ -94,6 +98,7 @@ impl Withdrawal {
             converting: End::Aborted,
             stays: false,
             value: None,
+            tail: None,
             invalidates,
         }
     }

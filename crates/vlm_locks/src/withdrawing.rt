@@ -167,19 +167,19 @@ fn may_write(standing: &Standing) -> bool
     }
 }
 
-// The value block as a writer leaves it: a given value is written, and valid, and then it may be marked
-// invalid.
+// The value block as a writer leaves it: a given value is written, with a tail or without one, and then all of it may
+// be marked invalid.
 fn block_after_writer(block: ValueBlock, withdrawal: &Withdrawal) -> ValueBlock
     ensures { result ≡ value_block_after_writer (plain_withdrawal withdrawal.now) block }
 {
-    let written = match withdrawal.value {
-        Some(value) => ValueBlock { value, valid: true },
-        None => block,
-    };
-    ValueBlock {
-        valid: !withdrawal.invalidates && written.valid,
-        ..written
+    let mut left = block;
+    if let Some(value) = withdrawal.value {
+        left.write(value, withdrawal.tail);
     }
+    if withdrawal.invalidates {
+        left.invalidate();
+    }
+    left
 }
 
 // Only a lock that is held at PW or EX, granted or converting, leaves something in the value block.
@@ -277,8 +277,8 @@ pub(crate) fn give_up(store: &mut Store, standing: &Standing, withdrawal: &Withd
 }
 
 /// Withdraws a lock. Its request ends, as the withdrawal says of one that waits and of one that converts, and its
-/// completion AST is queued. Held
-/// at PW or EX, granted or converting, it leaves a given value in the value block, and may then mark it invalid.
+/// completion AST is queued. Held at PW or EX, granted or converting, it leaves a given value in the value block, with
+/// a given tail or without one, and may then mark all of it invalid.
 /// Then it goes from its queue; or where a converting lock is to stay, it goes to the end of the granted queue
 /// and holds what it held, while a waiting one goes and a granted one stays as it is. A lock that goes has no
 /// sublocks.

@@ -1,5 +1,5 @@
 -- Conversions and dequeues as they are admitted.
-use Rattle.std.proofs.Common.{◌≡◌, ◌≢◌, Bool, true, false, ◌||◌, ◌&&◌, cond, List, [], ◌∷◌, map, find, Option, None, Some, refl, sym, ap, ◌∙◌, subst, inl, inr}
+use Rattle.std.proofs.Common.{◌≡◌, ◌≢◌, Bool, true, false, not, ◌||◌, ◌&&◌, cond, List, [], ◌∷◌, map, find, Option, None, Some, refl, sym, ap, ◌∙◌, subst, inl, inr}
 use Rattle.std.specs.List.{list_any}
 use Rattle.std.proofs.lemmas.Bool.{cases_eq, or_right}
 use Rattle.std.specs.Prelude.{◌==◌, is_some}
@@ -199,9 +199,9 @@ refusal_of_all s d all goes = rw (all, goes) (last (caller_refusal s d.pid) (deq
 
 -- where DEQALL comes with what it goes with, it cancels nothing
 pub cancels_nothing : (d : Dequeue) → has_flag d.flags deqall ≡ true → is_mixed d ≡ false → has_flag d.flags cancel ≡ false
-cancels_nothing d all fitting = of_tests (has_flag d.flags deqall) (has_flag d.flags cancel) (is_some d.value) all fitting
+cancels_nothing d all fitting = of_tests (has_flag d.flags deqall) (has_flag d.flags cancel) (is_some d.value) (is_some d.tail && not (is_some d.value)) all fitting
   where
-    of_tests : (a b c : Bool) → a ≡ true → (a && (b || c)) ≡ false → b ≡ false
-    of_tests true true c is none = cc
-    of_tests true false c is none = refl
-    of_tests false b c is none = cc
+    of_tests : (a b c t : Bool) → a ≡ true → ((a && (b || c)) || t) ≡ false → b ≡ false
+    of_tests true true c t is none = cc
+    of_tests true false c t is none = refl
+    of_tests false b c t is none = cc

@@ -155,7 +155,7 @@ some_on pid r queue k there owned = of_queue queue there
 
 -- ---- the state after
 
-module _ (m : MachineState) (d : Dequeue) (all : has_flag d.flags deqall ≡ true) (goes : has_flag d.flags cancel ≡ false) (plain : d.value ≡ None) where
+module _ (m : MachineState) (d : Dequeue) (all : has_flag d.flags deqall ≡ true) (goes : has_flag d.flags cancel ≡ false) (plain : d.value ≡ None) (short : d.tail ≡ None) where
   -- such a dequeue gives each lock up so
   given_so : (lkid : ℕ) → withdrawal_of d lkid ≡ gives_up d lkid
   given_so lkid =
@@ -165,9 +165,10 @@ module _ (m : MachineState) (d : Dequeue) (all : has_flag d.flags deqall ≡ tru
         converting = conversion_ending stays;
         stays = stays;
         value = cond stays None d.value;
+        tail = cond stays None d.tail;
         invalidates = has_flag d.flags invvalblk && not stays;
       }) goes
-      ∙ rw (plain, and_true (has_flag d.flags invvalblk)) refl
+      ∙ rw (plain, short, and_true (has_flag d.flags invvalblk)) refl
     where
       and_true : (b : Bool) → (b && true) ≡ b
       and_true true = refl
@@ -286,13 +287,13 @@ module _ (m : MachineState) (sound : IsSound m.records) (rest : IsAtRest m.recor
     dequeued_with_sublocks choice is = sublocks_go_too choice (subst NamesNot0 (sym is) (names_not_0 (dequeue_lkid (plain_state m) d)))
 
     -- where they are given up together, the plain machine has made the change of the dequeue
-    pub state_given_up : has_flag d.flags deqall ≡ true → has_flag d.flags cancel ≡ false → d.value ≡ None
+    pub state_given_up : has_flag d.flags deqall ≡ true → has_flag d.flags cancel ≡ false → d.value ≡ None → d.tail ≡ None
         → (choice : Choice) → choice ≡ choice_of (dequeue_lkid (plain_state m) d) → (new : Records) (before after : Touches)
         → AreGivenUp choice (has_flag d.flags invvalblk) d.pid m.records new before after → plain_state (record m { records = new }) ≡ deq_change (plain_state m) d
-    state_given_up all goes plain choice is new before after given =
+    state_given_up all goes plain short choice is new before after given =
         let same : given.lkids ≡ taken_lkids (plain_state m) d =
         one_choice choice d.pid m.records given.lkids (taken_lkids (plain_state m) d) given.chosen (dequeued_are_chosen choice is) in
-        state_left m d all goes plain new
+        state_left m d all goes plain short new
         (given.left.resources ∙ ap (λ (lkids : List ℕ). map (resource_left (is_among lkids) (has_flag d.flags invvalblk)) (plain_resources m.records)) same)
         (given.statuses
         ∙ ap (λ (lkids : List ℕ). processes_after (withdrawn_endings (map (gives_up d) lkids) (plain_resources m.records)) (plain_processes m.records)) same)

@@ -95,7 +95,7 @@ module _ (P : ℕ → Type 0) where
       (subst (AllByRecursion P) (sym (pids_added s.processes (declared_process s d)))
       (each_append P (pids s.processes) (next_pid s d.node ∷ []) (to_pids s.processes each) (new (next_pid s d.node) refl, tt)))
   change_each s (SetValue v) choice each new =
-      same_pids s.processes (set_change s v).processes (kept_set (λ p. p.pid) (λ _ _. refl) v.pid v.block v.value s.processes) each
+      same_pids s.processes (set_change s v).processes (kept_set (λ p. p.pid) (λ _ _. refl) v.pid v.block v.value v.tail s.processes) each
   change_each s (Enq e) choice each new =
       same_pids s.processes (enq_change s e).processes (kept_entered (λ p. p.pid) (λ _ _ _. refl) s e) each
   change_each s (Convert c) choice each new = of_admission (convert_admission s c)

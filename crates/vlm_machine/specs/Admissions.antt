@@ -90,7 +90,7 @@ choice_of zero = All
 choice_of (suc n) = Below (suc n)
 
 -- the dequeue with DEQALL is admitted so: it is this caller's, and which of the caller's locks go, and whether they
--- invalidate; it cancels nothing and gives no value
+-- invalidate; it cancels nothing and gives no value and no tail
 pub record IsAdmittedDequeueOfAll (m : MachineState) (d : Dequeue) (a : AdmittedDequeueOfAll) : Type 0 where
   pub caller : IsCaller a.caller m.records
   pub pid : a.caller.pid ≡ d.pid
@@ -98,6 +98,7 @@ pub record IsAdmittedDequeueOfAll (m : MachineState) (d : Dequeue) (a : Admitted
   pub invalidates : a.invalidates ≡ has_flag d.flags invvalblk
   pub goes : has_flag d.flags cancel ≡ false
   pub plain : d.value ≡ None
+  pub short : d.tail ≡ None
 
 -- a lock that the dequeue gives up has no sublocks
 abbrev pub IsChildless : MachineState → AdmittedDequeue → Type 0

@@ -239,7 +239,8 @@ fn asks_for_all(dequeue: &Dequeue) -> bool
     DeqFlags::from_bits_retain(dequeue.flags).has(DeqFlags::DEQALL)
 }
 
-// The flags. BADPARAM where one of them is unknown, or DEQALL comes with CANCEL or a value.
+// The flags. BADPARAM where one of them is unknown, where DEQALL comes with CANCEL or a value, and where a tail comes
+// without a value.
 #[tactic(auto, unfolding(vlm_words::specs::Dequeue::deq_flags_refusal))]
 fn checked_flags(dequeue: &Dequeue) -> Result<DeqFlags, Cond>
     ensures refusal { result_err result ≡ deq_flags_refusal dequeue.now }
@@ -248,6 +249,9 @@ fn checked_flags(dequeue: &Dequeue) -> Result<DeqFlags, Cond>
 {
     let flags = deq_flags(dequeue.flags).ok_or(Cond::Badparam)?;
     if flags.has(DeqFlags::DEQALL) && (flags.has(DeqFlags::CANCEL) || dequeue.value.is_some()) {
+        return Err(Cond::Badparam);
+    }
+    if dequeue.tail.is_some() && dequeue.value.is_none() {
         return Err(Cond::Badparam);
     }
     Ok(flags)
@@ -263,6 +267,7 @@ fn withdrawal_of(lkid: u32, flags: DeqFlags, dequeue: &Dequeue) -> Withdrawal
       converting = conversion_ending (has_flag dequeue.now.flags cancel);
       stays = has_flag dequeue.now.flags cancel;
       value = if has_flag dequeue.now.flags cancel then None else dequeue.now.value;
+      tail = if has_flag dequeue.now.flags cancel then None else dequeue.now.tail;
       invalidates = has_flag dequeue.now.flags invvalblk && not (has_flag dequeue.now.flags cancel);
     } }
 {
@@ -277,6 +282,7 @@ fn withdrawal_of(lkid: u32, flags: DeqFlags, dequeue: &Dequeue) -> Withdrawal
         },
         stays: cancels,
         value: if cancels { None } else { dequeue.value },
+        tail: if cancels { None } else { dequeue.tail },
         invalidates: flags.has(DeqFlags::INVVALBLK) && !cancels,
     }
 }

@@ -1,4 +1,4 @@
-//! The step that writes the value part of a status block.
+//! The step that writes the value part of a status block, and its tail.
 
 ghost use Rattle.std.specs.Prelude.{◌≡◌, IfOk};
 ghost use Rattle.std.specs.Result.{result_err};
@@ -15,8 +15,8 @@ use vlm_words::conditions::Cond;
 use vlm_words::steps::{Answer, Step, ValueSetting};
 
 impl Machine {
-    /// Writes the value part of a status block of the caller, and nothing else. No resource is touched, so
-    /// nothing is to be swept.
+    /// Writes the value part of a status block of the caller, and its tail where one is given, and nothing else. No
+    /// resource is touched, so nothing is to be swept.
     pub(crate) fn set_value(&mut self, setting: ValueSetting) -> Answer
         requires { IsBetweenSteps (plain_state self.old) }
         ensures { Outcome (plain_state self.old) (Step.SetValue setting)
@@ -43,13 +43,19 @@ impl Machine {
         Ok(caller)
     }
 
-    // The value part is written.
+    // The value part is written, and the tail where one is given.
     #[tactic(auto, unfolding(vlm_words::specs::SetValue::set_change))]
     fn set_change(&mut self, caller: &Caller, setting: &ValueSetting)
         requires caller { IsCaller caller.now self.old.records }
         requires pid { caller.now.pid ≡ setting.now.pid }
         ensures { plain_state self.new ≡ set_change (plain_state self.old) setting.now }
     {
-        set_value(&mut self.store, caller.at, setting.block, setting.value);
+        set_value(
+            &mut self.store,
+            caller.at,
+            setting.block,
+            setting.value,
+            setting.tail,
+        );
     }
 }

@@ -2,7 +2,6 @@
 
 ghost use Rattle.std.specs.Prelude.{◌≡◌, ℕ};
 ghost use Rattle.vlm_words.specs.StatusBlocks.{processes_after_acceptance, processes_after_write, status_block_at, status_block_of, status_blocks_of, processes_after_status, processes_after_return, processes_after_setting};
-ghost use Rattle.vlm_words.specs.ValueBlocks.{return_status};
 ghost use Rattle.vlm_store.specs.Plain.{plain_processes};
 ghost use Rattle.vlm_store.specs.Records.{DuesStay, HasProcess, IsProcess, SameButNotices};
 
@@ -48,8 +47,8 @@ pub fn status_block(store: &Store, at: ProcAt, number: u8) -> Option<Block>
         .copied()
 }
 
-// The status block of this number, or a new one where the process does not have it.
-fn status_block_or_new(store: &Store, at: ProcAt, number: u8) -> Block
+/// The status block of this number, from 1, or a new one where the process does not have it.
+pub fn status_block_or_new(store: &Store, at: ProcAt, number: u8) -> Block
     requires { HasProcess at store.now }
     ensures { (pid : ℕ) → IsProcess at pid store.now → result
         ≡ status_block_of (plain_processes store.now) pid number }
@@ -58,7 +57,7 @@ fn status_block_or_new(store: &Store, at: ProcAt, number: u8) -> Block
 }
 
 /// A request for the lock was accepted with this status block: it is pending, and the block has the
-/// lock's identification and keeps its value part.
+/// lock's identification and keeps its value part and its tail.
 #[tactic(auto, unfolding(vlm_words::specs::StatusBlocks::processes_after_acceptance))]
 pub fn accept(store: &mut Store, at: ProcAt, number: u8, lkid: u32)
     requires { HasProcess at store.old }
@@ -76,30 +75,26 @@ pub fn accept(store: &mut Store, at: ProcAt, number: u8, lkid: u32)
     write(store, at, number, pending);
 }
 
-/// The value part of the process's status block of this number, from 1. Zeros where it has no such block.
-pub fn value(store: &Store, at: ProcAt, number: u8) -> [u8; 16]
-    requires { HasProcess at store.now }
-    ensures { (pid : ℕ) → IsProcess at pid store.now → result
-        ≡ (status_block_of (plain_processes store.now) pid number).value }
-{
-    status_block_or_new(store, at, number).value
-}
-
-/// Writes the value part of the status block, and nothing else.
+/// Writes the value part of the status block, and its tail where one is given, and nothing else.
 #[tactic(auto, unfolding(vlm_words::specs::StatusBlocks::processes_after_setting))]
-pub fn set_value(store: &mut Store, at: ProcAt, number: u8, value: [u8; 16])
+pub fn set_value(store: &mut Store, at: ProcAt, number: u8, value: [u8; 16], tail: Option<[u8; 48]>)
     requires { HasProcess at store.old }
     ensures written { (pid : ℕ) → IsProcess at pid store.old → plain_processes store.new
-        ≡ processes_after_setting pid number value (plain_processes store.old) }
+        ≡ processes_after_setting pid number value tail (plain_processes store.old) }
     ensures dues { DuesStay store.old store.new }
     ensures only_notices { SameButNotices store.old store.new }
 {
     let old = status_block_or_new(store, at, number);
-    write(store, at, number, Block { value, ..old });
+    let set = Block {
+        value,
+        tail: tail.unwrap_or(old.tail),
+        ..old
+    };
+    write(store, at, number, set);
 }
 
-/// A request of the process has ended: its status block gets the number of the condition, and keeps its lock
-/// and its value part.
+/// A request of the process has ended: its status block gets the number of the condition, and keeps its lock,
+/// its value part and its tail.
 #[tactic(auto, unfolding(vlm_words::specs::StatusBlocks::processes_after_status))]
 pub fn end(store: &mut Store, at: ProcAt, number: u8, cond: Cond)
     requires { HasProcess at store.old }
@@ -116,31 +111,22 @@ pub fn end(store: &mut Store, at: ProcAt, number: u8, cond: Cond)
     write(store, at, number, ended);
 }
 
-// The status of a request that a value block of this validity is returned to.
-fn return_status(valid: bool) -> Cond
-    ensures { result ≡ return_status valid }
-{
-    if valid {
-        Cond::Normal
-    } else {
-        Cond::Valnotvalid
-    }
-}
-
-/// A request of the process has ended, and the value block of its resource is returned: its status block gets
-/// the bytes, valid or not, and NORMAL, or VALNOTVALID where they are not. It keeps its lock.
+/// A request of the process has ended, and the value block of its resource is returned, with its tail where it is
+/// returned wide: its status block gets the bytes, valid or not, and NORMAL, or VALNOTVALID or WIDENOTVALID where they
+/// are not. It keeps its lock.
 #[tactic(auto, unfolding(vlm_words::specs::StatusBlocks::processes_after_return))]
-pub fn end_with_return(store: &mut Store, at: ProcAt, number: u8, returned: &ValueBlock)
+pub fn end_with_return(store: &mut Store, at: ProcAt, number: u8, wide: bool, returned: &ValueBlock)
     requires { HasProcess at store.old }
     ensures written { (pid : ℕ) → IsProcess at pid store.old → plain_processes store.new
-        ≡ processes_after_return pid number returned.now (plain_processes store.old) }
+        ≡ processes_after_return pid number wide returned.now (plain_processes store.old) }
     ensures dues { DuesStay store.old store.new }
     ensures only_notices { SameButNotices store.old store.new }
 {
     let old = status_block_or_new(store, at, number);
     let ended = Block {
-        status: return_status(returned.valid).number(),
+        status: returned.return_status(wide).number(),
         value: returned.value,
+        tail: if wide { returned.tail } else { old.tail },
         ..old
     };
     write(store, at, number, ended);

@@ -124,7 +124,7 @@ queue_given s r queue sound among =
 -- what is shown of a record is what the plain resource shows
 pub record_shown : (o : Option StoredResource) (serial : ℕ) (key : Key) (domain : Domain) (value_block : ValueBlock) → IfSome o (λ r. serial ≡ r.serial) → IfSome o (λ r. key ≡ r.key)
     → IfSome o (λ r. domain ≡ r.domain) → IfSome o (λ r. value_block ≡ r.value_block)
-    → IfSome (option_map plain_resource o) (λ r. record { serial = serial; parent = key_parent key; domain = domain; name = key_name key; value = value_block.value; valid = value_block.valid } ≡ resource_view r)
+    → IfSome (option_map plain_resource o) (λ r. record { serial = serial; parent = key_parent key; domain = domain; name = key_name key; value = value_block.value; valid = value_block.valid; tail = value_block.tail; tail_valid = value_block.tail_valid } ≡ resource_view r)
 record_shown None serial key domain value_block a b c d = tt
 record_shown (Some r) serial key domain value_block a b c d = rw (a, b, c, d) refl
 

@@ -20,10 +20,12 @@ resource_view r = record {
   name = r.name;
   value = r.value_block.value;
   valid = r.value_block.valid;
+  tail = r.value_block.tail;
+  tail_valid = r.value_block.tail_valid;
 }
 
 -- how a resource is used: how many of its rows hold each mode, granted or converting, how many requests wait, and its
--- value block
+-- value block without the tail
 abbrev pub usage : Resource → Usage
 usage r = record {
   held = held_counts (r.granted ++ r.converting);

@@ -24,10 +24,14 @@ pub struct ResourceView {
     pub domain: Domain,
     /// Its name.
     pub name: Name,
-    /// Its value block.
+    /// Its value block's 16 bytes, valid or not.
     pub value: [u8; 16],
-    /// Whether the value block is valid.
+    /// Whether they are valid.
     pub valid: bool,
+    /// The 48 bytes of its value block's tail, valid or not.
+    pub tail: [u8; 48],
+    /// Whether they are valid.
+    pub tail_valid: bool,
 }
 
 /// A lock as it stands in a queue.
@@ -52,7 +56,7 @@ pub struct Usage {
     pub conversions: u32,
     /// How many new requests wait.
     pub waiters: u32,
-    /// Its value block.
+    /// Its value block, without the tail.
     pub value: [u8; 16],
     /// Whether the value block is valid.
     pub valid: bool,
@@ -68,6 +72,8 @@ impl ResourceView {
           name = key_name resource.now.key;
           value = resource.now.value_block.value;
           valid = resource.now.value_block.valid;
+          tail = resource.now.value_block.tail;
+          tail_valid = resource.now.value_block.tail_valid;
         } }
     {
         ResourceView {
@@ -77,6 +83,8 @@ impl ResourceView {
             name: resource.key.name(),
             value: resource.value_block.value,
             valid: resource.value_block.valid,
+            tail: resource.value_block.tail,
+            tail_valid: resource.value_block.tail_valid,
         }
     }
 }

@@ -94,7 +94,7 @@ but_tally r = record r { tally = no_tally }
 
 -- a resource but for its value block
 abbrev pub but_value_block : Resource → Resource
-but_value_block r = record r { value_block = record { value = replicate 16 0; valid = false } }
+but_value_block r = record r { value_block = new_value_block }
 
 -- a resource but for its queues and counts
 abbrev pub but_counted : Resource → Resource
@@ -237,7 +237,7 @@ face_of r = record { serial = r.serial; domain = r.domain; key = r.key; level = 
 
 -- what a look-up that finds nothing gives
 abbrev pub no_face : Face
-no_face = record { serial = 0; domain = System; key = Below 0 (replicate 1 0); level = 0; value_block = record { value = replicate 16 0; valid = false } }
+no_face = record { serial = 0; domain = System; key = Below 0 (replicate 1 0); level = 0; value_block = new_value_block }
 
 -- what stands under a handle, or what is told of nothing
 abbrev pub face_in : Option Resource → Face
@@ -246,4 +246,4 @@ face_in (Some r) = face_of r
 
 -- a resource at its making
 abbrev pub new_face : ℕ → Site → Face
-new_face serial site = record { serial = serial; domain = site.domain; key = site.key; level = site.level; value_block = record { value = new_value_block.value; valid = new_value_block.valid } }
+new_face serial site = record { serial = serial; domain = site.domain; key = site.key; level = site.level; value_block = new_value_block }

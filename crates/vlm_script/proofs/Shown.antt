@@ -7,18 +7,19 @@ use Rattle.vlm_words.specs.declared.resources.Queue.TheVariants.{Granted, Conver
 use Rattle.vlm_words.specs.State.{Resource}
 use Rattle.vlm_queue.specs.declared.views.ResourceView.{ResourceView}
 use Rattle.vlm_queue.specs.Views.{resource_view, row_view, rows_in}
-use Rattle.vlm_script.specs.Texts.{queue_lines, resource_line, resource_text, resources_text, row_line}
+use Rattle.vlm_script.specs.declared.show.Part.{Part}
+use Rattle.vlm_script.specs.Texts.{no_resources_line, part_text, parts_text, queue_lines, resource_line, resource_text, row_line}
 
 -- a row is printed, and the others are left
 pub row_printed : (queue : Queue) (row : Row) (rows left : List Row) (a b : List ℕ) → left ≡ row ∷ rows → b ≡ a ++ row_line queue (row_view row)
     → b ++ queue_lines queue rows ≡ a ++ queue_lines queue left
 row_printed queue row rows left a b one printed = rw (one, printed) (append_assoc a (row_line queue (row_view row)) (queue_lines queue rows))
 
--- a resource is printed, and the others are left
-pub resource_passed : (o : Option Resource) (rest left : List Resource) (a b : List ℕ) → IsSome o → IfSome o (λ r. left ≡ r ∷ rest) → IfSome o (λ r. b ≡ a ++ resource_text r)
-    → b ++ flat_map resource_text rest ≡ a ++ flat_map resource_text left
-resource_passed None rest left a b there one printed = cc
-resource_passed (Some r) rest left a b there one printed = rw (one, printed) (append_assoc a (resource_text r) (flat_map resource_text rest))
+-- a part of a resource is printed, and those of the others are left
+pub resource_passed : (part : Part) (o : Option Resource) (rest left : List Resource) (a b : List ℕ) → IsSome o → IfSome o (λ r. left ≡ r ∷ rest) → IfSome o (λ r. b ≡ a ++ part_text part r)
+    → b ++ flat_map (part_text part) rest ≡ a ++ flat_map (part_text part) left
+resource_passed part None rest left a b there one printed = cc
+resource_passed part (Some r) rest left a b there one printed = rw (one, printed) (append_assoc a (part_text part r) (flat_map (part_text part) rest))
 
 -- behind a resource fewer are left
 pub fewer_left : (o : Option Resource) (rest left : List Resource) → IsSome o → IfSome o (λ r. left ≡ r ∷ rest) → length rest < length left
@@ -33,8 +34,14 @@ unfolding resource_text
 resource_printed None view granted converting waiting a b c d e is gs cs ws line first second third = tt
 resource_printed (Some r) view granted converting waiting a b c d e is gs cs ws line first second third = rw (third, second, first, line, is, gs, cs, ws) (simp append_assoc)
 
--- where there are resources, all of them are printed one behind another
-pub resources_text-some : (rs : List Resource) (n : ℕ) → n ≡ length rs → ¬ (n ≡ 0) → resources_text rs ≡ flat_map resource_text rs
-unfolding resources_text
-resources_text-some [] n count some = absurd (some count)
-resources_text-some (r ∷ rest) n count some = refl
+-- where there are resources, their parts are printed one behind another
+pub parts_text-some : (part : Part) (rs : List Resource) (n : ℕ) → n ≡ length rs → ¬ (n ≡ 0) → parts_text part rs ≡ flat_map (part_text part) rs
+unfolding parts_text
+parts_text-some part [] n count some = absurd (some count)
+parts_text-some part (r ∷ rest) n count some = refl
+
+-- where there is none, this is told
+pub parts_text-none : (part : Part) (rs : List Resource) (n : ℕ) → n ≡ length rs → n ≡ 0 → parts_text part rs ≡ no_resources_line
+unfolding parts_text
+parts_text-none part [] n count none = refl
+parts_text-none part (r ∷ rest) n count none = absurd (omega arith)

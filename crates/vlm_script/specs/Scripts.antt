@@ -1,7 +1,7 @@
 -- The run of a script: which line prints what, and which fault is the first.
 use Rattle.std.specs.Prelude.{◌≡◌, ℕ, ◌+◌, List, [], ◌∷◌, ◌++◌, codes, take, drop, find, Option, None, Some, Result, Ok, Err}
 use Rattle.std.specs.Option.{option_map}
-use Rattle.vlm_lines.specs.declared.lines.Line.TheVariants.{Empty, Declare, Set, Enq, Cvt, Deq, End, Leave, Search, Ast, Block, Show}
+use Rattle.vlm_lines.specs.declared.lines.Line.TheVariants.{Empty, Declare, Set, Enq, Cvt, Deq, End, Leave, Search, Ast, Block, Tail, Show, Tails}
 use Rattle.vlm_lines.specs.declared.lines.Line.{Line}
 use Rattle.vlm_lines.specs.declared.faults.LineFault.TheVariants.{UnknownName, NameUsed}
 use Rattle.vlm_lines.specs.declared.faults.LineFault.{LineFault}
@@ -14,7 +14,7 @@ use Rattle.vlm_words.specs.State.{State, start}
 use Rattle.vlm_words.specs.StatusBlocks.{status_block_at}
 use Rattle.vlm_words.specs.Stepped.{Outcome}
 use Rattle.vlm_lines.specs.Lines.{is_text, line_read, lines_of, unnamed_process}
-use Rattle.vlm_script.specs.Texts.{answer_line, node_line, resources_text, status_block_line}
+use Rattle.vlm_script.specs.Texts.{answer_line, node_line, resources_text, status_block_line, status_tail_line, tails_text}
 
 -- a name of the script, and the process that it is bound to
 pub record Binding : Type 0 where
@@ -55,7 +55,9 @@ name_fault names (Leave node) = None
 name_fault names (Search node) = None
 name_fault names (Ast name) = unknown_fault (bound_to names name)
 name_fault names (Block name number) = unknown_fault (bound_to names name)
+name_fault names (Tail name number) = unknown_fault (bound_to names name)
 name_fault names Show = None
+name_fault names Tails = None
 
 -- the step, made by this process; some steps are of none
 abbrev pub of_process : ℕ → Step → Step
@@ -126,7 +128,10 @@ Runs old (Search node) text new = Steps old (search_step node) (answer_line (cod
 Runs old (Ast name) text new = Makes old name (Take unnamed_process) text new
 Runs old (Block name number) text new =
     Shows old name (λ pid. status_block_line name number (status_block_at old.state.processes pid number)) text new
+Runs old (Tail name number) text new =
+    Shows old name (λ pid. status_tail_line name number (status_block_at old.state.processes pid number)) text new
 Runs old Show text new = Prints old (resources_text old.state.resources) text new
+Runs old Tails text new = Prints old (tails_text old.state.resources) text new
 
 -- the fault of a line in a session: of its bytes, or of its name
 abbrev pub fault_among : List Binding → Result Line LineFault → Option LineFault

@@ -1,7 +1,7 @@
 -- A script for several nodes: which steps go to the list of which node, and which fault is the first.
 use Rattle.std.specs.Prelude.{◌≡◌, ℕ, ◌+◌, ◌-◌, ◌*◌, ◌<◌, Bool, true, false, ◌&&◌, nat_le, nat_lt, List, [], ◌∷◌, ◌++◌, length, replicate, slice_index, slice_index_or, slice_set, Option, None, Some, Result, Ok, Err, if◌then◌else◌}
 use Rattle.std.specs.List.{All}
-use Rattle.vlm_lines.specs.declared.lines.Line.TheVariants.{Empty, Declare, Set, Enq, Cvt, Deq, End, Leave, Search, Ast, Block, Show}
+use Rattle.vlm_lines.specs.declared.lines.Line.TheVariants.{Empty, Declare, Set, Enq, Cvt, Deq, End, Leave, Search, Ast, Block, Tail, Show, Tails}
 use Rattle.vlm_lines.specs.declared.lines.Line.{Line}
 use Rattle.vlm_lines.specs.declared.faults.LineFault.TheVariants.{UnknownCommand, NumberOutOfRange}
 use Rattle.vlm_lines.specs.declared.faults.LineFault.{LineFault}
@@ -58,7 +58,9 @@ share_fault nodes s (Leave node) = node_fault nodes node
 share_fault nodes s (Search node) = node_fault nodes node
 share_fault nodes s (Ast name) = Some UnknownCommand
 share_fault nodes s (Block name number) = Some UnknownCommand
+share_fault nodes s (Tail name number) = Some UnknownCommand
 share_fault nodes s Show = Some UnknownCommand
+share_fault nodes s Tails = Some UnknownCommand
 
 -- the step at the end of the node's list
 unfoldable pub with_step : List (List Step) → ℕ → Step → List (List Step)
@@ -99,7 +101,9 @@ share_line s (Leave node) = share_step s node (leave_step node)
 share_line s (Search node) = share_step s node (search_step node)
 share_line s (Ast name) = s
 share_line s (Block name number) = s
+share_line s (Tail name number) = s
 share_line s Show = s
+share_line s Tails = s
 
 -- what is shared by then, unless the line has a fault
 abbrev pub unless_fault : Option LineFault → Shares → Result Shares LineFault

@@ -1,6 +1,6 @@
 -- A script for several nodes: its steps in the script's order, each with its line's number.
 use Rattle.std.specs.Prelude.{ℕ, ◌+◌, List, [], ◌∷◌, ◌++◌, Option, None, Some, Result, Ok, Err}
-use Rattle.vlm_lines.specs.declared.lines.Line.TheVariants.{Empty, Declare, Set, Enq, Cvt, Deq, End, Leave, Search, Ast, Block, Show}
+use Rattle.vlm_lines.specs.declared.lines.Line.TheVariants.{Empty, Declare, Set, Enq, Cvt, Deq, End, Leave, Search, Ast, Block, Tail, Show, Tails}
 use Rattle.vlm_lines.specs.declared.lines.Line.{Line}
 use Rattle.vlm_lines.specs.declared.faults.LineFault.{LineFault}
 use Rattle.vlm_lines.specs.Lines.{line_read, unnamed_process}
@@ -30,7 +30,9 @@ line_step s (Leave node) = Some (leave_step node)
 line_step s (Search node) = Some (search_step node)
 line_step s (Ast name) = None
 line_step s (Block name number) = None
+line_step s (Tail name number) = None
 line_step s Show = None
+line_step s Tails = None
 
 -- the step of a line as it is read
 abbrev pub read_step : Shares → Result Line LineFault → Option Step

@@ -21,6 +21,8 @@ use Rattle.vlm_queue.specs.declared.views.ResourceView.{ResourceView}
 use Rattle.vlm_queue.specs.declared.views.RowView.{RowView}
 use Rattle.vlm_queue.specs.Views.{resource_view, row_view}
 use Rattle.vlm_script.specs.declared.printing.rows.WatchedRow.{WatchedRow}
+use Rattle.vlm_script.specs.declared.show.Part.{Part}
+use Rattle.vlm_script.specs.declared.show.Part.TheVariants.{Queues, Tail}
 
 -- the end of a line
 abbrev pub line_feed : List ℕ
@@ -93,6 +95,12 @@ status_block_line name number (Some block) =
     name ++ codes ": block " ++ decimal number ++ codes " status " ++ decimal block.status
     ++ codes " lock " ++ decimal block.lkid ++ codes " value " ++ hex_text block.value ++ line_feed
 
+-- the tail of a status block under its process's name, or that the process has no such block
+unfoldable pub status_tail_line : List ℕ → ℕ → Option Block → List ℕ
+status_tail_line name number None = name ++ codes ": tail " ++ decimal number ++ codes " none" ++ line_feed
+status_tail_line name number (Some block) =
+    name ++ codes ": tail " ++ decimal number ++ codes " " ++ hex_text block.tail ++ line_feed
+
 -- every byte can be read, and the name does not look like a hexadecimal one
 abbrev pub is_readable : List ℕ → Bool
 is_readable name = list_all (λ byte. nat_le 33 byte && nat_le byte 126) name && not (has_key (codes "x:") name)
@@ -106,7 +114,7 @@ abbrev pub domain_text : Domain → List ℕ
 domain_text (Group group) = codes "group " ++ decimal group
 domain_text System = codes "system"
 
--- whether a value block is valid
+-- whether a value block, or its tail, is valid
 abbrev pub validity : Bool → List ℕ
 validity true = codes "valid"
 validity false = codes "invalid"
@@ -154,10 +162,32 @@ resource_text r =
     resource_line (resource_view r) ++ queue_lines Granted r.granted ++ queue_lines Conversion r.converting
     ++ queue_lines Waiting r.waiting
 
--- all resources by rising serial, or that there is none
-unfoldable pub resources_text : List Resource → List ℕ
-resources_text [] = codes "no resources" ++ line_feed
-resources_text (r ∷ rest) = resource_text r ++ flat_map resource_text rest
+-- the tail of a resource's value block, under its serial
+unfoldable pub tail_line : ResourceView → List ℕ
+tail_line r =
+    codes "tail " ++ decimal r.serial ++ codes " value " ++ hex_text r.tail ++ codes " " ++ validity r.tail_valid ++ line_feed
+
+-- the text that tells this part of a resource
+abbrev pub part_text : Part → Resource → List ℕ
+part_text Queues r = resource_text r
+part_text Tail r = tail_line (resource_view r)
+
+-- the line that tells that there is no resource
+abbrev pub no_resources_line : List ℕ
+no_resources_line = codes "no resources" ++ line_feed
+
+-- the part of all resources by rising serial, or that there is none
+unfoldable pub parts_text : Part → List Resource → List ℕ
+parts_text part [] = no_resources_line
+parts_text part (r ∷ rest) = part_text part r ++ flat_map (part_text part) rest
+
+-- all resources with their queues
+abbrev pub resources_text : List Resource → List ℕ
+resources_text resources = parts_text Queues resources
+
+-- the tails of the value blocks of all resources
+abbrev pub tails_text : List Resource → List ℕ
+tails_text resources = parts_text Tail resources
 
 -- counts, each behind a space
 abbrev pub counts_text : List ℕ → List ℕ

@@ -6,8 +6,8 @@ ghost use Rattle.vlm_script.specs.Texts.{answer_line};
 ghost use Rattle.vlm_script.specs.Sessions.{RunsStep, IsRun, IsPrinted, StopsBytes, StopsLine, StopsName};
 
 use crate::bindings::{Bindings, bind_reserved, bound_to, process_of};
-use crate::printing::{answer_line, node_line, status_block_line};
-use crate::show::show;
+use crate::printing::{answer_line, node_line, status_block_line, status_tail_line};
+use crate::show::{Part, show};
 use crate::stops::Stop;
 use std::alloc::Global;
 use std::marker::Model;
@@ -72,7 +72,9 @@ impl Session {
             Line::Search(node) => self.search(node, out),
             Line::Ast(name) => self.make(name, Step::Take(NO_PROCESS), out),
             Line::Block(name, number) => self.show_status_block(name, number, out),
-            Line::Show => Ok(show(&self.core, out)?),
+            Line::Tail(name, number) => self.show_status_tail(name, number, out),
+            Line::Show => Ok(show(&self.core, Part::Queues, out)?),
+            Line::Tails => Ok(show(&self.core, Part::Tail, out)?),
         }
     }
 
@@ -146,6 +148,18 @@ impl Session {
         let pid = process_of(&self.names, &name)?;
         let block = self.core.block(pid, number);
         status_block_line(out, name.bytes(), number, block)?;
+        Ok(())
+    }
+
+    // Prints the tail of a status block of the process that the name is bound to.
+    fn show_status_tail(&self, name: ProcessName, number: u8, out: &mut Vec<u8>) -> Result<(), Stop>
+        ensures { MatchResult result
+            (λ _. IsRun self.now (Line.Tail name number) self.now out.old.items out.new.items)
+            (λ stop. StopsLine self.now.names (Line.Tail name number) stop) }
+    {
+        let pid = process_of(&self.names, &name)?;
+        let block = self.core.block(pid, number);
+        status_tail_line(out, name.bytes(), number, block)?;
         Ok(())
     }
 }

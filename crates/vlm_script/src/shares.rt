@@ -31,8 +31,8 @@ use vlm_words::steps::Step;
 /// `NumberOutOfRange` where a declare, leave or search line names a node that there is not, or a
 /// declare line one that has 65,535 declare lines already; after that `NameUsed` where a declare
 /// line's name is bound. It is `UnknownName` where the name of a set, enq, cvt, deq or end line is
-/// not bound, and `UnknownCommand` for an ast, block or show line, whatever its name. Nothing is
-/// written, so `Write` never comes.
+/// not bound, and `UnknownCommand` for an ast, block, tail, show or tails line, whatever its name.
+/// Nothing is written, so `Write` never comes.
 ///
 /// Memory and time grow with the script's bytes. No script is slow by its names where nobody could
 /// foresee the keys.

@@ -107,7 +107,7 @@ impl Sharing {
             Line::End(name) => self.put_named(name, Step::Rundown(NO_PROCESS)),
             Line::Leave(node) => self.put(node, Step::Leave(node)),
             Line::Search(node) => self.put(node, Step::Search(node)),
-            Line::Ast(_) | Line::Block(_, _) | Line::Show => {
+            Line::Ast(_) | Line::Block(_, _) | Line::Tail(_, _) | Line::Show | Line::Tails => {
                 Err(Stop::Fault(LineFault::UnknownCommand))
             }
         }

@@ -1,40 +1,63 @@
-//! All resources with their queues, as the core has them.
+//! All resources with their queues or their tails, as the core has them.
 
 ghost use Rattle.std.specs.Prelude.{◌≡◌, ◌++◌, IfSome, OnOk, flat_map};
 ghost use Rattle.vlm_queue.specs.Views.{resource_view};
 ghost use Rattle.vlm_queue.specs.Walks.{HasResource, plain_resource_at, rows_queued};
-ghost use Rattle.vlm_script.specs.Texts.{queue_lines, resource_line, resource_text, resources_text, row_line};
+ghost use Rattle.vlm_script.specs.Texts.{part_text, parts_text, queue_lines, resource_line, resource_text, row_line, tail_line};
 
-use crate::printing::{converting_line, granted_line, no_resources, resource_line, waiting_line};
+use crate::printing::{
+    converting_line, granted_line, no_resources, resource_line, tail_line, waiting_line,
+};
 use std::alloc::AllocError;
 use vlm_core::{Core, RowView};
 use vlm_queue::{ResAt, Store, first_resource, head, next, next_resource, resource_view, row_view};
 use vlm_words::resources::Queue;
 
-/// Prints every resource by rising serial with its queues, or that there is none.
-pub(crate) fn show(core: &Core, out: &mut Vec<u8>) -> Result<(), AllocError>
+/// What is shown of a resource.
+#[derive(Clone, Copy)]
+pub(crate) enum Part {
+    /// The resource with its queues.
+    Queues,
+    /// The tail of its value block.
+    Tail,
+}
+
+/// Prints this part of every resource by rising serial, or that there is none.
+pub(crate) fn show(core: &Core, part: Part, out: &mut Vec<u8>) -> Result<(), AllocError>
     ensures { OnOk result (out.new.items
-        ≡ out.old.items ++ resources_text core.now.resources) }
+        ≡ out.old.items ++ parts_text part core.now.resources) }
 {
     if core.resource_count() == 0 {
         no_resources(out)
     } else {
-        show_resources(core, out)
+        show_resources(core, part, out)
     }
 }
 
-// Prints every resource with its queues.
-fn show_resources(core: &Core, out: &mut Vec<u8>) -> Result<(), AllocError>
+// Prints this part of every resource.
+fn show_resources(core: &Core, part: Part, out: &mut Vec<u8>) -> Result<(), AllocError>
     ensures { OnOk result (out.new.items
-        ≡ out.old.items ++ flat_map resource_text core.now.resources) }
+        ≡ out.old.items ++ flat_map (part_text part) core.now.resources) }
 {
     let store = core.store();
     let mut next = first_resource(store);
     while let Some(res) = next {
-        show_resource(store, res, out)?;
+        show_part(store, res, part, out)?;
         next = next_resource(store, res);
     }
     Ok(())
+}
+
+// Prints this part of a resource.
+fn show_part(store: &Store, res: ResAt, part: Part, out: &mut Vec<u8>) -> Result<(), AllocError>
+    requires { HasResource res store.now }
+    ensures { OnOk result (IfSome (plain_resource_at res store.now)
+        (λ r. out.new.items ≡ out.old.items ++ part_text part r)) }
+{
+    match part {
+        Part::Queues => show_resource(store, res, out),
+        Part::Tail => show_tail(store, res, out),
+    }
 }
 
 // Prints a resource with its three queues.
@@ -73,4 +96,13 @@ fn show_row(queue: Queue, row: &RowView, out: &mut Vec<u8>) -> Result<(), AllocE
         Queue::Conversion => converting_line(out, row),
         Queue::Waiting => waiting_line(out, row),
     }
+}
+
+// Prints the tail of a resource's value block.
+fn show_tail(store: &Store, res: ResAt, out: &mut Vec<u8>) -> Result<(), AllocError>
+    requires { HasResource res store.now }
+    ensures { OnOk result (IfSome (plain_resource_at res store.now)
+        (λ r. out.new.items ≡ out.old.items ++ tail_line (resource_view r))) }
+{
+    tail_line(out, &resource_view(store, res))
 }

@@ -90,7 +90,7 @@ new_stored_resource at serial site = record {
   domain = site.domain;
   key = site.key;
   level = site.level;
-  value_block = record { value = new_value_block.value; valid = new_value_block.valid };
+  value_block = new_value_block;
   granted = [];
   converting = [];
   waiting = [];

@@ -174,7 +174,7 @@ given_always =
     (λ history s _ given.
     kept_by_stepped (λ _ t. AllGiven t) history.endings s given
     (λ d passed. swept_given (declare_change s d) (declared_given s d (ordinal_left s d passed) given))
-    (λ v _. swept_given (set_change s v) (same_given s (set_change s v) refl (kept_set (λ p. p.pid) (λ _ _. refl) v.pid v.block v.value s.processes) given))
+    (λ v _. swept_given (set_change s v) (same_given s (set_change s v) refl (kept_set (λ p. p.pid) (λ _ _. refl) v.pid v.block v.value v.tail s.processes) given))
     (λ taker _. swept_given (take_change s taker) (same_given s (take_change s taker) refl (kept_taken (λ p. p.pid) (λ _ _. refl) taker s.processes) given))
     (λ e _. swept_given (enq_change s e) (same_given s (enq_change s e) refl (kept_entered (λ p. p.pid) (λ _ _ _. refl) s e) given))
     (λ c a _ _. swept_given (convert_change s c a) (same_given s (convert_change s c a) refl (kept_converted (λ p. p.pid) (λ _ _ _. refl) s c a) given))
@@ -302,7 +302,7 @@ rise_always =
     (λ d passed.
     let has = ordinal_left s d passed in
     swept_rise (declare_change s d) (declared_rise s d (names_node d has.first has.last) has rise))
-    (λ v _. swept_rise (set_change s v) (same_rise s (set_change s v) refl (kept_set (λ p. p.pid) (λ _ _. refl) v.pid v.block v.value s.processes) rise))
+    (λ v _. swept_rise (set_change s v) (same_rise s (set_change s v) refl (kept_set (λ p. p.pid) (λ _ _. refl) v.pid v.block v.value v.tail s.processes) rise))
     (λ taker _. swept_rise (take_change s taker) (same_rise s (take_change s taker) refl (kept_taken (λ p. p.pid) (λ _ _. refl) taker s.processes) rise))
     (λ e _. swept_rise (enq_change s e) (same_rise s (enq_change s e) refl (kept_entered (λ p. p.pid) (λ _ _ _. refl) s e) rise))
     (λ c a _ _. swept_rise (convert_change s c a) (same_rise s (convert_change s c a) refl (kept_converted (λ p. p.pid) (λ _ _ _. refl) s c a) rise))

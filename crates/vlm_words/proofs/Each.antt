@@ -153,3 +153,9 @@ each_member (x ∷ xs) = (
   Any-here (λ y. x ≡ y) x xs refl,
   each_weaker (λ z. Any (λ y. z ≡ y) xs) (λ z. Any (λ y. z ≡ y) (x ∷ xs)) (λ z any. Any-there (λ y. z ≡ y) x xs any) xs (each_member xs),
 )
+
+-- what holds of each element holds of one of them
+pub each_there : {X : Type 0} (P : X → Type 0) (xs : List X) (x : X) → AllByRecursion P xs → Any (λ y. x ≡ y) xs → P x
+each_there P [] x each there = absurd (Any-none (λ y. x ≡ y) there)
+each_there P (y ∷ ys) x each there =
+    elim (Any-cases (λ z. x ≡ z) y ys there) [ inl here ↦ subst P (sym here) each.0 | inr later ↦ each_there P ys x each.1 later ]

@@ -14,7 +14,7 @@ use Rattle.vlm_words.specs.State.{Process, Resource, process_of}
 use Rattle.vlm_words.specs.StatusBlocks.{block_after_return, new_status_block, process_after_write, process_with_block, with_block, processes_after_return, processes_after_status, processes_after_write, status_block_of, status_blocks_of}
 use Rattle.vlm_words.specs.Endings.{Ending, How, is_told}
 use Rattle.vlm_words.specs.Endings.How.{by_abort, by_cancel, by_deadlock, by_grant, by_rundown}
-use Rattle.vlm_words.specs.Effects.{Blocks, blocks_after_end, blocks_after_ending, blocks_after_return, blocks_after_writing}
+use Rattle.vlm_words.specs.Effects.{Blocks, blocks_after_end, blocks_after_ending, blocks_after_return, blocks_after_writing, is_wide}
 use Rattle.vlm_words.specs.Grants.{service}
 use Rattle.vlm_words.specs.Sweeps.{blocks_after_service, processes_after_service, sweep_endings}
 use Rattle.vlm_words.specs.Written.{is_end_for}
@@ -118,20 +118,20 @@ block_written owner number made processes pid k within =
 
 -- ---- one end
 
--- what an end makes of its status block, where its resource has this value block
-abbrev pub block_after_how : How → ValueBlock → Block → Block
-block_after_how (by_grant Nothing) value block = record block { status = condition_number Normal }
-block_after_how (by_grant Return) value block = block_after_return value block
-block_after_how (by_grant Write) value block = record block { status = condition_number Normal }
-block_after_how by_abort value block = record block { status = condition_number Abort }
-block_after_how by_cancel value block = record block { status = condition_number Cancel }
-block_after_how by_deadlock value block = record block { status = condition_number Deadlock }
-block_after_how by_rundown value block = block
+-- what an end makes of its status block, where its resource has this value block; its request is wide or not
+abbrev pub block_after_how : How → Bool → ValueBlock → Block → Block
+block_after_how (by_grant Nothing) wide value block = record block { status = condition_number Normal }
+block_after_how (by_grant Return) wide value block = block_after_return wide value block
+block_after_how (by_grant Write) wide value block = record block { status = condition_number Normal }
+block_after_how by_abort wide value block = record block { status = condition_number Abort }
+block_after_how by_cancel wide value block = record block { status = condition_number Cancel }
+block_after_how by_deadlock wide value block = record block { status = condition_number Deadlock }
+block_after_how by_rundown wide value block = block
 
 -- an end of which the process is told writes its status block so
 pub end_writes : (how : How) → is_told how ≡ true → (ending : Ending) (b : Blocks) → (blocks_after_end how ending b).processes
     ≡ processes_after_write ending.pid ending.request.block
-    (block_after_how how b.value_block (status_block_of b.processes ending.pid ending.request.block)) b.processes
+    (block_after_how how (is_wide ending.request) b.value_block (status_block_of b.processes ending.pid ending.request.block)) b.processes
 unfolding blocks_after_return blocks_after_writing processes_after_status processes_after_return
 end_writes (by_grant Nothing) told ending b = refl
 end_writes (by_grant Return) told ending b = refl
@@ -174,7 +174,7 @@ module _ (Leaves : ℕ → ℕ → List Ending → Block → Block → Type 0) w
   -- where one request ends
   pub left_by_one : (ending : Ending) (b : Blocks)
       → ((pid number : ℕ) (block : Block)
-      → Leaves pid number (ending ∷ []) block (cond (is_end_for pid number ending) (block_after_how ending.how b.value_block block) block))
+      → Leaves pid number (ending ∷ []) block (cond (is_end_for pid number ending) (block_after_how ending.how (is_wide ending.request) b.value_block block) block))
       → AreLeft (ending ∷ []) b.processes (blocks_after_ending ending b).processes
   left_by_one ending b one = of_how ending.how refl
     where
@@ -186,12 +186,12 @@ module _ (Leaves : ℕ → ℕ → List Ending → Block → Block → Type 0) w
             many = λ pid. many_written ending.pid ending.request.block pid _ b.processes;
             each = λ pid k within.
                 subst (λ (after : Block). Leaves pid (k + 1) (ending ∷ []) (block_at b.processes pid k) after)
-                (sym (block_written ending.pid ending.request.block (block_after_how ending.how b.value_block) b.processes pid k within))
+                (sym (block_written ending.pid ending.request.block (block_after_how ending.how (is_wide ending.request) b.value_block) b.processes pid k within))
                 (one pid (k + 1) (block_at b.processes pid k));
           }))
 
-      same : ending.how ≡ by_rundown → (block : Block) (named : Bool) → cond named (block_after_how ending.how b.value_block block) block ≡ block
-      same is block true = ap (λ (how : How). block_after_how how b.value_block block) is
+      same : ending.how ≡ by_rundown → (block : Block) (named : Bool) → cond named (block_after_how ending.how (is_wide ending.request) b.value_block block) block ≡ block
+      same is block true = ap (λ (how : How). block_after_how how (is_wide ending.request) b.value_block block) is
       same is block false = refl
 
       of_how : (how : How) → ending.how ≡ how → AreLeft (ending ∷ []) b.processes (blocks_after_ending ending b).processes

@@ -164,6 +164,7 @@ left_by_rundown is_one endings each processes = record {
       status = rw (no_end_of is_one pid (k + 1) other endings each) refl;
       lkid = refl;
       value = λ _. refl;
+      tail = λ _. refl;
     }
 
     of_found : (pid k : ℕ) (found : Option Process) → process_of (processes_but is_one processes) pid ≡ found

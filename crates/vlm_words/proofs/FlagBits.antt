@@ -90,7 +90,8 @@ flag_places (suc (suc (suc (suc zero)))) is = cc
 flag_places (suc (suc (suc (suc (suc zero))))) is = cc
 flag_places (suc (suc (suc (suc (suc (suc zero)))))) is = cc
 flag_places (suc (suc (suc (suc (suc (suc (suc zero))))))) is = cc
-flag_places (suc (suc (suc (suc (suc (suc (suc (suc n)))))))) is = (
+flag_places (suc (suc (suc (suc (suc (suc (suc (suc zero)))))))) is = cc
+flag_places (suc (suc (suc (suc (suc (suc (suc (suc (suc n))))))))) is = (
   past 1 (omega arith),
   (
     past 2 (omega arith),
@@ -100,15 +101,15 @@ flag_places (suc (suc (suc (suc (suc (suc (suc (suc n)))))))) is = (
         past 8 (omega arith),
         (
           past 16 (omega arith),
-          (past 32 (omega arith), (past 64 (omega arith), (past 128 (omega arith), tt))),
+          (past 32 (omega arith), (past 64 (omega arith), (past 128 (omega arith), (past 256 (omega arith), tt)))),
         ),
       ),
     ),
   ),
 )
   where
-    past : (flag : ℕ) → flag < 2 ^ 8 → bit_at flag (suc (suc (suc (suc (suc (suc (suc (suc n)))))))) ≡ 0
-    past flag below = bit_at_above flag 8 (suc (suc (suc (suc (suc (suc (suc (suc n)))))))) below (omega arith)
+    past : (flag : ℕ) → flag < 2 ^ 9 → bit_at flag (suc (suc (suc (suc (suc (suc (suc (suc (suc n))))))))) ≡ 0
+    past flag below = bit_at_above flag 9 (suc (suc (suc (suc (suc (suc (suc (suc (suc n))))))))) below (omega arith)
 
 -- and none of all has one there
 no_flag_place : (place : ℕ) → AllByRecursion (λ flag. bit_at flag place ≡ 0) request_flags → bit_at enq_bits place ≡ 0
@@ -120,8 +121,9 @@ no_flag_place (suc (suc (suc (suc zero)))) each = absurd (omega (arith, each.1.1
 no_flag_place (suc (suc (suc (suc (suc zero))))) each = absurd (omega (arith, each.1.1.1.1.1.0))
 no_flag_place (suc (suc (suc (suc (suc (suc zero)))))) each = absurd (omega (arith, each.1.1.1.1.1.1.0))
 no_flag_place (suc (suc (suc (suc (suc (suc (suc zero))))))) each = absurd (omega (arith, each.1.1.1.1.1.1.1.0))
-no_flag_place (suc (suc (suc (suc (suc (suc (suc (suc n)))))))) each =
-    bit_at_above 255 8 (suc (suc (suc (suc (suc (suc (suc (suc n)))))))) (omega arith) (omega arith)
+no_flag_place (suc (suc (suc (suc (suc (suc (suc (suc zero)))))))) each = absurd (omega (arith, each.1.1.1.1.1.1.1.1.0))
+no_flag_place (suc (suc (suc (suc (suc (suc (suc (suc (suc n))))))))) each =
+    bit_at_above 511 9 (suc (suc (suc (suc (suc (suc (suc (suc (suc n))))))))) (omega arith) (omega arith)
 
 -- a place where no flag of dequeues has its bit
 dequeue_places : (place : ℕ) → bit_at deq_bits place ≡ 0 → AllByRecursion (λ flag. bit_at flag place ≡ 0) dequeue_flags

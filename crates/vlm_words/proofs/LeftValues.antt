@@ -61,12 +61,22 @@ abbrev pub IsPlain : Bool → Withdrawal → Type 0
 IsPlain invalidates w = (w.value ≡ None) × (w.invalidates ≡ invalidates)
 
 one_leaves : (invalidates : Bool) (w : Withdrawal) → IsPlain invalidates w → (block : ValueBlock)
-    → LeavesValue None invalidates block (value_block_after_writer w block)
-one_leaves true w plain block = (rw (plain.0) refl, rw (plain.1) refl)
+    → LeavesValue None None invalidates block (value_block_after_writer w block)
+one_leaves true w plain block = record {
+  value = rw (plain.0, plain.1) refl;
+  valid = rw (plain.0, plain.1) refl;
+  tail = rw (plain.0, plain.1) refl;
+  tail_valid = rw (plain.0, plain.1) refl;
+}
 one_leaves false w plain block = rw (plain.0, plain.1) refl
 
-leave_both : (invalidates : Bool) (a b c : ValueBlock) → LeavesValue None invalidates a b → LeavesValue None invalidates b c → LeavesValue None invalidates a c
-leave_both true a b c first second = (second.0 ∙ first.0, second.1)
+leave_both : (invalidates : Bool) (a b c : ValueBlock) → LeavesValue None None invalidates a b → LeavesValue None None invalidates b c → LeavesValue None None invalidates a c
+leave_both true a b c first second = record {
+  value = second.value ∙ first.value;
+  valid = second.valid;
+  tail = second.tail ∙ first.tail;
+  tail_valid = second.tail_valid;
+}
 leave_both false a b c first second = second ∙ first
 
 -- what a lock leaves does not change who holds what
@@ -83,7 +93,7 @@ writers_still w (v ∷ withdrawals) r = rw (writer_still w v r, writers_still w 
 -- what several locks leave in the value block: what one of them leaves, if one is held by a writer, or else what was there
 pub record LeftTogether (invalidates : Bool) (withdrawals : List Withdrawal) (r : Resource) : Type 0 where
   pub written : list_any (λ w. is_held_by_writer w.lkid r) withdrawals ≡ true
-      → LeavesValue None invalidates r.value_block (resource_after_each resource_after_writer withdrawals r).value_block
+      → LeavesValue None None invalidates r.value_block (resource_after_each resource_after_writer withdrawals r).value_block
   pub kept : list_any (λ w. is_held_by_writer w.lkid r) withdrawals ≡ false
       → (resource_after_each resource_after_writer withdrawals r).value_block ≡ r.value_block
 
@@ -101,21 +111,21 @@ left_together invalidates (w ∷ withdrawals) plain r =
     after b = (resource_after_each resource_after_writer withdrawals (cond b written_one r)).value_block
 
     of_later : LeftTogether invalidates withdrawals written_one → (b : Bool)
-        → list_any (λ v. is_held_by_writer v.lkid r) withdrawals ≡ b → LeavesValue None invalidates r.value_block (after true)
+        → list_any (λ v. is_held_by_writer v.lkid r) withdrawals ≡ b → LeavesValue None None invalidates r.value_block (after true)
     of_later behind true is =
         leave_both invalidates r.value_block written_one.value_block (after true) (one_leaves invalidates w plain.0 r.value_block) (behind.written is)
     of_later behind false is =
-        subst (LeavesValue None invalidates r.value_block) (sym (behind.kept is)) (one_leaves invalidates w plain.0 r.value_block)
+        subst (LeavesValue None None invalidates r.value_block) (sym (behind.kept is)) (one_leaves invalidates w plain.0 r.value_block)
 
     of_test : (b : Bool) → is_held_by_writer w.lkid r ≡ b → LeftTogether invalidates withdrawals written_one → LeftTogether invalidates withdrawals r
         → LeftTogether invalidates (w ∷ withdrawals) r
     of_test true is first behind = record {
-      written = λ _. subst (λ (b : Bool). LeavesValue None invalidates r.value_block (after b)) (sym is)
+      written = λ _. subst (λ (b : Bool). LeavesValue None None invalidates r.value_block (after b)) (sym is)
           (of_later first (list_any (λ v. is_held_by_writer v.lkid r) withdrawals) refl);
       kept = λ none. let no : true ≡ false = sym (ap (λ (b : Bool). b || list_any (λ v. is_held_by_writer v.lkid r) withdrawals) is) ∙ none in cc;
     }
     of_test false is first behind = record {
-      written = λ some. subst (λ (b : Bool). LeavesValue None invalidates r.value_block (after b)) (sym is)
+      written = λ some. subst (λ (b : Bool). LeavesValue None None invalidates r.value_block (after b)) (sym is)
           (behind.written (sym (ap (λ (b : Bool). b || list_any (λ v. is_held_by_writer v.lkid r) withdrawals) is) ∙ some));
       kept = λ none. subst (λ (b : Bool). after b ≡ r.value_block) (sym is)
           (behind.kept (sym (ap (λ (b : Bool). b || list_any (λ v. is_held_by_writer v.lkid r) withdrawals) is) ∙ none));

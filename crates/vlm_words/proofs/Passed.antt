@@ -1,5 +1,5 @@
 -- What is so where the checks of a step do not refuse it.
-use Rattle.std.proofs.Common.{◌≡◌, Bool, true, false, not, ◌&&◌, ◌||◌, cond, Option, None, Some, refl, subst}
+use Rattle.std.proofs.Common.{◌≡◌, ℕ, Bool, true, false, not, ◌&&◌, ◌||◌, cond, List, Option, None, Some, refl, subst}
 use Rattle.std.specs.Prelude.{◌==◌, is_some}
 use Rattle.std.proofs.lemmas.Bool.{not-false}
 use Rattle.vlm_words.specs.declared.conditions.Cond.TheVariants.{Unsupported, Badparam}
@@ -142,22 +142,42 @@ not_mixed s d passed =
 -- DEQALL goes with no cancel
 pub flags_go_together : (s : State) (d : Dequeue) → deq_refusal s d ≡ None → has_flag d.flags deqall ≡ true → has_flag d.flags cancel ≡ false
 flags_go_together s d passed all =
-    of_tests (is_known deq_bits d.flags) (has_flag d.flags deqall) (has_flag d.flags cancel) (is_some d.value) all (not_mixed s d passed)
+    of_tests (is_known deq_bits d.flags) (has_flag d.flags deqall) (has_flag d.flags cancel) (is_some d.value) (is_some d.tail && not (is_some d.value)) all
+    (not_mixed s d passed)
   where
-    of_tests : (known all cancels given : Bool) → all ≡ true → (known && not (all && (cancels || given))) ≡ true → cancels ≡ false
-    of_tests true true true given is passed = cc
-    of_tests false true true given is passed = cc
-    of_tests known true false given is passed = refl
-    of_tests known false cancels given is passed = cc
+    of_tests : (known all cancels given alone : Bool) → all ≡ true → (known && not ((all && (cancels || given)) || alone)) ≡ true → cancels ≡ false
+    of_tests true true true given alone is passed = cc
+    of_tests false true true given alone is passed = cc
+    of_tests known true false given alone is passed = refl
+    of_tests known false cancels given alone is passed = cc
 
 -- nor with a value
 pub no_value_goes : (s : State) (d : Dequeue) → deq_refusal s d ≡ None → has_flag d.flags deqall ≡ true → is_some d.value ≡ false
 no_value_goes s d passed all =
-    of_tests (is_known deq_bits d.flags) (has_flag d.flags deqall) (has_flag d.flags cancel) (is_some d.value) all (not_mixed s d passed)
+    of_tests (is_known deq_bits d.flags) (has_flag d.flags deqall) (has_flag d.flags cancel) (is_some d.value) (is_some d.tail && not (is_some d.value)) all
+    (not_mixed s d passed)
   where
-    of_tests : (known all cancels given : Bool) → all ≡ true → (known && not (all && (cancels || given))) ≡ true → given ≡ false
-    of_tests known true cancels false is passed = refl
-    of_tests true true true true is passed = cc
-    of_tests true true false true is passed = cc
-    of_tests false true cancels true is passed = cc
-    of_tests known false cancels given is passed = cc
+    of_tests : (known all cancels given alone : Bool) → all ≡ true → (known && not ((all && (cancels || given)) || alone)) ≡ true → given ≡ false
+    of_tests known true cancels false alone is passed = refl
+    of_tests true true true true alone is passed = cc
+    of_tests true true false true alone is passed = cc
+    of_tests false true cancels true alone is passed = cc
+    of_tests known false cancels given alone is passed = cc
+
+-- what is not given is none
+pub given_none : (given : Option (List ℕ)) → is_some given ≡ false → given ≡ None
+given_none None is = refl
+given_none (Some bytes) is = cc
+
+-- and so with no tail, which goes with a value
+pub no_tail_goes : (s : State) (d : Dequeue) → deq_refusal s d ≡ None → has_flag d.flags deqall ≡ true → is_some d.tail ≡ false
+no_tail_goes s d passed all =
+    of_tests (is_known deq_bits d.flags) (has_flag d.flags deqall && (has_flag d.flags cancel || is_some d.value)) (is_some d.tail) (is_some d.value)
+    (no_value_goes s d passed all) (not_mixed s d passed)
+  where
+    of_tests : (known mixed tail given : Bool) → given ≡ false → (known && not (mixed || (tail && not given))) ≡ true → tail ≡ false
+    of_tests known mixed false given is passed = refl
+    of_tests true true true false is passed = cc
+    of_tests true false true false is passed = cc
+    of_tests false mixed true false is passed = cc
+    of_tests known mixed tail true is passed = cc

@@ -1,5 +1,5 @@
 -- What the steps keep of each process: all but its status blocks.
-use Rattle.std.proofs.Common.{◌≡◌, ℕ, List, [], ◌∷◌, map, refl, ap, ◌∙◌, ◌++◌, Some, Bool, true, false, cond}
+use Rattle.std.proofs.Common.{◌≡◌, ℕ, List, [], ◌∷◌, map, refl, ap, ◌∙◌, ◌++◌, Option, Some, Bool, true, false, cond}
 use Rattle.std.specs.Prelude.{◌==◌}
 use Rattle.std.proofs.lemmas.Bool.{cond_both}
 use Rattle.vlm_words.specs.declared.blocks.Block.{Block}
@@ -42,9 +42,10 @@ module _ {X : Type 0} (shown : Process → X) (blind : (p : Process) (blocks : L
   kept_accepted pid n lkid processes = writes_kept pid n _ processes
 
   -- the setting of a value
-  pub kept_set : (pid n : ℕ) (value : List ℕ) (processes : List Process) → map shown (processes_after_setting pid n value processes) ≡ map shown processes
+  pub kept_set : (pid n : ℕ) (value : List ℕ) (tail : Option (List ℕ)) (processes : List Process)
+      → map shown (processes_after_setting pid n value tail processes) ≡ map shown processes
   unfolding processes_after_setting
-  kept_set pid n value processes = writes_kept pid n _ processes
+  kept_set pid n value tail processes = writes_kept pid n _ processes
 
   -- a status
   kept_status : (pid n : ℕ) (cond : Cond) (processes : List Process) → map shown (processes_after_status pid n cond processes) ≡ map shown processes
@@ -52,16 +53,16 @@ module _ {X : Type 0} (shown : Process → X) (blind : (p : Process) (blocks : L
   kept_status pid n cond processes = writes_kept pid n _ processes
 
   -- a returned value block
-  kept_returned : (pid n : ℕ) (returned : ValueBlock) (processes : List Process)
-      → map shown (processes_after_return pid n returned processes) ≡ map shown processes
+  kept_returned : (pid n : ℕ) (wide : Bool) (returned : ValueBlock) (processes : List Process)
+      → map shown (processes_after_return pid n wide returned processes) ≡ map shown processes
   unfolding processes_after_return
-  kept_returned pid n returned processes = writes_kept pid n _ processes
+  kept_returned pid n wide returned processes = writes_kept pid n _ processes
 
   -- an ending
   pub ending_kept : (how : How) (ending : Ending) (b : Blocks) → map shown (blocks_after_end how ending b).processes ≡ map shown b.processes
   unfolding blocks_after_return blocks_after_writing
   ending_kept (by_grant Nothing) ending b = kept_status ending.pid ending.request.block _ b.processes
-  ending_kept (by_grant Return) ending b = kept_returned ending.pid ending.request.block _ b.processes
+  ending_kept (by_grant Return) ending b = kept_returned ending.pid ending.request.block _ _ b.processes
   ending_kept (by_grant Write) ending b = kept_status ending.pid ending.request.block _ b.processes
   ending_kept by_abort ending b = kept_status ending.pid ending.request.block _ b.processes
   ending_kept by_cancel ending b = kept_status ending.pid ending.request.block _ b.processes

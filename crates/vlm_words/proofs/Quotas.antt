@@ -164,7 +164,7 @@ within_always =
     (λ pid. omega (arith, within pid, more_quota s.processes (declared_process s d) pid)))
     (λ v _.
     still_within s (state_after_sweep (set_change s v))
-    (kept_swept allowance (λ _ _ _. refl) (set_change s v).processes s.resources ∙ kept_set allowance (λ _ _. refl) v.pid v.block v.value s.processes)
+    (kept_swept allowance (λ _ _ _. refl) (set_change s v).processes s.resources ∙ kept_set allowance (λ _ _. refl) v.pid v.block v.value v.tail s.processes)
     (λ pid. omega (arith, swept_named (owned pid) (owned_named pid) (set_change s v).processes s.resources)) within)
     (λ taker _.
     still_within s (state_after_sweep (take_change s taker))

@@ -1,5 +1,5 @@
 -- After every run a step breaks no rule and is accepted, or is refused with the condition of a rule that it breaks.
-use Rattle.std.proofs.Common.{◌≡◌, ◌<◌, ◌⊎◌, ◌&&◌, ℕ, Bool, true, false, not, cond, ◌++◌, Option, None, Some, inl, inr, refl, sym, ap, subst, ◌∙◌, arith}
+use Rattle.std.proofs.Common.{◌≡◌, ◌<◌, ◌⊎◌, ◌&&◌, ℕ, Bool, true, false, not, cond, List, ◌++◌, Option, None, Some, inl, inr, refl, sym, ap, subst, ◌∙◌, arith}
 use Rattle.std.specs.Prelude.{◌==◌, Any, nat_le, nat_lt, is_some, IsSome, ◌||◌}
 use Rattle.std.specs.List.{list_any}
 use Rattle.std.proofs.lemmas.Bool.{and_cases, and_parts, eq-eqb, eqb-true, eqb-false}
@@ -29,7 +29,7 @@ use Rattle.vlm_words.proofs.Apart.{Apart, apart_always}
 use Rattle.vlm_words.proofs.Keys.{Placed, placed_always}
 use Rattle.vlm_words.proofs.ReasonsOfConversions.{conversion_breaks, conversion_keeps}
 use Rattle.vlm_words.proofs.ReasonsOfRequests.{request_breaks, request_keeps}
-use Rattle.vlm_words.proofs.Passed.{both_pass, second_fails, test_fails, test_passes}
+use Rattle.vlm_words.proofs.Passed.{both_pass, second_fails, test_fails, test_passes, given_none}
 use Rattle.vlm_words.proofs.Acceptances.{IsAnswered, conversion_answers, request_answers}
 use Rattle.vlm_words.proofs.FlagBits.{dequeue_known, dequeue_unknown}
 use Rattle.vlm_words.proofs.Refusals.{IsCaller, Says, any_resource, block_passes, caller_passes, granted_nowhere, granted_somewhere, is_somebody, lock_passes, no_resource, node_departed, over_queues, says_block, says_caller, says_departed, says_either, says_lock, says_some, says_unless, says_where, says_which, which_passes, says_none}
@@ -141,33 +141,49 @@ on_sublock lkid r there =
     (Any-weaker (λ (row : Row). row.parent ≡ lkid) (λ row. (row.parent == lkid) ≡ true) (λ row here. eq-eqb row.parent lkid here)
     (r.granted ++ r.converting ++ r.waiting) there)
 
--- what of a dequeue's flags is refused: an unknown bit, or what DEQALL does not go with
+-- what of a dequeue's flags is refused: an unknown bit, or what does not go together
 flags_break : (s : State) (d : Dequeue) → (is_known deq_bits d.flags && not (is_mixed d)) ≡ false → DequeueBreaks s d Badparam
 flags_break s d fails =
-    of_tests (is_known deq_bits d.flags) refl (has_flag d.flags deqall) refl (has_flag d.flags cancel) refl (is_some d.value) refl fails
+    of_tests (is_known deq_bits d.flags) refl (has_flag d.flags deqall) refl (has_flag d.flags cancel) refl (is_some d.value) refl (is_some d.tail) refl fails
   where
+    alone : is_some d.tail ≡ true → is_some d.value ≡ false → DequeueBreaks s d Badparam
+    alone some none = inr (inr (some, given_none d.value none))
+
     of_tests : (known : Bool) → is_known deq_bits d.flags ≡ known → (all : Bool) → has_flag d.flags deqall ≡ all
-        → (cancels : Bool) → has_flag d.flags cancel ≡ cancels → (given : Bool) → is_some d.value ≡ given
-        → (known && not (all && (cancels || given))) ≡ false → DequeueBreaks s d Badparam
-    of_tests false unknown all is_all cancels is_cancel given is_given none = inl (dequeue_unknown d.flags unknown)
-    of_tests true known true is_all true is_cancel given is_given none = inr (is_all, inl is_cancel)
-    of_tests true known true is_all false is_cancel true is_given none = inr (is_all, inr is_given)
-    of_tests true known true is_all false is_cancel false is_given none = cc
-    of_tests true known false is_all cancels is_cancel given is_given none = cc
+        → (cancels : Bool) → has_flag d.flags cancel ≡ cancels → (given : Bool) → is_some d.value ≡ given → (tail : Bool) → is_some d.tail ≡ tail
+        → (known && not ((all && (cancels || given)) || (tail && not given))) ≡ false → DequeueBreaks s d Badparam
+    of_tests false unknown all is_all cancels is_cancel given is_given tail is_tail none = inl (dequeue_unknown d.flags unknown)
+    of_tests true known true is_all true is_cancel given is_given tail is_tail none = inr (inl (is_all, inl is_cancel))
+    of_tests true known true is_all false is_cancel true is_given tail is_tail none = inr (inl (is_all, inr is_given))
+    of_tests true known all is_all cancels is_cancel false is_given true is_tail none = alone is_tail is_given
+    of_tests true known true is_all false is_cancel false is_given false is_tail none = cc
+    of_tests true known false is_all cancels is_cancel false is_given false is_tail none = cc
+    of_tests true known false is_all cancels is_cancel true is_given true is_tail none = cc
+    of_tests true known false is_all cancels is_cancel true is_given false is_tail none = cc
 
 flags_pass : (s : State) (d : Dequeue) → (is_known deq_bits d.flags && not (is_mixed d)) ≡ true → DequeueBreaks s d Badparam → ⊥
 flags_pass s d passes (inl unknown) = dequeue_known d.flags (and_parts (is_known deq_bits d.flags) (not (is_mixed d)) passes).0 unknown
-flags_pass s d passes (inr mixed) = of_mixed (and_parts (is_known deq_bits d.flags) (not (is_mixed d)) passes).1 mixed.0 mixed.1
+flags_pass s d passes (inr (inl mixed)) = of_mixed (and_parts (is_known deq_bits d.flags) (not (is_mixed d)) passes).1 mixed.0 mixed.1
   where
-    both : (all cancels given : Bool) → not (all && (cancels || given)) ≡ true → all ≡ true → (cancels ≡ true) ⊎ (given ≡ true) → ⊥
-    both true true given none is some = cc
-    both true false true none is some = cc
-    both true false false none is (inl first) = cc
-    both true false false none is (inr second) = cc
-    both false cancels given none is some = cc
+    both : (all cancels given alone : Bool) → not ((all && (cancels || given)) || alone) ≡ true → all ≡ true → (cancels ≡ true) ⊎ (given ≡ true) → ⊥
+    both true true given alone none is some = cc
+    both true false true alone none is some = cc
+    both true false false alone none is (inl first) = cc
+    both true false false alone none is (inr second) = cc
+    both false cancels given alone none is some = cc
 
     of_mixed : not (is_mixed d) ≡ true → has_flag d.flags deqall ≡ true → (has_flag d.flags cancel ≡ true) ⊎ IsSome d.value → ⊥
-    of_mixed none all some = both (has_flag d.flags deqall) (has_flag d.flags cancel) (is_some d.value) none all some
+    of_mixed none all some =
+        both (has_flag d.flags deqall) (has_flag d.flags cancel) (is_some d.value) (is_some d.tail && not (is_some d.value)) none all some
+flags_pass s d passes (inr (inr alone)) =
+    of_alone (has_flag d.flags deqall && (has_flag d.flags cancel || is_some d.value)) (is_some d.tail) (is_some d.value)
+    (and_parts (is_known deq_bits d.flags) (not (is_mixed d)) passes).1 alone.0 (ap (λ (value : Option (List ℕ)). is_some value) alone.1)
+  where
+    of_alone : (mixed tail given : Bool) → not (mixed || (tail && not given)) ≡ true → tail ≡ true → given ≡ false → ⊥
+    of_alone true true false passes is none = cc
+    of_alone false true false passes is none = cc
+    of_alone mixed false given passes is none = cc
+    of_alone mixed true true passes is none = cc
 
 -- a lock that is not the caller's is refused, where one is named
 says_dequeued_lock : (s : State) (d : Dequeue) → Says (DequeueBreaks s d) (dequeued_lock_refusal s d)

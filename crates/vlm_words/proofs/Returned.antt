@@ -39,7 +39,7 @@ use Rattle.vlm_words.specs.Dequeue.{deq_change, withdrawals_of}
 use Rattle.vlm_words.specs.Runs.{History, Run}
 use Rattle.vlm_words.specs.Stepped.{IsChoice, Stepped, conversion_change, refused_or, step_change, step_refusal, stepped, stepped_after_sweep, end_of_processes}
 use Rattle.vlm_words.specs.Laws.{IsGrant, IsGrantOf, IsGranted}
-use Rattle.vlm_words.specs.Returned.{ActsAsAskedFor, GrantsReturnValues, HeldBefore, HoldsGranted, IsItsValue, TellsMark, TellsValue, act_asked_for, conversion_act, last_return}
+use Rattle.vlm_words.specs.Returned.{ActsAsAskedFor, GrantsReturnValues, HeldBefore, HoldsGranted, IsItsValue, TellsMark, TellsTail, TellsValue, act_asked_for, conversion_act, last_return, last_wide_return}
 use Rattle.vlm_words.specs.Written.{last_end}
 use Rattle.vlm_words.proofs.Always.{admission_of, withdrawal_of_all}
 use Rattle.vlm_words.proofs.Apart.{Apart, apart_always}
@@ -47,7 +47,7 @@ use Rattle.vlm_words.proofs.Each.{Any-behind, Any-cases, Any-here, Any-none, Any
 use Rattle.vlm_words.proofs.HeldModes.{HoldersAgree, holders_agree_always}
 use Rattle.vlm_words.proofs.InOrder.{service_in_order}
 use Rattle.vlm_words.proofs.Refusals.{Any_found}
-use Rattle.vlm_words.proofs.Returning.{AreReturned, Its, Serves, StatusBy, ValueBy, none_returned, one_returned, all_returned, returned_swept}
+use Rattle.vlm_words.proofs.Returning.{AreReturned, Its, Serves, StatusBy, TailBy, ValueBy, none_returned, one_returned, all_returned, returned_swept}
 use Rattle.vlm_words.proofs.Standing.{admitted_there, any_entered, any_map, granted_stays}
 use Rattle.vlm_words.proofs.SweptValues.{IsHarmless, WritesNothing, conversion_is_harmless, harmless_always, new_is_harmless, service_each, service_harmless, served, served_leaves, swept_alone}
 use Rattle.vlm_words.proofs.Waiting.{EachConverting, Queued, conversion_queued, request_queued, rundown_queued, withdrawn_queued}
@@ -457,6 +457,10 @@ tells_value : (s : State) (last : Option Ending) (before after : List ℕ) → V
 tells_value s None before after by = tt
 tells_value s (Some ending) before after by = by
 
+tells_tail : (s : State) (last : Option Ending) (before after : List ℕ) → TailBy (IsItsValue s) last before after → TellsTail s last after
+tells_tail s None before after by = tt
+tells_tail s (Some ending) before after by = by
+
 tells_mark : (s : State) (last : Option Ending) (before after : ℕ) → StatusBy (IsItsValue s) last before after → TellsMark s last after
 tells_mark s None before after by = tt
 tells_mark s (Some ending) before after by = by
@@ -464,6 +468,7 @@ tells_mark s (Some ending) before after by = by
 -- a step that is made returns what stands there
 told : (s : State) (made : Stepped) → IsReturning s made → (pid k : ℕ) (p : Process) → process_of made.state.processes pid ≡ Some p → k < length p.blocks
     → TellsValue made.state (last_return pid (k + 1) made.endings) (get_or p.blocks k new_status_block).value
+    × TellsTail made.state (last_wide_return pid (k + 1) made.endings) (get_or p.blocks k new_status_block).tail
     × TellsMark made.state (last_end pid (k + 1) made.endings) (get_or p.blocks k new_status_block).status
 told s made returning pid k p is within =
     let blocks : status_blocks_of made.state.processes pid ≡ p.blocks = blocks_are made.state.processes pid p is in
@@ -471,8 +476,10 @@ told s made returning pid k p is within =
     subst (λ (n : ℕ). k < n) (returning.blocks.many pid) (subst (λ (all : List Block). k < length all) (sym blocks) within) in
     let by = returning.blocks.each pid k there in
     subst (λ (all : List Block). TellsValue made.state (last_return pid (k + 1) made.endings) (get_or all k new_status_block).value
+    × TellsTail made.state (last_wide_return pid (k + 1) made.endings) (get_or all k new_status_block).tail
     × TellsMark made.state (last_end pid (k + 1) made.endings) (get_or all k new_status_block).status) blocks (
       tells_value made.state (last_return pid (k + 1) made.endings) _ _ by.value,
+      tells_tail made.state (last_wide_return pid (k + 1) made.endings) _ _ by.tail,
       tells_mark made.state (last_end pid (k + 1) made.endings) _ _ by.status,
     )
 
@@ -483,7 +490,8 @@ returned_always history old run step choice chosen =
     record {
       acts = All-from_recursion (Acts old) (stepped old step choice).endings all.acts;
       values = λ pid k p is within. (told old (stepped old step choice) all pid k p is within).0;
-      marks = λ pid k p is within. (told old (stepped old step choice) all pid k p is within).1;
+      tails = λ pid k p is within. (told old (stepped old step choice) all pid k p is within).1;
+      marks = λ pid k p is within. (told old (stepped old step choice) all pid k p is within).2;
     }
   where
     of_refusal : (refusal : Option Cond) → step_refusal old step ≡ refusal → IsReturning old (refused_or refusal old (step_change old step choice))

@@ -1,100 +1,130 @@
 -- What grants return to status blocks.
-use Rattle.std.proofs.Common.{◌≡◌, ℕ, Bool, true, false, List, [], ◌∷◌, ◌++◌, cond, Option, None, Some, refl, sym, subst, ap, ◌∙◌}
+use Rattle.std.proofs.Common.{◌≡◌, ℕ, Bool, true, false, List, [], ◌∷◌, ◌++◌, cond, not, Option, None, Some, refl, sym, subst, ap, ◌∙◌}
 use Rattle.std.specs.Prelude.{◌&&◌}
 use Rattle.std.specs.List.{AllByRecursion}
 use Rattle.vlm_words.specs.declared.blocks.Block.{Block}
-use Rattle.vlm_words.specs.declared.conditions.Cond.TheVariants.{Normal, Valnotvalid}
+use Rattle.vlm_words.specs.declared.conditions.Cond.TheVariants.{Normal, Valnotvalid, Widenotvalid}
 use Rattle.vlm_words.specs.declared.modes.Act.TheVariants.{Nothing, Return, Write}
 use Rattle.vlm_words.specs.declared.resources.ValueBlock.{ValueBlock}
 use Rattle.vlm_words.specs.Conditions.{condition_number}
-use Rattle.vlm_words.specs.ValueBlocks.{return_status}
 use Rattle.vlm_words.specs.State.{Process, Resource}
 use Rattle.vlm_words.specs.Endings.{Ending, How}
 use Rattle.vlm_words.specs.Endings.How.{by_abort, by_cancel, by_deadlock, by_grant, by_rundown}
-use Rattle.vlm_words.specs.Effects.{Blocks, blocks_after, blocks_after_ending, blocks_with}
+use Rattle.vlm_words.specs.Effects.{Blocks, blocks_after, blocks_after_ending, blocks_with, is_wide}
 use Rattle.vlm_words.specs.Grants.{service}
 use Rattle.vlm_words.specs.Sweeps.{blocks_after_service, processes_after_service, sweep_endings}
 use Rattle.vlm_words.specs.Written.{is_end_for, last_end, later_end}
-use Rattle.vlm_words.specs.Returned.{is_return, last_return}
+use Rattle.vlm_words.specs.Returned.{is_return, is_wide_return, last_of_kind, last_return, last_wide_return, told_by_marks}
 use Rattle.vlm_words.proofs.SweptValues.{WritesNothing, end_leaves}
 use Rattle.vlm_words.proofs.Each.{each_weaker}
 use Rattle.vlm_words.proofs.EndWrites.{AreLeft, ServiceLeaves, block_after_how, left_by_both, left_by_none, left_by_one, left_swept, left_with_asts}
 use Rattle.vlm_words.proofs.Writing.{last_of_both, later_end-none, later_end-twice}
 use Rattle.vlm_words.specs.Asts.{warnings}
 
--- the number of the status that goes with a mark
-abbrev pub mark_number : Bool → ℕ
-mark_number valid = condition_number (cond valid Normal Valnotvalid)
-
 module _ (P : Ending → ValueBlock → Type 0) where
-  -- what the last return makes of a value part
+  -- what the last return makes of a part of the status block
+  abbrev pub PartBy : (ValueBlock → List ℕ) → Option Ending → List ℕ → List ℕ → Type 0
+  PartBy part None before after = after ≡ before
+  PartBy part (Some ending) before after = (block : ValueBlock) × P ending block × (after ≡ part block)
+
+  -- of its value part
   abbrev pub ValueBy : Option Ending → List ℕ → List ℕ → Type 0
-  ValueBy None before after = after ≡ before
-  ValueBy (Some ending) before after = (block : ValueBlock) × P ending block × (after ≡ block.value)
+  ValueBy = PartBy (λ block. block.value)
+
+  -- of its tail
+  abbrev pub TailBy : Option Ending → List ℕ → List ℕ → Type 0
+  TailBy = PartBy (λ block. block.tail)
 
   -- what the last end makes of a status, where it is a return
   abbrev pub StatusBy : Option Ending → ℕ → ℕ → Type 0
   StatusBy None before after = after ≡ before
-  StatusBy (Some ending) before after = ending.how ≡ by_grant Return → (block : ValueBlock) × P ending block × (after ≡ mark_number block.valid)
+  StatusBy (Some ending) before after = ending.how ≡ by_grant Return → (block : ValueBlock) × P ending block
+      × (after ≡ condition_number (told_by_marks (is_wide ending.request) block.valid block.tail_valid))
 
   -- what ends make of a status block
   pub record ReturnsTo (pid number : ℕ) (endings : List Ending) (before after : Block) : Type 0 where
     pub value : ValueBy (last_return pid number endings) before.value after.value
+    pub tail : TailBy (last_wide_return pid number endings) before.tail after.tail
     pub status : StatusBy (last_end pid number endings) before.status after.status
 
   -- ---- one end
 
   returns_nothing : (pid number : ℕ) (block : Block) → ReturnsTo pid number [] block block
-  returns_nothing pid number block = record { value = refl; status = refl }
+  returns_nothing pid number block = record { value = refl; tail = refl; status = refl }
 
   -- what it makes of its own block
-  own_value : (ending : Ending) (how : How) (block : ValueBlock) (before : Block) → (how ≡ by_grant Return → P ending block)
-      → ValueBy (cond (is_return how) (Some ending) None) before.value (block_after_how how block before).value
-  own_value ending (by_grant Nothing) block before its = refl
-  own_value ending (by_grant Return) block before its = (block, its refl, refl)
-  own_value ending (by_grant Write) block before its = refl
-  own_value ending by_abort block before its = refl
-  own_value ending by_cancel block before its = refl
-  own_value ending by_deadlock block before its = refl
-  own_value ending by_rundown block before its = refl
+  own_value : (ending : Ending) (how : How) (wide : Bool) (block : ValueBlock) (before : Block) → (how ≡ by_grant Return → P ending block)
+      → ValueBy (cond (is_return how) (Some ending) None) before.value (block_after_how how wide block before).value
+  own_value ending (by_grant Nothing) wide block before its = refl
+  own_value ending (by_grant Return) wide block before its = (block, its refl, refl)
+  own_value ending (by_grant Write) wide block before its = refl
+  own_value ending by_abort wide block before its = refl
+  own_value ending by_cancel wide block before its = refl
+  own_value ending by_deadlock wide block before its = refl
+  own_value ending by_rundown wide block before its = refl
 
-  own_status : (ending : Ending) (how : How) (block : ValueBlock) (before : Block) → (how ≡ by_grant Return → P ending block) → how ≡ by_grant Return
-      → (b : ValueBlock) × P ending b × ((block_after_how how block before).status ≡ mark_number b.valid)
-  own_status ending (by_grant Nothing) block before its is = cc
-  own_status ending (by_grant Return) block before its is = (block, its refl, of_mark block.valid)
+  own_tail : (ending : Ending) (how : How) (wide : Bool) (block : ValueBlock) (before : Block) → (how ≡ by_grant Return → P ending block)
+      → TailBy (cond (is_return how && wide) (Some ending) None) before.tail (block_after_how how wide block before).tail
+  own_tail ending (by_grant Nothing) wide block before its = refl
+  own_tail ending (by_grant Return) true block before its = (block, its refl, refl)
+  own_tail ending (by_grant Return) false block before its = refl
+  own_tail ending (by_grant Write) wide block before its = refl
+  own_tail ending by_abort wide block before its = refl
+  own_tail ending by_cancel wide block before its = refl
+  own_tail ending by_deadlock wide block before its = refl
+  own_tail ending by_rundown wide block before its = refl
+
+  own_status : (ending : Ending) (how : How) (wide : Bool) (block : ValueBlock) (before : Block) → (how ≡ by_grant Return → P ending block)
+      → how ≡ by_grant Return
+      → (b : ValueBlock) × P ending b × ((block_after_how how wide block before).status ≡ condition_number (told_by_marks wide b.valid b.tail_valid))
+  own_status ending (by_grant Nothing) wide block before its is = cc
+  own_status ending (by_grant Return) wide block before its is = (block, its refl, of_marks block.valid wide block.tail_valid)
     where
-      of_mark : (valid : Bool) → condition_number (return_status valid) ≡ mark_number valid
-      of_mark true = refl
-      of_mark false = refl
-  own_status ending (by_grant Write) block before its is = cc
-  own_status ending by_abort block before its is = cc
-  own_status ending by_cancel block before its is = cc
-  own_status ending by_deadlock block before its is = cc
-  own_status ending by_rundown block before its is = cc
+      of_marks : (valid wide tail_valid : Bool)
+          → condition_number (cond (not valid) Valnotvalid (cond (wide && not tail_valid) Widenotvalid Normal)) ≡ condition_number (told_by_marks wide valid tail_valid)
+      of_marks false wide tail_valid = refl
+      of_marks true true false = refl
+      of_marks true true true = refl
+      of_marks true false tail_valid = refl
+  own_status ending (by_grant Write) wide block before its is = cc
+  own_status ending by_abort wide block before its is = cc
+  own_status ending by_cancel wide block before its is = cc
+  own_status ending by_deadlock wide block before its is = cc
+  own_status ending by_rundown wide block before its is = cc
 
   returns_one : (pid number : ℕ) (ending : Ending) (block : ValueBlock) (before : Block) → (ending.how ≡ by_grant Return → P ending block)
-      → ReturnsTo pid number (ending ∷ []) before (cond (is_end_for pid number ending) (block_after_how ending.how block before) before)
+      → ReturnsTo pid number (ending ∷ []) before (cond (is_end_for pid number ending) (block_after_how ending.how (is_wide ending.request) block before) before)
   returns_one pid number ending block before its = of_test (is_end_for pid number ending) refl
     where
-      of_test : (this : Bool) → is_end_for pid number ending ≡ this → ReturnsTo pid number (ending ∷ []) before (cond this (block_after_how ending.how block before) before)
+      of_test : (this : Bool) → is_end_for pid number ending ≡ this → ReturnsTo pid number (ending ∷ []) before (cond this (block_after_how ending.how (is_wide ending.request) block before) before)
       of_test true is = record {
-        value = rw is (own_value ending ending.how block before its);
-        status = rw is (own_status ending ending.how block before its);
+        value = rw is (own_value ending ending.how (is_wide ending.request) block before its);
+        tail = rw is (own_tail ending ending.how (is_wide ending.request) block before its);
+        status = rw is (own_status ending ending.how (is_wide ending.request) block before its);
       }
-      of_test false is = record { value = rw is refl; status = rw is refl }
+      of_test false is = record { value = rw is refl; tail = rw is refl; status = rw is refl }
 
   -- ---- one after another
 
-  last_return_of_both : (pid number : ℕ) (first second : List Ending)
-      → last_return pid number (first ++ second) ≡ later_end (last_return pid number second) (last_return pid number first)
-  last_return_of_both pid number [] second = later_end-none (last_return pid number second)
-  last_return_of_both pid number (ending ∷ first) second =
-      ap (λ (last : Option Ending). later_end last (cond (is_end_for pid number ending && is_return ending.how) (Some ending) None)) (last_return_of_both pid number first second)
-      ∙ later_end-twice (last_return pid number second) (last_return pid number first) (cond (is_end_for pid number ending && is_return ending.how) (Some ending) None)
+  last_of_both_lists : (is_one : Ending → Bool) (pid number : ℕ) (first second : List Ending)
+      → last_of_kind is_one pid number (first ++ second) ≡ later_end (last_of_kind is_one pid number second) (last_of_kind is_one pid number first)
+  last_of_both_lists is_one pid number [] second = later_end-none (last_of_kind is_one pid number second)
+  last_of_both_lists is_one pid number (ending ∷ first) second =
+      ap (λ (last : Option Ending). later_end last (cond (is_end_for pid number ending && is_one ending) (Some ending) None)) (last_of_both_lists is_one pid number first second)
+      ∙ later_end-twice (last_of_kind is_one pid number second) (last_of_kind is_one pid number first)
+      (cond (is_end_for pid number ending && is_one ending) (Some ending) None)
 
-  value_by_both : (first second : Option Ending) (a b c : List ℕ) → ValueBy first a b → ValueBy second b c → ValueBy (later_end second first) a c
-  value_by_both first None a b c one other = subst (λ (value : List ℕ). ValueBy first a value) (sym other) one
-  value_by_both first (Some ending) a b c one other = other
+  part_by_both : (part : ValueBlock → List ℕ) (first second : Option Ending) (a b c : List ℕ) → PartBy part first a b → PartBy part second b c
+      → PartBy part (later_end second first) a c
+  part_by_both part first None a b c one other = subst (λ (bytes : List ℕ). PartBy part first a bytes) (sym other) one
+  part_by_both part first (Some ending) a b c one other = other
+
+  part_of_both : (part : ValueBlock → List ℕ) (is_one : Ending → Bool) (pid number : ℕ) (first second : List Ending) (a b c : List ℕ)
+      → PartBy part (last_of_kind is_one pid number first) a b → PartBy part (last_of_kind is_one pid number second) b c
+      → PartBy part (last_of_kind is_one pid number (first ++ second)) a c
+  part_of_both part is_one pid number first second a b c one other =
+      subst (λ (last : Option Ending). PartBy part last a c) (sym (last_of_both_lists is_one pid number first second))
+      (part_by_both part (last_of_kind is_one pid number first) (last_of_kind is_one pid number second) a b c one other)
 
   status_by_both : (first second : Option Ending) (a b c : ℕ) → StatusBy first a b → StatusBy second b c → StatusBy (later_end second first) a c
   status_by_both first None a b c one other = subst (λ (status : ℕ). StatusBy first a status) (sym other) one
@@ -103,9 +133,8 @@ module _ (P : Ending → ValueBlock → Type 0) where
   returns_both : (pid number : ℕ) (first second : List Ending) (a b c : Block) → ReturnsTo pid number first a b → ReturnsTo pid number second b c
       → ReturnsTo pid number (first ++ second) a c
   returns_both pid number first second a b c one other = record {
-    value =
-        subst (λ (last : Option Ending). ValueBy last a.value c.value) (sym (last_return_of_both pid number first second))
-        (value_by_both (last_return pid number first) (last_return pid number second) a.value b.value c.value one.value other.value);
+    value = part_of_both (λ block. block.value) (λ ending. is_return ending.how) pid number first second a.value b.value c.value one.value other.value;
+    tail = part_of_both (λ block. block.tail) is_wide_return pid number first second a.tail b.tail c.tail one.tail other.tail;
     status =
         subst (λ (last : Option Ending). StatusBy last a.status c.status) (sym (last_of_both pid number first second))
         (status_by_both (last_end pid number first) (last_end pid number second) a.status b.status c.status one.status other.status);

@@ -178,7 +178,7 @@ takes s (Declare d) choice passed =
     leaves s (Declare d) (step_change s (Declare d) choice) (λ pid asts. refl) (declaring_leaves s d)
 takes s (SetValue v) choice passed =
     leaves s (SetValue v) (step_change s (SetValue v) choice) (λ pid asts. refl)
-    (none_queued s.processes (set_change s v).processes (kept_set pending (λ _ _. refl) v.pid v.block v.value s.processes))
+    (none_queued s.processes (set_change s v).processes (kept_set pending (λ _ _. refl) v.pid v.block v.value v.tail s.processes))
 takes s (Enq e) choice passed = leaves s (Enq e) (step_change s (Enq e) choice) (λ pid asts. refl) (request_queues s e)
 takes s (Convert c) choice passed =
     let admitted = admission_of s c passed in

@@ -1,6 +1,6 @@
 -- Only writers change value blocks.
 use Rattle.std.proofs.Common.{◌≡◌, ◌⊎◌, ◌-◌, ◌+◌, ℕ, Bool, true, false, not, List, [], ◌∷◌, ◌++◌, map, length, get_or, cond, Option, None, Some, refl, sym, subst, ap, inl, inr, ◌∙◌, arith}
-use Rattle.std.specs.Prelude.{◌==◌, ◌≢◌, ◌&&◌, ◌||◌, Any, is_some, unwrap_or, ◌/◌, ⊤}
+use Rattle.std.specs.Prelude.{◌==◌, ◌≢◌, ◌&&◌, Any, ◌/◌, ⊤}
 use Rattle.std.specs.List.{AllByRecursion, find, list_any}
 use Rattle.std.proofs.lemmas.Bool.{and_from, and_parts, cases_lt, cond_both, eq-eqb, eqb-true, or_cases}
 use Rattle.std.proofs.lemmas.List.{get_or_past}
@@ -20,13 +20,13 @@ use Rattle.vlm_words.specs.declared.steps.Dequeue.{Dequeue}
 use Rattle.vlm_words.specs.declared.steps.NewRequest.{NewRequest}
 use Rattle.vlm_words.specs.declared.steps.Step.TheVariants.{Declare, SetValue, Enq, Convert, Deq, Rundown, Leave, Search, Take}
 use Rattle.vlm_words.specs.declared.steps.Step.{Step}
-use Rattle.vlm_words.specs.Flags.{cancel, has_flag, invvalblk, valblk, deqall}
+use Rattle.vlm_words.specs.Flags.{cancel, has_flag, invvalblk, valblk, wide, deqall}
 use Rattle.vlm_words.specs.Modes.{is_writing, value_action}
 use Rattle.vlm_words.specs.State.{Process, Resource, State, process_of, Node}
 use Rattle.vlm_words.specs.StatusBlocks.{new_status_block, processes_after_acceptance, status_block_of, status_blocks_of}
 use Rattle.vlm_words.specs.Endings.How.{by_grant}
-use Rattle.vlm_words.specs.ValueBlocks.{written_value_block}
-use Rattle.vlm_words.specs.Effects.{blocks_after, blocks_after_grant, blocks_after_writing, blocks_with}
+use Rattle.vlm_words.specs.ValueBlocks.{invalid_value_block, value_block_written_from}
+use Rattle.vlm_words.specs.Effects.{blocks_after, blocks_after_grant, blocks_after_writing, blocks_with, is_wide}
 use Rattle.vlm_words.specs.Grants.{grant_act, grant_endings, resource_after_grant}
 use Rattle.vlm_words.specs.Rows.{is_lock_of}
 use Rattle.vlm_words.specs.Resources.{is_at, new_resource}
@@ -37,17 +37,17 @@ use Rattle.vlm_words.specs.Take.{take_change}
 use Rattle.vlm_words.specs.Trees.{enq_site}
 use Rattle.vlm_words.specs.Enqueue.{enq_at_once, enq_change, enq_row, resource_after_entry}
 use Rattle.vlm_words.specs.Convert.{ConversionAdmission, conversion_endings, convert_admission, convert_blocks, convert_change, convert_lkid, convert_refusal, convert_request, resource_after_conversion, resource_after_conversion_of, wanting_row}
-use Rattle.vlm_words.specs.Withdrawals.{Withdrawal, has_writer, is_held_by_writer, is_writer, resource_after_cancel, resource_after_going, resource_after_withdrawals, resource_after_writer, resource_without, value_block_after_writer, resource_after_each}
+use Rattle.vlm_words.specs.Withdrawals.{Withdrawal, has_writer, is_held_by_writer, is_writer, resource_after_cancel, resource_after_going, resource_after_withdrawals, resource_after_writer, resource_without, value_block_after_gift, value_block_after_writer, resource_after_each}
 use Rattle.vlm_words.specs.Dequeue.{deq_change, dequeue_lkid, withdrawal_of, withdrawals_of, deq_refusal, dequeued_lkids}
 use Rattle.vlm_words.specs.Runs.{History, Run}
 use Rattle.vlm_words.specs.Stepped.{IsChoice, Stepped, conversion_change, refused_or, step_change, step_refusal, stepped, stepped_after_sweep}
 use Rattle.vlm_words.specs.Laws.{Stands, action_from}
-use Rattle.vlm_words.specs.Writers.{HasItsValue, HasNewValue, IsWrittenValue, IsWriter, LeavesValue, OnlyWritersChangeValues, WritesFrom, WritesValue, HasWriterOf, IsHeldByWriter}
+use Rattle.vlm_words.specs.Writers.{HasItsValue, HasNewValue, IsWrittenValue, IsWriter, LeavesValue, OnlyWritersChangeValues, WritesFrom, WritesValue, HasWriterOf, IsHeldByWriter, IsWrittenFrom}
 use Rattle.vlm_words.proofs.Admissions.{admitted_request, found_lkid}
 use Rattle.vlm_words.proofs.Always.{admission_of}
 use Rattle.vlm_words.proofs.Apart.{Apart, apart_always}
 use Rattle.vlm_words.proofs.AtOnce.{only_there}
-use Rattle.vlm_words.proofs.Each.{Any-behind, Any-cases, Any-none, Any-weaker, any_left, each_filter, each_map, each_weaker, found_at, each_member, Any-here, each_so}
+use Rattle.vlm_words.proofs.Each.{Any-behind, Any-cases, Any-none, Any-weaker, any_left, each_filter, each_map, each_weaker, found_at, each_member, Any-here, each_so, each_there}
 use Rattle.vlm_words.proofs.EachResource.{each_entered_at}
 use Rattle.vlm_words.proofs.HeldModes.{HoldersAgree, holders_agree_always}
 use Rattle.vlm_words.proofs.Keys.{Placed, WasGiven, conversion_keeps_place, entry_keeps_place, placed_always, withdrawals_keep_place}
@@ -61,7 +61,7 @@ use Rattle.vlm_words.proofs.EndWrites.{block_at, block_numbered, block_written, 
 use Rattle.vlm_words.specs.OwnLocks.{own_lkids}
 use Rattle.vlm_words.specs.Rundown.{is_ended_by, is_of_node, nodes_after_departure, rundown_of, rundowns, state_after_rundown}
 use Rattle.vlm_words.proofs.LeftValues.{IsPlain, LeftTogether, left_together, lkids_of_writers, writer_found, writer_of}
-use Rattle.vlm_words.proofs.Passed.{flags_go_together, no_value_goes}
+use Rattle.vlm_words.proofs.Passed.{flags_go_together, given_none, no_value_goes}
 use Rattle.vlm_words.specs.Search.{victim_withdrawals, search_change, deadlock_of}
 
 -- ---- what is so of a resource
@@ -84,6 +84,8 @@ has_same s step r t serial value (inr new) =
       made = λ k d within is. new.made k d within (is ∙ serial);
       zeros = ap (λ (block : ValueBlock). block.value) value ∙ new.zeros;
       valid = ap (λ (block : ValueBlock). block.valid) value ∙ new.valid;
+      tail_zeros = ap (λ (block : ValueBlock). block.tail) value ∙ new.tail_zeros;
+      tail_valid = ap (λ (block : ValueBlock). block.tail_valid) value ∙ new.tail_valid;
     })
 
 -- a sweep leaves it so
@@ -119,7 +121,7 @@ idle_has s step none =
 -- ---- a new request
 
 -- an entry leaves the value block
-entry_leaves : (row : Row) (at_once : Bool) (r : Resource) → (resource_after_entry row at_once r).value_block ≡ r.value_block
+pub entry_leaves : (row : Row) (at_once : Bool) (r : Resource) → (resource_after_entry row at_once r).value_block ≡ r.value_block
 unfolding resource_after_entry
 entry_leaves row at_once r =
     cond_both at_once (resource_after_grant r row) (record r { waiting = r.waiting ++ row ∷ [] }) (λ after. after.value_block ≡ r.value_block) (λ _. refl) (λ _. refl)
@@ -143,6 +145,8 @@ request_has s e placed =
           (all_older s.next_serial s.resources placed.given));
       zeros = ap (λ (block : ValueBlock). block.value) (entry_leaves row now (new_resource s.next_serial (enq_site s e)));
       valid = ap (λ (block : ValueBlock). block.valid) (entry_leaves row now (new_resource s.next_serial (enq_site s e)));
+      tail_zeros = ap (λ (block : ValueBlock). block.tail) (entry_leaves row now (new_resource s.next_serial (enq_site s e)));
+      tail_valid = ap (λ (block : ValueBlock). block.tail_valid) (entry_leaves row now (new_resource s.next_serial (enq_site s e)));
     }))
     s.resources
     (each_weaker (Has s (Enq e)) (λ r. is_at (enq_site s e).key r ≡ true → Has s (Enq e) (resource_after_entry row now r))
@@ -192,7 +196,7 @@ writer_holds lkid r held =
         (Any-from_list_any (λ row. (row.lkid == lkid) && is_writer row.held) rows some)
 
 -- a lock that goes or stays leaves the value block
-going_leaves : (w : Withdrawal) (r : Resource) → (resource_after_going w r).value_block ≡ r.value_block
+pub going_leaves : (w : Withdrawal) (r : Resource) → (resource_after_going w r).value_block ≡ r.value_block
 unfolding resource_without resource_after_cancel
 going_leaves w r =
     cond_both w.stays (resource_after_cancel w.lkid r) (resource_without w.lkid r) (λ after. after.value_block ≡ r.value_block) (λ _. refl) (λ _. refl)
@@ -205,25 +209,32 @@ withdrawn_value w r =
     (λ left. (cond (is_held_by_writer w.lkid r) (record r { value_block = value_block_after_writer w r.value_block }) r).value_block ≡ (cond (is_held_by_writer w.lkid r) (value_block_after_writer w r.value_block) r.value_block)) (λ is. rw is refl) (λ is. rw is refl)
 
 -- what a dequeue leaves, and that a cancel leaves nothing
-left_by_dequeue : (value : Option (List ℕ)) (invalidates cancels : Bool) (block : ValueBlock) → cancels ≡ false
-    → LeavesValue value invalidates block (record block {
-      value = unwrap_or (cond cancels None value) block.value;
-      valid = not (invalidates && not cancels) && (is_some (cond cancels None value) || block.valid);
-    })
-left_by_dequeue value invalidates true block is = cc
-left_by_dequeue (Some value) true false block is = (refl, refl)
-left_by_dequeue (Some value) false false block is = (refl, refl)
-left_by_dequeue None true false block is = (refl, refl)
-left_by_dequeue None false false block is = refl
+abbrev left_value : Option (List ℕ) → Option (List ℕ) → Bool → Bool → ValueBlock → ValueBlock
+left_value value tail invalidates cancels block =
+    let given : ValueBlock = value_block_after_gift (cond cancels None value) (cond cancels None tail) block in
+    cond (invalidates && not cancels) (invalid_value_block given) given
 
-left_by_cancel : (value : Option (List ℕ)) (invalidates cancels : Bool) (block : ValueBlock) → cancels ≡ true
-    → record block {
-      value = unwrap_or (cond cancels None value) block.value;
-      valid = not (invalidates && not cancels) && (is_some (cond cancels None value) || block.valid);
-    } ≡ block
-left_by_cancel value true true block is = refl
-left_by_cancel value false true block is = refl
-left_by_cancel value invalidates false block is = cc
+left_by_dequeue : (value tail : Option (List ℕ)) (invalidates cancels : Bool) (block : ValueBlock) → cancels ≡ false
+    → LeavesValue value tail invalidates block (left_value value tail invalidates cancels block)
+left_by_dequeue value tail invalidates true block is = cc
+left_by_dequeue (Some value) (Some tail) true false block is = record { value = refl; valid = refl; tail = refl; tail_valid = refl }
+left_by_dequeue (Some value) (Some tail) false false block is = record { value = refl; valid = refl; tail = refl; tail_valid = refl }
+left_by_dequeue (Some value) None true false block is = record { value = refl; valid = refl; tail = refl; tail_valid = refl }
+left_by_dequeue (Some value) None false false block is = record { value = refl; valid = refl; tail = refl; tail_valid = refl }
+left_by_dequeue None tail true false block is = record { value = refl; valid = refl; tail = refl; tail_valid = refl }
+left_by_dequeue None tail false false block is = refl
+
+left_by_cancel : (value tail : Option (List ℕ)) (invalidates cancels : Bool) (block : ValueBlock) → cancels ≡ true
+    → left_value value tail invalidates cancels block ≡ block
+left_by_cancel value tail true true block is = refl
+left_by_cancel value tail false true block is = refl
+left_by_cancel value tail invalidates false block is = cc
+
+-- without a value the tail that is given says nothing
+left_whichever : (tail : Option (List ℕ)) (invalidates : Bool) (before after : ValueBlock) → LeavesValue None None invalidates before after
+    → LeavesValue None tail invalidates before after
+left_whichever tail true before after left = left
+left_whichever tail false before after left = left
 
 -- a dequeue of one lock
 one_has_its : (s : State) (d : Dequeue) (lkid : ℕ) → dequeued_lkids s d ≡ lkid ∷ [] → (r : Resource)
@@ -231,11 +242,11 @@ one_has_its : (s : State) (d : Dequeue) (lkid : ℕ) → dequeued_lkids s d ≡ 
 one_has_its s d lkid one r = record {
   serial = (withdrawals_keep_place (withdrawal_of d lkid ∷ []) r).serial;
   written = λ writes.
-      subst (LeavesValue d.value (has_flag d.flags invvalblk) r.value_block)
+      subst (LeavesValue d.value d.tail (has_flag d.flags invvalblk) r.value_block)
       (sym (withdrawn_value (withdrawal_of d lkid) r
       ∙ ap (λ (held : Bool). cond held (value_block_after_writer (withdrawal_of d lkid) r.value_block) r.value_block)
       (held_by_writer lkid r (only (subst (Any (IsHeldByWriter r)) one writes.1)))))
-      (left_by_dequeue d.value (has_flag d.flags invvalblk) (has_flag d.flags cancel) r.value_block writes.0);
+      (left_by_dequeue d.value d.tail (has_flag d.flags invvalblk) (has_flag d.flags cancel) r.value_block writes.0);
   kept = λ none. withdrawn_value (withdrawal_of d lkid) r ∙ of_tests none (is_held_by_writer lkid r) refl (has_flag d.flags cancel) refl;
 }
   where
@@ -248,7 +259,7 @@ one_has_its s d lkid one r = record {
     of_tests : (WritesValue s (Deq d) r → ⊥) → (held : Bool) → is_held_by_writer lkid r ≡ held → (cancels : Bool) → has_flag d.flags cancel ≡ cancels
         → cond held (value_block_after_writer (withdrawal_of d lkid) r.value_block) r.value_block ≡ r.value_block
     of_tests none false holds cancels is = refl
-    of_tests none true holds true is = left_by_cancel d.value (has_flag d.flags invvalblk) (has_flag d.flags cancel) r.value_block is
+    of_tests none true holds true is = left_by_cancel d.value d.tail (has_flag d.flags invvalblk) (has_flag d.flags cancel) r.value_block is
     of_tests none true holds false is =
         absurd (none (is, subst (Any (IsHeldByWriter r)) (sym one) (Any-here (IsHeldByWriter r) lkid [] (writer_holds lkid r holds))))
 
@@ -272,7 +283,7 @@ all_going_leave (w ∷ withdrawals) r = all_going_leave withdrawals (resource_af
 together_has_its : (s : State) (step : Step) (invalidates : Bool) (withdrawals : List Withdrawal) → AllByRecursion (IsPlain invalidates) withdrawals
     → (r : Resource) → (WritesValue s step r → list_any (λ w. is_held_by_writer w.lkid r) withdrawals ≡ true)
     → (list_any (λ w. is_held_by_writer w.lkid r) withdrawals ≡ true → WritesValue s step r)
-    → ((after : ValueBlock) → LeavesValue None invalidates r.value_block after → IsWrittenValue s step r.value_block after)
+    → ((after : ValueBlock) → LeavesValue None None invalidates r.value_block after → IsWrittenValue s step r.value_block after)
     → HasItsValue s step r (resource_after_withdrawals withdrawals r)
 together_has_its s step invalidates withdrawals plain r by_law by_test written = record {
   serial = (withdrawals_keep_place withdrawals r).serial;
@@ -294,10 +305,6 @@ together_has_its s step invalidates withdrawals plain r by_law by_test written =
     of_test none false is = all.kept is
 
 -- a dequeue of several locks gives no value
-given_none : (value : Option (List ℕ)) → is_some value ≡ false → value ≡ None
-given_none None is = refl
-given_none (Some value) is = cc
-
 several_have_its : (s : State) (d : Dequeue) → has_flag d.flags cancel ≡ false → d.value ≡ None → (r : Resource)
     → HasItsValue s (Deq d) r (resource_after_withdrawals (withdrawals_of s d) r)
 several_have_its s d plain none r =
@@ -307,7 +314,8 @@ several_have_its s d plain none r =
     r
     (λ writes. lkids_of_writers (withdrawal_of d) (λ lkid. refl) (dequeued_lkids s d) r ∙ holds_some r (dequeued_lkids s d) writes.1)
     (λ some. (plain, some_holds r (dequeued_lkids s d) (sym (lkids_of_writers (withdrawal_of d) (λ lkid. refl) (dequeued_lkids s d) r) ∙ some)))
-    (λ after left. subst (λ (value : Option (List ℕ)). LeavesValue value (has_flag d.flags invvalblk) r.value_block after) (sym none) left)
+    (λ after left. subst (λ (value : Option (List ℕ)). LeavesValue value d.tail (has_flag d.flags invvalblk) r.value_block after) (sym none)
+    (left_whichever d.tail (has_flag d.flags invvalblk) r.value_block after left))
   where
     marks : (b : Bool) → (b && true) ≡ b
     marks true = refl
@@ -329,7 +337,7 @@ dequeue_has_its s d passed r = of_flag (has_flag d.flags deqall) refl
 ending_has_its : (s : State) (step : Step) (is_one : ℕ → Bool) → Apart s
     → ((r : Resource) → WritesValue s step r → HasWriterOf (λ owner. is_one owner ≡ true) r)
     → ((r : Resource) → HasWriterOf (λ owner. is_one owner ≡ true) r → WritesValue s step r)
-    → ((before after : ValueBlock) → LeavesValue None true before after → IsWrittenValue s step before after)
+    → ((before after : ValueBlock) → LeavesValue None None true before after → IsWrittenValue s step before after)
     → (r : Resource) → Any (λ x. r ≡ x) s.resources → HasItsValue s step r (resource_after_withdrawals (rundowns is_one s) r)
 ending_has_its s step is_one apart by_law by_test written r among =
     together_has_its s step true (rundowns is_one s)
@@ -344,7 +352,7 @@ ending_has_its s step is_one apart by_law by_test written r among =
 ending_has : (s : State) (step : Step) (is_one : ℕ → Bool) (nodes : List Node) → Apart s
     → ((r : Resource) → WritesValue s step r → HasWriterOf (λ owner. is_one owner ≡ true) r)
     → ((r : Resource) → HasWriterOf (λ owner. is_one owner ≡ true) r → WritesValue s step r)
-    → ((before after : ValueBlock) → LeavesValue None true before after → IsWrittenValue s step before after)
+    → ((before after : ValueBlock) → LeavesValue None None true before after → IsWrittenValue s step before after)
     → AllByRecursion (Has s step) (state_after_rundown is_one nodes s).resources
 unfolding state_after_rundown
 ending_has s step is_one nodes apart by_law by_test written =
@@ -422,26 +430,21 @@ to_table : (held : Option Request) (mode : Mode) → WritesFrom held mode → ac
 to_table None mode from = absurd from
 to_table (Some held) mode from = table_so held.mode mode from
 
--- what holds of each element holds of one of them
-each_there : {X : Type 0} (P : X → Type 0) (xs : List X) (x : X) → AllByRecursion P xs → Any (λ y. x ≡ y) xs → P x
-each_there P [] x each there = absurd (Any-none (λ y. x ≡ y) there)
-each_there P (y ∷ ys) x each there =
-    elim (Any-cases (λ z. x ≡ z) y ys there) [ inl here ↦ subst P (sym here) each.0 | inr later ↦ each_there P ys x each.1 later ]
-
--- an accepted request leaves the value part of each status block
-accepted_leaves : (owner number lkid pid k : ℕ) (processes : List Process)
-    → (block_at (processes_after_acceptance owner number lkid processes) pid k).value ≡ (block_at processes pid k).value
+-- an accepted request leaves the value part of each status block, and its tail
+accepted_leaves : (part : Block → List ℕ) (owner number lkid pid k : ℕ) (processes : List Process)
+    → ((block : Block) → part (record block { status = 0; lkid = lkid }) ≡ part block)
+    → part (block_at (processes_after_acceptance owner number lkid processes) pid k) ≡ part (block_at processes pid k)
 unfolding processes_after_acceptance
-accepted_leaves owner number lkid pid k processes =
+accepted_leaves part owner number lkid pid k processes blind =
     elim (cases_lt k (length (status_blocks_of processes pid))) [
       | inl within ↦
-          ap (λ (block : Block). block.value) (block_written owner number (λ block. record block { status = 0; lkid = lkid }) processes pid k within)
+          ap part (block_written owner number (λ block. record block { status = 0; lkid = lkid }) processes pid k within)
           ∙ cond_both ((owner == pid) && (number == k + 1)) (record (block_at processes pid k) { status = 0; lkid = lkid }) (block_at processes pid k)
-          (λ block. block.value ≡ (block_at processes pid k).value) (λ _. refl) (λ _. refl)
+          (λ block. part block ≡ part (block_at processes pid k)) (λ _. blind (block_at processes pid k)) (λ _. refl)
       | inr past ↦
           (let many : length (status_blocks_of (processes_after_acceptance owner number lkid processes) pid) ≡ length (status_blocks_of processes pid) =
           many_written owner number pid _ processes in
-          ap (λ (block : Block). block.value)
+          ap part
           (get_or_past (status_blocks_of (processes_after_acceptance owner number lkid processes) pid) k new_status_block (omega (arith, many, past))
           ∙ sym (get_or_past (status_blocks_of processes pid) k new_status_block past)))
     ]
@@ -449,8 +452,8 @@ accepted_leaves owner number lkid pid k processes =
 -- the value block that a conversion leaves, where it is granted at once and writes
 written_value : (s : State) (c : Conversion) (a : ConversionAdmission) → a.at_once ≡ true → grant_act a.row.held (Some a.request) ≡ Write
     → (convert_blocks s c a).value_block
-    ≡ written_value_block a.resource.value_block
-    (status_block_of (processes_after_acceptance c.pid c.block (convert_lkid s c) s.processes) a.row.pid a.request.block)
+    ≡ value_block_written_from (is_wide a.request)
+    (status_block_of (processes_after_acceptance c.pid c.block (convert_lkid s c) s.processes) a.row.pid a.request.block) a.resource.value_block
 unfolding convert_blocks blocks_after_writing
 written_value s c a now writes =
     ap (λ (b : Bool).
@@ -468,6 +471,22 @@ kept_value s c a harmless =
     ends_leave (conversion_endings a) (blocks_with a.resource.value_block (processes_after_acceptance c.pid c.block (convert_lkid s c) s.processes))
     (cond_both a.at_once (grant_endings true (wanting_row a.row a.request)) [] (AllByRecursion WritesNothing)
     (λ _. grant_harmless true (wanting_row a.row a.request) harmless) (λ _. tt))
+
+-- what is written from a status block, said of one with the same bytes
+written_from : (wide : Bool) (from block : Block) (before after : ValueBlock) → after ≡ value_block_written_from wide from before → from.value ≡ block.value
+    → from.tail ≡ block.tail → IsWrittenFrom wide block before after
+written_from true from block before after is value tail = record {
+  value = ap (λ (b : ValueBlock). b.value) is ∙ value;
+  valid = ap (λ (b : ValueBlock). b.valid) is;
+  tail = ap (λ (b : ValueBlock). b.tail) is ∙ tail;
+  tail_valid = ap (λ (b : ValueBlock). b.tail_valid) is;
+}
+written_from false from block before after is value tail = record {
+  value = ap (λ (b : ValueBlock). b.value) is ∙ value;
+  valid = ap (λ (b : ValueBlock). b.valid) is;
+  tail = ap (λ (b : ValueBlock). b.tail) is;
+  tail_valid = ap (λ (b : ValueBlock). b.tail_valid) is;
+}
 
 -- the value block of the resource on which the lock is granted
 module _ (s : State) (c : Conversion) (a : ConversionAdmission) (agree : AllByRecursion HoldersAgree s.resources) (apart : Apart s)
@@ -511,19 +530,27 @@ module _ (s : State) (c : Conversion) (a : ConversionAdmission) (agree : AllByRe
       let parts = writes_by_table a.row.held (convert_request s c) (subst (λ (request : Request). grant_act a.row.held (Some request) ≡ Write) asks act) in
       (parts.0, from_table a.row.held c.mode parts.1)
 
+  -- a part of the status block that it writes from
+  part_written : (part : Block → List ℕ) → ((block : Block) → part (record block { status = 0; lkid = convert_lkid s c }) ≡ part block)
+      → (p : Process) → process_of s.processes c.pid ≡ Some p
+      → part (status_block_of (processes_after_acceptance c.pid c.block (convert_lkid s c) s.processes) a.row.pid a.request.block)
+      ≡ part (get_or p.blocks (c.block - 1) new_status_block)
+  part_written part blind p lives =
+      ap (λ (pid : ℕ). part (status_block_of (processes_after_acceptance c.pid c.block (convert_lkid s c) s.processes) pid a.request.block)) its_pid
+      ∙ ap (λ (request : Request). part (status_block_of (processes_after_acceptance c.pid c.block (convert_lkid s c) s.processes) c.pid request.block)) asks
+      ∙ ap part (block_numbered (processes_after_acceptance c.pid c.block (convert_lkid s c) s.processes) c.pid c.block (conversion_names s c passed))
+      ∙ accepted_leaves part c.pid c.block (convert_lkid s c) c.pid (c.block - 1) s.processes blind
+      ∙ ap (λ (blocks : List Block). part (get_or blocks (c.block - 1) new_status_block)) (blocks_are s.processes c.pid p lives)
+
   -- what it writes
   written_so : (p : Process) → process_of s.processes c.pid ≡ Some p → a.at_once ≡ true → grant_act a.row.held (Some a.request) ≡ Write
-      → ((convert_blocks s c a).value_block.value ≡ (get_or p.blocks (c.block - 1) new_status_block).value) × ((convert_blocks s c a).value_block.valid ≡ true)
+      → IsWrittenFrom (has_flag c.flags wide) (get_or p.blocks (c.block - 1) new_status_block) a.resource.value_block (convert_blocks s c a).value_block
   written_so p lives now act =
-      let block = written_value s c a now act in (
-        ap (λ (b : ValueBlock). b.value) block
-            ∙ ap (λ (pid : ℕ). (status_block_of (processes_after_acceptance c.pid c.block (convert_lkid s c) s.processes) pid a.request.block).value) its_pid
-            ∙ ap (λ (request : Request). (status_block_of (processes_after_acceptance c.pid c.block (convert_lkid s c) s.processes) c.pid request.block).value) asks
-            ∙ ap (λ (block : Block). block.value) (block_numbered (processes_after_acceptance c.pid c.block (convert_lkid s c) s.processes) c.pid c.block (conversion_names s c passed))
-            ∙ accepted_leaves c.pid c.block (convert_lkid s c) c.pid (c.block - 1) s.processes
-            ∙ ap (λ (blocks : List Block). (get_or blocks (c.block - 1) new_status_block).value) (blocks_are s.processes c.pid p lives),
-        ap (λ (b : ValueBlock). b.valid) block,
-      )
+      subst (λ (request : Request). IsWrittenFrom (is_wide request) (get_or p.blocks (c.block - 1) new_status_block) a.resource.value_block (convert_blocks s c a).value_block)
+      asks
+      (written_from (is_wide a.request)
+      (status_block_of (processes_after_acceptance c.pid c.block (convert_lkid s c) s.processes) a.row.pid a.request.block) (get_or p.blocks (c.block - 1) new_status_block) a.resource.value_block (convert_blocks s c a).value_block
+      (written_value s c a now act) (part_written (λ block. block.value) (λ _. refl) p lives) (part_written (λ block. block.tail) (λ _. refl) p lives))
 
   -- a resource after the conversion
   abbrev after_conversion : Resource → Option Row → Resource
@@ -544,9 +571,10 @@ module _ (s : State) (c : Conversion) (a : ConversionAdmission) (agree : AllByRe
       only_one r member
       (Any-weaker (λ row. (row.lkid ≡ convert_lkid s c) × WritesFrom row.held c.mode) (λ row. row.lkid ≡ convert_lkid s c) (λ row so. so.0) r.granted writes.1) in
       let row : there ≡ Some a.row = sym is ∙ ap (λ (x : Resource). find (is_lock_of c.pid (convert_lkid s c)) x.granted) same ∙ found in
-      subst (λ (block : ValueBlock). (block.value ≡ (get_or p.blocks (c.block - 1) new_status_block).value) × (block.valid ≡ true))
+      subst (IsWrittenFrom (has_flag c.flags wide) (get_or p.blocks (c.block - 1) new_status_block) r.value_block)
       (sym (ap (λ (found : Option Row). (after_conversion r found).value_block) row ∙ at_once_value r a.row now))
-      (written_so p lives now (act_is (writes.0, from)))
+      (subst (λ (x : Resource). IsWrittenFrom (has_flag c.flags wide) (get_or p.blocks (c.block - 1) new_status_block) x.value_block (convert_blocks s c a).value_block)
+      (sym same) (written_so p lives now (act_is (writes.0, from))))
 
   kept_there : (r : Resource) → Any (λ x. r ≡ x) s.resources → (WritesValue s (Convert c) r → ⊥) → (there : Option Row)
       → find (is_lock_of c.pid (convert_lkid s c)) r.granted ≡ there → (now : Bool) → a.at_once ≡ now → (after_conversion r there).value_block ≡ r.value_block

@@ -1,17 +1,17 @@
 -- What writes of status blocks make of each status block.
-use Rattle.std.proofs.Common.{◌≡◌, ℕ, Bool, true, false, List, [], ◌∷◌, ◌++◌, cond, Option, None, Some, refl, sym, subst, ap, inl, inr, ◌∙◌}
+use Rattle.std.proofs.Common.{◌≡◌, ℕ, Bool, true, false, List, [], ◌∷◌, ◌++◌, cond, not, Option, None, Some, refl, sym, subst, ap, inl, inr, ◌∙◌}
 use Rattle.std.specs.Prelude.{◌==◌, ◌&&◌}
 use Rattle.std.specs.List.{AllByRecursion}
 use Rattle.std.proofs.lemmas.Bool.{eqb-true}
 use Rattle.vlm_words.specs.declared.blocks.Block.{Block}
+use Rattle.vlm_words.specs.declared.conditions.Cond.TheVariants.{Normal, Valnotvalid, Widenotvalid}
 use Rattle.vlm_words.specs.declared.modes.Act.TheVariants.{Nothing, Return, Write}
 use Rattle.vlm_words.specs.declared.resources.ValueBlock.{ValueBlock}
 use Rattle.vlm_words.specs.Conditions.{condition_number}
-use Rattle.vlm_words.specs.ValueBlocks.{return_status}
 use Rattle.vlm_words.specs.State.{Process, Resource}
 use Rattle.vlm_words.specs.Endings.{Ending, How, is_told}
 use Rattle.vlm_words.specs.Endings.How.{by_abort, by_cancel, by_deadlock, by_grant, by_rundown}
-use Rattle.vlm_words.specs.Effects.{Blocks, blocks_after, blocks_after_ending, blocks_with}
+use Rattle.vlm_words.specs.Effects.{Blocks, blocks_after, blocks_after_ending, blocks_with, is_wide}
 use Rattle.vlm_words.specs.Grants.{service}
 use Rattle.vlm_words.specs.Sweeps.{blocks_after_service, processes_after_service, sweep_endings}
 use Rattle.vlm_words.specs.Written.{IsLeftByEnds, TellsHow, TellsLast, is_end_for, last_end, later_end}
@@ -22,56 +22,72 @@ use Rattle.vlm_words.proofs.EndWrites.{AreLeft, ServiceLeaves, block_after_how, 
 use Rattle.vlm_words.specs.Asts.{warnings}
 
 -- the status that it writes tells how the request ended
-tells : (how : How) → is_told how ≡ true → (value : ValueBlock) (block : Block) → TellsHow how (block_after_how how value block).status
-tells (by_grant Nothing) told value block = refl
-tells (by_grant Return) told value block = of_mark value.valid
+tells : (how : How) → is_told how ≡ true → (wide : Bool) (value : ValueBlock) (block : Block) → TellsHow how (block_after_how how wide value block).status
+tells (by_grant Nothing) told wide value block = refl
+tells (by_grant Return) told wide value block = of_marks value.valid wide value.tail_valid
   where
-    of_mark : (valid : Bool) → TellsHow (by_grant Return) (condition_number (return_status valid))
-    of_mark true = inl refl
-    of_mark false = inr refl
-tells (by_grant Write) told value block = refl
-tells by_abort told value block = refl
-tells by_cancel told value block = refl
-tells by_deadlock told value block = refl
-tells by_rundown told value block = cc
+    of_marks : (valid wide tail_valid : Bool)
+        → TellsHow (by_grant Return) (condition_number (cond (not valid) Valnotvalid (cond (wide && not tail_valid) Widenotvalid Normal)))
+    of_marks false wide tail_valid = inr (inl refl)
+    of_marks true true false = inr (inr refl)
+    of_marks true true true = inl refl
+    of_marks true false tail_valid = inl refl
+tells (by_grant Write) told wide value block = refl
+tells by_abort told wide value block = refl
+tells by_cancel told wide value block = refl
+tells by_deadlock told wide value block = refl
+tells by_rundown told wide value block = cc
 
-keeps_lkid : (how : How) (value : ValueBlock) (block : Block) → (block_after_how how value block).lkid ≡ block.lkid
-keeps_lkid (by_grant Nothing) value block = refl
-keeps_lkid (by_grant Return) value block = refl
-keeps_lkid (by_grant Write) value block = refl
-keeps_lkid by_abort value block = refl
-keeps_lkid by_cancel value block = refl
-keeps_lkid by_deadlock value block = refl
-keeps_lkid by_rundown value block = refl
+keeps_lkid : (how : How) (wide : Bool) (value : ValueBlock) (block : Block) → (block_after_how how wide value block).lkid ≡ block.lkid
+keeps_lkid (by_grant Nothing) wide value block = refl
+keeps_lkid (by_grant Return) wide value block = refl
+keeps_lkid (by_grant Write) wide value block = refl
+keeps_lkid by_abort wide value block = refl
+keeps_lkid by_cancel wide value block = refl
+keeps_lkid by_deadlock wide value block = refl
+keeps_lkid by_rundown wide value block = refl
 
-keeps_value : (how : How) (value : ValueBlock) (block : Block) → (how ≡ by_grant Return → ⊥) → (block_after_how how value block).value ≡ block.value
-keeps_value (by_grant Nothing) value block other = refl
-keeps_value (by_grant Return) value block other = absurd (other refl)
-keeps_value (by_grant Write) value block other = refl
-keeps_value by_abort value block other = refl
-keeps_value by_cancel value block other = refl
-keeps_value by_deadlock value block other = refl
-keeps_value by_rundown value block other = refl
+keeps_value : (how : How) (wide : Bool) (value : ValueBlock) (block : Block) → (how ≡ by_grant Return → ⊥) → (block_after_how how wide value block).value ≡ block.value
+keeps_value (by_grant Nothing) wide value block other = refl
+keeps_value (by_grant Return) wide value block other = absurd (other refl)
+keeps_value (by_grant Write) wide value block other = refl
+keeps_value by_abort wide value block other = refl
+keeps_value by_cancel wide value block other = refl
+keeps_value by_deadlock wide value block other = refl
+keeps_value by_rundown wide value block other = refl
+
+keeps_tail : (how : How) (wide : Bool) (value : ValueBlock) (block : Block) → ((how ≡ by_grant Return) × (wide ≡ true) → ⊥)
+    → (block_after_how how wide value block).tail ≡ block.tail
+keeps_tail (by_grant Nothing) wide value block other = refl
+keeps_tail (by_grant Return) true value block other = absurd (other (refl, refl))
+keeps_tail (by_grant Return) false value block other = refl
+keeps_tail (by_grant Write) wide value block other = refl
+keeps_tail by_abort wide value block other = refl
+keeps_tail by_cancel wide value block other = refl
+keeps_tail by_deadlock wide value block other = refl
+keeps_tail by_rundown wide value block other = refl
 
 -- nothing ended
 one_left_by_none : (pid number : ℕ) (block : Block) → IsLeftByEnds pid number [] block block
-one_left_by_none pid number block = record { status = refl; lkid = refl; value = λ _. refl }
+one_left_by_none pid number block = record { status = refl; lkid = refl; value = λ _. refl; tail = λ _. refl }
 
 -- one request ended
 one_left_by_one : (pid number : ℕ) (ending : Ending) → is_told ending.how ≡ true → (value : ValueBlock) (before : Block)
-    → IsLeftByEnds pid number (ending ∷ []) before (cond (is_end_for pid number ending) (block_after_how ending.how value before) before)
+    → IsLeftByEnds pid number (ending ∷ []) before (cond (is_end_for pid number ending) (block_after_how ending.how (is_wide ending.request) value before) before)
 one_left_by_one pid number ending told value before = of_tests (ending.pid == pid) refl (ending.request.block == number) refl
   where
     of_tests : (mine : Bool) → (ending.pid == pid) ≡ mine → (this : Bool) → (ending.request.block == number) ≡ this
-        → IsLeftByEnds pid number (ending ∷ []) before (cond (mine && this) (block_after_how ending.how value before) before)
+        → IsLeftByEnds pid number (ending ∷ []) before (cond (mine && this) (block_after_how ending.how (is_wide ending.request) value before) before)
     of_tests true is true at = record {
-      status = rw (is, at) (tells ending.how told value before);
-      lkid = keeps_lkid ending.how value before;
-      value = λ none. keeps_value ending.how value before
+      status = rw (is, at) (tells ending.how told (is_wide ending.request) value before);
+      lkid = keeps_lkid ending.how (is_wide ending.request) value before;
+      value = λ none. keeps_value ending.how (is_wide ending.request) value before
           (λ returns. none (Any-here _ ending [] (eqb-true ending.pid pid is, eqb-true ending.request.block number at, returns)));
+      tail = λ none. keeps_tail ending.how (is_wide ending.request) value before
+          (λ returns. none (Any-here _ ending [] (eqb-true ending.pid pid is, eqb-true ending.request.block number at, returns.0, returns.1)));
     }
-    of_tests true is false at = record { status = rw (is, at) refl; lkid = refl; value = λ _. refl }
-    of_tests false is this at = record { status = rw is refl; lkid = refl; value = λ _. refl }
+    of_tests true is false at = record { status = rw (is, at) refl; lkid = refl; value = λ _. refl; tail = λ _. refl }
+    of_tests false is this at = record { status = rw is refl; lkid = refl; value = λ _. refl; tail = λ _. refl }
 
 -- ---- one end after another
 
@@ -106,6 +122,8 @@ one_left_by_both pid number first second a b c one other = record {
   lkid = other.lkid ∙ one.lkid;
   value = λ none.
       other.value (λ there. none (Any-behind _ first second there)) ∙ one.value (λ here. none (any_left _ first second here));
+  tail = λ none.
+      other.tail (λ there. none (Any-behind _ first second there)) ∙ one.tail (λ here. none (any_left _ first second here));
 }
 
 -- ---- all ends of a step

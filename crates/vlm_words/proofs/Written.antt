@@ -20,7 +20,7 @@ use Rattle.vlm_words.specs.declared.steps.Step.{Step}
 use Rattle.vlm_words.specs.declared.steps.ValueSetting.{ValueSetting}
 use Rattle.vlm_words.specs.State.{Process, Resource, State, process_of, Node}
 use Rattle.vlm_words.specs.ValueBlocks.{new_value_block}
-use Rattle.vlm_words.specs.StatusBlocks.{new_status_block, processes_after_acceptance, processes_after_setting, processes_after_write, status_block_of, status_blocks_of}
+use Rattle.vlm_words.specs.StatusBlocks.{block_after_setting, new_status_block, processes_after_acceptance, processes_after_setting, processes_after_write, status_block_of, status_blocks_of}
 use Rattle.vlm_words.specs.Endings.{Ending, How, is_told, row_endings, wanted_endings}
 use Rattle.vlm_words.specs.Effects.{blocks_with}
 use Rattle.vlm_words.specs.Sweeps.{processes_after_service, sweep_endings}
@@ -265,9 +265,9 @@ setting_writes : (s : State) (v : ValueSetting) (choice : Option Row)
 unfolding set_change processes_after_setting
 setting_writes s v choice =
     swept_writes s (SetValue v) (step_change s (SetValue v) choice)
-    (kept_swept without_notices (λ _ _ _. refl) (set_change s v).processes s.resources ∙ kept_set without_notices (λ _ _. refl) v.pid v.block v.value s.processes)
+    (kept_swept without_notices (λ _ _ _. refl) (set_change s v).processes s.resources ∙ kept_set without_notices (λ _ _. refl) v.pid v.block v.value v.tail s.processes)
     (set_change s v).processes
-    (one_named (SetValue v) (Plain Normal) s v.pid v.block (λ block. record block { value = v.value }) (λ _ _. refl) (λ _. refl))
+    (one_named (SetValue v) (Plain Normal) s v.pid v.block (block_after_setting v.value v.tail) (λ _ _. refl) (λ _. refl))
     (all_left_by_none (set_change s v).processes)
 
 -- the process is told of a grant at once, and of what a dequeue ends

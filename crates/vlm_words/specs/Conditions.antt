@@ -1,7 +1,7 @@
 -- The numbers and names of the conditions that a service answers.
 use Rattle.std.specs.Prelude.{ℕ, List, codes}
 use Rattle.vlm_words.specs.declared.conditions.Cond.{Cond}
-use Rattle.vlm_words.specs.declared.conditions.Cond.TheVariants.{Normal, Synch, Notqueued, Abort, Cancel, Deadlock, Valnotvalid, Cancelgrant, Sublocks, Ivlockid, Cvtungrant, Parnotgrant, Exdepth, Exenqlm, Nolockid, Insfmem, Ivbuflen, Badparam, Unsupported, Nosyslck, Accvio, Nonexpr, Departed}
+use Rattle.vlm_words.specs.declared.conditions.Cond.TheVariants.{Normal, Synch, Notqueued, Abort, Cancel, Deadlock, Valnotvalid, Cancelgrant, Sublocks, Ivlockid, Cvtungrant, Parnotgrant, Exdepth, Exenqlm, Nolockid, Insfmem, Ivbuflen, Badparam, Unsupported, Nosyslck, Accvio, Nonexpr, Departed, Widenotvalid}
 
 -- a condition's number
 abbrev pub condition_number : Cond → ℕ
@@ -28,6 +28,7 @@ condition_number Nosyslck = 20
 condition_number Accvio = 21
 condition_number Nonexpr = 22
 condition_number Departed = 23
+condition_number Widenotvalid = 24
 
 -- a condition's name
 abbrev pub condition_name : Cond → List ℕ
@@ -54,3 +55,4 @@ condition_name Nosyslck = codes "NOSYSLCK"
 condition_name Accvio = codes "ACCVIO"
 condition_name Nonexpr = codes "NONEXPR"
 condition_name Departed = codes "DEPARTED"
+condition_name Widenotvalid = codes "WIDENOTVALID"

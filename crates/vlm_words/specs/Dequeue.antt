@@ -14,11 +14,13 @@ use Rattle.vlm_words.specs.Rows.{is_lock_of}
 use Rattle.vlm_words.specs.Withdrawals.{Withdrawal, state_after_withdrawals, withdrawn_endings}
 use Rattle.vlm_words.specs.Checks.{caller_refusal, lock_refusal, named_lkid, or_else, which_refusal}
 
--- DEQALL goes with no cancel, and with no value
+-- DEQALL goes with no cancel, and with no value; and no tail goes without a value
 abbrev pub is_mixed : Dequeue → Bool
-is_mixed d = has_flag d.flags deqall && (has_flag d.flags cancel || is_some d.value)
+is_mixed d =
+    (has_flag d.flags deqall && (has_flag d.flags cancel || is_some d.value))
+    || (is_some d.tail && not (is_some d.value))
 
--- an unknown flag, or DEQALL with what it does not go with
+-- an unknown flag, or what does not go together
 unfoldable pub deq_flags_refusal : Dequeue → Option Cond
 deq_flags_refusal d = if is_known deq_bits d.flags && not (is_mixed d) then None else Some Badparam
 
@@ -85,6 +87,7 @@ withdrawal_of d lkid = record {
   converting = conversion_ending (has_flag d.flags cancel);
   stays = has_flag d.flags cancel;
   value = if has_flag d.flags cancel then None else d.value;
+  tail = if has_flag d.flags cancel then None else d.tail;
   invalidates = has_flag d.flags invvalblk && not (has_flag d.flags cancel);
 }
 

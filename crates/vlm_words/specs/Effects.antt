@@ -1,11 +1,13 @@
 -- What the ends of requests do: they write status blocks and the value block of their resource, and queue ASTs.
-use Rattle.std.specs.Prelude.{List, [], ◌∷◌, Option, None, Some}
+use Rattle.std.specs.Prelude.{Bool, List, [], ◌∷◌, Option, None, Some}
 use Rattle.vlm_words.specs.declared.conditions.Cond.TheVariants.{Normal}
 use Rattle.vlm_words.specs.declared.conditions.Cond.{Cond}
 use Rattle.vlm_words.specs.declared.modes.Act.TheVariants.{Nothing, Return, Write}
 use Rattle.vlm_words.specs.declared.modes.Act.{Act}
 use Rattle.vlm_words.specs.declared.resources.ValueBlock.{ValueBlock}
-use Rattle.vlm_words.specs.ValueBlocks.{written_value_block}
+use Rattle.vlm_words.specs.declared.locks.Request.{Request}
+use Rattle.vlm_words.specs.Flags.{flag_bits, has_flag, wide}
+use Rattle.vlm_words.specs.ValueBlocks.{value_block_written_from}
 use Rattle.vlm_words.specs.State.{Process, Resource}
 use Rattle.vlm_words.specs.StatusBlocks.{processes_after_return, processes_after_status, status_block_of}
 use Rattle.vlm_words.specs.Endings.{Ending, How, ending_status}
@@ -32,15 +34,22 @@ blocks_after_status ending None b = b
 blocks_after_status ending (Some cond) b =
     record b { processes = processes_after_status ending.pid ending.request.block cond b.processes }
 
--- the value block is returned: its bytes, valid or not, go to the value part of the status block
+-- the request is for all 64 bytes of the value block
+abbrev pub is_wide : Request → Bool
+is_wide request = has_flag (flag_bits request.flags) wide
+
+-- the value block is returned: its bytes, valid or not, go to the value part of the status block, and those of its tail
+-- to the block's tail where the request is wide
 unfoldable pub blocks_after_return : Ending → Blocks → Blocks
 blocks_after_return ending b =
-    record b { processes = processes_after_return ending.pid ending.request.block b.value_block b.processes }
+    record b { processes = processes_after_return ending.pid ending.request.block (is_wide ending.request) b.value_block b.processes }
 
 -- the value block is written from the status block
 unfoldable pub blocks_after_writing : Ending → Blocks → Blocks
 blocks_after_writing ending b = record {
-  value_block = written_value_block b.value_block (status_block_of b.processes ending.pid ending.request.block);
+  value_block =
+      value_block_written_from (is_wide ending.request)
+      (status_block_of b.processes ending.pid ending.request.block) b.value_block;
   processes = processes_after_status ending.pid ending.request.block Normal b.processes;
 }
 

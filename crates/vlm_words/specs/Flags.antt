@@ -36,9 +36,13 @@ nodlckwt = 64
 abbrev pub nodlckblk : ℕ
 nodlckblk = 128
 
+-- with VALBLK, the value block is returned or written with its tail
+abbrev pub wide : ℕ
+wide = 256
+
 -- the bits of new requests and conversions that are built
 abbrev pub enq_bits : ℕ
-enq_bits = valblk + noqueue + syncsts + system + expedite + quecvt + nodlckwt + nodlckblk
+enq_bits = valblk + noqueue + syncsts + system + expedite + quecvt + nodlckwt + nodlckblk + wide
 
 -- all locks below a lock, or all of the caller, are given up
 abbrev pub deqall : ℕ

@@ -1,5 +1,5 @@
 -- What resources are found by.
-use Rattle.std.specs.Prelude.{◌≡◌, ◌++◌, ◌&&◌, ◌==◌, Bool, false, nat_eq, refl}
+use Rattle.std.specs.Prelude.{◌≡◌, ◌+◌, ◌++◌, ◌&&◌, ◌==◌, ℕ, Bool, false, nat_eq, refl}
 use Rattle.std.specs.Bool.{Decides}
 use Rattle.std.specs.Cmp.{unsigned_Decides}
 use Rattle.std.specs.Cmp.Lexicographic.{bytes_decides, pointwise}
@@ -11,7 +11,7 @@ use Rattle.vlm_words.specs.declared.resources.Domain.{Domain}
 use Rattle.vlm_words.specs.declared.resources.Domain.TheVariants.{Group, System}
 use Rattle.vlm_words.specs.declared.resources.Key.{Key}
 use Rattle.vlm_words.specs.declared.resources.Key.TheVariants.{Root, Below}
-use Rattle.vlm_words.specs.Resources.{is_domain}
+use Rattle.vlm_words.specs.Resources.{is_domain, key_name}
 
 -- the two name the same resource
 abbrev pub is_same_key : Key → Key → Bool
@@ -20,15 +20,16 @@ is_same_key (Root a name) (Below q other) = false
 is_same_key (Below p name) (Root b other) = false
 is_same_key (Below p name) (Below q other) = (p == q) && pointwise nat_eq name other
 
--- what is hashed of a domain
-abbrev pub domain_input : Domain → HashWrites
-domain_input (Group group) = fed.u16 group
-domain_input System = fed.u8 1
+-- the space that the resource's name is in, as one number: the group, above all groups the system's domain, and above
+-- that the parent resource
+abbrev pub name_space : Key → ℕ
+name_space (Root (Group group) name) = group
+name_space (Root System name) = 65536
+name_space (Below parent name) = 4294967296 + parent
 
--- what is hashed of a key
+-- what is hashed of a key: a whole word first, so that words are what is hashed of its name too
 abbrev pub key_input : Key → HashWrites
-key_input (Root domain name) = domain_input domain ++ fed.slice fed.u8 name
-key_input (Below parent name) = fed.u32 parent ++ fed.slice fed.u8 name
+key_input key = fed.u64 (name_space key) ++ fed.slice fed.u8 (key_name key)
 
 is_domain-Decides : (a b : Domain) → Decides (is_domain a b) (a ≡ b)
 is_domain-Decides (Group a) (Group b) = (λ h. ap Group ((unsigned_Decides a b).0 h), λ e. (unsigned_Decides a b).1 (cc))

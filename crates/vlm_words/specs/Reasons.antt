@@ -19,7 +19,7 @@ use Rattle.vlm_words.specs.declared.steps.ValueSetting.{ValueSetting}
 use Rattle.vlm_words.specs.declared.steps.Which.TheVariants.{Id, Block}
 use Rattle.vlm_words.specs.declared.steps.Which.{Which}
 use Rattle.vlm_words.specs.Modes.{is_queued_legally}
-use Rattle.vlm_words.specs.Flags.{cancel, deqall, expedite, has_flag, invvalblk, nodlckblk, nodlckwt, noqueue, quecvt, syncsts, system, valblk}
+use Rattle.vlm_words.specs.Flags.{cancel, deqall, expedite, has_flag, invvalblk, nodlckblk, nodlckwt, noqueue, quecvt, syncsts, system, valblk, wide}
 use Rattle.vlm_words.specs.State.{Process, State, node_at, process_of}
 use Rattle.vlm_words.specs.Checks.{named_lkid}
 use Rattle.vlm_words.specs.Stepped.{stepped}
@@ -27,7 +27,7 @@ use Rattle.vlm_words.specs.Laws.{ConvertsInTurn, IsAskedFor, IsFreeFor, IsGrante
 
 -- the flags of new requests and conversions that are built
 abbrev pub request_flags : List ℕ
-request_flags = valblk ∷ noqueue ∷ syncsts ∷ system ∷ expedite ∷ quecvt ∷ nodlckwt ∷ nodlckblk ∷ []
+request_flags = valblk ∷ noqueue ∷ syncsts ∷ system ∷ expedite ∷ quecvt ∷ nodlckwt ∷ nodlckblk ∷ wide ∷ []
 
 -- the flags of dequeues that are built
 abbrev pub dequeue_flags : List ℕ
@@ -157,6 +157,7 @@ abbrev pub DequeueBreaks : State → Dequeue → Cond → Type 0
 DequeueBreaks s d Badparam =
     HasUnknownBit dequeue_flags d.flags
     ⊎ ((has_flag d.flags deqall ≡ true) × ((has_flag d.flags cancel ≡ true) ⊎ IsSome d.value))
+    ⊎ (IsSome d.tail × (d.value ≡ None))
 DequeueBreaks s d Accvio = IsNamedByNoBlock s d.pid d.lock
 DequeueBreaks s d Ivlockid =
     (has_flag d.flags deqall ≡ true → named_by_dequeue s d ≢ 0) × (HasLock s d.pid (named_by_dequeue s d) → ⊥)

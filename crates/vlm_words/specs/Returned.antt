@@ -1,6 +1,7 @@
 -- What grants do with value blocks, and what they return.
 use Rattle.std.specs.Prelude.{◌≡◌, ◌<◌, ◌+◌, ◌&&◌, ◌⊎◌, ◌++◌, ℕ, Bool, true, false, List, [], ◌∷◌, length, slice_index_or, nat_le, All, Any, Option, None, Some, ⊤, if◌then◌else◌}
-use Rattle.vlm_words.specs.declared.conditions.Cond.TheVariants.{Normal, Valnotvalid}
+use Rattle.vlm_words.specs.declared.conditions.Cond.{Cond}
+use Rattle.vlm_words.specs.declared.conditions.Cond.TheVariants.{Normal, Valnotvalid, Widenotvalid}
 use Rattle.vlm_words.specs.declared.locks.Request.{Request}
 use Rattle.vlm_words.specs.declared.locks.Row.{Row}
 use Rattle.vlm_words.specs.declared.modes.Act.TheVariants.{Nothing, Return, Write}
@@ -11,7 +12,7 @@ use Rattle.vlm_words.specs.declared.resources.ValueBlock.{ValueBlock}
 use Rattle.vlm_words.specs.declared.steps.Step.{Step}
 use Rattle.vlm_words.specs.Conditions.{condition_number}
 use Rattle.vlm_words.specs.Modes.{rank}
-use Rattle.vlm_words.specs.Flags.{flag_bits, has_flag, valblk}
+use Rattle.vlm_words.specs.Flags.{flag_bits, has_flag, valblk, wide}
 use Rattle.vlm_words.specs.State.{Process, Resource, State, process_of}
 use Rattle.vlm_words.specs.Endings.{Ending, How}
 use Rattle.vlm_words.specs.Endings.How.{by_grant}
@@ -51,12 +52,24 @@ abbrev pub is_return : How → Bool
 is_return (by_grant Return) = true
 is_return how = false
 
+-- the grant returns the value block with its tail
+abbrev pub is_wide_return : Ending → Bool
+is_wide_return ending = is_return ending.how && has_flag (flag_bits ending.request.flags) wide
+
+-- the last of the ends of this kind for the status block
+abbrev pub last_of_kind : (Ending → Bool) → ℕ → ℕ → List Ending → Option Ending
+last_of_kind is_one pid number [] = None
+last_of_kind is_one pid number (ending ∷ endings) =
+    later_end (last_of_kind is_one pid number endings)
+    (if is_end_for pid number ending && is_one ending then Some ending else None)
+
 -- the last of the grants that return a value block to the status block
 abbrev pub last_return : ℕ → ℕ → List Ending → Option Ending
-last_return pid number [] = None
-last_return pid number (ending ∷ endings) =
-    later_end (last_return pid number endings)
-    (if is_end_for pid number ending && is_return ending.how then Some ending else None)
+last_return = last_of_kind (λ ending. is_return ending.how)
+
+-- the last of those that return its tail too
+abbrev pub last_wide_return : ℕ → ℕ → List Ending → Option Ending
+last_wide_return = last_of_kind is_wide_return
 
 -- the lock of the request that was granted is granted on the resource, and holds it
 abbrev pub HoldsGranted : Ending → Resource → Type 0
@@ -72,12 +85,25 @@ abbrev pub TellsValue : State → Option Ending → List ℕ → Type 0
 TellsValue s None value = ⊤
 TellsValue s (Some ending) value = (block : ValueBlock) × IsItsValue s ending block × (value ≡ block.value)
 
--- where the last end returns the value block, the status is NORMAL if it is valid, and VALNOTVALID if it is not
+-- the tail is that of the value block that is returned wide last, if one is
+abbrev pub TellsTail : State → Option Ending → List ℕ → Type 0
+TellsTail s None tail = ⊤
+TellsTail s (Some ending) tail = (block : ValueBlock) × IsItsValue s ending block × (tail ≡ block.tail)
+
+-- the condition that tells what is returned, wide or not, by the marks of the value and of the tail
+abbrev pub told_by_marks : Bool → Bool → Bool → Cond
+told_by_marks _ false _ = Valnotvalid
+told_by_marks true true false = Widenotvalid
+told_by_marks true true true = Normal
+told_by_marks false true _ = Normal
+
+-- where the last end returns the value block, the status tells by which marks
 abbrev pub TellsMark : State → Option Ending → ℕ → Type 0
 TellsMark s None status = ⊤
 TellsMark s (Some ending) status = ending.how ≡ by_grant Return
     → (block : ValueBlock) × IsItsValue s ending block
-    × (status ≡ condition_number (if block.valid then Normal else Valnotvalid))
+    × (status ≡ condition_number
+    (told_by_marks (has_flag (flag_bits ending.request.flags) wide) block.valid block.tail_valid))
 
 -- each grant does with the value block what is asked for; and what is returned to a status block is the value block as
 -- it stands after the step
@@ -88,6 +114,10 @@ pub record GrantsReturnValues (old : State) (step : Step) (choice : Option Row) 
       → k < length p.blocks
       → TellsValue (stepped old step choice).state (last_return pid (k + 1) (stepped old step choice).endings)
       (slice_index_or p.blocks k blank_block).value
+  pub tails : (pid k : ℕ) (p : Process) → process_of (stepped old step choice).state.processes pid ≡ Some p
+      → k < length p.blocks
+      → TellsTail (stepped old step choice).state (last_wide_return pid (k + 1) (stepped old step choice).endings)
+      (slice_index_or p.blocks k blank_block).tail
   pub marks : (pid k : ℕ) (p : Process) → process_of (stepped old step choice).state.processes pid ≡ Some p
       → k < length p.blocks
       → TellsMark (stepped old step choice).state (last_end pid (k + 1) (stepped old step choice).endings)

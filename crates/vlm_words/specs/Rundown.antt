@@ -21,6 +21,7 @@ rundown_of lkid = record {
   converting = by_rundown;
   stays = false;
   value = None;
+  tail = None;
   invalidates = true;
 }
 

@@ -28,6 +28,7 @@ deadlock_of lkid = record {
   converting = by_deadlock;
   stays = true;
   value = None;
+  tail = None;
   invalidates = false;
 }
 

@@ -1,4 +1,4 @@
--- The step that writes the value part of a status block.
+-- The step that writes the value part of a status block, and its tail.
 use Rattle.std.specs.Prelude.{Option}
 use Rattle.vlm_words.specs.declared.conditions.Cond.{Cond}
 use Rattle.vlm_words.specs.declared.steps.ValueSetting.{ValueSetting}
@@ -10,6 +10,6 @@ use Rattle.vlm_words.specs.Checks.{caller_refusal, or_else, status_block_refusal
 unfoldable pub set_refusal : State → ValueSetting → Option Cond
 set_refusal s v = or_else (caller_refusal s v.pid) (status_block_refusal s v.pid v.block)
 
--- the value part is written, and nothing else
+-- the value part is written, and the tail where one is given, and nothing else
 unfoldable pub set_change : State → ValueSetting → State
-set_change s v = record s { processes = processes_after_setting v.pid v.block v.value s.processes }
+set_change s v = record s { processes = processes_after_setting v.pid v.block v.value v.tail s.processes }

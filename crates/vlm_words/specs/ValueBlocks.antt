@@ -1,19 +1,36 @@
 -- The value block of a resource.
-use Rattle.std.specs.Prelude.{Bool, true, false, replicate}
+use Rattle.std.specs.Prelude.{ℕ, Bool, true, false, not, ◌&&◌, List, replicate, Option, None, Some, is_some, unwrap_or, if◌then◌else◌}
 use Rattle.vlm_words.specs.declared.blocks.Block.{Block}
-use Rattle.vlm_words.specs.declared.conditions.Cond.TheVariants.{Normal, Valnotvalid}
+use Rattle.vlm_words.specs.declared.conditions.Cond.TheVariants.{Normal, Valnotvalid, Widenotvalid}
 use Rattle.vlm_words.specs.declared.conditions.Cond.{Cond}
 use Rattle.vlm_words.specs.declared.resources.ValueBlock.{ValueBlock}
 
--- the value block of a new resource: valid zeros
+-- the value block of a new resource: zeros, all of them valid
 abbrev pub new_value_block : ValueBlock
-new_value_block = record { value = replicate 16 0; valid = true }
+new_value_block = record { value = replicate 16 0; valid = true; tail = replicate 48 0; tail_valid = true }
 
--- the status of a request that the value block is returned to: VALNOTVALID where it is invalid
-abbrev pub return_status : Bool → Cond
-return_status true = Normal
-return_status false = Valnotvalid
+-- the status of a request that the value block is returned to: VALNOTVALID where its value is invalid; else, where it is
+-- returned wide, WIDENOTVALID where its tail is
+abbrev pub return_status : Bool → ValueBlock → Cond
+return_status wide returned =
+    if not returned.valid then Valnotvalid
+    else (if wide && not returned.tail_valid then Widenotvalid else Normal)
 
--- the value block once it is written from a status block: it has the block's value part, and is valid
-abbrev pub written_value_block : ValueBlock → Block → ValueBlock
-written_value_block old from = record old { value = from.value; valid = true }
+-- the value block once it is written: the value is valid, and so is the tail where one is given; else the tail keeps
+-- its bytes, and they are invalid
+abbrev pub written_value_block : List ℕ → Option (List ℕ) → ValueBlock → ValueBlock
+written_value_block value tail old = record {
+  value = value;
+  valid = true;
+  tail = unwrap_or tail old.tail;
+  tail_valid = is_some tail;
+}
+
+-- what a status block writes: its value part, and its tail too where the write is wide
+abbrev pub value_block_written_from : Bool → Block → ValueBlock → ValueBlock
+value_block_written_from wide from old =
+    written_value_block from.value (if wide then Some from.tail else None) old
+
+-- the value block with both marks invalid
+abbrev pub invalid_value_block : ValueBlock → ValueBlock
+invalid_value_block block = record block { valid = false; tail_valid = false }

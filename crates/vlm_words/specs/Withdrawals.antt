@@ -1,12 +1,12 @@
 -- What becomes of locks that are withdrawn, in three phases: their requests end, then they leave what they
 -- leave in value blocks, and then they go, or stay at what they hold.
-use Rattle.std.specs.Prelude.{ℕ, Bool, false, not, ◌&&◌, ◌||◌, ◌==◌, List, [], ◌∷◌, ◌++◌, map, flat_map, Option, None, Some, is_some, unwrap_or, if◌then◌else◌}
+use Rattle.std.specs.Prelude.{ℕ, Bool, false, ◌&&◌, ◌||◌, ◌==◌, List, [], ◌∷◌, ◌++◌, map, flat_map, Option, None, Some, if◌then◌else◌}
 use Rattle.std.specs.List.{list_any}
 use Rattle.vlm_words.specs.declared.locks.Request.{Request}
 use Rattle.vlm_words.specs.declared.locks.Row.{Row}
 use Rattle.vlm_words.specs.declared.resources.ValueBlock.{ValueBlock}
 use Rattle.vlm_words.specs.Modes.{is_writing}
-use Rattle.vlm_words.specs.ValueBlocks.{new_value_block}
+use Rattle.vlm_words.specs.ValueBlocks.{invalid_value_block, new_value_block, written_value_block}
 use Rattle.vlm_words.specs.State.{Process, Resource, State}
 use Rattle.vlm_words.specs.Endings.{Ending, How, row_endings}
 use Rattle.vlm_words.specs.Effects.{blocks_after, blocks_with}
@@ -14,13 +14,14 @@ use Rattle.vlm_words.specs.Rows.{rows_of, rows_without}
 
 -- what is to become of a lock: how its request ends where it waits and where it converts, whether a converting
 -- lock stays at what it holds, and what a lock that may write leaves in the value block: a value, if one is
--- given, and whether it is then marked invalid
+-- given, with a tail or without one, and whether all of it is then marked invalid
 pub record Withdrawal : Type 0 where
   pub lkid : ℕ
   pub waiting : How
   pub converting : How
   pub stays : Bool
   pub value : Option (List ℕ)
+  pub tail : Option (List ℕ)
   pub invalidates : Bool
 
 -- ---- the requests end
@@ -55,13 +56,16 @@ is_writer (Some held) = is_writing held.mode
 abbrev pub has_writer : ℕ → List Row → Bool
 has_writer lkid rows = list_any (λ row. (row.lkid == lkid) && is_writer row.held) rows
 
--- the value block as a writer leaves it: a given value is written and valid, and then it may be marked
--- invalid
+-- the value block once a value is given up, with a tail or without one, if there is a value
+abbrev pub value_block_after_gift : Option (List ℕ) → Option (List ℕ) → ValueBlock → ValueBlock
+value_block_after_gift None tail block = block
+value_block_after_gift (Some value) tail block = written_value_block value tail block
+
+-- the value block as a writer leaves it: a given value is written, and then all of it may be marked invalid
 abbrev pub value_block_after_writer : Withdrawal → ValueBlock → ValueBlock
-value_block_after_writer w block = record block {
-  value = unwrap_or w.value block.value;
-  valid = not w.invalidates && (is_some w.value || block.valid);
-}
+value_block_after_writer w block =
+    if w.invalidates then invalid_value_block (value_block_after_gift w.value w.tail block)
+    else value_block_after_gift w.value w.tail block
 
 -- the lock holds PW or EX, granted or converting
 abbrev pub is_held_by_writer : ℕ → Resource → Bool

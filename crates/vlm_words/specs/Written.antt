@@ -1,7 +1,7 @@
 -- What a step writes into status blocks, and of which processes.
-use Rattle.std.specs.Prelude.{◌≡◌, ◌<◌, ◌+◌, ◌/◌, ◌==◌, ◌&&◌, not, filter, ◌⊎◌, ◌++◌, ℕ, Bool, false, List, [], ◌∷◌, map, length, replicate, slice_index_or, Any, Option, None, Some, if◌then◌else◌}
+use Rattle.std.specs.Prelude.{◌≡◌, ◌<◌, ◌+◌, ◌/◌, ◌==◌, ◌&&◌, not, filter, ◌⊎◌, ◌++◌, ℕ, Bool, true, false, List, [], ◌∷◌, map, length, replicate, slice_index_or, Any, Option, None, Some, unwrap_or, if◌then◌else◌}
 use Rattle.vlm_words.specs.declared.blocks.Block.{Block}
-use Rattle.vlm_words.specs.declared.conditions.Cond.TheVariants.{Normal, Abort, Cancel, Deadlock, Valnotvalid}
+use Rattle.vlm_words.specs.declared.conditions.Cond.TheVariants.{Normal, Abort, Cancel, Deadlock, Valnotvalid, Widenotvalid}
 use Rattle.vlm_words.specs.declared.locks.Row.{Row}
 use Rattle.vlm_words.specs.declared.modes.Act.TheVariants.{Nothing, Return, Write}
 use Rattle.vlm_words.specs.declared.steps.Answer.TheVariants.{Lock, Plain, Process as process_answer}
@@ -10,6 +10,7 @@ use Rattle.vlm_words.specs.declared.steps.Declaration.{Declaration}
 use Rattle.vlm_words.specs.declared.steps.Step.TheVariants.{Declare, SetValue, Enq, Convert, Rundown, Leave}
 use Rattle.vlm_words.specs.declared.steps.Step.{Step}
 use Rattle.vlm_words.specs.Conditions.{condition_number}
+use Rattle.vlm_words.specs.Flags.{flag_bits, has_flag, wide}
 use Rattle.vlm_words.specs.State.{Process, State, process_of}
 use Rattle.vlm_words.specs.Endings.{Ending, How}
 use Rattle.vlm_words.specs.Endings.How.{by_abort, by_cancel, by_deadlock, by_grant, by_rundown}
@@ -17,7 +18,7 @@ use Rattle.vlm_words.specs.Stepped.{stepped}
 
 -- a status block that nothing was written to
 abbrev pub blank_block : Block
-blank_block = record { status = 0; lkid = 0; value = replicate 16 0 }
+blank_block = record { status = 0; lkid = 0; value = replicate 16 0; tail = replicate 48 0 }
 
 -- the process as it is declared
 abbrev pub process_asked_for : ℕ → Declaration → Process
@@ -53,10 +54,11 @@ names_block (Enq e) pid number = (e.pid == pid) && (e.block == number)
 names_block (Convert c) pid number = (c.pid == pid) && (c.block == number)
 names_block step pid number = false
 
--- what the step itself makes of a block that it names: one whose value is set, or that of a pending request for the
--- lock that is answered; a refused step makes nothing of it
+-- what the step itself makes of a block that it names: one whose value is set, and its tail where one is given, or that
+-- of a pending request for the lock that is answered; a refused step makes nothing of it
 abbrev pub block_named : Step → Answer → Block → Block
-block_named (SetValue v) (Plain Normal) block = record block { value = v.value }
+block_named (SetValue v) (Plain Normal) block =
+    record block { value = v.value; tail = unwrap_or v.tail block.tail }
 block_named (Enq e) (Lock cond lkid) block = record block { status = 0; lkid = lkid }
 block_named (Convert c) (Lock cond lkid) block = record block { status = 0; lkid = lkid }
 block_named step answer block = block
@@ -76,11 +78,12 @@ last_end pid number [] = None
 last_end pid number (ending ∷ endings) =
     later_end (last_end pid number endings) (if is_end_for pid number ending then Some ending else None)
 
--- the status that tells how a request ended: a grant is told by NORMAL, or by VALNOTVALID where it returns the
--- value block; no block of a living process tells of a rundown
+-- the status that tells how a request ended: a grant is told by NORMAL, or by VALNOTVALID or WIDENOTVALID where it
+-- returns the value block; no block of a living process tells of a rundown
 abbrev pub TellsHow : How → ℕ → Type 0
 TellsHow (by_grant Return) status =
     (status ≡ condition_number Normal) ⊎ (status ≡ condition_number Valnotvalid)
+    ⊎ (status ≡ condition_number Widenotvalid)
 TellsHow (by_grant Nothing) status = status ≡ condition_number Normal
 TellsHow (by_grant Write) status = status ≡ condition_number Normal
 TellsHow by_abort status = status ≡ condition_number Abort
@@ -98,12 +101,19 @@ abbrev pub IsReturnedTo : ℕ → ℕ → List Ending → Type 0
 IsReturnedTo pid number endings =
     Any (λ ending. (ending.pid ≡ pid) × (ending.request.block ≡ number) × (ending.how ≡ by_grant Return)) endings
 
+-- some such request has the flag WIDE
+abbrev pub IsReturnedWideTo : ℕ → ℕ → List Ending → Type 0
+IsReturnedWideTo pid number endings =
+    Any (λ ending. (ending.pid ≡ pid) × (ending.request.block ≡ number) × (ending.how ≡ by_grant Return)
+    × (has_flag (flag_bits ending.request.flags) wide ≡ true)) endings
+
 -- what ended requests make of a status block: its status tells of the last, its lock stays, and so does its value
--- part where no value block is returned to it
+-- part where no value block is returned to it, and its tail where none is returned wide
 pub record IsLeftByEnds (pid number : ℕ) (endings : List Ending) (before after : Block) : Type 0 where
   pub status : TellsLast (last_end pid number endings) before.status after.status
   pub lkid : after.lkid ≡ before.lkid
   pub value : (IsReturnedTo pid number endings → ⊥) → after.value ≡ before.value
+  pub tail : (IsReturnedWideTo pid number endings → ⊥) → after.tail ≡ before.tail
 
 -- the blocks of a process after a step that gets this answer and in which these requests end: each is what the
 -- step itself makes of it if it is named, and then what the ends make of that; block 1 stands at 0

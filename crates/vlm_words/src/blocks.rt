@@ -12,10 +12,12 @@ pub struct Block {
     pub lkid: u32,
     /// The value block.
     pub value: [u8; 16],
+    /// The tail of a wide value block.
+    pub tail: [u8; 48],
 }
 
 impl Block {
-    /// A status block at its making: no request, no lock, and a value block of zeros.
+    /// A status block at its making: no request, no lock, and a value block and a tail of zeros.
     pub fn new() -> Block
         ensures { result ≡ new_status_block }
     {
@@ -23,6 +25,7 @@ impl Block {
             status: 0,
             lkid: 0,
             value: [0; 16],
+            tail: [0; 48],
         }
     }
 }

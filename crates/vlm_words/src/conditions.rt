@@ -52,10 +52,13 @@ pub enum Cond {
     Nonexpr,
     /// The node has departed (this project's own).
     Departed,
+    /// A request was granted, and of the wide value block that it returned the tail alone is invalid (this
+    /// project's own).
+    Widenotvalid,
 }
 
 impl Cond {
-    /// The condition's number, 1 to 23, as a status block holds it (this project's own).
+    /// The condition's number, 1 to 24, as a status block holds it (this project's own).
     pub fn number(self) -> u8
         ensures { result ≡ condition_number self }
     {
@@ -90,6 +93,7 @@ impl Cond {
             Cond::Accvio => "ACCVIO",
             Cond::Nonexpr => "NONEXPR",
             Cond::Departed => "DEPARTED",
+            Cond::Widenotvalid => "WIDENOTVALID",
         }
     }
 }

@@ -1,7 +1,7 @@
 //! The flags of requests and dequeues, as far as they are built.
 
 ghost use Rattle.std.specs.Prelude.{◌≡◌, ⊤, [], ◌∷◌, codes};
-ghost use Rattle.vlm_words.specs.Flags.{cancel, deq_flag_bits, deqall, expedite, flag_bits, has_flag, invvalblk, nodlckblk, nodlckwt, noqueue, quecvt, syncsts, system, valblk};
+ghost use Rattle.vlm_words.specs.Flags.{cancel, deq_flag_bits, deqall, expedite, flag_bits, has_flag, invvalblk, nodlckblk, nodlckwt, noqueue, quecvt, syncsts, system, valblk, wide};
 
 use bitflags::{Flag, Flags, bitflag_items};
 
@@ -29,6 +29,8 @@ bitflag_items! {
         /// Nobody counts as waiting for the request in a search for a deadlock, while it is queued and once
         /// it is granted.
         const NODLCKBLK = 128;
+        /// With VALBLK, what is returned or written are the value block's 64 bytes (this project's own).
+        const WIDE = 256;
     }
 }
 
@@ -40,7 +42,8 @@ impl Flags for EnqFlags {
     ghost table = { (codes "VALBLK", valblk) ∷ (codes "NOQUEUE", noqueue)
         ∷ (codes "SYNCSTS", syncsts) ∷ (codes "SYSTEM", system)
         ∷ (codes "EXPEDITE", expedite) ∷ (codes "QUECVT", quecvt)
-        ∷ (codes "NODLCKWT", nodlckwt) ∷ (codes "NODLCKBLK", nodlckblk) ∷ [] };
+        ∷ (codes "NODLCKWT", nodlckwt) ∷ (codes "NODLCKBLK", nodlckblk)
+        ∷ (codes "WIDE", wide) ∷ [] };
 
     ghost set_of = { λ f. f.0 };
 

@@ -216,7 +216,8 @@ pub fn law_a_lock_stands_as_asked_for()
 
 /// A step that no check refuses changes the value block of a resource only by its own lock, which is held there at PW
 /// or EX before: by a conversion with VALBLK that gives PW or EX up or keeps it, which is granted at once, or as
-/// the lock is given up or goes with its process. A new resource's value block is zeros and valid. So no sweep changes
+/// the lock is given up or goes with its process. A write of 64 bytes makes all of them valid; one of 16 leaves the
+/// tail's bytes, and makes them invalid. A new resource's value block is zeros, all of them valid. So no sweep changes
 /// one.
 pub fn law_only_writers_change_value_blocks()
     ensures { (history : History) (old : State) → Run history old
@@ -227,8 +228,9 @@ pub fn law_only_writers_change_value_blocks()
 
 /// A grant does with the value block what its request asks for, by what its lock held before the step: nothing
 /// without VALBLK; a new request returns it; a conversion returns it, writes it or does neither. What is returned
-/// to a status block is the value block as it stands on the lock's resource, told by NORMAL where it is valid and
-/// by VALNOTVALID where it is not.
+/// to a status block is the value block as it stands on the lock's resource, with its tail where the request has
+/// WIDE. It is told by VALNOTVALID where the value is invalid, by WIDENOTVALID where a wide return meets a valid value
+/// and an invalid tail, and else by NORMAL.
 pub fn law_a_grant_returns_the_value_block()
     ensures { (history : History) (old : State) → Run history old
         → (step : Step) (choice : Option Row)

@@ -1,9 +1,11 @@
 //! Where a resource stands, its value block, and its three queues.
 
 ghost use Rattle.std.specs.Prelude.{◌≡◌};
+ghost use Rattle.vlm_words.specs.Keys.{name_space};
 ghost use Rattle.vlm_words.specs.Resources.{key_name, key_parent};
-ghost use Rattle.vlm_words.specs.ValueBlocks.{new_value_block};
+ghost use Rattle.vlm_words.specs.ValueBlocks.{invalid_value_block, new_value_block, return_status, written_value_block};
 
+use crate::conditions::Cond;
 use crate::names::Name;
 use std::hash::{Hash, Hasher};
 
@@ -55,6 +57,17 @@ impl Key {
             Key::Root(_, name) | Key::Below(_, name) => *name,
         }
     }
+
+    // The space that the resource's name is in, as a number of its own: a hasher takes a whole word in at once.
+    fn name_space(&self) -> u64
+        ensures { result ≡ name_space self.now }
+    {
+        match self {
+            Key::Root(Domain::Group(group), _) => u64::from(*group),
+            Key::Root(Domain::System, _) => 1 << 16,
+            Key::Below(parent, _) => (1 << 32) + u64::from(*parent),
+        }
+    }
 }
 
 impl PartialEq for Key {
@@ -94,39 +107,72 @@ impl Hash for Key {
     ghost respects_eq = { (same_Alike key_input is_same_key-Decides).fed };
 
     fn hash<H: Hasher>(&self, state: &mut H) {
+        self.name_space().hash(state);
         match self {
-            Key::Root(domain, name) => {
-                match domain {
-                    Domain::Group(group) => group.hash(state),
-                    Domain::System => state.write_u8(1),
-                }
-                name.bytes().hash(state);
-            }
-            Key::Below(parent, name) => {
-                parent.hash(state);
-                name.bytes().hash(state);
-            }
+            Key::Root(_, name) | Key::Below(_, name) => name.bytes().hash(state),
         }
     }
 }
 
-/// The value block of a resource: its bytes, and whether they are valid.
+/// The value block of a resource: 16 bytes, the tail of 48 more that makes it wide (this project's own), and
+/// whether each is valid. The tail is valid only where the 16 bytes are.
 #[derive(Clone, Copy)]
 pub struct ValueBlock {
     /// Its bytes, valid or not.
     pub value: [u8; 16],
     /// Whether the bytes are what the last writer meant.
     pub valid: bool,
+    /// The bytes of its tail, valid or not.
+    pub tail: [u8; 48],
+    /// Whether the tail is what the last writer meant.
+    pub tail_valid: bool,
 }
 
 impl ValueBlock {
-    /// The value block of a new resource: valid zeros.
+    /// The value block of a new resource: zeros, all of them valid.
     pub fn new() -> ValueBlock
         ensures { result ≡ new_value_block }
     {
         ValueBlock {
             value: [0; 16],
             valid: true,
+            tail: [0; 48],
+            tail_valid: true,
+        }
+    }
+
+    /// Writes the 16 bytes, and the tail where one is given. What is written is valid. Without a tail the old one
+    /// stays, and is invalid.
+    pub fn write(&mut self, value: [u8; 16], tail: Option<[u8; 48]>)
+        ensures { self.new ≡ written_value_block value tail self.old }
+    {
+        self.value = value;
+        self.valid = true;
+        self.tail_valid = tail.is_some();
+        if let Some(tail) = tail {
+            self.tail = tail;
+        }
+    }
+
+    /// Marks all of it invalid; the bytes stay.
+    pub fn invalidate(&mut self)
+        ensures { self.new ≡ invalid_value_block self.old }
+    {
+        self.valid = false;
+        self.tail_valid = false;
+    }
+
+    /// The status of a request that it is returned to: VALNOTVALID where the 16 bytes are invalid, else WIDENOTVALID
+    /// where the tail is, which a wide return alone sees, and else NORMAL.
+    pub fn return_status(&self, wide: bool) -> Cond
+        ensures { result ≡ return_status wide self.now }
+    {
+        if !self.valid {
+            Cond::Valnotvalid
+        } else if wide && !self.tail_valid {
+            Cond::Widenotvalid
+        } else {
+            Cond::Normal
         }
     }
 }

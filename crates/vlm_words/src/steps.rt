@@ -42,6 +42,8 @@ pub struct ValueSetting {
     pub block: u8,
     /// What its value part is to hold.
     pub value: [u8; 16],
+    /// What its tail is to hold; without one it stays.
+    pub tail: Option<[u8; 48]>,
 }
 
 /// A new lock is asked for ($ENQ).
@@ -97,6 +99,8 @@ pub struct Dequeue {
     pub lock: Which,
     /// The value block to write.
     pub value: Option<[u8; 16]>,
+    /// The tail to write with it, which makes the write one of 64 bytes.
+    pub tail: Option<[u8; 48]>,
     /// The bits of the flags, unknown ones too.
     pub flags: u16,
 }

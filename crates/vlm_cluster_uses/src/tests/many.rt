@@ -20,6 +20,7 @@ fn list_of(alloc: Global, node: u8) -> Result<Vec<Step>, AllocError> {
             pid,
             lock: Which::Block(1),
             value: None,
+            tail: None,
             flags: 0,
         }))?;
     }

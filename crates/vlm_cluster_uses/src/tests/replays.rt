@@ -73,6 +73,7 @@ impl Chance {
             pid,
             lock: self.lock(),
             value: None,
+            tail: None,
             flags: u16::from(self.below(8)),
         })
     }

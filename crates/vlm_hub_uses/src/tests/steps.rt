@@ -68,6 +68,7 @@ pub fn give_up(pid: u32, lock: u32) -> Step {
         pid,
         lock: Which::Id(lock),
         value: None,
+        tail: None,
         flags: 0,
     })
 }

@@ -2,7 +2,7 @@
 
 ghost use Rattle.std.specs.Prelude.{◌≡◌, ◌++◌, ◌&&◌, nat_le, [], OnOk};
 ghost use Rattle.std.specs.List.{list_all};
-ghost use Rattle.vlm_script.specs.Texts.{resource_line, resources_text, domain_text, name_text, is_readable, validity};
+ghost use Rattle.vlm_script.specs.Texts.{resource_line, tail_line, no_resources_line, domain_text, name_text, is_readable, validity};
 
 use super::texts::{decimal, hexadecimal, text};
 use std::alloc::AllocError;
@@ -29,10 +29,23 @@ pub(crate) fn resource_line(out: &mut Vec<u8>, view: &ResourceView) -> Result<()
     text(out, b"\n")
 }
 
+/// The tail of the resource's value block.
+#[tactic(auto, unfolding(crate::specs::Texts::tail_line))]
+pub(crate) fn tail_line(out: &mut Vec<u8>, view: &ResourceView) -> Result<(), AllocError>
+    ensures { OnOk result (out.new.items ≡ out.old.items ++ tail_line view.now) }
+{
+    text(out, b"tail ")?;
+    decimal(out, view.serial)?;
+    text(out, b" value ")?;
+    hexadecimal(out, &view.tail)?;
+    text(out, b" ")?;
+    text(out, validity(view.tail_valid).as_bytes())?;
+    text(out, b"\n")
+}
+
 /// The line that tells that there is no resource.
-#[tactic(auto, unfolding(crate::specs::Texts::resources_text))]
 pub(crate) fn no_resources(out: &mut Vec<u8>) -> Result<(), AllocError>
-    ensures { OnOk result (out.new.items ≡ out.old.items ++ resources_text []) }
+    ensures { OnOk result (out.new.items ≡ out.old.items ++ no_resources_line) }
 {
     text(out, b"no resources\n")
 }
@@ -74,7 +87,7 @@ fn all_visible(name: &[u8]) -> bool
     name.iter().all(|byte| 33 <= *byte && *byte <= 126)
 }
 
-/// Whether a value block is valid.
+/// Whether a value block, or its tail, is valid.
 pub(super) fn validity(valid: bool) -> &'static str
     ensures { result.now ≡ validity valid }
 {

@@ -50,6 +50,7 @@ fn given_up(lkid: u32) -> Step {
         pid: P,
         lock: Which::Id(lkid),
         value: None,
+        tail: None,
         flags: 0,
     })
 }

@@ -23,7 +23,7 @@ const CANCEL: u16 = 2;
 const DEQALL: u16 = 1;
 
 // No flag has this bit.
-const UNKNOWN: u16 = 256;
+const UNKNOWN: u16 = 512;
 
 // Nobody has it.
 const STRANGER: u32 = 65_538;
@@ -32,6 +32,7 @@ const DEQUEUE: Dequeue = Dequeue {
     pid: P,
     lock: Which::Id(1),
     value: None,
+    tail: None,
     flags: 0,
 };
 
@@ -219,6 +220,14 @@ fn dequeues(rt: HostRuntime) {
         (
             Dequeue {
                 lock: Which::Block(0),
+                tail: Some([7; 48]),
+                ..late
+            },
+            Cond::Badparam,
+        ),
+        (
+            Dequeue {
+                lock: Which::Block(0),
                 ..late
             },
             Cond::Accvio,
@@ -381,6 +390,7 @@ const SETTING: ValueSetting = ValueSetting {
     pid: P,
     block: 4,
     value: [7; 16],
+    tail: Some([7; 48]),
 };
 
 // NONEXPR, ACCVIO.

@@ -1,4 +1,4 @@
-use Rattle.std.proofs.Common.{◌≡◌, ◌+◌, ◌<◌, ℕ, get_or}
+use Rattle.std.proofs.Common.{◌+◌, ◌<◌, ℕ, get_or}
 use Rattle.std.specs.declared.alloc.Global.{Global}
 use Rattle.std.specs.declared.vec.Vec.{Vec}
 use Rattle.vlm_words.specs.declared.steps.Step.{Step}

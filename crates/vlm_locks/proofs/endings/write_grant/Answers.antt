@@ -9,8 +9,8 @@ end-requires c = process_there c.args.store.now _ _ c.requires
 pub end_with_return-requires : goal.end_with_return-requires
 end_with_return-requires c = process_there c.args.store.now _ _ c.requires
 
-pub value-requires : goal.value-requires
-value-requires c = process_there c.args.store.now _ _ c.requires
+pub status_block_or_new-from-requires : goal.status_block_or_new-from-requires
+status_block_or_new-from-requires c = process_there c.args.store.now _ _ c.requires
 
 pub end-requires-in-Write : goal.end-requires-in-Write
 end-requires-in-Write c = process_there c.args.store.now _ _ c.requires

@@ -87,6 +87,7 @@ fn given_up(pid: u32, lkid: u32, flags: u16) -> Step {
         pid,
         lock: Which::Id(lkid),
         value: None,
+        tail: None,
         flags,
     })
 }

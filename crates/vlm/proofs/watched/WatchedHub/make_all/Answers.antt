@@ -1,4 +1,4 @@
-use Rattle.vlm.proofs.WatchedSteps.{ended_behind, none_left, none_made, one_made}
+use Rattle.vlm.proofs.WatchedSteps.{ended_behind, none_made, one_made}
 use Rattle.vlm.proofs.watched.WatchedHub.make_all.Goals as goal
 
 pub loop-step-init : goal.loop-step-init

@@ -28,7 +28,7 @@ returns-clause-change c =
     let new = c.give_up_together.new in
     ap (λ (m : MachineState). plain_state (record m { records = new.store })) c.self.view_is
     ∙ state_given_up c.args.self.now (rw (← c.self.view_is) c.law_records_are_sound.ensures) (rw (← c.self.view_is) c.self.invariant.rest) c.requires.between d c.requires.all
-    admitted.goes admitted.plain a.choice admitted.choice new.store c.args.touched.now new.touched
+    admitted.goes admitted.plain admitted.short a.choice admitted.choice new.store c.args.touched.now new.touched
     (subst (λ (m : MachineState). AreGivenUp a.choice (has_flag d.flags invvalblk) d.pid m.records new.store c.args.touched.now new.touched) c.self.view_is
     (subst (λ pid. AreGivenUp a.choice (has_flag d.flags invvalblk) pid c.self.inside.store new.store c.args.touched.now new.touched) admitted.pid
     (subst (λ invalidates. AreGivenUp a.choice invalidates a.caller.pid c.self.inside.store new.store c.args.touched.now new.touched) admitted.invalidates
