@@ -1,6 +1,7 @@
 -- What is written by the handle of a process: its status blocks, its ASTs, and what it is owed.
-use Rattle.std.proofs.Common.{◌≡◌, ◌-◌, ℕ, Bool, true, false, cond, get_or, List, [], map, Option, None, Some, refl, sym, ap, subst, ◌∙◌}
+use Rattle.std.proofs.Common.{◌≡◌, ◌-◌, ℕ, Bool, true, false, cond, get_or, List, [], ◌∷◌, map, Option, None, Some, refl, sym, ap, subst, ◌∙◌, inl, inr, eq-eqb, ne_eqb}
 use Rattle.std.specs.Prelude.{nat_lt, slice_get, unwrap_or}
+use Rattle.std.proofs.lemmas.Bool.{cases_eq}
 use Rattle.std.proofs.lemmas.Option.{unwrap_or-slice_get}
 use Rattle.std.specs.Option.{IfSome, option_map_or}
 use Rattle.vlm_words.specs.declared.asts.Ast.{Ast}
@@ -8,6 +9,8 @@ use Rattle.vlm_words.specs.declared.blocks.Block.{Block}
 use Rattle.vlm_words.specs.Asts.{asts_of, oldest, process_after_queueing, process_after_take, processes_after_queueing, processes_after_take, with_ast, without_oldest_ast}
 use Rattle.vlm_words.specs.State.{Process}
 use Rattle.vlm_words.specs.StatusBlocks.{new_status_block, process_after_write, process_with_block, processes_after_write, status_block_at, status_block_of, status_blocks_of}
+use Rattle.vlm_links.specs.Lists.{IsIn}
+use Rattle.vlm_records.specs.StatusBlocks.{block_or_new as stored_block, with_changed_block}
 use Rattle.vlm_store.specs.Plain.{plain_processes}
 use Rattle.vlm_store.specs.Records.{DueChanges, HasProcess, IsProcess, IsSound, Records, SameButNotices, StoredProcess, but_notices, changed_process, due_of, on_process, on_stored, process_at, with_owed_ast}
 use Rattle.vlm_store.proofs.Plain.{plain-on_stored, process_at-stored, process_of-stored, shown-on_stored}
@@ -68,6 +71,38 @@ written_blocks s at pid n block sound is =
     ap (λ x. map (λ (p : StoredProcess). p.process) (on_process x (process_with_block n block) s.processes)) (sym is.1.1)
     ∙ plain-on_stored is.0 (changed_process (process_with_block n block)) (process_with_block n block) (λ x. refl) s.processes sound.processes_apart is.1.0
     ∙ ap (λ x. processes_after_write x n block (plain_processes s)) is.1.2
+
+-- two changes of the process at the handle that make the same of it
+same_change : (at : ℕ) (one other : StoredProcess → StoredProcess) (ps : List StoredProcess) → ((x : StoredProcess) → IsIn x ps → x.at ≡ at → one x ≡ other x)
+    → on_stored at one ps ≡ on_stored at other ps
+same_change at one other [] same = refl
+same_change at one other (x ∷ ps) same =
+    let rest = same_change at one other ps (λ y there. same y (inr there)) in
+    elim (cases_eq x.at at) [
+      | inl is ↦ rw (eq-eqb x.at at is) (ap (λ y. y ∷ on_stored at one ps) (same x (inl refl) is) ∙ ap (λ ys. other x ∷ ys) rest)
+      | inr differs ↦ rw (ne_eqb x.at at differs) (ap (λ ys. x ∷ ys) rest)
+    ]
+
+-- the change of a status block in its place
+pub changed_block : (s : Records) (at pid n : ℕ) (change : Block → Block) → IsSound s → IsProcess at pid s
+    → map (λ (p : StoredProcess). p.process) (on_process at (with_changed_block n change) s.processes)
+    ≡ processes_after_write pid n (change (status_block_of (plain_processes s) pid n)) (plain_processes s)
+changed_block s at pid n change sound is =
+    ap (λ ps. map (λ (p : StoredProcess). p.process) ps) (same_change at (changed_process (with_changed_block n change)) (changed_process (process_with_block n changed)) s.processes alike)
+    ∙ written_blocks s at pid n changed sound is
+    ∙ ap (λ blocks. processes_after_write pid n (change (stored_block n blocks)) (plain_processes s)) (blocks_are s at pid is.0.process.blocks sound is (rw found refl))
+  where
+    changed : Block
+    changed = change (stored_block n is.0.process.blocks)
+
+    found : process_at at s.processes ≡ Some is.0
+    found = ap (λ x. process_at x s.processes) (sym is.1.1) ∙ process_at-stored is.0 s.processes sound.processes_apart is.1.0
+
+    alike : (x : StoredProcess) → IsIn x s.processes → x.at ≡ at → changed_process (with_changed_block n change) x ≡ changed_process (process_with_block n changed) x
+    alike x there here =
+        let one : Some x ≡ Some is.0 = sym (process_at-stored x s.processes sound.processes_apart there) ∙ ap (λ y. process_at y s.processes) here ∙ found in
+        let it : x ≡ is.0 = cc in
+        subst (λ y. changed_process (with_changed_block n change) y ≡ changed_process (process_with_block n changed) y) (sym it) refl
 
 -- ---- what a process is owed
 

@@ -66,13 +66,8 @@ pub fn accept(store: &mut Store, at: ProcAt, number: u8, lkid: u32)
     ensures dues { DuesStay store.old store.new }
     ensures only_notices { SameButNotices store.old store.new }
 {
-    let old = status_block_or_new(store, at, number);
-    let pending = Block {
-        status: 0,
-        lkid,
-        ..old
-    };
-    write(store, at, number, pending);
+    law_records_are_sound(store);
+    store.set_pending(at, number, lkid);
 }
 
 /// Writes the value part of the status block, and its tail where one is given, and nothing else.
@@ -103,12 +98,8 @@ pub fn end(store: &mut Store, at: ProcAt, number: u8, cond: Cond)
     ensures dues { DuesStay store.old store.new }
     ensures only_notices { SameButNotices store.old store.new }
 {
-    let old = status_block_or_new(store, at, number);
-    let ended = Block {
-        status: cond.number(),
-        ..old
-    };
-    write(store, at, number, ended);
+    law_records_are_sound(store);
+    store.set_status(at, number, cond.number());
 }
 
 /// A request of the process has ended, and the value block of its resource is returned, with its tail where it is

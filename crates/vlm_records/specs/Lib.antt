@@ -5,3 +5,4 @@ pub mod Kin
 pub mod Line
 pub mod Pending
 pub mod Shown
+pub mod StatusBlocks

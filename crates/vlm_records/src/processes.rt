@@ -8,6 +8,7 @@ ghost use Rattle.vlm_words.specs.Declare.{new_process};
 ghost use Rattle.vlm_words.specs.StatusBlocks.{process_with_block};
 ghost use Rattle.vlm_records.specs.Kin.{but_order, plain_process, process_links};
 ghost use Rattle.vlm_records.specs.Shown.{room_in};
+ghost use Rattle.vlm_records.specs.StatusBlocks.{pending_for, with_changed_block, with_status};
 
 use crate::locks::OfProcess;
 use crate::resources::InOrder;
@@ -80,6 +81,40 @@ impl Process {
         };
         if let Some(old) = self.blocks.get_mut(index) {
             *old = block;
+        }
+    }
+
+    /// Writes the status of the status block with this number, from 1, if it is there. The rest of it stays.
+    pub fn set_status(&mut self, number: u8, status: u8)
+        ensures plain { plain_process self.new
+            ≡ with_changed_block number (with_status status) (plain_process self.old) }
+        ensures due { self.new.asts.due ≡ self.old.asts.due }
+        ensures own { self.new.own ≡ self.old.own }
+        ensures order { process_links self.new ≡ process_links self.old }
+    {
+        let Some(index) = usize::from(number).checked_sub(1) else {
+            return;
+        };
+        if let Some(block) = self.blocks.get_mut(index) {
+            block.status = status;
+        }
+    }
+
+    /// Makes the status block with this number, from 1, if it is there, that of a pending request for a lock. Its value
+    /// part and its tail stay.
+    pub fn set_pending(&mut self, number: u8, lkid: u32)
+        ensures plain { plain_process self.new
+            ≡ with_changed_block number (pending_for lkid) (plain_process self.old) }
+        ensures due { self.new.asts.due ≡ self.old.asts.due }
+        ensures own { self.new.own ≡ self.old.own }
+        ensures order { process_links self.new ≡ process_links self.old }
+    {
+        let Some(index) = usize::from(number).checked_sub(1) else {
+            return;
+        };
+        if let Some(block) = self.blocks.get_mut(index) {
+            block.status = 0;
+            block.lkid = lkid;
         }
     }
 }

@@ -5,6 +5,7 @@ ghost use Rattle.std.specs.Bool.{OnFalse, OnTrue};
 ghost use Rattle.vlm_words.specs.Asts.{oldest, without_oldest_ast};
 ghost use Rattle.vlm_words.specs.Declare.{new_process};
 ghost use Rattle.vlm_words.specs.StatusBlocks.{new_status_block, process_with_block};
+ghost use Rattle.vlm_records.specs.StatusBlocks.{pending_for, with_changed_block, with_status};
 ghost use Rattle.vlm_store.specs.Pending.{IsFirstLiving};
 ghost use Rattle.vlm_store.specs.Records.{FindsProcess, HasNoLocks, HasNoSublocks, HasProcess, HasRoomForProcess, IsGivenBack, IsNewProcess, IsProcess, IsSound, IsStored, IsTaken, IsUnchanged, authorization_of, new_stored_process, on_process, on_stored, owed_less, owed_more, own_at, owned_by, process_at, with_owed_ast, with_process_room, without_process};
 
@@ -106,6 +107,30 @@ impl Store {
         } }
     {
         self.processes[at.slot()].put_status_block(number, block);
+    }
+
+    /// Writes the status of the status block with this number, from 1, of a process, if it is there. The rest of it
+    /// stays.
+    pub fn set_status(&mut self, at: ProcAt, number: u8, status: u8)
+        requires { HasProcess at self.old }
+        ensures { self.new ≡ record self.old {
+          processes = on_process at (with_changed_block number (with_status status))
+              self.old.processes;
+        } }
+    {
+        self.processes[at.slot()].set_status(number, status);
+    }
+
+    /// Makes the status block with this number, from 1, of a process, if it is there, that of a pending request for a
+    /// lock. Its value part and its tail stay.
+    pub fn set_pending(&mut self, at: ProcAt, number: u8, lkid: u32)
+        requires { HasProcess at self.old }
+        ensures { self.new ≡ record self.old {
+          processes = on_process at (with_changed_block number (pending_for lkid))
+              self.old.processes;
+        } }
+    {
+        self.processes[at.slot()].set_pending(number, lkid);
     }
 
     /// Takes the oldest AST of a process, if there is one.

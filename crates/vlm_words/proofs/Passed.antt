@@ -168,16 +168,3 @@ no_value_goes s d passed all =
 pub given_none : (given : Option (List ℕ)) → is_some given ≡ false → given ≡ None
 given_none None is = refl
 given_none (Some bytes) is = cc
-
--- and so with no tail, which goes with a value
-pub no_tail_goes : (s : State) (d : Dequeue) → deq_refusal s d ≡ None → has_flag d.flags deqall ≡ true → is_some d.tail ≡ false
-no_tail_goes s d passed all =
-    of_tests (is_known deq_bits d.flags) (has_flag d.flags deqall && (has_flag d.flags cancel || is_some d.value)) (is_some d.tail) (is_some d.value)
-    (no_value_goes s d passed all) (not_mixed s d passed)
-  where
-    of_tests : (known mixed tail given : Bool) → given ≡ false → (known && not (mixed || (tail && not given))) ≡ true → tail ≡ false
-    of_tests known mixed false given is passed = refl
-    of_tests true true true false is passed = cc
-    of_tests true false true false is passed = cc
-    of_tests false mixed true false is passed = cc
-    of_tests known mixed tail true is passed = cc

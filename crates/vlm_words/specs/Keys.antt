@@ -1,5 +1,5 @@
 -- What resources are found by.
-use Rattle.std.specs.Prelude.{◌≡◌, ◌+◌, ◌++◌, ◌&&◌, ◌==◌, ℕ, Bool, false, nat_eq, refl}
+use Rattle.std.specs.Prelude.{◌≡◌, ◌+◌, ◌++◌, ◌∷◌, [], ◌&&◌, ◌==◌, ℕ, Bool, false, nat_eq, refl}
 use Rattle.std.specs.Bool.{Decides}
 use Rattle.std.specs.Cmp.{unsigned_Decides}
 use Rattle.std.specs.Cmp.Lexicographic.{bytes_decides, pointwise}
@@ -27,9 +27,10 @@ name_space (Root (Group group) name) = group
 name_space (Root System name) = 65536
 name_space (Below parent name) = 4294967296 + parent
 
--- what is hashed of a key: a whole word first, so that words are what is hashed of its name too
+-- what is hashed of a key: a whole word first, so that words are what is hashed of its name too, and then the name in
+-- one write
 abbrev pub key_input : Key → HashWrites
-key_input key = fed.u64 (name_space key) ++ fed.slice fed.u8 (key_name key)
+key_input key = fed.u64 (name_space key) ++ key_name key ∷ []
 
 is_domain-Decides : (a b : Domain) → Decides (is_domain a b) (a ≡ b)
 is_domain-Decides (Group a) (Group b) = (λ h. ap Group ((unsigned_Decides a b).0 h), λ e. (unsigned_Decides a b).1 (cc))

@@ -107,9 +107,9 @@ impl Hash for Key {
     ghost respects_eq = { (same_Alike key_input is_same_key-Decides).fed };
 
     fn hash<H: Hasher>(&self, state: &mut H) {
-        self.name_space().hash(state);
+        state.write_u64(self.name_space());
         match self {
-            Key::Root(_, name) | Key::Below(_, name) => name.bytes().hash(state),
+            Key::Root(_, name) | Key::Below(_, name) => state.write(name.bytes()),
         }
     }
 }

@@ -1,16 +1,16 @@
 //! Short texts that are copied as a whole.
 
-ghost use Rattle.std.specs.Prelude.{◌≡◌, take};
+ghost use Rattle.std.specs.Prelude.{◌≡◌, ◌≤◌, take};
 
 use std::hash::{Hash, Hasher};
 use std::marker::Model;
 
-/// At most `N` bytes, in place.
+/// At most `N` bytes, in place, and at most 255.
 #[derive(Clone, Copy)]
 pub struct Text<const N: usize> {
     // the bytes, and zeros behind them
     cells: [u8; N],
-    len: usize,
+    len: u8,
 }
 
 impl<const N: usize> Model for Text<N> {
@@ -35,19 +35,23 @@ impl<const N: usize> Model for Text<N> {
 impl<const N: usize> Text<N> {
     /// The first `N` bytes, or all where there are no more.
     pub fn of(bytes: &[u8]) -> Self
+        requires { N ≤ 255 }
         ensures { result ≡ take N bytes.now }
     {
         let len = bytes.len().min(N);
         let mut cells = [0; N];
         cells[..len].copy_from_slice(&bytes[..len]);
-        Text { cells, len }
+        Text {
+            cells,
+            len: len as u8,
+        }
     }
 
     /// The text's bytes.
     pub fn bytes(&self) -> &[u8]
         ensures { result.now ≡ self.now }
     {
-        &self.cells[..self.len]
+        &self.cells[..usize::from(self.len)]
     }
 }
 
