@@ -76,15 +76,16 @@ impl<const N: usize> Eq for Text<N> {
 }
 
 impl<const N: usize> Hash for Text<N> {
+    ghost use Rattle.std.specs.Prelude.{[], ◌∷◌};
     ghost use Rattle.std.specs.Cmp.Lexicographic.{bytes_decides};
-    ghost use Rattle.std.specs.Hash as fed;
     ghost use Rattle.std.specs.Hash.{same_Alike};
 
-    ghost hash_input = { fed.slice fed.u8 };
+    ghost hash_input = { λ text. text ∷ [] };
 
-    ghost respects_eq = { (same_Alike (fed.slice fed.u8) bytes_decides).fed };
+    ghost respects_eq = { (same_Alike (λ text. text ∷ []) bytes_decides).fed };
 
+    // In one write: a hasher takes whole words of it in at once.
     fn hash<H: Hasher>(&self, state: &mut H) {
-        self.bytes().hash(state);
+        state.write(self.bytes());
     }
 }
