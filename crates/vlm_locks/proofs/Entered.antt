@@ -1,5 +1,5 @@
 -- What the entry of a new lock makes of the records.
-use Rattle.std.proofs.Common.{◌≡◌, ◌≢◌, ◌⊎◌, ℕ, Bool, List, [], ◌∷◌, ◌++◌, map, unwrap_or, cond, true, false, Option, Some, IsSome, IfSome, refl, sym, ap, ◌∙◌, subst, inl, inr, eq-eqb, ne_eqb}
+use Rattle.std.proofs.Common.{◌≡◌, ◌≢◌, ◌⊎◌, ℕ, Bool, List, [], ◌∷◌, ◌++◌, map, unwrap_or, cond, true, false, Option, None, Some, IsSome, IfSome, refl, sym, ap, ◌∙◌, subst, inl, inr, eq-eqb, ne_eqb}
 use Rattle.std.specs.Prelude.{◌==◌}
 use Rattle.std.proofs.lemmas.Bool.{cases_eq}
 use Rattle.std.proofs.lemmas.List.{map-append}
@@ -13,18 +13,19 @@ use Rattle.vlm_links.specs.Lists.{IsIn}
 use Rattle.vlm_records.specs.declared.handles.Place.{Place}
 use Rattle.vlm_records.specs.declared.handles.Place.TheVariants.{Loose, Queued}
 use Rattle.vlm_store.specs.Plain.{plain_resource, plain_resources}
-use Rattle.vlm_store.specs.Records.{AreResourcesApart, FindsResource, HasResource, IsProcess, IsSameLock, IsSound, IsStored, Records, Room, Stores, StoredLock, StoredProcess, StoredResource, but_notices, joined_by, locks_at, moving, on_resource, process_with_lock, queued, resource_at, with_lists, with_lock_room, with_new_lock, without_lock}
-use Rattle.vlm_store.proofs.Records.{loose_joins, map_on, resource_is}
+use Rattle.vlm_store.specs.Records.{AreResourcesApart, FindsResource, HasResource, IsParentOf, IsProcess, IsSameLock, IsSound, IsStored, Records, Room, Stores, StoredLock, StoredProcess, StoredResource, but_notices, joined_by, locks_at, on_resource, process_with_lock, queued, resource_at, with_lock_room, with_new_lock}
+use Rattle.vlm_store.proofs.Records.{joins_queue, map_on, resource_is}
 use Rattle.vlm_locks.specs.Rest.{but_service}
 use Rattle.vlm_locks.proofs.Found.{resource_alone, resource_at-put}
 use Rattle.vlm_locks.specs.declared.entering.Entry.{Entry}
-use Rattle.vlm_locks.specs.Entering.{IsAdded, IsEntered, resource_for}
+use Rattle.vlm_locks.specs.Owing.{entered_row}
+use Rattle.vlm_locks.specs.Entering.{IsAdded, IsEntered, entered_queue, resource_for}
 use Rattle.vlm_words.specs.Resources.{IsKeyed}
 use Rattle.vlm_locks.specs.Rest.{IsAtRest, IsReplaced, OtherLocksStay}
 use Rattle.vlm_locks.proofs.Keyed.{AreKeyed, finds_one, key_cases}
 use Rattle.vlm_locks.proofs.Replaced.{keyed_still, others_stay, still_there, stored_cases}
 use Rattle.vlm_locks.proofs.Moves.{locks_found}
-use Rattle.vlm_locks.proofs.OtherLocks.{added_alone, locks_stay_over, moved_alone}
+use Rattle.vlm_locks.proofs.OtherLocks.{added_alone}
 use Rattle.vlm_locks.specs.Rising.{IsAboveEachLock}
 use Rattle.vlm_locks.proofs.Rising.{AllRise, all_rise_with}
 use Rattle.vlm_locks.proofs.Staying.{among_last, of_joined}
@@ -44,19 +45,24 @@ joined-value_block Granted lock r = refl
 joined-value_block Conversion lock r = refl
 joined-value_block Waiting lock r = refl
 
--- a request that is granted at once has its lock among the granted ones
-pub joins_granted : (at : ℕ) (row : Row) (at_once : Bool) (r : StoredResource) → at_once ≡ true
-    → plain_resource (joined_by Granted (record { at = at; row = granted_row row }) r) ≡ resource_after_entry row at_once (plain_resource r)
+-- a request that is granted at once has its lock among the granted ones, another at the end of the waiting queue
+pub joins_entered : (at : ℕ) (row : Row) (at_once : Bool) (r : StoredResource)
+    → plain_resource (joined_by (entered_queue at_once) (record { at = at; row = entered_row at_once row }) r) ≡ resource_after_entry row at_once (plain_resource r)
 unfolding resource_after_entry
-joins_granted at row at_once r now =
-    rw now (ap (λ rows. record (plain_resource r) { granted = rows }) (map-append (λ (k : StoredLock). k.row) r.granted (record { at = at; row = granted_row row } ∷ [])))
+joins_entered at row true r =
+    ap (λ rows. record (plain_resource r) { granted = rows }) (map-append (λ (k : StoredLock). k.row) r.granted (record { at = at; row = granted_row row } ∷ []))
+joins_entered at row false r =
+    ap (λ rows. record (plain_resource r) { waiting = rows }) (map-append (λ (k : StoredLock). k.row) r.waiting (record { at = at; row = row } ∷ []))
 
--- a request that is not granted at once has its lock at the end of the waiting queue
-pub joins_waiting : (at : ℕ) (row : Row) (at_once : Bool) (r : StoredResource) → at_once ≡ false
-    → plain_resource (joined_by Waiting (record { at = at; row = row }) r) ≡ resource_after_entry row at_once (plain_resource r)
-unfolding resource_after_entry
-joins_waiting at row at_once r queued =
-    rw queued (ap (λ rows. record (plain_resource r) { waiting = rows }) (map-append (λ (k : StoredLock). k.row) r.waiting (record { at = at; row = row } ∷ [])))
+-- its row is that of the same lock
+pub entered_same : (at_once : Bool) (row : Row) → IsSameLock row (entered_row at_once row)
+entered_same true row = record { lkid = refl; pid = refl; parent = refl }
+entered_same false row = record { lkid = refl; pid = refl; parent = refl }
+
+-- which has the same parent
+pub parent_same : (parent : Option ℕ) (a b : Row) (s : Records) → IsSameLock a b → IsParentOf parent a s → IsParentOf parent b s
+parent_same None a b s same is = sym same.parent ∙ is
+parent_same (Some up) a b s same is = (is.0, (is.1.0, is.1.1 ∙ same.parent))
 
 -- ---- the processes of a new lock
 
@@ -107,42 +113,28 @@ module _ (e : Entry) (keyed : IsKeyed e.site.domain e.site.key) where
 
 -- ---- the entry, on a resource that is there
 
--- the records once the lock stands in the list of its process and in no queue, and is not loose any more
+-- the records once the lock stands in the list of its process, but for its queue
 abbrev pub owned_by : Entry → ℕ → Records → Records
-owned_by e at s = record s { loose = []; processes = map (process_with_lock e.owner e.parent at) s.processes }
+owned_by e at s = record s { processes = map (process_with_lock e.owner e.parent at) s.processes }
 
 module _ (s : Records) (sound : IsSound s) (rest : IsAtRest s) (e : Entry) (keyed : IsKeyed e.site.domain e.site.key) (res : ℕ) (found : FindsResource s e.site.key (Some res)) where
   -- the resource of the key is there
   pub found_there : resource_at res s.resources ≡ Some found.0
   found_there = ap (λ x. resource_at x s.resources) (sym found.1.1) ∙ resource_is found.0 s.resources sound.resources_apart found.1.0
 
-  -- it is there still once the lock is made
-  pub there_still : (at : ℕ) (mid : Records) (room : Room) → mid ≡ with_lock_room room (with_new_lock at e.row e.owner e.parent s) → HasResource res mid
-  there_still at mid room added = subst IsSome (sym (ap (λ (x : Records). resource_at res x.resources) added ∙ found_there)) refl
+  pub is_there : HasResource res s
+  is_there = subst (λ (o : Option StoredResource). IsSome o) (sym found_there) refl
 
-  module _ (at : ℕ) (mid : Records) (room : Room) (mid_sound : IsSound mid) (added : mid ≡ with_lock_room room (with_new_lock at e.row e.owner e.parent s)) (row : Row) (to : Queue) (new : Records)
-      (moved : new ≡ with_lists (moving (Queued res to) (record { at = at; row = row })) mid) where
+  module _ (at : ℕ) (row : Row) (to : Queue) (room : Room) (new : Records) (added : new ≡ with_lock_room room (with_new_lock at row e.owner e.parent (Queued res to) s)) where
     -- the resource with the lock in its queue
     abbrev left : StoredResource
     left = joined_by to (record { at = at; row = row }) found.0
 
-    -- the new lock is the one loose lock
-    mid_loose : mid.loose ≡ record { at = at; row = e.row } ∷ []
-    mid_loose = ap (λ (x : Records). x.loose) added ∙ ap (λ locks. locks ++ record { at = at; row = e.row } ∷ []) rest.none_loose
-
-    -- the resources are as they were
-    mid_resources : mid.resources ≡ s.resources
-    mid_resources = ap (λ (x : Records). x.resources) added
-
-    -- then it stands in its queue
-    new_is : new ≡ record mid { resources = map (λ x. cond (x.at == res) (joined_by to (record { at = at; row = row }) x) x) mid.resources; loose = without_lock at mid.loose }
-    new_is = moved ∙ loose_joins mid mid_sound at e.row row (subst (IsIn (record { at = at; row = e.row })) (sym mid_loose) (inl refl)) res to
-
     -- the resources with it
     new_resources : new.resources ≡ on_resource res (λ x. left) s.resources
     new_resources =
-        ap (λ (x : Records). x.resources) new_is
-        ∙ ap (map (λ x. cond (x.at == res) (joined_by to (record { at = at; row = row }) x) x)) mid_resources
+        ap (λ (x : Records). x.resources) added
+        ∙ ap (λ (x : Records). x.resources) (joins_queue (record { at = at; row = row }) res to s)
         ∙ map_on (λ x. cond (x.at == res) (joined_by to (record { at = at; row = row }) x) x) (λ x. cond (x.at == res) left x) s.resources each
       where
         each : (x : StoredResource) → IsIn x s.resources → cond (x.at == res) (joined_by to (record { at = at; row = row }) x) x ≡ cond (x.at == res) left x
@@ -152,13 +144,13 @@ module _ (s : Records) (sound : IsSound s) (rest : IsAtRest s) (e : Entry) (keye
               | inr differs ↦ rw (ne_eqb x.at res differs) refl
             ]
 
-    -- no lock is loose
-    new_loose : new.loose ≡ []
-    new_loose = ap (λ (x : Records). x.loose) new_is ∙ ap (without_lock at) mid_loose ∙ rw (eq-eqb at at refl) refl
+    -- the loose locks stay
+    new_loose : new.loose ≡ s.loose
+    new_loose = ap (λ (x : Records). x.loose) added
 
     -- the processes with it
     new_processes : new.processes ≡ map (process_with_lock e.owner e.parent at) s.processes
-    new_processes = ap (λ (x : Records). x.processes) new_is ∙ ap (λ (x : Records). x.processes) added
+    new_processes = ap (λ (x : Records). x.processes) added
 
     -- of the resources just that of the lock is another
     replaced : IsReplaced res found.0 left (owned_by e at s) new
@@ -199,13 +191,13 @@ module _ (s : Records) (sound : IsSound s) (rest : IsAtRest s) (e : Entry) (keye
         was x other stored = inr (by_place stored.0 stored.1)
           where
             by_place : (place : Place) → IsIn (record { at = x; row = other }) (locks_at place (owned_by e at s)) → Stores s x other
-            by_place Loose here = absurd here
+            by_place Loose here = (Loose, here)
             by_place (Queued r queue) here = (Queued r queue, here)
 
     -- what held between two steps holds with it
     rest_with : ¬ IsStored at s → IsSameLock e.row row → IsAboveEachLock e.row.lkid s → IsAtRest new
     rest_with fresh same above = record {
-      none_loose = new_loose;
+      none_loose = new_loose ∙ rest.none_loose;
       keyed = keyed_still res found.0 left (owned_by e at s) new replaced rest.keyed;
       rising = subst (AllRise new) (sym new_processes)
           (all_rise_with e.owner e.parent at s new sound e.row.lkid fresh above
@@ -252,9 +244,7 @@ module _ (s : Records) (sound : IsSound s) (rest : IsAtRest s) (e : Entry) (keye
       stands = stands;
       same = same;
       own_locks = ap (map but_notices) new_processes;
-      others =
-          locks_stay_over at s mid new (subst (OtherLocksStay at s) (sym added) (added_alone at e.row e.owner e.parent room s))
-          (subst (OtherLocksStay at mid) (sym moved) (moved_alone (Queued res to) (record { at = at; row = row }) mid));
+      others = subst (OtherLocksStay at s) (sym added) (added_alone at row e.owner e.parent (Queued res to) room s);
     }
 
     -- the lock has entered the resource

@@ -9,7 +9,7 @@ use Rattle.vlm_words.specs.declared.resources.Queue.TheVariants.{Granted, Conver
 use Rattle.vlm_words.specs.declared.resources.ValueBlock.{ValueBlock}
 use Rattle.vlm_records.specs.declared.handles.Place.{Place}
 use Rattle.vlm_records.specs.declared.handles.Place.TheVariants.{Loose, Queued}
-use Rattle.vlm_store.specs.Records.{Records, Room, SameButNotices, StoredLock, StoredProcess, StoredResource, but_notices, is_place, leaving, locks_at, moving, on_resource, process_without_lock, queued, resource_at, resource_with, with_lists, with_lock_room, with_new_lock, without_lock, without_stored_lock}
+use Rattle.vlm_store.specs.Records.{Records, Room, SameButNotices, StoredLock, StoredProcess, StoredResource, but_notices, is_place, joining, leaving, locks_at, moving, on_resource, process_without_lock, queued, resource_at, resource_with, with_lists, with_lock_room, with_new_lock, without_lock, without_stored_lock}
 use Rattle.vlm_locks.specs.Rest.{OtherLocksStay}
 use Rattle.vlm_locks.specs.Withdrawing.{owned_after}
 
@@ -63,10 +63,23 @@ lists_stay lock change stays s (Queued x queue) = of_list s.resources
 pub moved_alone : (to : Place) (k : StoredLock) (s : Records) → OtherLocksStay k.at s (with_lists (moving to k) s)
 moved_alone to k s = lists_stay k.at (moving to k) (without_moved to k) s
 
--- a lock is made that stands in no queue
-pub added_alone : (lock : ℕ) (row : Row) (owner : ℕ) (parent : Option ℕ) (room : Room) (s : Records) → OtherLocksStay lock s (with_lock_room room (with_new_lock lock row owner parent s))
-added_alone lock row owner parent room s Loose = without_joined (record { at = lock; row = row }) s.loose
-added_alone lock row owner parent room s (Queued x queue) = refl
+-- a lock is made that joins a list
+pub added_alone : (lock : ℕ) (row : Row) (owner : ℕ) (parent : Option ℕ) (to : Place) (room : Room) (s : Records)
+    → OtherLocksStay lock s (with_lock_room room (with_new_lock lock row owner parent to s))
+added_alone lock row owner parent to room s place =
+    shown place ∙ lists_stay lock (joining to (record { at = lock; row = row })) (without_come (record { at = lock; row = row })) s place
+  where
+    without_come : (k : StoredLock) (place : Place) (locks : List StoredLock) → without_lock k.at (joining to k place locks) ≡ without_lock k.at locks
+    without_come k place locks = of_test (is_place place to)
+      where
+        of_test : (b : Bool) → without_lock k.at (cond b (locks ++ k ∷ []) locks) ≡ without_lock k.at locks
+        of_test true = without_joined k locks
+        of_test false = refl
+
+    shown : (place : Place)
+        → without_lock lock (locks_at place (with_lock_room room (with_new_lock lock row owner parent to s))) ≡ without_lock lock (locks_at place (with_lists (joining to (record { at = lock; row = row })) s))
+    shown Loose = refl
+    shown (Queued x queue) = refl
 
 -- a lock is removed
 pub removed_alone : (lock : ℕ) (room : Room) (s : Records) → OtherLocksStay lock s (with_lock_room room (without_stored_lock lock s))

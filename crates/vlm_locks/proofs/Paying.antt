@@ -12,17 +12,15 @@ use Rattle.vlm_words.specs.declared.resources.ValueBlock.{ValueBlock}
 use Rattle.vlm_words.specs.Convert.{wanting_row}
 use Rattle.vlm_words.specs.Dues.{due_to, routines_of, row_due}
 use Rattle.vlm_words.specs.Grants.{granted_row}
-use Rattle.vlm_links.specs.Lists.{IsIn}
-use Rattle.vlm_records.specs.declared.handles.Place.TheVariants.{Loose, Queued}
-use Rattle.vlm_store.specs.Records.{DueChanges, DuesStay, HasResource, IsSound, Records, Room, SameButNotices, StoredProcess, StoredResource, Stores, due_of, moving, on_resource, process_with_lock, with_lists, with_lock_room, with_new_lock}
+use Rattle.vlm_records.specs.declared.handles.Place.TheVariants.{Queued}
+use Rattle.vlm_store.specs.Records.{DueChanges, DuesStay, HasResource, IsSound, Records, Room, SameButNotices, StoredProcess, StoredResource, Stores, due_of, on_resource, process_with_lock, with_lock_room, with_new_lock}
 use Rattle.vlm_locks.specs.Entering.{IsDueMore, IsReady}
 use Rattle.vlm_locks.specs.declared.entering.Entry.{Entry}
 use Rattle.vlm_locks.specs.Owing.{DueMoves, IsPaid, OwedMoves, OwesMore, due_for, due_on}
 use Rattle.vlm_locks.specs.declared.finding.Standing.{Standing}
 use Rattle.vlm_locks.specs.Standing.{IsStanding}
-use Rattle.vlm_locks.proofs.Owing.{due_moved, due_noticed, due_own, weight}
-use Rattle.vlm_locks.proofs.Staying.{among_last}
-use Rattle.vlm_locks.proofs.Weighing.{gone_weighs}
+use Rattle.vlm_locks.proofs.Owing.{due_noticed, due_own, weight}
+use Rattle.vlm_locks.proofs.Weighing.{gone_weighs, joined_weighs}
 
 -- ---- the ASTs of routines are owed
 
@@ -118,29 +116,13 @@ same_dues owner parent at pid (p ∷ ps) =
       | inr differs ↦ rw (ne_eqb p.process.pid pid differs) (same_dues owner parent at pid ps)
     ]
 
--- a lock is made that stands in no queue
-due_made : (at : ℕ) (row : Row) (owner : ℕ) (parent : Option ℕ) (room : Room) (s : Records) (pid : ℕ)
-    → due_for pid (with_lock_room room (with_new_lock at row owner parent s)) ≡ due_for pid s + due_to pid row
-due_made at row owner parent room s pid =
-    omega (arith, sum_by-append (weight pid) s.loose (record { at = at; row = row } ∷ []), sum_by-cons (weight pid) (record { at = at; row = row }) [])
-
--- and enters a queue with another row
-module _ (s : Records) (at : ℕ) (row : Row) (owner : ℕ) (parent : Option ℕ) (mid : Records) (room : Room) (added : mid ≡ with_lock_room room (with_new_lock at row owner parent s)) (sound : IsSound mid) where
-  pub due_entered : (now : Row) (res : ℕ) (to : Queue) → HasResource res mid → (new : Records) → new ≡ with_lists (moving (Queued res to) (record { at = at; row = now })) mid → IsDueMore now s new
-  due_entered now res to there new moved = record {
-    due = λ pid.
-        omega (
-          arith,
-          ap (due_for pid) moved,
-          due_moved mid sound at row now res to stored there pid,
-          ap (due_for pid) added,
-          due_made at row owner parent room s pid,
-        );
-    dues = λ pid. ap (due_of pid) moved ∙ ap (due_of pid) added ∙ same_dues owner parent at pid s.processes;
-  }
-    where
-      stored : Stores mid at row
-      stored = (Loose, subst (λ (x : Records). IsIn (record { at = at; row = row }) x.loose) (sym added) (among_last (record { at = at; row = row }) s.loose))
+-- a lock is made that joins a queue
+pub due_entered : (s : Records) → IsSound s → (at : ℕ) (row : Row) (owner : ℕ) (parent : Option ℕ) (res : ℕ) (to : Queue) → HasResource res s → (room : Room) (new : Records)
+    → new ≡ with_lock_room room (with_new_lock at row owner parent (Queued res to) s) → IsDueMore row s new
+due_entered s sound at row owner parent res to there room new added = record {
+  due = λ pid. ap (due_for pid) added ∙ joined_weighs (weight pid) (record { at = at; row = row }) res to s sound there;
+  dues = λ pid. ap (due_of pid) added ∙ same_dues owner parent at pid s.processes;
+}
 
 -- for a resource that is made nothing is due
 pub due_with_resource : (r : StoredResource) → ((pid : ℕ) → due_on pid r ≡ 0) → (s : Records) (row : Row) (mid new : Records)

@@ -12,8 +12,8 @@ use Rattle.vlm_links.specs.Lists.{IsIn}
 use Rattle.vlm_records.specs.declared.handles.Place.{Place}
 use Rattle.vlm_records.specs.declared.handles.Place.TheVariants.{Loose, Queued}
 use Rattle.vlm_locks.specs.Owing.{total_weight as all, weight_on as on_one}
-use Rattle.vlm_store.specs.Records.{AreApart, AreResourcesApart, HasResource, IsIdle, IsSound, Records, StoredLock, StoredResource, Stores, disarmed, disarming, is_queue, leaving, locks_at, moving, on_resource, queued, resource_at, resource_with, with_lists, without_lock, without_resource}
-use Rattle.vlm_store.proofs.Records.{queue_at}
+use Rattle.vlm_store.specs.Records.{AreApart, AreResourcesApart, HasResource, IsIdle, IsSound, Records, StoredLock, StoredResource, Stores, disarmed, disarming, is_queue, joined_by, joining, leaving, locks_at, moving, on_resource, queued, resource_at, resource_with, with_lists, without_lock, without_resource}
+use Rattle.vlm_store.proofs.Records.{joins_queue, queue_at}
 use Rattle.vlm_locks.specs.Sweeping.{Parted}
 use Rattle.vlm_locks.proofs.Parting.{after_differ, before_differ, parted_at}
 
@@ -246,6 +246,25 @@ module _ (g : StoredLock → ℕ) (k : StoredLock) (res : ℕ) where
         sum_mapped (on_one g) (λ r. on_one g (resource_with (leaving k.at) r) + cond (r.at == res) (g k) 0) (resource_with (moving (Queued res to) k)) s.resources (λ r _. one_moving to r),
         sum_both (λ r. on_one g (resource_with (leaving k.at) r)) (λ r. cond (r.at == res) (g k) 0) s.resources,
         sum_mapped (on_one g) (λ r. on_one g (resource_with (leaving k.at) r)) (resource_with (leaving k.at)) s.resources (λ r _. refl),
+        sum_at (g k) res s.resources sound.resources_apart there,
+      )
+
+-- a new lock joins a queue
+module _ (g : StoredLock → ℕ) (k : StoredLock) (res : ℕ) (to : Queue) where
+  one_joined : (queue : Queue) (here : Bool) (r : StoredResource) → on_one g (cond here (joined_by queue k r) r) ≡ on_one g r + cond here (g k) 0
+  one_joined queue false r = omega arith
+  one_joined Granted true r = omega (arith, sum_by-append g r.granted (k ∷ []), sum_by-cons g k [])
+  one_joined Conversion true r = omega (arith, sum_by-append g r.converting (k ∷ []), sum_by-cons g k [])
+  one_joined Waiting true r = omega (arith, sum_by-append g r.waiting (k ∷ []), sum_by-cons g k [])
+
+  -- with it all weigh so much more
+  pub joined_weighs : (s : Records) → IsSound s → HasResource res s → all g (with_lists (joining (Queued res to) k) s) ≡ all g s + g k
+  joined_weighs s sound there =
+      omega (
+        arith,
+        ap (all g) (joins_queue k res to s),
+        sum_mapped (on_one g) (λ r. on_one g r + cond (r.at == res) (g k) 0) (λ r. cond (r.at == res) (joined_by to k r) r) s.resources (λ r _. one_joined to (r.at == res) r),
+        sum_both (on_one g) (λ r. cond (r.at == res) (g k) 0) s.resources,
         sum_at (g k) res s.resources sound.resources_apart there,
       )
 

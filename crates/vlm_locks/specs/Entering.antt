@@ -1,7 +1,9 @@
 -- The entry of a new lock into the queues of a resource.
-use Rattle.std.specs.Prelude.{◌≡◌, ◌+◌, ℕ, true, List, [], find, map, unwrap_or, IfSome, Option, None, Some, if◌then◌else◌}
+use Rattle.std.specs.Prelude.{◌≡◌, ◌+◌, ℕ, Bool, true, List, [], find, map, unwrap_or, IfSome, Option, None, Some, if◌then◌else◌}
 use Rattle.vlm_words.specs.declared.locks.Request.{Request}
 use Rattle.vlm_words.specs.declared.locks.Row.{Row}
+use Rattle.vlm_words.specs.declared.resources.Queue.{Queue}
+use Rattle.vlm_words.specs.declared.resources.Queue.TheVariants.{Granted, Waiting}
 use Rattle.vlm_words.specs.Dues.{due_to, routines_of}
 use Rattle.vlm_words.specs.Effects.{blocks_after, blocks_with}
 use Rattle.vlm_words.specs.Enqueue.{resources_after_entry}
@@ -20,6 +22,10 @@ use Rattle.vlm_locks.specs.Rising.{IsAboveEachLock}
 -- the resource that the lock finds under its key: a new one where none is there
 abbrev pub resource_for : Entry → List Resource → Resource
 resource_for e resources = unwrap_or (find (is_at e.site.key) resources) (new_resource e.serial e.site)
+
+-- the queue that a new lock enters: that of the granted locks at once, or that in which it waits
+abbrev pub entered_queue : Bool → Queue
+entered_queue at_once = if at_once then Granted else Waiting
 
 -- between two steps the lock of the entry may enter: its identification is above all, its process and its parent lock are
 -- there, and the handle of its resource fits the domain

@@ -5,7 +5,7 @@ ghost use Rattle.vlm_words.specs.Dues.{routines_of, row_due};
 ghost use Rattle.vlm_words.specs.Enqueue.{is_at_once};
 ghost use Rattle.vlm_store.specs.Plain.{plain_processes, plain_resource};
 ghost use Rattle.vlm_store.specs.Records.{DuesStay, FindsResource, HasResource, HasRoomForLock, HasRoomForResource, IsNewKey, IsProcess, IsUnchanged, SameButNotices, StoredResource, due_of, resource_at};
-ghost use Rattle.vlm_locks.specs.Entering.{HasRoomToEnter, HasEntered, IsDueMore, IsEntered, IsReady, MayEnter, processes_accepted, processes_entered};
+ghost use Rattle.vlm_locks.specs.Entering.{HasRoomToEnter, HasEntered, IsDueMore, IsEntered, IsReady, MayEnter, entered_queue, processes_accepted, processes_entered};
 ghost use Rattle.vlm_locks.specs.Owing.{IsPaid, OwedMoves, OwesMore, entered_row};
 
 use crate::endings::end_by_grant;
@@ -52,8 +52,30 @@ pub struct Entry {
     pub at_once: bool,
 }
 
-// Takes a new lock in on a resource that is there: it holds what it wants where it is granted at once, else it
-// goes to the end of the waiting queue.
+// The row of a new lock as it enters: it holds what it wants where it is granted at once.
+fn entered_row(entry: &Entry) -> Row
+    ensures { result ≡ entered_row entry.now.at_once entry.now.row }
+{
+    if entry.at_once {
+        granted_row(entry.row)
+    } else {
+        entry.row
+    }
+}
+
+// The queue that a new lock enters.
+fn entered_queue(entry: &Entry) -> Queue
+    ensures { result ≡ entered_queue entry.now.at_once }
+{
+    if entry.at_once {
+        Queue::Granted
+    } else {
+        Queue::Waiting
+    }
+}
+
+// Takes a new lock in on a resource that is there: at the end of the granted queue where it is granted at once, else
+// at that of the waiting queue.
 fn enter_at(store: &mut Store, entry: &Entry, res: ResAt) -> Result<(), AllocError>
     requires may_enter { MayEnter entry.now store.old }
     requires found { FindsResource store.old entry.now.site.key (Some res) }
@@ -63,15 +85,8 @@ fn enter_at(store: &mut Store, entry: &Entry, res: ResAt) -> Result<(), AllocErr
     ensures succeeds { HasRoomForLock store.old → IsOk result }
 {
     law_records_are_sound(store);
-    let lock = store.add_lock(entry.row, entry.owner, entry.parent)?;
-    law_records_are_sound(store);
-    if entry.at_once {
-        let granted = Place::Queued(res, Queue::Granted);
-        store.move_lock(lock, granted_row(entry.row), granted);
-    } else {
-        let waiting = Place::Queued(res, Queue::Waiting);
-        store.move_lock(lock, entry.row, waiting);
-    }
+    let queue = Place::Queued(res, entered_queue(entry));
+    store.add_lock(entered_row(entry), entry.owner, entry.parent, queue)?;
     Ok(())
 }
 

@@ -314,11 +314,22 @@ module _ (q q' : Queues) (at : ℕ) (same : (k : ℕ) → k ≢ at → rows q' k
   pub removed_granted : ((p : Place) → handles_at q' p ≡ without at (handles_at q p)) → (res : ℕ) → armed_granted q' None res ≡ armed_granted q (Some at) res
   removed_granted handles res = ap (armed_handles (rows q')) (handles (Queued res Granted)) ∙ others_armed (handles_at q (Queued res Granted))
 
-  -- it has come
-  pub added_granted : ((p : Place) → ¬ IsIn at (handles_at q p)) → ((p : Place) → p ≢ Loose → handles_at q' p ≡ handles_at q p) → (res : ℕ) → armed_granted q' None res ≡ armed_granted q None res
-  added_granted unlisted handles res =
-      ap (armed_handles (rows q')) (handles (Queued res Granted) (λ e. cc))
-      ∙ armed-kept (rows q) (rows q') (handles_at q (Queued res Granted)) (λ k found. same k (λ is. unlisted (Queued res Granted) (subst (λ x. IsIn x (handles_at q (Queued res Granted))) is found)))
+  -- it has come, to the end of a list
+  module _ (unlisted : (p : Place) → ¬ IsIn at (handles_at q p)) (to : Place) (here : handles_at q' to ≡ handles_at q to ++ at ∷ []) (elsewhere : (p : Place) → p ≢ to → handles_at q' p ≡ handles_at q p) where
+    without_none : (p : Place) → without at (handles_at q p) ≡ handles_at q p
+    without_none p = without_absent at (handles_at q p) (unlisted p)
+
+    comes_here : handles_at q' to ≡ without at (handles_at q to) ++ at ∷ []
+    comes_here = here ∙ ap (λ ks. ks ++ at ∷ []) (sym (without_none to))
+
+    comes_elsewhere : (p : Place) → p ≢ to → handles_at q' p ≡ without at (handles_at q p)
+    comes_elsewhere p differs = elsewhere p differs ∙ sym (without_none p)
+
+    pub added_granted : (res : ℕ) → armed_granted q' (Some at) res ≡ armed_granted q None res
+    added_granted res = requeued_granted to comes_here comes_elsewhere res ∙ ap (armed_handles (rows q)) (without_none (Queued res Granted))
+
+    pub added_last : IsPlaced q' None → StandsLast q' at
+    added_last = requeued_last to comes_here comes_elsewhere
 
 -- ---- other records change
 

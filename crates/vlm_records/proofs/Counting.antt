@@ -324,12 +324,6 @@ module _ (q q' : Queues) (at : ℕ) (slot : Option Lock) (updates : Updates q.lo
       counts = λ count r mode. ap (λ s. how_many count (tally_in (get s r)) mode) resources ∙ tallied.counts count r mode ∙ sym (all_or_but' (weight_of count mode) r ∙ shares_updated (weight_of count mode) r);
     }
 
--- the counts of all but a loose lock are those of all
-pub tallied_loose : (q : Queues) (at : ℕ) → IsPlaced q None → noted q at ≡ Some Loose → IsTallied q (Some at) → IsTallied q None
-tallied_loose q at placed is tallied = record {
-  counts = λ count r mode. tallied.counts count r mode ∙ omega (arith, shares-out q (weight_of count mode) at Loose placed is r);
-}
-
 -- the shares of a resource are those of the other locks, and that of one that is there
 pub own_weighs : (q : Queues) (weight : Queue → Row → ℕ) (own : ℕ) (l : Lock) → IsPlaced q None → get q.locks own ≡ Some l → (res : ℕ)
     → shares q weight None res ≡ shares q weight (Some own) res + share_of weight l.place res l.row

@@ -7,6 +7,7 @@ use Rattle.slab.specs.Slab.{Slab, get, ContainsKey}
 use Rattle.vlm_links.specs.declared.lists.LinkedList.{LinkedList}
 use Rattle.vlm_links.specs.Lists.{IsIn, IsLinked, IsNoList, Relinks, handles_of, next_in, prev_in, without}
 use Rattle.vlm_links.proofs.Keeping.{relinked_same}
+use Rattle.vlm_links.proofs.Rings.{kept-linked}
 use Rattle.vlm_words.specs.declared.resources.Queue.{Queue}
 use Rattle.vlm_words.specs.declared.resources.Queue.TheVariants.{Granted, Conversion, Waiting}
 use Rattle.vlm_records.specs.declared.handles.Place.{Place}
@@ -140,37 +141,55 @@ prev_but_place : (slot : Option Lock) → prev_in queue_links (option_map but_pl
 prev_but_place None = refl
 prev_but_place (Some l) = refl
 
--- a lock is put at the end
-module _ (q q1 q' : Queues) (locks1 : Slab Lock) (list1 : LinkedList InQueue) (at : ℕ) (place : Place) (placed : IsPlaced q (Some at))
+-- a lock that is taken out notes another place
+module _ (q q' : Queues) (at : ℕ) (placed : IsPlaced q (Some at)) (rest : SameBut but_place q.locks q'.locks) (others : (k : ℕ) → k ≢ at → get q'.locks k ≡ get q.locks k)
+    (lists : (p : Place) → list_at q' p ≡ list_at q p) where
+  nexts : (k : ℕ) → next_in queue_links (get q'.locks k) ≡ next_in queue_links (get q.locks k)
+  nexts = through but_place (next_in queue_links) next_but_place q.locks q'.locks rest
+
+  prevs : (k : ℕ) → prev_in queue_links (get q'.locks k) ≡ prev_in queue_links (get q.locks k)
+  prevs = through but_place (prev_in queue_links) prev_but_place q.locks q'.locks rest
+
+  there : (k : ℕ) → ContainsKey q.locks k → ContainsKey q'.locks k
+  there = there_through but_place q.locks q'.locks rest
+
+  pub noted-handles : (p : Place) → handles_at q' p ≡ handles_at q p
+  noted-handles = kept_handles q (Some at) placed q' lists nexts prevs there
+
+  pub noted-placed : IsPlaced q' (Some at)
+  noted-placed = record {
+    linked = λ p.
+        subst (IsLinked queue_links q'.locks) (sym (lists p))
+        (kept-linked queue_links q.locks q'.locks (list_at q p) (placed.linked p) (λ k _. nexts k) (λ k _. prevs k) (λ k _. there k));
+    listed = λ p k found.
+        let was = subst (IsIn k) (noted-handles p) found in
+        ap noted_in (others k (λ e. placed.gone p k (ap Some e) was)) ∙ placed.listed p k was;
+    stands = λ p k differs is. subst (IsIn k) (sym (noted-handles p)) (placed.stands p k differs (sym (ap noted_in (others k (λ e. differs (ap Some e)))) ∙ is));
+    gone = λ p k e found. placed.gone p k e (subst (IsIn k) (noted-handles p) found);
+  }
+
+-- a lock is put at the end of the list of the place that it notes
+module _ (q q' : Queues) (locks1 : Slab Lock) (list1 : LinkedList InQueue) (at : ℕ) (place : Place) (placed : IsPlaced q (Some at)) (note : noted q at ≡ Some place)
     (linked1 : IsLinked queue_links locks1 list1) (handles1 : handles_of queue_links locks1 list1 ≡ handles_at q place ++ at ∷ [])
     (others1 : (other : ℕ) → ¬ IsIn other (handles_at q place) → other ≢ at → get locks1 other ≡ get q.locks other) (relinks1 : Relinks with_queue_links q.locks locks1)
-    (here : list_at q1 place ≡ list1) (elsewhere : (other : Place) → other ≢ place → list_at q1 other ≡ list_at q other) (locks : q1.locks ≡ locks1)
-    (note : noted q' at ≡ Some place) (others2 : (other : ℕ) → other ≢ at → get q'.locks other ≡ get q1.locks other) (rest2 : SameBut but_place q1.locks q'.locks)
-    (lists2 : (p : Place) → list_at q' p ≡ list_at q1 p) where
-  next2 : (k : ℕ) → next_in queue_links (get q'.locks k) ≡ next_in queue_links (get locks1 k)
-  next2 k = through but_place (next_in queue_links) next_but_place q1.locks q'.locks rest2 k ∙ ap (λ s. next_in queue_links (get s k)) locks
-
-  prev2 : (k : ℕ) → prev_in queue_links (get q'.locks k) ≡ prev_in queue_links (get locks1 k)
-  prev2 k = through but_place (prev_in queue_links) prev_but_place q1.locks q'.locks rest2 k ∙ ap (λ s. prev_in queue_links (get s k)) locks
-
-  there2 : (k : ℕ) → ContainsKey locks1 k → ContainsKey q'.locks k
-  there2 k here = there_through but_place q1.locks q'.locks rest2 k (subst (λ s. ContainsKey s k) (sym locks) here)
-
-  elsewhere2 : (other : Place) → other ≢ place → list_at q' other ≡ list_at q other
-  elsewhere2 other differs = lists2 other ∙ elsewhere other differs
-
+    (here : list_at q' place ≡ list1) (elsewhere : (other : Place) → other ≢ place → list_at q' other ≡ list_at q other) (locks : q'.locks ≡ locks1) where
   pub put-here : handles_at q' place ≡ handles_at q place ++ at ∷ []
   put-here =
-      family-put_here queue_links noted_in place_cases q.locks locks1 q'.locks (list_at q) (list_at q') list1 at place next2 prev2 there2 linked1 (lists2 place ∙ here) elsewhere2 placed handles1 others1
+      family-put_here queue_links noted_in place_cases q.locks locks1 q'.locks (list_at q) (list_at q') list1 at place (λ k. ap (λ s. next_in queue_links (get s k)) locks)
+      (λ k. ap (λ s. prev_in queue_links (get s k)) locks) (λ k. subst (λ s. ContainsKey s k) (sym locks)) linked1 here elsewhere placed handles1 others1
 
   pub put-others : (p : Place) → p ≢ place → handles_at q' p ≡ handles_at q p
   put-others =
-      family-put_others queue_links noted_in place_cases q.locks locks1 q'.locks (list_at q) (list_at q') list1 at place next2 prev2 there2 linked1 (lists2 place ∙ here) elsewhere2 placed handles1 others1
+      family-put_others queue_links noted_in place_cases q.locks locks1 q'.locks (list_at q) (list_at q') list1 at place (λ k. ap (λ s. next_in queue_links (get s k)) locks)
+      (λ k. ap (λ s. prev_in queue_links (get s k)) locks) (λ k. subst (λ s. ContainsKey s k) (sym locks)) linked1 here elsewhere placed handles1 others1
 
   pub put-placed : IsPlaced q' None
   put-placed =
-      family-put queue_links noted_in place_cases q.locks locks1 q'.locks (list_at q) (list_at q') list1 at place next2 prev2 there2 linked1 (lists2 place ∙ here) elsewhere2 placed handles1 others1 note
-      (λ k differs. ap noted_in (others2 k differs) ∙ ap (λ s. noted_in (get s k)) locks ∙ noted_relinked q.locks locks1 relinks1 k)
+      family-put queue_links noted_in place_cases q.locks locks1 q'.locks (list_at q) (list_at q') list1 at place (λ k. ap (λ s. next_in queue_links (get s k)) locks)
+      (λ k. ap (λ s. prev_in queue_links (get s k)) locks) (λ k. subst (λ s. ContainsKey s k) (sym locks)) linked1 here elsewhere placed handles1 others1 (notes at ∙ note) (λ k differs. notes k)
+    where
+      notes : (k : ℕ) → noted q' k ≡ noted q k
+      notes k = ap (λ s. noted_in (get s k)) locks ∙ noted_relinked q.locks locks1 relinks1 k
 
 -- counts say nothing of the lists
 pub lists_but_tally : (q q' : Queues) → SameBut but_tally q.resources q'.resources → q'.loose ≡ q.loose → (p : Place) → list_at q' p ≡ list_at q p

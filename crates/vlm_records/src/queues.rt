@@ -74,6 +74,25 @@ impl Queues {
         self.set_list(&place, list);
     }
 
+    // Puts a lock that is in no list at the end of that of the place that it notes.
+    fn push_at(&mut self, at: usize, place: &Place)
+        requires placed { IsPlaced self.old (Some at) }
+        requires noted { noted self.old at ≡ Some place.now }
+        requires present { ContainsKey self.old.locks at }
+        requires within { at ≤ LAST_HANDLE }
+        requires there { IsThere self.old.resources place.now }
+        ensures placed { IsPlaced self.new None }
+        ensures here { handles_at self.new place.now ≡ handles_at self.old place.now ++ at ∷ [] }
+        ensures elsewhere { (other : Place) → other ≢ place.now
+            → handles_at self.new other ≡ handles_at self.old other }
+        ensures rows { (other : ℕ) → rows self.new other ≡ rows self.old other }
+        ensures kept { Keeps but_requeued but_lists self.old self.new }
+    {
+        let mut list = self.list(*place);
+        list.push_back(&mut self.locks, at);
+        self.set_list(place, list);
+    }
+
     // Puts a lock that is in no list at the end of one.
     fn put_at(&mut self, at: usize, place: Place)
         requires placed { IsPlaced self.old (Some at) }
@@ -87,10 +106,8 @@ impl Queues {
         ensures rows { (other : ℕ) → rows self.new other ≡ rows self.old other }
         ensures kept { Keeps but_requeued but_lists self.old self.new }
     {
-        let mut list = self.list(place);
-        list.push_back(&mut self.locks, at);
-        self.set_list(&place, list);
         self.set_place(at, place);
+        self.push_at(at, &place);
     }
 
     // Notes in its record where a lock stands.
@@ -180,18 +197,18 @@ impl Queues {
         self.count_in(at);
     }
 
-    /// Adds a lock that stands in no queue, and is not yet among those of its process and its parent. There
+    /// Adds a lock at the end of a list, which is not yet among those of its process and its parent. There
     /// is room for it.
-    pub fn add(&mut self, row: &Row, owner: ProcAt, parent: Option<LockAt>) -> usize
+    pub fn add(&mut self, row: &Row, owner: ProcAt, parent: Option<LockAt>, to: Place) -> usize
         requires laid_out { IsLaidOut self.old }
         requires room { HasRoomFor self.old.locks 1 }
         requires within { self.old.locks.vacant_key ≤ LAST_HANDLE }
+        requires there { IsThere self.old.resources to }
         ensures within { result ≤ LAST_HANDLE }
         ensures fresh { get self.old.locks result ≡ None }
         ensures laid_out { IsLaidOut self.new }
-        ensures here { handles_at self.new Place.Loose
-            ≡ handles_at self.old Place.Loose ++ result ∷ [] }
-        ensures elsewhere { (other : Place) → other ≢ Place.Loose
+        ensures here { handles_at self.new to ≡ handles_at self.old to ++ result ∷ [] }
+        ensures elsewhere { (other : Place) → other ≢ to
             → handles_at self.new other ≡ handles_at self.old other }
         ensures row { rows self.new result ≡ row.now }
         ensures rows { (other : ℕ) → other ≢ result → rows self.new other ≡ rows self.old other }
@@ -209,7 +226,7 @@ impl Queues {
     {
         let at = self.locks.insert_reserved(Lock {
             row: *row,
-            place: Place::Loose,
+            place: to,
             in_queue: Links::none(),
             in_armed: Links::none(),
             in_line: Links::none(),
@@ -219,7 +236,9 @@ impl Queues {
             of_parent: Links::none(),
             sublocks: LinkedList::new(),
         });
-        self.put_at(at, Place::Loose);
+        self.push_at(at, &to);
+        self.count_in(at);
+        self.join_armed(at);
         at
     }
 

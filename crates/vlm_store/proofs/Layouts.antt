@@ -11,7 +11,7 @@ use Rattle.vlm_words.specs.declared.resources.Queue.{Queue}
 use Rattle.vlm_words.specs.declared.resources.Queue.TheVariants.{Granted, Conversion, Waiting}
 use Rattle.vlm_records.specs.declared.handles.Place.{Place}
 use Rattle.vlm_records.specs.declared.handles.Place.TheVariants.{Loose, Queued}
-use Rattle.vlm_store.specs.Records.{AreOwnApart, StoredProcess, Records, StoredLock, StoredResource, AreApart, AreOwned, AreProcessesApart, AreResourcesApart, HasPlace, HasResource, IsSound, Stores, at_after, disarmed, disarming, first_at, first_resource_at, resource_at_after, is_place, leaving, locks_at, moving, on_resource, queued, resource_at, resource_with, with_lists, without_lock, without_resource}
+use Rattle.vlm_store.specs.Records.{AreOwnApart, StoredProcess, Records, StoredLock, StoredResource, AreApart, AreOwned, AreProcessesApart, AreResourcesApart, HasPlace, HasResource, IsSound, Stores, at_after, disarmed, disarming, first_at, first_resource_at, resource_at_after, is_place, joining, leaving, locks_at, moving, on_resource, queued, resource_at, resource_with, with_lists, without_lock, without_resource}
 use Rattle.vlm_store.specs.Store.{Layout, under_handle, records_of, resource_of}
 use Rattle.vlm_records.proofs.Places.{place_cases}
 use Rattle.vlm_store.proofs.Records.{is_place-other, is_place-same}
@@ -79,6 +79,22 @@ moving-under_handle rows rows' handles handles' at row to here others joined lef
     rest : (p : Place) → map (under_handle rows') (without at (handles p)) ≡ without_lock at (map (under_handle rows) (handles p))
     rest p = under_handle-kept rows rows' (without at (handles p)) (λ k found. others k (IsIn-without at k (handles p) found).1) ∙ sym (under_handle-without rows at (handles p))
 
+pub joining-under_handle : (rows rows' : ℕ → Row) (handles handles' : Place → List ℕ) (at : ℕ) (row : Row) (to : Place) → rows' at ≡ row → ((k : ℕ) → k ≢ at → rows' k ≡ rows k)
+    → ((p : Place) → ¬ IsIn at (handles p)) → handles' to ≡ handles to ++ at ∷ [] → ((p : Place) → p ≢ to → handles' p ≡ handles p)
+    → (p : Place) → map (under_handle rows') (handles' p) ≡ joining to (record { at = at; row = row }) p (map (under_handle rows) (handles p))
+joining-under_handle rows rows' handles handles' at row to here others unlisted joined stay p =
+    elim (place_cases p to) [
+      | inl same ↦
+          rw (ap (λ x. is_place x to) same ∙ is_place-same to)
+          (ap (λ x. map (under_handle rows') (handles' x)) same ∙ ap (map (under_handle rows')) joined ∙ under_handle-append rows' (handles to) at
+          ∙ ap (λ xs. xs ++ under_handle rows' at ∷ []) (rest to) ∙ ap (λ r. map (under_handle rows) (handles to) ++ record { at = at; row = r } ∷ []) here
+          ∙ ap (λ x. map (under_handle rows) (handles x) ++ record { at = at; row = row } ∷ []) (sym same))
+      | inr differs ↦ rw (is_place-other p to differs) (ap (map (under_handle rows')) (stay p differs) ∙ rest p)
+    ]
+  where
+    rest : (p : Place) → map (under_handle rows') (handles p) ≡ map (under_handle rows) (handles p)
+    rest p = under_handle-kept rows rows' (handles p) (λ k found. others k (λ same. unlisted p (subst (λ x. IsIn x (handles p)) same found)))
+
 pub leaving-under_handle : (rows rows' : ℕ → Row) (handles handles' : Place → List ℕ) (at : ℕ) → ((k : ℕ) → k ≢ at → rows' k ≡ rows k) → ((p : Place) → handles' p ≡ without at (handles p))
     → (p : Place) → map (under_handle rows') (handles' p) ≡ leaving at p (map (under_handle rows) (handles p))
 leaving-under_handle rows rows' handles handles' at others left p =
@@ -120,34 +136,6 @@ module _ (old new : Layout) (change : Place → List StoredLock → List StoredL
       lists_changed_beside order
       ∙ ap (λ ps. record (with_lists change (records_of old)) { processes = ps; room = new.room }) processes
       ∙ ap (λ r. record (with_lists change (records_of old)) { room = r }) room
-
--- a lock joins the loose ones
-pub loose_joined : (old new : Layout) (at : ℕ) (row : Row) → ((r : ℕ) → new.faces r ≡ old.faces r) → new.order ≡ old.order → new.rows at ≡ row → ((k : ℕ) → k ≢ at → new.rows k ≡ old.rows k)
-    → ((p : Place) → ¬ IsIn at (old.handles p)) → new.handles Loose ≡ old.handles Loose ++ at ∷ [] → ((p : Place) → p ≢ Loose → new.handles p ≡ old.handles p)
-    → records_of new ≡ record (records_of old) { loose = (records_of old).loose ++ record { at = at; row = row } ∷ []; processes = new.processes; room = (records_of new).room }
-unfolding records_of
-loose_joined old new at row faces order here others unlisted joined stay =
-    ap (λ x. record { resources = x; loose = map (under_handle new.rows) (new.handles Loose); processes = new.processes; room = new.room }) (ap (map (resource_of new)) order ∙ resources old.order)
-    ∙ ap (λ x. record { resources = map (resource_of old) old.order; loose = x; processes = new.processes; room = new.room }) loose
-  where
-    other : (p : Place) (k : ℕ) → IsIn k (old.handles p) → new.rows k ≡ old.rows k
-    other p k found = others k (λ same. unlisted p (subst (λ x. IsIn x (old.handles p)) same found))
-
-    list_same : (p : Place) → p ≢ Loose → map (under_handle new.rows) (new.handles p) ≡ map (under_handle old.rows) (old.handles p)
-    list_same p differs = ap (map (under_handle new.rows)) (stay p differs) ∙ under_handle-kept old.rows new.rows (old.handles p) (other p)
-
-    resource_same : (r : ℕ) → resource_of new r ≡ resource_of old r
-    resource_same r = rw (faces r, list_same (Queued r Granted) (λ e. cc), list_same (Queued r Conversion) (λ e. cc), list_same (Queued r Waiting) (λ e. cc)) refl
-
-    resources : (rs : List ℕ) → map (resource_of new) rs ≡ map (resource_of old) rs
-    resources [] = refl
-    resources (r ∷ rs) = ap (λ x. x ∷ map (resource_of new) rs) (resource_same r) ∙ ap (λ rest. resource_of old r ∷ rest) (resources rs)
-
-    loose : map (under_handle new.rows) (new.handles Loose) ≡ map (under_handle old.rows) (old.handles Loose) ++ record { at = at; row = row } ∷ []
-    loose =
-        ap (map (under_handle new.rows)) joined ∙ under_handle-append new.rows (old.handles Loose) at
-        ∙ ap (λ xs. xs ++ under_handle new.rows at ∷ []) (under_handle-kept old.rows new.rows (old.handles Loose) (other Loose))
-        ∙ ap (λ r. map (under_handle old.rows) (old.handles Loose) ++ record { at = at; row = r } ∷ []) here
 
 -- ---- resources
 

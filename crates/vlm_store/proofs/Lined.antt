@@ -5,11 +5,10 @@ use Rattle.std.specs.Option.{option_map}
 use Rattle.slab.specs.Slab.{Slab, get}
 use Rattle.vlm_links.specs.declared.lists.LinkedList.{LinkedList}
 use Rattle.vlm_links.specs.Lists.{IsIn, IsNoList, Relinks, next_in, prev_in, without}
-use Rattle.vlm_links.proofs.HandleLists.{IsIn-push_kept, IsIn-push_last, IsIn-without_kept}
+use Rattle.vlm_links.proofs.HandleLists.{IsIn-push_kept, IsIn-without_kept}
 use Rattle.vlm_links.proofs.Keeping.{relinked_same, vacant_unlisted}
 use Rattle.vlm_links.proofs.Rings.{kept-handles, kept-linked}
 use Rattle.vlm_records.specs.declared.handles.Place.{Place}
-use Rattle.vlm_records.specs.declared.handles.Place.TheVariants.{Loose}
 use Rattle.vlm_records.specs.declared.locks.InLine.{InLine}
 use Rattle.vlm_records.specs.declared.locks.Lock.{Lock}
 use Rattle.vlm_records.specs.declared.queues.Queues.{Queues}
@@ -17,7 +16,6 @@ use Rattle.vlm_records.specs.Kin.{but_below, with_own_links}
 use Rattle.vlm_records.specs.Line.{IsLine, line_handles, line_in, line_links, queued_line}
 use Rattle.vlm_records.specs.Shown.{IsPlaced, SameBut, but_in_line, but_kin, but_queued, handles_at, noted, noted_in}
 use Rattle.vlm_records.proofs.Families.{family-empty, family-grown, family-kept, family-shrunk}
-use Rattle.vlm_records.proofs.Lining.{unqueued_joined}
 use Rattle.vlm_records.proofs.Places.{by_part, place_cases, there_by_part, through}
 
 -- ---- what the records tell of the list
@@ -167,19 +165,17 @@ line_removed q q' line at placed placed' gone links handles is =
 
 -- ---- a lock comes
 
-pub line_added : (q q' : Queues) (line : LinkedList InLine) (at : ℕ) → IsPlaced q None → IsPlaced q' None → get q.locks at ≡ None
-    → ((k : ℕ) → k ≢ at → option_map line_links (get q'.locks k) ≡ option_map line_links (get q.locks k)) → handles_at q' Loose ≡ handles_at q Loose ++ at ∷ []
-    → ((p : Place) → p ≢ Loose → handles_at q' p ≡ handles_at q p) → IsLine q.locks line None → IsLine q'.locks line None
-line_added q q' line at placed placed' fresh links here elsewhere is =
-    unqueued_joined q'.locks line at
-    (family-grown line_links line_in q.locks (λ i. line) None is q'.locks (λ i. line) (λ i. refl) at (λ i. vacant_unlisted line_links q.locks line (is.linked i) at fresh)
+pub line_added : (q q' : Queues) (line : LinkedList InLine) (at : ℕ) (to : Place) → IsPlaced q None → IsPlaced q' None → get q.locks at ≡ None
+    → ((k : ℕ) → k ≢ at → option_map line_links (get q'.locks k) ≡ option_map line_links (get q.locks k)) → handles_at q' to ≡ handles_at q to ++ at ∷ []
+    → ((p : Place) → p ≢ to → handles_at q' p ≡ handles_at q p) → IsLine q.locks line None → IsLine q'.locks line (Some at)
+line_added q q' line at to placed placed' fresh links here elsewhere is =
+    family-grown line_links line_in q.locks (λ i. line) None is q'.locks (λ i. line) (λ i. refl) at (λ i. vacant_unlisted line_links q.locks line (is.linked i) at fresh)
     (λ k differs. next_by (get q'.locks k) (get q.locks k) (links k differs)) (λ k differs. prev_by (get q'.locks k) (get q.locks k) (links k differs))
-    (λ k differs. there_by_part line_links (get q'.locks k) (get q.locks k) (links k differs)) (λ k differs. noted_still q q' placed placed' k (links k differs) (stays k)) refl)
-    (line_noted (get q'.locks at) ∙ ap line_at (placed'.listed Loose at (subst (IsIn at) (sym here) (IsIn-push_last at (handles_at q Loose)))))
+    (λ k differs. there_by_part line_links (get q'.locks k) (get q.locks k) (links k differs)) (λ k differs. noted_still q q' placed placed' k (links k differs) (stays k)) refl
   where
     stays : (k : ℕ) (p : Place) → IsIn k (handles_at q p) → IsIn k (handles_at q' p)
     stays k p found =
-        elim (place_cases p Loose) [
-          | inl loose ↦ subst (λ x. IsIn k (handles_at q' x)) (sym loose) (subst (IsIn k) (sym here) (IsIn-push_kept at k (handles_at q Loose) (subst (λ x. IsIn k (handles_at q x)) loose found)))
+        elim (place_cases p to) [
+          | inl is ↦ subst (λ x. IsIn k (handles_at q' x)) (sym is) (subst (IsIn k) (sym here) (IsIn-push_kept at k (handles_at q to) (subst (λ x. IsIn k (handles_at q x)) is found)))
           | inr other ↦ subst (IsIn k) (sym (elsewhere p other)) found
         ]

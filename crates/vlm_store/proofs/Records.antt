@@ -9,7 +9,7 @@ use Rattle.vlm_words.specs.declared.resources.Queue.TheVariants.{Granted, Conver
 use Rattle.vlm_links.specs.Lists.{IsIn}
 use Rattle.vlm_records.specs.declared.handles.Place.{Place}
 use Rattle.vlm_records.specs.declared.handles.Place.TheVariants.{Loose, Queued}
-use Rattle.vlm_store.specs.Records.{AreResourcesApart, IsSound, Records, StoredLock, StoredResource, is_place, is_queue, joined_by, locks_at, moving, on_resource, queued, resource_at, resource_with, with_lists, without_lock}
+use Rattle.vlm_store.specs.Records.{AreResourcesApart, IsSound, Records, StoredLock, StoredResource, is_place, is_queue, joined_by, joining, locks_at, moving, on_resource, queued, resource_at, resource_with, with_lists, without_lock}
 
 -- ---- places
 
@@ -85,28 +85,40 @@ module _ (s : Records) (at : ℕ) (row : Row) (from : Place) (sound : IsSound s)
   pub unmoved : (p : Place) → p ≢ from → without_lock at (locks_at p s) ≡ locks_at p s
   unmoved p differs = without_absent at (locks_at p s) (λ other found. differs (sound.one_place at other row p from found stands))
 
+-- ---- a lock joins
+
 -- the locks of a queue, with one more if it joins here
 abbrev with_joined : StoredLock → Bool → List StoredLock → List StoredLock
 with_joined lock here locks = cond here (locks ++ lock ∷ []) locks
 
-module _ (s : Records) (sound : IsSound s) (at : ℕ) (was row : Row) (stands : IsIn (record { at = at; row = was }) s.loose) (res : ℕ) (to : Queue) where
+module _ (lock : StoredLock) (res : ℕ) (to : Queue) where
   -- each resource is as it was, but for the one that the lock joins
-  joins : (x : StoredResource) → IsIn x s.resources
-      → resource_with (moving (Queued res to) (record { at = at; row = row })) x ≡ cond (x.at == res) (joined_by to (record { at = at; row = row }) x) x
-  joins x among =
-      let kept = queue_without s sound at x among (λ queue other found. no_queue x.at queue (sound.one_place at other was (Queued x.at queue) Loose found stands)) in
-      rw (kept Granted, kept Conversion, kept Waiting) (by_queue to (x.at == res))
+  joins_one : (x : StoredResource) → resource_with (joining (Queued res to) lock) x ≡ cond (x.at == res) (joined_by to lock x) x
+  joins_one x = by_queue to (x.at == res)
     where
-      no_queue : (at : ℕ) (queue : Queue) → Queued at queue ≢ Loose
-      no_queue at queue same = cc
-
       by_queue : (queue : Queue) (here : Bool)
-          → record x { granted = with_joined (record { at = at; row = row }) (here && is_queue Granted queue) x.granted; converting = with_joined (record { at = at; row = row }) (here && is_queue Conversion queue) x.converting; waiting = with_joined (record { at = at; row = row }) (here && is_queue Waiting queue) x.waiting }
-          ≡ cond here (joined_by queue (record { at = at; row = row }) x) x
+          → record x { granted = with_joined lock (here && is_queue Granted queue) x.granted; converting = with_joined lock (here && is_queue Conversion queue) x.converting; waiting = with_joined lock (here && is_queue Waiting queue) x.waiting }
+          ≡ cond here (joined_by queue lock x) x
       by_queue Granted true = refl
       by_queue Conversion true = refl
       by_queue Waiting true = refl
       by_queue queue false = refl
+
+  -- a new lock joins the queue of its resource, and nothing else changes
+  pub joins_queue : (s : Records) → with_lists (joining (Queued res to) lock) s ≡ record s { resources = on_resource res (joined_by to lock) s.resources }
+  joins_queue s =
+      ap (λ x. record s { resources = x }) (map_on (resource_with (joining (Queued res to) lock)) (λ x. cond (x.at == res) (joined_by to lock x) x) s.resources (λ x _. joins_one x))
+
+module _ (s : Records) (sound : IsSound s) (at : ℕ) (was row : Row) (stands : IsIn (record { at = at; row = was }) s.loose) (res : ℕ) (to : Queue) where
+  -- so does a loose one
+  joins : (x : StoredResource) → IsIn x s.resources
+      → resource_with (moving (Queued res to) (record { at = at; row = row })) x ≡ cond (x.at == res) (joined_by to (record { at = at; row = row }) x) x
+  joins x among =
+      let kept = queue_without s sound at x among (λ queue other found. no_queue x.at queue (sound.one_place at other was (Queued x.at queue) Loose found stands)) in
+      rw (kept Granted, kept Conversion, kept Waiting) (joins_one (record { at = at; row = row }) res to x)
+    where
+      no_queue : (at : ℕ) (queue : Queue) → Queued at queue ≢ Loose
+      no_queue at queue same = cc
 
   -- it joins the queue of its resource, and nothing else changes
   pub loose_joins : with_lists (moving (Queued res to) (record { at = at; row = row })) s

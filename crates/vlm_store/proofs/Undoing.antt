@@ -1,5 +1,5 @@
 -- A removal undoes an addition.
-use Rattle.std.proofs.Common.{◌≡◌, ◌≢◌, ℕ, List, [], ◌∷◌, ◌++◌, map, filter, true, false, not, cond, Option, None, Some, IsSome, refl, ap, ◌∙◌, subst, inl, inr, eq-eqb, ne_eqb, append-nil, map-id}
+use Rattle.std.proofs.Common.{◌≡◌, ◌≢◌, ℕ, List, [], ◌∷◌, ◌++◌, map, filter, true, false, not, cond, Option, None, Some, IsSome, refl, ap, ◌∙◌, subst, inl, inr, eq-eqb, ne_eqb, append-nil}
 use Rattle.std.specs.Prelude.{◌==◌}
 use Rattle.std.proofs.lemmas.Bool.{cases_eq}
 use Rattle.vlm_links.specs.Lists.{IsIn, without}
@@ -8,9 +8,10 @@ use Rattle.vlm_words.specs.declared.locks.Row.{Row}
 use Rattle.vlm_words.specs.declared.steps.Declaration.{Declaration}
 use Rattle.vlm_words.specs.declared.resources.Queue.TheVariants.{Granted, Conversion, Waiting}
 use Rattle.vlm_words.specs.declared.resources.Site.{Site}
+use Rattle.vlm_records.specs.declared.handles.Place.{Place}
 use Rattle.vlm_records.specs.declared.handles.Place.TheVariants.{Loose, Queued}
-use Rattle.vlm_store.specs.Records.{HasProcess, HasResource, OwnLock, StoredProcess, Stores, new_own, new_stored_process, process_at, process_with_lock, process_without_lock, with_new_lock, with_sublock, without_process, without_stored_lock, without_sublock, IsSound, IsStored, Records, StoredLock, StoredResource, leaving, new_stored_resource, resource_at, resource_with, without_lock, without_resource}
-use Rattle.vlm_store.proofs.Records.{map_on, queue_without, without_absent}
+use Rattle.vlm_store.specs.Records.{HasProcess, HasResource, OwnLock, StoredProcess, Stores, new_own, new_stored_process, process_at, process_with_lock, process_without_lock, with_new_lock, with_sublock, without_process, without_stored_lock, without_sublock, IsSound, IsStored, Records, StoredLock, StoredResource, is_place, joining, leaving, new_stored_resource, resource_at, resource_with, without_lock, without_resource}
+use Rattle.vlm_store.proofs.Records.{queue_without, without_absent}
 
 without_last : (at : ℕ) (row : Row) (locks : List StoredLock) → without_lock at (locks ++ record { at = at; row = row } ∷ []) ≡ without_lock at locks
 without_last at row [] = rw (eq-eqb at at refl) refl
@@ -85,11 +86,34 @@ module _ (s : Records) (at : ℕ) (sound : IsSound s) (absent : ¬ IsStored at s
         | false ↦ ap (λ xs. map (without_sublock at) (filter (λ (o : OwnLock). not (o.at == at)) xs)) (append-nil (map (with_sublock parent at) p.own)) ∙ own_same p among parent p.own (λ o here. here)
       ])
 
-  pub lock_undone : (row : Row) (owner : ℕ) (parent : Option ℕ) → without_stored_lock at (with_new_lock at row owner parent s) ≡ s
-  lock_undone row owner parent =
-      ap (λ x. record (without_stored_lock at (with_new_lock at row owner parent s)) { resources = x }) (map_on (resource_with (leaving at)) (λ r. r) s.resources resource_same ∙ map-id s.resources)
-      ∙ ap (λ x. record (without_stored_lock at (with_new_lock at row owner parent s)) { resources = s.resources; loose = x })
-      (without_last at row s.loose ∙ without_absent at s.loose (λ r found. absent (r, (Loose, found))))
+  module _ (row : Row) (to : Place) where
+    -- no list shows it, once it has left
+    left_joined : (place : Place) (locks : List StoredLock) → without_lock at (joining to (record { at = at; row = row }) place locks) ≡ without_lock at locks
+    left_joined place locks =
+        elim (is_place place to) as (λ b. without_lock at (cond b (locks ++ record { at = at; row = row } ∷ []) locks) ≡ without_lock at locks) [
+          | true ↦ without_last at row locks
+          | false ↦ refl
+        ]
+
+    joined_same : (r : StoredResource) → IsIn r s.resources → resource_with (leaving at) (resource_with (joining to (record { at = at; row = row })) r) ≡ r
+    joined_same r among =
+        let granted = left_joined (Queued r.at Granted) r.granted in
+        let converting = left_joined (Queued r.at Conversion) r.converting in
+        let waiting = left_joined (Queued r.at Waiting) r.waiting in
+        (λ i. record r { granted = granted i; converting = converting i; waiting = waiting i }) ∙ resource_same r among
+
+    resources_same : (rs : List StoredResource) → ((r : StoredResource) → IsIn r rs → IsIn r s.resources)
+        → map (resource_with (leaving at)) (map (resource_with (joining to (record { at = at; row = row }))) rs) ≡ rs
+    resources_same [] within = refl
+    resources_same (r ∷ rest) within =
+        ap (λ x. x ∷ map (resource_with (leaving at)) (map (resource_with (joining to (record { at = at; row = row }))) rest)) (joined_same r (within r (inl refl)))
+        ∙ ap (λ xs. r ∷ xs) (resources_same rest (λ x there. within x (inr there)))
+
+  pub lock_undone : (row : Row) (owner : ℕ) (parent : Option ℕ) (to : Place) → without_stored_lock at (with_new_lock at row owner parent to s) ≡ s
+  lock_undone row owner parent to =
+      ap (λ x. record (without_stored_lock at (with_new_lock at row owner parent to s)) { resources = x }) (resources_same row to s.resources (λ r here. here))
+      ∙ ap (λ x. record (without_stored_lock at (with_new_lock at row owner parent to s)) { resources = s.resources; loose = x })
+      (left_joined row to Loose s.loose ∙ without_absent at s.loose (λ r found. absent (r, (Loose, found))))
       ∙ ap (λ x. record s { processes = x }) (each s.processes (λ p here. here))
     where
       each : (ps : List StoredProcess) → ((p : StoredProcess) → IsIn p ps → IsIn p s.processes) → map (process_without_lock at) (map (process_with_lock owner parent at) ps) ≡ ps

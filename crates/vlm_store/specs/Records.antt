@@ -200,6 +200,10 @@ abbrev pub moving : Place → StoredLock → Place → List StoredLock → List 
 moving to lock place locks =
     if is_place place to then without_lock lock.at locks ++ lock ∷ [] else without_lock lock.at locks
 
+-- a change of lists: a lock that stood in none joins at the end of one
+abbrev pub joining : Place → StoredLock → Place → List StoredLock → List StoredLock
+joining to lock place locks = if is_place place to then locks ++ lock ∷ [] else locks
+
 -- a lock that is armed no more
 abbrev pub disarmed : StoredLock → StoredLock
 disarmed k = record k { row = record k.row { armed = false } }
@@ -344,12 +348,12 @@ process_without_lock lock p = record p {
   own = map (without_sublock lock) (filter (λ own. not (own.at == lock)) p.own);
 }
 
--- a new lock in no queue, of this owner and below this parent
-abbrev pub with_new_lock : ℕ → Row → ℕ → Option ℕ → Records → Records
-with_new_lock at row owner parent s = record s {
-  loose = s.loose ++ record { at = at; row = row } ∷ [];
-  processes = map (process_with_lock owner parent at) s.processes;
-}
+-- a new lock of this owner and below this parent, at the end of the list of a place
+abbrev pub with_new_lock : ℕ → Row → ℕ → Option ℕ → Place → Records → Records
+with_new_lock at row owner parent to s =
+    record (with_lists (joining to (record { at = at; row = row })) s) {
+      processes = map (process_with_lock owner parent at) s.processes;
+    }
 
 -- a lock is gone, from its queue, from those of its process, and from below its parent
 abbrev pub without_stored_lock : ℕ → Records → Records

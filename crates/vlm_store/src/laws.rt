@@ -1,14 +1,14 @@
 //! What holds of the records, and of the store's calls together. The functions do nothing: their contracts
 //! are the laws.
 
-ghost use Rattle.std.specs.Prelude.{◌≡◌, ℕ, Option, [], ◌∷◌, ◌++◌};
+ghost use Rattle.std.specs.Prelude.{◌≡◌, ℕ, Option, [], ◌∷◌, ◌++◌, map};
 ghost use Rattle.vlm_words.specs.declared.locks.Row.{Row};
 ghost use Rattle.vlm_words.specs.declared.resources.Queue.{Queue};
 ghost use Rattle.vlm_words.specs.declared.resources.Site.{Site};
 ghost use Rattle.vlm_words.specs.declared.steps.Declaration.{Declaration};
 ghost use Rattle.vlm_links.specs.Lists.{IsIn};
 ghost use Rattle.vlm_records.specs.declared.handles.Place.{Place};
-ghost use Rattle.vlm_store.specs.Records.{Records, HasProcess, HasResource, IsSound, IsStored, joined_by, moving, new_stored_resource, new_stored_process, on_resource, with_lists, with_new_lock, without_lock, without_process, without_resource, without_stored_lock};
+ghost use Rattle.vlm_store.specs.Records.{Records, HasProcess, HasResource, IsSound, IsStored, joined_by, moving, new_stored_resource, new_stored_process, on_resource, process_with_lock, with_lists, with_new_lock, without_lock, without_process, without_resource, without_stored_lock};
 
 use crate::store::Store;
 
@@ -23,8 +23,9 @@ pub fn law_records_are_sound(store: &Store)
 
 /// A lock, a resource or a process that was not there is added and removed again: all is as it was.
 pub fn law_removal_undoes_an_addition()
-    ensures lock { (s : Records) (at : ℕ) (row : Row) (owner : ℕ) (parent : Option ℕ) → IsSound s
-        → ¬ IsStored at s → without_stored_lock at (with_new_lock at row owner parent s) ≡ s }
+    ensures lock { (s : Records) (at : ℕ) (row : Row) (owner : ℕ) (parent : Option ℕ) (to : Place)
+        → IsSound s → ¬ IsStored at s
+        → without_stored_lock at (with_new_lock at row owner parent to s) ≡ s }
     ensures resource { (s : Records) (res serial : ℕ) (site : Site) → ¬ HasResource res s
         → record s {
           resources = without_resource res
@@ -34,6 +35,16 @@ pub fn law_removal_undoes_an_addition()
         → record s {
           processes = without_process at (s.processes ++ new_stored_process at pid d ∷ []);
         } ≡ s }
+{}
+
+/// A new lock of a queue joins it at the end, and no other queue changes.
+pub fn law_a_new_lock_joins_one_queue()
+    ensures { (s : Records) (at : ℕ) (row : Row) (owner : ℕ) (parent : Option ℕ) (res : ℕ) (queue : Queue)
+        → with_new_lock at row owner parent (Place.Queued res queue) s
+        ≡ record s {
+          resources = on_resource res (joined_by queue (record { at = at; row = row })) s.resources;
+          processes = map (process_with_lock owner parent at) s.processes;
+        } }
 {}
 
 /// A loose lock that moves to a queue joins it at the end, and no other list changes.

@@ -155,27 +155,30 @@ impl Store {
         reserve_one(&mut self.queues.locks, &mut self.lock_index)
     }
 
-    /// Adds a lock that stands in no queue, the last of these, of its process's locks, and of those below
-    /// its parent. Where there is no room and memory is refused, or no handle is left, nothing is changed but that
-    /// there may be more room.
+    /// Adds a lock, the last in the list of a place, of its process's locks, and of those below its parent.
+    /// Where there is no room and memory is refused, or no handle is left, nothing is changed but that there may be
+    /// more room.
     pub fn add_lock(
         &mut self,
         row: Row,
         owner: ProcAt,
         parent: Option<LockAt>,
+        to: Place,
     ) -> Result<LockAt, AllocError>
         requires new { IsNewLock row.lkid self.old }
         requires owner { IsProcess owner row.pid self.old }
         requires parent { IsParentOf parent row self.old }
+        requires there { HasPlace to self.old }
         ensures added { IfOk result (λ at. self.new
-            ≡ with_lock_room self.new.room.locks (with_new_lock at row owner parent self.old)) }
+            ≡ with_lock_room self.new.room.locks (with_new_lock at row owner parent to self.old)) }
         ensures fresh { IfOk result (λ at. ¬ IsStored at self.old) }
         ensures taken { OnOk result (IsTaken self.old.room.locks self.new.room.locks) }
         ensures succeeds { HasRoomForLock self.old → IsOk result }
         ensures err { OnErr result (IsUnchanged self.old self.new) }
     {
         reserve_one(&mut self.queues.locks, &mut self.lock_index)?;
-        let slot = self.queues.add(&row, owner, parent);
+        let slot = self.queues.add(&row, owner, parent, to);
+        join_line(&mut self.queues.locks, &mut self.line, slot);
         join_process(&mut self.processes, &mut self.queues.locks, slot);
         join_parent(&mut self.queues.locks, slot);
         let at = LockAt::of(slot);
