@@ -69,10 +69,8 @@ pub fn find_lock(store: &Store, pid: u32, lkid: u32) -> Option<Standing>
     ensures standing { IfSome result (λ f. IsStandingOf pid lkid f store.now) }
 {
     let lock = store.lock(lkid)?;
-    let standing = standing_of(store, lock)?;
-    if standing.row.pid == pid {
-        Some(standing)
-    } else {
-        None
+    if store.lock_record(lock).row.pid != pid {
+        return None;
     }
+    standing_of(store, lock)
 }
