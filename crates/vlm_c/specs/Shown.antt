@@ -1,0 +1,111 @@
+-- What the readers copy out.
+use Rattle.std.specs.Prelude.{◌≡◌, ℕ, Bool, true, false, length, replicate, slice_get, Option, Some, None, nat_le, if◌then◌else◌}
+use Rattle.std.specs.Option.{option_map}
+use Rattle.vlm_words.specs.declared.blocks.Block.{Block}
+use Rattle.vlm_words.specs.declared.conditions.Cond.TheVariants.{Normal, Badparam}
+use Rattle.vlm_words.specs.declared.modes.Mode.{Mode}
+use Rattle.vlm_words.specs.declared.modes.Mode.TheVariants.{Nl, Cr, Cw, Pr, Pw, Ex}
+use Rattle.vlm_words.specs.declared.resources.Domain.{Domain}
+use Rattle.vlm_words.specs.declared.resources.Domain.TheVariants.{Group, System}
+use Rattle.vlm_words.specs.declared.resources.Queue.{Queue}
+use Rattle.vlm_words.specs.Conditions.{condition_number}
+use Rattle.vlm_words.specs.Padding.{padded}
+use Rattle.vlm_words.specs.State.{State, process_of}
+use Rattle.vlm_words.specs.StatusBlocks.{status_block_at}
+use Rattle.vlm_queue.specs.declared.views.ResourceView.{ResourceView}
+use Rattle.vlm_queue.specs.declared.views.RowView.{RowView}
+use Rattle.vlm_queue.specs.Views.{resource_view, row_shown}
+use Rattle.vlm_c.specs.declared.shown.VlmLksb.{VlmLksb}
+use Rattle.vlm_c.specs.declared.shown.VlmResource.{VlmResource}
+use Rattle.vlm_c.specs.declared.shown.VlmRow.{VlmRow}
+use Rattle.vlm_c.specs.Words.{queue_of}
+
+-- a value is written and NORMAL returned, or where there is none nothing is written and BADPARAM returned
+abbrev pub Told : {A : Type 0} → Option A → A → A → ℕ → Type 0
+Told (Some x) old new status = (new ≡ x) × (status ≡ condition_number Normal)
+Told None old new status = (new ≡ old) × (status ≡ condition_number Badparam)
+
+-- what is told to a struct of this size: to one of another nothing
+abbrev pub sized : {A : Type 0} → Bool → Option A → Option A
+sized true x = x
+sized false x = None
+
+-- the status block as C sees it
+abbrev pub lksb_of : Block → VlmLksb
+lksb_of block = record { size = 80; status = block.status; lkid = block.lkid; reserved = 0; value = block.value; tail = block.tail }
+
+-- the status block of the number, if the handle has a core and that the process with its block
+unfoldable pub block_shown : Option State → ℕ → ℕ → Option Block
+block_shown None pid number = None
+block_shown (Some s) pid number = if nat_le number 255 then status_block_at s.processes pid number else None
+
+-- how many ASTs are pending of the process, if the handle has a core and that the process
+abbrev pub pending_shown : Option State → ℕ → Option ℕ
+pending_shown None pid = None
+pending_shown (Some s) pid = option_map (λ p. length p.asts) (process_of s.processes pid)
+
+-- how many resources have locks
+abbrev pub count_shown : Option State → ℕ
+count_shown None = 0
+count_shown (Some s) = length s.resources
+
+-- the mode as C sees it
+abbrev pub mode_number : Option Mode → ℕ
+mode_number (Some Nl) = 0
+mode_number (Some Cr) = 1
+mode_number (Some Cw) = 2
+mode_number (Some Pr) = 3
+mode_number (Some Pw) = 4
+mode_number (Some Ex) = 5
+mode_number None = 255
+
+-- the lock as C sees it
+abbrev pub row_of : RowView → VlmRow
+row_of row = record { size = 32; lkid = row.lkid; pid = row.pid; held = mode_number row.held; want = mode_number row.want; reserved = replicate 3 0 }
+
+-- the lock at its place of the queue, if both are there
+abbrev pub row_in : State → ℕ → Option Queue → ℕ → Option RowView
+row_in s resource (Some queue) place = row_shown (slice_get s.resources resource) queue place
+row_in s resource None place = None
+
+-- the lock at its place, if the handle has a core and that the lock
+abbrev pub row_shown_at : Option State → ℕ → ℕ → ℕ → Option RowView
+row_shown_at None resource queue place = None
+row_shown_at (Some s) resource queue place = row_in s resource (queue_of queue) place
+
+-- 1 for yes and 0 for no
+abbrev pub bit : Bool → ℕ
+bit true = 1
+bit false = 0
+
+-- whether it is the system's domain, as C sees it
+abbrev pub system_bit : Domain → ℕ
+system_bit (Group g) = 0
+system_bit System = 1
+
+-- the group of a domain, or 0
+abbrev pub group_of : Domain → ℕ
+group_of (Group g) = g
+group_of System = 0
+
+-- the resource as C sees it
+abbrev pub resource_of : ResourceView → VlmResource
+resource_of r = record {
+  size = 144;
+  serial = r.serial;
+  parent = r.parent;
+  is_system = system_bit r.domain;
+  group = group_of r.domain;
+  value_valid = bit r.valid;
+  tail_valid = bit r.tail_valid;
+  name_len = length r.name;
+  name = padded 32 r.name;
+  value = r.value;
+  tail = r.tail;
+  reserved = replicate 4 0;
+}
+
+-- the resource at its place, if the handle has a core and that the resource
+abbrev pub resource_shown : Option State → ℕ → Option ResourceView
+resource_shown None place = None
+resource_shown (Some s) place = option_map resource_view (slice_get s.resources place)

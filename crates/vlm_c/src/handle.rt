@@ -1,0 +1,169 @@
+//! The handle of a core, in memory that C holds. Each call takes the core out of it and puts it back.
+
+ghost use Rattle.std.specs.Prelude.{◌≡◌, None, Some};
+ghost use Rattle.std.specs.Option.{is_some, option_map};
+ghost use Rattle.vlm_c.specs.Served.{Served};
+ghost use Rattle.vlm_c.specs.Shown.{block_shown, count_shown, pending_shown, resource_shown, row_shown_at};
+
+use crate::loose::Loose;
+use crate::slot::Slot;
+use crate::words::queue_of;
+use std::alloc::Global;
+use std::mem::replace;
+use vlm_core::{Core, ResourceView, RowView};
+use vlm_words::blocks::Block;
+use vlm_words::conditions::Cond;
+use vlm_words::steps::{Answer, Step};
+
+/// A core, or none. All bytes 0 is a handle with none.
+#[repr(C)]
+pub struct Vlm {
+    slot: Slot,
+    is_held: bool,
+    alloc: Global,
+    ghost agrees: { is_held ≡ is_some slot.core },
+}
+
+impl Drop for Vlm {
+    fn drop(self) {
+        let _core = self.into_core();
+    }
+}
+
+impl Vlm {
+    /// No core.
+    pub(crate) fn closed(alloc: Global) -> Vlm
+        ensures { result.slot.core ≡ None }
+    {
+        Vlm {
+            slot: Slot::empty(),
+            is_held: false,
+            alloc,
+        }
+    }
+
+    /// The core of the box. It may go to another thread.
+    pub(crate) fn holding(core: Box<Core>, alloc: Global) -> Vlm
+        ensures { result.slot.core ≡ Some core.value }
+    {
+        sendable(Vlm {
+            slot: Slot::of(Loose::of(core)),
+            is_held: true,
+            alloc,
+        })
+    }
+
+    /// The box of the core, if there is one.
+    pub(crate) fn into_core(self) -> Option<Box<Core>>
+        ensures { option_map (λ b. b.value) result ≡ self.slot.core }
+    {
+        let Vlm {
+            slot,
+            is_held,
+            alloc,
+        } = self;
+        if is_held {
+            Some(slot.into_loose(alloc).into_box())
+        } else {
+            None
+        }
+    }
+
+    /// Whether there is a core.
+    pub(crate) fn is_open(&mut self) -> bool
+        ensures told { result ≡ is_some self.old.slot.core }
+        ensures same { self.new.slot.core ≡ self.old.slot.core }
+    {
+        self.is_held
+    }
+
+    /// Makes the step, if there is a core and a step. Else nothing changes and BADPARAM is answered.
+    pub(crate) fn take(&mut self, step: Option<Step>) -> Answer
+        ensures { Served self.old.slot.core step self.new.slot.core result }
+    {
+        let Some(step) = step else {
+            return Answer::Plain(Cond::Badparam);
+        };
+        let alloc = self.alloc;
+        let Some(mut core) = replace(self, Vlm::closed(alloc)).into_core() else {
+            return Answer::Plain(Cond::Badparam);
+        };
+        let answer = core.step(step);
+        *self = Vlm::holding(core, alloc);
+        answer
+    }
+
+    /// The status block of the number, from 1, of a process, if it is there.
+    #[tactic(auto, unfolding(crate::specs::Shown::block_shown))]
+    pub(crate) fn block(&mut self, pid: u32, number: u32) -> Option<Block>
+        ensures told { result ≡ block_shown self.old.slot.core pid number }
+        ensures same { self.new.slot.core ≡ self.old.slot.core }
+    {
+        if number > 255 {
+            return None;
+        }
+        let alloc = self.alloc;
+        let core = replace(self, Vlm::closed(alloc)).into_core()?;
+        let block = core.block(pid, number as u8);
+        *self = Vlm::holding(core, alloc);
+        block
+    }
+
+    /// How many ASTs are pending of a process, if it is there.
+    pub(crate) fn pending(&mut self, pid: u32) -> Option<usize>
+        ensures told { result ≡ pending_shown self.old.slot.core pid }
+        ensures same { self.new.slot.core ≡ self.old.slot.core }
+    {
+        let alloc = self.alloc;
+        let core = replace(self, Vlm::closed(alloc)).into_core()?;
+        let count = core.pending(pid);
+        *self = Vlm::holding(core, alloc);
+        count
+    }
+
+    /// How many resources have locks.
+    pub(crate) fn resource_count(&mut self) -> usize
+        ensures told { result ≡ count_shown self.old.slot.core }
+        ensures same { self.new.slot.core ≡ self.old.slot.core }
+    {
+        let alloc = self.alloc;
+        let Some(core) = replace(self, Vlm::closed(alloc)).into_core() else {
+            return 0;
+        };
+        let count = core.resource_count();
+        *self = Vlm::holding(core, alloc);
+        count
+    }
+
+    /// The resource at its place, if it is there.
+    pub(crate) fn resource(&mut self, place: usize) -> Option<ResourceView>
+        ensures told { result ≡ resource_shown self.old.slot.core place }
+        ensures same { self.new.slot.core ≡ self.old.slot.core }
+    {
+        let alloc = self.alloc;
+        let core = replace(self, Vlm::closed(alloc)).into_core()?;
+        let resource = core.resource_at(place);
+        *self = Vlm::holding(core, alloc);
+        resource
+    }
+
+    /// The lock at a place of a queue of the resource at its place, if it is there.
+    pub(crate) fn row(&mut self, resource: usize, queue: u32, place: usize) -> Option<RowView>
+        ensures told { result ≡ row_shown_at self.old.slot.core resource queue place }
+        ensures same { self.new.slot.core ≡ self.old.slot.core }
+    {
+        let queue = queue_of(queue)?;
+        let alloc = self.alloc;
+        let core = replace(self, Vlm::closed(alloc)).into_core()?;
+        let row = core.row_at(resource, queue, place);
+        *self = Vlm::holding(core, alloc);
+        row
+    }
+}
+
+// What may go to another thread.
+fn sendable<T: Send>(value: T) -> T
+    ensures { result ≡ value }
+{
+    value
+}

@@ -1,0 +1,181 @@
+//! What readers copy out to C.
+
+ghost use Rattle.std.specs.Prelude.{◌≡◌, ◌≤◌, length};
+ghost use Rattle.vlm_words.specs.Padding.{padded};
+ghost use Rattle.vlm_c.specs.Shown.{lksb_of, mode_number, resource_of, row_of};
+
+use std::mem::size_of;
+use vlm_core::{ResourceView, RowView};
+use vlm_words::blocks::Block;
+use vlm_words::modes::Mode;
+use vlm_words::names::Name;
+use vlm_words::resources::Domain;
+
+/// The bytes of a [`VlmLksb`].
+pub(crate) const LKSB_SIZE: u32 = 80;
+
+/// The bytes of a [`VlmResource`].
+pub(crate) const RESOURCE_SIZE: u32 = 144;
+
+/// The bytes of a [`VlmRow`].
+pub(crate) const ROW_SIZE: u32 = 32;
+
+const _: () = prove!(size_of::<VlmLksb>() == 80);
+
+const _: () = prove!(size_of::<VlmResource>() == 144);
+
+const _: () = prove!(size_of::<VlmRow>() == 32);
+
+/// A lock status block.
+#[repr(C)]
+#[derive(Clone, Copy)]
+pub struct VlmLksb {
+    /// How many bytes this struct has.
+    pub size: u32,
+    /// 0 while a request is pending, else the condition that it ended with.
+    pub status: u32,
+    /// The lock of the request that was accepted last, or 0.
+    pub lkid: u32,
+    /// 0.
+    pub reserved: u32,
+    /// The value block.
+    pub value: [u8; 16],
+    /// The tail of a wide value block.
+    pub tail: [u8; 48],
+}
+
+/// A resource without its queues.
+#[repr(C)]
+#[derive(Clone, Copy)]
+pub struct VlmResource {
+    /// How many bytes this struct has.
+    pub size: u32,
+    /// Its number, from 1, in order of making.
+    pub serial: u32,
+    /// The serial of its parent resource, or 0 for a root.
+    pub parent: u32,
+    /// 0 for the names of a group, 1 for those of the whole system.
+    pub is_system: u32,
+    /// The group, or 0.
+    pub group: u32,
+    /// 1 where the value block is valid, or 0.
+    pub value_valid: u32,
+    /// 1 where its tail is valid, or 0.
+    pub tail_valid: u32,
+    /// How many bytes of `name` are the name.
+    pub name_len: u32,
+    /// The name, and zeros behind it.
+    pub name: [u8; 32],
+    /// Its value block.
+    pub value: [u8; 16],
+    /// The tail of that.
+    pub tail: [u8; 48],
+    /// 0.
+    pub reserved: [u32; 4],
+}
+
+/// A lock in a queue.
+#[repr(C)]
+#[derive(Clone, Copy)]
+pub struct VlmRow {
+    /// How many bytes this struct has.
+    pub size: u32,
+    /// The lock.
+    pub lkid: u32,
+    /// Its process.
+    pub pid: u32,
+    /// The mode that it holds, or 255.
+    pub held: u32,
+    /// The mode that it waits for, or 255.
+    pub want: u32,
+    /// 0.
+    pub reserved: [u32; 3],
+}
+
+/// The status block as C sees it.
+pub(crate) fn lksb_of(block: &Block) -> VlmLksb
+    ensures { result ≡ lksb_of block.now }
+{
+    VlmLksb {
+        size: LKSB_SIZE,
+        status: u32::from(block.status),
+        lkid: block.lkid,
+        reserved: 0,
+        value: block.value,
+        tail: block.tail,
+    }
+}
+
+// The number of the mode, or 255.
+fn mode_number(mode: Option<Mode>) -> u32
+    ensures { result ≡ mode_number mode }
+{
+    match mode {
+        Some(Mode::Nl) => 0,
+        Some(Mode::Cr) => 1,
+        Some(Mode::Cw) => 2,
+        Some(Mode::Pr) => 3,
+        Some(Mode::Pw) => 4,
+        Some(Mode::Ex) => 5,
+        None => 255,
+    }
+}
+
+/// The lock as C sees it.
+pub(crate) fn row_of(row: &RowView) -> VlmRow
+    ensures { result ≡ row_of row.now }
+{
+    VlmRow {
+        size: ROW_SIZE,
+        lkid: row.lkid,
+        pid: row.pid,
+        held: mode_number(row.held),
+        want: mode_number(row.want),
+        reserved: [0; 3],
+    }
+}
+
+// The bytes, and zeros behind them.
+fn padded<const N: usize>(bytes: &[u8]) -> [u8; N]
+    requires { length bytes.now ≤ N }
+    ensures { result ≡ padded N bytes.now }
+{
+    let mut cells = [0; N];
+    cells[..bytes.len()].copy_from_slice(bytes);
+    cells
+}
+
+// The name's bytes with zeros behind them, and how many they are.
+#[tactic(auto, using(crate::proofs::Lengths::name_short))]
+fn cells_of(name: Name) -> ([u8; 32], u32)
+    ensures cells { result.0 ≡ padded 32 name }
+    ensures len { result.1 ≡ length name }
+{
+    let bytes = name.bytes();
+    (padded(bytes), bytes.len() as u32)
+}
+
+/// The resource as C sees it.
+pub(crate) fn resource_of(resource: &ResourceView) -> VlmResource
+    ensures { result ≡ resource_of resource.now }
+{
+    let (is_system, group) = match resource.domain {
+        Domain::Group(group) => (0, u32::from(group)),
+        Domain::System => (1, 0),
+    };
+    let (name, name_len) = cells_of(resource.name);
+    VlmResource {
+        size: RESOURCE_SIZE,
+        serial: resource.serial,
+        parent: resource.parent,
+        is_system,
+        group,
+        value_valid: u32::from(resource.valid),
+        tail_valid: u32::from(resource.tail_valid),
+        name_len,
+        name,
+        value: resource.value,
+        tail: resource.tail,
+        reserved: [0; 4],
+    }
+}

@@ -1,0 +1,321 @@
+//! What C passes, read as the steps of the machine.
+
+ghost use Rattle.std.specs.Prelude.{◌≡◌};
+ghost use Rattle.vlm_c.specs.Words.{conversion_of, declaration_of, dequeue_of, given, is_blank, is_request, mode_of, node_of, queue_of, request_of, setting_of, take_of, which_of};
+
+use crate::replies::AST_SIZE;
+use std::mem::size_of;
+use vlm_words::modes::Mode;
+use vlm_words::names::NameArg;
+use vlm_words::resources::Queue;
+use vlm_words::steps::{Conversion, Declaration, Dequeue, NewRequest, ValueSetting, Which};
+
+// The bytes of each struct, as its first member tells them.
+const DECLARATION_SIZE: u32 = 32;
+
+const SETTING_SIZE: u32 = 96;
+
+const REQUEST_SIZE: u32 = 128;
+
+const DEQUEUE_SIZE: u32 = 128;
+
+const _: () = prove!(size_of::<VlmDeclaration>() == 32);
+
+const _: () = prove!(size_of::<VlmSetting>() == 96);
+
+const _: () = prove!(size_of::<VlmRequest>() == 128);
+
+const _: () = prove!(size_of::<VlmDequeue>() == 128);
+
+/// A process is declared.
+#[repr(C)]
+#[derive(Clone, Copy)]
+pub struct VlmDeclaration {
+    /// How many bytes this struct has.
+    pub size: u32,
+    /// Its node, 1 to 8.
+    pub node: u32,
+    /// Its UIC group.
+    pub group: u32,
+    /// 1 where it has the privilege SYSLCK, or 0.
+    pub syslck: u32,
+    /// How many locks it may have.
+    pub quota: u32,
+    /// How many status blocks it has, numbered from 1.
+    pub blocks: u32,
+    /// 0, for what is to come.
+    pub reserved: [u32; 2],
+}
+
+/// The value part of a status block is set.
+#[repr(C)]
+#[derive(Clone, Copy)]
+pub struct VlmSetting {
+    /// How many bytes this struct has.
+    pub size: u32,
+    /// The caller.
+    pub pid: u32,
+    /// The number of the status block.
+    pub block: u32,
+    /// 1 where the tail is to be set too, or 0.
+    pub has_tail: u32,
+    /// What the value part is to hold.
+    pub value: [u8; 16],
+    /// What the tail is to hold.
+    pub tail: [u8; 48],
+    /// 0, for what is to come.
+    pub reserved: [u32; 4],
+}
+
+/// A new request or a conversion.
+#[repr(C)]
+#[derive(Clone, Copy)]
+pub struct VlmRequest {
+    /// How many bytes this struct has.
+    pub size: u32,
+    /// The caller.
+    pub pid: u32,
+    /// The mode, 0 NL to 5 EX.
+    pub mode: u32,
+    /// The flags.
+    pub flags: u32,
+    /// The number of the caller's status block.
+    pub block: u32,
+    /// The parent lock of a new request, 0 for none; the lock of a conversion.
+    pub lock: u32,
+    /// Or the number of the status block that it stands in, and `lock` is 0.
+    pub lock_block: u32,
+    /// 1 where a completion routine is named, or 0.
+    pub has_ast: u32,
+    /// The completion routine.
+    pub ast: u32,
+    /// 1 where a blocking routine is named, or 0.
+    pub has_bast: u32,
+    /// The blocking routine.
+    pub bast: u32,
+    /// The parameter of both.
+    pub param: u32,
+    /// 0, for what is to come.
+    pub reserved: [u32; 20],
+}
+
+/// A lock is given up, or a request is cancelled.
+#[repr(C)]
+#[derive(Clone, Copy)]
+pub struct VlmDequeue {
+    /// How many bytes this struct has.
+    pub size: u32,
+    /// The caller.
+    pub pid: u32,
+    /// The flags.
+    pub flags: u32,
+    /// The lock.
+    pub lock: u32,
+    /// Or the number of the status block that it stands in, and `lock` is 0.
+    pub lock_block: u32,
+    /// 1 where a value block is to be written, or 0.
+    pub has_value: u32,
+    /// 1 where a tail is to be written with it, or 0.
+    pub has_tail: u32,
+    /// The value block.
+    pub value: [u8; 16],
+    /// The tail.
+    pub tail: [u8; 48],
+    /// 0, for what is to come.
+    pub reserved: [u32; 9],
+}
+
+/// The mode of a number.
+#[tactic(auto, unfolding(crate::specs::Words::mode_of))]
+pub(crate) fn mode_of(number: u32) -> Option<Mode>
+    ensures { result ≡ mode_of number }
+{
+    match number {
+        0 => Some(Mode::Nl),
+        1 => Some(Mode::Cr),
+        2 => Some(Mode::Cw),
+        3 => Some(Mode::Pr),
+        4 => Some(Mode::Pw),
+        5 => Some(Mode::Ex),
+        _ => None,
+    }
+}
+
+/// The queue of a number.
+#[tactic(auto, unfolding(crate::specs::Words::queue_of))]
+pub(crate) fn queue_of(number: u32) -> Option<Queue>
+    ensures { result ≡ queue_of number }
+{
+    match number {
+        0 => Some(Queue::Granted),
+        1 => Some(Queue::Conversion),
+        2 => Some(Queue::Waiting),
+        _ => None,
+    }
+}
+
+/// The node of a number.
+pub(crate) fn node_of(number: u32) -> Option<u8>
+    ensures { result ≡ node_of number }
+{
+    if number <= 255 {
+        Some(number as u8)
+    } else {
+        None
+    }
+}
+
+/// The process whose AST is to be taken into a struct of this size.
+pub(crate) fn take_of(pid: u32, size: u32) -> Option<u32>
+    ensures { result ≡ take_of pid size }
+{
+    if size == AST_SIZE { Some(pid) } else { None }
+}
+
+// The lock that is named by an identification, or by the number of a status block.
+#[tactic(auto, unfolding(crate::specs::Words::which_of))]
+fn which_of(lock: u32, block: u32) -> Option<Which>
+    ensures { result ≡ which_of lock block }
+{
+    if block == 0 {
+        Some(Which::Id(lock))
+    } else if lock == 0 && block < 256 {
+        Some(Which::Block(block as u8))
+    } else {
+        None
+    }
+}
+
+// Whether every word is 0.
+fn is_blank(words: &[u32]) -> bool
+    ensures { result ≡ is_blank words.now }
+{
+    words.iter().all(|word| *word == 0)
+}
+
+// What is given where its mark is 1.
+fn given<T: Copy>(mark: u32, value: T) -> Option<T>
+    ensures { result ≡ given mark value }
+{
+    if mark == 1 { Some(value) } else { None }
+}
+
+/// The declaration.
+#[tactic(auto, unfolding(crate::specs::Words::declaration_of))]
+pub(crate) fn declaration_of(words: &VlmDeclaration) -> Option<Declaration>
+    ensures { result ≡ declaration_of words.now }
+{
+    if words.size != DECLARATION_SIZE || !is_blank(&words.reserved) {
+        return None;
+    }
+    if words.node > 255 || words.group > 65_535 || words.syslck > 1 {
+        return None;
+    }
+    if words.quota > 65_535 || words.blocks > 255 {
+        return None;
+    }
+    Some(Declaration {
+        node: words.node as u8,
+        group: words.group as u16,
+        syslck: words.syslck == 1,
+        quota: words.quota as u16,
+        blocks: words.blocks as u8,
+    })
+}
+
+/// The setting of a value.
+#[tactic(auto, unfolding(crate::specs::Words::setting_of))]
+pub(crate) fn setting_of(words: &VlmSetting) -> Option<ValueSetting>
+    ensures { result ≡ setting_of words.now }
+{
+    if words.size != SETTING_SIZE || !is_blank(&words.reserved) {
+        return None;
+    }
+    if words.block > 255 || words.has_tail > 1 {
+        return None;
+    }
+    Some(ValueSetting {
+        pid: words.pid,
+        block: words.block as u8,
+        value: words.value,
+        tail: given(words.has_tail, words.tail),
+    })
+}
+
+// Whether it has its size, nothing behind its members, and numbers that fit.
+fn is_request(words: &VlmRequest) -> bool
+    ensures { result ≡ is_request words.now }
+{
+    words.size == REQUEST_SIZE
+        && is_blank(&words.reserved)
+        && words.flags <= 65_535
+        && words.block <= 255
+        && words.has_ast <= 1
+        && words.has_bast <= 1
+}
+
+/// The new request.
+#[tactic(auto, unfolding(crate::specs::Words::request_of))]
+pub(crate) fn request_of(words: &VlmRequest, name: &[u8]) -> Option<NewRequest>
+    ensures { result ≡ request_of words.now name.now }
+{
+    if !is_request(words) {
+        return None;
+    }
+    let mode = mode_of(words.mode)?;
+    let parent = which_of(words.lock, words.lock_block)?;
+    Some(NewRequest {
+        pid: words.pid,
+        mode,
+        name: NameArg::of(name),
+        block: words.block as u8,
+        parent,
+        flags: words.flags as u16,
+        ast: given(words.has_ast, words.ast),
+        bast: given(words.has_bast, words.bast),
+        param: words.param,
+    })
+}
+
+/// The conversion.
+#[tactic(auto, unfolding(crate::specs::Words::conversion_of))]
+pub(crate) fn conversion_of(words: &VlmRequest) -> Option<Conversion>
+    ensures { result ≡ conversion_of words.now }
+{
+    if !is_request(words) {
+        return None;
+    }
+    let mode = mode_of(words.mode)?;
+    let lock = which_of(words.lock, words.lock_block)?;
+    Some(Conversion {
+        pid: words.pid,
+        lock,
+        mode,
+        block: words.block as u8,
+        flags: words.flags as u16,
+        ast: given(words.has_ast, words.ast),
+        bast: given(words.has_bast, words.bast),
+        param: words.param,
+    })
+}
+
+/// The dequeue.
+#[tactic(auto, unfolding(crate::specs::Words::dequeue_of))]
+pub(crate) fn dequeue_of(words: &VlmDequeue) -> Option<Dequeue>
+    ensures { result ≡ dequeue_of words.now }
+{
+    if words.size != DEQUEUE_SIZE || !is_blank(&words.reserved) {
+        return None;
+    }
+    if words.flags > 65_535 || words.has_value > 1 || words.has_tail > 1 {
+        return None;
+    }
+    let lock = which_of(words.lock, words.lock_block)?;
+    Some(Dequeue {
+        pid: words.pid,
+        lock,
+        value: given(words.has_value, words.value),
+        tail: given(words.has_tail, words.tail),
+        flags: words.flags as u16,
+    })
+}

@@ -1,0 +1,267 @@
+/* Each call with each kind of wrong argument, on a closed handle and on an open one: each answer is as expected, nothing
+ * is written where nothing is to be, and the locks stay as they are. */
+#include "vlm.h"
+
+#include <stdio.h>
+#include <string.h>
+
+static unsigned calls, wrong;
+
+static void expect_at(int line, uint32_t got, uint32_t want) {
+    calls++;
+    if (got != want) {
+        wrong++;
+        fprintf(stderr, "line %d: %s, not %s\n", line, vlm_condition_name(got), vlm_condition_name(want));
+    }
+}
+#define EXPECT(call, want) expect_at(__LINE__, (call), (want))
+
+static void hold_at(int line, int fact, const char *text) {
+    if (!fact) {
+        wrong++;
+        fprintf(stderr, "line %d: not %s\n", line, text);
+    }
+}
+#define HOLD(fact) hold_at(__LINE__, (fact), #fact)
+
+static const uint8_t name[] = {'A'};
+static const uint8_t long_name[200] = {1};
+static const uint8_t keys[17] = {1, 2, 3};
+
+/* What each call is given: right words, with the process and the lock if they are there. */
+static vlm_declaration declaration;
+static vlm_setting setting;
+static vlm_request request, conversion;
+static vlm_dequeue dequeue;
+static uint32_t p, p_lock, q;
+
+static void set_words(void) {
+    declaration = (vlm_declaration){.size = sizeof declaration, .node = 1, .group = 1, .quota = 1, .blocks = 2};
+    setting = (vlm_setting){.size = sizeof setting, .pid = p, .block = 1};
+    request = (vlm_request){.size = sizeof request, .pid = q, .mode = VLM_EX, .block = 1};
+    conversion = (vlm_request){.size = sizeof conversion, .pid = p, .mode = VLM_NL, .block = 1, .lock = p_lock};
+    dequeue = (vlm_dequeue){.size = sizeof dequeue, .pid = p, .lock = p_lock};
+}
+
+/* One call with one member changed, then the right words again. */
+#define WITH(words, member, number, call, want) \
+    do {                                        \
+        words.member = (number);                \
+        EXPECT(call, want);                     \
+        set_words();                            \
+    } while (0)
+
+static uint32_t number;
+#define DECLARE vlm_declare(handle, &declaration, &number)
+#define SET vlm_set_value(handle, &setting)
+#define ENQ vlm_enq(handle, &request, name, sizeof name, &number)
+#define CONVERT vlm_convert(handle, &conversion, &number)
+#define DEQ vlm_deq(handle, &dequeue)
+
+/* Words that name no step: BADPARAM on each handle. */
+static void wrong_words(vlm *handle) {
+    static const uint32_t sizes[] = {0, 4, 31, 64, 97, 129, UINT32_MAX};
+    for (size_t i = 0; i < sizeof sizes / sizeof *sizes; i++) {
+        WITH(declaration, size, sizes[i], DECLARE, VLM_BADPARAM);
+        WITH(setting, size, sizes[i], SET, VLM_BADPARAM);
+        WITH(request, size, sizes[i], ENQ, VLM_BADPARAM);
+        WITH(conversion, size, sizes[i], CONVERT, VLM_BADPARAM);
+        WITH(dequeue, size, sizes[i], DEQ, VLM_BADPARAM);
+    }
+    for (size_t i = 0; i < 2; i++) WITH(declaration, reserved[i], 1, DECLARE, VLM_BADPARAM);
+    for (size_t i = 0; i < 4; i++) WITH(setting, reserved[i], 1, SET, VLM_BADPARAM);
+    for (size_t i = 0; i < 20; i++) WITH(request, reserved[i], 1, ENQ, VLM_BADPARAM);
+    for (size_t i = 0; i < 20; i++) WITH(conversion, reserved[i], 1, CONVERT, VLM_BADPARAM);
+    for (size_t i = 0; i < 9; i++) WITH(dequeue, reserved[i], 1, DEQ, VLM_BADPARAM);
+    WITH(declaration, node, 257, DECLARE, VLM_BADPARAM);
+    WITH(declaration, group, 65537, DECLARE, VLM_BADPARAM);
+    WITH(declaration, syslck, 2, DECLARE, VLM_BADPARAM);
+    WITH(declaration, quota, 65537, DECLARE, VLM_BADPARAM);
+    WITH(declaration, blocks, 257, DECLARE, VLM_BADPARAM);
+    WITH(setting, block, 257, SET, VLM_BADPARAM);
+    WITH(setting, has_tail, 2, SET, VLM_BADPARAM);
+    static const uint32_t modes[] = {6, 255, 256, UINT32_MAX};
+    for (size_t i = 0; i < sizeof modes / sizeof *modes; i++) {
+        WITH(request, mode, modes[i], ENQ, VLM_BADPARAM);
+        WITH(conversion, mode, modes[i], CONVERT, VLM_BADPARAM);
+    }
+    WITH(request, flags, 0x10000, ENQ, VLM_BADPARAM);
+    WITH(request, block, 257, ENQ, VLM_BADPARAM);
+    WITH(request, lock_block, 257, ENQ, VLM_BADPARAM);
+    WITH(request, has_ast, 2, ENQ, VLM_BADPARAM);
+    WITH(request, has_bast, 2, ENQ, VLM_BADPARAM);
+    WITH(conversion, flags, 0x10000, CONVERT, VLM_BADPARAM);
+    WITH(conversion, block, 257, CONVERT, VLM_BADPARAM);
+    conversion.lock = 1;
+    WITH(conversion, lock_block, 1, CONVERT, VLM_BADPARAM);
+    WITH(conversion, has_ast, 2, CONVERT, VLM_BADPARAM);
+    WITH(conversion, has_bast, 2, CONVERT, VLM_BADPARAM);
+    WITH(dequeue, flags, 0x10000, DEQ, VLM_BADPARAM);
+    dequeue.lock = 1;
+    WITH(dequeue, lock_block, 1, DEQ, VLM_BADPARAM);
+    dequeue.lock = 0;
+    WITH(dequeue, lock_block, 257, DEQ, VLM_BADPARAM);
+    WITH(dequeue, has_value, 2, DEQ, VLM_BADPARAM);
+    WITH(dequeue, has_tail, 2, DEQ, VLM_BADPARAM);
+    EXPECT(vlm_leave(handle, 257), VLM_BADPARAM);
+    EXPECT(vlm_search(handle, 257, &number), VLM_BADPARAM);
+    HOLD(number == 0);
+    EXPECT(vlm_open_with_keys(handle, keys, 15), VLM_BADPARAM);
+    EXPECT(vlm_open_with_keys(handle, keys, 17), VLM_BADPARAM);
+}
+
+/* Structs to be written of another size, and what is not there: BADPARAM on each handle, and nothing is written. */
+static void wrong_readings(vlm *handle) {
+    vlm_lksb lksb, lksb_before;
+    vlm_ast ast, ast_before;
+    struct vlm_resource resource, resource_before;
+    struct vlm_row row, row_before;
+    size_t count = 99;
+    memset(&lksb, 0xA5, sizeof lksb);
+    memset(&ast, 0xA5, sizeof ast);
+    memset(&resource, 0xA5, sizeof resource);
+    memset(&row, 0xA5, sizeof row);
+    for (int is_sized = 0; is_sized <= 1; is_sized++) {
+        if (is_sized) {
+            lksb.size = sizeof lksb;
+            resource.size = sizeof resource;
+            row.size = sizeof row;
+        }
+        lksb_before = lksb;
+        ast_before = ast;
+        resource_before = resource;
+        row_before = row;
+        EXPECT(vlm_block(handle, p, is_sized ? 3 : 1, &lksb), VLM_BADPARAM);
+        EXPECT(vlm_block(handle, is_sized ? 12345 : p, 1, &lksb), VLM_BADPARAM);
+        EXPECT(vlm_block(handle, p, 257, &lksb), VLM_BADPARAM);
+        EXPECT(vlm_resource(handle, (size_t)is_sized, &resource), VLM_BADPARAM);
+        EXPECT(vlm_row(handle, (size_t)is_sized, VLM_GRANTED, 0, &row), VLM_BADPARAM);
+        EXPECT(vlm_row(handle, 0, VLM_GRANTED, (size_t)is_sized, &row), VLM_BADPARAM);
+        EXPECT(vlm_row(handle, 0, 3, 0, &row), VLM_BADPARAM);
+        EXPECT(vlm_take(handle, p, &ast), VLM_BADPARAM);
+        HOLD(memcmp(&lksb, &lksb_before, sizeof lksb) == 0);
+        HOLD(memcmp(&ast, &ast_before, sizeof ast) == 0);
+        HOLD(memcmp(&resource, &resource_before, sizeof resource) == 0);
+        HOLD(memcmp(&row, &row_before, sizeof row) == 0);
+    }
+    EXPECT(vlm_pending(handle, 12345, &count), VLM_BADPARAM);
+    HOLD(count == 99);
+}
+
+/* Right words, where the handle has no lock manager. */
+static void closed_calls(vlm *handle) {
+    vlm_lksb lksb = {.size = sizeof lksb};
+    vlm_ast ast = {.size = sizeof ast, .kind = 9};
+    struct vlm_resource resource = {.size = sizeof resource};
+    struct vlm_row row = {.size = sizeof row};
+    size_t count = 99;
+    number = 7;
+    EXPECT(DECLARE, VLM_BADPARAM);
+    HOLD(number == 0);
+    EXPECT(SET, VLM_BADPARAM);
+    EXPECT(ENQ, VLM_BADPARAM);
+    EXPECT(CONVERT, VLM_BADPARAM);
+    EXPECT(DEQ, VLM_BADPARAM);
+    EXPECT(vlm_take(handle, p, &ast), VLM_BADPARAM);
+    EXPECT(vlm_rundown(handle, p), VLM_BADPARAM);
+    EXPECT(vlm_leave(handle, 1), VLM_BADPARAM);
+    EXPECT(vlm_search(handle, 1, &number), VLM_BADPARAM);
+    EXPECT(vlm_block(handle, p, 1, &lksb), VLM_BADPARAM);
+    EXPECT(vlm_pending(handle, p, &count), VLM_BADPARAM);
+    EXPECT(vlm_resource(handle, 0, &resource), VLM_BADPARAM);
+    EXPECT(vlm_row(handle, 0, VLM_GRANTED, 0, &row), VLM_BADPARAM);
+    HOLD(vlm_resource_count(handle) == 0 && ast.kind == 9 && count == 99);
+    HOLD(!handle->is_held && handle->core == NULL);
+}
+
+/* Words that name steps, which the core refuses. */
+static void refused_steps(vlm *handle) {
+    vlm_ast ast = {.size = sizeof ast};
+    WITH(declaration, node, 0, DECLARE, VLM_BADPARAM);
+    WITH(declaration, node, 9, DECLARE, VLM_BADPARAM);
+    WITH(setting, pid, 12345, SET, VLM_NONEXPR);
+    WITH(setting, block, 0, SET, VLM_ACCVIO);
+    WITH(setting, block, 3, SET, VLM_ACCVIO);
+    WITH(request, pid, 12345, ENQ, VLM_NONEXPR);
+    WITH(request, flags, 0x8000, ENQ, VLM_BADPARAM);
+    WITH(request, block, 3, ENQ, VLM_ACCVIO);
+    EXPECT(vlm_enq(handle, &request, name, 0, &number), VLM_IVBUFLEN);
+    EXPECT(vlm_enq(handle, &request, long_name, 32, &number), VLM_IVBUFLEN);
+    EXPECT(vlm_enq(handle, &request, long_name, sizeof long_name, &number), VLM_IVBUFLEN);
+    WITH(request, flags, VLM_EXPEDITE, ENQ, VLM_UNSUPPORTED);
+    WITH(request, lock, 12345, ENQ, VLM_IVLOCKID);
+    WITH(request, flags, VLM_SYSTEM, ENQ, VLM_NOSYSLCK);
+    WITH(request, flags, VLM_NOQUEUE, ENQ, VLM_NOTQUEUED);
+    WITH(request, pid, p, ENQ, VLM_EXENQLM);
+    HOLD(number == 0);
+    WITH(conversion, pid, 12345, CONVERT, VLM_NONEXPR);
+    WITH(conversion, flags, 0x8000, CONVERT, VLM_BADPARAM);
+    WITH(conversion, block, 3, CONVERT, VLM_ACCVIO);
+    WITH(conversion, lock, 12345, CONVERT, VLM_IVLOCKID);
+    conversion.lock = 0;
+    WITH(conversion, lock_block, 3, CONVERT, VLM_ACCVIO);
+    WITH(dequeue, pid, 12345, DEQ, VLM_NONEXPR);
+    WITH(dequeue, flags, 0x8000, DEQ, VLM_BADPARAM);
+    WITH(dequeue, has_tail, 1, DEQ, VLM_BADPARAM);
+    WITH(dequeue, lock, 12345, DEQ, VLM_IVLOCKID);
+    WITH(dequeue, flags, VLM_DEQ_CANCEL, DEQ, VLM_CANCELGRANT);
+    dequeue.lock = 0;
+    WITH(dequeue, lock_block, 3, DEQ, VLM_ACCVIO);
+    EXPECT(vlm_take(handle, 12345, &ast), VLM_NONEXPR);
+    EXPECT(vlm_rundown(handle, 12345), VLM_NONEXPR);
+    EXPECT(vlm_leave(handle, 0), VLM_BADPARAM);
+    EXPECT(vlm_leave(handle, 9), VLM_BADPARAM);
+    EXPECT(vlm_search(handle, 0, &number), VLM_BADPARAM);
+    EXPECT(vlm_open(handle), VLM_BADPARAM);
+    EXPECT(vlm_open_with_keys(handle, keys, 16), VLM_BADPARAM);
+}
+
+/* P's lock is the only one, granted at EX, and no AST is pending. */
+static void is_as_it_was(vlm *handle) {
+    struct vlm_row row = {.size = sizeof row};
+    size_t count = 99;
+    EXPECT(vlm_row(handle, 0, VLM_GRANTED, 0, &row), VLM_NORMAL);
+    HOLD(row.size == sizeof row && row.lkid == p_lock && row.pid == p && row.held == VLM_EX && row.want == VLM_NO_MODE);
+    EXPECT(vlm_row(handle, 0, VLM_GRANTED, 1, &row), VLM_BADPARAM);
+    EXPECT(vlm_row(handle, 0, VLM_WAITING, 0, &row), VLM_BADPARAM);
+    EXPECT(vlm_pending(handle, p, &count), VLM_NORMAL);
+    HOLD(count == 0 && vlm_resource_count(handle) == 1);
+}
+
+int main(void) {
+    vlm handle_itself = VLM_CLOSED, *handle = &handle_itself;
+    set_words();
+    closed_calls(handle);
+    wrong_words(handle);
+    wrong_readings(handle);
+    vlm_close(handle);
+    closed_calls(handle);
+    unsigned closed = calls;
+
+    EXPECT(vlm_open_with_keys(handle, keys, 16), VLM_NORMAL);
+    EXPECT(vlm_declare(handle, &declaration, &p), VLM_NORMAL);
+    EXPECT(vlm_declare(handle, &declaration, &q), VLM_NORMAL);
+    set_words();
+    request.pid = p;
+    EXPECT(vlm_enq(handle, &request, name, sizeof name, &p_lock), VLM_NORMAL);
+    set_words();
+    is_as_it_was(handle);
+    wrong_words(handle);
+    is_as_it_was(handle);
+    wrong_readings(handle);
+    refused_steps(handle);
+    is_as_it_was(handle);
+
+    EXPECT(vlm_leave(handle, 1), VLM_NORMAL);
+    EXPECT(vlm_leave(handle, 1), VLM_DEPARTED);
+    EXPECT(DECLARE, VLM_DEPARTED);
+    EXPECT(DEQ, VLM_DEPARTED);
+    unsigned open = calls - closed;
+    vlm_close(handle);
+    vlm_close(handle);
+    closed_calls(handle);
+    HOLD(vlm_condition_name(0) == NULL && vlm_condition_name(25) == NULL);
+    HOLD(strcmp(vlm_condition_name(VLM_DEADLOCK), "SS$_DEADLOCK") == 0);
+    printf("%u calls on a closed handle, %u on an open one, %u wrong\n", calls - open, open, wrong);
+    return wrong == 0 ? 0 : 1;
+}

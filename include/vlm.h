@@ -1,0 +1,370 @@
+/* The lock manager as a library: $ENQ, $DEQ and what belongs to them as calls from C and C++.
+ *
+ * What the caller owes, which nothing checks:
+ * - A handle is all bytes 0 (VLM_CLOSED), or as a call of this library left it. Its bytes are not written by others,
+ *   and not copied to be used twice; it may be moved while no call runs.
+ * - One call at a time has a handle. It may go from thread to thread, where a lock, the start or join of a thread or a
+ *   sequentially consistent atomic orders the calls.
+ * - A pointer is not null and points, for the call, to initialized objects of its type: `name` to `name_len` bytes and
+ *   `keys` to `keys_len`. They are not null even where the length is 0. No two arguments overlap.
+ * - malloc, realloc and free are those of one allocator, which aligns as C says. No call is made from a signal handler
+ *   or in the forked child of a process with threads.
+ * - The library and this header are of one version.
+ * All else that is passed is checked, and answered by a condition value.
+ *
+ * A struct that is passed in has its size as its first member and 0 in each reserved word. The size of one that is
+ * written is set before the call; it is written whole, its reserved words as 0, or not at all. With another size, a
+ * reserved word that is not 0, a mark (syslck, has_ast, has_bast, has_value, has_tail) that is neither 0 nor 1, a mode
+ * that is none, or a node, group, quota, number of status blocks, status block or flags past what the core's field
+ * holds, a call answers VLM_BADPARAM and changes nothing in the lock manager. So does each call on a handle with no lock
+ * manager. *pid, *lkid and *victim are written by each call that has them, with 0 where there is nothing to tell.
+ *
+ * Where strangers choose the names of resources, open by vlm_open_with_keys with 16 bytes that nobody can foresee:
+ * vlm_open hashes by fixed keys, and then names can be chosen that meet in the index.
+ */
+#ifndef VLM_H
+#define VLM_H
+
+#include <stdbool.h>
+#include <stddef.h>
+#include <stdint.h>
+
+#ifdef __cplusplus
+extern "C" {
+#define VLM_ASSERT(fact) static_assert(fact, #fact)
+#else
+#define VLM_ASSERT(fact) _Static_assert(fact, #fact)
+#endif
+#define VLM_ASSERT_AT(type, member, offset) VLM_ASSERT(offsetof(type, member) == (offset))
+
+/* Condition values. The numbers, DEPARTED and WIDENOTVALID are this library's own. */
+enum {
+    VLM_NORMAL = 1,
+    VLM_SYNCH = 2,
+    VLM_NOTQUEUED = 3,
+    VLM_ABORT = 4,
+    VLM_CANCEL = 5,
+    VLM_DEADLOCK = 6,
+    VLM_VALNOTVALID = 7,
+    VLM_CANCELGRANT = 8,
+    VLM_SUBLOCKS = 9,
+    VLM_IVLOCKID = 10,
+    VLM_CVTUNGRANT = 11,
+    VLM_PARNOTGRANT = 12,
+    VLM_EXDEPTH = 13,
+    VLM_EXENQLM = 14,
+    VLM_NOLOCKID = 15,
+    VLM_INSFMEM = 16,
+    VLM_IVBUFLEN = 17,
+    VLM_BADPARAM = 18,
+    VLM_UNSUPPORTED = 19,
+    VLM_NOSYSLCK = 20,
+    VLM_ACCVIO = 21,
+    VLM_NONEXPR = 22,
+    VLM_DEPARTED = 23,
+    VLM_WIDENOTVALID = 24
+};
+
+/* Modes. */
+enum { VLM_NL = 0, VLM_CR = 1, VLM_CW = 2, VLM_PR = 3, VLM_PW = 4, VLM_EX = 5, VLM_NO_MODE = 255 };
+
+/* Queues of a resource. */
+enum { VLM_GRANTED = 0, VLM_CONVERSION = 1, VLM_WAITING = 2 };
+
+/* Kinds of AST. */
+enum { VLM_NO_AST = 0, VLM_COMPLETION = 1, VLM_BLOCKING = 2 };
+
+/* Flags of vlm_enq and vlm_convert. */
+enum {
+    VLM_VALBLK = 1,      /* the value block is returned, or written */
+    VLM_NOQUEUE = 2,     /* refused where it cannot be granted at once */
+    VLM_SYNCSTS = 4,     /* answers SYNCH where it is granted at once */
+    VLM_SYSTEM = 8,      /* a root of the system's domain */
+    VLM_EXPEDITE = 16,   /* a new request at NL is granted whatever is queued */
+    VLM_QUECVT = 32,     /* a conversion waits behind those that are queued */
+    VLM_NODLCKWT = 64,   /* waits for nobody in a search for a deadlock */
+    VLM_NODLCKBLK = 128, /* nobody waits for it in a search for a deadlock */
+    VLM_WIDE = 256       /* with VALBLK: the value block's 64 bytes */
+};
+
+/* Flags of vlm_deq. */
+enum {
+    VLM_DEQALL = 1,     /* all locks below a lock, or with lock 0 all of the caller */
+    VLM_DEQ_CANCEL = 2, /* the request is cancelled */
+    VLM_INVVALBLK = 4   /* the value block is marked invalid */
+};
+
+/* A handle of a lock manager, or of none. */
+typedef struct vlm {
+    void *core;
+    bool is_held;
+} vlm;
+#define VLM_CLOSED { 0, false }
+
+VLM_ASSERT(sizeof(void *) == 8 && sizeof(size_t) == 8);
+VLM_ASSERT(sizeof(vlm) == 16);
+VLM_ASSERT_AT(vlm, core, 0);
+VLM_ASSERT_AT(vlm, is_held, 8);
+
+typedef struct vlm_declaration {
+    uint32_t size;
+    uint32_t node;   /* 1 to 8 */
+    uint32_t group;  /* the UIC group, to 65535 */
+    uint32_t syslck; /* 1 with the privilege SYSLCK */
+    uint32_t quota;  /* how many locks it may have, to 65535 */
+    uint32_t blocks; /* how many status blocks it has, to 255, numbered from 1 */
+    uint32_t reserved[2];
+} vlm_declaration;
+
+typedef struct vlm_setting {
+    uint32_t size;
+    uint32_t pid;
+    uint32_t block;
+    uint32_t has_tail; /* 1 where the tail is set too */
+    uint8_t value[16];
+    uint8_t tail[48];
+    uint32_t reserved[4];
+} vlm_setting;
+
+typedef struct vlm_request {
+    uint32_t size;
+    uint32_t pid;
+    uint32_t mode;
+    uint32_t flags;
+    uint32_t block;      /* the caller's status block */
+    uint32_t lock;       /* vlm_enq: the parent lock, or 0; vlm_convert: the lock */
+    uint32_t lock_block; /* not 0, and lock is 0: the status block in which that lock stands */
+    uint32_t has_ast;    /* 1 where ast names a completion routine */
+    uint32_t ast;
+    uint32_t has_bast; /* 1 where bast names a blocking routine */
+    uint32_t bast;
+    uint32_t param; /* the parameter of both */
+    uint32_t reserved[20];
+} vlm_request;
+
+typedef struct vlm_dequeue {
+    uint32_t size;
+    uint32_t pid;
+    uint32_t flags;
+    uint32_t lock;
+    uint32_t lock_block; /* not 0, and lock is 0: the status block in which the lock stands */
+    uint32_t has_value;  /* 1 where the value block is written */
+    uint32_t has_tail;   /* 1 where the tail is written with it */
+    uint8_t value[16];
+    uint8_t tail[48];
+    uint32_t reserved[9];
+} vlm_dequeue;
+
+typedef struct vlm_lksb {
+    uint32_t size;
+    uint32_t status; /* 0 while a request is pending */
+    uint32_t lkid;
+    uint32_t reserved;
+    uint8_t value[16];
+    uint8_t tail[48];
+} vlm_lksb;
+
+/* A function of the library has this name too, so C++ and C say `struct vlm_resource`. */
+struct vlm_resource {
+    uint32_t size;
+    uint32_t serial;    /* from 1, in order of making */
+    uint32_t parent;    /* the serial of the parent resource, or 0 */
+    uint32_t is_system; /* 1 in the system's domain */
+    uint32_t group;     /* else its UIC group */
+    uint32_t value_valid;
+    uint32_t tail_valid;
+    uint32_t name_len;
+    uint8_t name[32]; /* with zeros behind it */
+    uint8_t value[16];
+    uint8_t tail[48];
+    uint32_t reserved[4];
+};
+
+/* A function of the library has this name too, so C++ and C say `struct vlm_row`. */
+struct vlm_row {
+    uint32_t size;
+    uint32_t lkid;
+    uint32_t pid;
+    uint32_t held; /* a mode, or VLM_NO_MODE */
+    uint32_t want; /* a mode, or VLM_NO_MODE */
+    uint32_t reserved[3];
+};
+
+typedef struct vlm_ast {
+    uint32_t size;
+    uint32_t kind;
+    uint32_t routine;
+    uint32_t param;
+    uint32_t lkid;
+    uint32_t reserved[3];
+} vlm_ast;
+
+VLM_ASSERT(sizeof(struct vlm_declaration) == 32);
+VLM_ASSERT_AT(struct vlm_declaration, size, 0);
+VLM_ASSERT_AT(struct vlm_declaration, node, 4);
+VLM_ASSERT_AT(struct vlm_declaration, group, 8);
+VLM_ASSERT_AT(struct vlm_declaration, syslck, 12);
+VLM_ASSERT_AT(struct vlm_declaration, quota, 16);
+VLM_ASSERT_AT(struct vlm_declaration, blocks, 20);
+VLM_ASSERT_AT(struct vlm_declaration, reserved, 24);
+
+VLM_ASSERT(sizeof(struct vlm_setting) == 96);
+VLM_ASSERT_AT(struct vlm_setting, size, 0);
+VLM_ASSERT_AT(struct vlm_setting, pid, 4);
+VLM_ASSERT_AT(struct vlm_setting, block, 8);
+VLM_ASSERT_AT(struct vlm_setting, has_tail, 12);
+VLM_ASSERT_AT(struct vlm_setting, value, 16);
+VLM_ASSERT_AT(struct vlm_setting, tail, 32);
+VLM_ASSERT_AT(struct vlm_setting, reserved, 80);
+
+VLM_ASSERT(sizeof(struct vlm_request) == 128);
+VLM_ASSERT_AT(struct vlm_request, size, 0);
+VLM_ASSERT_AT(struct vlm_request, pid, 4);
+VLM_ASSERT_AT(struct vlm_request, mode, 8);
+VLM_ASSERT_AT(struct vlm_request, flags, 12);
+VLM_ASSERT_AT(struct vlm_request, block, 16);
+VLM_ASSERT_AT(struct vlm_request, lock, 20);
+VLM_ASSERT_AT(struct vlm_request, lock_block, 24);
+VLM_ASSERT_AT(struct vlm_request, has_ast, 28);
+VLM_ASSERT_AT(struct vlm_request, ast, 32);
+VLM_ASSERT_AT(struct vlm_request, has_bast, 36);
+VLM_ASSERT_AT(struct vlm_request, bast, 40);
+VLM_ASSERT_AT(struct vlm_request, param, 44);
+VLM_ASSERT_AT(struct vlm_request, reserved, 48);
+
+VLM_ASSERT(sizeof(struct vlm_dequeue) == 128);
+VLM_ASSERT_AT(struct vlm_dequeue, size, 0);
+VLM_ASSERT_AT(struct vlm_dequeue, pid, 4);
+VLM_ASSERT_AT(struct vlm_dequeue, flags, 8);
+VLM_ASSERT_AT(struct vlm_dequeue, lock, 12);
+VLM_ASSERT_AT(struct vlm_dequeue, lock_block, 16);
+VLM_ASSERT_AT(struct vlm_dequeue, has_value, 20);
+VLM_ASSERT_AT(struct vlm_dequeue, has_tail, 24);
+VLM_ASSERT_AT(struct vlm_dequeue, value, 28);
+VLM_ASSERT_AT(struct vlm_dequeue, tail, 44);
+VLM_ASSERT_AT(struct vlm_dequeue, reserved, 92);
+
+VLM_ASSERT(sizeof(struct vlm_lksb) == 80);
+VLM_ASSERT_AT(struct vlm_lksb, size, 0);
+VLM_ASSERT_AT(struct vlm_lksb, status, 4);
+VLM_ASSERT_AT(struct vlm_lksb, lkid, 8);
+VLM_ASSERT_AT(struct vlm_lksb, reserved, 12);
+VLM_ASSERT_AT(struct vlm_lksb, value, 16);
+VLM_ASSERT_AT(struct vlm_lksb, tail, 32);
+
+VLM_ASSERT(sizeof(struct vlm_resource) == 144);
+VLM_ASSERT_AT(struct vlm_resource, size, 0);
+VLM_ASSERT_AT(struct vlm_resource, serial, 4);
+VLM_ASSERT_AT(struct vlm_resource, parent, 8);
+VLM_ASSERT_AT(struct vlm_resource, is_system, 12);
+VLM_ASSERT_AT(struct vlm_resource, group, 16);
+VLM_ASSERT_AT(struct vlm_resource, value_valid, 20);
+VLM_ASSERT_AT(struct vlm_resource, tail_valid, 24);
+VLM_ASSERT_AT(struct vlm_resource, name_len, 28);
+VLM_ASSERT_AT(struct vlm_resource, name, 32);
+VLM_ASSERT_AT(struct vlm_resource, value, 64);
+VLM_ASSERT_AT(struct vlm_resource, tail, 80);
+VLM_ASSERT_AT(struct vlm_resource, reserved, 128);
+
+VLM_ASSERT(sizeof(struct vlm_row) == 32);
+VLM_ASSERT_AT(struct vlm_row, size, 0);
+VLM_ASSERT_AT(struct vlm_row, lkid, 4);
+VLM_ASSERT_AT(struct vlm_row, pid, 8);
+VLM_ASSERT_AT(struct vlm_row, held, 12);
+VLM_ASSERT_AT(struct vlm_row, want, 16);
+VLM_ASSERT_AT(struct vlm_row, reserved, 20);
+
+VLM_ASSERT(sizeof(struct vlm_ast) == 32);
+VLM_ASSERT_AT(struct vlm_ast, size, 0);
+VLM_ASSERT_AT(struct vlm_ast, kind, 4);
+VLM_ASSERT_AT(struct vlm_ast, routine, 8);
+VLM_ASSERT_AT(struct vlm_ast, param, 12);
+VLM_ASSERT_AT(struct vlm_ast, lkid, 16);
+VLM_ASSERT_AT(struct vlm_ast, reserved, 20);
+
+/* Puts a new lock manager into a handle that has none. NORMAL, INSFMEM, BADPARAM where it has one. */
+uint32_t vlm_open(vlm *handle);
+
+/* The same, with 16 bytes as keys of its index of names. BADPARAM also where there are not 16. */
+uint32_t vlm_open_with_keys(vlm *handle, const uint8_t *keys, size_t keys_len);
+
+/* Frees the lock manager of a handle, if it has one. */
+void vlm_close(vlm *handle);
+
+/* The steps. Each answers the core's condition value. */
+
+/* Declares a process. NORMAL, BADPARAM, DEPARTED, INSFMEM. */
+uint32_t vlm_declare(vlm *handle, const vlm_declaration *declaration, uint32_t *pid);
+
+/* Sets the value part of a status block. NORMAL, BADPARAM, DEPARTED, NONEXPR, ACCVIO. */
+uint32_t vlm_set_value(vlm *handle, const vlm_setting *setting);
+
+/* Asks for a new lock ($ENQ). NORMAL, SYNCH; DEPARTED, NONEXPR, BADPARAM, ACCVIO, IVBUFLEN, UNSUPPORTED, IVLOCKID,
+ * PARNOTGRANT, EXDEPTH, NOSYSLCK, EXENQLM, NOLOCKID, NOTQUEUED, INSFMEM. */
+uint32_t vlm_enq(vlm *handle, const vlm_request *request, const uint8_t *name, size_t name_len, uint32_t *lkid);
+
+/* Asks for another mode of a granted lock ($ENQ with CONVERT). NORMAL, SYNCH; DEPARTED, NONEXPR, BADPARAM, ACCVIO,
+ * IVLOCKID, CVTUNGRANT, NOLOCKID, NOTQUEUED, INSFMEM. */
+uint32_t vlm_convert(vlm *handle, const vlm_request *request, uint32_t *lkid);
+
+/* Gives a lock up, or cancels a request ($DEQ). NORMAL; DEPARTED, NONEXPR, BADPARAM, ACCVIO, IVLOCKID, CANCELGRANT,
+ * SUBLOCKS. */
+uint32_t vlm_deq(vlm *handle, const vlm_dequeue *dequeue);
+
+/* Takes the oldest pending AST of a process: kind VLM_NO_AST where none is pending. NORMAL, DEPARTED, NONEXPR,
+ * BADPARAM; *ast is written with NORMAL alone. The program runs the routine. */
+uint32_t vlm_take(vlm *handle, uint32_t pid, vlm_ast *ast);
+
+/* Ends a process, with all that it has. NORMAL, DEPARTED, NONEXPR, BADPARAM on a handle with no lock manager. */
+uint32_t vlm_rundown(vlm *handle, uint32_t pid);
+
+/* A node departs, with all its processes. NORMAL, BADPARAM, DEPARTED. */
+uint32_t vlm_leave(vlm *handle, uint32_t node);
+
+/* Searches for a deadlock, and ends the request of its victim: *victim is that lock, or 0. NORMAL, BADPARAM,
+ * DEPARTED. */
+uint32_t vlm_search(vlm *handle, uint32_t node, uint32_t *victim);
+
+/* The readings: they change nothing. NORMAL, or BADPARAM and nothing is written. Places are numbered from 0. */
+uint32_t vlm_block(vlm *handle, uint32_t pid, uint32_t block, vlm_lksb *lksb);
+uint32_t vlm_pending(vlm *handle, uint32_t pid, size_t *count);
+size_t vlm_resource_count(vlm *handle); /* 0 also on a handle with no lock manager */
+uint32_t vlm_resource(vlm *handle, size_t place, struct vlm_resource *resource);
+uint32_t vlm_row(vlm *handle, size_t resource, uint32_t queue, size_t place, struct vlm_row *row);
+
+/* The name of a condition value as the manual has it, of this library's own the plain one; null for a number that is
+ * none. */
+static inline const char *vlm_condition_name(uint32_t status) {
+    switch (status) {
+    case VLM_NORMAL: return "SS$_NORMAL";
+    case VLM_SYNCH: return "SS$_SYNCH";
+    case VLM_NOTQUEUED: return "SS$_NOTQUEUED";
+    case VLM_ABORT: return "SS$_ABORT";
+    case VLM_CANCEL: return "SS$_CANCEL";
+    case VLM_DEADLOCK: return "SS$_DEADLOCK";
+    case VLM_VALNOTVALID: return "SS$_VALNOTVALID";
+    case VLM_CANCELGRANT: return "SS$_CANCELGRANT";
+    case VLM_SUBLOCKS: return "SS$_SUBLOCKS";
+    case VLM_IVLOCKID: return "SS$_IVLOCKID";
+    case VLM_CVTUNGRANT: return "SS$_CVTUNGRANT";
+    case VLM_PARNOTGRANT: return "SS$_PARNOTGRANT";
+    case VLM_EXDEPTH: return "SS$_EXDEPTH";
+    case VLM_EXENQLM: return "SS$_EXENQLM";
+    case VLM_NOLOCKID: return "SS$_NOLOCKID";
+    case VLM_INSFMEM: return "SS$_INSFMEM";
+    case VLM_IVBUFLEN: return "SS$_IVBUFLEN";
+    case VLM_BADPARAM: return "SS$_BADPARAM";
+    case VLM_UNSUPPORTED: return "SS$_UNSUPPORTED";
+    case VLM_NOSYSLCK: return "SS$_NOSYSLCK";
+    case VLM_ACCVIO: return "SS$_ACCVIO";
+    case VLM_NONEXPR: return "SS$_NONEXPR";
+    case VLM_DEPARTED: return "DEPARTED";
+    case VLM_WIDENOTVALID: return "WIDENOTVALID";
+    default: return NULL;
+    }
+}
+
+#ifdef __cplusplus
+}
+#endif
+#endif
