@@ -1,17 +1,18 @@
-//! The readers: they show the status blocks, whose ASTs are pending, the resources and their queues, and how a root is
-//! used, take no memory and change nothing.
+//! The readers: they show the processes and their status blocks, whose ASTs are pending, the resources and their queues,
+//! and how a root is used, take no memory and change nothing.
 
 ghost use Rattle.std.specs.Prelude.{◌≡◌, length, slice_get};
 ghost use Rattle.std.specs.Option.{option_map};
 ghost use Rattle.vlm_words.specs.Pending.{first_pending};
 ghost use Rattle.vlm_words.specs.State.{process_of};
 ghost use Rattle.vlm_words.specs.StatusBlocks.{status_block_at};
+ghost use Rattle.vlm_procs.specs.Views.{process_view};
 ghost use Rattle.vlm_queue.specs.Views.{resource_view, row_shown, usage};
 ghost use Rattle.vlm_core.specs.Readers.{root_of};
 
 use crate::public::Core;
 use vlm_machine::living;
-use vlm_procs::{pending, status_block};
+use vlm_procs::{ProcessView, pending, process_at, status_block};
 use vlm_queue::{ResourceView, RowView, Usage, resource_at, row_at, usage_of};
 use vlm_words::blocks::Block;
 use vlm_words::laws::law_identifications_of_processes_rise;
@@ -47,6 +48,21 @@ impl Core {
         self.machine.store.pending_of(node)
     }
 
+    /// How many processes live.
+    pub fn process_count(&self) -> usize
+        ensures { result ≡ length self.now.processes }
+    {
+        self.machine.store.total_processes()
+    }
+
+    /// The living process at an index, from 0, in order of making: as it was declared, and how many ASTs are pending for
+    /// it. None past the last. The cost grows with the index.
+    pub fn process_at(&self, index: usize) -> Option<ProcessView>
+        ensures { result ≡ option_map process_view (slice_get self.now.processes index) }
+    {
+        process_at(&self.machine.store, index)
+    }
+
     /// How many resources have locks.
     pub fn resource_count(&self) -> usize
         ensures { result ≡ length self.now.resources }
@@ -75,7 +91,9 @@ impl Core {
     pub fn usage(&self, domain: Domain, name: Name) -> Option<Usage>
         ensures { result ≡ option_map usage (root_of self.now.resources domain name) }
     {
-        let res = self.machine.store.resource(&Key::Root(domain, name))?;
-        Some(usage_of(&self.machine.store, res))
+        let store = &self.machine.store;
+        let key = Key::Root(domain, name);
+        let res = store.resource(&key, store.hash_of(&key))?;
+        Some(usage_of(store, res))
     }
 }

@@ -8,6 +8,7 @@ ghost use Rattle.vlm_words.specs.Modes.{is_compatible};
 ghost use Rattle.vlm_cycle.specs.Ranking.{CountsHeld, IsAbove, IsAboveAll, IsCounted, PassesOne, peak_of};
 
 use crate::waiting::blocks_those_behind;
+use vlm_store::StoredRow;
 use vlm_words::flags::EnqFlags;
 use vlm_words::locks::Row;
 use vlm_words::modes::{Mode, compatible};
@@ -79,20 +80,20 @@ impl Gauge {
     }
 
     /// Counts what a lock holds, whose owner has this rank.
-    pub(crate) fn hold(&mut self, row: &Row, rank: u32)
+    pub(crate) fn hold(&mut self, row: &StoredRow, rank: u32)
         ensures counted { CountsHeld self.new.held row.now.held row.now.lkid rank }
         ensures kept { (mode : Mode) (lkid other : ℕ)
             → IsCounted (peak_of self.old.held mode) lkid other
             → IsCounted (peak_of self.new.held mode) lkid other }
     {
-        let Some(held) = &row.held else {
+        let Some(held) = row.held() else {
             return;
         };
         if held.flags.has(EnqFlags::NODLCKBLK) {
             return;
         }
         let mut peak = self.held[held.mode.rank()];
-        peak.add(row.lkid, rank);
+        peak.add(row.lkid(), rank);
         self.held[held.mode.rank()] = peak;
     }
 

@@ -15,35 +15,34 @@ use crate::waiting::{blocks_those_behind, holds_against};
 use vlm_locks::Standing;
 use vlm_queue::{head, next};
 use vlm_store::laws::law_records_are_sound;
-use vlm_store::{ResAt, Store};
+use vlm_store::{ResAt, Store, StoredRow};
 use vlm_words::flags::EnqFlags;
-use vlm_words::locks::Row;
 use vlm_words::modes::Mode;
 use vlm_words::resources::Queue;
 
 // Finds the owner of a lock, if it is another one that is held against the mode.
-fn find_holder(scratch: &mut Scratch, row: &Row, lkid: u32, mode: Mode)
+fn find_holder(scratch: &mut Scratch, row: &StoredRow, lkid: u32, mode: Mode)
     requires room { HasRoomInBoth scratch.old row.now.pid }
     requires node { is_node (row.now.pid / 65536) ≡ true }
     ensures { Marks (λ pid. IsHolder lkid mode row.now × (row.now.pid ≡ pid)) scratch.old
         scratch.new }
 {
-    if row.lkid != lkid {
-        if holds_against(mode, &row.held) {
-            scratch.find(row.pid);
+    if row.lkid() != lkid {
+        if holds_against(mode, &row.held()) {
+            scratch.find(row.pid());
         }
     }
 }
 
 // Finds the owner of a lock, if those behind its request wait for it.
-fn find_blocker(scratch: &mut Scratch, row: &Row)
+fn find_blocker(scratch: &mut Scratch, row: &StoredRow)
     requires room { HasRoomInBoth scratch.old row.now.pid }
     requires node { is_node (row.now.pid / 65536) ≡ true }
     ensures { Marks (λ pid. BlocksThoseBehind row.now.want × (row.now.pid ≡ pid)) scratch.old
         scratch.new }
 {
-    if blocks_those_behind(&row.want) {
-        scratch.find(row.pid);
+    if blocks_those_behind(&row.want()) {
+        scratch.find(row.pid());
     }
 }
 
@@ -78,7 +77,7 @@ fn find_blockers(store: &Store, scratch: &mut Scratch, res: ResAt, queue: Queue,
     let mut at = head(store, res, queue);
     while let Some(lock) = at {
         let row = &store.lock_record(lock).row;
-        if row.lkid == lkid {
+        if row.lkid() == lkid {
             return;
         }
         find_blocker(scratch, row);

@@ -26,9 +26,7 @@ fn find_behind_own(store: &Store, scratch: &mut Scratch, owner: ProcAt, pid: u32
     law_records_are_sound(store);
     let mut at = store.first_own(owner);
     while let Some(lock) = at {
-        let Some(standing) = standing_of(store, lock) else {
-            break;
-        };
+        let standing = standing_of(store, lock);
         find_waited_for(store, scratch, &standing);
         at = store.next_own(lock);
     }

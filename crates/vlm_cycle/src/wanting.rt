@@ -6,9 +6,8 @@ ghost use Rattle.vlm_cycle.specs.Notes.{IsWanting};
 
 use crate::notes::Part;
 use crate::waiting::{blocks_those_behind, holds_against};
-use vlm_store::{Lock, LockAt, Place, ResAt, Store};
+use vlm_store::{Lock, LockAt, Place, ResAt, Store, StoredRow};
 use vlm_words::flags::EnqFlags;
-use vlm_words::locks::Row;
 use vlm_words::modes::Mode;
 use vlm_words::resources::Queue;
 
@@ -26,8 +25,8 @@ pub(crate) struct Wanting {
 }
 
 // The mode for which a row waits: none where it wants none, or with NODLCKWT.
-fn awaited_mode(row: &Row) -> Option<Mode> {
-    let request = row.want?;
+fn awaited_mode(row: &StoredRow) -> Option<Mode> {
+    let request = row.want()?;
     if request.flags.has(EnqFlags::NODLCKWT) {
         return None;
     }
@@ -59,12 +58,12 @@ pub(crate) fn wanting_of(store: &Store, lock: LockAt) -> Option<Wanting>
 
 impl Wanting {
     /// Whether it waits for a lock of this part.
-    pub(crate) fn waits_for(&self, part: Part, lock: LockAt, row: &Row) -> bool {
+    pub(crate) fn waits_for(&self, part: Part, lock: LockAt, row: &StoredRow) -> bool {
         if lock.slot() == self.lock.slot() {
             return false;
         }
-        let holds = holds_against(self.mode, &row.held);
-        let blocks = blocks_those_behind(&row.want);
+        let holds = holds_against(self.mode, &row.held());
+        let blocks = blocks_those_behind(&row.want());
         match part {
             Part::Before => blocks,
             Part::Granted => holds,
@@ -73,8 +72,8 @@ impl Wanting {
     }
 
     /// Whether whoever waits as the row does, before it in its queue, waits for all holders that it waits for.
-    pub(crate) fn is_like(&self, row: &Row) -> bool {
-        match row.want {
+    pub(crate) fn is_like(&self, row: &StoredRow) -> bool {
+        match row.want() {
             Some(request) => request.mode.rank() == self.mode.rank(),
             None => false,
         }
@@ -85,7 +84,7 @@ impl Wanting {
 /// those behind wait for its owner, or that is closed.
 pub(crate) fn covers_those_before(record: &Lock, is_closed: bool) -> bool {
     match awaited_mode(&record.row) {
-        Some(_) => is_closed || blocks_those_behind(&record.row.want),
+        Some(_) => is_closed || blocks_those_behind(&record.row.want()),
         None => false,
     }
 }

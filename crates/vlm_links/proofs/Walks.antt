@@ -1,8 +1,8 @@
 -- Walks over the handles of a list, from the first to the last or back: for callers.
-use Rattle.std.proofs.Common.{◌≡◌, ℕ, List, [], ◌∷◌, ◌++◌, Some, refl, sym, ap, ◌∙◌, inl, inr, eq-eqb, ne_eqb}
+use Rattle.std.proofs.Common.{◌≡◌, ◌≤◌, ℕ, zero, suc, List, [], ◌∷◌, ◌++◌, None, Some, refl, sym, ap, subst, ◌∙◌, inl, inr, eq-eqb, ne_eqb, slice_get, arith}
 use Rattle.std.proofs.lemmas.Bool.{cases_eq}
 use Rattle.std.proofs.lemmas.Option.{none-some, same_Some}
-use Rattle.vlm_links.specs.Lists.{IsIn, Spot, before_from, first_handle, handle_after, handle_before, last_from, last_handle, without}
+use Rattle.vlm_links.specs.Lists.{IsApart, IsIn, Spot, before_from, first_handle, handle_after, handle_before, last_from, last_handle, without}
 use Rattle.vlm_links.proofs.HandleLists.{without_head, without_past}
 
 -- ---- what is told is one of the handles
@@ -18,6 +18,32 @@ handle_after-in after (first ∷ rest) handle is =
       | inl same ↦ inr (first_handle-in rest handle (is ∙ rw (eq-eqb first after same) refl))
       | inr differs ↦ inr (handle_after-in after rest handle (is ∙ rw (ne_eqb first after differs) refl))
     ]
+
+-- ---- the handle at an index
+
+pub first_handle-index : (handles : List ℕ) → first_handle handles ≡ slice_get handles 0
+first_handle-index [] = refl
+first_handle-index (first ∷ rest) = refl
+
+pub handle_index-in : (i : ℕ) (handles : List ℕ) (handle : ℕ) → slice_get handles i ≡ Some handle → IsIn handle handles
+handle_index-in i [] handle is = absurd (none-some handle is)
+handle_index-in zero (first ∷ rest) handle is = inl (same_Some first handle is)
+handle_index-in (suc i) (first ∷ rest) handle is = inr (handle_index-in i rest handle is)
+
+-- the handle after the one at an index is that at the next index
+pub handle_after-index : (i : ℕ) (handles : List ℕ) (handle : ℕ) → IsApart handles → slice_get handles i ≡ Some handle → handle_after handle handles ≡ slice_get handles (suc i)
+handle_after-index i [] handle apart is = refl
+handle_after-index zero (first ∷ rest) handle apart is = rw (eq-eqb first handle (same_Some first handle is)) (first_handle-index rest)
+handle_after-index (suc i) (first ∷ rest) handle apart is =
+    let there : IsIn handle rest = handle_index-in i rest handle is in
+    rw (ne_eqb first handle (λ same. apart.0 (subst (λ x. IsIn x rest) (sym same) there))) (handle_after-index i rest handle apart.1 is)
+
+-- no handle is at an index behind one that is past the last
+pub handle_index-past : (i index : ℕ) (handles : List ℕ) → slice_get handles i ≡ None → i ≤ index → slice_get handles index ≡ None
+handle_index-past i index [] past le = refl
+handle_index-past zero index (first ∷ rest) past le = absurd (none-some first (sym past))
+handle_index-past (suc i) zero (first ∷ rest) past le = absurd (omega (arith, le))
+handle_index-past (suc i) (suc index) (first ∷ rest) past le = handle_index-past i index rest past (omega (arith, le))
 
 last_from-in : (first : ℕ) (handles : List ℕ) (handle : ℕ) → Some handle ≡ last_from (Some first) handles → IsIn handle (first ∷ handles)
 last_from-in first [] handle is = inl (sym (same_Some handle first is))

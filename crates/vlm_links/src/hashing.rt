@@ -2,8 +2,9 @@
 
 ghost use Rattle.std.specs.Prelude.{◌≡◌};
 ghost use Rattle.std.specs.Hash.DefaultHasher as sip;
+ghost use Rattle.vlm_links.specs.Hashing.{hash_of};
 
-use std::hash::{BuildHasher, DefaultHasher, Hasher};
+use std::hash::{BuildHasher, DefaultHasher, Hash, Hasher};
 
 /// How an index hashes: SipHash, each hasher of which begins behind the same keys. Who doesn't know the keys can't
 /// choose names that meet in an index. No answer depends on them.
@@ -30,6 +31,16 @@ impl HashKeys {
         let mut keyed = DefaultHasher::new();
         keyed.write(&bytes);
         HashKeys { keyed }
+    }
+
+    /// The hash of what is found by it, in 32 bits: who keeps it need not hash it again.
+    #[tactic(auto, unfolding(crate::specs::Hashing::hash_of))]
+    pub fn hash_of<T: Hash>(&self, found: &T) -> u32
+        ensures { result ≡ hash_of self.now (T.hash_input found.now) }
+    {
+        let mut hasher = self.build_hasher();
+        found.hash(&mut hasher);
+        (hasher.finish() & 0xFFFF_FFFF) as u32
     }
 }
 

@@ -1,6 +1,6 @@
 //! Lists, and the records that they run through.
 
-ghost use Rattle.std.specs.Prelude.{◌≡◌, ◌≢◌, ◌≤◌, ℕ, Some, None, [], ◌∷◌, ◌++◌, length};
+ghost use Rattle.std.specs.Prelude.{◌≡◌, ◌≢◌, ◌≤◌, ℕ, Some, None, [], ◌∷◌, ◌++◌, length, slice_get};
 ghost use Rattle.std.specs.Option.{ForSome};
 ghost use Rattle.slab.specs.Slab.{get, ContainsKey};
 ghost use Rattle.vlm_links.specs.declared.link.Links.{Links};
@@ -97,6 +97,21 @@ impl<Kind> LinkedList<Kind> {
         ensures { result ≡ handle_before handle (handles_of T.links nodes.now self.now) }
     {
         nodes[handle].links().prev.handle()
+    }
+
+    /// The handle of the record at an index, from 0, if there is one. It walks to that index.
+    pub fn nth<T: Linked<Kind>>(&self, nodes: &Slab<T>, index: usize) -> Option<usize>
+        requires { IsLinked T.links nodes.now self.now }
+        ensures { result ≡ slice_get (handles_of T.links nodes.now self.now) index }
+    {
+        let mut at = self.first(nodes);
+        for _ in 0..index {
+            let Some(handle) = at else {
+                return None;
+            };
+            at = self.next(nodes, handle);
+        }
+        at
     }
 
     /// Puts a record that is in no list of this kind at the end.

@@ -139,7 +139,7 @@ pub none_has_ended : (choice : Choice) (invalidates : Bool) (owner pid : ℕ) (s
 none_has_ended choice invalidates owner pid s next lives sound paid first = record {
   lives = lives;
   sound = sound;
-  only_notices = record { resources = refl; loose = refl; processes = refl; room = refl };
+  only_notices = record { resources = refl; loose = refl; processes = refl; room = refl; keys = refl };
   lkids = [];
   rise = tt;
   statuses = refl;

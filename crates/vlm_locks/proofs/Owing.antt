@@ -42,6 +42,7 @@ notices_twice s t u first second = record {
   loose = second.loose ∙ first.loose;
   processes = second.processes ∙ first.processes;
   room = second.room ∙ first.room;
+  keys = second.keys ∙ first.keys;
 }
 
 -- and stays so where status blocks are written and ASTs owed and queued
@@ -49,7 +50,7 @@ pub same_process : (s t : Records) → IsSound s → SameButNotices s t → (at 
 same_process s t sound same at a b one other =
     one_process s sound at a b one
     (process_still t s at b
-    (record { resources = sym same.resources; loose = sym same.loose; processes = sym same.processes; room = sym same.room }) other)
+    (record { resources = sym same.resources; loose = sym same.loose; processes = sym same.processes; room = sym same.room; keys = sym same.keys }) other)
 
 -- what is owed changes so from where it stayed
 pub changes_then : (pid : ℕ) (f : ℕ → ℕ) (s t u : Records) → DuesStay s t → DueChanges pid f t u → DueChanges pid f s u

@@ -177,4 +177,4 @@ module _ (row : Row) (unarmed : row.armed ≡ false) where
 pub owes_ready : (e : Entry) (s t : Records) → IsReady e s t → IsPaid s → OwesMore e.row.pid (routines_of e.row.want) t
 owes_ready e s t ready paid =
     owes_more e.row.pid (routines_of e.row.want) (record s { room = t.room }) t paid ready.owed
-    (record { resources = ready.resources; loose = ready.loose; processes = ready.processes; room = refl })
+    (record { resources = ready.resources; loose = ready.loose; processes = ready.processes; room = refl; keys = ready.keys })

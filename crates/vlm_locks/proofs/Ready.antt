@@ -3,12 +3,15 @@
 use Rattle.std.proofs.Common.{◌≡◌, ◌+◌, ℕ, cond, List, [], ◌∷◌, map, Option, None, Some, Result, Ok, Err, OnOk, refl, sym, ap, ◌∙◌, subst}
 use Rattle.std.specs.Prelude.{◌==◌}
 use Rattle.std.specs.Option.{option_map_or}
+use Rattle.vlm_links.specs.declared.hashing.HashKeys.{HashKeys}
+use Rattle.vlm_store.specs.Index.{hash_key}
 use Rattle.vlm_words.specs.declared.locks.Row.{Row}
 use Rattle.vlm_words.specs.Dues.{routines_of}
 use Rattle.vlm_words.specs.Enqueue.{resources_after_entry}
 use Rattle.vlm_links.specs.Lists.{IsIn}
 use Rattle.vlm_records.specs.declared.handles.Place.{Place}
 use Rattle.vlm_records.specs.declared.handles.Place.TheVariants.{Loose, Queued}
+use Rattle.vlm_words.specs.declared.resources.Key.{Key}
 use Rattle.vlm_store.specs.Plain.{plain_processes, plain_resource, plain_resources}
 use Rattle.vlm_store.specs.Records.{DueChanges, FindsResource, HasRoom, HasRoomForLock, HasRoomForResource, IsParentOf, IsProcess, IsUnchanged, Records, Rooms, SameButNotices, StoredProcess, Stores, but_notices, due_of, locks_at, process_with_lock, queued, resource_at, without_lock, without_resource}
 use Rattle.vlm_locks.specs.declared.entering.Entry.{Entry}
@@ -44,7 +47,7 @@ module _ (e : Entry) (s o : Records) (ready : IsReady e s o) where
 
   -- notices alone, but for the room
   same : SameButNotices (record s { room = o.room }) o
-  same = record { resources = ready.resources; loose = ready.loose; processes = ready.processes; room = refl }
+  same = record { resources = ready.resources; loose = ready.loose; processes = ready.processes; room = refl; keys = ready.keys }
 
   -- the lock may enter still
   pub may_enter_ready : MayEnter e s → MayEnter e o
@@ -58,6 +61,7 @@ module _ (e : Entry) (s o : Records) (ready : IsReady e s o) where
     owner = process_still (record s { room = o.room }) o e.owner e.row.pid same may.owner;
     parent = parent_ready e.parent e.row may.parent;
     keyed = may.keyed;
+    hash = may.hash ∙ ap (λ (h : HashKeys). hash_key h e.site.key) (sym ready.keys);
   }
 
   -- its resource is where it was
@@ -110,6 +114,7 @@ made_ready r e s mid o unchanged lock resource lives =
       resources = same.resources ∙ ap (λ (x : Records). x.resources) unchanged.same;
       loose = same.loose ∙ ap (λ (x : Records). x.loose) unchanged.same;
       processes = same.processes ∙ ap (λ (x : Records). map but_notices x.processes) unchanged.same;
+      keys = same.keys ∙ ap (λ (x : Records). x.keys) unchanged.same;
       statuses = statuses ∙ ap plain_processes unchanged.same;
       lock = subst (λ (room : Rooms). HasRoom room.locks) (sym same.room) lock;
       resource = λ none. subst (λ (room : Rooms). HasRoom room.resources) (sym same.room) (resource none);

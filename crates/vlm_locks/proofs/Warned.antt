@@ -65,7 +65,7 @@ pub lock_unwarned : (r : StoredResource) (lock : ℕ) (row : Row) (s : Records) 
 unfolding row_warnings row_after_warning
 lock_unwarned r lock row s is = record {
   queued = rw is refl;
-  only = rw is (record { resources = refl; loose = refl; processes = refl; room = refl });
+  only = rw is (record { resources = refl; loose = refl; processes = refl; room = refl; keys = refl });
   owed = λ pid. rw is refl;
 }
 
@@ -82,6 +82,7 @@ lock_warned r lock row s t new is told owed same wrote = record {
         loose = ap (disarming lock Loose) same.loose;
         processes = same.processes;
         room = same.room;
+        keys = same.keys;
       });
   owed = λ pid. rw (wrote, is) (owed pid);
 }

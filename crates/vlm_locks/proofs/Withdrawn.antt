@@ -1,5 +1,5 @@
 -- What the withdrawal of a lock makes of the resources.
-use Rattle.std.proofs.Common.{◌≡◌, ◌≢◌, ℕ, Bool, true, false, ◌||◌, List, [], ◌∷◌, ◌++◌, map, cond, IfSome, refl, sym, ap, ◌∙◌, subst, inl, inr, eq-eqb, ne_eqb}
+use Rattle.std.proofs.Common.{◌≡◌, ◌≢◌, ℕ, Bool, true, false, ◌||◌, List, [], ◌∷◌, ◌++◌, map, cond, is_some, Option, None, Some, IfSome, refl, sym, ap, ◌∙◌, subst, inl, inr, eq-eqb, ne_eqb}
 use Rattle.std.specs.List.{list_any}
 use Rattle.std.proofs.lemmas.Bool.{cases_eq}
 use Rattle.std.proofs.lemmas.List.{append-nil}
@@ -7,10 +7,11 @@ use Rattle.vlm_words.specs.declared.locks.Row.{Row}
 use Rattle.vlm_words.specs.declared.resources.Queue.{Queue}
 use Rattle.vlm_words.specs.declared.resources.Queue.TheVariants.{Granted, Conversion, Waiting}
 use Rattle.vlm_words.specs.declared.resources.ValueBlock.{ValueBlock}
-use Rattle.vlm_words.specs.Withdrawals.{Withdrawal, has_writer, is_held_by_writer, is_writer, resource_after_cancel, resource_after_going, resource_after_withdrawals, resource_after_writer, resource_without, row_after_cancel, value_block_after_writer}
+use Rattle.vlm_words.specs.Withdrawals.{Withdrawal, has_writer, is_held_by_writer, is_writer, resource_after_cancel, resource_after_going, resource_after_withdrawals, resource_after_writer, resource_without, row_after_cancel, value_block_after_gift, value_block_after_writer}
 use Rattle.vlm_words.specs.Rows.{rows_without}
 use Rattle.vlm_words.specs.Rows as plain
 use Rattle.vlm_words.specs.State.{Resource}
+use Rattle.vlm_words.specs.ValueBlocks.{invalid_value_block}
 use Rattle.vlm_links.specs.Lists.{IsIn}
 use Rattle.vlm_records.specs.declared.handles.Place.TheVariants.{Queued}
 use Rattle.vlm_store.specs.Plain.{plain_processes, plain_resource}
@@ -152,6 +153,18 @@ module _ (s : Records) (sound : IsSound s) (f : Standing) (standing : IsStanding
             ∙ held_own ∙ may_not
         | inr differs ↦ not_held x among differs
       ]))
+
+  -- a withdrawal that writes nothing leaves nothing
+  pub left_unwritten : (w : Withdrawal) → is_some w.value ≡ false → w.invalidates ≡ false → IsAtRest s → IsChange f.res (resource_after_writer w) s s
+  left_unwritten w ungiven keeps rest =
+      unchanged f.res (resource_after_writer w) standing.resource s sound rest standing.found (λ x among. stays (plain_resource x) w.value w.invalidates (is_held_by_writer w.lkid (plain_resource x)) ungiven keeps)
+    where
+      stays : (r : Resource) (given : Option (List ℕ)) (invalidates held : Bool) → is_some given ≡ false → invalidates ≡ false
+          → cond held (record r { value_block = cond invalidates (invalid_value_block (value_block_after_gift given w.tail r.value_block)) (value_block_after_gift given w.tail r.value_block) }) r ≡ r
+      stays r (Some value) invalidates held ungiven keeps = cc
+      stays r None true held ungiven keeps = cc
+      stays r None false true ungiven keeps = refl
+      stays r None false false ungiven keeps = refl
 
   -- the value block is written on its resource alone
   block_put : (block : ValueBlock) → on_resource f.res (λ (x : StoredResource). record x { value_block = block }) s.resources

@@ -1,5 +1,6 @@
 -- The entry of a new lock into the queues of a resource.
 use Rattle.std.specs.Prelude.{◌≡◌, ◌+◌, ℕ, Bool, true, List, [], find, map, unwrap_or, IfSome, Option, None, Some, if◌then◌else◌}
+use Rattle.vlm_store.specs.Index.{hash_key}
 use Rattle.vlm_words.specs.declared.locks.Request.{Request}
 use Rattle.vlm_words.specs.declared.locks.Row.{Row}
 use Rattle.vlm_words.specs.declared.resources.Queue.{Queue}
@@ -28,13 +29,14 @@ abbrev pub entered_queue : Bool → Queue
 entered_queue at_once = if at_once then Granted else Waiting
 
 -- between two steps the lock of the entry may enter: its identification is above all, its process and its parent lock are
--- there, and the handle of its resource fits the domain
+-- there, the handle of its resource fits the domain, and its key is hashed as the index does
 pub record MayEnter (e : Entry) (s : Records) : Type 0 where
   pub rest : IsAtRest s
   pub rising : IsAboveEachLock e.row.lkid s
   pub owner : IsProcess e.owner e.row.pid s
   pub parent : IsParentOf e.parent e.row s
   pub keyed : IsKeyed e.site.domain e.site.key
+  pub hash : e.hash ≡ hash_key s.keys e.site.key
 
 -- there is room for the lock, and for its resource where none is there, and its request names no routine
 pub record HasRoomToEnter (e : Entry) (s : Records) : Type 0 where
@@ -48,6 +50,7 @@ pub record IsReady (e : Entry) (old new : Records) : Type 0 where
   pub resources : new.resources ≡ old.resources
   pub loose : new.loose ≡ old.loose
   pub processes : map but_notices new.processes ≡ map but_notices old.processes
+  pub keys : new.keys ≡ old.keys
   pub statuses : plain_processes new ≡ plain_processes old
   pub lock : HasRoomForLock new
   pub resource : e.res ≡ None → HasRoomForResource new

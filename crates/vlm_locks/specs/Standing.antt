@@ -1,7 +1,8 @@
 -- A lock in its queue.
 use Rattle.std.specs.Prelude.{◌≡◌, ℕ, Some}
 use Rattle.vlm_links.specs.Lists.{IsIn}
-use Rattle.vlm_store.specs.Records.{Records, StoredResource, queued, resource_at}
+use Rattle.vlm_words.specs.declared.locks.Row.{Row}
+use Rattle.vlm_store.specs.Records.{Records, StoredResource, Stores, queued, resource_at}
 use Rattle.vlm_locks.specs.declared.finding.Standing.{Standing}
 
 -- the lock stands so: with this row, in this queue of the resource of this handle
@@ -15,3 +16,10 @@ pub record IsStandingOf (pid lkid : ℕ) (f : Standing) (s : Records) : Type 0 w
   pub standing : IsStanding f s
   pub named : f.row.lkid ≡ lkid
   pub owned : f.row.pid ≡ pid
+
+-- the handle is that of the lock of this process with this identification
+pub record IsLockOf (pid lkid at : ℕ) (s : Records) : Type 0 where
+  pub row : Row
+  pub stored : Stores s at row
+  pub named : row.lkid ≡ lkid
+  pub owned : row.pid ≡ pid

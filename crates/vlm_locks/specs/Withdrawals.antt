@@ -1,4 +1,5 @@
 -- Withdrawals as the plain machine has them.
+use Rattle.std.specs.Prelude.{Bool, ◌||◌, is_some}
 use Rattle.vlm_words.specs.Endings.{How}
 use Rattle.vlm_words.specs.Endings.How.{by_abort, by_cancel, by_deadlock, by_rundown}
 use Rattle.vlm_words.specs.Withdrawals.{Withdrawal as PlainWithdrawal}
@@ -24,3 +25,7 @@ plain_withdrawal w = record {
   tail = w.tail;
   invalidates = w.invalidates;
 }
+
+-- a lock that may write the value block leaves something in it: a value, or that it is invalid
+abbrev pub writes_something : Withdrawal → Bool
+writes_something w = is_some w.value || w.invalidates

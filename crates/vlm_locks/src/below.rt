@@ -16,7 +16,7 @@ fn parent_of(store: &Store, lkid: u32) -> u32
     ensures parent { result ≡ parent_of lkid (plain_resources store.now) }
 {
     match store.lock(lkid) {
-        Some(lock) => store.lock_record(lock).row.parent,
+        Some(lock) => store.lock_record(lock).row.parent(),
         None => 0,
     }
 }

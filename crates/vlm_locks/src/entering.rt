@@ -44,6 +44,8 @@ pub struct Entry {
     pub parent: Option<LockAt>,
     /// Where its resource stands.
     pub site: Site,
+    /// How its key is hashed.
+    pub hash: u32,
     /// The serial of its resource, if that is made.
     pub serial: u32,
     /// Where its resource is, if it is there.
@@ -99,7 +101,7 @@ fn enter_new(store: &mut Store, entry: &Entry) -> Result<ResAt, AllocError>
         (IsDueMore (entered_row entry.now.at_once entry.now.row) store.old store.new) }
     ensures succeeds { HasRoomForLock store.old → HasRoomForResource store.old → IsOk result }
 {
-    let res = store.add_resource(entry.serial, &entry.site)?;
+    let res = store.add_resource(entry.serial, &entry.site, entry.hash)?;
     enter_at(store, entry, res)?;
     Ok(res)
 }

@@ -1,6 +1,6 @@
 //! Where a lock stands.
 
-ghost use Rattle.std.specs.Prelude.{◌≡◌, ◌≢◌, IfSome, IsSome, is_some};
+ghost use Rattle.std.specs.Prelude.{◌≡◌, ◌≢◌, IfSome, is_some};
 ghost use Rattle.std.specs.Bool.{OnFalse, OnTrue};
 ghost use Rattle.vlm_words.specs.declared.locks.Row.{Row};
 ghost use Rattle.vlm_words.specs.declared.resources.Queue.{Queue};
@@ -9,7 +9,7 @@ ghost use Rattle.vlm_words.specs.Checks.{holds_lock};
 ghost use Rattle.vlm_store.specs.Plain.{plain_resources};
 ghost use Rattle.vlm_store.specs.Records.{IsStored, Stores};
 ghost use Rattle.vlm_locks.specs.Rest.{IsAtRest};
-ghost use Rattle.vlm_locks.specs.Standing.{IsStanding, IsStandingOf};
+ghost use Rattle.vlm_locks.specs.Standing.{IsLockOf, IsStanding};
 
 use vlm_store::{LockAt, Place, ResAt, Store};
 use vlm_words::locks::Row;
@@ -38,39 +38,38 @@ impl Standing {
     }
 }
 
-/// Where a lock that is in hand stands. Between two steps each lock stands in a queue, so there is always an
-/// answer.
-pub fn standing_of(store: &Store, lock: LockAt) -> Option<Standing>
+/// Where a lock that is in hand stands: between two steps each lock stands in a queue.
+pub fn standing_of(store: &Store, lock: LockAt) -> Standing
     requires rest { IsAtRest store.now }
     requires stored { IsStored lock store.now }
-    ensures stands { IsSome result }
-    ensures standing { IfSome result (λ f. IsStanding f store.now) }
-    ensures lock { IfSome result (λ f. f.lock ≡ lock) }
-    ensures row { IfSome result (λ f. Stores store.now lock f.row) }
-    ensures only { IfSome result (λ f. (row : Row) → Stores store.now lock row → row ≡ f.row) }
+    ensures standing { IsStanding result store.now }
+    ensures lock { result.lock ≡ lock }
+    ensures row { Stores store.now lock result.row }
+    ensures only { (row : Row) → Stores store.now lock row → row ≡ result.row }
 {
     let record = store.lock_record(lock);
     match record.place {
-        Place::Queued(res, queue) => Some(Standing {
+        Place::Queued(res, queue) => Standing {
             lock,
-            row: record.row,
+            row: record.row.row(),
             res,
             queue,
-        }),
-        Place::Loose => None,
+        },
+        Place::Loose => unreachable!(),
     }
 }
 
-/// Where the lock of this identification stands, if it is one of the process. None where it is not, or
-/// where no lock has the identification.
-pub fn find_lock(store: &Store, pid: u32, lkid: u32) -> Option<Standing>
+/// The lock of this identification, if it is one of the process. None where it is not, or where no lock has the
+/// identification.
+pub fn find_lock(store: &Store, pid: u32, lkid: u32) -> Option<LockAt>
     requires { IsAtRest store.now }
     ensures held { is_some result ≡ list_any (holds_lock pid lkid) (plain_resources store.now) }
-    ensures standing { IfSome result (λ f. IsStandingOf pid lkid f store.now) }
+    ensures lock { IfSome result (λ lock. IsLockOf pid lkid lock store.now) }
 {
     let lock = store.lock(lkid)?;
-    if store.lock_record(lock).row.pid != pid {
-        return None;
+    if store.lock_record(lock).row.pid() == pid {
+        Some(lock)
+    } else {
+        None
     }
-    standing_of(store, lock)
 }

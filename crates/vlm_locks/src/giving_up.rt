@@ -47,9 +47,7 @@ fn end_chosen(store: &mut Store, owner: ProcAt, pid: u32, choice: Choice, invali
     law_records_are_sound(store);
     let mut next = store.first_own(owner);
     while let Some(lock) = next {
-        let Some(standing) = standing_of(store, lock) else {
-            break;
-        };
+        let standing = standing_of(store, lock);
         law_records_are_sound(store);
         if is_chosen(store, standing.row.lkid, choice) {
             let withdrawal = Withdrawal::together(standing.row.lkid, invalidates);
@@ -79,9 +77,7 @@ fn remove_chosen(
     law_records_are_sound(store);
     let mut next = store.last_own(owner);
     while let Some(lock) = next {
-        let Some(standing) = standing_of(store, lock) else {
-            break;
-        };
+        let standing = standing_of(store, lock);
         law_records_are_sound(store);
         next = store.previous_own(lock);
         if is_chosen(store, standing.row.lkid, choice) {

@@ -46,9 +46,7 @@ fn run_down(store: &mut Store, touched: &mut Touched, owner: ProcAt, pid: u32)
 {
     law_records_are_sound(store);
     while let Some(lock) = store.last_own(owner) {
-        let Some(standing) = standing_of(store, lock) else {
-            break;
-        };
+        let standing = standing_of(store, lock);
         law_records_are_sound(store);
         withdraw(store, &standing, &Withdrawal::rundown(standing.row.lkid));
         law_records_are_sound(store);

@@ -64,7 +64,7 @@ fn serve_queue(value_block: &mut ValueBlock, store: &mut Store, res: ResAt, queu
 {
     law_records_are_sound(store);
     while let Some(lock) = head(store, res, queue) {
-        let row = store.lock_record(lock).row;
+        let row = store.lock_record(lock).row.row();
         if !wanted_fits(store, res, lock, row.want) {
             break;
         }

@@ -67,7 +67,7 @@ fn warn_lock(store: &mut Store, res: ResAt, lock: LockAt)
         → IsLockWarned r lock row store.old store.new }
 {
     let record = store.lock_record(lock);
-    let row = record.row;
+    let row = record.row.row();
     let owner = record.owner;
     if !is_to_warn(store, res, &row) {
         return;

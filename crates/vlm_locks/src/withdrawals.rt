@@ -6,7 +6,7 @@ ghost use Rattle.vlm_words.specs.Endings.How.{by_abort};
 ghost use Rattle.vlm_words.specs.Rundown.{rundown_of};
 ghost use Rattle.vlm_words.specs.Search.{deadlock_of};
 ghost use Rattle.vlm_locks.specs.Left.{giving_up};
-ghost use Rattle.vlm_locks.specs.Withdrawals.{how_ended, plain_withdrawal};
+ghost use Rattle.vlm_locks.specs.Withdrawals.{how_ended, plain_withdrawal, writes_something};
 
 use vlm_words::conditions::Cond;
 
@@ -58,6 +58,13 @@ pub struct Withdrawal {
 }
 
 impl Withdrawal {
+    /// Whether it leaves something in the value block, where the lock may write that.
+    pub(crate) fn writes(&self) -> bool
+        ensures { result ≡ writes_something self.now }
+    {
+        self.value.is_some() || self.invalidates
+    }
+
     /// That of a lock whose process ends.
     pub(crate) fn rundown(lkid: u32) -> Self
         ensures { plain_withdrawal result ≡ rundown_of lkid }

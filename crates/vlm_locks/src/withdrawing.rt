@@ -193,6 +193,9 @@ fn leave_value(store: &mut Store, standing: &Standing, withdrawal: &Withdrawal)
     ensures weighs { WeighsTheSame store.old store.new }
 {
     law_records_are_sound(store);
+    if !withdrawal.writes() {
+        return;
+    }
     if may_write(standing) {
         let block = store.resource_record(standing.res).value_block;
         store.set_value_block(standing.res, block_after_writer(block, withdrawal));

@@ -1,5 +1,6 @@
 -- What the checks of a step decide, for the change that follows.
 use Rattle.std.specs.Prelude.{◌≡◌, ◌<◌, ◌^◌, ℕ, zero, suc, true, false, Option, None, Some}
+use Rattle.vlm_store.specs.Index.{hash_key}
 use Rattle.vlm_words.specs.declared.resources.Queue.TheVariants.{Granted}
 use Rattle.vlm_words.specs.declared.steps.Conversion.{Conversion}
 use Rattle.vlm_words.specs.declared.steps.Dequeue.{Dequeue}
@@ -49,14 +50,15 @@ pub record IsAskedBy (m : MachineState) (e : NewRequest) (caller : Caller) (form
   pub stands : IsParent caller.pid parent m.records
   pub named : standing_lkid parent ≡ form.parent
 
--- the entry of a new request's lock: its row and who owns it, its parent lock, where its resource stands, under which
--- serial that is made if it is not there, and whether the request is granted at once
+-- the entry of a new request's lock: its row and who owns it, its parent lock, where its resource stands, how its key is
+-- hashed, under which serial that is made if it is not there, and whether the request is granted at once
 pub record IsEntry (m : MachineState) (e : NewRequest) (entry : Entry) : Type 0 where
   pub row : entry.row ≡ enq_row (plain_state m) e
   pub owner : IsProcess entry.owner entry.row.pid m.records
   pub parent : IsParentOf entry.parent entry.row m.records
   pub site : entry.site ≡ enq_site (plain_state m) e
   pub keyed : IsKeyed entry.site.domain entry.site.key
+  pub hash : entry.hash ≡ hash_key m.records.keys entry.site.key
   pub serial : entry.serial ≡ m.next_serial
   pub found : FindsResource m.records entry.site.key entry.res
   pub at_once : entry.at_once ≡ enq_at_once (plain_state m) e

@@ -14,7 +14,7 @@ ghost use Rattle.vlm_locks.specs.Standing.{IsStandingOf};
 use crate::nodes::has_departed;
 use crate::processes::{Caller, living};
 use crate::records::Machine;
-use vlm_locks::{Standing, find_lock};
+use vlm_locks::{Standing, find_lock, standing_of};
 use vlm_procs::{has_room, status_block};
 use vlm_words::blocks::Block;
 use vlm_words::conditions::Cond;
@@ -138,7 +138,10 @@ impl Machine {
         ensures standing { IfOk result
             (λ standing. IsStandingOf caller.now.pid lkid standing self.now.records) }
     {
-        find_lock(&self.store, caller.pid, lkid).ok_or(Cond::Ivlockid)
+        match find_lock(&self.store, caller.pid, lkid) {
+            Some(lock) => Ok(standing_of(&self.store, lock)),
+            None => Err(Cond::Ivlockid),
+        }
     }
 }
 

@@ -7,6 +7,7 @@ ghost use Rattle.vlm_words.specs.Enqueue.{enq_change, enq_flags_refusal, enq_for
 ghost use Rattle.vlm_words.specs.Resources.{is_at, new_resource};
 ghost use Rattle.vlm_words.specs.Flags.{flag_bits};
 ghost use Rattle.vlm_words.specs.Stepped.{Outcome};
+ghost use Rattle.vlm_store.specs.Index.{hash_key};
 ghost use Rattle.vlm_store.specs.Plain.{plain_resources};
 ghost use Rattle.vlm_store.specs.Records.{FindsResource, HasResource, IsUnchanged};
 ghost use Rattle.vlm_locks.specs.Entering.{HasRoomToEnter};
@@ -51,27 +52,32 @@ pub(crate) struct Form {
     name: Name,
 }
 
-// Where the resource under a handle is, if it is there, and whether a request is granted at once on it, or on a new
-// one.
+// How a key is hashed, where its resource is, if it is there, and whether a request is granted at once on it, or on a
+// new one.
 #[derive(Clone, Copy)]
 pub(crate) struct Found {
+    hash: u32,
     res: Option<ResAt>,
     at_once: bool,
 }
 
 fn entrance(store: &Store, key: &Key, asked: &Request) -> Found
     requires { IsAtRest store.now }
+    ensures hash { result.hash ≡ hash_key store.now.keys key.now }
     ensures found { FindsResource store.now key.now result.res }
     ensures at_once { (serial : ℕ) (site : Site) → site.key ≡ key.now → IsKeyed site.domain site.key
         → result.at_once ≡ is_at_once asked.now
         (unwrap_or (find (is_at site.key) (plain_resources store.now)) (new_resource serial site)) }
 {
-    match store.resource(key) {
+    let hash = store.hash_of(key);
+    match store.resource(key, hash) {
         Some(res) => Found {
+            hash,
             res: Some(res),
             at_once: enters_at_once(store, res, asked),
         },
         None => Found {
+            hash,
             res: None,
             at_once: true,
         },
@@ -193,6 +199,7 @@ impl Machine {
             owner: caller.at,
             parent: lock_of(parent),
             site,
+            hash: entrance.hash,
             serial: self.last_serial + 1,
             res: entrance.res,
             at_once: entrance.at_once,

@@ -135,6 +135,7 @@ notices_alone s at change same = record {
   resources = refl;
   loose = refl;
   room = refl;
+  keys = refl;
   processes = shown-on_stored but_notices at change same s.processes;
 }
 

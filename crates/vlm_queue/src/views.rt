@@ -116,7 +116,7 @@ pub fn row_view(store: &Store, lock: LockAt) -> RowView
     requires { IsStored lock store.now }
     ensures { (row : Row) → Stores store.now lock row → result ≡ row_view row }
 {
-    RowView::of(&store.lock_record(lock).row)
+    RowView::of(&store.lock_record(lock).row.row())
 }
 
 /// How a resource of the store is used. It reads counts alone.

@@ -5,5 +5,6 @@ pub mod Fitting
 pub mod Lining
 pub mod Making
 pub mod OwnLocks
+pub mod Packing
 pub mod Places
 pub mod Rooms

@@ -94,10 +94,6 @@ pub none_handles : (q : Queues) (res : ℕ) (queue : Queue) → get q.resources 
 none_handles q res queue none = ap (λ slot. handles_of queue_links q.locks (list_in queue slot)) none
 
 -- what is read off the face of a resource
-pub key_by_face : (slot : Option Resource) → option_map (λ (r : Resource). r.key) slot ≡ option_map (λ (f : Face). f.key) (option_map face_of slot)
-key_by_face None = refl
-key_by_face (Some r) = refl
-
 pub face_by_face : (new old : Option Resource) → option_map face_of new ≡ option_map face_of old → face_in new ≡ face_in old
 face_by_face None None same = refl
 face_by_face None (Some r) same = cc

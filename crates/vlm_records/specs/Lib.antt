@@ -4,5 +4,7 @@ pub mod Kept
 pub mod Kin
 pub mod Line
 pub mod Pending
+pub mod Requests
+pub mod Rows
 pub mod Shown
 pub mod StatusBlocks

@@ -228,22 +228,23 @@ pub record Face : Type 0 where
   pub serial : ℕ
   pub domain : Domain
   pub key : Key
+  pub hash : ℕ
   pub level : ℕ
   pub value_block : ValueBlock
 
 -- what a resource shows besides its queues
 abbrev pub face_of : Resource → Face
-face_of r = record { serial = r.serial; domain = r.domain; key = r.key; level = r.level; value_block = r.value_block }
+face_of r = record { serial = r.serial; domain = r.domain; key = r.key; hash = r.hash; level = r.level; value_block = r.value_block }
 
 -- what a look-up that finds nothing gives
 abbrev pub no_face : Face
-no_face = record { serial = 0; domain = System; key = Below 0 (replicate 1 0); level = 0; value_block = new_value_block }
+no_face = record { serial = 0; domain = System; key = Below 0 (replicate 1 0); hash = 0; level = 0; value_block = new_value_block }
 
 -- what stands under a handle, or what is told of nothing
 abbrev pub face_in : Option Resource → Face
 face_in None = no_face
 face_in (Some r) = face_of r
 
--- a resource at its making
-abbrev pub new_face : ℕ → Site → Face
-new_face serial site = record { serial = serial; domain = site.domain; key = site.key; level = site.level; value_block = new_value_block }
+-- a resource at its making, whose key hashes so
+abbrev pub new_face : ℕ → Site → ℕ → Face
+new_face serial site hash = record { serial = serial; domain = site.domain; key = site.key; hash = hash; level = site.level; value_block = new_value_block }

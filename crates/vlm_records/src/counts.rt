@@ -46,7 +46,7 @@ impl Queues {
     {
         let Lock { row, place, .. } = self.locks[at];
         if let Place::Queued(res, queue) = place {
-            self.resources[res.slot()].tally.remove(queue, &row);
+            self.resources[res.slot()].tally.remove(queue, &row.row());
         }
     }
 
@@ -60,7 +60,7 @@ impl Queues {
     {
         let Lock { row, place, .. } = self.locks[at];
         if let Place::Queued(res, queue) = place {
-            self.resources[res.slot()].tally.add(queue, &row);
+            self.resources[res.slot()].tally.add(queue, &row.row());
         }
     }
 
@@ -78,7 +78,7 @@ impl Queues {
             None => tally,
             Some(asking) => {
                 let Lock { row, place, .. } = self.locks[asking.slot()];
-                counted_out(tally, res, place, &row)
+                counted_out(tally, res, place, &row.row())
             }
         }
     }

@@ -30,6 +30,7 @@ mod pending;
 mod processes;
 mod queues;
 mod resources;
+mod rows;
 
 pub use handles::{LockAt, LockKind, Place, ProcAt, ProcessKind, ResAt, ResourceKind};
 pub use kin::{join_parent, join_process, leave_parent, leave_process};
@@ -38,3 +39,4 @@ pub use locks::{InArmed, InLine, InQueue, Lock, OfParent, OfProcess};
 pub use processes::{Authorization, Process, put_in, take_out};
 pub use queues::Queues;
 pub use resources::{InOrder, Resource};
+pub use rows::StoredRow;

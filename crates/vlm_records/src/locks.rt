@@ -3,8 +3,8 @@
 ghost use Rattle.std.specs.Prelude.{◌≡◌, refl};
 
 use crate::handles::{LockAt, Place, ProcAt, ResAt};
+use crate::rows::StoredRow;
 use vlm_links::{Linked, LinkedList, Links};
-use vlm_words::locks::Row;
 use vlm_words::resources::Queue;
 
 /// The lists of locks that are queues, and that of the loose locks.
@@ -26,7 +26,7 @@ pub struct OfParent;
 #[derive(Clone, Copy)]
 pub struct Lock {
     /// What it holds and wants.
-    pub row: Row,
+    pub row: StoredRow,
     /// The queue in which it stands.
     pub place: Place,
     // its neighbours there, or among the loose locks
@@ -66,7 +66,7 @@ impl Lock {
         ensures { result ≡ armed_of self.now }
     {
         match self.place {
-            Place::Queued(res, Queue::Granted) if self.row.armed => Some(res),
+            Place::Queued(res, Queue::Granted) if self.row.is_armed() => Some(res),
             _ => None,
         }
     }

@@ -13,6 +13,7 @@ ghost use Rattle.vlm_records.specs.Shown.{IsPlaced, IsTallied, IsThere, SameBut,
 use crate::handles::{LockAt, Place, ProcAt};
 use crate::locks::{InQueue, Lock};
 use crate::resources::Resource;
+use crate::rows::StoredRow;
 use slab::Slab;
 use vlm_links::{LAST_HANDLE, LinkedList, Links};
 use vlm_words::locks::Row;
@@ -128,7 +129,7 @@ impl Queues {
         ensures rest { SameBut but_row self.old.locks self.new.locks }
         ensures lock { WritesLock at self.old self.new }
     {
-        self.locks[at].row = *row;
+        self.locks[at].row = StoredRow::of(row);
     }
 
     // Gives a lock another row, and puts it at the end of a list. It is not among the armed ones of its resource.
@@ -191,7 +192,7 @@ impl Queues {
         self.count_out(at);
         let row = Row {
             armed: false,
-            ..self.locks[at].row
+            ..self.locks[at].row.row()
         };
         self.write_row(at, &row);
         self.count_in(at);
@@ -225,7 +226,7 @@ impl Queues {
         ensures resources_room { room_in self.new.resources ≡ room_in self.old.resources }
     {
         let at = self.locks.insert_reserved(Lock {
-            row: *row,
+            row: StoredRow::of(row),
             place: to,
             in_queue: Links::none(),
             in_armed: Links::none(),

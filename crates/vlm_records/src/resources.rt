@@ -27,6 +27,8 @@ pub struct Resource {
     pub domain: Domain,
     /// The key under which it is found.
     pub key: Key,
+    /// The hash of its key under the store's keys, so that its removal need not hash it again.
+    pub hash: u32,
     /// Its level: 0 for a root, at most 15.
     pub level: u8,
     /// Its value block, which its locks hand on.
@@ -98,6 +100,7 @@ impl Queues {
         order: &mut LinkedList<InOrder>,
         serial: u32,
         site: &Site,
+        hash: u32,
     ) -> usize
         requires laid_out { IsLaidOut self.old }
         requires linked { IsLinked order_links self.old.resources order.old }
@@ -112,7 +115,7 @@ impl Queues {
         ensures order { handles_of order_links self.new.resources order.new
             ≡ handles_of order_links self.old.resources order.old ++ result ∷ [] }
         ensures face { option_map face_of (get self.new.resources result)
-            ≡ Some (new_face serial site.now) }
+            ≡ Some (new_face serial site.now hash) }
         ensures faces { (res : ℕ) → res ≢ result → option_map face_of (get self.new.resources res)
             ≡ option_map face_of (get self.old.resources res) }
         ensures taken { (room_in self.new.resources).0 + 1 ≡ (room_in self.old.resources).0 }
@@ -121,6 +124,7 @@ impl Queues {
             serial,
             domain: site.domain,
             key: site.key,
+            hash,
             level: site.level,
             value_block: ValueBlock::new(),
             granted: LinkedList::new(),

@@ -159,13 +159,13 @@ module _ (q : Queues) (no_locks : (k : ℕ) → get q.locks k ≡ None) (no_reso
     pub empty_ordered : (r : ℕ) → ContainsKey q.resources r → IsIn r (handles_of order_links q.resources order)
     empty_ordered r there = let nothing : IsSome {T = Resource} None = rw (no_resources r) at there in absurd (cc)
 
-    pub empty_records : (beside : Beside) → beside.processes ≡ [] → records_of (tables q order beside) ≡ record nothing { room = (records_of (tables q order beside)).room }
+    pub empty_records : (beside : Beside) → beside.processes ≡ [] → records_of (tables q order beside) ≡ record (nothing (records_of (tables q order beside)).keys) { room = (records_of (tables q order beside)).room }
     unfolding records_of
     empty_records beside no_processes =
-        ap (λ rs. record { resources = map (resource_of (tables q order beside)) rs; loose = map (under_handle (rows q)) (handles_at q Loose); processes = beside.processes; room = beside.room })
+        ap (λ rs. record { resources = map (resource_of (tables q order beside)) rs; loose = map (under_handle (rows q)) (handles_at q Loose); processes = beside.processes; room = beside.room; keys = beside.keys })
         (no_list-linked order_links q.resources order none).1
-        ∙ ap (λ ks. record { resources = []; loose = map (under_handle (rows q)) ks; processes = beside.processes; room = beside.room }) (empty_handles Loose)
-        ∙ ap (λ ps. record { resources = []; loose = []; processes = ps; room = beside.room }) no_processes
+        ∙ ap (λ ks. record { resources = []; loose = map (under_handle (rows q)) ks; processes = beside.processes; room = beside.room; keys = beside.keys }) (empty_handles Loose)
+        ∙ ap (λ ps. record { resources = []; loose = []; processes = ps; room = beside.room; keys = beside.keys }) no_processes
 
 pub Indexes-empty : {K : Type 0} (found : K → Option ℕ) (label : ℕ → Option K) → ((k : K) → found k ≡ None) → ((at : ℕ) → label at ≡ None) → Indexes found label
 Indexes-empty found label finds labels = record {

@@ -5,6 +5,7 @@ use Rattle.std.proofs.lemmas.Bool.{cases_eq}
 use Rattle.std.proofs.lemmas.Option.{none-some, same_Some}
 use Rattle.std.specs.Option.{option_map}
 use Rattle.slab.specs.Slab.{Slab, get, ContainsKey}
+use Rattle.vlm_links.specs.declared.hashing.HashKeys.{HashKeys}
 use Rattle.vlm_links.specs.declared.lists.LinkedList.{LinkedList}
 use Rattle.vlm_links.specs.Lists.{IsIn, IsLinked, Relinks, handles_of, next_in, prev_in}
 use Rattle.vlm_links.proofs.Keeping.{relinked_same}
@@ -31,11 +32,17 @@ pub records_processes : (l : Layout) → (records_of l).processes ≡ l.processe
 unfolding records_of
 records_processes l = refl
 
+pub records_keys : (l : Layout) → (records_of l).keys ≡ l.keys
+unfolding records_of
+records_keys l = refl
+
 -- the processes change, and nothing else
 pub processes_changed : (q : Queues) (order : LinkedList InOrder) (old new : Beside) (changed : List StoredProcess → List StoredProcess) → new.processes ≡ changed old.processes
-    → records_of (tables q order new) ≡ record (records_of (tables q order old)) { processes = changed (records_of (tables q order old)).processes; room = (records_of (tables q order new)).room }
+    → new.keys ≡ old.keys → records_of (tables q order new) ≡ record (records_of (tables q order old)) { processes = changed (records_of (tables q order old)).processes; room = (records_of (tables q order new)).room }
 unfolding records_of
-processes_changed q order old new changed is = ap (λ ps. records_of (tables q order (record { processes = ps; room = new.room }))) is
+processes_changed q order old new changed is keys =
+    ap (λ ps. records_of (tables q order (record { processes = ps; room = new.room; keys = new.keys }))) is
+    ∙ ap (λ (h : HashKeys). records_of (tables q order (record { processes = changed old.processes; room = new.room; keys = h }))) keys
 
 -- ---- what does not depend on the queues
 

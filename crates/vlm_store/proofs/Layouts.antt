@@ -3,6 +3,7 @@ use Rattle.std.proofs.Common.{◌≡◌, ◌≢◌, ◌⊎◌, ℕ, List, [], �
 use Rattle.std.specs.Prelude.{◌==◌}
 use Rattle.std.specs.Option.{option_map_or}
 use Rattle.std.proofs.lemmas.Bool.{cases_eq}
+use Rattle.vlm_links.specs.declared.hashing.HashKeys.{HashKeys}
 use Rattle.vlm_links.specs.Lists.{IsIn, IsApart, first_handle, handle_after, without}
 use Rattle.vlm_links.proofs.Images.{IsIn-image, IsIn-told}
 use Rattle.vlm_links.proofs.HandleLists.{IsIn-without, without_head, without_past}
@@ -124,16 +125,17 @@ module _ (old new : Layout) (change : Place → List StoredLock → List StoredL
   changed_resources (r ∷ rs) =
       ap (λ x. x ∷ map (resource_of new) rs) (changed_resource r) ∙ ap (λ rest. resource_with change (resource_of old r) ∷ rest) (changed_resources rs)
 
-  pub lists_changed_beside : new.order ≡ old.order → records_of new ≡ record (with_lists change (records_of old)) { processes = new.processes; room = (records_of new).room }
+  pub lists_changed_beside : new.order ≡ old.order → new.keys ≡ old.keys → records_of new ≡ record (with_lists change (records_of old)) { processes = new.processes; room = (records_of new).room }
   unfolding records_of
-  lists_changed_beside order =
-      ap (λ x. record { resources = x; loose = map (under_handle new.rows) (new.handles Loose); processes = new.processes; room = new.room }) (ap (map (resource_of new)) order ∙ changed_resources old.order)
-      ∙ ap (λ x. record { resources = map (resource_with change) (map (resource_of old) old.order); loose = x; processes = new.processes; room = new.room }) (lists Loose)
+  lists_changed_beside order keys =
+      ap (λ x. record { resources = x; loose = map (under_handle new.rows) (new.handles Loose); processes = new.processes; room = new.room; keys = new.keys }) (ap (map (resource_of new)) order ∙ changed_resources old.order)
+      ∙ ap (λ x. record { resources = map (resource_with change) (map (resource_of old) old.order); loose = x; processes = new.processes; room = new.room; keys = new.keys }) (lists Loose)
+      ∙ ap (λ (h : HashKeys). record { resources = map (resource_with change) (map (resource_of old) old.order); loose = change Loose (map (under_handle old.rows) (old.handles Loose)); processes = new.processes; room = new.room; keys = h }) keys
 
-  pub lists_changed : new.order ≡ old.order → new.processes ≡ old.processes → new.room ≡ old.room → records_of new ≡ with_lists change (records_of old)
+  pub lists_changed : new.order ≡ old.order → new.processes ≡ old.processes → new.room ≡ old.room → new.keys ≡ old.keys → records_of new ≡ with_lists change (records_of old)
   unfolding records_of
-  lists_changed order processes room =
-      lists_changed_beside order
+  lists_changed order processes room keys =
+      lists_changed_beside order keys
       ∙ ap (λ ps. record (with_lists change (records_of old)) { processes = ps; room = new.room }) processes
       ∙ ap (λ r. record (with_lists change (records_of old)) { room = r }) room
 
@@ -288,13 +290,14 @@ module _ (old new : Layout) (rows : (k : ℕ) → new.rows k ≡ old.rows k) (ha
 
 -- a resource is made, with empty queues
 pub resource_made : (old new : Layout) (res : ℕ) (made : StoredResource) → ((k : ℕ) → new.rows k ≡ old.rows k) → ((p : Place) → new.handles p ≡ old.handles p) → ((r : ℕ) → r ≢ res → new.faces r ≡ old.faces r)
-    → ¬ IsIn res old.order → new.order ≡ old.order ++ res ∷ [] → resource_of new res ≡ made → new.processes ≡ old.processes
+    → ¬ IsIn res old.order → new.order ≡ old.order ++ res ∷ [] → resource_of new res ≡ made → new.processes ≡ old.processes → new.keys ≡ old.keys
     → records_of new ≡ record (records_of old) { resources = (records_of old).resources ++ made ∷ []; room = (records_of new).room }
 unfolding records_of
-resource_made old new res made rows handles faces absent order is processes =
-    ap (λ x. record { resources = x; loose = map (under_handle new.rows) (new.handles Loose); processes = new.processes; room = new.room }) (ap (map (resource_of new)) order ∙ resources old.order absent)
-    ∙ ap (λ x. record { resources = map (resource_of old) old.order ++ made ∷ []; loose = x; processes = new.processes; room = new.room }) (list_same old new rows handles Loose)
-    ∙ ap (λ x. record { resources = map (resource_of old) old.order ++ made ∷ []; loose = map (under_handle old.rows) (old.handles Loose); processes = x; room = new.room }) processes
+resource_made old new res made rows handles faces absent order is processes keys =
+    ap (λ x. record { resources = x; loose = map (under_handle new.rows) (new.handles Loose); processes = new.processes; room = new.room; keys = new.keys }) (ap (map (resource_of new)) order ∙ resources old.order absent)
+    ∙ ap (λ x. record { resources = map (resource_of old) old.order ++ made ∷ []; loose = x; processes = new.processes; room = new.room; keys = new.keys }) (list_same old new rows handles Loose)
+    ∙ ap (λ x. record { resources = map (resource_of old) old.order ++ made ∷ []; loose = map (under_handle old.rows) (old.handles Loose); processes = x; room = new.room; keys = new.keys }) processes
+    ∙ ap (λ (h : HashKeys). record { resources = map (resource_of old) old.order ++ made ∷ []; loose = map (under_handle old.rows) (old.handles Loose); processes = old.processes; room = new.room; keys = h }) keys
   where
     resources : (rs : List ℕ) → ¬ IsIn res rs → map (resource_of new) (rs ++ res ∷ []) ≡ map (resource_of old) rs ++ made ∷ []
     resources [] absent = ap (λ x. x ∷ []) is
@@ -303,13 +306,14 @@ resource_made old new res made rows handles faces absent order is processes =
 
 -- a resource is removed
 pub resource_removed : (old new : Layout) (res : ℕ) → ((k : ℕ) → new.rows k ≡ old.rows k) → ((p : Place) → new.handles p ≡ old.handles p) → ((r : ℕ) → r ≢ res → new.faces r ≡ old.faces r)
-    → new.order ≡ without res old.order → new.processes ≡ old.processes
+    → new.order ≡ without res old.order → new.processes ≡ old.processes → new.keys ≡ old.keys
     → records_of new ≡ record (records_of old) { resources = without_resource res (records_of old).resources; room = (records_of new).room }
 unfolding records_of
-resource_removed old new res rows handles faces order processes =
-    ap (λ x. record { resources = x; loose = map (under_handle new.rows) (new.handles Loose); processes = new.processes; room = new.room }) (ap (map (resource_of new)) order ∙ resources old.order)
-    ∙ ap (λ x. record { resources = without_resource res (map (resource_of old) old.order); loose = x; processes = new.processes; room = new.room }) (list_same old new rows handles Loose)
-    ∙ ap (λ x. record { resources = without_resource res (map (resource_of old) old.order); loose = map (under_handle old.rows) (old.handles Loose); processes = x; room = new.room }) processes
+resource_removed old new res rows handles faces order processes keys =
+    ap (λ x. record { resources = x; loose = map (under_handle new.rows) (new.handles Loose); processes = new.processes; room = new.room; keys = new.keys }) (ap (map (resource_of new)) order ∙ resources old.order)
+    ∙ ap (λ x. record { resources = without_resource res (map (resource_of old) old.order); loose = x; processes = new.processes; room = new.room; keys = new.keys }) (list_same old new rows handles Loose)
+    ∙ ap (λ x. record { resources = without_resource res (map (resource_of old) old.order); loose = map (under_handle old.rows) (old.handles Loose); processes = x; room = new.room; keys = new.keys }) processes
+    ∙ ap (λ (h : HashKeys). record { resources = without_resource res (map (resource_of old) old.order); loose = map (under_handle old.rows) (old.handles Loose); processes = old.processes; room = new.room; keys = h }) keys
   where
     resources : (rs : List ℕ) → map (resource_of new) (without res rs) ≡ without_resource res (map (resource_of old) rs)
     resources [] = refl
@@ -324,14 +328,15 @@ resource_removed old new res rows handles faces order processes =
 -- the face of one resource is written
 pub resource_written : (old new : Layout) (res : ℕ) (change : StoredResource → StoredResource) → ((k : ℕ) → new.rows k ≡ old.rows k) → ((p : Place) → new.handles p ≡ old.handles p)
     → ((r : ℕ) → r ≢ res → new.faces r ≡ old.faces r) → new.order ≡ old.order
-    → (((p : Place) → map (under_handle new.rows) (new.handles p) ≡ map (under_handle old.rows) (old.handles p)) → resource_of new res ≡ change (resource_of old res)) → new.processes ≡ old.processes → new.room ≡ old.room
+    → (((p : Place) → map (under_handle new.rows) (new.handles p) ≡ map (under_handle old.rows) (old.handles p)) → resource_of new res ≡ change (resource_of old res)) → new.processes ≡ old.processes → new.room ≡ old.room → new.keys ≡ old.keys
     → records_of new ≡ record (records_of old) { resources = on_resource res change (records_of old).resources }
 unfolding records_of
-resource_written old new res change rows handles faces order is processes room =
-    ap (λ x. record { resources = x; loose = map (under_handle new.rows) (new.handles Loose); processes = new.processes; room = new.room }) (ap (map (resource_of new)) order ∙ resources old.order)
-    ∙ ap (λ x. record { resources = on_resource res change (map (resource_of old) old.order); loose = x; processes = new.processes; room = new.room }) (list_same old new rows handles Loose)
-    ∙ ap (λ x. record { resources = on_resource res change (map (resource_of old) old.order); loose = map (under_handle old.rows) (old.handles Loose); processes = x; room = new.room }) processes
-    ∙ ap (λ x. record { resources = on_resource res change (map (resource_of old) old.order); loose = map (under_handle old.rows) (old.handles Loose); processes = old.processes; room = x }) room
+resource_written old new res change rows handles faces order is processes room keys =
+    ap (λ x. record { resources = x; loose = map (under_handle new.rows) (new.handles Loose); processes = new.processes; room = new.room; keys = new.keys }) (ap (map (resource_of new)) order ∙ resources old.order)
+    ∙ ap (λ x. record { resources = on_resource res change (map (resource_of old) old.order); loose = x; processes = new.processes; room = new.room; keys = new.keys }) (list_same old new rows handles Loose)
+    ∙ ap (λ x. record { resources = on_resource res change (map (resource_of old) old.order); loose = map (under_handle old.rows) (old.handles Loose); processes = x; room = new.room; keys = new.keys }) processes
+    ∙ ap (λ x. record { resources = on_resource res change (map (resource_of old) old.order); loose = map (under_handle old.rows) (old.handles Loose); processes = old.processes; room = x; keys = new.keys }) room
+    ∙ ap (λ (h : HashKeys). record { resources = on_resource res change (map (resource_of old) old.order); loose = map (under_handle old.rows) (old.handles Loose); processes = old.processes; room = old.room; keys = h }) keys
   where
     resources : (rs : List ℕ) → map (resource_of new) rs ≡ on_resource res change (map (resource_of old) rs)
     resources [] = refl

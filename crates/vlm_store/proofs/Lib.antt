@@ -4,6 +4,7 @@ pub mod Declaring
 pub mod Dues
 pub mod FirstOf
 pub mod Fitting
+pub mod HashedKeys
 pub mod Held
 pub mod Indexing
 pub mod Joining

@@ -1,8 +1,9 @@
 -- What a caller sees of the processes and their locks, and how it changes as the tables do.
-use Rattle.std.proofs.Common.{◌≡◌, ◌≢◌, ℕ, List, [], ◌∷◌, ◌++◌, map, filter, not, Option, None, Some, IsSome, refl, sym, ap, ◌∙◌, subst, inl, inr, eq-eqb, ne_eqb}
+use Rattle.std.proofs.Common.{◌≡◌, ◌≢◌, ℕ, List, [], ◌∷◌, ◌++◌, map, filter, not, Option, None, Some, IsSome, slice_get, refl, sym, ap, ◌∙◌, subst, inl, inr, eq-eqb, ne_eqb}
 use Rattle.std.specs.Prelude.{◌==◌, if◌then◌else◌}
 use Rattle.std.proofs.lemmas.Bool.{cases_eq}
-use Rattle.std.proofs.lemmas.Option.{same_Some}
+use Rattle.std.specs.Option.{option_map}
+use Rattle.std.proofs.lemmas.Option.{same_Some, slice_get-map}
 use Rattle.vlm_links.specs.Lists.{IsApart, IsIn, without}
 use Rattle.vlm_links.proofs.Images.{IsIn-image, IsIn-told}
 use Rattle.vlm_links.proofs.HandleLists.{without_head, without_past}
@@ -218,3 +219,15 @@ module _ (old new : Holding) (at : ℕ) (faces : (p : ℕ) → new.faces p ≡ o
       each : (ps : List ℕ) → map (process_under new) ps ≡ map (process_without_lock at) (map (process_under old) ps)
       each [] = refl
       each (p ∷ ps) = ap (λ x. x ∷ map (process_under new) ps) (one p) ∙ ap (λ rest. process_without_lock at (process_under old p) ∷ rest) (each ps)
+
+-- the process at an index is what stands under the handle at that index
+pub process_at-index : (h : Holding) (index : ℕ) → slice_get (map (λ (p : StoredProcess). p.process) (processes_of h)) index ≡ option_map (λ at. (h.faces at).plain) (slice_get h.order index)
+unfolding processes_of
+process_at-index h index =
+    slice_get-map (λ (p : StoredProcess). p.process) (map (process_under h) h.order) index
+    ∙ ap (option_map (λ (p : StoredProcess). p.process)) (slice_get-map (process_under h) h.order index)
+    ∙ both (slice_get h.order index)
+  where
+    both : (o : Option ℕ) → option_map (λ (p : StoredProcess). p.process) (option_map (process_under h) o) ≡ option_map (λ at. (h.faces at).plain) o
+    both None = refl
+    both (Some at) = refl

@@ -10,6 +10,7 @@ use Rattle.vlm_records.specs.declared.resources.InOrder.{InOrder}
 use Rattle.vlm_records.specs.declared.resources.Resource.{Resource}
 use Rattle.vlm_records.specs.Shown.{SameBut, order_links}
 use Rattle.vlm_records.proofs.Places.{there_through, through}
+use Rattle.vlm_store.specs.HashedKeys.{hashed_in}
 
 module _ (part : Resource → Resource) (links : (r : Resource) → order_links (part r) ≡ order_links r) (old new : Slab Resource) (rest : SameBut part old new) where
   next_same : (k : ℕ) → next_in order_links (get new k) ≡ next_in order_links (get old k)
@@ -37,10 +38,10 @@ module _ (part : Resource → Resource) (links : (r : Resource) → order_links 
   order_whole order linked ordered r there = subst (IsIn r) (sym (order_handles order linked)) (ordered r (there_through part new old (λ k. sym (rest k)) r there))
 
 -- what a resource is found by stays
-pub keys_same : (part : Resource → Resource) → ((r : Resource) → (part r).key ≡ r.key) → (old new : Slab Resource) → SameBut part old new
-    → (k : ℕ) → option_map (λ (r : Resource). r.key) (get new k) ≡ option_map (λ (r : Resource). r.key) (get old k)
-keys_same part under_handle old new rest = through part (option_map (λ (r : Resource). r.key)) apart old new rest
+pub keys_same : (part : Resource → Resource) → ((r : Resource) → hashed_in (part r) ≡ hashed_in r) → (old new : Slab Resource) → SameBut part old new
+    → (k : ℕ) → option_map hashed_in (get new k) ≡ option_map hashed_in (get old k)
+keys_same part under_handle old new rest = through part (option_map hashed_in) apart old new rest
   where
-    apart : (slot : Option Resource) → option_map (λ (r : Resource). r.key) (option_map part slot) ≡ option_map (λ (r : Resource). r.key) slot
+    apart : (slot : Option Resource) → option_map hashed_in (option_map part slot) ≡ option_map hashed_in slot
     apart None = refl
     apart (Some r) = ap Some (under_handle r)

@@ -84,7 +84,7 @@ module _ (s : Inside) (kept : IsKept s) (at : ℕ) (was now : Process) (here : g
       processes_changed s.queues s.order (beside_shown s) (beside_shown (record s { processes = processes })) (on_stored at change)
       (process_written (holding s.processes s.queues.locks s.process_order) (holding processes s.queues.locks s.process_order) (λ k. refl) at change shown
       (written_others s.processes at was now here own order pid) (process_own_handles s.processes processes s.queues.locks owns)
-      (written_handles s.processes at was now here own order pid s.process_order kept.processes_linked))
+      (written_handles s.processes at was now here own order pid s.process_order kept.processes_linked)) refl
       ∙ ap (λ r. record (records_shown s) { processes = on_stored at change (records_shown s).processes; room = r })
       (room_shown (λ a b. b ≡ a) (tables s.queues s.order (beside_shown s)) (tables s.queues s.order (beside_shown (record s { processes = processes })))
       (ap (λ p. record (rooms_shown s) { processes = p })

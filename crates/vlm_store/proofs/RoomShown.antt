@@ -1,4 +1,5 @@
 -- What a caller sees of the room for more records.
+use Rattle.vlm_store.specs.Index.{hash_key}
 use Rattle.vlm_store.proofs.Lined.{line_same}
 use Rattle.std.proofs.Common.{◌≡◌, ℕ, ◌+◌, ◌<◌, ◌≤◌, None, nat_eq, Result, Ok, Err, OnOk, refl, sym, ap, ◌∙◌, subst, arith}
 use Rattle.std.specs.Map.{lookup}
@@ -7,8 +8,9 @@ use Rattle.slab.specs.Slab.{Slab, get, HasRoomFor}
 use Rattle.indexmap.specs.IndexMap.{IndexMap, get as found, spare}
 use Rattle.vlm_links.specs.declared.link.TheConstants.{LAST_HANDLE}
 use Rattle.vlm_links.proofs.Rings.{same-handles, same-linked}
-use Rattle.vlm_words.specs.Keys.{is_same_key}
-use Rattle.vlm_words.specs.declared.resources.Key.{Key}
+use Rattle.vlm_store.specs.declared.hashed.HashedKey.{HashedKey}
+use Rattle.vlm_store.specs.HashedKeys.{hashed_at, hashed_in, is_same_hashed}
+use Rattle.vlm_store.proofs.HashedKeys.{IsHashed-same}
 use Rattle.vlm_records.specs.declared.locks.Lock.{Lock}
 use Rattle.vlm_records.specs.declared.processes.Process.{Process}
 use Rattle.vlm_records.specs.declared.queues.Queues.{Queues}
@@ -18,7 +20,7 @@ use Rattle.vlm_store.specs.Records.{HasRoom, IsGivenBack, IsNoLess, IsTaken, IsU
 use Rattle.vlm_records.specs.Armed.{armed_list_in}
 use Rattle.vlm_records.specs.Shown.{but_queued, lkid_of, order_links, room_in, tally_in}
 use Rattle.vlm_records.proofs.Rooms.{room_has, room_handle, room_slot, room_reserved}
-use Rattle.vlm_store.specs.Store.{Layout, key_at, lkid_at, records_of, room_of, tables}
+use Rattle.vlm_store.specs.Store.{Layout, lkid_at, records_of, room_of, tables}
 use Rattle.vlm_store.specs.Holdings.{holding, processes_of}
 use Rattle.vlm_store.specs.Kept.{IsKept, processes_shown, records_shown, rooms_shown}
 use Rattle.vlm_store.proofs.Indexing.{Indexes-same}
@@ -62,13 +64,13 @@ shown_room P l fact = fact
 module _ (s : Inside) where
   -- what is shown with other slabs of the same records, and with other room
   abbrev with_locks : Rooms → Slab Lock → Records
-  with_locks room locks = records_of (tables (record s.queues { locks = locks }) s.order (record { processes = processes_of (holding s.processes locks s.process_order); room = room }))
+  with_locks room locks = records_of (tables (record s.queues { locks = locks }) s.order (record { processes = processes_of (holding s.processes locks s.process_order); room = room; keys = s.keys }))
 
   abbrev with_resources : Rooms → Slab Resource → Records
-  with_resources room resources = records_of (tables (record s.queues { resources = resources }) s.order (record { processes = processes_shown s; room = room }))
+  with_resources room resources = records_of (tables (record s.queues { resources = resources }) s.order (record { processes = processes_shown s; room = room; keys = s.keys }))
 
   abbrev with_processes : Rooms → Slab Process → Records
-  with_processes room processes = records_of (tables s.queues s.order (record { processes = processes_of (holding processes s.queues.locks s.process_order); room = room }))
+  with_processes room processes = records_of (tables s.queues s.order (record { processes = processes_of (holding processes s.queues.locks s.process_order); room = room; keys = s.keys }))
 
   -- where room is made, a caller sees nothing else
   pub lock_room_made : (locks : Slab Lock) (finds : ℕ) → locks ≡ record s.queues.locks { capacity = locks.capacity } → s.queues.locks.capacity ≤ locks.capacity → spare s.lock_index ≤ finds
@@ -149,7 +151,7 @@ lock_room_kept s kept locks index is entries =
     }
 
 -- more room for resources does so too
-pub resource_room_kept : (s : Inside) → IsKept s → (resources : Slab Resource) (index : IndexMap Key ℕ _) → resources ≡ record s.queues.resources { capacity = resources.capacity } → index.entries ≡ s.resource_index.entries
+pub resource_room_kept : (s : Inside) → IsKept s → (resources : Slab Resource) (index : IndexMap HashedKey ℕ _) → resources ≡ record s.queues.resources { capacity = resources.capacity } → index.entries ≡ s.resource_index.entries
     → IsKept (record s { queues = record s.queues { resources = resources }; resource_index = index })
 resource_room_kept s kept resources index is entries =
     let same : (r : ℕ) → get resources r ≡ get s.queues.resources r = λ r. ap (λ x. get x r) is in
@@ -162,8 +164,8 @@ resource_room_kept s kept resources index is entries =
       linked = same-linked order_links s.queues.resources resources s.order kept.linked (λ r _. same r);
       ordered = λ r there. rw (same-handles order_links s.queues.resources resources s.order kept.linked (λ x _. same x)) (kept.ordered r (rw (same r) at there));
       locks = kept.locks;
-      resources = Indexes-same (found is_same_key s.resource_index) (found is_same_key index) (key_at s.queues) (key_at (record s.queues { resources = resources }))
-          (λ k. ap (λ es. lookup (is_same_key k) es) entries) (λ r. ap (option_map (λ (x : Resource). x.key)) (same r)) kept.resources;
+      resources = IsHashed-same (hash_key s.keys) (found is_same_hashed s.resource_index) (found is_same_hashed index) (hashed_at s.queues) (hashed_at (record s.queues { resources = resources }))
+          (λ k. ap (λ es. lookup (is_same_hashed k) es) entries) (λ r. ap (option_map hashed_in) (same r)) kept.resources;
       owned = kept.owned;
       below = kept.below;
       named = kept.named;

@@ -1,19 +1,21 @@
 -- What the fields of the store keep, and what they show.
-use Rattle.std.specs.Prelude.{ℕ, nat_eq, List, None}
+use Rattle.std.specs.Prelude.{ℕ, nat_eq, List, Option, None}
 use Rattle.slab.specs.Slab.{ContainsKey}
 use Rattle.indexmap.specs.IndexMap.{get, spare}
+use Rattle.vlm_store.specs.Index.{hash_key}
 use Rattle.vlm_links.specs.Lists.{IsIn, IsLinked, handles_of}
 use Rattle.vlm_store.specs.declared.store.Store.TheInside.{Inside}
 use Rattle.vlm_records.specs.Armed.{IsArmed}
+use Rattle.vlm_store.specs.HashedKeys.{IsHashed, hashed, hashed_at, is_same_hashed}
 use Rattle.vlm_store.specs.Index.{Indexes}
-use Rattle.vlm_words.specs.Keys.{is_same_key}
+use Rattle.vlm_words.specs.declared.resources.Key.{Key}
 use Rattle.vlm_store.specs.Pending.{IsMarked, is_of_nodes, waits_in}
 use Rattle.vlm_store.specs.Records.{Records, Rooms, StoredProcess}
 use Rattle.vlm_records.specs.Kin.{IsBelow, IsNamed, IsOwned, pid_at, process_links}
 use Rattle.vlm_records.specs.Line.{IsLine}
 use Rattle.vlm_store.specs.Holdings.{holding, processes_of}
 use Rattle.vlm_records.specs.Shown.{IsPlaced, IsTallied, order_links}
-use Rattle.vlm_store.specs.Store.{Beside, key_at, lkid_at, records_of, room_of, tables}
+use Rattle.vlm_store.specs.Store.{Beside, lkid_at, records_of, room_of, tables}
 
 -- the processes that the fields show
 abbrev pub processes_shown : Inside → List StoredProcess
@@ -27,13 +29,17 @@ rooms_shown s = record {
   processes = room_of s.processes (spare s.process_index);
 }
 
--- the processes and the room
+-- the processes, the room, and how a key is hashed
 abbrev pub beside_shown : Inside → Beside
-beside_shown s = record { processes = processes_shown s; room = rooms_shown s }
+beside_shown s = record { processes = processes_shown s; room = rooms_shown s; keys = s.keys }
 
 -- what the fields show to a caller
 abbrev pub records_shown : Inside → Records
 records_shown s = records_of (tables s.queues s.order (beside_shown s))
+
+-- what the index of resources finds under a key
+abbrev pub found_in : Inside → Key → Option ℕ
+found_in s key = get is_same_hashed s.resource_index (hashed (hash_key s.keys) key)
 
 -- each lock stands in the three lists that it notes and, if its request is queued, in the line, each resource counts its
 -- locks and has the armed ones among the granted, resources and processes stand in their orders, each index finds just what is there, and marked are just the
@@ -46,7 +52,7 @@ pub record IsKept (s : Inside) : Type 0 where
   pub linked : IsLinked order_links s.queues.resources s.order
   pub ordered : (res : ℕ) → ContainsKey s.queues.resources res → IsIn res (handles_of order_links s.queues.resources s.order)
   pub locks : Indexes (get nat_eq s.lock_index) (lkid_at s.queues)
-  pub resources : Indexes (get is_same_key s.resource_index) (key_at s.queues)
+  pub resources : IsHashed (hash_key s.keys) (get is_same_hashed s.resource_index) (hashed_at s.queues)
   pub owned : IsOwned s.processes s.queues.locks None
   pub below : IsBelow s.queues.locks None
   pub named : IsNamed s.processes s.queues.locks

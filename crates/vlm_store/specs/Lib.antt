@@ -1,4 +1,5 @@
 pub mod Armed
+pub mod HashedKeys
 pub mod Held
 pub mod Holdings
 pub mod Index

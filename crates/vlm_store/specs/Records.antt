@@ -2,6 +2,7 @@
 -- its handle.
 use Rattle.std.specs.Prelude.{◌≡◌, ◌<◌, ◌≤◌, ◌/◌, ℕ, Bool, true, false, not, ◌==◌, ◌&&◌, ◌+◌, ◌-◌, count_by, sum_by, List, [], ◌∷◌, ◌++◌, map, filter, find, flat_map, Option, None, Some, IsSome, if◌then◌else◌}
 use Rattle.std.specs.Option.{option_map_or}
+use Rattle.vlm_links.specs.declared.hashing.HashKeys.{HashKeys}
 use Rattle.vlm_words.specs.declared.asts.Ast.{Ast}
 use Rattle.vlm_words.specs.declared.locks.Row.{Row}
 use Rattle.vlm_words.specs.declared.modes.Mode.{Mode}
@@ -67,20 +68,21 @@ pub record Rooms : Type 0 where
   pub processes : Room
 
 -- the resources in order of making, the locks that stand in no queue for the moment, the processes in order of
--- making, and what room there is for more
+-- making, what room there is for more, and how the index hashes a key
 pub record Records : Type 0 where
   pub resources : List StoredResource
   pub loose : List StoredLock
   pub processes : List StoredProcess
   pub room : Rooms
+  pub keys : HashKeys
 
 -- no room at all
 abbrev pub no_room : Room
 no_room = record { slots = 0; next_handle = 0; finds = 0 }
 
 -- nothing is stored
-abbrev pub nothing : Records
-nothing = record { resources = []; loose = []; processes = []; room = record { locks = no_room; resources = no_room; processes = no_room } }
+abbrev pub nothing : HashKeys → Records
+nothing keys = record { resources = []; loose = []; processes = []; room = record { locks = no_room; resources = no_room; processes = no_room }; keys = keys }
 
 -- a resource at its making
 abbrev pub new_stored_resource : ℕ → ℕ → Site → StoredResource
@@ -420,6 +422,7 @@ pub record SameButNotices (old new : Records) : Type 0 where
   pub loose : new.loose ≡ old.loose
   pub processes : map but_notices new.processes ≡ map but_notices old.processes
   pub room : new.room ≡ old.room
+  pub keys : new.keys ≡ old.keys
 
 -- how many ASTs the living process with this identification is owed, beyond those that are queued to it
 abbrev pub due_of : ℕ → Records → ℕ

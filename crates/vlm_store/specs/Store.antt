@@ -2,6 +2,7 @@
 use Rattle.std.specs.Prelude.{ℕ, List, map, Option}
 use Rattle.std.specs.Option.{option_map}
 use Rattle.slab.specs.Slab.{Slab, get}
+use Rattle.vlm_links.specs.declared.hashing.HashKeys.{HashKeys}
 use Rattle.vlm_links.specs.declared.lists.LinkedList.{LinkedList}
 use Rattle.vlm_links.specs.Lists.{handles_of}
 use Rattle.vlm_words.specs.declared.locks.Row.{Row}
@@ -14,8 +15,8 @@ use Rattle.vlm_records.specs.declared.resources.InOrder.{InOrder}
 use Rattle.vlm_store.specs.Records.{Records, Room, Rooms, StoredLock, StoredProcess, StoredResource}
 use Rattle.vlm_records.specs.Shown.{Face, face_in, handles_at, lkid_of, order_links, room_in, rows}
 
--- what stands under each handle, the handles at each place, the resources in order of making, the processes, and what
--- room there is
+-- what stands under each handle, the handles at each place, the resources in order of making, the processes, what room
+-- there is, and how the index hashes a key
 pub record Layout : Type 0 where
   pub rows : ℕ → Row
   pub faces : ℕ → Face
@@ -23,11 +24,13 @@ pub record Layout : Type 0 where
   pub order : List ℕ
   pub processes : List StoredProcess
   pub room : Rooms
+  pub keys : HashKeys
 
--- what stands beside the locks and the resources: the processes, and what room there is
+-- what stands beside the locks and the resources: the processes, what room there is, and how the index hashes a key
 pub record Beside : Type 0 where
   pub processes : List StoredProcess
   pub room : Rooms
+  pub keys : HashKeys
 
 -- the room in a slab, and in an index that takes so many more
 abbrev pub room_of : {T : Type 0} → Slab T → ℕ → Room
@@ -58,6 +61,7 @@ records_of l = record {
   loose = map (under_handle l.rows) (l.handles Loose);
   processes = l.processes;
   room = l.room;
+  keys = l.keys;
 }
 
 -- the fields as tables
@@ -69,6 +73,7 @@ tables q order beside = record {
   order = handles_of order_links q.resources order;
   processes = beside.processes;
   room = beside.room;
+  keys = beside.keys;
 }
 
 -- the identification of the lock under a handle

@@ -16,6 +16,7 @@
 #![tactic(auto)]
 
 mod armed;
+mod hashed;
 pub mod laws;
 mod neighbours;
 mod owners;
@@ -28,5 +29,5 @@ pub use store::Store;
 pub use vlm_links::HashKeys;
 pub use vlm_records::{
     Authorization, Lock, LockAt, LockKind, Place, ProcAt, Process, ProcessKind, ResAt, Resource,
-    ResourceKind,
+    ResourceKind, StoredRow,
 };

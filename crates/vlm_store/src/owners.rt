@@ -1,12 +1,15 @@
 //! The processes of the store, and the locks of each.
 
-ghost use Rattle.std.specs.Prelude.{◌≡◌, ◌<◌, ◌≤◌, ℕ, [], ◌∷◌, ◌++◌, length, replicate, IfOk, IfSome, IsOk, OnErr, OnOk};
+ghost use Rattle.std.specs.Prelude.{◌≡◌, ◌<◌, ◌≤◌, ℕ, [], ◌∷◌, ◌++◌, length, replicate, slice_get, IfOk, IfSome, IsOk, OnErr, OnOk};
 ghost use Rattle.std.specs.Bool.{OnFalse, OnTrue};
+ghost use Rattle.std.specs.Option.{option_map};
 ghost use Rattle.vlm_words.specs.Asts.{oldest, without_oldest_ast};
 ghost use Rattle.vlm_words.specs.Declare.{new_process};
 ghost use Rattle.vlm_words.specs.StatusBlocks.{new_status_block, process_with_block};
+ghost use Rattle.vlm_records.specs.Kin.{plain_process};
 ghost use Rattle.vlm_records.specs.StatusBlocks.{pending_for, with_changed_block, with_status};
 ghost use Rattle.vlm_store.specs.Pending.{IsFirstLiving};
+ghost use Rattle.vlm_store.specs.Plain.{plain_processes};
 ghost use Rattle.vlm_store.specs.Records.{FindsProcess, HasNoLocks, HasNoSublocks, HasProcess, HasRoomForProcess, IsGivenBack, IsNewProcess, IsProcess, IsSound, IsStored, IsTaken, IsUnchanged, authorization_of, new_stored_process, on_process, on_stored, owed_less, owed_more, own_at, owned_by, process_at, with_owed_ast, with_process_room, without_process};
 
 use crate::store::Store;
@@ -97,6 +100,15 @@ impl Store {
         ensures sound { IsSound self.now }
     {
         &self.processes[at.slot()]
+    }
+
+    /// The record of the process at an index, from 0, in order of making. None past the last. It walks to that index.
+    pub fn nth_process(&self, index: usize) -> Option<&Process>
+        ensures { option_map (λ p. plain_process p.now) result
+            ≡ slice_get (plain_processes self.now) index }
+    {
+        let at = self.process_order.nth(&self.processes, index)?;
+        Some(&self.processes[at])
     }
 
     /// Puts a status block of a process in the place of the one with this number, from 1, if it is there.

@@ -7,11 +7,13 @@ ghost use Rattle.vlm_words.specs.declared.locks.Row.{Row};
 ghost use Rattle.vlm_links.specs.Lists.{IsIn, handle_before};
 ghost use Rattle.vlm_records.specs.declared.handles.Place.{Place};
 ghost use Rattle.vlm_words.specs.Asts.{has_to_warn, keeps_out};
+ghost use Rattle.vlm_store.specs.Index.{hash_key};
 ghost use Rattle.vlm_store.specs.Held.{held_counts};
 ghost use Rattle.vlm_store.specs.Plain.{plain_resource};
 ghost use Rattle.vlm_store.specs.Records.{FindsLock, FindsResource, HasNoSublocks, HasPlace, HasResource, HasRoomForLock, HasRoomForResource, IsGivenBack, IsTaken, IsUnchanged, IsParentOf, IsProcess, at_after, disarming, first_at, first_resource_at, fits_beside, resource_at_after, resource_at, rows_of_locks, IsIdle, IsNewKey, IsNewLock, IsRowOf, IsSound, IsStored, Stores, locks_at, moving, new_stored_resource, nothing, on_resource, queued, with_lists, with_lock_room, with_new_lock, with_resource_room, without_resource, without_stored_lock};
 ghost use Rattle.vlm_store.specs.Total.{lock_total};
 
+use crate::hashed::HashedKey;
 use indexmap::IndexMap;
 use slab::Slab;
 use std::alloc::{AllocError, Global};
@@ -42,10 +44,12 @@ pub struct Store {
     pub(crate) process_order: LinkedList<InOrder>,
     // where the lock of each identification is
     lock_index: IndexMap<u32, LockAt>,
-    // where the resource of each key is; others choose the names in it
-    resource_index: IndexMap<Key, ResAt, HashKeys>,
+    // where the resource of each key is, which is hashed by `keys` already; others choose the names in it
+    resource_index: IndexMap<HashedKey, ResAt>,
     // where the process of each identification is
     pub(crate) process_index: IndexMap<u32, ProcAt>,
+    // how the key of a resource is hashed
+    keys: HashKeys,
     // the processes that live, node by node
     pub(crate) living: NodeMarks,
     // those that have an AST pending, node by node
@@ -65,6 +69,7 @@ impl Drop for Store {
             lock_index: _,
             resource_index: _,
             process_index: _,
+            keys: _,
             living: _,
             pending: _,
         } = self;
@@ -86,7 +91,7 @@ impl Model for Store {
 impl Store {
     /// An empty store, whose index of names hashes by fixed keys. It keeps the allocator and takes no memory.
     pub fn new(alloc: Global) -> Store
-        ensures { result ≡ record nothing { room = result.room } }
+        ensures { result ≡ record (nothing result.keys) { room = result.room } }
     {
         Store::with_keys(alloc, HashKeys::fixed())
     }
@@ -94,7 +99,7 @@ impl Store {
     /// An empty store, whose index of names hashes by these keys: identifications are given in order, and nobody chooses
     /// them. It keeps the allocator and takes no memory.
     pub fn with_keys(alloc: Global, keys: HashKeys) -> Store
-        ensures { result ≡ record nothing { room = result.room } }
+        ensures { result ≡ record (nothing result.keys) { room = result.room } }
     {
         Store {
             alloc,
@@ -108,8 +113,9 @@ impl Store {
             processes: Slab::new(alloc),
             process_order: LinkedList::new(),
             lock_index: IndexMap::new(alloc),
-            resource_index: IndexMap::with_hasher(alloc, keys),
+            resource_index: IndexMap::new(alloc),
             process_index: IndexMap::new(alloc),
+            keys,
             living: NodeMarks::new(alloc),
             pending: NodeMarks::new(alloc),
         }
@@ -123,13 +129,22 @@ impl Store {
         self.lock_index.get(&lkid).copied()
     }
 
-    /// Where the resource under this key is.
-    pub fn resource(&self, key: &Key) -> Option<ResAt>
+    /// How the index hashes a key: who looks a resource up and then adds it asks once.
+    pub fn hash_of(&self, key: &Key) -> u32
+        ensures { result ≡ hash_key self.now.keys key.now }
+    {
+        self.keys.hash_of(key)
+    }
+
+    /// Where the resource under this key, which is hashed so, is.
+    pub fn resource(&self, key: &Key, hash: u32) -> Option<ResAt>
+        requires { hash ≡ hash_key self.now.keys key.now }
         ensures found { FindsResource self.now key.now result }
         ensures there { IfSome result (λ res. HasResource res self.now) }
         ensures sound { IsSound self.now }
     {
-        self.resource_index.get(key).copied()
+        let found = HashedKey { key: *key, hash };
+        self.resource_index.get(&found).copied()
     }
 
     /// The record of a lock: what it holds and wants, where it stands, and whose it is.
@@ -218,7 +233,7 @@ impl Store {
         ensures given_back { IsGivenBack self.old.room.locks self.new.room.locks }
     {
         let at = lock.slot();
-        let lkid = self.queues.locks[at].row.lkid;
+        let lkid = self.queues.locks[at].row.lkid();
         leave_parent(&mut self.queues.locks, at);
         leave_process(&mut self.processes, &mut self.queues.locks, at);
         leave_line(&mut self.queues.locks, &mut self.line, at);
@@ -235,11 +250,12 @@ impl Store {
         reserve_one(&mut self.queues.resources, &mut self.resource_index)
     }
 
-    /// Adds a resource without locks, the last in order of making, with a valid value block of zeros. Where
+    /// Adds a resource without locks, whose key is hashed so, the last in order of making, with a valid value block of zeros. Where
     /// there is no room and memory is refused, or no handle is left, nothing is changed but that there may be
     /// more room.
-    pub fn add_resource(&mut self, serial: u32, site: &Site) -> Result<ResAt, AllocError>
-        requires { IsNewKey site.now.key self.old }
+    pub fn add_resource(&mut self, serial: u32, site: &Site, hash: u32) -> Result<ResAt, AllocError>
+        requires new { IsNewKey site.now.key self.old }
+        requires hash { hash ≡ hash_key self.old.keys site.now.key }
         ensures added { IfOk result (λ res. self.new
             ≡ with_resource_room self.new.room.resources (record self.old {
               resources = self.old.resources ++ new_stored_resource res serial site.now ∷ [];
@@ -250,8 +266,15 @@ impl Store {
         ensures err { OnErr result (IsUnchanged self.old self.new) }
     {
         reserve_one(&mut self.queues.resources, &mut self.resource_index)?;
-        let res = ResAt::of(self.queues.add_resource(&mut self.order, serial, site));
-        let _ = self.resource_index.insert(site.key, res);
+        let res = ResAt::of(
+            self.queues
+                .add_resource(&mut self.order, serial, site, hash),
+        );
+        let found = HashedKey {
+            key: site.key,
+            hash,
+        };
+        let _ = self.resource_index.insert(found, res);
         Ok(res)
     }
 
@@ -364,9 +387,13 @@ impl Store {
             (record self.old { resources = without_resource res self.old.resources }) }
         ensures given_back { IsGivenBack self.old.room.resources self.new.room.resources }
     {
-        let key = self.queues.resources[res.slot()].key;
+        let resource = &self.queues.resources[res.slot()];
+        let found = HashedKey {
+            key: resource.key,
+            hash: resource.hash,
+        };
         self.queues.remove_resource(&mut self.order, res.slot());
-        self.resource_index.swap_remove(&key);
+        self.resource_index.swap_remove(&found);
     }
 
     /// Whether the mode is compatible with what every lock of the resource holds, granted or converting,

@@ -14,9 +14,9 @@ use vlm_words::steps::Declaration;
 const PID: u32 = 65_537;
 
 #[test]
-fn a_lock_takes_at_most_176_bytes(rt: HostRuntime) {
+fn a_lock_takes_at_most_144_bytes(rt: HostRuntime) {
     let size = size_of::<Lock>();
-    assert!(rt; size <= 176, "a lock takes {size} bytes");
+    assert!(rt; size <= 144, "a lock takes {size} bytes");
 }
 
 #[test]
@@ -80,7 +80,7 @@ fn make_tree(rt: &impl Abort, store: &mut Store) -> Result<(), AllocError> {
     declare(store)?;
     stores::add(rt, store, row(1, 0), None)?;
     let parent = stores::lock(rt, store, 1);
-    let below = row(2, store.lock_record(parent).row.lkid);
+    let below = row(2, store.lock_record(parent).row.lkid());
     stores::add(rt, store, below, Some(parent))
 }
 

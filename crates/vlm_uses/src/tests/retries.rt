@@ -65,7 +65,7 @@ fn declare(rt: &impl Abort, store: &mut Store, pid: u32) -> Result<(), AllocErro
 fn open(rt: &impl Abort, store: &mut Store, serial: u32, key: &Key) -> Result<(), AllocError> {
     if stores::open(store, serial, key).is_err() {
         assert!(rt;
-            store.resource(key).is_none(),
+            store.resource(key, store.hash_of(key)).is_none(),
             "a refused resource is not there"
         );
         stores::open(store, serial, key)?;
@@ -134,7 +134,7 @@ fn serve(rt: &impl Abort, store: &mut Store, key: &Key, lkid: u32, mode: Mode) {
     let served = pop_front(store, res, Queue::Conversion);
     let lock = lock(rt, store, lkid);
     assert!(rt; served == Some(lock));
-    let old = store.lock_record(lock).row;
+    let old = store.lock_record(lock).row.row();
     store.move_lock(
         lock,
         Row {
@@ -202,8 +202,11 @@ fn remove(rt: &impl Abort, store: &mut Store, key: &Key, other: &Key) {
     let res = resource(rt, store, key);
     assert!(rt; is_idle(store, res));
     store.remove_resource(res);
-    assert!(rt; store.resource(key).is_none());
-    assert_eq!(rt; store.first_resource(), store.resource(other));
+    assert!(rt; store.resource(key, store.hash_of(key)).is_none());
+    assert_eq!(rt;
+        store.first_resource(),
+        store.resource(other, store.hash_of(other))
+    );
 }
 
 #[test]
@@ -250,7 +253,7 @@ fn a_served_lock_is_loose_and_holds_its_mode(rt: HostRuntime) -> Result<(), Fail
 fn arm(rt: &impl Abort, store: &mut Store, key: &Key, lkid: u32) {
     let res = resource(rt, store, key);
     let granted = lock(rt, store, lkid);
-    let old = store.lock_record(granted).row;
+    let old = store.lock_record(granted).row.row();
     store.move_lock(
         granted,
         Row { armed: true, ..old },

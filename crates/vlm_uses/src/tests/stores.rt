@@ -29,7 +29,9 @@ pub fn process(rt: &impl Abort, store: &Store, pid: u32) -> ProcAt
 pub fn resource(rt: &impl Abort, store: &Store, key: &Key) -> ResAt
     ensures { HasResource result store.now }
 {
-    store.resource(key).expect(rt, "the resource is there")
+    store
+        .resource(key, store.hash_of(key))
+        .expect(rt, "the resource is there")
 }
 
 /// The lock, which has to be there.
@@ -53,7 +55,8 @@ pub fn declare(store: &mut Store, pid: u32, declaration: &Declaration) -> Result
 
 /// Adds a resource, unless it is there.
 pub fn open(store: &mut Store, serial: u32, key: &Key) -> Result<(), AllocError> {
-    match store.resource(key) {
+    let hash = store.hash_of(key);
+    match store.resource(key, hash) {
         Some(_) => Ok(()),
         None => {
             let site = Site {
@@ -61,7 +64,7 @@ pub fn open(store: &mut Store, serial: u32, key: &Key) -> Result<(), AllocError>
                 domain: Domain::System,
                 level: 0,
             };
-            store.add_resource(serial, &site)?;
+            store.add_resource(serial, &site, hash)?;
             Ok(())
         }
     }

@@ -1,4 +1,4 @@
-use Rattle.std.proofs.Common.{◌≡◌, ◌∷◌, ◌∙◌, [], ap, subst, refl}
+use Rattle.std.proofs.Common.{◌≡◌, ◌∷◌, ◌∙◌, [], ap, subst, sym, refl}
 use Rattle.vlm_words.specs.declared.locks.Row.{Row}
 use Rattle.vlm_records.specs.declared.handles.Place.TheVariants.{Queued}
 use Rattle.vlm_store.specs.Records.{at_after, locks_at}
@@ -41,7 +41,7 @@ loop-at-preserved c =
       goes_on =
           blockers_on c.args.lkid c.lock_record.result.now.row (rows_to_walk c.args.res c.args.queue c.loop-at.at s) (rows_to_walk c.args.res c.args.queue c.next-at.result s) (rows_queued c.args.res c.args.queue s)
           c.args.scratch.now c.loop-at.scratch c.find_blocker.new.scratch
-          (came ∙ ap (λ (r : Row). r ∷ rows_to_walk c.args.res c.args.queue c.next-at.result s) (c.lock_record.ensures.only one.row one.stored)) c.if-row-lkid.false c.find_blocker.ensures c.loop-at.invariant.goes_on;
+          (came ∙ ap (λ (r : Row). r ∷ rows_to_walk c.args.res c.args.queue c.next-at.result s) (c.lock_record.ensures.only one.row one.stored)) (λ same. c.if-lkid.false (c.lkid.ensures ∙ same)) c.find_blocker.ensures c.loop-at.invariant.goes_on;
     }
 
 pub returns : goal.returns
@@ -52,8 +52,8 @@ returns c =
     c.loop-at.invariant.goes_on c.loop-at.scratch (marks_none (OwnsBlocker (rows_before c.args.lkid left)) c.loop-at.scratch (no_blocker (rows_before c.args.lkid left) (ap (rows_before c.args.lkid) none)))
 
 -- the walk ends at the lock
-pub returns-then-row-lkid : goal.returns-then-row-lkid
-returns-then-row-lkid c =
+pub returns-then-lkid : goal.returns-then-lkid
+returns-then-lkid c =
     let s = c.args.store.now in
     let left = rows_to_walk c.args.res c.args.queue c.loop-at.at s in
     let stands = at_lock c.in-Some.lock (locks_at (Queued c.args.res c.args.queue) s) (c.head-at.ensures.sound.locks_apart (Queued c.args.res c.args.queue)) ((rw c.in-Some.is at c.loop-at.invariant.there) c.in-Some.lock refl) in
@@ -61,7 +61,7 @@ returns-then-row-lkid c =
     (λ place row there.
     ap (λ p. at_after c.in-Some.lock (locks_at p s)) (c.head-at.ensures.sound.one_place c.in-Some.lock stands.row row (Queued c.args.res c.args.queue) place stands.among there)) in
     let came = ap (λ at. rows_to_walk c.args.res c.args.queue at s) c.in-Some.is ∙ one.left in
-    let same = ap (λ (x : Row). x.lkid) (c.lock_record.ensures.only one.row one.stored) ∙ c.if-row-lkid.true in
+    let same = ap (λ (x : Row). x.lkid) (c.lock_record.ensures.only one.row one.stored) ∙ sym c.lkid.ensures ∙ c.if-lkid.true in
     c.loop-at.invariant.goes_on c.loop-at.scratch
     (marks_none (OwnsBlocker (rows_before c.args.lkid left)) c.loop-at.scratch
     (no_blocker (rows_before c.args.lkid left) (ap (rows_before c.args.lkid) came ∙ before_none c.args.lkid one.row _ same)))

@@ -25,8 +25,8 @@ loop-at-init c =
           subst (λ xs. Marks (OwnWaitFor s xs) c.args.scratch.now final) (ap (λ o. on_from o hs) c.first_own-at.ensures ∙ first.left) marks;
     }
 
-pub standing_of-requires-clause-stored : goal.standing_of-requires-clause-stored
-standing_of-requires-clause-stored c =
+pub standing_of-standing-requires-clause-stored : goal.standing_of-standing-requires-clause-stored
+standing_of-standing-requires-clause-stored c =
     let here = stored_here c.args.owner c.args.pid c.args.store.now c.law_records_are_sound.ensures c.requires.owner c.in-Some.lock (c.loop-at.invariant.there c.in-Some.lock c.in-Some.is) in
     (here.0, here.1.0)
 
@@ -51,14 +51,14 @@ loop-at-preserved c =
       there = subst (λ o. IsAtOwn o hs) (sym next) one.there;
       roomy = roomy_still s c.loop-at.scratch c.find_waited_for.new.scratch c.find_waited_for.ensures.room c.loop-at.invariant.roomy;
       goes_on =
-          owns_on s c.law_records_are_sound.ensures c.in-Some.lock c.in-Some-standing_of.standing.row c.in-Some-standing_of.ensures.row
+          owns_on s c.law_records_are_sound.ensures c.in-Some.lock c.standing_of-standing.result.row c.standing_of-standing.ensures.row
           (on_from c.loop-at.at hs) (on_from c.next_own-at.result hs) hs c.args.scratch.now c.loop-at.scratch c.find_waited_for.new.scratch
           (ap (λ o. on_from o hs) c.in-Some.is ∙ one.left ∙ ap (λ o. c.in-Some.lock ∷ on_from o hs) (sym next))
           c.find_waited_for.ensures c.loop-at.invariant.goes_on;
     }
 
-pub returns-in_default : goal.returns-in_default
-returns-in_default c =
+pub returns : goal.returns
+returns c =
     let s = c.args.store.now in
     let hs = own_handles_at c.args.owner s in
     let sound = c.law_records_are_sound.ensures in

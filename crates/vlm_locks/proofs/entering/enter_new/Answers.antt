@@ -20,6 +20,7 @@ enter_at-requires-clause-may_enter c =
       owner = may.owner;
       parent = parent_still e c.in_ok-res.res room s e.parent e.row may.parent;
       keyed = may.keyed;
+      hash = may.hash;
     })
 
 pub enter_at-requires-clause-found : goal.enter_at-requires-clause-found

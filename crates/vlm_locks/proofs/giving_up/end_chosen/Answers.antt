@@ -23,14 +23,14 @@ loop-next-init c =
     none_has_ended c.args.choice c.args.invalidates c.args.owner c.args.pid c.args.store.now c.first_own-next.result c.requires.owner c.law_records_are_sound.ensures c.requires.paid
     c.first_own-next.ensures
 
-pub standing_of-requires-clause-rest : goal.standing_of-requires-clause-rest
-standing_of-requires-clause-rest c =
+pub standing_of-standing-requires-clause-rest : goal.standing_of-standing-requires-clause-rest
+standing_of-standing-requires-clause-rest c =
     let so_far : AreEnding c.args.choice c.args.invalidates c.args.owner c.args.pid c.args.store.now c.loop-next.store (Some c.in-Some.lock) =
     subst (AreEnding c.args.choice c.args.invalidates c.args.owner c.args.pid c.args.store.now c.loop-next.store) c.in-Some.is c.loop-next.invariant in
     rest_now c.args.choice c.args.invalidates c.args.owner c.args.pid c.args.store.now c.loop-next.store c.in-Some.lock so_far c.law_records_are_sound.ensures c.requires.owner c.requires.rest
 
-pub standing_of-requires-clause-stored : goal.standing_of-requires-clause-stored
-standing_of-requires-clause-stored c =
+pub standing_of-standing-requires-clause-stored : goal.standing_of-standing-requires-clause-stored
+standing_of-standing-requires-clause-stored c =
     let so_far : AreEnding c.args.choice c.args.invalidates c.args.owner c.args.pid c.args.store.now c.loop-next.store (Some c.in-Some.lock) =
     subst (AreEnding c.args.choice c.args.invalidates c.args.owner c.args.pid c.args.store.now c.loop-next.store) c.in-Some.is c.loop-next.invariant in
     lock_stored c.args.choice c.args.invalidates c.args.owner c.args.pid c.args.store.now c.loop-next.store c.in-Some.lock so_far c.law_records_are_sound.ensures c.requires.owner c.requires.rest
@@ -45,19 +45,19 @@ pub end_notices-requires-clause-owed : goal.end_notices-requires-clause-owed
 end_notices-requires-clause-owed c =
     let so_far : AreEnding c.args.choice c.args.invalidates c.args.owner c.args.pid c.args.store.now c.loop-next.store (Some c.in-Some.lock) =
     subst (AreEnding c.args.choice c.args.invalidates c.args.owner c.args.pid c.args.store.now c.loop-next.store) c.in-Some.is c.loop-next.invariant in
-    let row = c.in-Some-standing_of.standing.row in
-    let stored = c.in-Some-standing_of.ensures.row in
+    let row = c.standing_of-standing.result.row in
+    let stored = c.standing_of-standing.ensures.row in
     fits_still so_far.lkids c.loop-next.store so_far.sound c.in-Some.lock row stored
     (not_yet c.args.choice c.args.invalidates c.args.owner c.args.pid c.args.store.now c.loop-next.store c.in-Some.lock so_far c.law_records_are_sound.ensures c.requires.owner c.requires.rest row stored) so_far.paid
 
 pub end_notices-requires-clause-granted : goal.end_notices-requires-clause-granted
 end_notices-requires-clause-granted c is =
-    let f = c.in-Some-standing_of.standing in
+    let f = c.standing_of-standing.result in
     let lock : StoredLock = record { at = f.lock; row = f.row } in
     c.requires.granted f.res lock
     (stands_alike f.lock f.row c.loop-next.store c.args.store.now (sym c.loop-next.invariant.only_notices.resources) (sym c.loop-next.invariant.only_notices.loose) (Queued f.res Granted)
     (subst (λ queue. IsIn lock (locks_at (Queued f.res queue) c.loop-next.store)) is
-    (stands c.loop-next.store f c.in-Some-standing_of.ensures.standing)))
+    (stands c.loop-next.store f c.standing_of-standing.ensures.standing)))
 
 pub next_own-next-requires : goal.next_own-next-requires
 next_own-next-requires c =
@@ -66,7 +66,7 @@ next_own-next-requires c =
     let same : SameButNotices c.loop-next.store c.if-is_chosen.store =
     elim c.if-is_chosen.branch [
       | then-is_chosen w ↦ subst (SameButNotices c.loop-next.store) (sym w.store-is) w.end_notices.ensures.only_notices
-      | else-is_chosen w ↦ subst (SameButNotices c.loop-next.store) (sym w.store-is) (record { resources = refl; loose = refl; processes = refl; room = refl })
+      | else-is_chosen w ↦ subst (SameButNotices c.loop-next.store) (sym w.store-is) (record { resources = refl; loose = refl; processes = refl; room = refl; keys = refl })
     ] in
     let stored = lock_stored c.args.choice c.args.invalidates c.args.owner c.args.pid c.args.store.now c.loop-next.store c.in-Some.lock so_far c.law_records_are_sound.ensures c.requires.owner c.requires.rest in
     (stored.0, (stored.1.0, stands_alike c.in-Some.lock stored.0 c.loop-next.store c.if-is_chosen.store same.resources same.loose stored.1.0 stored.1.1))
@@ -78,7 +78,7 @@ loop-next-smaller c =
     let same : SameButNotices c.loop-next.store c.if-is_chosen.store =
     elim c.if-is_chosen.branch [
       | then-is_chosen w ↦ subst (SameButNotices c.loop-next.store) (sym w.store-is) w.end_notices.ensures.only_notices
-      | else-is_chosen w ↦ subst (SameButNotices c.loop-next.store) (sym w.store-is) (record { resources = refl; loose = refl; processes = refl; room = refl })
+      | else-is_chosen w ↦ subst (SameButNotices c.loop-next.store) (sym w.store-is) (record { resources = refl; loose = refl; processes = refl; room = refl; keys = refl })
     ] in
     let next = next_is c.args.choice c.args.invalidates c.args.owner c.args.pid c.args.store.now c.loop-next.store c.in-Some.lock so_far c.law_records_are_sound.ensures c.requires.owner c.requires.rest c.if-is_chosen.store c.law_records_are_sound-in-Some-2.ensures same c.next_own-next.result c.next_own-next.ensures in
     omega (
@@ -94,11 +94,11 @@ loop-next-preserved c =
     let same : SameButNotices c.loop-next.store c.if-is_chosen.store =
     elim c.if-is_chosen.branch [
       | then-is_chosen w ↦ subst (SameButNotices c.loop-next.store) (sym w.store-is) w.end_notices.ensures.only_notices
-      | else-is_chosen w ↦ subst (SameButNotices c.loop-next.store) (sym w.store-is) (record { resources = refl; loose = refl; processes = refl; room = refl })
+      | else-is_chosen w ↦ subst (SameButNotices c.loop-next.store) (sym w.store-is) (record { resources = refl; loose = refl; processes = refl; room = refl; keys = refl })
     ] in
     let next = next_is c.args.choice c.args.invalidates c.args.owner c.args.pid c.args.store.now c.loop-next.store c.in-Some.lock so_far c.law_records_are_sound.ensures c.requires.owner c.requires.rest c.if-is_chosen.store c.law_records_are_sound-in-Some-2.ensures same c.next_own-next.result c.next_own-next.ensures in
-    let f = c.in-Some-standing_of.standing in
-    let stored = c.in-Some-standing_of.ensures.row in
+    let f = c.standing_of-standing.result in
+    let stored = c.standing_of-standing.ensures.row in
     elim c.if-is_chosen.branch [
       | then-is_chosen w ↦
           subst (λ t. AreEnding c.args.choice c.args.invalidates c.args.owner c.args.pid c.args.store.now t c.next_own-next.result) (sym w.store-is)
@@ -112,8 +112,8 @@ loop-next-preserved c =
           (passed c.args.choice c.args.invalidates c.args.owner c.args.pid c.args.store.now c.loop-next.store c.in-Some.lock so_far c.law_records_are_sound.ensures c.requires.owner c.requires.rest f.row stored (sym c.is_chosen.ensures.chosen ∙ w.if-is_chosen.false) c.next_own-next.result next)
     ]
 
-pub returns-in_default : goal.returns-in_default
-returns-in_default c = record {
+pub returns : goal.returns
+returns c = record {
   ended = all_ended c.args.choice c.args.invalidates c.args.owner c.args.pid c.args.store.now c.loop-next.store c.loop-next.next c.law_records_are_sound.ensures c.requires.owner
       c.loop-next.invariant c.in_default.is;
 }

@@ -18,17 +18,17 @@ loop-next-init c =
     none_is_gone c.args.choice c.args.invalidates c.args.owner c.args.pid c.args.store.now c.args.touched.now c.last_own-next.result c.requires.owner c.law_records_are_sound.ensures
     c.requires.can_go c.last_own-next.ensures
 
-pub standing_of-requires-clause-stored : goal.standing_of-requires-clause-stored
-standing_of-requires-clause-stored c =
+pub standing_of-standing-requires-clause-stored : goal.standing_of-standing-requires-clause-stored
+standing_of-standing-requires-clause-stored c =
     let so_far : AreLeaving c.args.choice c.args.invalidates c.args.owner c.args.pid c.args.store.now c.loop-next.store c.args.touched.now c.loop-next.touched (Some c.in-Some.lock) = subst (AreLeaving c.args.choice c.args.invalidates c.args.owner c.args.pid c.args.store.now c.loop-next.store c.args.touched.now c.loop-next.touched) c.in-Some.is c.loop-next.invariant in
     lock_stored c.args.choice c.args.invalidates c.args.owner c.args.pid c.args.store.now c.loop-next.store c.args.touched.now c.loop-next.touched c.in-Some.lock so_far c.law_records_are_sound.ensures c.requires.owner c.requires.can_go
 
 pub give_up-requires-clause-childless : goal.give_up-requires-clause-childless
 give_up-requires-clause-childless c =
     let so_far : AreLeaving c.args.choice c.args.invalidates c.args.owner c.args.pid c.args.store.now c.loop-next.store c.args.touched.now c.loop-next.touched (Some c.in-Some.lock) = subst (AreLeaving c.args.choice c.args.invalidates c.args.owner c.args.pid c.args.store.now c.loop-next.store c.args.touched.now c.loop-next.touched) c.in-Some.is c.loop-next.invariant in
-    let f = c.in-Some-standing_of.standing in
-    let stored : Stores c.loop-next.store c.in-Some.lock f.row = c.in-Some-standing_of.ensures.row in
-    subst (λ at. HasNoSublocks at c.loop-next.store) (sym c.in-Some-standing_of.ensures.lock)
+    let f = c.standing_of-standing.result in
+    let stored : Stores c.loop-next.store c.in-Some.lock f.row = c.standing_of-standing.ensures.row in
+    subst (λ at. HasNoSublocks at c.loop-next.store) (sym c.standing_of-standing.ensures.lock)
     (no_sublocks c.args.choice c.args.invalidates c.args.owner c.args.pid c.args.store.now c.loop-next.store c.args.touched.now c.loop-next.touched c.in-Some.lock so_far c.law_records_are_sound.ensures c.requires.owner c.requires.can_go f.row stored (sym c.is_chosen.ensures.chosen ∙ c.if-is_chosen.true))
 
 pub note-requires : goal.note-requires
@@ -36,18 +36,18 @@ note-requires c =
     omega (
       arith,
       c.loop-next.invariant.going.room,
-      one_at_least c.loop-next.store c.loop-next.invariant.going.sound c.in-Some-standing_of.standing c.in-Some-standing_of.ensures.standing,
+      one_at_least c.loop-next.store c.loop-next.invariant.going.sound c.standing_of-standing.result c.standing_of-standing.ensures.standing,
     )
 
 pub loop-next-smaller-then-is_chosen : goal.loop-next-smaller-then-is_chosen
 loop-next-smaller-then-is_chosen c =
     let so_far : AreLeaving c.args.choice c.args.invalidates c.args.owner c.args.pid c.args.store.now c.loop-next.store c.args.touched.now c.loop-next.touched (Some c.in-Some.lock) = subst (AreLeaving c.args.choice c.args.invalidates c.args.owner c.args.pid c.args.store.now c.loop-next.store c.args.touched.now c.loop-next.touched) c.in-Some.is c.loop-next.invariant in
-    let f = c.in-Some-standing_of.standing in
-    let stored : Stores c.loop-next.store c.in-Some.lock f.row = c.in-Some-standing_of.ensures.row in
-    let lock_is : f.lock ≡ c.in-Some.lock = c.in-Some-standing_of.ensures.lock in
+    let f = c.standing_of-standing.result in
+    let stored : Stores c.loop-next.store c.in-Some.lock f.row = c.standing_of-standing.ensures.row in
+    let lock_is : f.lock ≡ c.in-Some.lock = c.standing_of-standing.ensures.lock in
     let turn : IsTurn (is_among so_far.lkids) c.args.invalidates c.args.owner c.loop-next.store c.give_up.new.store c.loop-next.touched c.note.new.self f (plain_withdrawal c.together-withdrawal.result) = record {
       sound = c.law_records_are_sound-then-is_chosen.ensures;
-      standing = c.in-Some-standing_of.ensures.standing;
+      standing = c.standing_of-standing.ensures.standing;
       mine = subst (λ at. IsIn at (own_handles_at c.args.owner c.loop-next.store)) (sym lock_is) (lock_in c.args.choice c.args.invalidates c.args.owner c.args.pid c.args.store.now c.loop-next.store c.args.touched.now c.loop-next.touched c.in-Some.lock so_far c.law_records_are_sound.ensures c.requires.owner c.requires.can_go);
       its = listed_if c.args.choice c.args.invalidates c.args.owner c.args.pid c.args.store.now c.loop-next.store c.args.touched.now c.loop-next.touched c.in-Some.lock so_far c.law_records_are_sound.ensures c.requires.owner c.requires.can_go f.row stored ∙ sym c.is_chosen.ensures.chosen ∙ c.if-is_chosen.true;
       waiting = by_abort;
@@ -74,12 +74,12 @@ loop-next-smaller-then-is_chosen c =
 pub loop-next-preserved-then-is_chosen : goal.loop-next-preserved-then-is_chosen
 loop-next-preserved-then-is_chosen c =
     let so_far : AreLeaving c.args.choice c.args.invalidates c.args.owner c.args.pid c.args.store.now c.loop-next.store c.args.touched.now c.loop-next.touched (Some c.in-Some.lock) = subst (AreLeaving c.args.choice c.args.invalidates c.args.owner c.args.pid c.args.store.now c.loop-next.store c.args.touched.now c.loop-next.touched) c.in-Some.is c.loop-next.invariant in
-    let f = c.in-Some-standing_of.standing in
-    let stored : Stores c.loop-next.store c.in-Some.lock f.row = c.in-Some-standing_of.ensures.row in
-    let lock_is : f.lock ≡ c.in-Some.lock = c.in-Some-standing_of.ensures.lock in
+    let f = c.standing_of-standing.result in
+    let stored : Stores c.loop-next.store c.in-Some.lock f.row = c.standing_of-standing.ensures.row in
+    let lock_is : f.lock ≡ c.in-Some.lock = c.standing_of-standing.ensures.lock in
     let turn : IsTurn (is_among so_far.lkids) c.args.invalidates c.args.owner c.loop-next.store c.give_up.new.store c.loop-next.touched c.note.new.self f (plain_withdrawal c.together-withdrawal.result) = record {
       sound = c.law_records_are_sound-then-is_chosen.ensures;
-      standing = c.in-Some-standing_of.ensures.standing;
+      standing = c.standing_of-standing.ensures.standing;
       mine = subst (λ at. IsIn at (own_handles_at c.args.owner c.loop-next.store)) (sym lock_is) (lock_in c.args.choice c.args.invalidates c.args.owner c.args.pid c.args.store.now c.loop-next.store c.args.touched.now c.loop-next.touched c.in-Some.lock so_far c.law_records_are_sound.ensures c.requires.owner c.requires.can_go);
       its = listed_if c.args.choice c.args.invalidates c.args.owner c.args.pid c.args.store.now c.loop-next.store c.args.touched.now c.loop-next.touched c.in-Some.lock so_far c.law_records_are_sound.ensures c.requires.owner c.requires.can_go f.row stored ∙ sym c.is_chosen.ensures.chosen ∙ c.if-is_chosen.true;
       waiting = by_abort;
@@ -104,8 +104,8 @@ loop-next-preserved-then-is_chosen c =
 pub loop-next-smaller : goal.loop-next-smaller
 loop-next-smaller c =
     let so_far : AreLeaving c.args.choice c.args.invalidates c.args.owner c.args.pid c.args.store.now c.loop-next.store c.args.touched.now c.loop-next.touched (Some c.in-Some.lock) = subst (AreLeaving c.args.choice c.args.invalidates c.args.owner c.args.pid c.args.store.now c.loop-next.store c.args.touched.now c.loop-next.touched) c.in-Some.is c.loop-next.invariant in
-    let f = c.in-Some-standing_of.standing in
-    let stored : Stores c.loop-next.store c.in-Some.lock f.row = c.in-Some-standing_of.ensures.row in
+    let f = c.standing_of-standing.result in
+    let stored : Stores c.loop-next.store c.in-Some.lock f.row = c.standing_of-standing.ensures.row in
     omega (
       arith,
       fewer_left c.args.choice c.args.invalidates c.args.owner c.args.pid c.args.store.now c.loop-next.store c.args.touched.now c.loop-next.touched c.in-Some.lock so_far c.law_records_are_sound.ensures c.requires.owner c.requires.can_go c.previous_own-next.result (previous_is c.args.choice c.args.invalidates c.args.owner c.args.pid c.args.store.now c.loop-next.store c.args.touched.now c.loop-next.touched c.in-Some.lock so_far c.law_records_are_sound.ensures c.requires.owner c.requires.can_go c.previous_own-next.result c.previous_own-next.ensures),
@@ -115,19 +115,19 @@ loop-next-smaller c =
 pub loop-next-preserved : goal.loop-next-preserved
 loop-next-preserved c =
     let so_far : AreLeaving c.args.choice c.args.invalidates c.args.owner c.args.pid c.args.store.now c.loop-next.store c.args.touched.now c.loop-next.touched (Some c.in-Some.lock) = subst (AreLeaving c.args.choice c.args.invalidates c.args.owner c.args.pid c.args.store.now c.loop-next.store c.args.touched.now c.loop-next.touched) c.in-Some.is c.loop-next.invariant in
-    let f = c.in-Some-standing_of.standing in
-    let stored : Stores c.loop-next.store c.in-Some.lock f.row = c.in-Some-standing_of.ensures.row in
+    let f = c.standing_of-standing.result in
+    let stored : Stores c.loop-next.store c.in-Some.lock f.row = c.standing_of-standing.ensures.row in
     let then =
     stayed c.args.choice c.args.invalidates c.args.owner c.args.pid c.args.store.now c.loop-next.store c.args.touched.now c.loop-next.touched c.in-Some.lock so_far c.law_records_are_sound.ensures c.requires.owner c.requires.can_go f.row stored (sym c.is_chosen.ensures.chosen ∙ c.if-is_chosen.false) c.previous_own-next.result
     (previous_is c.args.choice c.args.invalidates c.args.owner c.args.pid c.args.store.now c.loop-next.store c.args.touched.now c.loop-next.touched c.in-Some.lock so_far c.law_records_are_sound.ensures c.requires.owner c.requires.can_go c.previous_own-next.result c.previous_own-next.ensures) in
     then
 
-pub returns-in_default-clause-gone : goal.returns-in_default-clause-gone
-returns-in_default-clause-gone c =
+pub returns-clause-gone : goal.returns-clause-gone
+returns-clause-gone c =
     all_gone c.args.choice c.args.invalidates c.args.owner c.args.pid c.args.store.now c.loop-next.store c.args.touched.now c.loop-next.touched c.loop-next.next
     c.law_records_are_sound.ensures c.requires.owner c.loop-next.invariant c.in_default.is
 
-pub returns-in_default-clause-can_end : goal.returns-in_default-clause-can_end
-returns-in_default-clause-can_end c =
+pub returns-clause-can_end : goal.returns-clause-can_end
+returns-clause-can_end c =
     can_end_still c.args.choice c.args.invalidates c.args.owner c.args.pid c.args.store.now c.loop-next.store c.args.touched.now c.loop-next.touched c.loop-next.next
     c.law_records_are_sound.ensures c.requires.owner c.loop-next.invariant c.in_default.is

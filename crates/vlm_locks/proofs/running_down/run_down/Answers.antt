@@ -14,44 +14,44 @@ use Rattle.vlm_words.specs.Withdrawals.{Withdrawal}
 pub last_own-requires : goal.last_own-requires
 last_own-requires c = process_there c.loop-lock.store c.args.owner c.args.pid c.loop-lock.invariant.so_far.lives
 
-pub standing_of-requires-clause-stored : goal.standing_of-requires-clause-stored
-standing_of-requires-clause-stored c =
+pub standing_of-standing-requires-clause-stored : goal.standing_of-standing-requires-clause-stored
+standing_of-standing-requires-clause-stored c =
     last_stored c.args.owner c.args.pid c.loop-lock.store c.loop-lock.invariant.so_far.sound c.loop-lock.invariant.so_far.lives c.loop-lock.invariant.so_far.rest c.in-Some.lock
     (sym c.last_own.ensures ∙ c.in-Some.is)
 
 pub withdraw-requires-clause-childless : goal.withdraw-requires-clause-childless
 withdraw-requires-clause-childless c goes p own among its same =
     last_is_childless c.args.owner c.args.pid c.loop-lock.store c.loop-lock.invariant.so_far.sound c.loop-lock.invariant.so_far.lives c.loop-lock.invariant.so_far.rest c.in-Some.lock
-    (sym c.last_own.ensures ∙ c.in-Some.is) c.loop-lock.invariant.so_far.together p own among its (same ∙ c.in-Some-standing_of.ensures.lock)
+    (sym c.last_own.ensures ∙ c.in-Some.is) c.loop-lock.invariant.so_far.together p own among its (same ∙ c.standing_of-standing.ensures.lock)
 
 pub withdraw-requires-clause-granted : goal.withdraw-requires-clause-granted
 withdraw-requires-clause-granted c is =
-    let f = c.in-Some-standing_of.standing in
+    let f = c.standing_of-standing.result in
     c.loop-lock.invariant.so_far.granted f.res (record { at = f.lock; row = f.row })
     (subst (λ queue. IsIn (record { at = f.lock; row = f.row }) (locks_at (Queued f.res queue) c.loop-lock.store)) is
-    (stands c.loop-lock.store f c.in-Some-standing_of.ensures.standing))
+    (stands c.loop-lock.store f c.standing_of-standing.ensures.standing))
 
 pub note-requires : goal.note-requires
 note-requires c =
     omega (
       arith,
       c.loop-lock.invariant.so_far.room,
-      one_at_least c.loop-lock.store c.loop-lock.invariant.so_far.sound c.in-Some-standing_of.standing c.in-Some-standing_of.ensures.standing,
+      one_at_least c.loop-lock.store c.loop-lock.invariant.so_far.sound c.standing_of-standing.result c.standing_of-standing.ensures.standing,
     )
 
 pub loop-lock-smaller : goal.loop-lock-smaller
 loop-lock-smaller c =
-    let f = c.in-Some-standing_of.standing in
+    let f = c.standing_of-standing.result in
     let s = c.loop-lock.store in
     let so_far = c.loop-lock.invariant.so_far in
     let mine : IsIn f.lock (own_handles_at c.args.owner s) =
-    subst (λ at. IsIn at (own_handles_at c.args.owner s)) (sym c.in-Some-standing_of.ensures.lock)
+    subst (λ at. IsIn at (own_handles_at c.args.owner s)) (sym c.standing_of-standing.ensures.lock)
     (last_there c.args.owner c.args.pid s so_far.sound so_far.lives so_far.rest c.in-Some.lock (sym c.last_own.ensures ∙ c.in-Some.is)) in
     let turn : IsTurn (is_row_of c.args.pid) true c.args.owner s c.withdraw.new.store c.loop-lock.touched c.note.new.self f (plain_withdrawal c.rundown.result) = record {
       sound = c.law_records_are_sound-in-Some-2.ensures;
-      standing = c.in-Some-standing_of.ensures.standing;
+      standing = c.standing_of-standing.ensures.standing;
       mine = mine;
-      its = eq-eqb f.row.pid c.args.pid (its_row c.args.owner c.args.pid s so_far.sound so_far.lives f c.in-Some-standing_of.ensures.standing mine);
+      its = eq-eqb f.row.pid c.args.pid (its_row c.args.owner c.args.pid s so_far.sound so_far.lives f c.standing_of-standing.ensures.standing mine);
       waiting = by_rundown;
       converting = by_rundown;
       withdrawal = c.rundown.ensures;
@@ -72,17 +72,17 @@ loop-lock-smaller c =
 
 pub loop-lock-preserved : goal.loop-lock-preserved
 loop-lock-preserved c =
-    let f = c.in-Some-standing_of.standing in
+    let f = c.standing_of-standing.result in
     let s = c.loop-lock.store in
     let so_far = c.loop-lock.invariant.so_far in
     let mine : IsIn f.lock (own_handles_at c.args.owner s) =
-    subst (λ at. IsIn at (own_handles_at c.args.owner s)) (sym c.in-Some-standing_of.ensures.lock)
+    subst (λ at. IsIn at (own_handles_at c.args.owner s)) (sym c.standing_of-standing.ensures.lock)
     (last_there c.args.owner c.args.pid s so_far.sound so_far.lives so_far.rest c.in-Some.lock (sym c.last_own.ensures ∙ c.in-Some.is)) in
     let turn : IsTurn (is_row_of c.args.pid) true c.args.owner s c.withdraw.new.store c.loop-lock.touched c.note.new.self f (plain_withdrawal c.rundown.result) = record {
       sound = c.law_records_are_sound-in-Some-2.ensures;
-      standing = c.in-Some-standing_of.ensures.standing;
+      standing = c.standing_of-standing.ensures.standing;
       mine = mine;
-      its = eq-eqb f.row.pid c.args.pid (its_row c.args.owner c.args.pid s so_far.sound so_far.lives f c.in-Some-standing_of.ensures.standing mine);
+      its = eq-eqb f.row.pid c.args.pid (its_row c.args.owner c.args.pid s so_far.sound so_far.lives f c.standing_of-standing.ensures.standing mine);
       waiting = by_rundown;
       converting = by_rundown;
       withdrawal = c.rundown.ensures;
@@ -104,13 +104,13 @@ loop-lock-preserved c =
       paid = c.withdraw.ensures.paid;
     }
 
-pub returns-in_default-clause-resources : goal.returns-in_default-clause-resources
-returns-in_default-clause-resources c =
+pub returns-clause-resources : goal.returns-clause-resources
+returns-clause-resources c =
     sym (all_left c.args.owner c.args.pid c.loop-lock.store c.loop-lock.invariant.so_far.sound c.loop-lock.invariant.so_far.lives
     (none_at_all (own_handles_at c.args.owner c.loop-lock.store) (sym c.last_own.ensures ∙ c.in_default.is)))
     ∙ c.loop-lock.invariant.so_far.resources
 
-pub returns-in_default-clause-gone : goal.returns-in_default-clause-gone
-returns-in_default-clause-gone c =
+pub returns-clause-gone : goal.returns-clause-gone
+returns-clause-gone c =
     no_locks c.args.owner c.args.pid c.loop-lock.store c.loop-lock.invariant.so_far.sound c.loop-lock.invariant.so_far.lives
     (none_at_all (own_handles_at c.args.owner c.loop-lock.store) (sym c.last_own.ensures ∙ c.in_default.is))

@@ -1,14 +1,29 @@
 use Rattle.vlm_store.specs.Records.{Records}
 use Rattle.vlm_locks.specs.Rest.{OtherLocksStay}
 use Rattle.vlm_locks.proofs.OtherLocks.{block_alone}
-use Rattle.std.proofs.Common.{refl, sym, ap, ◌∙◌, subst}
+use Rattle.std.proofs.Common.{◌≡◌, ◌||◌, Bool, true, false, is_some, refl, sym, ap, ◌∙◌, subst}
 use Rattle.vlm_words.specs.Withdrawals.{resource_after_writer}
 use Rattle.vlm_locks.specs.Standing.{IsStanding}
 use Rattle.vlm_locks.specs.Withdrawals.{plain_withdrawal}
 use Rattle.vlm_locks.specs.Withdrawing.{IsChange}
 use Rattle.vlm_locks.proofs.Owing.{weighs_valued}
-use Rattle.vlm_locks.proofs.Withdrawn.{left_block, left_nothing, stands_left}
+use Rattle.vlm_locks.proofs.Withdrawn.{left_block, left_nothing, left_unwritten, stands_left}
 use Rattle.vlm_locks.proofs.withdrawing.leave_value.Goals as goal
+
+-- where nothing is to be written it leaves nothing
+pub returns-then-not-writes-clause-left : goal.returns-then-not-writes-clause-left
+returns-then-not-writes-clause-left c =
+    let w = c.args.withdrawal.now in
+    let nothing = or_parts (is_some w.value) w.invalidates (sym c.writes.ensures ∙ c.if-not-writes.true) in
+    record {
+      made = left_unwritten c.args.store.now c.law_records_are_sound.ensures c.args.standing.now c.requires.standing (plain_withdrawal w) nothing.0 nothing.1 c.requires.rest;
+      locks = λ place. refl;
+      own_locks = refl;
+    }
+  where
+    or_parts : (a b : Bool) → (a || b) ≡ false → (a ≡ false) × (b ≡ false)
+    or_parts true b is = cc
+    or_parts false b is = (refl, is)
 
 -- what may write leaves its value block
 pub returns-then-may_write-clause-left : goal.returns-then-may_write-clause-left

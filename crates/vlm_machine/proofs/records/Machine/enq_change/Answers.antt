@@ -22,6 +22,7 @@ enter-requires-clause-may_enter c =
       owner = admitted.entry.owner;
       parent = admitted.entry.parent;
       keyed = admitted.entry.keyed;
+      hash = admitted.entry.hash;
     }
 
 -- a new lock is not armed

@@ -46,6 +46,7 @@ returns c =
           (parent_of_row c.self.inside.store c.args.caller.now.pid c.args.parent.now parent row named);
       site = site_same;
       keyed = c.site_of-site.ensures.keyed;
+      hash = c.entrance-entrance.ensures.hash;
       serial = refl;
       found = c.entrance-entrance.ensures.found;
       at_once =

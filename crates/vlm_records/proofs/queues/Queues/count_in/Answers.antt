@@ -39,7 +39,7 @@ returns-in-Queued-clause-tallied c =
       counts = λ count r mode.
           counted_in q q' c.args.at res c.in-Queued.queue c.index.result.now c.requires.placed c.index.ensures c.in-Queued.is (lists_but_tally q q' rest refl)
           refl (weight_of count mode) (λ x. how_many count (tally_in (get q.resources x)) mode) (λ x. how_many count (tally_in (get q'.resources x)) mode)
-          (tally_more (λ t. how_many count t mode) q.resources res was now (weight_of count mode c.in-Queued.queue c.index.result.now.row) there here (c.add.ensures count mode))
+          (tally_more (λ t. how_many count t mode) q.resources res was now (weight_of count mode c.in-Queued.queue c.index.result.now.row) there here (rw c.row.ensures at c.add.ensures count mode))
           (λ x. c.requires.tallied.counts count x mode) r;
     })
 

@@ -17,13 +17,14 @@ index_mut-requires c =
 
 pub remove-requires : goal.remove-requires
 remove-requires c count mode =
-    omega (
+    rw c.row.ensures
+    (omega (
       arith,
       ap (λ slot. how_many count (tally_in slot) mode) (rw c.slot.ensures at c.index_mut.ensures.value),
       c.requires.tallied.counts count c.in-Queued.res mode,
       weighs_here c.args.self.now c.args.self.now c.args.at c.in-Queued.res c.in-Queued.queue c.index.result.now c.requires.placed c.index.ensures c.in-Queued.is
           (λ p. refl) refl (weight_of count mode),
-    )
+    ))
 
 pub returns-in-Queued-clause-tallied : goal.returns-in-Queued-clause-tallied
 returns-in-Queued-clause-tallied c =
@@ -40,7 +41,7 @@ returns-in-Queued-clause-tallied c =
       counts = λ count r mode.
           counted_out q q' c.args.at res c.in-Queued.queue c.index.result.now c.requires.placed c.index.ensures c.in-Queued.is (lists_but_tally q q' rest refl)
           refl (weight_of count mode) (λ x. how_many count (tally_in (get q.resources x)) mode) (λ x. how_many count (tally_in (get q'.resources x)) mode)
-          (tally_less (λ t. how_many count t mode) q.resources res was now (weight_of count mode c.in-Queued.queue c.index.result.now.row) there here (c.remove.ensures count mode))
+          (tally_less (λ t. how_many count t mode) q.resources res was now (weight_of count mode c.in-Queued.queue c.index.result.now.row) there here (rw c.row.ensures at c.remove.ensures count mode))
           (λ x. c.requires.tallied.counts count x mode) r;
     })
 

@@ -7,12 +7,13 @@ use Rattle.vlm_records.proofs.queues.Queues.tally_without.Goals as goal
 
 pub counted_out-requires : goal.counted_out-requires
 counted_out-requires c count mode =
-    omega (
+    rw c.row.ensures
+    (omega (
       arith,
       ap (λ slot. how_many count (tally_in slot) mode) (rw c.slot.ensures at c.index.ensures),
       c.requires.tallied.counts count c.args.res mode,
       own_weighs c.args.self.now (weight_of count mode) c.in-Some.asking c.index-in-Some.result.now c.requires.placed (rw c.slot-in-Some.ensures at c.index-in-Some.ensures) c.args.res,
-    )
+    ))
 
 pub returns-in-None : goal.returns-in-None
 returns-in-None c mode =
@@ -26,6 +27,6 @@ returns-in-Some c mode =
       arith,
       ap (λ slot. how_many of_held (tally_in slot) mode) (rw c.slot.ensures at c.index.ensures),
       c.requires.tallied.counts of_held c.args.res mode,
-      c.counted_out.ensures mode,
+      rw c.row.ensures at c.counted_out.ensures mode,
       own_weighs c.args.self.now (weight_of of_held mode) c.in-Some.asking c.index-in-Some.result.now c.requires.placed (rw c.slot-in-Some.ensures at c.index-in-Some.ensures) c.args.res,
     ))

@@ -1,3 +1,4 @@
+use Rattle.vlm_store.specs.Index.{hash_key}
 use Rattle.vlm_store.proofs.Lined.{line_added, line_below, line_kin, line_own, line_queued, line_same}
 use Rattle.vlm_store.proofs.RoomShown.{room_shown, shown_room, is_taken, rooms_are, room_of_same, lock_room_made, has_room, lock_room_kept}
 use Rattle.std.proofs.Common.{◌≡◌, ◌≢◌, ◌∙◌, ◌++◌, ◌∷◌, [], ℕ, map, None, Some, IsSome, ap, sym, refl, arith, nat_eq, ◌+◌}
@@ -8,14 +9,15 @@ use Rattle.slab.specs.Slab.{get as slot_of}
 use Rattle.indexmap.specs.IndexMap.{get, spare}
 use Rattle.vlm_links.proofs.Keeping.{vacant_unlisted}
 use Rattle.vlm_links.specs.Lists.{IsIn}
-use Rattle.vlm_words.specs.Keys.{is_same_key}
+use Rattle.vlm_store.specs.HashedKeys.{hashed_at, is_same_hashed}
+use Rattle.vlm_store.proofs.HashedKeys.{IsHashed-same}
 use Rattle.vlm_records.specs.declared.handles.Place.{Place}
 use Rattle.vlm_records.specs.declared.locks.Lock.{Lock}
 use Rattle.vlm_records.specs.Kin.{pid_at}
 use Rattle.vlm_store.specs.Kept.{beside_shown}
 use Rattle.vlm_store.specs.Records.{process_with_lock, HasRoom, IsTaken, joining, with_lists, with_new_lock}
 use Rattle.vlm_records.specs.Shown.{but_in_line, but_kin, but_queued, but_queues, handles_at, list_at, lkid_of, new_lock, queue_links, row_in, rows}
-use Rattle.vlm_store.specs.Store.{key_at, lkid_at, records_of, tables}
+use Rattle.vlm_store.specs.Store.{lkid_at, records_of, tables}
 use Rattle.vlm_records.proofs.Arming.{armed_kin, armed_reserved}
 use Rattle.vlm_records.proofs.Places.{same_then, there_by_part, there_through}
 use Rattle.vlm_store.proofs.Indexing.{Indexes-added, Indexes-same}
@@ -151,7 +153,7 @@ invariant_of-self-2 c =
       locks = Indexes-added nat_eq unsigned_Decides c.reserve_one.new.index c.insert.new.self c.args.row.lkid (lkid_at (record s.queues { locks = c.reserve_one.new.records })) (lkid_at q'') at
           (rw c.of-at.ensures at (on_ok c.insert.result _ (c.insert.ensures.succeeds (omega (arith, c.in_ok-reserve_one.ensures.find))) c.insert.ensures.updates))
           (ap (option_map lkid_of) added.fresh) (lkids at ∙ new_lkid s kept c.reserve_one.new.records locks1 at c.args.row c.args.owner c.args.parent same added.fresh lock others owner parent) (λ k differs. lkids k ∙ other_lkids s kept c.reserve_one.new.records locks1 at c.args.row c.args.owner c.args.parent same added.fresh lock others owner parent k differs) fresh indexes1;
-      resources = Indexes-same (get is_same_key s.resource_index) (get is_same_key s.resource_index) (key_at s.queues) (key_at q'') (λ k. refl) (keys_same but_queues (λ r. refl) s.queues.resources q'.resources rest) kept.resources;
+      resources = IsHashed-same (hash_key s.keys) (get is_same_hashed s.resource_index) (get is_same_hashed s.resource_index) (hashed_at s.queues) (hashed_at q'') (λ k. refl) (keys_same but_queues (λ r. refl) s.queues.resources q'.resources rest) kept.resources;
       owned = joined_owned s kept c.reserve_one.new.records locks1 at c.args.row c.args.owner c.args.parent same added.fresh lock others owner parent c.join_process.new.processes c.join_process.new.locks c.join_parent.new.locks process.owned process.here process.elsewhere process.relinks process.rest below.here below.elsewhere below.rest;
       below = below.below;
       named = joined_named s kept c.reserve_one.new.records locks1 at c.args.row c.args.owner c.args.parent same added.fresh lock others owner parent c.join_process.new.processes c.join_process.new.locks c.join_parent.new.locks process.owned process.here process.elsewhere process.relinks process.rest below.here below.elsewhere below.rest;
@@ -194,7 +196,7 @@ returns-clause-added c =
     (lists_changed_beside old new change (faces_same s.queues.resources q'.resources rest)
     (joining-under_handle (rows s.queues) (rows q'') (handles_at s.queues) (handles_at q'') at c.args.row c.args.to (rows2 at ∙ added.row) (λ k differs. rows2 k ∙ added.rows k differs ∙ ap row_in (same k)) unlisted
     (handles2 c.args.to ∙ added.here ∙ ap (λ ks. ks ++ at ∷ []) (handles1 c.args.to)) (λ p differs. handles2 p ∙ added.elsewhere p differs ∙ handles1 p))
-    (order_handles but_queues (λ r. refl) s.queues.resources q'.resources rest s.order kept.linked)
+    (order_handles but_queues (λ r. refl) s.queues.resources q'.resources rest s.order kept.linked) refl
     ∙ ap (λ ps. record (with_lists change (records_of old)) { processes = ps; room = (records_of new).room })
     (joined_processes s kept c.reserve_one.new.records locks1 at c.args.row c.args.owner c.args.parent same added.fresh lock others owner parent c.join_process.new.processes c.join_process.new.locks c.join_parent.new.locks process.owned process.here process.elsewhere process.relinks process.rest below.here below.elsewhere below.rest ∙ ap (map (process_with_lock c.args.owner c.args.parent at)) (sym (records_processes old)))
     ∙ ap (λ r. record (with_new_lock at c.args.row c.args.owner c.args.parent c.args.to (records_of old)) { room = r })

@@ -124,7 +124,7 @@ returns-clause-added c =
     (processes_changed s.queues s.order (beside_shown s) (beside_shown (record s { processes = new; process_order = c.put_in.new.order; process_index = c.insert.new.self; living = c.mark.new.self; pending = c.make_room-2.new.self })) (λ (ps : List StoredProcess). ps ++ new_stored_process at c.args.pid c.args.declaration.now ∷ [])
     (process_made h h' (λ k. refl) at (new_stored_process at c.args.pid c.args.declaration.now) (λ p differs. face_by_order (get new p) (get s.processes p) (others p differs))
     (λ p _. process_own_handles s.processes new s.queues.locks owns p) (vacant_unlisted process_links s.processes s.process_order kept.processes_linked at vacant)
-    (entered.order ∙ ap (λ ks. ks ++ at ∷ []) handles1) made))
+    (entered.order ∙ ap (λ ks. ks ++ at ∷ []) handles1) made) refl)
 
 pub returns-clause-fresh : goal.returns-clause-fresh
 returns-clause-fresh c has =

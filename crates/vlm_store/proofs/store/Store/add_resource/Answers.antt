@@ -1,27 +1,31 @@
+use Rattle.vlm_links.specs.declared.hashing.HashKeys.{HashKeys}
+use Rattle.vlm_store.specs.Index.{hash_key}
 use Rattle.vlm_store.proofs.Lined.{line_same}
 use Rattle.vlm_store.proofs.RoomShown.{room_shown, shown_room, is_taken, rooms_are, room_of_same, resource_room_kept, resource_room_made, has_room}
-use Rattle.std.proofs.Common.{◌≡◌, ◌∙◌, ◌++◌, ◌∷◌, [], ℕ, None, IsSome, ap, sym, refl, arith, nat_eq}
+use Rattle.std.proofs.Common.{◌≡◌, ◌∙◌, ◌++◌, ◌∷◌, [], ℕ, None, Some, IsSome, ap, sym, refl, arith, nat_eq, subst}
 use Rattle.std.specs.Map.{lookup}
 use Rattle.std.specs.Option.{option_map}
 use Rattle.slab.specs.Slab.{get as slot_of}
-use Rattle.indexmap.specs.IndexMap.{get, spare}
+use Rattle.indexmap.specs.IndexMap.{get, spare, Updates}
 use Rattle.vlm_links.proofs.Keeping.{vacant_unlisted}
 use Rattle.vlm_links.proofs.Rings.{same-handles, same-linked}
 use Rattle.vlm_words.specs.declared.resources.Queue.TheVariants.{Granted, Conversion, Waiting}
 use Rattle.vlm_records.specs.declared.handles.Place.TheVariants.{Queued}
 use Rattle.vlm_records.specs.declared.resources.Resource.{Resource}
-use Rattle.vlm_words.specs.Keys.{is_same_key, is_same_key-Decides}
+use Rattle.vlm_store.specs.declared.hashed.HashedKey.{HashedKey}
+use Rattle.vlm_store.specs.HashedKeys.{hashed, hashed_at, hashed_in, is_same_hashed}
+use Rattle.vlm_store.proofs.HashedKeys.{IsHashed-added, IsHashed-same, by_keys, hashed_by_face, hashed_is}
 use Rattle.vlm_store.specs.Records.{new_stored_resource, HasRoom, IsTaken}
-use Rattle.vlm_records.specs.Shown.{Face, face_in, lkid_of, new_face, order_links, row_in, room_in, but_queued, tally_in}
-use Rattle.vlm_store.specs.Store.{key_at, lkid_at, resource_of, tables, records_of}
+use Rattle.vlm_records.specs.Shown.{face_in, lkid_of, new_face, order_links, row_in, room_in, but_queued, tally_in}
+use Rattle.vlm_store.specs.Store.{lkid_at, resource_of, tables, records_of}
 use Rattle.vlm_records.specs.Armed.{armed_list_in}
 use Rattle.vlm_records.proofs.Arming.{armed_resources}
-use Rattle.vlm_store.proofs.Indexing.{Indexes-added, Indexes-same}
+use Rattle.vlm_store.proofs.Indexing.{Indexes-same}
 use Rattle.vlm_store.proofs.Kept.{no_resource, on_ok, on_err}
 use Rattle.vlm_store.proofs.Layouts.{HasResource-order, resource_made}
-use Rattle.vlm_records.proofs.Making.{face_by_face, face_is, key_by_face, none_handles, there_by_face, whole_grown, reserved_lists, resources_handles, resources_placed, resources_tallied}
-use Rattle.vlm_store.specs.Kept.{beside_shown}
-use Rattle.vlm_store.proofs.Kinship.{queued_below, queued_named, queued_owned, queued_processes}
+use Rattle.vlm_records.proofs.Making.{face_by_face, face_is, none_handles, there_by_face, whole_grown, reserved_lists, resources_handles, resources_placed, resources_tallied}
+use Rattle.vlm_store.specs.Kept.{beside_shown, found_in}
+use Rattle.vlm_store.proofs.Kinship.{records_keys, queued_below, queued_named, queued_owned, queued_processes}
 use Rattle.vlm_records.proofs.Places.{same_eq}
 use Rattle.vlm_store.proofs.store.Store.add_resource.Goals as goal
 
@@ -43,11 +47,16 @@ invariant_of-self-2 c =
     let at = c.add_resource.result in
     let added = c.add_resource.ensures in
     let handles1 = same-handles order_links s.queues.resources c.reserve_one.new.records s.order kept.linked (λ x _. same x) in
-    let indexes1 = Indexes-same (get is_same_key s.resource_index) (get is_same_key c.reserve_one.new.index) (key_at s.queues) (key_at q1)
-    (λ k. ap (λ es. lookup (is_same_key k) es) c.reserve_one.ensures.index) (λ r. ap (option_map (λ (x : Resource). x.key)) (same r)) kept.resources in
-    let fresh : get is_same_key c.reserve_one.new.index c.args.site.now.key ≡ None =
-    ap (λ es. lookup (is_same_key c.args.site.now.key) es) c.reserve_one.ensures.index
-    ∙ no_resource s.queues s.order (beside_shown s) kept.placed kept.linked kept.ordered (get is_same_key s.resource_index) kept.resources c.args.site.now.key (rw (← c.self.view_is) at c.requires) in
+    let key = c.args.site.now.key in
+    let found = hashed (hash_key s.keys) key in
+    let hash_known : c.args.hash ≡ hash_key s.keys key = (rw (← c.self.view_is) at c.requires.hash) ∙ ap (λ (h : HashKeys). hash_key h key) (records_keys (tables s.queues s.order (beside_shown s))) in
+    let hash_is : record { key = key; hash = c.args.hash } ≡ found = ap (λ (n : ℕ). record { key = key; hash = n }) hash_known in
+    let indexes1 = IsHashed-same (hash_key s.keys) (get is_same_hashed s.resource_index) (get is_same_hashed c.reserve_one.new.index) (hashed_at s.queues) (hashed_at q1)
+    (λ k. ap (λ es. lookup (is_same_hashed k) es) c.reserve_one.ensures.index) (λ r. ap (option_map hashed_in) (same r)) kept.resources in
+    let fresh : get is_same_hashed c.reserve_one.new.index found ≡ None =
+    ap (λ es. lookup (is_same_hashed found) es) c.reserve_one.ensures.index
+    ∙ no_resource s.queues s.order (beside_shown s) kept.placed kept.linked kept.ordered (found_in s) (by_keys (hash_key s.keys) (get is_same_hashed s.resource_index) s.queues kept.resources) key
+    (rw (← c.self.view_is) at c.requires.new) in
     record {
       placed = added.laid_out.placed;
       tallied = added.laid_out.tallied;
@@ -57,11 +66,11 @@ invariant_of-self-2 c =
       ordered = whole_grown order_links c.reserve_one.new.records q'.resources s.order c.add_resource.new.order at (λ r there. rw handles1 (kept.ordered r (rw (same r) at there))) added.order
           (λ r differs. there_by_face (slot_of q'.resources r) (slot_of c.reserve_one.new.records r) (added.faces r differs));
       locks = Indexes-same (get nat_eq s.lock_index) (get nat_eq s.lock_index) (lkid_at s.queues) (lkid_at q') (λ k. refl) (λ x. ap (λ l. option_map lkid_of (slot_of l x)) added.locks) kept.locks;
-      resources = Indexes-added is_same_key is_same_key-Decides c.reserve_one.new.index c.insert.new.self c.args.site.now.key (key_at q1) (key_at q') at
-          (rw c.of-res.ensures at (on_ok c.insert.result _ (c.insert.ensures.succeeds (omega (arith, c.in_ok-reserve_one.ensures.find))) c.insert.ensures.updates))
-          (ap (option_map (λ (x : Resource). x.key)) added.fresh) (key_by_face (slot_of q'.resources at) ∙ ap (option_map (λ (f : Face). f.key)) added.face)
-          (λ r differs. key_by_face (slot_of q'.resources r) ∙ ap (option_map (λ (f : Face). f.key)) (added.faces r differs) ∙ sym (key_by_face (slot_of c.reserve_one.new.records r)))
-          fresh indexes1;
+      resources = IsHashed-added (hash_key s.keys) c.reserve_one.new.index c.insert.new.self (hashed_at q1) (hashed_at q') at
+          (λ r differs. hashed_by_face (slot_of q'.resources r) (slot_of c.reserve_one.new.records r) (added.faces r differs)) indexes1 key
+          (subst (λ (k : HashedKey). Updates is_same_hashed c.reserve_one.new.index c.insert.new.self k (Some at)) hash_is
+          (rw c.of-res.ensures at (on_ok c.insert.result _ (c.insert.ensures.succeeds (omega (arith, c.in_ok-reserve_one.ensures.find))) c.insert.ensures.updates)))
+          (ap (option_map hashed_in) added.fresh) (hashed_is (slot_of q'.resources at) (new_face c.args.serial c.args.site.now c.args.hash) added.face ∙ ap (λ (k : HashedKey). Some k) hash_is) fresh;
       owned = queued_owned s.processes s.queues.locks q'.locks (same_eq but_queued s.queues.locks q'.locks added.locks) None kept.owned;
       below = queued_below s.processes s.queues.locks q'.locks (same_eq but_queued s.queues.locks q'.locks added.locks) None kept.below;
       named = queued_named s.processes s.queues.locks q'.locks (same_eq but_queued s.queues.locks q'.locks added.locks) kept.named;
@@ -88,7 +97,7 @@ returns-clause-added c =
     let l' = tables q' s'.order (beside_shown s') in
     let made : resource_of l' at ≡ new_stored_resource at c.args.serial c.args.site.now =
     rw (
-      face_is (slot_of q'.resources at) (new_face c.args.serial c.args.site.now) added.face,
+      face_is (slot_of q'.resources at) (new_face c.args.serial c.args.site.now c.args.hash) added.face,
       added.handles (Queued at Granted) ∙ lists1 (Queued at Granted) ∙ none_handles s.queues at Granted vacant,
       added.handles (Queued at Conversion) ∙ lists1 (Queued at Conversion) ∙ none_handles s.queues at Conversion vacant,
       added.handles (Queued at Waiting) ∙ lists1 (Queued at Waiting) ∙ none_handles s.queues at Waiting vacant,
@@ -97,7 +106,7 @@ returns-clause-added c =
     (resource_made (tables s.queues s.order (beside_shown s)) l' at (new_stored_resource at c.args.serial c.args.site.now) (λ k. ap (λ l. row_in (slot_of l k)) added.locks) (λ p. added.handles p ∙ lists1 p)
     (λ r differs. face_by_face (slot_of q'.resources r) (slot_of c.reserve_one.new.records r) (added.faces r differs) ∙ ap face_in (same r))
     (vacant_unlisted order_links s.queues.resources s.order kept.linked at vacant) (added.order ∙ ap (λ ks. ks ++ at ∷ []) handles1) made
-    (queued_processes s.processes s.queues.locks q'.locks (same_eq but_queued s.queues.locks q'.locks added.locks) s.process_order kept.owned kept.below)
+    (queued_processes s.processes s.queues.locks q'.locks (same_eq but_queued s.queues.locks q'.locks added.locks) s.process_order kept.owned kept.below) refl
     ∙ ap (λ r. record (records_of old) { resources = (records_of old).resources ++ new_stored_resource at c.args.serial c.args.site.now ∷ []; room = r })
     (room_shown (λ a b. b ≡ record a { resources = b.resources }) old l'
     (rooms_are _ _ _ _ _ _ (room_of_same s.queues.locks q'.locks (spare s.lock_index) (ap room_in added.locks)) refl refl)))

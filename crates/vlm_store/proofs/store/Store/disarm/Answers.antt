@@ -1,11 +1,13 @@
+use Rattle.vlm_store.specs.Index.{hash_key}
 use Rattle.vlm_store.proofs.Lined.{line_disarmed}
 use Rattle.std.proofs.Common.{None, ◌∙◌, ap, map, refl, nat_eq}
 use Rattle.indexmap.specs.IndexMap.{get}
-use Rattle.vlm_words.specs.Keys.{is_same_key}
+use Rattle.vlm_store.specs.HashedKeys.{hashed_at, is_same_hashed}
+use Rattle.vlm_store.proofs.HashedKeys.{IsHashed-same}
 use Rattle.vlm_store.specs.Kept.{beside_shown}
 use Rattle.vlm_store.specs.Records.{disarming}
 use Rattle.vlm_records.specs.Shown.{but_queues, handles_at, rows}
-use Rattle.vlm_store.specs.Store.{key_at, lkid_at, tables, under_handle}
+use Rattle.vlm_store.specs.Store.{lkid_at, tables, under_handle}
 use Rattle.vlm_store.proofs.Indexing.{Indexes-same}
 use Rattle.vlm_store.proofs.Kept.{faces_same}
 use Rattle.vlm_store.proofs.Kinship.{queued_below, queued_lkids, queued_named, queued_owned, queued_processes}
@@ -34,7 +36,7 @@ invariant_of-self c =
       linked = order_linked but_queues (λ r. refl) s.queues.resources q'.resources rest s.order kept.linked;
       ordered = order_whole but_queues (λ r. refl) s.queues.resources q'.resources rest s.order kept.linked kept.ordered;
       locks = Indexes-same (get nat_eq s.lock_index) (get nat_eq s.lock_index) (lkid_at s.queues) (lkid_at q') (λ k. refl) (queued_lkids s.processes s.queues.locks q'.locks c.disarm.ensures.kept.kin) kept.locks;
-      resources = Indexes-same (get is_same_key s.resource_index) (get is_same_key s.resource_index) (key_at s.queues) (key_at q') (λ k. refl) (keys_same but_queues (λ r. refl) s.queues.resources q'.resources rest) kept.resources;
+      resources = IsHashed-same (hash_key s.keys) (get is_same_hashed s.resource_index) (get is_same_hashed s.resource_index) (hashed_at s.queues) (hashed_at q') (λ k. refl) (keys_same but_queues (λ r. refl) s.queues.resources q'.resources rest) kept.resources;
       owned = queued_owned s.processes s.queues.locks q'.locks c.disarm.ensures.kept.kin None kept.owned;
       below = queued_below s.processes s.queues.locks q'.locks c.disarm.ensures.kept.kin None kept.below;
       named = queued_named s.processes s.queues.locks q'.locks c.disarm.ensures.kept.kin kept.named;
@@ -56,4 +58,4 @@ returns c =
     (λ p. ap (map (under_handle (rows q'))) (is.handles p) ∙ disarming-under_handle (rows s.queues) (rows q') c.args.lock is.row is.rows p (handles_at s.queues p))
     (order_handles but_queues (λ r. refl) s.queues.resources q'.resources rest s.order c.self.invariant.linked)
     (queued_processes s.processes s.queues.locks q'.locks c.disarm.ensures.kept.kin s.process_order c.self.invariant.owned c.self.invariant.below)
-    (queues_room s q' c.disarm.ensures.kept.locks_room c.disarm.ensures.kept.resources_room))
+    (queues_room s q' c.disarm.ensures.kept.locks_room c.disarm.ensures.kept.resources_room) refl)

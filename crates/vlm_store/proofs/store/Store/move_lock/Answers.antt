@@ -1,12 +1,14 @@
+use Rattle.vlm_store.specs.Index.{hash_key}
 use Rattle.vlm_store.proofs.RoomShown.{queues_room}
 use Rattle.std.proofs.Common.{None, ◌∙◌, ◌++◌, ◌∷◌, [], ap, refl, nat_eq}
 use Rattle.indexmap.specs.IndexMap.{get}
 use Rattle.vlm_links.specs.Lists.{without}
-use Rattle.vlm_words.specs.Keys.{is_same_key}
+use Rattle.vlm_store.specs.HashedKeys.{hashed_at, is_same_hashed}
+use Rattle.vlm_store.proofs.HashedKeys.{IsHashed-same}
 use Rattle.vlm_records.specs.Shown.{but_in_line, but_queued, but_queues, handles_at, named_row, rows}
 use Rattle.vlm_records.proofs.Arming.{armed_kin}
 use Rattle.vlm_records.proofs.Places.{same_then, there_through}
-use Rattle.vlm_store.specs.Store.{key_at, lkid_at, tables}
+use Rattle.vlm_store.specs.Store.{lkid_at, tables}
 use Rattle.vlm_store.specs.Records.{moving}
 use Rattle.vlm_store.proofs.Indexing.{Indexes-same}
 use Rattle.vlm_store.proofs.Kept.{faces_same, place_there, stored_there}
@@ -92,7 +94,7 @@ invariant_of-self c =
       linked = order_linked but_queues (λ r. refl) s.queues.resources q3.resources rest s.order kept.linked;
       ordered = order_whole but_queues (λ r. refl) s.queues.resources q3.resources rest s.order kept.linked kept.ordered;
       locks = Indexes-same (get nat_eq s.lock_index) (get nat_eq s.lock_index) (lkid_at s.queues) (lkid_at q3) (λ k. refl) (queued_lkids s.processes s.queues.locks locks3 queued) kept.locks;
-      resources = Indexes-same (get is_same_key s.resource_index) (get is_same_key s.resource_index) (key_at s.queues) (key_at q3) (λ k. refl) (keys_same but_queues (λ r. refl) s.queues.resources q3.resources rest) kept.resources;
+      resources = IsHashed-same (hash_key s.keys) (get is_same_hashed s.resource_index) (get is_same_hashed s.resource_index) (hashed_at s.queues) (hashed_at q3) (λ k. refl) (keys_same but_queues (λ r. refl) s.queues.resources q3.resources rest) kept.resources;
       owned = queued_owned s.processes s.queues.locks locks3 queued None kept.owned;
       below = queued_below s.processes s.queues.locks locks3 queued None kept.below;
       named = queued_named s.processes s.queues.locks locks3 queued kept.named;
@@ -128,7 +130,7 @@ returns c =
     (handles3 c.args.to ∙ moved.here ∙ ap (λ ks. without c.args.lock ks ++ c.args.lock ∷ []) (handles1 c.args.to)) (λ p differs. handles3 p ∙ moved.elsewhere p differs ∙ ap (without c.args.lock) (handles1 p)))
     (order_handles but_queues (λ r. refl) s.queues.resources q3.resources rest s.order kept.linked)
     (queued_processes s.processes s.queues.locks locks3 queued s.process_order kept.owned kept.below)
-    (queues_room s q3 (c.join_line.ensures.room ∙ c.move_to.ensures.kept.locks_room ∙ c.leave_line.ensures.room) c.move_to.ensures.kept.resources_room))
+    (queues_room s q3 (c.join_line.ensures.room ∙ c.move_to.ensures.kept.locks_room ∙ c.leave_line.ensures.room) c.move_to.ensures.kept.resources_room) refl)
 
 pub move_to-requires-clause-laid_out : goal.move_to-requires-clause-laid_out
 move_to-requires-clause-laid_out c = record {

@@ -1,3 +1,4 @@
+use Rattle.vlm_store.specs.Index.{hash_key}
 use Rattle.vlm_store.proofs.Lined.{line_below, line_kin, line_own, line_queued, line_removed}
 use Rattle.vlm_store.proofs.RoomShown.{room_shown, is_given_back, rooms_are, room_of_same}
 use Rattle.std.proofs.Common.{◌≡◌, ◌≢◌, ◌∙◌, [], map, None, ap, sym, refl, nat_eq, ◌+◌, ℕ}
@@ -6,12 +7,13 @@ use Rattle.std.specs.Option.{option_map}
 use Rattle.slab.specs.Slab.{get as slot_of}
 use Rattle.indexmap.specs.IndexMap.{get, spare}
 use Rattle.vlm_links.specs.Lists.{without}
-use Rattle.vlm_words.specs.Keys.{is_same_key}
+use Rattle.vlm_store.specs.HashedKeys.{hashed_at, is_same_hashed}
+use Rattle.vlm_store.proofs.HashedKeys.{IsHashed-same}
 use Rattle.vlm_records.specs.Kin.{below_handles, pid_at}
 use Rattle.vlm_store.specs.Kept.{beside_shown}
 use Rattle.vlm_store.specs.Records.{leaving, process_without_lock, with_lists, IsGivenBack, without_stored_lock}
 use Rattle.vlm_records.specs.Shown.{but_kin, but_queued, but_queues, handles_at, lkid_of, rows}
-use Rattle.vlm_store.specs.Store.{key_at, lkid_at, records_of, tables}
+use Rattle.vlm_store.specs.Store.{lkid_at, records_of, tables}
 use Rattle.vlm_records.proofs.Arming.{armed_kin}
 use Rattle.vlm_store.proofs.Indexing.{Indexes-removed, Indexes-same}
 use Rattle.vlm_store.proofs.Kept.{faces_same}
@@ -64,10 +66,10 @@ invariant_of-self c =
       linked = order_linked but_queues (λ r. refl) s.queues.resources q'.resources removed.rest s.order kept.linked;
       ordered = order_whole but_queues (λ r. refl) s.queues.resources q'.resources removed.rest s.order kept.linked kept.ordered;
       locks =
-          Indexes-removed nat_eq unsigned_Decides s.lock_index c.swap_remove.new.self c.index.result.now.row.lkid (lkid_at s.queues) (lkid_at q') c.args.lock c.swap_remove.ensures.updates
+          Indexes-removed nat_eq unsigned_Decides s.lock_index c.swap_remove.new.self c.index.result.now.row.lkid (lkid_at s.queues) (lkid_at q') c.args.lock (rw c.lkid-lkid.ensures at c.swap_remove.ensures.updates)
           (ap (option_map lkid_of) (rw c.slot-at.ensures at c.index.ensures)) (ap (option_map lkid_of) removed.gone)
           (left_lkids s kept c.args.lock none c.leave_parent.new.locks c.leave_process.new.locks q'.locks c.leave_process.new.processes parent.below parent.handles parent.rest process.owned process.handles process.relinks process.rest removed.gone gone_kin) kept.locks;
-      resources = Indexes-same (get is_same_key s.resource_index) (get is_same_key s.resource_index) (key_at s.queues) (key_at q') (λ k. refl) (keys_same but_queues (λ r. refl) s.queues.resources q'.resources removed.rest) kept.resources;
+      resources = IsHashed-same (hash_key s.keys) (get is_same_hashed s.resource_index) (get is_same_hashed s.resource_index) (hashed_at s.queues) (hashed_at q') (λ k. refl) (keys_same but_queues (λ r. refl) s.queues.resources q'.resources removed.rest) kept.resources;
       owned = left_owned s kept c.args.lock none c.leave_parent.new.locks c.leave_process.new.locks q'.locks c.leave_process.new.processes parent.below parent.handles parent.rest process.owned process.handles process.relinks process.rest removed.gone gone_kin;
       below = left_below s kept c.args.lock none c.leave_parent.new.locks c.leave_process.new.locks q'.locks c.leave_process.new.processes parent.below parent.handles parent.rest process.owned process.handles process.relinks process.rest removed.gone gone_kin;
       named = left_named s kept c.args.lock none c.leave_parent.new.locks c.leave_process.new.locks q'.locks c.leave_process.new.processes parent.below parent.handles parent.rest process.owned process.handles process.relinks process.rest removed.gone gone_kin;
@@ -102,7 +104,7 @@ returns-clause-removed c =
     (lists_changed_beside old new (leaving c.args.lock) (faces_same s.queues.resources q'.resources removed.rest)
     (leaving-under_handle (rows s.queues) (rows q') (handles_at s.queues) (handles_at q') c.args.lock (λ k differs. removed.rows k differs ∙ kin_rows s.queues q2.locks kin k)
     (λ p. removed.handles p ∙ ap (without c.args.lock) (kin_handles s.queues q2.locks kin kept.placed p)))
-    (order_handles but_queues (λ r. refl) s.queues.resources q'.resources removed.rest s.order kept.linked)
+    (order_handles but_queues (λ r. refl) s.queues.resources q'.resources removed.rest s.order kept.linked) refl
     ∙ ap (λ ps. record (with_lists (leaving c.args.lock) (records_of old)) { processes = ps; room = (records_of new).room })
     (left_processes s kept c.args.lock none c.leave_parent.new.locks c.leave_process.new.locks q'.locks c.leave_process.new.processes parent.below parent.handles parent.rest process.owned process.handles process.relinks process.rest removed.gone gone_kin ∙ ap (map (process_without_lock c.args.lock)) (sym (records_processes old)))
     ∙ ap (λ r. record (without_stored_lock c.args.lock (records_of old)) { room = r })

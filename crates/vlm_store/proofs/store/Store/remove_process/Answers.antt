@@ -91,7 +91,7 @@ returns-clause-removed c =
     rw (← c.self.view_is)
     (processes_changed s.queues s.order (beside_shown s) (beside_shown (record s { processes = new; process_order = c.take_out.new.order; process_index = c.swap_remove.new.self; living = c.unmark.new.self; pending = c.unmark-2.new.self })) (without_process c.args.at)
     (process_removed (holding s.processes s.queues.locks s.process_order) (holding new s.queues.locks c.take_out.new.order) (λ k. refl) c.args.at
-    (λ p differs. face_by_order (get new p) (get s.processes p) (left.others p differs)) (λ p _. process_own_handles s.processes new s.queues.locks owns p) left.order))
+    (λ p differs. face_by_order (get new p) (get s.processes p) (left.others p differs)) (λ p _. process_own_handles s.processes new s.queues.locks owns p) left.order) refl)
 
 pub returns-clause-given_back : goal.returns-clause-given_back
 returns-clause-given_back c =

@@ -1,3 +1,4 @@
+use Rattle.vlm_store.specs.Index.{hash_key}
 use Rattle.vlm_store.proofs.Lined.{line_same}
 use Rattle.vlm_store.specs.Records.{IsGivenBack, without_resource}
 use Rattle.vlm_store.proofs.RoomShown.{room_shown, is_given_back, rooms_are, room_of_same}
@@ -6,20 +7,20 @@ use Rattle.std.specs.Option.{option_map}
 use Rattle.slab.specs.Slab.{get as slot_of}
 use Rattle.indexmap.specs.IndexMap.{get, spare}
 use Rattle.vlm_records.specs.declared.handles.Place.TheVariants.{Queued}
-use Rattle.vlm_records.specs.declared.resources.Resource.{Resource}
-use Rattle.vlm_words.specs.Keys.{is_same_key, is_same_key-Decides}
-use Rattle.vlm_records.specs.Shown.{Face, handles_at, lkid_of, order_links, row_in, rows, room_in, but_queued}
-use Rattle.vlm_store.specs.Store.{key_at, under_handle, lkid_at, tables}
-use Rattle.vlm_store.proofs.Indexing.{Indexes-removed, Indexes-same}
+use Rattle.vlm_store.specs.HashedKeys.{hashed_at, hashed_in}
+use Rattle.vlm_store.proofs.HashedKeys.{IsHashed-removed, hashed_by_face}
+use Rattle.vlm_records.specs.Shown.{handles_at, lkid_of, order_links, row_in, rows, room_in, but_queued}
+use Rattle.vlm_store.specs.Store.{under_handle, lkid_at, tables}
+use Rattle.vlm_store.proofs.Indexing.{Indexes-same}
 use Rattle.vlm_store.proofs.Layouts.{HasResource-order, locks_at-seen, resource_removed}
-use Rattle.vlm_records.proofs.Making.{face_by_face, key_by_face, map-nil, there_by_face, whole_left}
+use Rattle.vlm_records.proofs.Making.{face_by_face, map-nil, there_by_face, whole_left}
 use Rattle.vlm_store.specs.Kept.{beside_shown, records_shown}
 use Rattle.vlm_store.proofs.Kinship.{queued_below, queued_named, queued_owned, queued_processes}
 use Rattle.vlm_records.proofs.Places.{same_eq}
 use Rattle.vlm_store.proofs.store.Store.remove_resource.Goals as goal
 
-pub index-requires : goal.index-requires
-index-requires c =
+pub index-resource-requires : goal.index-resource-requires
+index-resource-requires c =
     let s = c.self.inside in
     rw c.slot.ensures (c.self.invariant.linked.present c.args.res (HasResource-order (tables s.queues s.order (beside_shown s)) c.args.res (rw (← c.self.view_is) at c.requires.there)))
 
@@ -46,9 +47,9 @@ invariant_of-self c =
       ordered = whole_left order_links s.queues.resources q'.resources s.order c.remove_resource.new.order c.args.res kept.ordered gone.order gone.gone
           (λ r differs. there_by_face (slot_of q'.resources r) (slot_of s.queues.resources r) (gone.faces r differs));
       locks = Indexes-same (get nat_eq s.lock_index) (get nat_eq s.lock_index) (lkid_at s.queues) (lkid_at q') (λ k. refl) (λ x. ap (λ l. option_map lkid_of (slot_of l x)) gone.locks) kept.locks;
-      resources = Indexes-removed is_same_key is_same_key-Decides s.resource_index c.swap_remove.new.self c.index.result.now.key (key_at s.queues) (key_at q') c.args.res c.swap_remove.ensures.updates
-          (ap (option_map (λ (x : Resource). x.key)) (rw c.slot.ensures at c.index.ensures)) (ap (option_map (λ (x : Resource). x.key)) gone.gone)
-          (λ r differs. key_by_face (slot_of q'.resources r) ∙ ap (option_map (λ (f : Face). f.key)) (gone.faces r differs) ∙ sym (key_by_face (slot_of s.queues.resources r))) kept.resources;
+      resources = IsHashed-removed (hash_key s.keys) s.resource_index c.swap_remove.new.self (hashed_at s.queues) (hashed_at q') c.args.res
+          (λ r differs. hashed_by_face (slot_of q'.resources r) (slot_of s.queues.resources r) (gone.faces r differs))
+          kept.resources (hashed_in c.index-resource.result.now) c.swap_remove.ensures.updates (ap (option_map hashed_in) (rw c.slot.ensures at c.index-resource.ensures)) (ap (option_map hashed_in) gone.gone);
       owned = queued_owned s.processes s.queues.locks q'.locks (same_eq but_queued s.queues.locks q'.locks gone.locks) None kept.owned;
       below = queued_below s.processes s.queues.locks q'.locks (same_eq but_queued s.queues.locks q'.locks gone.locks) None kept.below;
       named = queued_named s.processes s.queues.locks q'.locks (same_eq but_queued s.queues.locks q'.locks gone.locks) kept.named;
@@ -68,7 +69,7 @@ returns-clause-removed c =
     rw (← c.self.view_is)
     (resource_removed (tables s.queues s.order (beside_shown s)) (tables q' s'.order (beside_shown s')) c.args.res (λ k. ap (λ l. row_in (slot_of l k)) gone.locks) gone.handles
     (λ r differs. face_by_face (slot_of q'.resources r) (slot_of s.queues.resources r) (gone.faces r differs)) gone.order
-    (queued_processes s.processes s.queues.locks q'.locks (same_eq but_queued s.queues.locks q'.locks gone.locks) s.process_order c.self.invariant.owned c.self.invariant.below)
+    (queued_processes s.processes s.queues.locks q'.locks (same_eq but_queued s.queues.locks q'.locks gone.locks) s.process_order c.self.invariant.owned c.self.invariant.below) refl
     ∙ ap (λ r. record (records_shown s) { resources = without_resource c.args.res (records_shown s).resources; room = r })
     (room_shown (λ a b. b ≡ record a { resources = b.resources }) (tables s.queues s.order (beside_shown s)) (tables q' s'.order (beside_shown s'))
     (rooms_are _ _ _ _ _ _ (room_of_same s.queues.locks q'.locks (spare s.lock_index) (ap room_in gone.locks)) refl refl)))

@@ -1,3 +1,4 @@
+use Rattle.vlm_store.specs.Index.{hash_key}
 use Rattle.vlm_store.proofs.Lined.{line_same}
 use Rattle.vlm_store.proofs.RoomShown.{queues_room}
 use Rattle.std.proofs.Common.{None, ap, refl, nat_eq}
@@ -6,10 +7,11 @@ use Rattle.slab.specs.Slab.{get as slot_of}
 use Rattle.indexmap.specs.IndexMap.{get}
 use Rattle.vlm_words.specs.declared.resources.Queue.TheVariants.{Granted, Conversion, Waiting}
 use Rattle.vlm_records.specs.declared.handles.Place.TheVariants.{Queued}
-use Rattle.vlm_words.specs.Keys.{is_same_key}
+use Rattle.vlm_store.specs.HashedKeys.{hashed_at, is_same_hashed}
+use Rattle.vlm_store.proofs.HashedKeys.{IsHashed-same}
 use Rattle.vlm_store.specs.Records.{StoredResource}
 use Rattle.vlm_records.specs.Shown.{but_value_block, face_in, lkid_of, room_in, row_in, but_queued}
-use Rattle.vlm_store.specs.Store.{key_at, lkid_at, tables}
+use Rattle.vlm_store.specs.Store.{lkid_at, tables}
 use Rattle.vlm_store.proofs.Indexing.{Indexes-same}
 use Rattle.vlm_store.proofs.Layouts.{HasResource-order, resource_written}
 use Rattle.vlm_store.proofs.Order.{keys_same, order_handles, order_linked, order_whole}
@@ -37,7 +39,7 @@ invariant_of-self c =
       linked = order_linked but_value_block (λ r. refl) s.queues.resources q'.resources set.rest s.order kept.linked;
       ordered = order_whole but_value_block (λ r. refl) s.queues.resources q'.resources set.rest s.order kept.linked kept.ordered;
       locks = Indexes-same (get nat_eq s.lock_index) (get nat_eq s.lock_index) (lkid_at s.queues) (lkid_at q') (λ k. refl) (λ x. ap (λ l. option_map lkid_of (slot_of l x)) set.locks) kept.locks;
-      resources = Indexes-same (get is_same_key s.resource_index) (get is_same_key s.resource_index) (key_at s.queues) (key_at q') (λ k. refl) (keys_same but_value_block (λ r. refl) s.queues.resources q'.resources set.rest) kept.resources;
+      resources = IsHashed-same (hash_key s.keys) (get is_same_hashed s.resource_index) (get is_same_hashed s.resource_index) (hashed_at s.queues) (hashed_at q') (λ k. refl) (keys_same but_value_block (λ r. refl) s.queues.resources q'.resources set.rest) kept.resources;
       owned = queued_owned s.processes s.queues.locks q'.locks (same_eq but_queued s.queues.locks q'.locks set.locks) None kept.owned;
       below = queued_below s.processes s.queues.locks q'.locks (same_eq but_queued s.queues.locks q'.locks set.locks) None kept.below;
       named = queued_named s.processes s.queues.locks q'.locks (same_eq but_queued s.queues.locks q'.locks set.locks) kept.named;
@@ -58,4 +60,4 @@ returns c =
     (λ r differs. ap face_in (set.faces r differs)) (order_handles but_value_block (λ r. refl) s.queues.resources q'.resources set.rest s.order c.self.invariant.linked)
     (λ lists. rw (set.face, lists (Queued c.args.res Granted), lists (Queued c.args.res Conversion), lists (Queued c.args.res Waiting)) refl)
     (queued_processes s.processes s.queues.locks q'.locks (same_eq but_queued s.queues.locks q'.locks set.locks) s.process_order c.self.invariant.owned c.self.invariant.below)
-    (queues_room s q' (ap room_in set.locks) set.resources_room))
+    (queues_room s q' (ap room_in set.locks) set.resources_room) refl)

@@ -1,3 +1,4 @@
+use Rattle.vlm_store.specs.Index.{hash_key}
 use Rattle.vlm_store.proofs.Lined.{empty_line}
 use Rattle.std.proofs.Common.{◌≡◌, ℕ, None, refl, ap, nat_eq}
 use Rattle.slab.specs.Slab.{get}
@@ -6,11 +7,11 @@ use Rattle.std.specs.Map.{lookup}
 use Rattle.std.specs.Option.{option_map}
 use Rattle.indexmap.specs.IndexMap.{get as found}
 use Rattle.vlm_records.specs.declared.queues.Queues.{Queues}
-use Rattle.vlm_records.specs.declared.resources.Resource.{Resource}
-use Rattle.vlm_words.specs.Keys.{is_same_key}
+use Rattle.vlm_store.specs.HashedKeys.{hashed_at, hashed_in, is_same_hashed}
+use Rattle.vlm_store.proofs.HashedKeys.{IsHashed-empty}
 use Rattle.vlm_records.specs.Kin.{pid_at, pid_of}
 use Rattle.vlm_store.proofs.Declaring.{empty_below, empty_named, empty_owned, empty_processes, empty_processes_linked, empty_processes_ordered}
-use Rattle.vlm_store.specs.Store.{key_at, lkid_at}
+use Rattle.vlm_store.specs.Store.{lkid_at}
 use Rattle.vlm_records.proofs.Arming.{empty_armed}
 use Rattle.vlm_store.proofs.Kept.{Indexes-empty, empty_handles, empty_linked, empty_ordered, empty_placed, empty_records, empty_tallied}
 use Rattle.vlm_store.specs.Pending.{is_of_nodes, waits_in}
@@ -31,15 +32,18 @@ invariant_of-result c =
       linked = empty_linked q no_locks no_resources c.new-3.ensures c.new-5.result c.new-5.ensures;
       ordered = empty_ordered q no_locks no_resources c.new-3.ensures c.new-5.result c.new-5.ensures;
       locks = Indexes-empty (found nat_eq c.new-8.result) (lkid_at q) (λ k. ap (lookup (nat_eq k)) c.new-8.ensures.empty) (λ at. ap (option_map lkid_of) (no_locks at));
-      resources = Indexes-empty (found is_same_key c.with_hasher.result) (key_at q) (λ k. ap (lookup (is_same_key k)) c.with_hasher.ensures.empty) (λ r. ap (option_map (λ (x : Resource). x.key)) (no_resources r));
+      resources =
+          let none : (r : ℕ) → hashed_at q r ≡ None = λ r. ap (option_map hashed_in) (no_resources r) in
+          IsHashed-empty (hash_key c.args.keys) (found is_same_hashed c.new-9.result) (hashed_at q)
+          (Indexes-empty (found is_same_hashed c.new-9.result) (hashed_at q) (λ k. ap (lookup (is_same_hashed k)) c.new-9.ensures.empty) none) none;
       owned = empty_owned c.new-6.result q.locks no_processes no_locks;
       below = empty_below c.new-6.result q.locks no_processes no_locks;
       named = empty_named c.new-6.result q.locks no_processes no_locks;
       processes_linked = empty_processes_linked c.new-6.result q.locks no_processes no_locks c.new-7.result c.new-7.ensures;
       processes_ordered = empty_processes_ordered c.new-6.result q.locks no_processes no_locks c.new-7.result c.new-7.ensures;
-      processes = Indexes-empty (found nat_eq c.new-9.result) (pid_at c.new-6.result) (λ k. ap (lookup (nat_eq k)) c.new-9.ensures.empty) (λ p. ap (option_map pid_of) (no_processes p));
-      marked = empty_marked waits_in c.new-6.result c.new-11.result no_processes c.new-11.ensures;
-      living = empty_marked is_of_nodes c.new-6.result c.new-10.result no_processes c.new-10.ensures;
+      processes = Indexes-empty (found nat_eq c.new-10.result) (pid_at c.new-6.result) (λ k. ap (lookup (nat_eq k)) c.new-10.ensures.empty) (λ p. ap (option_map pid_of) (no_processes p));
+      marked = empty_marked waits_in c.new-6.result c.new-12.result no_processes c.new-12.ensures;
+      living = empty_marked is_of_nodes c.new-6.result c.new-11.result no_processes c.new-11.ensures;
     }
 
 pub returns : goal.returns

@@ -1,0 +1,53 @@
+//! What is shown of a process.
+
+ghost use Rattle.std.specs.Prelude.{◌≡◌, slice_get};
+ghost use Rattle.std.specs.Option.{option_map};
+ghost use Rattle.vlm_records.specs.Kin.{plain_process};
+ghost use Rattle.vlm_store.specs.Plain.{plain_processes};
+ghost use Rattle.vlm_procs.specs.Views.{process_view};
+
+use vlm_store::{Process, Store};
+
+/// A process as it was declared, without the locks that it has.
+#[derive(Clone, Copy)]
+pub struct ProcessView {
+    /// Its identification.
+    pub pid: u32,
+    /// The node that declared it, 1 to 8.
+    pub node: u16,
+    /// Its UIC group.
+    pub group: u16,
+    /// Whether it has the privilege SYSLCK.
+    pub syslck: bool,
+    /// How many locks it may have, those that wait too.
+    pub quota: u16,
+    /// How many status blocks it has: they are numbered from 1.
+    pub blocks: usize,
+    /// How many ASTs are queued to it and not yet taken.
+    pub pending: usize,
+}
+
+impl ProcessView {
+    /// What is shown of the record of a process.
+    pub fn of(process: &Process) -> ProcessView
+        ensures { result ≡ process_view (plain_process process.now) }
+    {
+        ProcessView {
+            pid: process.pid,
+            node: (process.pid / 65_536) as u16,
+            group: process.authorization.group,
+            syslck: process.authorization.syslck,
+            quota: process.authorization.quota,
+            blocks: process.blocks.len(),
+            pending: process.asts.len(),
+        }
+    }
+}
+
+/// The process at an index, from 0, in order of making. None past the last. The cost grows with the index.
+pub fn process_at(store: &Store, index: usize) -> Option<ProcessView>
+    ensures { result ≡ option_map process_view (slice_get (plain_processes store.now) index) }
+{
+    let process = store.nth_process(index)?;
+    Some(ProcessView::of(process))
+}
