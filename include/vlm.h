@@ -164,6 +164,19 @@ typedef struct vlm_lksb {
     uint8_t tail[48];
 } vlm_lksb;
 
+/* A function of the library has this name too, so C++ and C say `struct vlm_process`. */
+struct vlm_process {
+    uint32_t size;
+    uint32_t pid;
+    uint32_t node;
+    uint32_t group;
+    uint32_t syslck;
+    uint32_t quota;
+    uint64_t blocks;  /* how many status blocks it has */
+    uint64_t pending; /* how many ASTs are pending for it */
+    uint32_t reserved[6];
+};
+
 /* A function of the library has this name too, so C++ and C say `struct vlm_resource`. */
 struct vlm_resource {
     uint32_t size;
@@ -252,6 +265,17 @@ VLM_ASSERT_AT(struct vlm_lksb, reserved, 12);
 VLM_ASSERT_AT(struct vlm_lksb, value, 16);
 VLM_ASSERT_AT(struct vlm_lksb, tail, 32);
 
+VLM_ASSERT(sizeof(struct vlm_process) == 64);
+VLM_ASSERT_AT(struct vlm_process, size, 0);
+VLM_ASSERT_AT(struct vlm_process, pid, 4);
+VLM_ASSERT_AT(struct vlm_process, node, 8);
+VLM_ASSERT_AT(struct vlm_process, group, 12);
+VLM_ASSERT_AT(struct vlm_process, syslck, 16);
+VLM_ASSERT_AT(struct vlm_process, quota, 20);
+VLM_ASSERT_AT(struct vlm_process, blocks, 24);
+VLM_ASSERT_AT(struct vlm_process, pending, 32);
+VLM_ASSERT_AT(struct vlm_process, reserved, 40);
+
 VLM_ASSERT(sizeof(struct vlm_resource) == 144);
 VLM_ASSERT_AT(struct vlm_resource, size, 0);
 VLM_ASSERT_AT(struct vlm_resource, serial, 4);
@@ -328,6 +352,8 @@ uint32_t vlm_search(vlm *handle, uint32_t node, uint32_t *victim);
 /* The readings: they change nothing. NORMAL, or BADPARAM and nothing is written. Places are numbered from 0. */
 uint32_t vlm_block(vlm *handle, uint32_t pid, uint32_t block, vlm_lksb *lksb);
 uint32_t vlm_pending(vlm *handle, uint32_t pid, size_t *count);
+size_t vlm_process_count(vlm *handle); /* 0 also on a handle with no lock manager */
+uint32_t vlm_process(vlm *handle, size_t place, struct vlm_process *process);
 size_t vlm_resource_count(vlm *handle); /* 0 also on a handle with no lock manager */
 uint32_t vlm_resource(vlm *handle, size_t place, struct vlm_resource *resource);
 uint32_t vlm_row(vlm *handle, size_t resource, uint32_t queue, size_t place, struct vlm_row *row);

@@ -114,26 +114,31 @@ static void wrong_words(vlm *handle) {
 static void wrong_readings(vlm *handle) {
     vlm_lksb lksb, lksb_before;
     vlm_ast ast, ast_before;
+    struct vlm_process process, process_before;
     struct vlm_resource resource, resource_before;
     struct vlm_row row, row_before;
     size_t count = 99;
     memset(&lksb, 0xA5, sizeof lksb);
     memset(&ast, 0xA5, sizeof ast);
+    memset(&process, 0xA5, sizeof process);
     memset(&resource, 0xA5, sizeof resource);
     memset(&row, 0xA5, sizeof row);
     for (int is_sized = 0; is_sized <= 1; is_sized++) {
         if (is_sized) {
             lksb.size = sizeof lksb;
+            process.size = sizeof process;
             resource.size = sizeof resource;
             row.size = sizeof row;
         }
         lksb_before = lksb;
         ast_before = ast;
+        process_before = process;
         resource_before = resource;
         row_before = row;
         EXPECT(vlm_block(handle, p, is_sized ? 3 : 1, &lksb), VLM_BADPARAM);
         EXPECT(vlm_block(handle, is_sized ? 12345 : p, 1, &lksb), VLM_BADPARAM);
         EXPECT(vlm_block(handle, p, 257, &lksb), VLM_BADPARAM);
+        EXPECT(vlm_process(handle, 2 * (size_t)is_sized, &process), VLM_BADPARAM);
         EXPECT(vlm_resource(handle, (size_t)is_sized, &resource), VLM_BADPARAM);
         EXPECT(vlm_row(handle, (size_t)is_sized, VLM_GRANTED, 0, &row), VLM_BADPARAM);
         EXPECT(vlm_row(handle, 0, VLM_GRANTED, (size_t)is_sized, &row), VLM_BADPARAM);
@@ -141,6 +146,7 @@ static void wrong_readings(vlm *handle) {
         EXPECT(vlm_take(handle, p, &ast), VLM_BADPARAM);
         HOLD(memcmp(&lksb, &lksb_before, sizeof lksb) == 0);
         HOLD(memcmp(&ast, &ast_before, sizeof ast) == 0);
+        HOLD(memcmp(&process, &process_before, sizeof process) == 0);
         HOLD(memcmp(&resource, &resource_before, sizeof resource) == 0);
         HOLD(memcmp(&row, &row_before, sizeof row) == 0);
     }
@@ -152,6 +158,7 @@ static void wrong_readings(vlm *handle) {
 static void closed_calls(vlm *handle) {
     vlm_lksb lksb = {.size = sizeof lksb};
     vlm_ast ast = {.size = sizeof ast, .kind = 9};
+    struct vlm_process process = {.size = sizeof process};
     struct vlm_resource resource = {.size = sizeof resource};
     struct vlm_row row = {.size = sizeof row};
     size_t count = 99;
@@ -168,9 +175,10 @@ static void closed_calls(vlm *handle) {
     EXPECT(vlm_search(handle, 1, &number), VLM_BADPARAM);
     EXPECT(vlm_block(handle, p, 1, &lksb), VLM_BADPARAM);
     EXPECT(vlm_pending(handle, p, &count), VLM_BADPARAM);
+    EXPECT(vlm_process(handle, 0, &process), VLM_BADPARAM);
     EXPECT(vlm_resource(handle, 0, &resource), VLM_BADPARAM);
     EXPECT(vlm_row(handle, 0, VLM_GRANTED, 0, &row), VLM_BADPARAM);
-    HOLD(vlm_resource_count(handle) == 0 && ast.kind == 9 && count == 99);
+    HOLD(vlm_process_count(handle) == 0 && vlm_resource_count(handle) == 0 && ast.kind == 9 && count == 99);
     HOLD(!handle->is_held && handle->core == NULL);
 }
 
@@ -216,8 +224,9 @@ static void refused_steps(vlm *handle) {
     EXPECT(vlm_open_with_keys(handle, keys, 16), VLM_BADPARAM);
 }
 
-/* P's lock is the only one, granted at EX, and no AST is pending. */
+/* P's lock is the only one, granted at EX, and no AST is pending; P was declared before Q. */
 static void is_as_it_was(vlm *handle) {
+    struct vlm_process process = {.size = sizeof process};
     struct vlm_row row = {.size = sizeof row};
     size_t count = 99;
     EXPECT(vlm_row(handle, 0, VLM_GRANTED, 0, &row), VLM_NORMAL);
@@ -226,6 +235,11 @@ static void is_as_it_was(vlm *handle) {
     EXPECT(vlm_row(handle, 0, VLM_WAITING, 0, &row), VLM_BADPARAM);
     EXPECT(vlm_pending(handle, p, &count), VLM_NORMAL);
     HOLD(count == 0 && vlm_resource_count(handle) == 1);
+    EXPECT(vlm_process(handle, 1, &process), VLM_NORMAL);
+    HOLD(process.pid == q && vlm_process_count(handle) == 2);
+    EXPECT(vlm_process(handle, 0, &process), VLM_NORMAL);
+    HOLD(process.size == sizeof process && process.pid == p && process.node == 1 && process.group == 1);
+    HOLD(process.syslck == 0 && process.quota == 1 && process.blocks == 2 && process.pending == 0);
 }
 
 int main(void) {

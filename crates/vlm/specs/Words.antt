@@ -12,9 +12,9 @@ use Rattle.vlm.specs.declared.words.Subject.{Subject}
 use Rattle.vlm.specs.declared.words.Task.{Task}
 use Rattle.vlm.specs.declared.words.Task.TheVariants.{Cluster, Play, Watch}
 
--- a command that needs one of its subcommands
+-- a command that needs one of its subcommands, or is asked for its version
 abbrev pub with_needed_subcommand : App → App
-with_needed_subcommand app = record app { top = record app.top { subcommand_required = true } }
+with_needed_subcommand app = record app { top = record app.top { has_version = true; subcommand_required = true } }
 
 -- the option of a number of nodes, from 1 to 8: two, where it is not given
 abbrev pub nodes_rule : Rule

@@ -15,6 +15,9 @@ use vlm_words::resources::Domain;
 const ABOUT: &str =
     "The lock manager of OpenVMS: lock modes, queues, value blocks, run from a script";
 
+// What `vlm --version` tells behind the name, and a package that is installed.
+const VERSION: &str = "0.1.0";
+
 const PLAY_ABOUT: &str =
     "Reads a script of lock requests from standard input and prints each answer";
 
@@ -222,6 +225,7 @@ fn program_commands<'a>(alloc: Global) -> Result<Command<'a>, AllocError>
     let watch = watch_command(alloc)?;
     Command::new(alloc, "vlm")
         .about(ABOUT)
+        .version(VERSION)
         .subcommand_required(true)
         .subcommand(play_command(alloc))?
         .subcommand(cluster)?

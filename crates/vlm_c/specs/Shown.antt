@@ -10,12 +10,15 @@ use Rattle.vlm_words.specs.declared.resources.Domain.TheVariants.{Group, System}
 use Rattle.vlm_words.specs.declared.resources.Queue.{Queue}
 use Rattle.vlm_words.specs.Conditions.{condition_number}
 use Rattle.vlm_words.specs.Padding.{padded}
-use Rattle.vlm_words.specs.State.{State, process_of}
+use Rattle.vlm_words.specs.State.{State, process_of as living_process}
 use Rattle.vlm_words.specs.StatusBlocks.{status_block_at}
+use Rattle.vlm_procs.specs.declared.views.ProcessView.{ProcessView}
+use Rattle.vlm_procs.specs.Views.{process_view}
 use Rattle.vlm_queue.specs.declared.views.ResourceView.{ResourceView}
 use Rattle.vlm_queue.specs.declared.views.RowView.{RowView}
 use Rattle.vlm_queue.specs.Views.{resource_view, row_shown}
 use Rattle.vlm_c.specs.declared.shown.VlmLksb.{VlmLksb}
+use Rattle.vlm_c.specs.declared.shown.VlmProcess.{VlmProcess}
 use Rattle.vlm_c.specs.declared.shown.VlmResource.{VlmResource}
 use Rattle.vlm_c.specs.declared.shown.VlmRow.{VlmRow}
 use Rattle.vlm_c.specs.Words.{queue_of}
@@ -42,7 +45,12 @@ block_shown (Some s) pid number = if nat_le number 255 then status_block_at s.pr
 -- how many ASTs are pending of the process, if the handle has a core and that the process
 abbrev pub pending_shown : Option State → ℕ → Option ℕ
 pending_shown None pid = None
-pending_shown (Some s) pid = option_map (λ p. length p.asts) (process_of s.processes pid)
+pending_shown (Some s) pid = option_map (λ p. length p.asts) (living_process s.processes pid)
+
+-- how many processes live
+abbrev pub process_count_shown : Option State → ℕ
+process_count_shown None = 0
+process_count_shown (Some s) = length s.processes
 
 -- how many resources have locks
 abbrev pub count_shown : Option State → ℕ
@@ -87,6 +95,25 @@ system_bit System = 1
 abbrev pub group_of : Domain → ℕ
 group_of (Group g) = g
 group_of System = 0
+
+-- the process as C sees it
+abbrev pub process_of : ProcessView → VlmProcess
+process_of p = record {
+  size = 64;
+  pid = p.pid;
+  node = p.node;
+  group = p.group;
+  syslck = bit p.syslck;
+  quota = p.quota;
+  blocks = p.blocks;
+  pending = p.pending;
+  reserved = replicate 6 0;
+}
+
+-- the living process at its place, if the handle has a core and that the process
+abbrev pub process_shown : Option State → ℕ → Option ProcessView
+process_shown None place = None
+process_shown (Some s) place = option_map process_view (slice_get s.processes place)
 
 -- the resource as C sees it
 abbrev pub resource_of : ResourceView → VlmResource

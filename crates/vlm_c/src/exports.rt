@@ -4,13 +4,14 @@ ghost use Rattle.std.specs.Prelude.{◌≡◌, ◌==◌, None, Some, length};
 ghost use Rattle.std.specs.Option.{option_map};
 ghost use Rattle.vlm_words.specs.declared.steps.Step.TheVariants.{Convert, Declare, Deq, Enq, Leave, Rundown, Search, SetValue, Take};
 ghost use Rattle.vlm_c.specs.Served.{AstReplied, Opened, OpenedIf, Replied, StatusReplied};
-ghost use Rattle.vlm_c.specs.Shown.{Told, block_shown, count_shown, lksb_of, pending_shown, resource_of, resource_shown, row_of, row_shown_at, sized};
+ghost use Rattle.vlm_c.specs.Shown.{Told, block_shown, count_shown, lksb_of, pending_shown, process_count_shown, process_of, process_shown, resource_of, resource_shown, row_of, row_shown_at, sized};
 ghost use Rattle.vlm_c.specs.Words.{conversion_of, declaration_of, dequeue_of, node_of, request_of, setting_of, take_of};
 
 use crate::handle::Vlm;
 use crate::replies::{VlmAst, answer_number, answer_status, status, write_ast};
 use crate::shown::{
-    LKSB_SIZE, RESOURCE_SIZE, ROW_SIZE, VlmLksb, VlmResource, VlmRow, lksb_of, resource_of, row_of,
+    LKSB_SIZE, PROCESS_SIZE, RESOURCE_SIZE, ROW_SIZE, VlmLksb, VlmProcess, VlmResource, VlmRow,
+    lksb_of, process_of, resource_of, row_of,
 };
 use crate::words::{
     VlmDeclaration, VlmDequeue, VlmRequest, VlmSetting, conversion_of, declaration_of, dequeue_of,
@@ -207,6 +208,34 @@ pub extern "C" fn vlm_pending(handle: &mut Vlm, pid: u32, count: &mut usize) -> 
     match handle.pending(pid) {
         Some(pending) => {
             *count = pending;
+            status(Cond::Normal)
+        }
+        None => status(Cond::Badparam),
+    }
+}
+
+/// How many processes live: 0 where the handle has no core. It answers no condition.
+#[unsafe(no_mangle)]
+pub extern "C" fn vlm_process_count(handle: &mut Vlm) -> usize
+    ensures told { result ≡ process_count_shown handle.old.slot.core }
+    ensures same { handle.new.slot.core ≡ handle.old.slot.core }
+{
+    handle.process_count()
+}
+
+/// Copies the living process at its place, from 0, out. NORMAL, or BADPARAM, and nothing is written, where none is there
+/// or the struct has another size.
+#[unsafe(no_mangle)]
+pub extern "C" fn vlm_process(handle: &mut Vlm, place: usize, out: &mut VlmProcess) -> u32
+    ensures told { Told (sized (out.old.size == 64) (option_map process_of (process_shown handle.old.slot.core place))) out.old out.new result }
+    ensures same { handle.new.slot.core ≡ handle.old.slot.core }
+{
+    if out.size != PROCESS_SIZE {
+        return status(Cond::Badparam);
+    }
+    match handle.process(place) {
+        Some(process) => {
+            *out = process_of(&process);
             status(Cond::Normal)
         }
         None => status(Cond::Badparam),

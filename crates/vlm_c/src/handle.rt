@@ -3,14 +3,14 @@
 ghost use Rattle.std.specs.Prelude.{◌≡◌, None, Some};
 ghost use Rattle.std.specs.Option.{is_some, option_map};
 ghost use Rattle.vlm_c.specs.Served.{Served};
-ghost use Rattle.vlm_c.specs.Shown.{block_shown, count_shown, pending_shown, resource_shown, row_shown_at};
+ghost use Rattle.vlm_c.specs.Shown.{block_shown, count_shown, pending_shown, process_count_shown, process_shown, resource_shown, row_shown_at};
 
 use crate::loose::Loose;
 use crate::slot::Slot;
 use crate::words::queue_of;
 use std::alloc::Global;
 use std::mem::replace;
-use vlm_core::{Core, ResourceView, RowView};
+use vlm_core::{Core, ProcessView, ResourceView, RowView};
 use vlm_words::blocks::Block;
 use vlm_words::conditions::Cond;
 use vlm_words::steps::{Answer, Step};
@@ -119,6 +119,32 @@ impl Vlm {
         let count = core.pending(pid);
         *self = Vlm::holding(core, alloc);
         count
+    }
+
+    /// How many processes live.
+    pub(crate) fn process_count(&mut self) -> usize
+        ensures told { result ≡ process_count_shown self.old.slot.core }
+        ensures same { self.new.slot.core ≡ self.old.slot.core }
+    {
+        let alloc = self.alloc;
+        let Some(core) = replace(self, Vlm::closed(alloc)).into_core() else {
+            return 0;
+        };
+        let count = core.process_count();
+        *self = Vlm::holding(core, alloc);
+        count
+    }
+
+    /// The living process at its place, if it is there.
+    pub(crate) fn process(&mut self, place: usize) -> Option<ProcessView>
+        ensures told { result ≡ process_shown self.old.slot.core place }
+        ensures same { self.new.slot.core ≡ self.old.slot.core }
+    {
+        let alloc = self.alloc;
+        let core = replace(self, Vlm::closed(alloc)).into_core()?;
+        let process = core.process_at(place);
+        *self = Vlm::holding(core, alloc);
+        process
     }
 
     /// How many resources have locks.

@@ -2,10 +2,10 @@
 
 ghost use Rattle.std.specs.Prelude.{◌≡◌, ◌≤◌, length};
 ghost use Rattle.vlm_words.specs.Padding.{padded};
-ghost use Rattle.vlm_c.specs.Shown.{lksb_of, mode_number, resource_of, row_of};
+ghost use Rattle.vlm_c.specs.Shown.{lksb_of, mode_number, process_of, resource_of, row_of};
 
 use std::mem::size_of;
-use vlm_core::{ResourceView, RowView};
+use vlm_core::{ProcessView, ResourceView, RowView};
 use vlm_words::blocks::Block;
 use vlm_words::modes::Mode;
 use vlm_words::names::Name;
@@ -14,6 +14,9 @@ use vlm_words::resources::Domain;
 /// The bytes of a [`VlmLksb`].
 pub(crate) const LKSB_SIZE: u32 = 80;
 
+/// The bytes of a [`VlmProcess`].
+pub(crate) const PROCESS_SIZE: u32 = 64;
+
 /// The bytes of a [`VlmResource`].
 pub(crate) const RESOURCE_SIZE: u32 = 144;
 
@@ -21,6 +24,8 @@ pub(crate) const RESOURCE_SIZE: u32 = 144;
 pub(crate) const ROW_SIZE: u32 = 32;
 
 const _: () = prove!(size_of::<VlmLksb>() == 80);
+
+const _: () = prove!(size_of::<VlmProcess>() == 64);
 
 const _: () = prove!(size_of::<VlmResource>() == 144);
 
@@ -42,6 +47,30 @@ pub struct VlmLksb {
     pub value: [u8; 16],
     /// The tail of a wide value block.
     pub tail: [u8; 48],
+}
+
+/// A living process.
+#[repr(C)]
+#[derive(Clone, Copy)]
+pub struct VlmProcess {
+    /// How many bytes this struct has.
+    pub size: u32,
+    /// Its identification.
+    pub pid: u32,
+    /// Its node, 1 to 8.
+    pub node: u32,
+    /// Its UIC group.
+    pub group: u32,
+    /// 1 where it has the privilege SYSLCK, or 0.
+    pub syslck: u32,
+    /// How many locks it may have.
+    pub quota: u32,
+    /// How many status blocks it has, numbered from 1.
+    pub blocks: u64,
+    /// How many ASTs are pending for it.
+    pub pending: u64,
+    /// 0.
+    pub reserved: [u32; 6],
 }
 
 /// A resource without its queues.
@@ -103,6 +132,23 @@ pub(crate) fn lksb_of(block: &Block) -> VlmLksb
         reserved: 0,
         value: block.value,
         tail: block.tail,
+    }
+}
+
+/// The process as C sees it.
+pub(crate) fn process_of(process: &ProcessView) -> VlmProcess
+    ensures { result ≡ process_of process.now }
+{
+    VlmProcess {
+        size: PROCESS_SIZE,
+        pid: process.pid,
+        node: u32::from(process.node),
+        group: u32::from(process.group),
+        syslck: u32::from(process.syslck),
+        quota: u32::from(process.quota),
+        blocks: process.blocks as u64,
+        pending: process.pending as u64,
+        reserved: [0; 6],
     }
 }
 

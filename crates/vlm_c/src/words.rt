@@ -186,11 +186,15 @@ fn which_of(lock: u32, block: u32) -> Option<Which>
     }
 }
 
-// Whether every word is 0.
+// Whether every word is 0. Each is read, whatever those before it are: so several are compared at once.
 fn is_blank(words: &[u32]) -> bool
     ensures { result ≡ is_blank words.now }
 {
-    words.iter().all(|word| *word == 0)
+    let mut blank = true;
+    for word in words {
+        blank &= *word == 0;
+    }
+    blank
 }
 
 // What is given where its mark is 1.

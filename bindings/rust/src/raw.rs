@@ -1,0 +1,163 @@
+//! The library's structs and calls as C has them, and a handle that owns a lock manager. All that is unsafe stands here.
+
+use std::ffi::c_void;
+use std::marker::PhantomData;
+use std::mem::size_of;
+use std::ptr;
+
+/// A handle of a lock manager, or of none.
+#[repr(C)]
+pub struct Vlm {
+    core: *mut c_void,
+    is_held: bool,
+}
+
+/// Defines structs of the library, each with its size as its first member and a rest of zeros, and pins the sizes
+/// that the header asserts.
+macro_rules! structs {
+    ($($name:ident $bytes:literal { $($field:ident: $kind:ty = $zero:expr),* $(,)? })*) => { $(
+        #[repr(C)]
+        pub struct $name {
+            pub size: u32,
+            $(pub $field: $kind,)*
+        }
+
+        impl $name {
+            /// All members 0 but the size.
+            pub fn new() -> $name {
+                $name { size: size_of::<$name>() as u32, $($field: $zero,)* }
+            }
+        }
+
+        const _: () = assert!(size_of::<$name>() == $bytes);
+    )* };
+}
+
+structs! {
+    Declaration 32 { node: u32 = 0, group: u32 = 0, syslck: u32 = 0, quota: u32 = 0, blocks: u32 = 0, reserved: [u32; 2] = [0; 2] }
+    Setting 96 {
+        pid: u32 = 0, block: u32 = 0, has_tail: u32 = 0, value: [u8; 16] = [0; 16], tail: [u8; 48] = [0; 48],
+        reserved: [u32; 4] = [0; 4],
+    }
+    Request 128 {
+        pid: u32 = 0, mode: u32 = 0, flags: u32 = 0, block: u32 = 0, lock: u32 = 0, lock_block: u32 = 0,
+        has_ast: u32 = 0, ast: u32 = 0, has_bast: u32 = 0, bast: u32 = 0, param: u32 = 0, reserved: [u32; 20] = [0; 20],
+    }
+    Dequeue 128 {
+        pid: u32 = 0, flags: u32 = 0, lock: u32 = 0, lock_block: u32 = 0, has_value: u32 = 0, has_tail: u32 = 0,
+        value: [u8; 16] = [0; 16], tail: [u8; 48] = [0; 48], reserved: [u32; 9] = [0; 9],
+    }
+    Lksb 80 { status: u32 = 0, lkid: u32 = 0, reserved: u32 = 0, value: [u8; 16] = [0; 16], tail: [u8; 48] = [0; 48] }
+    Process 64 {
+        pid: u32 = 0, node: u32 = 0, group: u32 = 0, syslck: u32 = 0, quota: u32 = 0, blocks: u64 = 0, pending: u64 = 0,
+        reserved: [u32; 6] = [0; 6],
+    }
+    Resource 144 {
+        serial: u32 = 0, parent: u32 = 0, is_system: u32 = 0, group: u32 = 0, value_valid: u32 = 0, tail_valid: u32 = 0,
+        name_len: u32 = 0, name: [u8; 32] = [0; 32], value: [u8; 16] = [0; 16], tail: [u8; 48] = [0; 48],
+        reserved: [u32; 4] = [0; 4],
+    }
+    Row 32 { lkid: u32 = 0, pid: u32 = 0, held: u32 = 0, want: u32 = 0, reserved: [u32; 3] = [0; 3] }
+    Ast 32 { kind: u32 = 0, routine: u32 = 0, param: u32 = 0, lkid: u32 = 0, reserved: [u32; 3] = [0; 3] }
+}
+
+extern "C" {
+    fn vlm_open_with_keys(handle: *mut Vlm, keys: *const u8, keys_len: usize) -> u32;
+    fn vlm_close(handle: *mut Vlm);
+    fn vlm_declare(handle: *mut Vlm, declaration: *const Declaration, pid: *mut u32) -> u32;
+    fn vlm_set_value(handle: *mut Vlm, setting: *const Setting) -> u32;
+    fn vlm_enq(
+        handle: *mut Vlm,
+        request: *const Request,
+        name: *const u8,
+        name_len: usize,
+        lkid: *mut u32,
+    ) -> u32;
+    fn vlm_convert(handle: *mut Vlm, request: *const Request, lkid: *mut u32) -> u32;
+    fn vlm_deq(handle: *mut Vlm, dequeue: *const Dequeue) -> u32;
+    fn vlm_take(handle: *mut Vlm, pid: u32, ast: *mut Ast) -> u32;
+    fn vlm_rundown(handle: *mut Vlm, pid: u32) -> u32;
+    fn vlm_leave(handle: *mut Vlm, node: u32) -> u32;
+    fn vlm_search(handle: *mut Vlm, node: u32, victim: *mut u32) -> u32;
+    fn vlm_block(handle: *mut Vlm, pid: u32, block: u32, lksb: *mut Lksb) -> u32;
+    fn vlm_pending(handle: *mut Vlm, pid: u32, count: *mut usize) -> u32;
+    fn vlm_process_count(handle: *mut Vlm) -> usize;
+    fn vlm_process(handle: *mut Vlm, place: usize, process: *mut Process) -> u32;
+    fn vlm_resource_count(handle: *mut Vlm) -> usize;
+    fn vlm_resource(handle: *mut Vlm, place: usize, resource: *mut Resource) -> u32;
+    fn vlm_row(handle: *mut Vlm, resource: usize, queue: u32, place: usize, row: *mut Row) -> u32;
+}
+
+/// A handle that owns its lock manager. Its calls take it by `&mut`, so that one at a time has it; it is no `Sync`.
+pub struct Handle {
+    raw: Vlm,
+    // (a raw pointer is neither `Send` nor `Sync`; what may be is said below)
+    _one_thread_at_a_time: PhantomData<*mut ()>,
+}
+
+// SAFETY: a handle is proved to be one that may go from thread to thread; `&mut self` orders its calls.
+unsafe impl Send for Handle {}
+
+impl Drop for Handle {
+    fn drop(&mut self) {
+        // SAFETY: the handle is as a call left it, and this is the only one that has it.
+        unsafe { vlm_close(&mut self.raw) }
+    }
+}
+
+/// Defines safe calls of the handle: each passes references to initialized values that don't overlap.
+macro_rules! calls {
+    ($($name:ident = $call:ident($($arg:ident: $kind:ty),*) -> $answer:ty;)*) => {
+        impl Handle { $(
+            pub fn $name(&mut self, $($arg: $kind),*) -> $answer {
+                // SAFETY: the handle is as a call left it, and `&mut self` gives it to this call alone. Each reference
+                // points to an initialized value of its type, and no two overlap.
+                unsafe { $call(&mut self.raw, $($arg),*) }
+            }
+        )* }
+    };
+}
+
+calls! {
+    declare = vlm_declare(declaration: &Declaration, pid: &mut u32) -> u32;
+    set_value = vlm_set_value(setting: &Setting) -> u32;
+    convert = vlm_convert(request: &Request, lkid: &mut u32) -> u32;
+    deq = vlm_deq(dequeue: &Dequeue) -> u32;
+    take = vlm_take(pid: u32, ast: &mut Ast) -> u32;
+    rundown = vlm_rundown(pid: u32) -> u32;
+    leave = vlm_leave(node: u32) -> u32;
+    search = vlm_search(node: u32, victim: &mut u32) -> u32;
+    block = vlm_block(pid: u32, block: u32, lksb: &mut Lksb) -> u32;
+    pending = vlm_pending(pid: u32, count: &mut usize) -> u32;
+    process_count = vlm_process_count() -> usize;
+    process = vlm_process(place: usize, process: &mut Process) -> u32;
+    resource_count = vlm_resource_count() -> usize;
+    resource = vlm_resource(place: usize, resource: &mut Resource) -> u32;
+    row = vlm_row(resource: usize, queue: u32, place: usize, row: &mut Row) -> u32;
+}
+
+impl Handle {
+    /// A handle whose lock manager hashes names by these keys, or the condition value that refused it.
+    pub fn open(keys: [u8; 16]) -> Result<Handle, u32> {
+        let raw = Vlm {
+            core: ptr::null_mut(),
+            is_held: false,
+        };
+        let mut handle = Handle {
+            raw,
+            _one_thread_at_a_time: PhantomData,
+        };
+        // SAFETY: a handle of zeros has no lock manager, and the keys are as many as is said.
+        let status = unsafe { vlm_open_with_keys(&mut handle.raw, keys.as_ptr(), keys.len()) };
+        if status == 1 {
+            Ok(handle)
+        } else {
+            Err(status)
+        }
+    }
+
+    pub fn enq(&mut self, request: &Request, name: &[u8], lkid: &mut u32) -> u32 {
+        // SAFETY: as in the calls above; a slice's pointer is not null where it is empty, too.
+        unsafe { vlm_enq(&mut self.raw, request, name.as_ptr(), name.len(), lkid) }
+    }
+}
