@@ -25,22 +25,21 @@ use crate::searching::is_deadlocked;
 use vlm_locks::Standing;
 use vlm_queue::{head, next};
 use vlm_store::laws::law_records_are_sound;
-use vlm_store::{LockAt, ResAt, Store};
-use vlm_words::locks::Row;
+use vlm_store::{LockAt, ResAt, Store, StoredRow};
 use vlm_words::resources::Queue;
 
 // The number of the request that a row wants, 0 where it wants none.
-fn wanted_number(row: &Row) -> u64
+fn wanted_number(row: &StoredRow) -> u64
     ensures { result ≡ wanted_number row.now }
 {
-    match row.want {
+    match row.want() {
         Some(request) => request.number,
         None => 0,
     }
 }
 
 /// Whether the request of a row was made after that of the best, if there is one.
-pub(crate) fn is_later(row: &Row, best: &Option<Standing>) -> bool
+pub(crate) fn is_later(row: &StoredRow, best: &Option<Standing>) -> bool
     ensures later { OnTrue result (IsLater row.now best.now) }
     ensures earlier { OnFalse result (IsNotLater row.now best.now) }
 {

@@ -10,7 +10,6 @@ ghost use Rattle.vlm_cycle.specs.Ranking.{CountsHeld, IsAbove, IsAboveAll, IsCou
 use crate::waiting::blocks_those_behind;
 use vlm_store::StoredRow;
 use vlm_words::flags::EnqFlags;
-use vlm_words::locks::Row;
 use vlm_words::modes::{Mode, compatible};
 
 /// What is above the ranks of some locks, whichever of them is left out.
@@ -122,27 +121,27 @@ impl Gauge {
     }
 
     /// What is above the ranks of the owners for whose locks the request of a row waits.
-    pub(crate) fn top(&self, row: &Row) -> u64
+    pub(crate) fn top(&self, row: &StoredRow) -> u64
         ensures held { (want : Request) → row.now.want ≡ Some want
             → has_flag (flag_bits want.flags) nodlckwt ≡ false
             → IsAboveAll self.now.held want.mode row.now.lkid result }
         ensures before { (want : Request) → row.now.want ≡ Some want
             → has_flag (flag_bits want.flags) nodlckwt ≡ false → self.now.before ≤ result }
     {
-        let Some(want) = &row.want else {
+        let Some(want) = row.want() else {
             return 0;
         };
         if want.flags.has(EnqFlags::NODLCKWT) {
             return 0;
         }
-        self.against(want.mode, row.lkid).max(self.before)
+        self.against(want.mode, row.lkid()).max(self.before)
     }
 
     /// Passes a request, whose owner has this rank.
-    pub(crate) fn pass(&mut self, row: &Row, rank: u32)
+    pub(crate) fn pass(&mut self, row: &StoredRow, rank: u32)
         ensures { PassesOne row.now rank self.old self.new }
     {
-        if blocks_those_behind(&row.want) {
+        if blocks_those_behind(&row.want()) {
             self.before = self.before.max(u64::from(rank) + 1);
         }
     }

@@ -65,7 +65,7 @@ pub(crate) fn standing_in(store: &Store, res: ResAt, queue: Queue, lock: LockAt)
 {
     Standing {
         lock,
-        row: store.lock_record(lock).row.row(),
+        row: store.lock_record(lock).row,
         res,
         queue,
     }

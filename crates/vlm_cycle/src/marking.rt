@@ -132,7 +132,7 @@ pub(crate) fn find_waited_for(store: &Store, scratch: &mut Scratch, waiting: &St
     if waiting.is_granted() {
         return;
     }
-    let Some(request) = waiting.row.want else {
+    let Some(request) = waiting.row.want() else {
         return;
     };
     if request.flags.has(EnqFlags::NODLCKWT) {
@@ -143,7 +143,7 @@ pub(crate) fn find_waited_for(store: &Store, scratch: &mut Scratch, waiting: &St
         scratch,
         waiting.res,
         waiting.queue,
-        waiting.row.lkid,
+        waiting.row.lkid(),
         request.mode,
     );
 }

@@ -59,9 +59,9 @@ pub(crate) fn is_deadlocked(store: &Store, scratch: &mut Scratch, waiting: &Stan
     find_waited_for(store, scratch, waiting);
     while let Some(pid) = scratch.take() {
         find_behind(store, scratch, pid);
-        if scratch.seen.has(waiting.row.pid) {
+        if scratch.seen.has(waiting.row.pid()) {
             return true;
         }
     }
-    scratch.seen.has(waiting.row.pid)
+    scratch.seen.has(waiting.row.pid())
 }

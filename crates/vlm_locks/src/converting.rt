@@ -15,15 +15,14 @@ ghost use Rattle.vlm_locks.specs.Standing.{IsStanding};
 
 use crate::endings::end_by_grant;
 use crate::finding::Standing;
-use crate::grants::granted_row;
 use crate::routines::owe_routines;
 use std::alloc::AllocError;
 use vlm_procs::accept;
 use vlm_queue::{can_hold, is_empty};
 use vlm_store::laws::law_records_are_sound;
-use vlm_store::{Place, Store};
+use vlm_store::{Place, Store, StoredRow};
 use vlm_words::flags::EnqFlags;
-use vlm_words::locks::{Request, Row};
+use vlm_words::locks::Request;
 use vlm_words::modes::Mode;
 use vlm_words::resources::Queue;
 
@@ -52,19 +51,9 @@ pub fn converts_at_once(store: &Store, standing: &Standing, asked: &Request) -> 
         && (!asked.flags.has(EnqFlags::QUECVT) || is_empty(store, standing.res, Queue::Conversion))
 }
 
-// The row wants the request, and holds what it held.
-fn wanting_row(row: Row, request: &Request) -> Row
-    ensures { result ≡ wanting_row row request.now }
-{
-    Row {
-        want: Some(*request),
-        ..row
-    }
-}
-
 // What a lock wants is granted at once: it goes to the end of the granted queue, and the grant takes effect
 // on the value block of its resource and on its status block.
-fn convert_now(store: &mut Store, standing: &Standing, row: &Row)
+fn convert_now(store: &mut Store, standing: &Standing, row: &StoredRow)
     requires standing { IsStanding standing.now store.old }
     requires row { IsSameLock standing.now.row row.now }
     requires owed { row_due row.now ≤ due_of row.now.pid store.old }
@@ -77,13 +66,13 @@ fn convert_now(store: &mut Store, standing: &Standing, row: &Row)
     let owner = store.lock_record(standing.lock).owner;
     let mut value_block = store.resource_record(standing.res).value_block;
     let granted = Place::Queued(standing.res, Queue::Granted);
-    store.move_lock(standing.lock, granted_row(*row), granted);
+    store.move_lock(standing.lock, row.granted(), granted);
     end_by_grant(&mut value_block, store, owner, row, true);
     store.set_value_block(standing.res, value_block);
 }
 
 // The conversion waits: the lock goes to the end of the conversion queue.
-fn convert_later(store: &mut Store, standing: &Standing, row: Row)
+fn convert_later(store: &mut Store, standing: &Standing, row: StoredRow)
     requires standing { IsStanding standing.now store.old }
     requires row { IsSameLock standing.now.row row }
     ensures replaced { IfSome (resource_at standing.now.res store.old.resources) (λ r.
@@ -117,7 +106,7 @@ fn convert_accepted(store: &mut Store, standing: &Standing, asked: &Request, at_
     ensures paid { IsPaid store.new }
 {
     law_records_are_sound(store);
-    let row = wanting_row(standing.row, asked);
+    let row = standing.row.wanting(asked);
     if at_once {
         convert_now(store, standing, &row);
     } else {
@@ -154,7 +143,7 @@ pub fn convert(
 {
     let owner = store.lock_record(standing.lock).owner;
     owe_routines(store, owner, Some(*asked))?;
-    accept(store, owner, asked.block, standing.row.lkid);
+    accept(store, owner, asked.block, standing.row.lkid());
     convert_accepted(store, standing, asked, at_once);
     Ok(())
 }

@@ -13,12 +13,12 @@ ghost use Rattle.vlm_locks.specs.Owing.{OwedMoves, blocks_written, completions_q
 
 use vlm_procs::{end, end_with_return, forgive, queue, status_block_or_new};
 use vlm_store::laws::law_records_are_sound;
-use vlm_store::{ProcAt, Store};
+use vlm_store::{ProcAt, Store, StoredRow};
 use vlm_words::asts::{Ast, AstKind};
 use vlm_words::blocks::Block;
 use vlm_words::conditions::Cond;
 use vlm_words::flags::EnqFlags;
-use vlm_words::locks::{Request, Row};
+use vlm_words::locks::Request;
 use vlm_words::modes::{Act, value_action};
 use vlm_words::resources::ValueBlock;
 
@@ -51,7 +51,7 @@ fn write_grant(
     value_block: &mut ValueBlock,
     store: &mut Store,
     at: ProcAt,
-    row: &Row,
+    row: &StoredRow,
     request: &Request,
 )
     requires { IsProcess at row.now.pid store.old }
@@ -63,7 +63,7 @@ fn write_grant(
     ensures only_notices { SameButNotices store.old store.new }
 {
     let wide = request.flags.has(EnqFlags::WIDE);
-    match grant_act(row.held, request) {
+    match grant_act(row.held(), request) {
         Act::Nothing => end(store, at, request.block, Cond::Normal),
         Act::Return => end_with_return(store, at, request.block, wide, value_block),
         Act::Write => {
@@ -77,7 +77,13 @@ fn write_grant(
 /// The request of a lock has ended, at once or later: its completion AST is queued, if it names a routine for one. Of a
 /// grant at once under SYNCSTS the answer alone tells.
 #[tactic(auto, unfolding(vlm_words::specs::Asts::completion_asts))]
-pub(crate) fn complete(store: &mut Store, at: ProcAt, row: &Row, request: &Request, at_once: bool)
+pub(crate) fn complete(
+    store: &mut Store,
+    at: ProcAt,
+    row: &StoredRow,
+    request: &Request,
+    at_once: bool,
+)
     requires process { IsProcess at row.now.pid store.old }
     requires owed { one_where (is_some request.now.completion) ≤ due_of row.now.pid store.old }
     ensures queued { plain_processes store.new ≡ processes_after_asts
@@ -96,7 +102,7 @@ pub(crate) fn complete(store: &mut Store, at: ProcAt, row: &Row, request: &Reque
             kind: AstKind::Completion,
             routine,
             param: request.param,
-            lkid: row.lkid,
+            lkid: row.lkid(),
         };
         queue(store, at, ast);
     }
@@ -127,7 +133,7 @@ pub(crate) fn end_by_grant(
     value_block: &mut ValueBlock,
     store: &mut Store,
     at: ProcAt,
-    row: &Row,
+    row: &StoredRow,
     at_once: bool,
 )
     requires process { IsProcess at row.now.pid store.old }
@@ -141,12 +147,12 @@ pub(crate) fn end_by_grant(
     ensures only_notices { SameButNotices store.old store.new }
 {
     law_records_are_sound(store);
-    let Some(request) = row.want else {
-        forgive(store, at, one_where(row.armed));
+    let Some(request) = row.want() else {
+        forgive(store, at, one_where(row.is_armed()));
         return;
     };
     write_grant(value_block, store, at, row, &request);
     complete(store, at, row, &request, at_once);
-    let spared = one_where(row.armed) + completions_spared(&request, at_once);
+    let spared = one_where(row.is_armed()) + completions_spared(&request, at_once);
     forgive(store, at, spared);
 }

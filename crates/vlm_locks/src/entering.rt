@@ -9,15 +9,14 @@ ghost use Rattle.vlm_locks.specs.Entering.{HasRoomToEnter, HasEntered, IsDueMore
 ghost use Rattle.vlm_locks.specs.Owing.{IsPaid, OwedMoves, OwesMore, entered_row};
 
 use crate::endings::end_by_grant;
-use crate::grants::granted_row;
 use crate::routines::owe_routines;
 use std::alloc::AllocError;
 use vlm_procs::accept;
 use vlm_queue::{can_hold, is_empty};
 use vlm_store::laws::law_records_are_sound;
-use vlm_store::{LockAt, Place, ProcAt, ResAt, Store};
+use vlm_store::{LockAt, Place, ProcAt, ResAt, Store, StoredRow};
 use vlm_words::flags::EnqFlags;
-use vlm_words::locks::{Request, Row};
+use vlm_words::locks::Request;
 use vlm_words::resources::{Queue, Site};
 
 /// Whether a new request is granted at once on a resource: it is expedited, or it fits and nobody is queued.
@@ -37,7 +36,7 @@ pub fn enters_at_once(store: &Store, res: ResAt, asked: &Request) -> bool
 #[derive(Clone, Copy)]
 pub struct Entry {
     /// Its row, which wants what it asks for and holds nothing.
-    pub row: Row,
+    pub row: StoredRow,
     /// The process that owns it.
     pub owner: ProcAt,
     /// Its parent, if its row names one.
@@ -55,11 +54,11 @@ pub struct Entry {
 }
 
 // The row of a new lock as it enters: it holds what it wants where it is granted at once.
-fn entered_row(entry: &Entry) -> Row
+fn entered_row(entry: &Entry) -> StoredRow
     ensures { result ≡ entered_row entry.now.at_once entry.now.row }
 {
     if entry.at_once {
-        granted_row(entry.row)
+        entry.row.granted()
     } else {
         entry.row
     }
@@ -124,15 +123,15 @@ fn take_in(store: &mut Store, entry: &Entry) -> Result<ResAt, AllocError>
 }
 
 // What a lock wants is accepted: its status block is that of a pending request.
-fn accept_want(store: &mut Store, owner: ProcAt, row: &Row)
+fn accept_want(store: &mut Store, owner: ProcAt, row: &StoredRow)
     requires { IsProcess owner row.now.pid store.old }
     ensures statuses { plain_processes store.new
         ≡ processes_accepted row.now.want row.now (plain_processes store.old) }
     ensures dues { DuesStay store.old store.new }
     ensures only_notices { SameButNotices store.old store.new }
 {
-    if let Some(want) = row.want {
-        accept(store, owner, want.block, row.lkid);
+    if let Some(want) = row.want() {
+        accept(store, owner, want.block, row.lkid());
     }
 }
 
@@ -181,7 +180,7 @@ fn make_ready(store: &mut Store, entry: &Entry) -> Result<(), AllocError>
     ensures err { OnErr result (IsUnchanged store.old store.new) }
 {
     reserve(store, entry)?;
-    owe_routines(store, entry.owner, entry.row.want)
+    owe_routines(store, entry.owner, entry.row.want())
 }
 
 // Takes a new lock in, once its process is owed the ASTs of the routines that its request names.

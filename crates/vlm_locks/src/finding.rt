@@ -11,8 +11,7 @@ ghost use Rattle.vlm_store.specs.Records.{IsStored, Stores};
 ghost use Rattle.vlm_locks.specs.Rest.{IsAtRest};
 ghost use Rattle.vlm_locks.specs.Standing.{IsLockOf, IsStanding};
 
-use vlm_store::{LockAt, Place, ResAt, Store};
-use vlm_words::locks::Row;
+use vlm_store::{LockAt, Place, ResAt, Store, StoredRow};
 use vlm_words::resources::Queue;
 
 /// A lock in its queue, with what it holds and wants.
@@ -21,7 +20,7 @@ pub struct Standing {
     /// The handle of the lock.
     pub lock: LockAt,
     /// What it holds and wants.
-    pub row: Row,
+    pub row: StoredRow,
     /// The handle of its resource.
     pub res: ResAt,
     /// The queue in which it stands there.
@@ -51,7 +50,7 @@ pub fn standing_of(store: &Store, lock: LockAt) -> Standing
     match record.place {
         Place::Queued(res, queue) => Standing {
             lock,
-            row: record.row.row(),
+            row: record.row,
             res,
             queue,
         },

@@ -49,8 +49,8 @@ fn end_chosen(store: &mut Store, owner: ProcAt, pid: u32, choice: Choice, invali
     while let Some(lock) = next {
         let standing = standing_of(store, lock);
         law_records_are_sound(store);
-        if is_chosen(store, standing.row.lkid, choice) {
-            let withdrawal = Withdrawal::together(standing.row.lkid, invalidates);
+        if is_chosen(store, standing.row.lkid(), choice) {
+            let withdrawal = Withdrawal::together(standing.row.lkid(), invalidates);
             end_notices(store, &standing, &withdrawal);
         }
         law_records_are_sound(store);
@@ -80,8 +80,8 @@ fn remove_chosen(
         let standing = standing_of(store, lock);
         law_records_are_sound(store);
         next = store.previous_own(lock);
-        if is_chosen(store, standing.row.lkid, choice) {
-            let withdrawal = Withdrawal::together(standing.row.lkid, invalidates);
+        if is_chosen(store, standing.row.lkid(), choice) {
+            let withdrawal = Withdrawal::together(standing.row.lkid(), invalidates);
             give_up(store, &standing, &withdrawal);
             law_records_are_sound(store);
             touched.note(Touch::of(store, standing.res));

@@ -11,7 +11,6 @@ mod endings;
 mod entering;
 mod finding;
 mod giving_up;
-mod grants;
 mod routines;
 mod running_down;
 mod serving;

@@ -48,7 +48,7 @@ fn run_down(store: &mut Store, touched: &mut Touched, owner: ProcAt, pid: u32)
     while let Some(lock) = store.last_own(owner) {
         let standing = standing_of(store, lock);
         law_records_are_sound(store);
-        withdraw(store, &standing, &Withdrawal::rundown(standing.row.lkid));
+        withdraw(store, &standing, &Withdrawal::rundown(standing.row.lkid()));
         law_records_are_sound(store);
         touched.note(Touch::of(store, standing.res));
     }

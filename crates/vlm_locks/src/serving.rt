@@ -12,12 +12,11 @@ ghost use Rattle.vlm_locks.specs.Owing.{IsPaid, OwedMoves};
 ghost use Rattle.vlm_locks.specs.Serving.{HasGranted, IsServed, IsServiceOf, nothing_queued, service_from, wanted_fits_beside};
 
 use crate::endings::end_by_grant;
-use crate::grants::granted_row;
 use crate::warning::warn;
 use vlm_queue::{can_hold, head, is_empty};
 use vlm_store::laws::law_records_are_sound;
-use vlm_store::{LockAt, Place, ResAt, Store};
-use vlm_words::locks::{Request, Row};
+use vlm_store::{LockAt, Place, ResAt, Store, StoredRow};
+use vlm_words::locks::Request;
 use vlm_words::resources::{Queue, ValueBlock};
 
 // Whether what a lock wants fits beside what the other locks of the resource hold.
@@ -35,7 +34,7 @@ fn wanted_fits(store: &Store, res: ResAt, lock: LockAt, want: Option<Request>) -
 
 // Grants what a lock with this row wants: the lock joins the granted locks, and the grant takes effect on
 // the value block and on its status block.
-fn grant(value_block: &mut ValueBlock, store: &mut Store, res: ResAt, lock: LockAt, row: &Row)
+fn grant(value_block: &mut ValueBlock, store: &mut Store, res: ResAt, lock: LockAt, row: &StoredRow)
     requires there { HasResource res store.old }
     requires stored { Stores store.old lock row.now }
     requires owed { row_due row.now ≤ due_of row.now.pid store.old }
@@ -48,7 +47,7 @@ fn grant(value_block: &mut ValueBlock, store: &mut Store, res: ResAt, lock: Lock
     ensures owed { OwedMoves row.now (granted_row row.now) store.old store.new }
 {
     let owner = store.lock_record(lock).owner;
-    store.move_lock(lock, granted_row(*row), Place::Queued(res, Queue::Granted));
+    store.move_lock(lock, row.granted(), Place::Queued(res, Queue::Granted));
     end_by_grant(value_block, store, owner, row, false);
 }
 
@@ -64,8 +63,8 @@ fn serve_queue(value_block: &mut ValueBlock, store: &mut Store, res: ResAt, queu
 {
     law_records_are_sound(store);
     while let Some(lock) = head(store, res, queue) {
-        let row = store.lock_record(lock).row.row();
-        if !wanted_fits(store, res, lock, row.want) {
+        let row = store.lock_record(lock).row;
+        if !wanted_fits(store, res, lock, row.want()) {
             break;
         }
         grant(value_block, store, res, lock, &row);

@@ -11,26 +11,25 @@ ghost use Rattle.vlm_locks.specs.Warning.{IsLockWarned, IsWarned, disarmed_row};
 
 use vlm_procs::{forgive, queue};
 use vlm_store::laws::law_records_are_sound;
-use vlm_store::{LockAt, ProcAt, ResAt, Store};
+use vlm_store::{LockAt, ProcAt, ResAt, Store, StoredRow};
 use vlm_words::asts::{Ast, AstKind};
-use vlm_words::locks::Row;
 
 // Whether a granted lock with this row is to be warned: it is armed, and what it holds is in the way of a queued
 // request.
 #[tactic(auto, unfolding(vlm_words::specs::Asts::is_to_warn))]
-fn is_to_warn(store: &Store, res: ResAt, row: &Row) -> bool
+fn is_to_warn(store: &Store, res: ResAt, row: &StoredRow) -> bool
     requires { HasResource res store.now }
     ensures { (r : StoredResource) → resource_at res store.now.resources ≡ Some r → result
         ≡ is_to_warn (rows_of_locks r.converting) (rows_of_locks r.waiting) row.now }
 {
-    match row.held {
-        Some(held) => row.armed && store.is_in_the_way(res, held.mode),
+    match row.held() {
+        Some(held) => row.is_armed() && store.is_in_the_way(res, held.mode),
         None => false,
     }
 }
 
 // Queues the blocking AST of what a lock holds, which is owed for it. Where no routine is named, nothing comes of it.
-fn queue_warning(store: &mut Store, at: ProcAt, row: &Row)
+fn queue_warning(store: &mut Store, at: ProcAt, row: &StoredRow)
     requires process { IsProcess at row.now.pid store.old }
     requires owed { row_due row.now ≤ due_of row.now.pid store.old }
     requires armed { row.now.armed ≡ true }
@@ -40,7 +39,7 @@ fn queue_warning(store: &mut Store, at: ProcAt, row: &Row)
     ensures only_notices { SameButNotices store.old store.new }
 {
     law_records_are_sound(store);
-    let Some(held) = row.held else {
+    let Some(held) = row.held() else {
         forgive(store, at, 1);
         return;
     };
@@ -52,7 +51,7 @@ fn queue_warning(store: &mut Store, at: ProcAt, row: &Row)
         kind: AstKind::Blocking,
         routine,
         param: held.param,
-        lkid: row.lkid,
+        lkid: row.lkid(),
     };
     queue(store, at, ast);
 }
@@ -67,7 +66,7 @@ fn warn_lock(store: &mut Store, res: ResAt, lock: LockAt)
         → IsLockWarned r lock row store.old store.new }
 {
     let record = store.lock_record(lock);
-    let row = record.row.row();
+    let row = record.row;
     let owner = record.owner;
     if !is_to_warn(store, res, &row) {
         return;

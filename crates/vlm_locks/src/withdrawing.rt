@@ -23,7 +23,7 @@ use vlm_procs::{end, forgive};
 use vlm_store::laws::law_records_are_sound;
 use vlm_store::{Place, Store};
 use vlm_words::conditions::Cond;
-use vlm_words::locks::{Request, Row};
+use vlm_words::locks::Request;
 use vlm_words::modes::Mode;
 use vlm_words::resources::{Queue, ValueBlock};
 
@@ -58,7 +58,7 @@ fn end_untold(store: &mut Store, standing: &Standing)
 {
     law_records_are_sound(store);
     let owner = store.lock_record(standing.lock).owner;
-    forgive(store, owner, routines_of(standing.row.want));
+    forgive(store, owner, routines_of(standing.row.want()));
 }
 
 // What the lock wants ends so. Where it wants nothing, nothing ends.
@@ -72,7 +72,7 @@ fn end_request(store: &mut Store, standing: &Standing, ended: End)
     ensures only_notices { SameButNotices store.old store.new }
 {
     law_records_are_sound(store);
-    let Some(request) = standing.row.want else {
+    let Some(request) = standing.row.want() else {
         return;
     };
     match ended.status() {
@@ -117,7 +117,7 @@ fn spare_warning(store: &mut Store, standing: &Standing, gone: bool)
         return;
     }
     let owner = store.lock_record(standing.lock).owner;
-    forgive(store, owner, one_where(standing.row.armed));
+    forgive(store, owner, one_where(standing.row.is_armed()));
 }
 
 // Whether a withdrawn lock of this queue goes: always, but where it is to stay and holds a mode.
@@ -162,7 +162,7 @@ fn may_write(standing: &Standing) -> bool
     ensures { result ≡ may_write standing.now.queue standing.now.row }
 {
     match standing.queue {
-        Queue::Granted | Queue::Conversion => is_writer(standing.row.held),
+        Queue::Granted | Queue::Conversion => is_writer(standing.row.held()),
         Queue::Waiting => false,
     }
 }
@@ -226,15 +226,8 @@ fn grant_again(store: &mut Store, standing: &Standing)
     ensures due { DueMoves standing.now.row (row_after_end standing.now.row) store.old store.new }
 {
     law_records_are_sound(store);
-    let row = Row {
-        want: None,
-        ..standing.row
-    };
-    store.move_lock(
-        standing.lock,
-        row,
-        Place::Queued(standing.res, Queue::Granted),
-    );
+    let granted = Place::Queued(standing.res, Queue::Granted);
+    store.move_lock(standing.lock, standing.row.without_want(), granted);
 }
 
 // Gives up a queued conversion, whose lock stays granted, or a waiting request with its lock.

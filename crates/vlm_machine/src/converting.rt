@@ -17,10 +17,11 @@ use crate::flags::enq_flags;
 use crate::records::Machine;
 use std::alloc::AllocError;
 use vlm_locks::{Standing, convert, converts_at_once};
+use vlm_store::StoredRow;
 use vlm_store::laws::law_records_are_sound;
 use vlm_words::conditions::Cond;
 use vlm_words::flags::EnqFlags;
-use vlm_words::locks::{Request, Row};
+use vlm_words::locks::Request;
 use vlm_words::modes::{Mode, quecvt_legal};
 use vlm_words::steps::{Answer, Conversion, Step};
 
@@ -50,7 +51,7 @@ impl Machine {
                 self.sweep(standing.res);
                 Answer::Lock(
                     acceptance(admitted.asked.flags, admitted.at_once),
-                    standing.row.lkid,
+                    standing.row.lkid(),
                 )
             }
             Err(AllocError) => Answer::Plain(Cond::Insfmem),
@@ -143,11 +144,11 @@ fn checked_flags(conversion: &Conversion) -> Result<EnqFlags, Cond>
 
 // BADPARAM where QUECVT does not go with a conversion from what the row holds.
 #[tactic(auto, unfolding(vlm_words::specs::Convert::pair_refusal))]
-fn check_pair(conversion: &Conversion, flags: EnqFlags, row: &Row) -> Result<(), Cond>
+fn check_pair(conversion: &Conversion, flags: EnqFlags, row: &StoredRow) -> Result<(), Cond>
     requires { flag_bits flags ≡ conversion.now.flags }
     ensures { result_err result ≡ pair_refusal conversion.now row.now }
 {
-    if flags.has(EnqFlags::QUECVT) && !is_legal_from(row.held, conversion.mode) {
+    if flags.has(EnqFlags::QUECVT) && !is_legal_from(row.held(), conversion.mode) {
         Err(Cond::Badparam)
     } else {
         Ok(())

@@ -25,7 +25,7 @@ use crate::processes::Caller;
 use crate::records::Machine;
 use std::alloc::AllocError;
 use vlm_locks::{Entry, Standing, Touched, enter, enters_at_once};
-use vlm_store::{ResAt, Store};
+use vlm_store::{ResAt, Store, StoredRow};
 use vlm_words::conditions::Cond;
 use vlm_words::flags::EnqFlags;
 use vlm_words::locks::{Request, Row};
@@ -114,7 +114,7 @@ impl Machine {
         match self.enq_change(&request, &admitted) {
             Ok(res) => {
                 self.sweep(res);
-                Answer::Lock(admitted.answer, admitted.entry.row.lkid)
+                Answer::Lock(admitted.answer, admitted.entry.row.lkid())
             }
             Err(AllocError) => Answer::Plain(Cond::Insfmem),
         }
@@ -285,7 +285,7 @@ fn request_of(number: u64, flags: EnqFlags, request: &NewRequest) -> Request
     }
 }
 
-fn row_of(lkid: u32, pid: u32, parent: u32, request: Request) -> Row
+fn row_of(lkid: u32, pid: u32, parent: u32, request: Request) -> StoredRow
     ensures { result ≡ record {
       lkid = lkid;
       pid = pid;
@@ -295,12 +295,12 @@ fn row_of(lkid: u32, pid: u32, parent: u32, request: Request) -> Row
       armed = false;
     } }
 {
-    Row {
+    StoredRow::of(&Row {
         lkid,
         pid,
         parent,
         held: None,
         want: Some(request),
         armed: false,
-    }
+    })
 }

@@ -33,7 +33,7 @@ impl Machine {
             Some(standing) => {
                 self.end_victim(&standing);
                 self.sweep(standing.res);
-                Answer::Victim(Some(standing.row.lkid))
+                Answer::Victim(Some(standing.row.lkid()))
             }
             None => Answer::Victim(None),
         }
@@ -50,7 +50,7 @@ impl Machine {
         ensures there { HasResource standing.now.res self.new.records }
     {
         law_records_are_sound(&self.store);
-        let withdrawal = Withdrawal::victim(standing.row.lkid);
+        let withdrawal = Withdrawal::victim(standing.row.lkid());
         withdraw(&mut self.store, standing, &withdrawal);
     }
 }

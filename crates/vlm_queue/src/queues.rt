@@ -40,7 +40,7 @@ pub fn push_back(store: &mut Store, res: ResAt, queue: Queue, lock: LockAt)
     ensures { (row : Row) → Stores store.old lock row → store.new
         ≡ with_lists (moving (Place.Queued res queue) (record { at = lock; row = row })) store.old }
 {
-    let row = store.lock_record(lock).row.row();
+    let row = store.lock_record(lock).row;
     store.move_lock(lock, row, Place::Queued(res, queue));
 }
 
@@ -50,7 +50,7 @@ pub fn unlink(store: &mut Store, lock: LockAt)
     ensures { (row : Row) → Stores store.old lock row → store.new
         ≡ with_lists (moving Place.Loose (record { at = lock; row = row })) store.old }
 {
-    let row = store.lock_record(lock).row.row();
+    let row = store.lock_record(lock).row;
     store.move_lock(lock, row, Place::Loose);
 }
 

@@ -16,7 +16,6 @@ use crate::resources::Resource;
 use crate::rows::StoredRow;
 use slab::Slab;
 use vlm_links::{LAST_HANDLE, LinkedList, Links};
-use vlm_words::locks::Row;
 
 /// The locks, each in one list: a queue of a resource, or that of the loose locks.
 #[derive(Drop)]
@@ -122,18 +121,18 @@ impl Queues {
     }
 
     // Writes what a lock holds and wants.
-    fn write_row(&mut self, at: usize, row: &Row)
+    fn write_row(&mut self, at: usize, row: &StoredRow)
         requires present { ContainsKey self.old.locks at }
         requires named { named_row (rows self.old at) ≡ named_row row.now }
         ensures here { rows self.new at ≡ row.now }
         ensures rest { SameBut but_row self.old.locks self.new.locks }
         ensures lock { WritesLock at self.old self.new }
     {
-        self.locks[at].row = StoredRow::of(row);
+        self.locks[at].row = *row;
     }
 
     // Gives a lock another row, and puts it at the end of a list. It is not among the armed ones of its resource.
-    fn requeue(&mut self, at: usize, row: &Row, to: Place)
+    fn requeue(&mut self, at: usize, row: &StoredRow, to: Place)
         requires placed { IsPlaced self.old None }
         requires tallied { IsTallied self.old None }
         requires present { ContainsKey self.old.locks at }
@@ -157,7 +156,7 @@ impl Queues {
     }
 
     /// Gives a lock another row, and puts it at the end of a list.
-    pub fn move_to(&mut self, at: usize, row: &Row, to: Place)
+    pub fn move_to(&mut self, at: usize, row: &StoredRow, to: Place)
         requires laid_out { IsLaidOut self.old }
         requires present { ContainsKey self.old.locks at }
         requires within { at ≤ LAST_HANDLE }
@@ -190,17 +189,20 @@ impl Queues {
     {
         self.leave_armed(at);
         self.count_out(at);
-        let row = Row {
-            armed: false,
-            ..self.locks[at].row.row()
-        };
+        let row = self.locks[at].row.disarmed();
         self.write_row(at, &row);
         self.count_in(at);
     }
 
     /// Adds a lock at the end of a list, which is not yet among those of its process and its parent. There
     /// is room for it.
-    pub fn add(&mut self, row: &Row, owner: ProcAt, parent: Option<LockAt>, to: Place) -> usize
+    pub fn add(
+        &mut self,
+        row: &StoredRow,
+        owner: ProcAt,
+        parent: Option<LockAt>,
+        to: Place,
+    ) -> usize
         requires laid_out { IsLaidOut self.old }
         requires room { HasRoomFor self.old.locks 1 }
         requires within { self.old.locks.vacant_key ≤ LAST_HANDLE }
@@ -226,7 +228,7 @@ impl Queues {
         ensures resources_room { room_in self.new.resources ≡ room_in self.old.resources }
     {
         let at = self.locks.insert_reserved(Lock {
-            row: StoredRow::of(row),
+            row: *row,
             place: to,
             in_queue: Links::none(),
             in_armed: Links::none(),

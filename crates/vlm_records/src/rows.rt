@@ -1,6 +1,10 @@
 //! The row of a lock, as its record keeps it.
 
-ghost use Rattle.std.specs.Prelude.{◌≡◌};
+ghost use Rattle.std.specs.Prelude.{◌≡◌, ℕ, None, false};
+ghost use Rattle.vlm_words.specs.Convert.{wanting_row};
+ghost use Rattle.vlm_words.specs.Grants.{granted_row, is_arming};
+ghost use Rattle.vlm_records.specs.declared.rows.Asked.{Asked};
+ghost use Rattle.vlm_records.specs.declared.rows.Routines.{Routines};
 ghost use Rattle.vlm_records.specs.Requests.{asked_kept, kept_of, number_kept, request_shown, routines_kept};
 
 use bitflags::Flags;
@@ -158,6 +162,17 @@ fn request_shown(kept: Kept, number: u64, routines: &Routines, asked: &Asked) ->
     })
 }
 
+// Whether a request is one that arms its lock as it is granted: it names a blocking routine.
+fn is_arming(kept: Kept) -> bool
+    ensures { (number : ℕ) (routines : Routines) (asked : Asked)
+        → result ≡ is_arming (request_shown kept number routines asked) }
+{
+    match kept {
+        Kept::Nothing | Kept::Neither | Kept::Completion => false,
+        Kept::Blocking | Kept::Both => true,
+    }
+}
+
 impl StoredRow {
     /// Keeps a row.
     pub fn of(row: &Row) -> Self
@@ -243,5 +258,56 @@ impl StoredRow {
             &self.want_routines,
             &self.want_asked,
         )
+    }
+
+    /// The row once it holds what it wanted.
+    pub fn granted(&self) -> Self
+        ensures { result ≡ granted_row self.now }
+    {
+        StoredRow {
+            held_number: self.want_number,
+            held_routines: self.want_routines,
+            held_asked: self.want_asked,
+            held_kept: self.want_kept,
+            armed: is_arming(self.want_kept),
+            ..self.without_want()
+        }
+    }
+
+    /// The row as it wants a request, and holds what it held.
+    pub fn wanting(&self, request: &Request) -> Self
+        ensures { result ≡ wanting_row self.now request.now }
+    {
+        let want = Some(*request);
+        StoredRow {
+            want_number: number_kept(&want),
+            want_routines: routines_kept(&want),
+            want_asked: asked_kept(&want),
+            want_kept: kept_of(&want),
+            ..*self
+        }
+    }
+
+    /// The row as it wants nothing, and holds what it held.
+    pub fn without_want(&self) -> Self
+        ensures { result ≡ record self.now { want = None } }
+    {
+        StoredRow {
+            want_number: number_kept(&None),
+            want_routines: routines_kept(&None),
+            want_asked: asked_kept(&None),
+            want_kept: kept_of(&None),
+            ..*self
+        }
+    }
+
+    /// The row as it is armed no more.
+    pub fn disarmed(&self) -> Self
+        ensures { result ≡ record self.now { armed = false } }
+    {
+        StoredRow {
+            armed: false,
+            ..*self
+        }
     }
 }

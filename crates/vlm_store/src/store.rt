@@ -21,10 +21,9 @@ use std::marker::Model;
 use vlm_links::{HashKeys, LinkedList, reserve_one};
 use vlm_marks::NodeMarks;
 use vlm_records::{
-    InLine, InOrder, Lock, LockAt, Place, ProcAt, Process, Queues, ResAt, Resource, join_line,
-    join_parent, join_process, leave_line, leave_parent, leave_process,
+    InLine, InOrder, Lock, LockAt, Place, ProcAt, Process, Queues, ResAt, Resource, StoredRow,
+    join_line, join_parent, join_process, leave_line, leave_parent, leave_process,
 };
-use vlm_words::locks::Row;
 use vlm_words::modes::Mode;
 use vlm_words::resources::{Key, Queue, Site, ValueBlock};
 
@@ -175,7 +174,7 @@ impl Store {
     /// more room.
     pub fn add_lock(
         &mut self,
-        row: Row,
+        row: StoredRow,
         owner: ProcAt,
         parent: Option<LockAt>,
         to: Place,
@@ -197,13 +196,13 @@ impl Store {
         join_process(&mut self.processes, &mut self.queues.locks, slot);
         join_parent(&mut self.queues.locks, slot);
         let at = LockAt::of(slot);
-        let _ = self.lock_index.insert(row.lkid, at);
+        let _ = self.lock_index.insert(row.lkid(), at);
         Ok(at)
     }
 
     /// Takes a lock from where it stands, writes what it holds and wants, and puts it at the end of the
     /// list of a place.
-    pub fn move_lock(&mut self, lock: LockAt, row: Row, to: Place)
+    pub fn move_lock(&mut self, lock: LockAt, row: StoredRow, to: Place)
         requires lock { IsRowOf lock row self.old }
         requires there { HasPlace to self.old }
         ensures { self.new ≡ with_lists (moving to (record { at = lock; row = row })) self.old }

@@ -70,7 +70,7 @@ returns-clause-converted c =
     (owner_is s c.lock_record.result.now.owner c.lock_record.result.now.row f.row (c.lock_record.ensures.only f.row (stored s f c.requires.standing)) c.lock_record.ensures.owner) in
     converted_accepted f c.args.asked.now s c.accept.new.store c.convert_accepted.new.store
     (notices_twice s owed c.accept.new.store c.in_ok-owe_routines.ensures.only_notices c.accept.ensures.only_notices)
-    (c.accept.ensures.written f.row.pid lives ∙ ap (processes_after_acceptance f.row.pid c.args.asked.now.block f.row.lkid) c.in_ok-owe_routines.ensures.processes)
+    (rw c.lkid.ensures at c.accept.ensures.written f.row.pid lives ∙ ap (processes_after_acceptance f.row.pid c.args.asked.now.block f.row.lkid) c.in_ok-owe_routines.ensures.processes)
     c.convert_accepted.ensures.converted
 
 pub returns-clause-beside : goal.returns-clause-beside

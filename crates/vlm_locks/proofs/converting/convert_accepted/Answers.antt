@@ -22,8 +22,8 @@ returns-then-at_once-clause-converted c =
     let standing = c.requires.standing in
     let asked = c.args.asked.now in
     let new = c.convert_now.new.store in
-    let done = subst (λ (row : Row). IsConvertedAtOnce f row standing.resource s new) c.wanting_row-row.ensures
-    (subst (λ o. IfSome o (λ r. IsConvertedAtOnce f c.wanting_row-row.result r s new)) standing.found c.convert_now.ensures.granted) in
+    let done = subst (λ (row : Row). IsConvertedAtOnce f row standing.resource s new) c.wanting-row.ensures
+    (subst (λ o. IfSome o (λ r. IsConvertedAtOnce f c.wanting-row.result r s new)) standing.found c.convert_now.ensures.granted) in
     let at_once = subst (λ o. IfSome o (λ r. c.args.at_once ≡ converts_at_once asked f.row.lkid (plain_resource r))) standing.found c.requires.at_once in
     subst (λ o. IfSome o (λ r. IsConverted f asked (plain_processes s) r s new)) (sym standing.found)
     (converted_now s c.law_records_are_sound.ensures f standing asked new c.requires.granted (sym at_once ∙ c.if-at_once.true) done)
@@ -35,8 +35,8 @@ returns-else-at_once-clause-converted c =
     let standing = c.requires.standing in
     let asked = c.args.asked.now in
     let new = c.convert_later.new.store in
-    let done = subst (λ (row : Row). IsReplaced f.res standing.resource (moved_in f row Conversion standing.resource) s new) c.wanting_row-row.ensures
-    (subst (λ o. IfSome o (λ r. IsReplaced f.res r (moved_in f c.wanting_row-row.result Conversion r) s new)) standing.found c.convert_later.ensures.replaced) in
+    let done = subst (λ (row : Row). IsReplaced f.res standing.resource (moved_in f row Conversion standing.resource) s new) c.wanting-row.ensures
+    (subst (λ o. IfSome o (λ r. IsReplaced f.res r (moved_in f c.wanting-row.result Conversion r) s new)) standing.found c.convert_later.ensures.replaced) in
     let at_once = subst (λ o. IfSome o (λ r. c.args.at_once ≡ converts_at_once asked f.row.lkid (plain_resource r))) standing.found c.requires.at_once in
     subst (λ o. IfSome o (λ r. IsConverted f asked (plain_processes s) r s new)) (sym standing.found)
     (converted_later s c.law_records_are_sound.ensures f standing asked new c.requires.granted (sym at_once ∙ c.if-at_once.false) done c.convert_later.ensures.statuses)
@@ -46,13 +46,13 @@ returns-then-at_once-clause-beside c =
     let s = c.args.store.now in
     let f = c.args.standing.now in
     let standing = c.requires.standing in
-    let row = granted_row c.wanting_row-row.result in
+    let row = granted_row c.wanting-row.result in
     let moved = moved_in f row Granted standing.resource in
-    let block = (blocks_granted c.wanting_row-row.result standing.resource s).value_block in
+    let block = (blocks_granted c.wanting-row.result standing.resource s).value_block in
     let left : StoredResource = record moved { value_block = block } in
     let new = c.convert_now.new.store in
-    let replaced = (subst (λ o. IfSome o (λ r. IsConvertedAtOnce f c.wanting_row-row.result r s new)) standing.found c.convert_now.ensures.granted).replaced in
-    let same = subst (λ (r : Row). IsSameLock f.row (granted_row r)) (sym c.wanting_row-row.ensures) (record { lkid = refl; pid = refl; parent = refl }) in
+    let replaced = (subst (λ o. IfSome o (λ r. IsConvertedAtOnce f c.wanting-row.result r s new)) standing.found c.convert_now.ensures.granted).replaced in
+    let same = subst (λ (r : Row). IsSameLock f.row (granted_row r)) (sym c.wanting-row.ensures) (record { lkid = refl; pid = refl; parent = refl }) in
     record {
       others = others_stay f.res standing.resource left s new replaced;
       locks = c.convert_now.ensures.locks;
@@ -65,11 +65,11 @@ returns-else-at_once-clause-beside c =
     let s = c.args.store.now in
     let f = c.args.standing.now in
     let standing = c.requires.standing in
-    let row = c.wanting_row-row.result in
+    let row = c.wanting-row.result in
     let left = moved_in f row Conversion standing.resource in
     let new = c.convert_later.new.store in
     let replaced = subst (λ o. IfSome o (λ r. IsReplaced f.res r (moved_in f row Conversion r) s new)) standing.found c.convert_later.ensures.replaced in
-    let same = subst (IsSameLock f.row) (sym c.wanting_row-row.ensures) (record { lkid = refl; pid = refl; parent = refl }) in
+    let same = subst (IsSameLock f.row) (sym c.wanting-row.ensures) (record { lkid = refl; pid = refl; parent = refl }) in
     record {
       others = others_stay f.res standing.resource left s new replaced;
       locks = c.convert_later.ensures.locks;
@@ -80,15 +80,15 @@ returns-else-at_once-clause-beside c =
 pub convert_now-requires-clause-owed : goal.convert_now-requires-clause-owed
 convert_now-requires-clause-owed c =
     let f = c.args.standing.now in
-    wanting_fits f.row c.args.asked.now c.requires.wants_nothing c.wanting_row-row.result c.wanting_row-row.ensures c.args.store.now c.requires.owed
+    wanting_fits f.row c.args.asked.now c.requires.wants_nothing c.wanting-row.result c.wanting-row.ensures c.args.store.now c.requires.owed
     c.law_records_are_sound.ensures f.lock (stored c.args.store.now f c.requires.standing)
 
 pub returns-then-at_once-clause-paid : goal.returns-then-at_once-clause-paid
 returns-then-at_once-clause-paid c =
-    paid_at_once c.args.standing.now.row c.args.asked.now c.requires.wants_nothing c.wanting_row-row.result c.wanting_row-row.ensures c.args.store.now c.requires.owed
+    paid_at_once c.args.standing.now.row c.args.asked.now c.requires.wants_nothing c.wanting-row.result c.wanting-row.ensures c.args.store.now c.requires.owed
     c.convert_now.new.store c.convert_now.ensures.due c.convert_now.ensures.owed
 
 pub returns-else-at_once-clause-paid : goal.returns-else-at_once-clause-paid
 returns-else-at_once-clause-paid c =
-    paid_later c.args.standing.now.row c.args.asked.now c.requires.wants_nothing c.wanting_row-row.result c.wanting_row-row.ensures c.args.store.now c.requires.owed
+    paid_later c.args.standing.now.row c.args.asked.now c.requires.wants_nothing c.wanting-row.result c.wanting-row.ensures c.args.store.now c.requires.owed
     c.convert_later.new.store c.convert_later.ensures.due c.convert_later.ensures.dues

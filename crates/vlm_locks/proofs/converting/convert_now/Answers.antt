@@ -25,7 +25,7 @@ lock_record-requires c =
 pub move_lock-requires-clause-lock : goal.move_lock-requires-clause-lock
 move_lock-requires-clause-lock c =
     let f = c.args.standing.now in
-    (f.row, (stored c.args.store.now f c.requires.standing, subst (IsSameLock f.row) (sym c.granted_row.ensures) same))
+    (f.row, (stored c.args.store.now f c.requires.standing, subst (IsSameLock f.row) (sym c.granted.ensures) same))
   where
     same : IsSameLock c.args.standing.now.row (granted_row c.args.row.now)
     same = record { lkid = c.requires.row.lkid; pid = c.requires.row.pid; parent = c.requires.row.parent }
@@ -47,8 +47,8 @@ set_value_block-requires c =
     let s = c.args.store.now in
     let f = c.args.standing.now in
     let standing = c.requires.standing in
-    let moved = moved_replaced s c.lock_record.ensures.sound f standing c.granted_row.result Granted c.move_lock.new.self c.move_lock.ensures in
-    let there = still_there f.res standing.resource (moved_in f c.granted_row.result Granted standing.resource) s c.move_lock.new.self moved in
+    let moved = moved_replaced s c.lock_record.ensures.sound f standing c.granted.result Granted c.move_lock.new.self c.move_lock.ensures in
+    let there = still_there f.res standing.resource (moved_in f c.granted.result Granted standing.resource) s c.move_lock.new.self moved in
     subst (λ rs. IsSome (resource_at f.res rs)) (sym c.end_by_grant.ensures.only_notices.resources) there
 
 pub returns-clause-granted : goal.returns-clause-granted
@@ -59,7 +59,7 @@ returns-clause-granted c =
     let row = c.args.row.now in
     subst (λ o. IfSome o (λ r. IsConvertedAtOnce f row r s c.set_value_block.new.self)) (sym standing.found)
     (granted_at_once s c.lock_record.ensures.sound f standing row c.move_lock.new.self c.end_by_grant.new.store c.set_value_block.new.self c.resource_record.result.now.value_block c.end_by_grant.new.value_block
-    c.resource_record.ensures.value_block (c.move_lock.ensures ∙ ap (λ (x : Row). with_lists (moving (Queued f.res Granted) (record { at = f.lock; row = x })) s) c.granted_row.ensures)
+    c.resource_record.ensures.value_block (c.move_lock.ensures ∙ ap (λ (x : Row). with_lists (moving (Queued f.res Granted) (record { at = f.lock; row = x })) s) c.granted.ensures)
     (record { value_block = c.end_by_grant.ensures.value_block; statuses = c.end_by_grant.ensures.statuses; only_notices = c.end_by_grant.ensures.only_notices })
     c.set_value_block.ensures)
 
@@ -69,7 +69,7 @@ returns-clause-locks c =
     let f = c.args.standing.now in
     let moved : OtherLocksStay f.lock c.args.store.now c.move_lock.new.self =
     subst (OtherLocksStay f.lock c.args.store.now) (sym c.move_lock.ensures)
-    (moved_alone (Queued f.res Granted) (record { at = f.lock; row = c.granted_row.result }) c.args.store.now) in
+    (moved_alone (Queued f.res Granted) (record { at = f.lock; row = c.granted.result }) c.args.store.now) in
     locks_stay_over f.lock c.args.store.now c.end_by_grant.new.store c.set_value_block.new.self
     (locks_stay_over f.lock c.args.store.now c.move_lock.new.self c.end_by_grant.new.store moved (statuses_alone f.lock c.move_lock.new.self c.end_by_grant.new.store c.end_by_grant.ensures.only_notices))
     (subst (OtherLocksStay f.lock c.end_by_grant.new.store) (sym c.set_value_block.ensures) (block_alone f.lock f.res c.end_by_grant.new.value_block c.end_by_grant.new.store))
@@ -82,7 +82,7 @@ returns-clause-due c pid =
     ap (due_for pid) c.set_value_block.ensures ∙ due_valued pid f.res c.end_by_grant.new.value_block c.end_by_grant.new.store
     ∙ due_noticed c.move_lock.new.self c.end_by_grant.new.store c.end_by_grant.ensures.only_notices pid
     ∙ ap (due_for pid) c.move_lock.ensures
-    ∙ ap (λ (x : Row). due_for pid (with_lists (moving (Queued f.res Granted) (record { at = f.lock; row = x })) s)) c.granted_row.ensures in
+    ∙ ap (λ (x : Row). due_for pid (with_lists (moving (Queued f.res Granted) (record { at = f.lock; row = x })) s)) c.granted.ensures in
     ap (λ (n : ℕ). n + due_to pid f.row) due
     ∙ due_moved s c.lock_record.ensures.sound f.lock f.row (granted_row c.args.row.now) f.res Granted (stored s f c.requires.standing) (found_there s f c.requires.standing) pid
 

@@ -18,12 +18,12 @@ pub forgive-requires-clause-owed : goal.forgive-requires-clause-owed
 forgive-requires-clause-owed c pid is =
     subst (λ p. c.one_where.result ≤ due_of p c.args.store.now)
     (one_process c.args.store.now c.law_records_are_sound.ensures c.args.at c.args.row.now.pid pid c.requires.process is)
-    (omega (arith, c.requires.owed, c.one_where.ensures))
+    (omega (arith, c.requires.owed, c.one_where.ensures, ap one_where c.is_armed.ensures))
 
 pub returns-in_default-clause-owed : goal.returns-in_default-clause-owed
 returns-in_default-clause-owed c =
-    nothing_granted_owed c.args.row.now c.in_default.is c.args.store.now c.forgive.new.store c.requires.owed
-    (subst (λ n. DueChanges c.args.row.now.pid (λ due. due - n) c.args.store.now c.forgive.new.store) c.one_where.ensures
+    nothing_granted_owed c.args.row.now (sym c.want.ensures ∙ c.in_default.is) c.args.store.now c.forgive.new.store c.requires.owed
+    (subst (λ n. DueChanges c.args.row.now.pid (λ due. due - n) c.args.store.now c.forgive.new.store) (c.one_where.ensures ∙ ap one_where c.is_armed.ensures)
     (c.forgive.ensures.owed c.args.row.now.pid c.requires.process))
 
 -- ---- where it is granted
@@ -55,30 +55,31 @@ forgive-requires-2-clause-owed c pid is =
     c.args.at c.args.row.now.pid pid c.requires.process is)
     (omega (
       arith,
-      spared_fits c.args.row.now c.in-Some.request c.in-Some.is c.args.at_once c.args.store.now c.complete.new.store (queued c) c.requires.owed,
+      spared_fits c.args.row.now c.in-Some.request (sym c.want.ensures ∙ c.in-Some.is) c.args.at_once c.args.store.now c.complete.new.store (queued c) c.requires.owed,
       c.one_where-2.ensures,
+      ap one_where c.is_armed-2.ensures,
       c.completions_spared.ensures,
     ))
 
 pub returns-clause-value_block : goal.returns-clause-value_block
 returns-clause-value_block c =
     c.write_grant.ensures.value_block
-    ∙ sym (ap (λ b. b.value_block) (granted_blocks c.args.row.now c.in-Some.request c.args.at_once (blocks_with c.args.value_block.now (plain_processes c.args.store.now)) c.in-Some.is))
+    ∙ sym (ap (λ b. b.value_block) (granted_blocks c.args.row.now c.in-Some.request c.args.at_once (blocks_with c.args.value_block.now (plain_processes c.args.store.now)) (sym c.want.ensures ∙ c.in-Some.is)))
 
 pub returns-clause-statuses : goal.returns-clause-statuses
 returns-clause-statuses c =
     c.forgive-2.ensures.processes ∙ c.complete.ensures.queued
     ∙ ap (processes_after_asts (completion_asts c.args.at_once c.in-Some.request c.args.row.now.lkid c.args.row.now.pid)) c.write_grant.ensures.statuses
-    ∙ sym (ap (λ b. b.processes) (granted_blocks c.args.row.now c.in-Some.request c.args.at_once (blocks_with c.args.value_block.now (plain_processes c.args.store.now)) c.in-Some.is))
+    ∙ sym (ap (λ b. b.processes) (granted_blocks c.args.row.now c.in-Some.request c.args.at_once (blocks_with c.args.value_block.now (plain_processes c.args.store.now)) (sym c.want.ensures ∙ c.in-Some.is)))
 
 pub returns-clause-owed : goal.returns-clause-owed
 returns-clause-owed c =
-    granted_owed c.args.row.now c.in-Some.request c.in-Some.is c.args.at_once c.args.store.now c.complete.new.store
+    granted_owed c.args.row.now c.in-Some.request (sym c.want.ensures ∙ c.in-Some.is) c.args.at_once c.args.store.now c.complete.new.store
     (changes_then c.args.row.now.pid (λ due. due - completions_queued c.args.at_once c.in-Some.request) c.args.store.now c.write_grant.new.store c.complete.new.store
     c.write_grant.ensures.dues c.complete.ensures.owed)
     c.requires.owed c.forgive-2.new.store
     (subst (λ n. DueChanges c.args.row.now.pid (λ due. due - n) c.complete.new.store c.forgive-2.new.store)
-    (ap (λ n. n + c.completions_spared.result) c.one_where-2.ensures ∙ ap (λ n. one_where c.args.row.now.armed + n) c.completions_spared.ensures)
+    (ap (λ n. n + c.completions_spared.result) (c.one_where-2.ensures ∙ ap one_where c.is_armed-2.ensures) ∙ ap (λ n. one_where c.args.row.now.armed + n) c.completions_spared.ensures)
     (c.forgive-2.ensures.owed c.args.row.now.pid
     (process_still c.write_grant.new.store c.complete.new.store c.args.at c.args.row.now.pid c.complete.ensures.only_notices
     (process_still c.args.store.now c.write_grant.new.store c.args.at c.args.row.now.pid c.write_grant.ensures.only_notices c.requires.process))))

@@ -15,4 +15,4 @@ returns-clause-ready c =
     made_ready c.owe_routines.result e c.args.store.now c.reserve.new.store c.owe_routines.new.store
     c.reserve.ensures.unchanged c.in_ok-reserve.ensures.lock c.in_ok-reserve.ensures.resource
     (subst (IsProcess e.owner e.row.pid) (sym c.reserve.ensures.unchanged.same) c.requires.owner)
-    c.owe_routines.ensures.processes c.owe_routines.ensures.owed c.owe_routines.ensures.only_notices
+    c.owe_routines.ensures.processes (rw c.want.ensures at c.owe_routines.ensures.owed) c.owe_routines.ensures.only_notices

@@ -102,14 +102,14 @@ loop-next-preserved c =
     elim c.if-is_chosen.branch [
       | then-is_chosen w ↦
           subst (λ t. AreEnding c.args.choice c.args.invalidates c.args.owner c.args.pid c.args.store.now t c.next_own-next.result) (sym w.store-is)
-          (ended c.args.choice c.args.invalidates c.args.owner c.args.pid c.args.store.now c.loop-next.store c.in-Some.lock so_far c.law_records_are_sound.ensures c.requires.owner c.requires.rest f.row stored (sym c.is_chosen.ensures.chosen ∙ w.if-is_chosen.true) w.end_notices.new.store
-          (subst IsSound w.store-is c.law_records_are_sound-in-Some-2.ensures) w.end_notices.ensures.only_notices (plain_withdrawal w.together-withdrawal.result) w.together-withdrawal.ensures
+          (ended c.args.choice c.args.invalidates c.args.owner c.args.pid c.args.store.now c.loop-next.store c.in-Some.lock so_far c.law_records_are_sound.ensures c.requires.owner c.requires.rest f.row stored (sym (rw c.lkid.ensures at c.is_chosen.ensures.chosen) ∙ w.if-is_chosen.true) w.end_notices.new.store
+          (subst IsSound w.store-is c.law_records_are_sound-in-Some-2.ensures) w.end_notices.ensures.only_notices (plain_withdrawal w.together-withdrawal.result) (rw w.lkid-then-is_chosen.ensures at w.together-withdrawal.ensures)
           w.end_notices.ensures.statuses
           (subst (λ stays. OwedMoves f.row (left_row (goes stays f.queue) f.row) c.loop-next.store w.end_notices.new.store) (ap (λ (v : Withdrawal). v.stays) w.together-withdrawal.ensures) w.end_notices.ensures.owed)
           c.next_own-next.result next)
       | else-is_chosen w ↦
           subst (λ t. AreEnding c.args.choice c.args.invalidates c.args.owner c.args.pid c.args.store.now t c.next_own-next.result) (sym w.store-is)
-          (passed c.args.choice c.args.invalidates c.args.owner c.args.pid c.args.store.now c.loop-next.store c.in-Some.lock so_far c.law_records_are_sound.ensures c.requires.owner c.requires.rest f.row stored (sym c.is_chosen.ensures.chosen ∙ w.if-is_chosen.false) c.next_own-next.result next)
+          (passed c.args.choice c.args.invalidates c.args.owner c.args.pid c.args.store.now c.loop-next.store c.in-Some.lock so_far c.law_records_are_sound.ensures c.requires.owner c.requires.rest f.row stored (sym (rw c.lkid.ensures at c.is_chosen.ensures.chosen) ∙ w.if-is_chosen.false) c.next_own-next.result next)
     ]
 
 pub returns : goal.returns

@@ -29,7 +29,7 @@ give_up-requires-clause-childless c =
     let f = c.standing_of-standing.result in
     let stored : Stores c.loop-next.store c.in-Some.lock f.row = c.standing_of-standing.ensures.row in
     subst (λ at. HasNoSublocks at c.loop-next.store) (sym c.standing_of-standing.ensures.lock)
-    (no_sublocks c.args.choice c.args.invalidates c.args.owner c.args.pid c.args.store.now c.loop-next.store c.args.touched.now c.loop-next.touched c.in-Some.lock so_far c.law_records_are_sound.ensures c.requires.owner c.requires.can_go f.row stored (sym c.is_chosen.ensures.chosen ∙ c.if-is_chosen.true))
+    (no_sublocks c.args.choice c.args.invalidates c.args.owner c.args.pid c.args.store.now c.loop-next.store c.args.touched.now c.loop-next.touched c.in-Some.lock so_far c.law_records_are_sound.ensures c.requires.owner c.requires.can_go f.row stored (sym (rw c.lkid.ensures at c.is_chosen.ensures.chosen) ∙ c.if-is_chosen.true))
 
 pub note-requires : goal.note-requires
 note-requires c =
@@ -49,10 +49,10 @@ loop-next-smaller-then-is_chosen c =
       sound = c.law_records_are_sound-then-is_chosen.ensures;
       standing = c.standing_of-standing.ensures.standing;
       mine = subst (λ at. IsIn at (own_handles_at c.args.owner c.loop-next.store)) (sym lock_is) (lock_in c.args.choice c.args.invalidates c.args.owner c.args.pid c.args.store.now c.loop-next.store c.args.touched.now c.loop-next.touched c.in-Some.lock so_far c.law_records_are_sound.ensures c.requires.owner c.requires.can_go);
-      its = listed_if c.args.choice c.args.invalidates c.args.owner c.args.pid c.args.store.now c.loop-next.store c.args.touched.now c.loop-next.touched c.in-Some.lock so_far c.law_records_are_sound.ensures c.requires.owner c.requires.can_go f.row stored ∙ sym c.is_chosen.ensures.chosen ∙ c.if-is_chosen.true;
+      its = listed_if c.args.choice c.args.invalidates c.args.owner c.args.pid c.args.store.now c.loop-next.store c.args.touched.now c.loop-next.touched c.in-Some.lock so_far c.law_records_are_sound.ensures c.requires.owner c.requires.can_go f.row stored ∙ sym (rw c.lkid.ensures at c.is_chosen.ensures.chosen) ∙ c.if-is_chosen.true;
       waiting = by_abort;
       converting = by_abort;
-      withdrawal = c.together-withdrawal.ensures;
+      withdrawal = rw c.lkid-then-is_chosen.ensures at c.together-withdrawal.ensures;
       resources = c.give_up.ensures.resources;
       statuses = c.give_up.ensures.statuses;
       beside = c.give_up.ensures.beside;
@@ -81,10 +81,10 @@ loop-next-preserved-then-is_chosen c =
       sound = c.law_records_are_sound-then-is_chosen.ensures;
       standing = c.standing_of-standing.ensures.standing;
       mine = subst (λ at. IsIn at (own_handles_at c.args.owner c.loop-next.store)) (sym lock_is) (lock_in c.args.choice c.args.invalidates c.args.owner c.args.pid c.args.store.now c.loop-next.store c.args.touched.now c.loop-next.touched c.in-Some.lock so_far c.law_records_are_sound.ensures c.requires.owner c.requires.can_go);
-      its = listed_if c.args.choice c.args.invalidates c.args.owner c.args.pid c.args.store.now c.loop-next.store c.args.touched.now c.loop-next.touched c.in-Some.lock so_far c.law_records_are_sound.ensures c.requires.owner c.requires.can_go f.row stored ∙ sym c.is_chosen.ensures.chosen ∙ c.if-is_chosen.true;
+      its = listed_if c.args.choice c.args.invalidates c.args.owner c.args.pid c.args.store.now c.loop-next.store c.args.touched.now c.loop-next.touched c.in-Some.lock so_far c.law_records_are_sound.ensures c.requires.owner c.requires.can_go f.row stored ∙ sym (rw c.lkid.ensures at c.is_chosen.ensures.chosen) ∙ c.if-is_chosen.true;
       waiting = by_abort;
       converting = by_abort;
-      withdrawal = c.together-withdrawal.ensures;
+      withdrawal = rw c.lkid-then-is_chosen.ensures at c.together-withdrawal.ensures;
       resources = c.give_up.ensures.resources;
       statuses = c.give_up.ensures.statuses;
       beside = c.give_up.ensures.beside;
@@ -118,7 +118,7 @@ loop-next-preserved c =
     let f = c.standing_of-standing.result in
     let stored : Stores c.loop-next.store c.in-Some.lock f.row = c.standing_of-standing.ensures.row in
     let then =
-    stayed c.args.choice c.args.invalidates c.args.owner c.args.pid c.args.store.now c.loop-next.store c.args.touched.now c.loop-next.touched c.in-Some.lock so_far c.law_records_are_sound.ensures c.requires.owner c.requires.can_go f.row stored (sym c.is_chosen.ensures.chosen ∙ c.if-is_chosen.false) c.previous_own-next.result
+    stayed c.args.choice c.args.invalidates c.args.owner c.args.pid c.args.store.now c.loop-next.store c.args.touched.now c.loop-next.touched c.in-Some.lock so_far c.law_records_are_sound.ensures c.requires.owner c.requires.can_go f.row stored (sym (rw c.lkid.ensures at c.is_chosen.ensures.chosen) ∙ c.if-is_chosen.false) c.previous_own-next.result
     (previous_is c.args.choice c.args.invalidates c.args.owner c.args.pid c.args.store.now c.loop-next.store c.args.touched.now c.loop-next.touched c.in-Some.lock so_far c.law_records_are_sound.ensures c.requires.owner c.requires.can_go c.previous_own-next.result c.previous_own-next.ensures) in
     then
 

@@ -1,4 +1,4 @@
-use Rattle.std.proofs.Common.{ℕ, [], ◌∷◌, ◌++◌, sym, ap, ◌∙◌, subst, arith, map, true, eq-eqb}
+use Rattle.std.proofs.Common.{◌≡◌, ℕ, [], ◌∷◌, ◌++◌, sym, ap, ◌∙◌, subst, arith, map, true, eq-eqb}
 use Rattle.vlm_links.specs.Lists.{IsIn}
 use Rattle.vlm_records.specs.declared.handles.Place.TheVariants.{Queued}
 use Rattle.vlm_store.specs.Records.{locks_at, own_handles_at, but_notices}
@@ -9,6 +9,7 @@ use Rattle.vlm_locks.proofs.Stood.{stands}
 use Rattle.vlm_locks.proofs.running_down.run_down.Goals as goal
 use Rattle.vlm_locks.specs.Withdrawing.{goes, owned_after}
 use Rattle.vlm_words.specs.Endings.How.{by_rundown}
+use Rattle.vlm_words.specs.Rundown.{rundown_of}
 use Rattle.vlm_words.specs.Withdrawals.{Withdrawal}
 
 pub last_own-requires : goal.last_own-requires
@@ -39,6 +40,10 @@ note-requires c =
       one_at_least c.loop-lock.store c.loop-lock.invariant.so_far.sound c.standing_of-standing.result c.standing_of-standing.ensures.standing,
     )
 
+-- it is withdrawn as a rundown withdraws a lock with its identification
+abbrev pub rundown_is : (c : goal.After-note) → plain_withdrawal c.rundown.result ≡ rundown_of c.standing_of-standing.result.row.lkid
+rundown_is c = c.rundown.ensures ∙ ap rundown_of c.lkid.ensures
+
 pub loop-lock-smaller : goal.loop-lock-smaller
 loop-lock-smaller c =
     let f = c.standing_of-standing.result in
@@ -54,13 +59,13 @@ loop-lock-smaller c =
       its = eq-eqb f.row.pid c.args.pid (its_row c.args.owner c.args.pid s so_far.sound so_far.lives f c.standing_of-standing.ensures.standing mine);
       waiting = by_rundown;
       converting = by_rundown;
-      withdrawal = c.rundown.ensures;
+      withdrawal = rundown_is c;
       resources = c.withdraw.ensures.resources;
-      statuses = one_untold c.withdraw.new.store s f.row.lkid (plain_withdrawal c.rundown.result) c.rundown.ensures c.withdraw.ensures.statuses;
+      statuses = one_untold c.withdraw.new.store s f.row.lkid (plain_withdrawal c.rundown.result) (rundown_is c) c.withdraw.ensures.statuses;
       beside = c.withdraw.ensures.beside;
       own_locks =
           c.withdraw.ensures.own_locks
-          ∙ ap (λ stays. map but_notices (owned_after (goes stays f.queue) f.lock s.processes)) (ap (λ (w : Withdrawal). w.stays) c.rundown.ensures);
+          ∙ ap (λ stays. map but_notices (owned_after (goes stays f.queue) f.lock s.processes)) (ap (λ (w : Withdrawal). w.stays) (rundown_is c));
       serial = c.of.result.serial;
       its_serial = c.of.ensures.serial;
       notes =
@@ -85,13 +90,13 @@ loop-lock-preserved c =
       its = eq-eqb f.row.pid c.args.pid (its_row c.args.owner c.args.pid s so_far.sound so_far.lives f c.standing_of-standing.ensures.standing mine);
       waiting = by_rundown;
       converting = by_rundown;
-      withdrawal = c.rundown.ensures;
+      withdrawal = rundown_is c;
       resources = c.withdraw.ensures.resources;
-      statuses = one_untold c.withdraw.new.store s f.row.lkid (plain_withdrawal c.rundown.result) c.rundown.ensures c.withdraw.ensures.statuses;
+      statuses = one_untold c.withdraw.new.store s f.row.lkid (plain_withdrawal c.rundown.result) (rundown_is c) c.withdraw.ensures.statuses;
       beside = c.withdraw.ensures.beside;
       own_locks =
           c.withdraw.ensures.own_locks
-          ∙ ap (λ stays. map but_notices (owned_after (goes stays f.queue) f.lock s.processes)) (ap (λ (w : Withdrawal). w.stays) c.rundown.ensures);
+          ∙ ap (λ stays. map but_notices (owned_after (goes stays f.queue) f.lock s.processes)) (ap (λ (w : Withdrawal). w.stays) (rundown_is c));
       serial = c.of.result.serial;
       its_serial = c.of.ensures.serial;
       notes =

@@ -1,4 +1,5 @@
-use Rattle.std.proofs.Common.{◌≤◌, ◌-◌, sym, subst, arith}
+use Rattle.std.proofs.Common.{◌≤◌, ◌-◌, sym, ap, ◌∙◌, subst, arith}
+use Rattle.vlm_words.specs.Dues.{one_where}
 use Rattle.vlm_store.specs.Records.{DueChanges, due_of}
 use Rattle.vlm_locks.specs.Owing.{OwedMoves, left_row, row_after_end}
 use Rattle.vlm_locks.proofs.Found.{process_there}
@@ -19,13 +20,13 @@ forgive-requires-clause-owed c pid is =
     subst (λ p. c.one_where.result ≤ due_of p c.args.store.now)
     (one_process c.args.store.now c.law_records_are_sound.ensures c.lock_record.result.now.owner c.args.standing.now.row.pid pid
     (owner_is c.args.store.now c.lock_record.result.now.owner c.lock_record.result.now.row c.args.standing.now.row (c.lock_record.ensures.only c.args.standing.now.row (stored c.args.store.now c.args.standing.now c.requires.standing)) c.lock_record.ensures.owner) is)
-    (omega (arith, c.one_where.ensures, c.requires.owed))
+    (omega (arith, c.one_where.ensures, ap one_where c.is_armed.ensures, c.requires.owed))
 
 pub returns-clause-owed : goal.returns-clause-owed
 returns-clause-owed c =
     let f = c.args.standing.now in
     subst (λ gone. OwedMoves (row_after_end f.row) (left_row gone f.row) c.args.store.now c.forgive.new.store) (sym c.if-not-gone.false)
     (spared_owed f.row c.args.store.now c.forgive.new.store c.requires.owed
-    (subst (λ n. DueChanges f.row.pid (λ due. due - n) c.args.store.now c.forgive.new.store) c.one_where.ensures
+    (subst (λ n. DueChanges f.row.pid (λ due. due - n) c.args.store.now c.forgive.new.store) (c.one_where.ensures ∙ ap one_where c.is_armed.ensures)
     (c.forgive.ensures.owed f.row.pid
     (owner_is c.args.store.now c.lock_record.result.now.owner c.lock_record.result.now.row c.args.standing.now.row (c.lock_record.ensures.only c.args.standing.now.row (stored c.args.store.now c.args.standing.now c.requires.standing)) c.lock_record.ensures.owner))))

@@ -55,7 +55,7 @@ returns-clause-laid_out c = record {
       counted_handles q3 q4 None placed3 c.count_in.ensures.counts.rest c.count_in.ensures.counts.loose c.count_in.ensures.counts.locks p
       ∙ written_handles q2 q3 None placed2 c.write_row.ensures.rest c.write_row.ensures.lock.resources c.write_row.ensures.lock.loose p
       ∙ counted_handles q1 q2 None c.leave_armed.ensures.places.placed c.count_out.ensures.counts.rest c.count_out.ensures.counts.loose c.count_out.ensures.counts.locks p)
-      (ap (λ s. (row_in (get s c.args.at)).armed) c.count_in.ensures.counts.locks ∙ ap (λ (r : Row). r.armed) c.write_row.ensures.here));
+      (ap (λ s. (row_in (get s c.args.at)).armed) c.count_in.ensures.counts.locks ∙ ap (λ (r : Row). r.armed) (c.write_row.ensures.here ∙ c.disarmed-row.ensures)));
 }
 
 pub returns-clause-kept : goal.returns-clause-kept

@@ -11,9 +11,8 @@ returns-clause-lock c = record {
   others = search rules;
   kin =
       let was = c.index_mut.result.now in
-      rw c.of.ensures
-      (written_same c.args.self.now.locks c.args.at was (record was { row = c.args.row.now }) (option_map but_requeued) c.index_mut.ensures.value
-      (ap (λ name. Some (record was { row = name; place = Loose; in_queue = no_links })) (sym (rw c.index_mut.ensures.value at c.requires.named))));
+      written_same c.args.self.now.locks c.args.at was (record was { row = c.args.row.now }) (option_map but_requeued) c.index_mut.ensures.value
+      (ap (λ name. Some (record was { row = name; place = Loose; in_queue = no_links })) (sym (rw c.index_mut.ensures.value at c.requires.named)));
   resources = refl;
   loose = refl;
   locks_room = room_written c.args.self.now.locks c.args.at _ c.requires.present;

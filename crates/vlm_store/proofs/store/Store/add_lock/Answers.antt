@@ -151,7 +151,7 @@ invariant_of-self-2 c =
       linked = order_linked but_queues (λ r. refl) s.queues.resources q'.resources rest s.order kept.linked;
       ordered = order_whole but_queues (λ r. refl) s.queues.resources q'.resources rest s.order kept.linked kept.ordered;
       locks = Indexes-added nat_eq unsigned_Decides c.reserve_one.new.index c.insert.new.self c.args.row.lkid (lkid_at (record s.queues { locks = c.reserve_one.new.records })) (lkid_at q'') at
-          (rw c.of-at.ensures at (on_ok c.insert.result _ (c.insert.ensures.succeeds (omega (arith, c.in_ok-reserve_one.ensures.find))) c.insert.ensures.updates))
+          (rw (c.of-at.ensures, c.lkid.ensures) at (on_ok c.insert.result _ (c.insert.ensures.succeeds (omega (arith, c.in_ok-reserve_one.ensures.find))) c.insert.ensures.updates))
           (ap (option_map lkid_of) added.fresh) (lkids at ∙ new_lkid s kept c.reserve_one.new.records locks1 at c.args.row c.args.owner c.args.parent same added.fresh lock others owner parent) (λ k differs. lkids k ∙ other_lkids s kept c.reserve_one.new.records locks1 at c.args.row c.args.owner c.args.parent same added.fresh lock others owner parent k differs) fresh indexes1;
       resources = IsHashed-same (hash_key s.keys) (get is_same_hashed s.resource_index) (get is_same_hashed s.resource_index) (hashed_at s.queues) (hashed_at q'') (λ k. refl) (keys_same but_queues (λ r. refl) s.queues.resources q'.resources rest) kept.resources;
       owned = joined_owned s kept c.reserve_one.new.records locks1 at c.args.row c.args.owner c.args.parent same added.fresh lock others owner parent c.join_process.new.processes c.join_process.new.locks c.join_parent.new.locks process.owned process.here process.elsewhere process.relinks process.rest below.here below.elsewhere below.rest;
