@@ -10,7 +10,7 @@ use std::alloc::AllocError;
 use std::process::Abort;
 use std::test::Fail;
 use vlm_queue::{can_hold, head, is_idle, next, pop_front, push_back, unlink};
-use vlm_store::{Place, Store};
+use vlm_store::{Place, Store, StoredRow};
 use vlm_words::flags::EnqFlags;
 use vlm_words::locks::{Request, Row};
 use vlm_words::modes::Mode;
@@ -134,16 +134,12 @@ fn serve(rt: &impl Abort, store: &mut Store, key: &Key, lkid: u32, mode: Mode) {
     let served = pop_front(store, res, Queue::Conversion);
     let lock = lock(rt, store, lkid);
     assert!(rt; served == Some(lock));
-    let old = store.lock_record(lock).row.row();
-    store.move_lock(
-        lock,
-        Row {
-            held: Some(request(mode)),
-            want: None,
-            ..old
-        },
-        Place::Loose,
-    );
+    let row = Row {
+        held: Some(request(mode)),
+        want: None,
+        ..store.lock_record(lock).row.row()
+    };
+    store.move_lock(lock, StoredRow::of(&row), Place::Loose);
 }
 
 // Whether a mode can be held beside all locks, or beside all but one.
@@ -253,12 +249,12 @@ fn a_served_lock_is_loose_and_holds_its_mode(rt: HostRuntime) -> Result<(), Fail
 fn arm(rt: &impl Abort, store: &mut Store, key: &Key, lkid: u32) {
     let res = resource(rt, store, key);
     let granted = lock(rt, store, lkid);
-    let old = store.lock_record(granted).row.row();
-    store.move_lock(
-        granted,
-        Row { armed: true, ..old },
-        Place::Queued(res, Queue::Granted),
-    );
+    let row = Row {
+        armed: true,
+        ..store.lock_record(granted).row.row()
+    };
+    let to = Place::Queued(res, Queue::Granted);
+    store.move_lock(granted, StoredRow::of(&row), to);
 }
 
 fn disarm(rt: &impl Abort, store: &mut Store, lkid: u32) {

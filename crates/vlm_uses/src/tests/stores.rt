@@ -5,7 +5,7 @@ ghost use Rattle.vlm_store.specs.Records.{HasProcess, HasResource, IsParentOf, I
 use std::alloc::AllocError;
 use std::process::Abort;
 use std::test::Fail;
-use vlm_store::{LockAt, Place, ProcAt, ResAt, Store};
+use vlm_store::{LockAt, Place, ProcAt, ResAt, Store, StoredRow};
 use vlm_words::locks::Row;
 use vlm_words::names::Name;
 use vlm_words::resources::{Domain, Key, Site};
@@ -83,7 +83,7 @@ pub fn add(
     match store.lock(row.lkid) {
         Some(_) => Ok(()),
         None => {
-            store.add_lock(row, owner, parent, Place::Loose)?;
+            store.add_lock(StoredRow::of(&row), owner, parent, Place::Loose)?;
             Ok(())
         }
     }

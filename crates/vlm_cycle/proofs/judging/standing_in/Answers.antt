@@ -1,4 +1,3 @@
-use Rattle.std.proofs.Common.{◌∙◌, sym}
 use Rattle.vlm_queue.proofs.Walking.{come_stored}
 use Rattle.vlm_cycle.proofs.Ranked.{standing_there}
 use Rattle.vlm_cycle.proofs.judging.standing_in.Goals as goal
@@ -8,9 +7,8 @@ lock_record-requires c = come_stored c.args.store.now c.args.res c.args.queue c.
 
 pub returns-clause-standing : goal.returns-clause-standing
 returns-clause-standing c =
-    rw c.row.ensures
-    (standing_there c.args.store.now c.lock_record.ensures.sound c.args.res c.args.queue c.args.lock c.lock_record.result.now.row
-    c.requires.there c.requires.come c.lock_record.ensures.row)
+    standing_there c.args.store.now c.lock_record.ensures.sound c.args.res c.args.queue c.args.lock c.lock_record.result.now.row
+    c.requires.there c.requires.come c.lock_record.ensures.row
 
 pub returns-clause-only : goal.returns-clause-only
-returns-clause-only c row stored = c.lock_record.ensures.only row stored ∙ sym c.row.ensures
+returns-clause-only c row stored = c.lock_record.ensures.only row stored

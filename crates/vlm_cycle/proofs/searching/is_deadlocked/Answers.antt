@@ -39,7 +39,7 @@ returns-clause-no c =
     let row = c.args.waiting.now.row in
     let none : TakesNext None c.loop-pid.scratch c.take.new.self =
     subst (λ o. TakesNext o c.loop-pid.scratch c.take.new.self) c.in_default.is c.take.ensures in
-    not_found (IsDeadlocked (searched s) row) c.has-2.result (is_marked c.take.new.self.seen row.pid) c.has-2.ensures
+    not_found (IsDeadlocked (searched s) row) c.has-2.result (is_marked c.take.new.self.seen row.pid) (rw c.pid-2.ensures at c.has-2.ensures)
     (λ dead. ap (λ (m : Scratch). is_marked m.seen row.pid) none.0 ∙ none_left s c.law_records_are_sound.ensures row c.loop-pid.scratch c.loop-pid.invariant.0 none.1 dead)
 
 -- the search has come back to where it began
@@ -51,4 +51,4 @@ returns-then-has-clause-yes c =
     subst (λ o. TakesNext o c.loop-pid.scratch c.take.new.self) c.in-Some.is c.take.ensures in
     let on : IsSearched s row c.find_behind.new.scratch =
     searched_on s c.law_records_are_sound.ensures row c.loop-pid.scratch c.take.new.self c.find_behind.new.scratch c.in-Some.pid c.loop-pid.invariant.0 taken c.find_behind.ensures in
-    led_back s row (on.led row.pid (sym c.has.ensures ∙ c.if-has.true))
+    led_back s row (on.led row.pid (sym (rw c.pid.ensures at c.has.ensures) ∙ c.if-has.true))

@@ -25,9 +25,10 @@ returns-in-Ok-enq_change-clause-outcome c =
     let e = c.args.request in
     let a = c.in-Ok.admitted in
     let admitted = c.in-Ok.ensures.admitted in
-    made_swept s (plain_state c.sweep.new.self) (Enq e) (Lock a.answer a.entry.row.lkid) refl c.in-Ok.ensures.refusal
+    made_swept s (plain_state c.sweep.new.self) (Enq e) (Lock a.answer c.lkid.result) refl c.in-Ok.ensures.refusal
     (c.sweep.ensures ∙ ap state_after_sweep c.in-Ok-enq_change.ensures.change)
-    (ap (λ answer. Lock answer a.entry.row.lkid) admitted.answer
+    (ap (Lock a.answer) c.lkid.ensures
+    ∙ ap (λ answer. Lock answer a.entry.row.lkid) admitted.answer
     ∙ ap (λ (row : Row). Lock (acceptance e.flags (enq_at_once s e)) row.lkid) admitted.entry.row)
 
 -- room to note its resource was made before the lock entered
@@ -36,6 +37,6 @@ returns-in-Ok-enq_change-clause-notes c =
     let stored = as_many_stored c.self.inside.store c.self.invariant.rest.none_loose in
     let same : total_locks_on (plain_state c.args.self.now).resources ≡ total_locks_on (plain_resources c.self.inside.store) =
     ap (λ (m : MachineState). total_locks_on (plain_state m).resources) (sym c.self.view_is) in
-    room_after c.args.self.now c.sweep.new.self c.make_room_beyond.new.self (Enq c.args.request) (Lock c.in-Ok.admitted.answer c.in-Ok.admitted.entry.row.lkid)
+    room_after c.args.self.now c.sweep.new.self c.make_room_beyond.new.self (Enq c.args.request) (Lock c.in-Ok.admitted.answer c.lkid.result)
     (returns-in-Ok-enq_change-clause-outcome c) c.make_room_beyond.ensures.none
     (omega (arith, stored, same, c.in-Ok-make_room_beyond.ensures.room, c.total_locks.ensures))

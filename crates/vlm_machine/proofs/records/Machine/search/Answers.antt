@@ -30,9 +30,9 @@ returns-in-Some-clause-outcome c =
     let s : State = plain_state c.args.self.now in
     let row = c.in-Some.standing.row in
     let same : s.resources ≡ plain_resources c.self.inside.store = ap (λ (m : MachineState). plain_resources m.records) (sym c.self.view_is) in
-    made_choosing s (plain_state c.sweep.new.self) (Search c.args.node) (Some row) (Victim (Some row.lkid))
+    made_choosing s (plain_state c.sweep.new.self) (Search c.args.node) (Some row) (Victim (Some c.lkid.result))
     (subst (λ (refusal : Option Cond). IsSearchedFor refusal s (Some row)) c.in_default.ensures.refusal (c.in-Some.ensures.victim s same)) c.in_default.ensures.refusal
-    (c.sweep.ensures ∙ ap state_after_sweep c.end_victim.ensures.change) refl
+    (c.sweep.ensures ∙ ap state_after_sweep c.end_victim.ensures.change) (ap (λ lkid. Victim (Some lkid)) c.lkid.ensures)
 
 -- without one nothing is chosen, and nothing changes
 pub returns-in-None-clause-outcome : goal.returns-in-None-clause-outcome
