@@ -11,7 +11,6 @@ use Rattle.vlm_words.specs.Enqueue.{resources_after_entry}
 use Rattle.vlm_links.specs.Lists.{IsIn}
 use Rattle.vlm_records.specs.declared.handles.Place.{Place}
 use Rattle.vlm_records.specs.declared.handles.Place.TheVariants.{Loose, Queued}
-use Rattle.vlm_words.specs.declared.resources.Key.{Key}
 use Rattle.vlm_store.specs.Plain.{plain_processes, plain_resource, plain_resources}
 use Rattle.vlm_store.specs.Records.{DueChanges, FindsResource, HasRoom, HasRoomForLock, HasRoomForResource, IsParentOf, IsProcess, IsUnchanged, Records, Rooms, SameButNotices, StoredProcess, Stores, but_notices, due_of, locks_at, process_with_lock, queued, resource_at, without_lock, without_resource}
 use Rattle.vlm_locks.specs.declared.entering.Entry.{Entry}

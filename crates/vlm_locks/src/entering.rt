@@ -9,9 +9,8 @@ ghost use Rattle.vlm_locks.specs.Entering.{HasRoomToEnter, HasEntered, IsDueMore
 ghost use Rattle.vlm_locks.specs.Owing.{IsPaid, OwedMoves, OwesMore, entered_row};
 
 use crate::endings::end_by_grant;
-use crate::routines::owe_routines;
 use std::alloc::AllocError;
-use vlm_procs::accept;
+use vlm_procs::{accept, owe};
 use vlm_queue::{can_hold, is_empty};
 use vlm_store::laws::law_records_are_sound;
 use vlm_store::{LockAt, Place, ProcAt, ResAt, Store, StoredRow};
@@ -180,7 +179,7 @@ fn make_ready(store: &mut Store, entry: &Entry) -> Result<(), AllocError>
     ensures err { OnErr result (IsUnchanged store.old store.new) }
 {
     reserve(store, entry)?;
-    owe_routines(store, entry.owner, entry.row.want())
+    owe(store, entry.owner, entry.row.wanted_routines())
 }
 
 // Takes a new lock in, once its process is owed the ASTs of the routines that its request names.

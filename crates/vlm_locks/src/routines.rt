@@ -11,8 +11,8 @@ use vlm_procs::owe;
 use vlm_store::{ProcAt, Store};
 use vlm_words::locks::Request;
 
-/// How many routines a request names, if there is one.
-pub(crate) fn routines_of(want: Option<Request>) -> usize
+// How many routines a request names, if there is one.
+fn routines_of(want: Option<Request>) -> usize
     ensures { result ≡ routines_of want }
 {
     match want {

@@ -17,7 +17,6 @@ ghost use Rattle.vlm_locks.specs.Withdrawing.{IsPartDone, goes, may_write, owned
 
 use crate::endings::{complete, one_where};
 use crate::finding::Standing;
-use crate::routines::routines_of;
 use crate::withdrawals::{End, Withdrawal};
 use vlm_procs::{end, forgive};
 use vlm_store::laws::law_records_are_sound;
@@ -58,7 +57,7 @@ fn end_untold(store: &mut Store, standing: &Standing)
 {
     law_records_are_sound(store);
     let owner = store.lock_record(standing.lock).owner;
-    forgive(store, owner, routines_of(standing.row.want()));
+    forgive(store, owner, standing.row.wanted_routines());
 }
 
 // What the lock wants ends so. Where it wants nothing, nothing ends.

@@ -19,6 +19,22 @@ request_with number completion blocking routines asked = record {
   block = asked.block;
 }
 
+-- the completion routine of the request that is kept in these parts, if it names one
+abbrev pub completion_shown : Kept → Routines → Option ℕ
+completion_shown Nothing routines = None
+completion_shown Neither routines = None
+completion_shown Completion routines = Some routines.completion
+completion_shown Blocking routines = None
+completion_shown Both routines = Some routines.completion
+
+-- and its blocking routine
+abbrev pub blocking_shown : Kept → Routines → Option ℕ
+blocking_shown Nothing routines = None
+blocking_shown Neither routines = None
+blocking_shown Completion routines = None
+blocking_shown Blocking routines = Some routines.blocking
+blocking_shown Both routines = Some routines.blocking
+
 -- the request that is kept in these parts, if there is one
 abbrev pub request_shown : Kept → ℕ → Routines → Asked → Option Request
 request_shown Nothing number routines asked = None

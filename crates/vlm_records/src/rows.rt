@@ -2,10 +2,11 @@
 
 ghost use Rattle.std.specs.Prelude.{◌≡◌, ℕ, None, false};
 ghost use Rattle.vlm_words.specs.Convert.{wanting_row};
+ghost use Rattle.vlm_words.specs.Dues.{routines_of};
 ghost use Rattle.vlm_words.specs.Grants.{granted_row, is_arming};
 ghost use Rattle.vlm_records.specs.declared.rows.Asked.{Asked};
 ghost use Rattle.vlm_records.specs.declared.rows.Routines.{Routines};
-ghost use Rattle.vlm_records.specs.Requests.{asked_kept, kept_of, number_kept, request_shown, routines_kept};
+ghost use Rattle.vlm_records.specs.Requests.{asked_kept, blocking_shown, completion_shown, kept_of, number_kept, request_shown, routines_kept};
 
 use bitflags::Flags;
 use std::marker::Model;
@@ -140,21 +141,37 @@ fn asked_kept(request: &Option<Request>) -> Asked
     }
 }
 
-// A request from the parts in which it is kept.
+// The completion routine that a request names, from the parts in which it is kept.
+fn completion_shown(kept: Kept, routines: &Routines) -> Option<u32>
+    ensures { result ≡ completion_shown kept routines.now }
+{
+    match kept {
+        Kept::Completion | Kept::Both => Some(routines.completion),
+        Kept::Nothing | Kept::Neither | Kept::Blocking => None,
+    }
+}
+
+// The blocking routine that a request names, from the parts in which it is kept.
+fn blocking_shown(kept: Kept, routines: &Routines) -> Option<u32>
+    ensures { result ≡ blocking_shown kept routines.now }
+{
+    match kept {
+        Kept::Blocking | Kept::Both => Some(routines.blocking),
+        Kept::Nothing | Kept::Neither | Kept::Completion => None,
+    }
+}
+
+// A request from the parts in which it is kept. Each part is made by itself, so that who reads one pays for no other.
 fn request_shown(kept: Kept, number: u64, routines: &Routines, asked: &Asked) -> Option<Request>
     ensures { result ≡ request_shown kept number routines.now asked.now }
 {
-    let (completion, blocking) = match kept {
-        Kept::Nothing => return None,
-        Kept::Neither => (None, None),
-        Kept::Completion => (Some(routines.completion), None),
-        Kept::Blocking => (None, Some(routines.blocking)),
-        Kept::Both => (Some(routines.completion), Some(routines.blocking)),
-    };
+    if matches!(kept, Kept::Nothing) {
+        return None;
+    }
     Some(Request {
         number,
-        completion,
-        blocking,
+        completion: completion_shown(kept, routines),
+        blocking: blocking_shown(kept, routines),
         param: routines.param,
         flags: asked.flags,
         mode: asked.mode,
@@ -246,6 +263,17 @@ impl StoredRow {
             &self.held_routines,
             &self.held_asked,
         )
+    }
+
+    /// How many routines the request that waits names, if there is one.
+    pub fn wanted_routines(&self) -> usize
+        ensures { result ≡ routines_of self.now.want }
+    {
+        match self.want_kept {
+            Kept::Nothing | Kept::Neither => 0,
+            Kept::Completion | Kept::Blocking => 1,
+            Kept::Both => 2,
+        }
     }
 
     /// The request that waits.

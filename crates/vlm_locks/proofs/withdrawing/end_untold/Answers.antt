@@ -1,5 +1,4 @@
-use Rattle.std.proofs.Common.{◌≤◌, ◌-◌, ap, ◌∙◌, subst, arith}
-use Rattle.vlm_words.specs.Dues.{routines_of}
+use Rattle.std.proofs.Common.{◌≤◌, ◌-◌, subst, arith}
 use Rattle.vlm_store.specs.Records.{DueChanges, due_of}
 use Rattle.vlm_locks.proofs.Found.{process_there}
 use Rattle.vlm_locks.proofs.Owing.{one_process, untold_owed}
@@ -16,15 +15,15 @@ forgive-requires-clause-there c =
 
 pub forgive-requires-clause-owed : goal.forgive-requires-clause-owed
 forgive-requires-clause-owed c pid is =
-    subst (λ p. c.routines_of.result ≤ due_of p c.args.store.now)
+    subst (λ p. c.wanted_routines.result ≤ due_of p c.args.store.now)
     (one_process c.args.store.now c.law_records_are_sound.ensures c.lock_record.result.now.owner c.args.standing.now.row.pid pid
     (owner_is c.args.store.now c.lock_record.result.now.owner c.lock_record.result.now.row c.args.standing.now.row (c.lock_record.ensures.only c.args.standing.now.row (stored c.args.store.now c.args.standing.now c.requires.standing)) c.lock_record.ensures.owner) is)
-    (omega (arith, c.routines_of.ensures, ap routines_of c.want.ensures, c.requires.owed))
+    (omega (arith, c.wanted_routines.ensures, c.requires.owed))
 
 pub returns-clause-owed : goal.returns-clause-owed
 returns-clause-owed c =
     let f = c.args.standing.now in
     untold_owed f.row c.args.store.now c.forgive.new.store c.requires.owed
-    (subst (λ n. DueChanges f.row.pid (λ due. due - n) c.args.store.now c.forgive.new.store) (c.routines_of.ensures ∙ ap routines_of c.want.ensures)
+    (subst (λ n. DueChanges f.row.pid (λ due. due - n) c.args.store.now c.forgive.new.store) c.wanted_routines.ensures
     (c.forgive.ensures.owed f.row.pid
     (owner_is c.args.store.now c.lock_record.result.now.owner c.lock_record.result.now.row c.args.standing.now.row (c.lock_record.ensures.only c.args.standing.now.row (stored c.args.store.now c.args.standing.now c.requires.standing)) c.lock_record.ensures.owner)))
