@@ -14,7 +14,6 @@ use Rattle.vlm_words.specs.declared.steps.Dequeue.{Dequeue}
 use Rattle.vlm_words.specs.Convert.{ConversionAdmission, admission_among, admission_or, convert_admission, convert_lkid, convert_request}
 use Rattle.vlm_words.specs.Checks.{caller_refusal, lock_refusal, or_else, which_refusal}
 use Rattle.vlm_words.specs.Dequeue.{cancel_refusal, deq_flags_refusal, deq_refusal, dequeue_lkid, dequeued_lock_refusal, is_granted, is_mixed, sublocks_refusal}
-use Rattle.vlm_words.specs.Withdrawals.{Withdrawal}
 use Rattle.vlm_words.specs.Flags.{cancel, deqall, has_flag}
 use Rattle.vlm_words.specs.State.{State}
 use Rattle.vlm_words.specs.Rows.{is_lock_of}
@@ -27,7 +26,6 @@ use Rattle.vlm_locks.specs.Converting.{admission_on}
 use Rattle.vlm_locks.specs.Standing.{IsStanding, IsStandingOf}
 use Rattle.vlm_locks.proofs.Named.{IsAbsent, any-absent, any-among, find-absent, find-only}
 use Rattle.vlm_locks.proofs.Stood.{absent, only, own_among}
-use Rattle.vlm_machine.specs.declared.dequeuing.AdmittedDequeue.{AdmittedDequeue}
 use Rattle.vlm_machine.specs.Admissions.{IsAdmittedDequeue}
 use Rattle.vlm_machine.specs.Machine.{MachineState, plain_state}
 
@@ -135,35 +133,31 @@ module _ (m : MachineState) (sound : IsSound m.records) (c : Conversion) (f : St
   pub not_admitted : f.queue ≢ Granted → convert_admission (plain_state m) c ≡ None
   not_admitted ungranted = by_lock (convert_request (plain_state m) c) refl ∙ admitted_nowhere m.records sound f standing.standing (convert_request (plain_state m) c) ungranted
 
-module _ (m : MachineState) (sound : IsSound m.records) (d : Dequeue) (a : AdmittedDequeue) (admitted : IsAdmittedDequeue m d a) where
+module _ (m : MachineState) (sound : IsSound m.records) (d : Dequeue) (f : Standing) (admitted : IsAdmittedDequeue m d f) where
   -- whether the lock is granted, by the lock that stands
-  is_by_lock : is_granted d.pid (dequeue_lkid (plain_state m) d) (plain_resources m.records) ≡ is_granted a.standing.row.pid a.standing.row.lkid (plain_resources m.records)
+  is_by_lock : is_granted d.pid (dequeue_lkid (plain_state m) d) (plain_resources m.records) ≡ is_granted f.row.pid f.row.lkid (plain_resources m.records)
   is_by_lock =
       ap (λ pid. is_granted pid (dequeue_lkid (plain_state m) d) (plain_resources m.records)) (sym admitted.standing.owned)
-      ∙ ap (λ lkid. is_granted a.standing.row.pid lkid (plain_resources m.records)) (sym admitted.standing.named)
-
-  -- the flag is that of the withdrawal
-  cancel_flag : has_flag d.flags cancel ≡ a.withdrawal.stays
-  cancel_flag = sym (ap (λ (w : Withdrawal). w.stays) admitted.withdrawal)
+      ∙ ap (λ lkid. is_granted f.row.pid lkid (plain_resources m.records)) (sym admitted.standing.named)
 
   -- the cancel of a granted lock is refused
-  pub cancel_refused : a.withdrawal.stays ≡ true → a.standing.queue ≡ Granted → cancel_refusal (plain_state m) d ≡ Some Cancelgrant
+  pub cancel_refused : has_flag d.flags cancel ≡ true → f.queue ≡ Granted → cancel_refusal (plain_state m) d ≡ Some Cancelgrant
   unfolding cancel_refusal
-  cancel_refused cancels granted = rw (cancel_flag ∙ cancels, is_by_lock ∙ granted_here m.records sound a.standing admitted.standing.standing granted) refl
+  cancel_refused cancels granted = rw (cancels, is_by_lock ∙ granted_here m.records sound f admitted.standing.standing granted) refl
 
   -- the cancel of another lock is not
-  pub cancel_passes : a.standing.queue ≢ Granted → cancel_refusal (plain_state m) d ≡ None
+  pub cancel_passes : f.queue ≢ Granted → cancel_refusal (plain_state m) d ≡ None
   unfolding cancel_refusal
-  cancel_passes ungranted = rw (is_by_lock ∙ granted_nowhere m.records sound a.standing admitted.standing.standing ungranted) (of_flag (has_flag d.flags cancel))
+  cancel_passes ungranted = rw (is_by_lock ∙ granted_nowhere m.records sound f admitted.standing.standing ungranted) (of_flag (has_flag d.flags cancel))
     where
       of_flag : (b : Bool) → cond (b && false) (Some Cancelgrant) None ≡ None
       of_flag true = refl
       of_flag false = refl
 
-  -- nor is a dequeue that cancels nothing
-  pub dequeue_passes : a.withdrawal.stays ≡ false → cancel_refusal (plain_state m) d ≡ None
-  unfolding cancel_refusal
-  dequeue_passes keeps = rw (cancel_flag ∙ keeps) refl
+-- nor is a dequeue that cancels nothing
+pub dequeue_passes : (s : State) (d : Dequeue) → has_flag d.flags cancel ≡ false → cancel_refusal s d ≡ None
+unfolding cancel_refusal
+dequeue_passes s d keeps = rw keeps refl
 
 -- the checks of a dequeue of one lock, in their order
 pub refusal_alone : (s : State) (d : Dequeue) → has_flag d.flags deqall ≡ false

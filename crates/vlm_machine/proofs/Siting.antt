@@ -24,7 +24,7 @@ use Rattle.vlm_words.proofs.Passed.{both_pass, test_passes}
 use Rattle.vlm_links.specs.Lists.{IsIn}
 use Rattle.vlm_records.specs.declared.handles.Place.TheVariants.{Queued}
 use Rattle.vlm_store.specs.Plain.{plain_resource, plain_resources}
-use Rattle.vlm_store.specs.Records.{IsParentOf, IsSound, Records, StoredResource, queued, resource_at, rows_of_locks}
+use Rattle.vlm_store.specs.Records.{IsParentOf, IsSound, Records, StoredResource, Stores, queued, resource_at, rows_of_locks}
 use Rattle.vlm_locks.proofs.Found.{resource_alone, resource_at-at}
 use Rattle.vlm_locks.specs.declared.finding.Standing.{Standing}
 use Rattle.vlm_locks.specs.Standing.{IsStanding, IsStandingOf}
@@ -33,7 +33,8 @@ use Rattle.vlm_locks.proofs.Stood.{absent, own_among, stored}
 use Rattle.vlm_machine.specs.declared.enqueuing.Form.{Form}
 use Rattle.vlm_machine.specs.Admissions.{IsForm}
 use Rattle.vlm_machine.specs.Machine.{MachineState, plain_state}
-use Rattle.vlm_machine.specs.Parents.{IsParent, IsParentStanding, standing_lkid}
+use Rattle.vlm_machine.specs.declared.parents.Parent.{Parent}
+use Rattle.vlm_machine.specs.Parents.{IsParent, IsParentLock}
 
 -- what is so of each plain resource is so of each stored one
 pub each_resource : (P : Resource → Type 0) (rs : List StoredResource) → AllByRecursion P (map plain_resource rs) → (r : StoredResource) → IsIn r rs → P (plain_resource r)
@@ -187,19 +188,23 @@ module _ (m : MachineState) (sound : IsSound m.records) (pid lkid : ℕ) (f : St
 
   -- a lock that passes them is a parent
   pub parent_stands : None ≡ or_else (waiting_refusal f.row.pid f.row.lkid (Some (plain_resource stands.standing.resource))) (depth_refusal (Some (plain_resource stands.standing.resource)))
-      → IsParentStanding pid f m.records
-  parent_stands passed = record {
-    standing = record { standing = stands.standing; named = refl; owned = stands.owned };
-    named = not_0;
+      → (parent : Parent) → f.lock ≡ parent.lock → f.res ≡ parent.res → IsParentLock pid lkid parent m.records
+  parent_stands passed parent handle resource = record {
+    lock = f;
+    standing = stands;
+    handle = handle;
+    resource = resource;
+    named = λ zero. not_0 (stands.named ∙ zero);
     above = above_is stands.standing.resource
         (second_is (waiting_refusal f.row.pid f.row.lkid (Some (plain_resource stands.standing.resource))) (depth_refusal (Some (plain_resource stands.standing.resource))) (sym passed));
   }
 
 -- the row that names the parent has it
-pub parent_of_row : (s : Records) → (pid : ℕ) (parent : Option Standing) → IsParent pid parent s → (row : Row) → row.parent ≡ standing_lkid parent
+pub parent_of_row : (s : Records) → (pid lkid : ℕ) (parent : Option Parent) → IsParent pid lkid parent s → (row : Row) → row.parent ≡ lkid
     → IsParentOf (option_map (λ up. up.lock) parent) row s
-parent_of_row s pid None is row named = named
-parent_of_row s pid (Some f) is row named = (f.row, (stored s f is.standing.standing, sym named))
+parent_of_row s pid lkid None is row named = named ∙ is
+parent_of_row s pid lkid (Some parent) is row named =
+    (is.lock.row, (subst (λ at. Stores s at is.lock.row) is.handle (stored s is.lock is.standing.standing), is.standing.named ∙ sym named))
 
 -- a resource above the lowest level may be a parent
 pub shallow : (r : StoredResource) (level : ℕ) → level ≡ r.level → level < 15 → None ≡ depth_refusal (Some (plain_resource r))

@@ -6,9 +6,8 @@ use Rattle.vlm_words.specs.declared.steps.Conversion.{Conversion}
 use Rattle.vlm_words.specs.declared.steps.Dequeue.{Dequeue}
 use Rattle.vlm_words.specs.declared.steps.NewRequest.{NewRequest}
 use Rattle.vlm_words.specs.Convert.{convert_admission, convert_lkid, convert_request}
-use Rattle.vlm_words.specs.Dequeue.{dequeue_lkid, withdrawal_of}
-use Rattle.vlm_words.specs.Checks.{acceptance}
-use Rattle.vlm_words.specs.Enqueue.{enq_at_once, enq_row}
+use Rattle.vlm_words.specs.Dequeue.{dequeue_lkid}
+use Rattle.vlm_words.specs.Enqueue.{enq_at_once, enq_request, enq_row}
 use Rattle.vlm_words.specs.Flags.{cancel, deqall, flag_bits, has_flag, invvalblk}
 use Rattle.vlm_words.specs.Resources.{IsKeyed}
 use Rattle.vlm_words.specs.State.{State}
@@ -19,17 +18,16 @@ use Rattle.vlm_locks.specs.declared.finding.Standing.{Standing}
 use Rattle.vlm_locks.specs.declared.giving_up.Choice.{Choice}
 use Rattle.vlm_locks.specs.declared.giving_up.Choice.TheVariants.{All, Below}
 use Rattle.vlm_locks.specs.Converting.{admission_on}
-use Rattle.vlm_locks.specs.Standing.{IsStandingOf}
-use Rattle.vlm_locks.specs.Withdrawals.{plain_withdrawal}
+use Rattle.vlm_locks.specs.Standing.{IsStanding, IsStandingOf}
 use Rattle.vlm_locks.specs.Withdrawing.{goes}
 use Rattle.vlm_machine.specs.declared.converting.AdmittedConversion.{AdmittedConversion}
-use Rattle.vlm_machine.specs.declared.dequeuing.AdmittedDequeue.{AdmittedDequeue}
 use Rattle.vlm_machine.specs.declared.dequeuing.AdmittedDequeueOfAll.{AdmittedDequeueOfAll}
-use Rattle.vlm_machine.specs.declared.enqueuing.AdmittedRequest.{AdmittedRequest}
 use Rattle.vlm_machine.specs.declared.enqueuing.Form.{Form}
+use Rattle.vlm_machine.specs.declared.enqueuing.Sought.{Sought}
+use Rattle.vlm_machine.specs.declared.parents.Parent.{Parent}
 use Rattle.vlm_machine.specs.declared.processes.Caller.{Caller}
 use Rattle.vlm_machine.specs.Machine.{MachineState, plain_state}
-use Rattle.vlm_machine.specs.Parents.{IsParent, standing_lkid}
+use Rattle.vlm_machine.specs.Parents.{IsParent}
 
 -- the caller is a living process, and this is its handle
 pub record IsCaller (caller : Caller) (s : Records) : Type 0 where
@@ -43,12 +41,21 @@ pub record IsForm (s : State) (e : NewRequest) (form : Form) : Type 0 where
   pub name : form.name ≡ e.name
 
 -- a new request is asked by this caller, says this of itself, and its parent lock stands so, if it names one
-pub record IsAskedBy (m : MachineState) (e : NewRequest) (caller : Caller) (form : Form) (parent : Option Standing) : Type 0 where
+pub record IsAskedBy (m : MachineState) (e : NewRequest) (caller : Caller) (form : Form) (parent : Option Parent) : Type 0 where
   pub living : IsCaller caller m.records
   pub pid : caller.pid ≡ e.pid
   pub says : IsForm (plain_state m) e form
-  pub stands : IsParent caller.pid parent m.records
-  pub named : standing_lkid parent ≡ form.parent
+  pub stands : IsParent caller.pid form.parent parent m.records
+
+-- what a new request asks for, where its resource stands, how its key is hashed, where the resource is, if it is there,
+-- and whether the request is granted at once
+pub record IsSought (m : MachineState) (e : NewRequest) (s : Sought) : Type 0 where
+  pub asked : s.asked ≡ enq_request (plain_state m) e
+  pub site : s.site ≡ enq_site (plain_state m) e
+  pub keyed : IsKeyed s.site.domain s.site.key
+  pub hash : s.found.hash ≡ hash_key m.records.keys s.site.key
+  pub found : FindsResource m.records s.site.key s.found.res
+  pub at_once : s.found.at_once ≡ enq_at_once (plain_state m) e
 
 -- the entry of a new request's lock: its row and who owns it, its parent lock, where its resource stands, how its key is
 -- hashed, under which serial that is made if it is not there, and whether the request is granted at once
@@ -63,10 +70,9 @@ pub record IsEntry (m : MachineState) (e : NewRequest) (entry : Entry) : Type 0 
   pub found : FindsResource m.records entry.site.key entry.res
   pub at_once : entry.at_once ≡ enq_at_once (plain_state m) e
 
--- the new request is admitted so: the entry of its lock, and what it answers; and there are numbers for it
-pub record IsAdmitted (m : MachineState) (e : NewRequest) (a : AdmittedRequest) : Type 0 where
-  pub entry : IsEntry m e a.entry
-  pub answer : a.answer ≡ acceptance e.flags (enq_at_once (plain_state m) e)
+-- the new request is admitted so: this is the entry of its lock, and there are numbers for it
+pub record IsAdmitted (m : MachineState) (e : NewRequest) (entry : Entry) : Type 0 where
+  pub entered : IsEntry m e entry
   pub lkid : m.next_lkid < 2 ^ 32
   pub number : m.next_request < 2 ^ 64
 
@@ -80,11 +86,10 @@ pub record IsAdmittedConversion (m : MachineState) (c : Conversion) (a : Admitte
   pub found : convert_admission (plain_state m) c ≡ Some (admission_on a.standing a.asked standing.standing.resource)
   pub number : m.next_request < 2 ^ 64
 
--- the dequeue is admitted so: it is of one lock, this is its lock as it stands, and what is to become of it
-pub record IsAdmittedDequeue (m : MachineState) (d : Dequeue) (a : AdmittedDequeue) : Type 0 where
-  pub standing : IsStandingOf d.pid (dequeue_lkid (plain_state m) d) a.standing m.records
+-- the dequeue is admitted so: it is of one lock, and this is its lock as it stands
+pub record IsAdmittedDequeue (m : MachineState) (d : Dequeue) (f : Standing) : Type 0 where
+  pub standing : IsStandingOf d.pid (dequeue_lkid (plain_state m) d) f m.records
   pub alone : has_flag d.flags deqall ≡ false
-  pub withdrawal : plain_withdrawal a.withdrawal ≡ withdrawal_of d (dequeue_lkid (plain_state m) d)
 
 -- the locks that a dequeue with DEQALL gives up where this one is named: those below it, and with 0 all of the caller
 abbrev pub choice_of : ℕ → Choice
@@ -102,6 +107,6 @@ pub record IsAdmittedDequeueOfAll (m : MachineState) (d : Dequeue) (a : Admitted
   pub plain : d.value ≡ None
   pub short : d.tail ≡ None
 
--- a lock that the dequeue gives up has no sublocks
-abbrev pub IsChildless : MachineState → AdmittedDequeue → Type 0
-IsChildless m a = goes a.withdrawal.stays a.standing.queue ≡ true → HasNoSublocks a.standing.lock m.records
+-- the lock has no sublocks where the dequeue gives it up as it stands
+abbrev pub IsChildless : MachineState → Dequeue → ℕ → Type 0
+IsChildless m d lock = (f : Standing) → IsStanding f m.records → f.lock ≡ lock → goes (has_flag d.flags cancel) f.queue ≡ true → HasNoSublocks f.lock m.records

@@ -1,21 +1,20 @@
 -- The parent of a new request, as it stands in the records.
-use Rattle.std.specs.Prelude.{◌≢◌, ◌<◌, ℕ, Option, None, Some, ⊤}
+use Rattle.std.specs.Prelude.{◌≡◌, ◌≢◌, ◌<◌, ℕ, Option, None, Some}
 use Rattle.vlm_store.specs.Records.{Records}
 use Rattle.vlm_locks.specs.declared.finding.Standing.{Standing}
 use Rattle.vlm_locks.specs.Standing.{IsStandingOf}
+use Rattle.vlm_machine.specs.declared.parents.Parent.{Parent}
 
--- the identification of the parent lock, 0 where there is none
-abbrev pub standing_lkid : Option Standing → ℕ
-standing_lkid None = 0
-standing_lkid (Some parent) = parent.row.lkid
-
--- the lock is one of the process, which stands so and not on the lowest level
-pub record IsParentStanding (pid : ℕ) (parent : Standing) (s : Records) : Type 0 where
-  pub standing : IsStandingOf pid parent.row.lkid parent s
-  pub named : parent.row.lkid ≢ 0
+-- the lock is that of the process with this identification, and its resource is this one, not on the lowest level
+pub record IsParentLock (pid lkid : ℕ) (parent : Parent) (s : Records) : Type 0 where
+  pub lock : Standing
+  pub standing : IsStandingOf pid lkid lock s
+  pub handle : lock.lock ≡ parent.lock
+  pub resource : lock.res ≡ parent.res
+  pub named : lkid ≢ 0
   pub above : standing.standing.resource.level < 15
 
--- the parent lock, if there is one, stands so
-abbrev pub IsParent : ℕ → Option Standing → Records → Type 0
-IsParent pid None s = ⊤
-IsParent pid (Some parent) s = IsParentStanding pid parent s
+-- the parent lock of this identification, if one is named, is this
+abbrev pub IsParent : ℕ → ℕ → Option Parent → Records → Type 0
+IsParent pid lkid None s = lkid ≡ 0
+IsParent pid lkid (Some parent) s = IsParentLock pid lkid parent s

@@ -1,6 +1,6 @@
 //! The checks that several steps make. They only read, and answer the refusal.
 
-ghost use Rattle.std.specs.Prelude.{◌≡◌, ◌<◌, ◌≤◌, ◌^◌, IfOk, OnOk};
+ghost use Rattle.std.specs.Prelude.{◌≡◌, ◌<◌, ◌≤◌, ◌^◌, ℕ, IfOk, OnOk};
 ghost use Rattle.std.specs.Result.{result_err};
 ghost use Rattle.vlm_words.specs.Checks.{acceptance, caller_refusal, lock_refusal, named_lkid, numbers_refusal, queue_refusal, request_numbers_refusal, status_block_refusal, which_refusal};
 ghost use Rattle.vlm_words.specs.Flags.{flag_bits};
@@ -9,13 +9,15 @@ ghost use Rattle.vlm_words.specs.StatusBlocks.{status_block_of};
 ghost use Rattle.vlm_words.specs.Quotas.{quota_refusal};
 ghost use Rattle.vlm_machine.specs.Admissions.{IsCaller};
 ghost use Rattle.vlm_machine.specs.Machine.{plain_state};
-ghost use Rattle.vlm_locks.specs.Standing.{IsStandingOf};
+ghost use Rattle.vlm_locks.specs.Standing.{IsLockOf, IsStandingOf};
+ghost use Rattle.vlm_store.specs.Records.{IsStored};
 
 use crate::nodes::has_departed;
 use crate::processes::{Caller, living};
 use crate::records::Machine;
 use vlm_locks::{Standing, find_lock, standing_of};
 use vlm_procs::{has_room, status_block};
+use vlm_store::LockAt;
 use vlm_words::blocks::Block;
 use vlm_words::conditions::Cond;
 use vlm_words::flags::EnqFlags;
@@ -130,18 +132,25 @@ impl Machine {
         }
     }
 
-    /// The lock of the caller with this identification, where it stands. IVLOCKID where it has none.
+    /// The lock of the caller with this identification. IVLOCKID where it has none.
     #[tactic(auto, unfolding(vlm_words::specs::Checks::lock_refusal))]
-    pub(crate) fn checked_lock(&self, caller: &Caller, lkid: u32) -> Result<Standing, Cond>
+    pub(crate) fn checked_lock(&self, caller: &Caller, lkid: u32) -> Result<LockAt, Cond>
         ensures refusal { result_err result
             ≡ lock_refusal (plain_state self.now) caller.now.pid lkid }
-        ensures standing { IfOk result
-            (λ standing. IsStandingOf caller.now.pid lkid standing self.now.records) }
+        ensures lock { IfOk result
+            (λ lock. IsLockOf caller.now.pid lkid lock self.now.records) }
     {
-        match find_lock(&self.store, caller.pid, lkid) {
-            Some(lock) => Ok(standing_of(&self.store, lock)),
-            None => Err(Cond::Ivlockid),
-        }
+        find_lock(&self.store, caller.pid, lkid).ok_or(Cond::Ivlockid)
+    }
+
+    /// Where a lock stands that a check has found.
+    pub(crate) fn standing(&self, lock: LockAt) -> Standing
+        requires { IsStored lock self.now.records }
+        ensures lock { result.lock ≡ lock }
+        ensures standing { (pid lkid : ℕ) → IsLockOf pid lkid lock self.now.records
+            → IsStandingOf pid lkid result self.now.records }
+    {
+        standing_of(&self.store, lock)
     }
 }
 

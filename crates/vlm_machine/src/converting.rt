@@ -36,22 +36,22 @@ pub(crate) struct AdmittedConversion {
 
 impl Machine {
     /// Asks for another mode of a granted lock: its checks, its change, and the sweep of its resource.
-    pub(crate) fn convert(&mut self, conversion: Conversion) -> Answer
+    pub(crate) fn convert(&mut self, conversion: &Conversion) -> Answer
         requires { IsBetweenSteps (plain_state self.old) }
-        ensures { Outcome (plain_state self.old) (Step.Convert conversion)
+        ensures { Outcome (plain_state self.old) (Step.Convert conversion.now)
             (plain_state self.new) result }
     {
-        let admitted = match self.checked_conversion(&conversion) {
+        let checked = self.checked_conversion(conversion);
+        let admitted = match &checked {
             Ok(admitted) => admitted,
-            Err(refusal) => return Answer::Plain(refusal),
+            Err(refusal) => return Answer::Plain(*refusal),
         };
-        let standing = admitted.standing;
-        match self.convert_change(&conversion, &admitted) {
+        match self.convert_change(conversion, admitted) {
             Ok(()) => {
-                self.sweep(standing.res);
+                self.sweep(admitted.standing.res);
                 Answer::Lock(
                     acceptance(admitted.asked.flags, admitted.at_once),
-                    standing.row.lkid(),
+                    admitted.standing.row.lkid(),
                 )
             }
             Err(AllocError) => Answer::Plain(Cond::Insfmem),
@@ -69,7 +69,8 @@ impl Machine {
         let flags = checked_flags(conversion)?;
         self.check_status_block(&caller, conversion.block)?;
         let lkid = self.checked_lkid(&caller, conversion.lock)?;
-        let standing = self.checked_lock(&caller, lkid)?;
+        let lock = self.checked_lock(&caller, lkid)?;
+        let standing = self.standing(lock);
         self.checked_admission(flags, &standing, conversion)
     }
 

@@ -1,15 +1,16 @@
 //! The step that gives locks up, or cancels a request.
 
-ghost use Rattle.std.specs.Prelude.{◌≡◌, ◌==◌, ◌&&◌, None, [], true, false, not, IfOk, OnOk, if◌then◌else◌};
+ghost use Rattle.std.specs.Prelude.{◌≡◌, ◌==◌, ◌&&◌, ℕ, None, [], true, false, not, IfOk, OnOk, if◌then◌else◌};
 ghost use Rattle.std.specs.Result.{result_err};
-ghost use Rattle.vlm_words.specs.Dequeue.{cancel_refusal, conversion_ending, deq_change, deq_flags_refusal, deq_refusal, dequeued_lock_refusal, is_mixed, leaves_none, sublocks_refusal, withdrawal_of};
+ghost use Rattle.vlm_words.specs.Dequeue.{cancel_refusal, conversion_ending, deq_change, deq_flags_refusal, deq_refusal, dequeue_lkid, is_mixed, leaves_none, sublocks_refusal, withdrawal_of};
 ghost use Rattle.vlm_words.specs.Checks.{lock_refusal};
 ghost use Rattle.vlm_words.specs.Flags.{cancel, deq_flag_bits, deqall, has_flag, invvalblk};
 ghost use Rattle.vlm_words.specs.Endings.How.{by_abort};
 ghost use Rattle.vlm_words.specs.Stepped.{Outcome};
-ghost use Rattle.vlm_store.specs.Records.{HasNoSublocks, HasResource};
+ghost use Rattle.vlm_store.specs.Records.{HasNoSublocks, HasResource, IsStored};
 ghost use Rattle.vlm_locks.specs.Rest.{OthersStay};
-ghost use Rattle.vlm_locks.specs.Standing.{IsStanding};
+ghost use Rattle.vlm_locks.specs.declared.finding.Standing.{Standing};
+ghost use Rattle.vlm_locks.specs.Standing.{IsLockOf, IsStanding};
 ghost use Rattle.vlm_locks.specs.Withdrawals.{plain_withdrawal};
 ghost use Rattle.vlm_locks.specs.Withdrawing.{goes};
 ghost use Rattle.vlm_machine.specs.Admissions.{IsAdmittedDequeue, IsAdmittedDequeueOfAll, IsChildless, choice_of};
@@ -22,18 +23,11 @@ use crate::processes::Caller;
 use crate::records::Machine;
 use bitflags::Flags;
 use vlm_locks::{Choice, End, Standing, Touched, Withdrawal, give_up_together, withdraw};
+use vlm_store::LockAt;
 use vlm_store::laws::law_records_are_sound;
 use vlm_words::conditions::Cond;
 use vlm_words::flags::DeqFlags;
 use vlm_words::steps::{Answer, Dequeue, Step};
-
-/// A dequeue of one lock that no check refuses.
-#[derive(Clone, Copy)]
-pub(crate) struct AdmittedDequeue {
-    // the lock as it stands
-    standing: Standing,
-    withdrawal: Withdrawal,
-}
 
 /// A dequeue with DEQALL that no check refuses.
 #[derive(Clone, Copy)]
@@ -48,15 +42,15 @@ pub(crate) struct AdmittedDequeueOfAll {
 impl Machine {
     /// Gives locks up, or cancels a request: the lock that is named; or with DEQALL all of the caller, or all below the
     /// one that is named.
-    pub(crate) fn deq(&mut self, touched: &mut Touched, dequeue: Dequeue) -> Answer
+    pub(crate) fn deq(&mut self, touched: &mut Touched, dequeue: &Dequeue) -> Answer
         requires between { IsBetweenSteps (plain_state self.old) }
         requires notes { HasRoomToNote touched.old self.old }
-        ensures outcome { Outcome (plain_state self.old) (Step.Deq dequeue)
+        ensures outcome { Outcome (plain_state self.old) (Step.Deq dequeue.now)
             (plain_state self.new) result }
         ensures none { touched.new.noted ≡ [] }
         ensures room { touched.new.room ≡ touched.old.room }
     {
-        if asks_for_all(&dequeue) {
+        if asks_for_all(dequeue) {
             self.deq_all(touched, dequeue)
         } else {
             self.deq_one(dequeue)
@@ -64,16 +58,17 @@ impl Machine {
     }
 
     // One lock: its checks, its change, and the sweep of its resource.
-    fn deq_one(&mut self, dequeue: Dequeue) -> Answer
+    fn deq_one(&mut self, dequeue: &Dequeue) -> Answer
         requires between { IsBetweenSteps (plain_state self.old) }
-        requires alone { has_flag dequeue.flags deqall ≡ false }
-        ensures outcome { Outcome (plain_state self.old) (Step.Deq dequeue)
+        requires alone { has_flag dequeue.now.flags deqall ≡ false }
+        ensures outcome { Outcome (plain_state self.old) (Step.Deq dequeue.now)
             (plain_state self.new) result }
     {
-        match self.checked_dequeue(&dequeue) {
-            Ok(admitted) => {
-                self.deq_change(&dequeue, &admitted);
-                self.sweep(admitted.standing.res);
+        match self.checked_dequeue(dequeue) {
+            Ok(lock) => {
+                let standing = self.standing(lock);
+                self.deq_change(dequeue, &standing);
+                self.sweep(standing.res);
                 Answer::Plain(Cond::Normal)
             }
             Err(refusal) => Answer::Plain(refusal),
@@ -81,18 +76,18 @@ impl Machine {
     }
 
     // With DEQALL: its checks, the end of the requests and of the locks, and one sweep of what these touched.
-    fn deq_all(&mut self, touched: &mut Touched, dequeue: Dequeue) -> Answer
+    fn deq_all(&mut self, touched: &mut Touched, dequeue: &Dequeue) -> Answer
         requires between { IsBetweenSteps (plain_state self.old) }
         requires notes { HasRoomToNote touched.old self.old }
-        requires all { has_flag dequeue.flags deqall ≡ true }
-        ensures outcome { Outcome (plain_state self.old) (Step.Deq dequeue)
+        requires all { has_flag dequeue.now.flags deqall ≡ true }
+        ensures outcome { Outcome (plain_state self.old) (Step.Deq dequeue.now)
             (plain_state self.new) result }
         ensures none { touched.new.noted ≡ [] }
         ensures room { touched.new.room ≡ touched.old.room }
     {
-        match self.checked_dequeue_of_all(&dequeue) {
+        match self.checked_dequeue_of_all(dequeue) {
             Ok(admitted) => {
-                self.deq_all_change(touched, &dequeue, &admitted);
+                self.deq_all_change(touched, dequeue, &admitted);
                 self.sweep_touched(touched);
                 Answer::Plain(Cond::Normal)
             }
@@ -102,25 +97,22 @@ impl Machine {
 
     // The checks of one lock, in their order.
     #[tactic(auto, unfolding(vlm_words::specs::Dequeue::deq_refusal))]
-    fn checked_dequeue(&self, dequeue: &Dequeue) -> Result<AdmittedDequeue, Cond>
+    fn checked_dequeue(&self, dequeue: &Dequeue) -> Result<LockAt, Cond>
         requires between { IsBetweenSteps (plain_state self.now) }
         requires alone { has_flag dequeue.now.flags deqall ≡ false }
         ensures refusal { result_err result ≡ deq_refusal (plain_state self.now) dequeue.now }
-        ensures admitted { IfOk result (λ a. IsAdmittedDequeue self.now dequeue.now a) }
-        ensures childless { IfOk result (λ a. IsChildless self.now a) }
+        ensures lock { IfOk result (λ lock. IsLockOf dequeue.now.pid
+            (dequeue_lkid (plain_state self.now) dequeue.now) lock self.now.records) }
+        ensures childless { IfOk result (λ lock. IsChildless self.now dequeue.now lock) }
     {
         let caller = self.checked_caller(dequeue.pid)?;
         let flags = checked_flags(dequeue)?;
         let lkid = self.checked_lkid(&caller, dequeue.lock)?;
-        let withdrawal = withdrawal_of(lkid, flags, dequeue);
-        let standing = self.checked_lock(&caller, lkid)?;
-        let admitted = AdmittedDequeue {
-            standing,
-            withdrawal,
-        };
-        self.check_cancel(dequeue, &admitted)?;
-        self.check_sublocks(&standing, flags.has(DeqFlags::CANCEL))?;
-        Ok(admitted)
+        let lock = self.checked_lock(&caller, lkid)?;
+        let cancels = flags.has(DeqFlags::CANCEL);
+        self.check_cancel(dequeue, lock, cancels)?;
+        self.check_sublocks(lock, cancels)?;
+        Ok(lock)
     }
 
     // The checks with DEQALL, in their order. They never answer CANCELGRANT or SUBLOCKS.
@@ -157,12 +149,15 @@ impl Machine {
 
     // CANCELGRANT where a granted lock is to be cancelled.
     #[tactic(auto, unfolding(vlm_words::specs::Dequeue::cancel_refusal))]
-    fn check_cancel(&self, dequeue: &Dequeue, admitted: &AdmittedDequeue) -> Result<(), Cond>
-        requires { IsAdmittedDequeue self.now dequeue.now admitted.now }
+    fn check_cancel(&self, dequeue: &Dequeue, lock: LockAt, cancels: bool) -> Result<(), Cond>
+        requires alone { has_flag dequeue.now.flags deqall ≡ false }
+        requires lock { IsLockOf dequeue.now.pid (dequeue_lkid (plain_state self.now) dequeue.now)
+            lock self.now.records }
+        requires cancels { cancels ≡ has_flag dequeue.now.flags cancel }
         ensures { result_err result ≡ cancel_refusal (plain_state self.now) dequeue.now }
     {
         law_records_are_sound(&self.store);
-        if admitted.withdrawal.stays && admitted.standing.is_granted() {
+        if cancels && self.standing(lock).is_granted() {
             Err(Cond::Cancelgrant)
         } else {
             Ok(())
@@ -171,15 +166,17 @@ impl Machine {
 
     // SUBLOCKS where a lock that has sublocks is to be given up. A lock that waits has none.
     #[tactic(auto, unfolding(vlm_words::specs::Dequeue::sublocks_refusal))]
-    fn check_sublocks(&self, standing: &Standing, cancels: bool) -> Result<(), Cond>
-        requires standing { IsStanding standing.now self.now.records }
+    fn check_sublocks(&self, lock: LockAt, cancels: bool) -> Result<(), Cond>
+        requires stored { IsStored lock self.now.records }
         requires between { IsBetweenSteps (plain_state self.now) }
-        ensures refusal { result_err result
-            ≡ sublocks_refusal (plain_state self.now) cancels standing.now.row.lkid }
-        ensures childless { OnOk result (goes cancels standing.now.queue ≡ true
-            → HasNoSublocks standing.now.lock self.now.records) }
+        ensures refusal { (pid lkid : ℕ) → IsLockOf pid lkid lock self.now.records
+            → result_err result ≡ sublocks_refusal (plain_state self.now) cancels lkid }
+        ensures childless { OnOk result ((f : Standing) → IsStanding f self.now.records
+            → f.lock ≡ lock → goes cancels f.queue ≡ true
+            → HasNoSublocks f.lock self.now.records) }
     {
         law_records_are_sound(&self.store);
+        let standing = self.standing(lock);
         if !cancels && self.store.has_sublocks(standing.lock) {
             Err(Cond::Sublocks)
         } else {
@@ -189,15 +186,16 @@ impl Machine {
 
     // The lock's requests end, and it is gone from its queue, or only its request is.
     #[tactic(auto, unfolding(vlm_words::specs::Dequeue::deq_change))]
-    fn deq_change(&mut self, dequeue: &Dequeue, admitted: &AdmittedDequeue)
-        requires admitted { IsAdmittedDequeue self.old dequeue.now admitted.now }
-        requires childless { IsChildless self.old admitted.now }
+    fn deq_change(&mut self, dequeue: &Dequeue, standing: &Standing)
+        requires admitted { IsAdmittedDequeue self.old dequeue.now standing.now }
+        requires childless { IsChildless self.old dequeue.now standing.now.lock }
         requires between { IsBetweenSteps (plain_state self.old) }
         ensures change { plain_state self.new ≡ deq_change (plain_state self.old) dequeue.now }
-        ensures others { OthersStay admitted.now.standing.res self.old.records self.new.records }
-        ensures there { HasResource admitted.now.standing.res self.new.records }
+        ensures others { OthersStay standing.now.res self.old.records self.new.records }
+        ensures there { HasResource standing.now.res self.new.records }
     {
-        withdraw(&mut self.store, &admitted.standing, &admitted.withdrawal);
+        let withdrawal = withdrawal_of(standing.row.lkid(), dequeue);
+        withdraw(&mut self.store, standing, &withdrawal);
     }
 
     // The requests of the chosen locks end, and then these locks are gone.
@@ -259,8 +257,7 @@ fn checked_flags(dequeue: &Dequeue) -> Result<DeqFlags, Cond>
 
 // What the dequeue asks for: that the lock goes, or only that its request is cancelled. A cancel leaves the value
 // block as it is.
-fn withdrawal_of(lkid: u32, flags: DeqFlags, dequeue: &Dequeue) -> Withdrawal
-    requires { deq_flag_bits flags ≡ dequeue.now.flags }
+fn withdrawal_of(lkid: u32, dequeue: &Dequeue) -> Withdrawal
     ensures { plain_withdrawal result ≡ record {
       lkid = lkid;
       waiting = by_abort;
@@ -271,6 +268,7 @@ fn withdrawal_of(lkid: u32, flags: DeqFlags, dequeue: &Dequeue) -> Withdrawal
       invalidates = has_flag dequeue.now.flags invvalblk && not (has_flag dequeue.now.flags cancel);
     } }
 {
+    let flags = DeqFlags::from_bits_retain(dequeue.flags);
     let cancels = flags.has(DeqFlags::CANCEL);
     Withdrawal {
         lkid,

@@ -3,6 +3,7 @@
 ghost use Rattle.std.specs.Prelude.{◌≡◌, ◌<◌, ◌^◌, ◌+◌, ℕ, true, false, is_some, find, unwrap_or, [], if◌then◌else◌, IfOk, IfSome, IsOk, OnErr, OnOk};
 ghost use Rattle.std.specs.Result.{result_err};
 ghost use Rattle.vlm_words.specs.declared.resources.Site.{Site};
+ghost use Rattle.vlm_words.specs.declared.steps.NewRequest.{NewRequest};
 ghost use Rattle.vlm_words.specs.Enqueue.{enq_change, enq_flags_refusal, enq_form_refusal, enq_limit_refusal, enq_refusal, expedite_refusal, is_at_once, name_refusal};
 ghost use Rattle.vlm_words.specs.Resources.{is_at, new_resource};
 ghost use Rattle.vlm_words.specs.Flags.{flag_bits};
@@ -13,43 +14,35 @@ ghost use Rattle.vlm_store.specs.Records.{FindsResource, HasResource, IsUnchange
 ghost use Rattle.vlm_locks.specs.Entering.{HasRoomToEnter};
 ghost use Rattle.vlm_words.specs.Resources.{IsKeyed};
 ghost use Rattle.vlm_locks.specs.Rest.{IsAtRest, OthersStay};
-ghost use Rattle.vlm_machine.specs.Admissions.{IsAdmitted, IsAskedBy, IsCaller, IsEntry, IsForm};
+ghost use Rattle.vlm_machine.specs.Admissions.{IsAdmitted, IsAskedBy, IsCaller, IsEntry, IsForm, IsSought};
 ghost use Rattle.vlm_machine.specs.Between.{IsBetweenSteps};
 ghost use Rattle.vlm_machine.specs.Machine.{plain_state};
 ghost use Rattle.vlm_machine.specs.Notes.{HasRoomToNote};
 
 use crate::checks::{acceptance, check_queue};
 use crate::flags::enq_flags;
-use crate::parents::lock_of;
+use crate::parents::{Parent, lock_of};
 use crate::processes::Caller;
 use crate::records::Machine;
+use bitflags::Flags;
 use std::alloc::AllocError;
-use vlm_locks::{Entry, Standing, Touched, enter, enters_at_once};
+use vlm_locks::{Entry, Touched, enter, enters_at_once};
 use vlm_store::{ResAt, Store, StoredRow};
 use vlm_words::conditions::Cond;
 use vlm_words::flags::EnqFlags;
 use vlm_words::locks::{Request, Row};
 use vlm_words::modes::Mode;
 use vlm_words::names::{Name, NameArg};
-use vlm_words::resources::Key;
+use vlm_words::resources::{Key, Site};
 use vlm_words::steps::{Answer, NewRequest, Step};
-
-/// A new request that no check refuses.
-#[derive(Clone, Copy)]
-pub(crate) struct AdmittedRequest {
-    // its lock, and where that is to enter
-    entry: Entry,
-    // what it answers once the lock has entered
-    answer: Cond,
-}
 
 /// What a new request says of itself.
 #[derive(Clone, Copy)]
 pub(crate) struct Form {
-    flags: EnqFlags,
+    pub(crate) flags: EnqFlags,
     // the identification of its parent lock, 0 for none
-    parent: u32,
-    name: Name,
+    pub(crate) parent: u32,
+    pub(crate) name: Name,
 }
 
 // How a key is hashed, where its resource is, if it is there, and whether a request is granted at once on it, or on a
@@ -59,6 +52,14 @@ pub(crate) struct Found {
     hash: u32,
     res: Option<ResAt>,
     at_once: bool,
+}
+
+// What a new request asks for, where its resource stands, and what is found there.
+#[derive(Clone, Copy)]
+pub(crate) struct Sought {
+    asked: Request,
+    site: Site,
+    found: Found,
 }
 
 fn entrance(store: &Store, key: &Key, asked: &Request) -> Found
@@ -97,35 +98,37 @@ fn last_given(last_serial: u32, entry: &Entry) -> u32
 impl Machine {
     /// Asks for a new lock: its checks, its change, and the sweep of its resource. An ending of the lock is to find room
     /// to note its resource: that is made here.
-    pub(crate) fn enq(&mut self, touched: &mut Touched, request: NewRequest) -> Answer
+    pub(crate) fn enq(&mut self, touched: &mut Touched, request: &NewRequest) -> Answer
         requires between { IsBetweenSteps (plain_state self.old) }
         requires notes { HasRoomToNote touched.old self.old }
-        ensures outcome { Outcome (plain_state self.old) (Step.Enq request)
+        ensures outcome { Outcome (plain_state self.old) (Step.Enq request.now)
             (plain_state self.new) result }
         ensures notes { HasRoomToNote touched.new self.new }
     {
-        let admitted = match self.checked_request(&request) {
-            Ok(admitted) => admitted,
-            Err(refusal) => return Answer::Plain(refusal),
+        let checked = self.checked_request(request);
+        let entry = match &checked {
+            Ok(entry) => entry,
+            Err(refusal) => return Answer::Plain(*refusal),
         };
         let Ok(()) = touched.make_room_beyond(self.store.total_locks()) else {
             return Answer::Plain(Cond::Insfmem);
         };
-        match self.enq_change(&request, &admitted) {
+        match self.enq_change(request, entry) {
             Ok(res) => {
                 self.sweep(res);
-                Answer::Lock(admitted.answer, admitted.entry.row.lkid())
+                let flags = EnqFlags::from_bits_retain(request.flags);
+                Answer::Lock(acceptance(flags, entry.at_once), entry.row.lkid())
             }
             Err(AllocError) => Answer::Plain(Cond::Insfmem),
         }
     }
 
-    // The checks in their order.
+    // The checks in their order: the lock that is made, and where it is to enter.
     #[tactic(auto, unfolding(vlm_words::specs::Enqueue::enq_refusal))]
-    fn checked_request(&self, request: &NewRequest) -> Result<AdmittedRequest, Cond>
+    fn checked_request(&self, request: &NewRequest) -> Result<Entry, Cond>
         requires { IsBetweenSteps (plain_state self.now) }
         ensures refusal { result_err result ≡ enq_refusal (plain_state self.now) request.now }
-        ensures admitted { IfOk result (λ a. IsAdmitted self.now request.now a) }
+        ensures admitted { IfOk result (λ entry. IsAdmitted self.now request.now entry) }
     {
         let caller = self.checked_caller(request.pid)?;
         let form = self.checked_form(&caller, request)?;
@@ -159,72 +162,76 @@ impl Machine {
         &self,
         caller: &Caller,
         form: &Form,
-        parent: &Option<Standing>,
+        parent: &Option<Parent>,
         request: &NewRequest,
-    ) -> Result<AdmittedRequest, Cond>
+    ) -> Result<Entry, Cond>
         requires asked { IsAskedBy self.now request.now caller.now form.now parent.now }
         requires between { IsBetweenSteps (plain_state self.now) }
         ensures refusal { result_err result ≡ enq_limit_refusal (plain_state self.now) request.now }
-        ensures admitted { IfOk result (λ a. IsAdmitted self.now request.now a) }
+        ensures admitted { IfOk result (λ entry. IsAdmitted self.now request.now entry) }
     {
         self.check_quota(caller)?;
         self.check_numbers()?;
-        let entry = self.entry(caller, form, parent, request);
-        check_queue(form.flags, entry.at_once)?;
-        Ok(AdmittedRequest {
-            entry,
-            answer: acceptance(form.flags, entry.at_once),
-        })
+        let sought = self.sought(caller, form, parent, request);
+        check_queue(form.flags, sought.found.at_once)?;
+        Ok(self.entry(caller, form, parent, &sought))
     }
 
-    // The lock that the request makes, under the numbers to come, and where it is to enter.
-    fn entry(
+    // What the request asks for under the number to come, and what is found where its resource stands.
+    fn sought(
         &self,
         caller: &Caller,
         form: &Form,
-        parent: &Option<Standing>,
+        parent: &Option<Parent>,
         request: &NewRequest,
-    ) -> Entry
+    ) -> Sought
         requires asked { IsAskedBy self.now request.now caller.now form.now parent.now }
         requires between { IsBetweenSteps (plain_state self.now) }
-        requires lkid { self.now.next_lkid < 2 ^ 32 }
         requires number { self.now.next_request < 2 ^ 64 }
-        ensures { IsEntry self.now request.now result }
+        ensures { IsSought self.now request.now result }
     {
-        let site = self.site_of(caller, form.flags, form.name, parent);
         let asked = request_of(self.last_request + 1, form.flags, request);
-        let entrance = entrance(&self.store, &site.key, &asked);
+        let site = self.site_of(caller, form, parent);
+        Sought {
+            asked,
+            site,
+            found: entrance(&self.store, &site.key, &asked),
+        }
+    }
+
+    // The lock that a request makes, under the identification to come, and where it is to enter.
+    fn entry(&self, caller: &Caller, form: &Form, parent: &Option<Parent>, sought: &Sought) -> Entry
+        requires between { IsBetweenSteps (plain_state self.now) }
+        requires lkid { self.now.next_lkid < 2 ^ 32 }
+        ensures { (e : NewRequest) → IsAskedBy self.now e caller.now form.now parent.now
+            → IsSought self.now e sought.now → IsEntry self.now e result }
+    {
         Entry {
-            row: row_of(self.last_lkid + 1, caller.pid, form.parent, asked),
+            row: row_of(self.last_lkid + 1, caller.pid, form.parent, sought.asked),
             owner: caller.at,
             parent: lock_of(parent),
-            site,
-            hash: entrance.hash,
+            site: sought.site,
+            hash: sought.found.hash,
             serial: self.last_serial + 1,
-            res: entrance.res,
-            at_once: entrance.at_once,
+            res: sought.found.res,
+            at_once: sought.found.at_once,
         }
     }
 
     // The lock enters its resource, with all that becomes of its status block, and the numbers that it took are used
     // up. Where memory for it, or for the ASTs of the routines that are named, is refused, nothing is changed but that
     // there may be more room.
-    fn enq_change(
-        &mut self,
-        request: &NewRequest,
-        admitted: &AdmittedRequest,
-    ) -> Result<ResAt, AllocError>
-        requires admitted { IsAdmitted self.old request.now admitted.now }
+    fn enq_change(&mut self, request: &NewRequest, entry: &Entry) -> Result<ResAt, AllocError>
+        requires admitted { IsAdmitted self.old request.now entry.now }
         requires between { IsBetweenSteps (plain_state self.old) }
         ensures change { OnOk result
             (plain_state self.new ≡ enq_change (plain_state self.old) request.now) }
         ensures others { IfOk result (λ res. OthersStay res self.old.records self.new.records) }
         ensures there { IfOk result (λ res. HasResource res self.new.records) }
-        ensures succeeds { HasRoomToEnter admitted.now.entry self.old.records → IsOk result }
+        ensures succeeds { HasRoomToEnter entry.now self.old.records → IsOk result }
         ensures state { OnErr result (plain_state self.new ≡ plain_state self.old) }
         ensures unchanged { OnErr result (IsUnchanged self.old.records self.new.records) }
     {
-        let entry = &admitted.entry;
         let res = enter(&mut self.store, entry)?;
         self.last_lkid += 1;
         self.last_request += 1;

@@ -14,8 +14,9 @@ ghost use Rattle.vlm_locks.specs.Standing.{IsStanding};
 ghost use Rattle.vlm_machine.specs.Admissions.{IsCaller};
 ghost use Rattle.vlm_machine.specs.Between.{IsBetweenSteps};
 ghost use Rattle.vlm_machine.specs.Machine.{plain_state};
-ghost use Rattle.vlm_machine.specs.Parents.{IsParent, standing_lkid};
+ghost use Rattle.vlm_machine.specs.Parents.{IsParent};
 
+use crate::enqueuing::Form;
 use crate::processes::Caller;
 use crate::records::Machine;
 use vlm_locks::Standing;
@@ -24,21 +25,29 @@ use vlm_store::laws::law_records_are_sound;
 use vlm_store::{LockAt, ResAt};
 use vlm_words::conditions::Cond;
 use vlm_words::flags::EnqFlags;
-use vlm_words::names::Name;
 use vlm_words::resources::{Domain, Key, Queue, Site};
 
 // The lowest level at which a resource can stand.
 const LAST_LEVEL: u8 = 15;
 
+/// The parent lock of a new request.
+#[derive(Clone, Copy)]
+pub(crate) struct Parent {
+    // the lock
+    lock: LockAt,
+    // its resource
+    res: ResAt,
+}
+
 /// The handle of the parent lock, if there is one.
-pub(crate) fn lock_of(parent: &Option<Standing>) -> Option<LockAt>
+pub(crate) fn lock_of(parent: &Option<Parent>) -> Option<LockAt>
     ensures { result ≡ option_map (λ up. up.lock) parent.now }
 {
     parent.map(|parent| parent.lock)
 }
 
 impl Machine {
-    /// The parent lock of a request, where it stands; none where 0 is named. IVLOCKID where the lock is
+    /// The parent lock of a request, by its handle and its resource's; none where 0 is named. IVLOCKID where the lock is
     /// none of the caller, PARNOTGRANT where it waits, EXDEPTH where it stands on the lowest level,
     /// NOSYSLCK where SYSTEM asks for a root and the caller has not the privilege.
     #[tactic(auto, unfolding(vlm_words::specs::Trees::site_refusal))]
@@ -47,35 +56,37 @@ impl Machine {
         caller: &Caller,
         flags: EnqFlags,
         lkid: u32,
-    ) -> Result<Option<Standing>, Cond>
+    ) -> Result<Option<Parent>, Cond>
         requires { IsCaller caller.now self.now.records }
         ensures refusal { result_err result
             ≡ site_refusal (plain_state self.now) caller.now.pid (flag_bits flags) lkid }
         ensures parent { IfOk result
-            (λ parent. IsParent caller.now.pid parent self.now.records) }
-        ensures named { IfOk result (λ parent. standing_lkid parent ≡ lkid) }
+            (λ parent. IsParent caller.now.pid lkid parent self.now.records) }
     {
         let parent = self.checked_parent(caller, lkid)?;
         self.check_privilege(caller, flags, lkid)?;
         Ok(parent)
     }
 
-    // The parent lock, where it stands; none where 0 is named.
+    // The parent lock, by these handles; none where 0 is named.
     #[tactic(auto, unfolding(vlm_words::specs::Trees::parent_refusal))]
-    fn checked_parent(&self, caller: &Caller, lkid: u32) -> Result<Option<Standing>, Cond>
+    fn checked_parent(&self, caller: &Caller, lkid: u32) -> Result<Option<Parent>, Cond>
         ensures refusal { result_err result
             ≡ parent_refusal (plain_state self.now) caller.now.pid lkid }
         ensures parent { IfOk result
-            (λ parent. IsParent caller.now.pid parent self.now.records) }
-        ensures named { IfOk result (λ parent. standing_lkid parent ≡ lkid) }
+            (λ parent. IsParent caller.now.pid lkid parent self.now.records) }
     {
         law_records_are_sound(&self.store);
         if lkid == 0 {
             return Ok(None);
         }
-        let parent = self.checked_lock(caller, lkid)?;
-        self.check_parent(&parent)?;
-        Ok(Some(parent))
+        let lock = self.checked_lock(caller, lkid)?;
+        let standing = self.standing(lock);
+        self.check_parent(&standing)?;
+        Ok(Some(Parent {
+            lock,
+            res: standing.res,
+        }))
     }
 
     // PARNOTGRANT where a parent waits, EXDEPTH where it stands on the lowest level.
@@ -123,34 +134,32 @@ impl Machine {
 
     /// Where the resource of a request stands: below its parent resource, in the same domain and one
     /// level lower, or as a root in the system's domain or in the group of the caller.
-    pub(crate) fn site_of(
-        &self,
-        caller: &Caller,
-        flags: EnqFlags,
-        name: Name,
-        parent: &Option<Standing>,
-    ) -> Site
+    // (a call of its own: the name stands at two places in the two forms of a key, and where this is a part of its
+    // caller the key is taken to pieces and put together again)
+    #[inline(never)]
+    pub(crate) fn site_of(&self, caller: &Caller, form: &Form, parent: &Option<Parent>) -> Site
         requires caller { IsCaller caller.now self.now.records }
-        requires parent { IsParent caller.now.pid parent.now self.now.records }
+        requires parent { IsParent caller.now.pid form.now.parent parent.now self.now.records }
         requires between { IsBetweenSteps (plain_state self.now) }
         ensures site { result
-            ≡ site_below (root_domain (plain_state self.now) caller.now.pid (flag_bits flags)) name
-            (parent_resource (plain_state self.now) caller.now.pid (standing_lkid parent.now)) }
+            ≡ site_below (root_domain (plain_state self.now) caller.now.pid
+            (flag_bits form.now.flags)) form.now.name
+            (parent_resource (plain_state self.now) caller.now.pid form.now.parent) }
         ensures keyed { IsKeyed result.domain result.key }
     {
         match parent {
             Some(parent) => {
                 let above = self.store.resource_record(parent.res);
                 Site {
-                    key: Key::Below(above.serial, name),
+                    key: Key::Below(above.serial, form.name),
                     domain: above.domain,
                     level: above.level + 1,
                 }
             }
             None => {
-                let domain = self.root_domain(caller, flags);
+                let domain = self.root_domain(caller, form.flags);
                 Site {
-                    key: Key::Root(domain, name),
+                    key: Key::Root(domain, form.name),
                     domain,
                     level: 0,
                 }

@@ -73,16 +73,16 @@ impl Machine {
         ensures notes { HasRoomToNote touched.new self.new }
         ensures marks { HasRoomToMark scratch.new self.new }
     {
-        match step {
-            Step::Declare(declaration) => self.declare(scratch, declaration),
+        match &step {
+            Step::Declare(declaration) => self.declare(scratch, *declaration),
             Step::SetValue(setting) => self.set_value(setting),
             Step::Enq(request) => self.enq(touched, request),
             Step::Convert(conversion) => self.convert(conversion),
             Step::Deq(dequeue) => self.deq(touched, dequeue),
-            Step::Rundown(pid) => self.rundown(touched, pid),
-            Step::Leave(node) => self.leave(touched, node),
-            Step::Search(node) => self.search(scratch, node),
-            Step::Take(pid) => self.take(pid),
+            Step::Rundown(pid) => self.rundown(touched, *pid),
+            Step::Leave(node) => self.leave(touched, *node),
+            Step::Search(node) => self.search(scratch, *node),
+            Step::Take(pid) => self.take(*pid),
         }
     }
 

@@ -17,14 +17,14 @@ use vlm_words::steps::{Answer, Step, ValueSetting};
 impl Machine {
     /// Writes the value part of a status block of the caller, and its tail where one is given, and nothing else. No
     /// resource is touched, so nothing is to be swept.
-    pub(crate) fn set_value(&mut self, setting: ValueSetting) -> Answer
+    pub(crate) fn set_value(&mut self, setting: &ValueSetting) -> Answer
         requires { IsBetweenSteps (plain_state self.old) }
-        ensures { Outcome (plain_state self.old) (Step.SetValue setting)
+        ensures { Outcome (plain_state self.old) (Step.SetValue setting.now)
             (plain_state self.new) result }
     {
-        match self.checked_setting(&setting) {
+        match self.checked_setting(setting) {
             Ok(caller) => {
-                self.set_change(&caller, &setting);
+                self.set_change(&caller, setting);
                 Answer::Plain(Cond::Normal)
             }
             Err(refusal) => Answer::Plain(refusal),

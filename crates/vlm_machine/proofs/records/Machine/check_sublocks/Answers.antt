@@ -1,54 +1,54 @@
 use Rattle.std.proofs.Common.{◌≡◌, [], sym, ap, ◌∙◌, subst}
+use Rattle.vlm_words.specs.Dequeue.{sublocks_refusal}
 use Rattle.vlm_store.specs.Plain.{plain_resources}
 use Rattle.vlm_store.specs.Records.{HasNoSublocks, IsSound}
-use Rattle.vlm_locks.specs.Standing.{IsStanding}
 use Rattle.vlm_locks.specs.Withdrawing.{goes}
-use Rattle.vlm_locks.proofs.Stood.{stored}
-use Rattle.vlm_machine.specs.Machine.{MachineState}
+use Rattle.vlm_machine.specs.Machine.{MachineState, plain_state}
 use Rattle.vlm_machine.proofs.Childless.{by_recursion, cancel_passes_sublocks, goes_waiting, sublocks_pass, sublocks_refused, waiting_childless}
 use Rattle.vlm_machine.proofs.records.Machine.check_sublocks.Goals.{else-not-cancels-via-then-not-cancels+else-has_sublocks, else-not-cancels-via-else-not-cancels}
 use Rattle.vlm_machine.proofs.records.Machine.check_sublocks.Goals as goal
 
 pub has_sublocks-requires : goal.has_sublocks-requires
-has_sublocks-requires c =
-    let f = c.args.standing.now in
-    let standing = subst (λ (m : MachineState). IsStanding f m.records) (sym c.self.view_is) c.requires.standing in
-    (f.row, stored c.self.inside.store f standing)
+has_sublocks-requires c = rw c.standing-standing.ensures.lock (rw (← c.self.view_is) at c.requires.stored)
 
 pub returns-then-has_sublocks-clause-refusal : goal.returns-then-has_sublocks-clause-refusal
-returns-then-has_sublocks-clause-refusal c =
+returns-then-has_sublocks-clause-refusal c pid lkid found =
     let m = c.args.self.now in
-    let f = c.args.standing.now in
-    sublocks_refused m (rw (← c.self.view_is) c.law_records_are_sound.ensures) (rw (← c.self.view_is) c.self.invariant.rest.none_loose) f c.requires.standing c.args.cancels c.if-not-cancels.true
+    let f = c.standing-standing.result in
+    let stands = c.standing-standing.ensures.standing pid lkid found in
+    sublocks_refused m (rw (← c.self.view_is) c.law_records_are_sound.ensures) (rw (← c.self.view_is) c.self.invariant.rest.none_loose) f stands.standing c.args.cancels c.if-not-cancels.true
     (λ none. c.if-has_sublocks.ensures.some (subst (λ (k : MachineState). HasNoSublocks f.lock k.records) (sym c.self.view_is) none))
+    ∙ ap (sublocks_refusal (plain_state m) c.args.cancels) stands.named
 
 pub returns-else-not-cancels-clause-refusal : goal.returns-else-not-cancels-clause-refusal
-returns-else-not-cancels-clause-refusal c =
+returns-else-not-cancels-clause-refusal c pid lkid found =
     let m = c.args.self.now in
-    let f = c.args.standing.now in
+    let f = c.standing-standing.result in
+    let stands = c.standing-standing.ensures.standing pid lkid found in
     let sound : IsSound m.records = rw (← c.self.view_is) c.law_records_are_sound.ensures in
     let none_loose : m.records.loose ≡ [] = rw (← c.self.view_is) c.self.invariant.rest.none_loose in
     elim c.else-not-cancels.branch [
       | else-not-cancels-via-then-not-cancels+else-has_sublocks w ↦
-          sublocks_pass m sound none_loose f c.requires.standing c.args.cancels c.requires.between.identifications.none_is_0
+          sublocks_pass m sound none_loose f stands.standing c.args.cancels c.requires.between.identifications.none_is_0
           (subst (λ (k : MachineState). HasNoSublocks f.lock k.records) c.self.view_is w.if-has_sublocks.ensures.none)
+          ∙ ap (sublocks_refusal (plain_state m) c.args.cancels) stands.named
       | else-not-cancels-via-else-not-cancels w ↦
-          cancel_passes_sublocks m sound none_loose f c.requires.standing c.args.cancels w.if-not-cancels.false
+          cancel_passes_sublocks m sound none_loose f stands.standing c.args.cancels w.if-not-cancels.false
+          ∙ ap (sublocks_refusal (plain_state m) c.args.cancels) stands.named
     ]
 
 -- a lock that is given up has none, and one that a cancel takes waits
 pub returns-else-not-cancels-clause-childless : goal.returns-else-not-cancels-clause-childless
-returns-else-not-cancels-clause-childless c =
+returns-else-not-cancels-clause-childless c f stands is =
     let m = c.args.self.now in
-    let f = c.args.standing.now in
     let sound : IsSound m.records = rw (← c.self.view_is) c.law_records_are_sound.ensures in
     let none_loose : m.records.loose ≡ [] = rw (← c.self.view_is) c.self.invariant.rest.none_loose in
     elim c.else-not-cancels.branch [
       | else-not-cancels-via-then-not-cancels+else-has_sublocks w ↦
-          λ _. subst (λ (k : MachineState). HasNoSublocks f.lock k.records) c.self.view_is w.if-has_sublocks.ensures.none
+          λ _. rw (is ∙ sym c.standing-standing.ensures.lock) (subst (λ (k : MachineState). HasNoSublocks c.standing-standing.result.lock k.records) c.self.view_is w.if-has_sublocks.ensures.none)
       | else-not-cancels-via-else-not-cancels w ↦
           λ takes.
-          waiting_childless m.records sound none_loose f c.requires.standing c.requires.between.identifications.none_is_0
+          waiting_childless m.records sound none_loose f stands c.requires.between.identifications.none_is_0
           (by_recursion (plain_resources m.records) c.requires.between.parents)
           (goes_waiting f.queue (sym (ap (λ b. goes b f.queue) w.if-not-cancels.false) ∙ takes))
     ]

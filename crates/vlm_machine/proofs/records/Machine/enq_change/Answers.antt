@@ -13,21 +13,21 @@ use Rattle.vlm_machine.proofs.records.Machine.enq_change.Goals as goal
 pub enter-requires-clause-may_enter : goal.enter-requires-clause-may_enter
 enter-requires-clause-may_enter c =
     let between = subst (λ (m : MachineState). IsBetweenSteps (plain_state m)) (sym c.self.view_is) c.requires.between in
-    let admitted = subst (λ (m : MachineState). IsAdmitted m c.args.request.now c.args.admitted.now) (sym c.self.view_is) c.requires.admitted in
-    let row = c.args.admitted.now.entry.row in
-    let lkid : row.lkid ≡ c.self.inside.last_lkid + 1 = ap (λ (r : Row). r.lkid) admitted.entry.row in
+    let admitted = subst (λ (m : MachineState). IsAdmitted m c.args.request.now c.args.entry.now) (sym c.self.view_is) c.requires.admitted in
+    let row = c.args.entry.now.row in
+    let lkid : row.lkid ≡ c.self.inside.last_lkid + 1 = ap (λ (r : Row). r.lkid) admitted.entered.row in
     record {
       rest = c.self.invariant.rest;
       rising = above_all c.self.inside.store row.lkid c.self.invariant.rest.none_loose (λ other from. between.identifications.none_to_come other (omega (arith, lkid, from)));
-      owner = admitted.entry.owner;
-      parent = admitted.entry.parent;
-      keyed = admitted.entry.keyed;
-      hash = admitted.entry.hash;
+      owner = admitted.entered.owner;
+      parent = admitted.entered.parent;
+      keyed = admitted.entered.keyed;
+      hash = admitted.entered.hash;
     }
 
 -- a new lock is not armed
 pub enter-requires-clause-new : goal.enter-requires-clause-new
-enter-requires-clause-new c = ap (λ (r : Row). r.armed) c.requires.admitted.entry.row
+enter-requires-clause-new c = ap (λ (r : Row). r.armed) c.requires.admitted.entered.row
 
 -- where memory is refused it is as it was
 pub invariant_of-self : goal.invariant_of-self
@@ -41,8 +41,8 @@ pub returns-clause-change : goal.returns-clause-change
 returns-clause-change c =
     let m = kept c.self.inside in
     let e = c.args.request.now in
-    let entry = c.args.admitted.now.entry in
-    let is = (subst (λ (m : MachineState). IsAdmitted m e c.args.admitted.now) (sym c.self.view_is) c.requires.admitted).entry in
+    let entry = c.args.entry.now in
+    let is = (subst (λ (m : MachineState). IsAdmitted m e c.args.entry.now) (sym c.self.view_is) c.requires.admitted).entered in
     rw (← c.self.view_is)
     (entered_state m e entry is c.enter.new.store (c.self.inside.last_lkid + 1 + 1) (c.self.inside.last_request + 1 + 1) (c.last_given-self-inside.result + 1)
     (resources_are m e entry is c.enter.new.store c.in_ok-res.ensures.entered.taken.entered)

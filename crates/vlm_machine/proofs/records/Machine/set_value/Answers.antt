@@ -10,5 +10,5 @@ use Rattle.vlm_machine.proofs.records.Machine.set_value.Goals as goal
 pub returns-in-Ok : goal.returns-in-Ok
 unfolding set_change
 returns-in-Ok c =
-    made_unswept (plain_state c.args.self.now) (plain_state c.set_change.new.self) (SetValue c.args.setting) (Plain Normal) refl c.in-Ok.ensures.refusal
+    made_unswept (plain_state c.args.self.now) (plain_state c.set_change.new.self) (SetValue c.args.setting.now) (Plain Normal) refl c.in-Ok.ensures.refusal
     c.requires.settled c.set_change.ensures refl

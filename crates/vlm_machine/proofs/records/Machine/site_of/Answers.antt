@@ -6,7 +6,7 @@ use Rattle.vlm_store.specs.Plain.{plain_resource}
 use Rattle.vlm_store.specs.Records.{StoredResource, resource_at}
 use Rattle.vlm_locks.proofs.Stood.{resource_among}
 use Rattle.vlm_machine.specs.Machine.{MachineState, kept, plain_state}
-use Rattle.vlm_machine.specs.Parents.{IsParent, IsParentStanding, standing_lkid}
+use Rattle.vlm_machine.specs.Parents.{IsParent, IsParentLock}
 use Rattle.vlm_machine.specs.Between.{IsBetweenSteps}
 use Rattle.vlm_machine.proofs.Siting.{of_some, parent_found, parent_none, serial_from_1, site_record}
 use Rattle.vlm_machine.proofs.records.Machine.site_of.Goals as goal
@@ -15,39 +15,43 @@ pub returns-in-Some-clause-site : goal.returns-in-Some-clause-site
 returns-in-Some-clause-site c =
     let m = kept c.self.inside in
     let pid = c.args.caller.now.pid in
-    let f = c.in-Some.parent in
-    let is : IsParentStanding pid f m.records =
-    subst (λ o. IsParent pid o m.records) c.in-Some.is (subst (λ (k : MachineState). IsParent pid c.args.parent.now k.records) (sym c.self.view_is) c.requires.parent) in
+    let up = c.in-Some.parent in
+    let lkid = c.args.form.now.parent in
+    let is : IsParentLock pid lkid up m.records =
+    subst (λ o. IsParent pid lkid o m.records) c.in-Some.is (subst (λ (k : MachineState). IsParent pid lkid c.args.parent.now k.records) (sym c.self.view_is) c.requires.parent) in
     let r = is.standing.standing.resource in
-    let found = is.standing.standing.found in
-    let up : parent_resource (plain_state m) pid (standing_lkid c.args.parent.now) ≡ Some (plain_resource r) =
-    ap (λ o. parent_resource (plain_state m) pid (standing_lkid o)) c.in-Some.is ∙ parent_found m c.resource_record-above.ensures.sound f is.standing.standing pid is.standing.owned is.named in
+    let found : resource_at up.res m.records.resources ≡ Some r = subst (λ at. resource_at at m.records.resources ≡ Some r) is.resource is.standing.standing.found in
+    let below : parent_resource (plain_state m) pid lkid ≡ Some (plain_resource r) =
+    ap (parent_resource (plain_state m) pid) (sym is.standing.named)
+    ∙ parent_found m c.resource_record-above.ensures.sound is.lock is.standing.standing pid is.standing.owned (λ zero. is.named (sym is.standing.named ∙ zero)) in
     rw (← c.self.view_is)
-    (site_record (root_domain (plain_state m) pid (flag_bits c.args.flags)) c.args.name c.resource_record-above.result.now.serial c.resource_record-above.result.now.domain c.resource_record-above.result.now.level r
-    (of_some (λ (x : StoredResource). c.resource_record-above.result.now.serial ≡ x.serial) (resource_at f.res m.records.resources) r found c.resource_record-above.ensures.serial)
-    (of_some (λ (x : StoredResource). c.resource_record-above.result.now.domain ≡ x.domain) (resource_at f.res m.records.resources) r found c.resource_record-above.ensures.domain)
-    (of_some (λ (x : StoredResource). c.resource_record-above.result.now.level ≡ x.level) (resource_at f.res m.records.resources) r found c.resource_record-above.ensures.level)
-    ∙ sym (ap (site_below (root_domain (plain_state m) pid (flag_bits c.args.flags)) c.args.name) up))
+    (site_record (root_domain (plain_state m) pid (flag_bits c.args.form.now.flags)) c.args.form.now.name c.resource_record-above.result.now.serial c.resource_record-above.result.now.domain c.resource_record-above.result.now.level r
+    (of_some (λ (x : StoredResource). c.resource_record-above.result.now.serial ≡ x.serial) (resource_at up.res m.records.resources) r found c.resource_record-above.ensures.serial)
+    (of_some (λ (x : StoredResource). c.resource_record-above.result.now.domain ≡ x.domain) (resource_at up.res m.records.resources) r found c.resource_record-above.ensures.domain)
+    (of_some (λ (x : StoredResource). c.resource_record-above.result.now.level ≡ x.level) (resource_at up.res m.records.resources) r found c.resource_record-above.ensures.level)
+    ∙ sym (ap (site_below (root_domain (plain_state m) pid (flag_bits c.args.form.now.flags)) c.args.form.now.name) below))
 
 -- a parent has a serial
 pub returns-in-Some-clause-keyed : goal.returns-in-Some-clause-keyed
 returns-in-Some-clause-keyed c =
     let m = kept c.self.inside in
     let pid = c.args.caller.now.pid in
-    let f = c.in-Some.parent in
-    let is : IsParentStanding pid f m.records =
-    subst (λ o. IsParent pid o m.records) c.in-Some.is (subst (λ (k : MachineState). IsParent pid c.args.parent.now k.records) (sym c.self.view_is) c.requires.parent) in
+    let up = c.in-Some.parent in
+    let lkid = c.args.form.now.parent in
+    let is : IsParentLock pid lkid up m.records =
+    subst (λ o. IsParent pid lkid o m.records) c.in-Some.is (subst (λ (k : MachineState). IsParent pid lkid c.args.parent.now k.records) (sym c.self.view_is) c.requires.parent) in
     let r = is.standing.standing.resource in
-    let found = is.standing.standing.found in
+    let found : resource_at up.res m.records.resources ≡ Some r = subst (λ at. resource_at at m.records.resources ≡ Some r) is.resource is.standing.standing.found in
     let between = subst (λ (k : MachineState). IsBetweenSteps (plain_state k)) (sym c.self.view_is) c.requires.between in
-    let serial : c.resource_record-above.result.now.serial ≡ r.serial = of_some (λ (x : StoredResource). c.resource_record-above.result.now.serial ≡ x.serial) (resource_at f.res m.records.resources) r found c.resource_record-above.ensures.serial in
-    subst (λ n. 0 < n) (sym serial) (serial_from_1 m.records between.serials_from_1 r (resource_among f.res m.records.resources r found))
+    let serial : c.resource_record-above.result.now.serial ≡ r.serial = of_some (λ (x : StoredResource). c.resource_record-above.result.now.serial ≡ x.serial) (resource_at up.res m.records.resources) r found c.resource_record-above.ensures.serial in
+    subst (λ n. 0 < n) (sym serial) (serial_from_1 m.records between.serials_from_1 r (resource_among up.res m.records.resources r found))
 
 pub returns-in-None-clause-site : goal.returns-in-None-clause-site
 returns-in-None-clause-site c =
     let m = c.args.self.now in
     let pid = c.args.caller.now.pid in
-    let none : parent_resource (plain_state m) pid (standing_lkid c.args.parent.now) ≡ None =
-    ap (λ o. parent_resource (plain_state m) pid (standing_lkid o)) c.in-None.is ∙ parent_none m pid in
-    ap (λ (d : Domain). site_below d c.args.name None) c.root_domain-domain.ensures
-    ∙ sym (ap (site_below (root_domain (plain_state m) pid (flag_bits c.args.flags)) c.args.name) none)
+    let lkid = c.args.form.now.parent in
+    let zero : lkid ≡ 0 = subst (λ o. IsParent pid lkid o m.records) c.in-None.is c.requires.parent in
+    let none : parent_resource (plain_state m) pid lkid ≡ None = ap (parent_resource (plain_state m) pid) zero ∙ parent_none m pid in
+    ap (λ (d : Domain). site_below d c.args.form.now.name None) c.root_domain-domain.ensures
+    ∙ sym (ap (site_below (root_domain (plain_state m) pid (flag_bits c.args.form.now.flags)) c.args.form.now.name) none)

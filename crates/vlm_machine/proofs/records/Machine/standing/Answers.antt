@@ -1,11 +1,11 @@
 use Rattle.std.proofs.Common.{sym, ap, ◌∙◌}
 use Rattle.vlm_words.specs.declared.locks.Row.{Row}
-use Rattle.vlm_machine.proofs.records.Machine.checked_lock.Goals as goal
+use Rattle.vlm_machine.proofs.records.Machine.standing.Goals as goal
 
--- the lock that is found stands so
-pub returns-in-Some-clause-standing : goal.returns-in-Some-clause-standing
-returns-in-Some-clause-standing c =
-    let found = c.in-Some.ensures.lock in
+-- the lock that was found stands so
+pub returns-clause-standing : goal.returns-clause-standing
+returns-clause-standing c pid lkid found =
+    let found = rw (← c.self.view_is) at found in
     let same = c.standing_of.ensures.only found.row found.stored in
     rw (← c.self.view_is)
     (record {
