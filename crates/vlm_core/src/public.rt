@@ -127,7 +127,7 @@ impl Core {
     {
         self.between_steps();
         self.machine
-            .step(&mut self.touched, &mut self.scratch, step)
+            .step(&mut self.touched, &mut self.scratch, &step)
     }
 
     /// Declares a process (this project's own). Refused by BADPARAM where the node is not 1 to 8,

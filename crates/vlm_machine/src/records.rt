@@ -65,15 +65,15 @@ impl Machine {
     }
 
     /// Makes one step, of whichever kind.
-    pub fn step(&mut self, touched: &mut Touched, scratch: &mut Scratch, step: Step) -> Answer
+    pub fn step(&mut self, touched: &mut Touched, scratch: &mut Scratch, step: &Step) -> Answer
         requires between { IsBetweenSteps (plain_state self.old) }
         requires notes { HasRoomToNote touched.old self.old }
         requires marks { HasRoomToMark scratch.old self.old }
-        ensures outcome { Outcome (plain_state self.old) step (plain_state self.new) result }
+        ensures outcome { Outcome (plain_state self.old) step.now (plain_state self.new) result }
         ensures notes { HasRoomToNote touched.new self.new }
         ensures marks { HasRoomToMark scratch.new self.new }
     {
-        match &step {
+        match step {
             Step::Declare(declaration) => self.declare(scratch, *declaration),
             Step::SetValue(setting) => self.set_value(setting),
             Step::Enq(request) => self.enq(touched, request),
