@@ -34,6 +34,13 @@ pub(crate) struct AdmittedConversion {
     at_once: bool,
 }
 
+// What a conversion asks for that no check refuses, and whether that is granted at once.
+#[derive(Clone, Copy)]
+pub(crate) struct Admission {
+    asked: Request,
+    at_once: bool,
+}
+
 impl Machine {
     /// Asks for another mode of a granted lock: its checks, its change, and the sweep of its resource.
     pub(crate) fn convert(&mut self, conversion: &Conversion) -> Answer
@@ -71,7 +78,12 @@ impl Machine {
         let lkid = self.checked_lkid(&caller, conversion.lock)?;
         let lock = self.checked_lock(&caller, lkid)?;
         let standing = self.standing(lock);
-        self.checked_admission(flags, &standing, conversion)
+        let Admission { asked, at_once } = self.checked_admission(flags, &standing, conversion)?;
+        Ok(AdmittedConversion {
+            standing,
+            asked,
+            at_once,
+        })
     }
 
     // The lock is granted, or CVTUNGRANT; and then the checks of the conversion there, in their order.
@@ -80,14 +92,15 @@ impl Machine {
         flags: EnqFlags,
         standing: &Standing,
         conversion: &Conversion,
-    ) -> Result<AdmittedConversion, Cond>
+    ) -> Result<Admission, Cond>
         requires flags { flag_bits flags ≡ conversion.now.flags }
         requires standing { let lkid = convert_lkid (plain_state self.now) conversion.now
             in IsStandingOf conversion.now.pid lkid standing.now self.now.records }
         ensures refusal { let admission = convert_admission (plain_state self.now) conversion.now
             in result_err result
             ≡ admission_refusal (plain_state self.now) conversion.now admission }
-        ensures admitted { IfOk result (λ a. IsAdmittedConversion self.now conversion.now a) }
+        ensures admitted { IfOk result (λ a. IsAdmittedConversion self.now conversion.now
+            (record { standing = standing.now; asked = a.asked; at_once = a.at_once })) }
     {
         law_records_are_sound(&self.store);
         if !standing.is_granted() {
@@ -98,11 +111,7 @@ impl Machine {
         let asked = request_of(self.last_request + 1, flags, conversion);
         let at_once = converts_at_once(&self.store, standing, &asked);
         check_queue(flags, at_once)?;
-        Ok(AdmittedConversion {
-            standing: *standing,
-            asked,
-            at_once,
-        })
+        Ok(Admission { asked, at_once })
     }
 
     // The lock converts, with all that becomes of its status block, and the request number that it took is used up.
