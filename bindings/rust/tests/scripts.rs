@@ -392,7 +392,7 @@ fn played(script: &str) -> String {
 
 #[test]
 fn the_worked_scripts_print_what_the_program_prints() {
-    let folder = Path::new(env!("CARGO_MANIFEST_DIR")).join("../../crates/vlm/scripts");
+    let folder = Path::new(env!("CARGO_MANIFEST_DIR")).join("../../tests/scripts/play");
     let mut played_scripts = 0;
     for entry in fs::read_dir(folder).expect("the folder of scripts") {
         let path = entry.expect("an entry").path();

@@ -1,15 +1,9 @@
-#!/usr/bin/env python3
-"""Runs scripts at the sizes where a walk over all that is held would be felt, or a body that gives up late
-would give up, on each program that is named: many locks, many bound names, all status blocks of a process,
-and a script at the limit of its bytes. Each run has to print what is expected, within seconds. The last line
-counts what passed and what failed."""
+"""Scripts at the sizes where a walk over all that is held would take seconds, or where a program that gives up late
+would give up: many locks, many names, all status blocks of a process, and the longest script."""
 
-import subprocess
-import sys
+from functools import partial
 
-from checks import SECONDS, count
-
-LIMIT = 16_777_216
+from harness import Ended, LONGEST, Test, difference, run
 
 
 def declared(name, node, ordinal):
@@ -75,10 +69,10 @@ def most_status_blocks():
 
 
 def longest_script():
-    """A script at the limit of its bytes: comments, and one line at its end."""
+    """A script of the greatest length: comments, and one line at its end."""
     last = b"show\n"
     comment = b"#" + b" " * 253 + b"\n"
-    comments, rest = divmod(LIMIT - len(last), len(comment))
+    comments, rest = divmod(LONGEST - len(last), len(comment))
     return comment * comments + b"#" * (rest - 1) + b"\n" + last, b"no resources\n"
 
 
@@ -87,28 +81,34 @@ def text(lines):
     return "".join(line + "\n" for line in lines).encode()
 
 
-def scripts():
-    """Each script with its name and what it prints."""
-    for build in (many_locks, one_resource, many_names, most_status_blocks):
-        script, printed = build()
-        yield build.__name__, text(script), text(printed)
-    yield ("longest_script", *longest_script())
+def lines_of(build, program):
+    """What is wrong with the run of a script that is built as lines."""
+    script, printed = build()
+    yield from printed_as(run(["vlm", "play"], program, text(script)), text(printed))
 
 
-def differences(program, script, printed):
-    """What is wrong with the run of a script."""
-    run = subprocess.run([program, "play"], input=script, capture_output=True, timeout=SECONDS)
-    if run.returncode != 0 or run.stderr:
-        yield f"status {run.returncode}: {run.stderr.decode(errors='replace')}"
-    elif run.stdout != printed:
+def longest(program):
+    """What is wrong with the run of the longest script."""
+    script, printed = longest_script()
+    yield from printed_as(run(["vlm", "play"], program, script), printed)
+
+
+def printed_as(ended, printed):
+    """What is wrong with a run that was to print this. The texts are too long to be shown."""
+    if ended.status != 0 or ended.told:
+        yield f"status {ended.status}: {ended.told[-300:]!r}"
+    elif ended.printed != printed:
         yield "printed something else"
 
 
-def checks(program):
-    """Each script's run by its name, with what is wrong."""
-    for name, script, printed in scripts():
-        yield name, differences(program, script, printed)
+def too_long(words, program):
+    """A script of one byte more than the longest is refused."""
+    yield from difference(run(["vlm", *words], program, b"\n" * (LONGEST + 1)), Ended(3, b"", b"script too long\n"))
 
 
-if __name__ == "__main__":
-    sys.exit(count(sys.argv[1:], checks))
+def tests():
+    builds = (many_locks, one_resource, many_names, most_status_blocks)
+    return [Test(build.__name__.replace("_", " "), partial(lines_of, build)) for build in builds] \
+        + [Test("the longest script", longest)] \
+        + [Test(f"a script of {words[0]} that is too long", partial(too_long, words))
+           for words in (["play"], ["cluster"], ["watch", "--name", "A"])]

@@ -1,23 +1,18 @@
-#!/usr/bin/env python3
-"""Runs scripts on each program that is named whose 20,000 names of processes and 20,000 names of resources were
-chosen so that they meet in an index: by the hasher of the kit's maps, whose seed is fixed, and by that of this
-program behind its fixed keys. Each takes at most twice the instructions of a script whose names were not chosen,
-or where there is no valgrind twice its processor time. Then runs each program where the system gives no random
-bytes: a run of a script ends with a line of its own before it reads, and help and refused words need none. The
-last line counts what passed and what failed."""
+"""Names that an enemy chose: scripts whose 20,000 names of processes and 20,000 of resources meet in an index, by the
+hasher of the kit's maps, whose seed is fixed, or by the program's own behind its fixed keys. Each takes at most twice
+the instructions of a script with other names. Where there is no valgrind, processor time is compared instead. Where
+the system gives no random bytes, a run of a script ends before it reads anything."""
 
-import os
+import functools
 import re
 import resource
 import shutil
 import subprocess
-import sys
 import tempfile
-from pathlib import Path
+from functools import partial
 
-from checks import SECONDS, build_interposer, count
+from harness import Ended, SECONDS, Test, build_interposer, difference
 
-CI = Path(__file__).resolve().parent
 NAMES = 20_000
 # A run whose names meet takes at most so many times what another takes.
 FACTOR = 2
@@ -138,9 +133,12 @@ def script(hasher, clear, of_resources=None):
     return "".join(line + "\n" for line in lines).encode()
 
 
-SCRIPTS = {"names that were not chosen": script(Fold(), 0),
-           "names that meet by the hasher of the kit's maps": script(Fold(), CLEAR),
-           "names that meet by the fixed keys": script(Sip(), CLEAR, Kept(Sip()))}
+@functools.lru_cache(maxsize=None)
+def scripts():
+    """The script of names that were not chosen, and those of names that meet, by what they meet in."""
+    return {"none": script(Fold(), 0),
+            "the hasher of the kit's maps": script(Fold(), CLEAR),
+            "the fixed keys": script(Sip(), CLEAR, Kept(Sip()))}
 
 
 def played(command, text, seconds):
@@ -171,43 +169,39 @@ def processor_time(program, text):
 COST = instructions if shutil.which("valgrind") else processor_time
 
 
-def dearer(program, text, bound):
-    """What is wrong with the cost of a run."""
-    cost = COST(program, text)
-    if cost > bound:
-        yield f"it takes {cost:,}, and {bound:,} at most were wanted"
+@functools.lru_cache(maxsize=None)
+def bound(program):
+    """The greatest cost that is allowed."""
+    return FACTOR * COST(program, scripts()["none"])
 
 
-def without_random_bytes(program, words, status, is_told):
-    """What is wrong with a run where the system gives no random bytes."""
+def dearer(kind, program):
+    """What is wrong with the cost of a run whose names meet."""
+    cost = COST(program, scripts()[kind])
+    if cost > bound(program):
+        yield f"it takes {cost:,}, and {bound(program):,} at most were wanted"
+
+
+def without_random_bytes(words, status, program):
+    """What is wrong with a run where the system gives no random bytes: status 3 comes with a line of its own."""
     with tempfile.TemporaryDirectory() as folder, tempfile.TemporaryFile() as text:
         text.write(b"show\n")
         text.seek(0)
-        env = {"LD_PRELOAD": build_interposer(CI / "entropy.c", folder)}
+        env = {"LD_PRELOAD": build_interposer("no_random_bytes", folder)}
         ended = subprocess.run([program, *words], stdin=text, capture_output=True, env=env, timeout=SECONDS)
-        if ended.returncode != status:
-            yield f"status {ended.returncode} and not {status}"
-        if text.seek(0, os.SEEK_CUR) != 0:
+        if text.seek(0, 1) != 0:
             yield "some of the script is read"
-    if is_told and (ended.stdout, ended.stderr) != (b"", b"no random bytes\n"):
-        yield f"{ended.stdout!r} and {ended.stderr!r}"
-    if not is_told and b"random" in ended.stdout + ended.stderr:
-        yield f"{ended.stdout!r} and {ended.stderr!r}"
+    if status == 3:
+        yield from difference(Ended(ended.returncode, ended.stdout, ended.stderr),
+                              Ended(3, b"", b"no random bytes\n"))
+    elif ended.returncode != status or b"random" in ended.stdout + ended.stderr:
+        yield f"{ended}"
 
 
-def checks(program):
-    """Each check by its name, with what is wrong."""
-    first, *others = SCRIPTS.items()
-    bound = FACTOR * COST(program, first[1])
-    for name, text in others:
-        yield name, dearer(program, text, bound)
-    yield "a run without random bytes", without_random_bytes(program, ["play"], 3, True)
-    yield "a cluster without random bytes", without_random_bytes(program, ["cluster"], 3, True)
-    yield "a watch without random bytes", without_random_bytes(program, ["watch", "--name", "A"], 3, True)
-    yield "a wrong name without random bytes", without_random_bytes(program, ["watch", "--name="], 2, False)
-    yield "help without random bytes", without_random_bytes(program, ["--help"], 0, False)
-    yield "refused words without random bytes", without_random_bytes(program, ["frob"], 2, False)
-
-
-if __name__ == "__main__":
-    sys.exit(count(sys.argv[1:], checks))
+def tests():
+    met = [Test(f"names that meet in {kind}", partial(dearer, kind))
+           for kind in ("the hasher of the kit's maps", "the fixed keys")]
+    runs = [("play", ["play"], 3), ("cluster", ["cluster"], 3), ("watch", ["watch", "--name", "A"], 3),
+            ("a wrong name", ["watch", "--name="], 2), ("help", ["--help"], 0), ("refused words", ["frob"], 2)]
+    return met + [Test(f"{name} without random bytes", partial(without_random_bytes, words, status))
+                  for name, words, status in runs]

@@ -1,8 +1,5 @@
-#!/usr/bin/env python3
-"""Runs ./vlm in a copy of the tree, in a folder with spaces in its name, with a stub in the place of rt: where
-a proved program stands, where none does, as it proves, and where something is missing. The program is the one
-that is named. Each run has to end with the status that is expected, to print and to tell what is expected.
-The last line counts what passed and what failed."""
+"""./vlm itself, in a copy of the tree with blanks in its name and a stub in the place of rt: with a proved program and
+without, as it proves, and where something is missing. The stub's answers come from the program that is tested."""
 
 import fcntl
 import os
@@ -10,18 +7,17 @@ import re
 import shutil
 import signal
 import subprocess
-import sys
 import tempfile
 import time
+from functools import partial
 from pathlib import Path
 
-from checks import SECONDS, count
+from harness import SECONDS, TOP, Test
 
-TOP = Path(__file__).resolve().parent.parent
-KIT = re.search(r"^kit='(.*)'$", (TOP / "vlm").read_text(), re.M)[1]
+KIT = (TOP / "KIT").read_text().strip()
 SCRIPT = b"show\nfrob\n"
 
-# What stands for rt. It notes each call, and does what its environment says.
+# The stub of rt. It notes each call, and does what its environment says.
 STUB = """#!/bin/bash
 name=$(basename "$PWD")
 case $1 in
@@ -55,8 +51,9 @@ class Tree:
         self.kit = Path(folder) / "bin"
         for name in crates_with_libraries():
             (self.top / "crates" / name / "src").mkdir(parents=True)
-        shutil.copy(TOP / "vlm", self.top)
-        shutil.copy(TOP / "crates.txt", self.top)
+        for name in ("vlm", "crates.txt", "KIT"):
+            shutil.copy(TOP / name, self.top)
+        shutil.copytree(TOP / "tools", self.top / "tools", ignore=shutil.ignore_patterns("__pycache__"))
         self.kit.mkdir()
         self.stub = self.kit / "rt"
         self.stub.write_text(STUB)
@@ -227,7 +224,6 @@ def missing_parts(tree):
     for words in (["play"], ["prove"]):
         yield from unlike(tree.run(*words, KIT="another-kit"), 4, b"", f"another-kit: put the rt of {KIT} first")
         yield from unlike(tree.run(*words, PATH="/usr/bin:/bin"), 4, b"", "no rt on the path: put ")
-    yield from unlike(tree.run("play", TMPDIR="/nowhere"), 4, b"", "/nowhere: make room there, or ")
     (tree.top / "out").write_text("")
     yield from unlike(tree.run("prove"), 4, b"", "a folder/out can't be written: ")
 
@@ -241,21 +237,25 @@ def unprinted(tree):
                       "^vlm: standard output can't be written$")
 
 
-def kits(_):
-    """The README names the kit that ./vlm wants."""
-    if f"`{KIT}`" not in (TOP / "README.md").read_text():
-        yield f"the README has no {KIT}"
+def another_kit(tree):
+    """A kit of another name and the same logic will do."""
+    logic = KIT.partition(" ")[2]
+    yield from unlike(tree.run("play", script=b"show\n", KIT=f"another-kit {logic}"), 0, b"no resources\n", UNPROVED)
 
 
-def checks(program):
-    """Each check by its name, with what is wrong. Each has a tree of its own."""
-    for check in (unproved_runs, unanswered_runs, full_disk, slow_pipe, proofs, links_and_changes, other_programs,
-                  failed_proof, interrupted_proof, two_starts, missing_parts, unprinted, kits):
-        with tempfile.TemporaryDirectory() as folder:
-            yield check.__name__.replace("_", " "), list(check(Tree(folder, program)))
+def wrong_words(tree):
+    """What a tool does not take is told."""
+    for words, wanted in ((["prove", "x"], "prove takes no words"), (["install"], "install takes one word")):
+        yield from unlike(tree.run(*words), 2, b"", wanted)
 
 
-if __name__ == "__main__":
-    # A job in a shell's background ignores interrupts, and so would what is started here.
-    signal.signal(signal.SIGINT, signal.default_int_handler)
-    sys.exit(count(sys.argv[1:], checks))
+def in_tree(check, program):
+    """A check in a tree of its own."""
+    with tempfile.TemporaryDirectory() as folder:
+        yield from check(Tree(folder, program))
+
+
+def tests():
+    checks = (unproved_runs, unanswered_runs, full_disk, slow_pipe, proofs, links_and_changes, other_programs,
+              failed_proof, interrupted_proof, two_starts, missing_parts, unprinted, another_kit, wrong_words)
+    return [Test(check.__name__.replace("_", " "), partial(in_tree, check)) for check in checks]

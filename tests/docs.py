@@ -1,0 +1,307 @@
+"""What a person reads, against what is there: tables against crates.txt and the sources, help texts, links, and each
+command that a page shows, with its output. A command of a page stands in a block of this form:
+
+    ```console
+    $ ./vlm play <<END
+    show
+    END
+    no resources
+    ```
+"""
+
+import os
+import re
+import shlex
+
+from harness import Case, Ended, STORED, TOP, Test, difference, results_of, run, run_checked
+
+DOCS = TOP / "docs"
+README_LINES = 120
+PAGES = [TOP / "README.md", TOP / "CONTRIBUTING.md", TOP / "CHANGELOG.md", *sorted(DOCS.glob("*.md"))]
+MANUAL = TOP / "man" / "vlm.1"
+# More conditions than this in one line outside docs/MACHINE.md are a list of a step's refusals.
+MOST_CONDITIONS = 4
+
+
+def text_of(name):
+    return (TOP / name).read_text()
+
+
+def short_readme(_program):
+    """The README is read in two minutes."""
+    lines = len(text_of("README.md").splitlines())
+    if lines > README_LINES:
+        yield f"README.md has {lines} lines, {README_LINES} at most"
+
+
+def crate_table(_program):
+    """docs/ARCHITECTURE.md has one row for each crate of crates.txt, in order, with what it uses."""
+    lines = [line.partition("#")[0].partition(":") for line in text_of("crates.txt").splitlines()]
+    wanted = [(name.split()[0], uses.split()) for name, colon, uses in lines if colon]
+    rows = re.findall(r"^\| `(vlm\w*)` \| ([^|]*) \|", text_of("docs/ARCHITECTURE.md"), re.M)
+    found = [(name, [] if uses.strip() == "none" else uses.replace("`", "").split()) for name, uses in rows]
+    for name, uses in wanted:
+        if (name, uses) not in found:
+            yield f"no row of {name} with {' '.join(uses) or 'none'}"
+    if [name for name, _ in found] != [name for name, _ in wanted]:
+        yield f"the rows are {[name for name, _ in found]}"
+
+
+def sources(pattern="src"):
+    return [file for folder in (TOP / "crates").glob(f"*/{pattern}") for file in folder.rglob("*.rt")]
+
+
+def laws(_program):
+    """docs/LAWS.md names each public law, and no other."""
+    there = {name for file in sources() for name in re.findall(r"\bpub fn (law_\w+)", file.read_text())}
+    named = set(re.findall(r"\blaw_\w+", text_of("docs/LAWS.md")))
+    yield from (f"{name} is not in docs/LAWS.md" for name in sorted(there - named))
+    yield from (f"docs/LAWS.md names {name}, which is not there" for name in sorted(named - there))
+
+
+def conditions():
+    """The conditions by which a step is refused."""
+    names = re.findall(r'Cond::\w+ => "([A-Z]+)"', text_of("crates/vlm_words/src/conditions.rt"))
+    return set(names) - {"NORMAL", "SYNCH"}
+
+
+def refusals(_program):
+    """docs/MACHINE.md alone lists what a step is refused for."""
+    named = conditions()
+    if len(named) < 15:
+        yield f"the sources name {len(named)} conditions"
+    missing = named - set(re.findall(r"\b[A-Z]+\b", text_of("docs/MACHINE.md")))
+    yield from (f"docs/MACHINE.md does not name {name}" for name in sorted(missing))
+    for page in PAGES:
+        if page.name == "MACHINE.md":
+            continue
+        for number, line in enumerate(page.read_text().splitlines(), 1):
+            if len(named & set(re.findall(r"\b[A-Z]+\b", line))) > MOST_CONDITIONS:
+                yield f"{page.name}:{number} lists refusals: link to docs/MACHINE.md"
+
+
+def sizes(_program):
+    """The sizes of records that a page names are those that tests hold."""
+    held = set(re.findall(r"fn a_(lock|resource)_takes_at_most_(\d+)_bytes",
+                          text_of("crates/vlm_uses/src/tests/records.rt")))
+    if len(held) != 2:
+        yield f"the tests hold {sorted(held)}"
+    for page in PAGES:
+        for kind, size in re.findall(r"record of a (lock|resource) takes (\d+) bytes", page.read_text()):
+            if (kind, size) not in held:
+                yield f"{page.name}: the record of a {kind} takes {size} bytes"
+
+
+def help_texts():
+    """The constants of help texts in the program's source, by name."""
+    text = text_of("crates/vlm/src/words.rt")
+    return {name: value.replace("\\\n", "") for name, value in
+            re.findall(r'const (\w+): &str =\s*"((?:[^"\\]|\\.|\\\n)*)";', text)}
+
+
+def forms():
+    """The forms of a script's commands, as the help names them."""
+    lines = help_texts()["PLAY_HELP"].splitlines()
+    return [line.strip() for line in lines[1:lines.index(next(it for it in lines if it.startswith("The flags")))]]
+
+
+def plain(text):
+    """The text of a manual page without its marks."""
+    text = re.sub(r"^\.(?:TP|PP|nf|fi|EX|EE|RS|RE|IP.*)\s*\n", "", text, flags=re.M)
+    text = re.sub(r"\\f[BIRP]", "", re.sub(r"^\.[BI]R? ", "", text, flags=re.M))
+    return text.replace("\\-", "-").replace("\\&", "")
+
+
+def help_forms(_program):
+    """docs/SCRIPT.md and the manual page have each command's form, and each option, as the help has."""
+    manual, page = plain(MANUAL.read_text()), text_of("docs/SCRIPT.md")
+    if len(forms()) < 13:
+        yield f"the help names {forms()}"
+    options = re.findall(r'Arg::new\(alloc, "(\w+)"', text_of("crates/vlm/src/words.rt")) or ["nodes", "name", "group"]
+    for form in [*forms(), *(f"--{it}" for it in options)]:
+        if form not in page:
+            yield f"docs/SCRIPT.md has no {form}"
+        if form not in manual:
+            yield f"man/vlm.1 has no {form}"
+
+
+def version(_program):
+    """One version, in the program, the package for Rust, the changes and the manual page."""
+    wanted = help_texts()["VERSION"]
+    for name, pattern in (("bindings/rust/Cargo.toml", r'^version = "([^"]+)"'), ("CHANGELOG.md", r"^## ([\d.]+)"),
+                          ("man/vlm.1", r'^\.TH VLM 1 "[^"]*" "vlm ([^"]+)"')):
+        found = re.search(pattern, text_of(name), re.M)
+        if not found or found[1] != wanted:
+            yield f"{name} has no version {wanted}"
+
+
+def kit(_program):
+    """The README and docs/BUILDING.md name the kit that the file KIT names."""
+    name = text_of("KIT").split()[0]
+    for page in ("README.md", "docs/BUILDING.md"):
+        if name not in text_of(page):
+            yield f"{page} does not name {name}"
+    for page in PAGES:
+        for other in set(re.findall(r"rattle-kit-\w+", page.read_text())) - {name}:
+            yield f"{page.name} names {other}"
+
+
+def anchors(page):
+    """The anchors of a page's headings, as they are made of them on the usual sites."""
+    headings = re.findall(r"^#+ (.*)$", re.sub(r"^```.*?^```", "", page.read_text(), flags=re.M | re.S), re.M)
+    return {re.sub(r"[^\w\- ]", "", re.sub(r"[`*]", "", it).lower()).replace(" ", "-") for it in headings}
+
+
+def links(_program):
+    """Each link leads to a file, and to a heading of it."""
+    for page in PAGES:
+        text = re.sub(r"^```.*?^```", "", page.read_text(), flags=re.M | re.S)
+        for target in re.findall(r"\]\(([^)\s]+)\)", text):
+            if re.match(r"https?:|mailto:", target):
+                continue
+            name, _, anchor = target.partition("#")
+            file = (page.parent / name) if name else page
+            if not file.exists():
+                yield f"{page.name}: no {target}"
+            elif anchor and file.suffix == ".md" and anchor not in anchors(file):
+                yield f"{page.name}: no heading for {target}"
+
+
+FILE = re.compile(r"`((?:\.ci|bench|bindings|crates|docs|examples|include|man|tests|tools)/[\w./-]*)`")
+
+
+def files(_program):
+    """Each file and folder that a page names is there. What a run leaves is in a folder `out`."""
+    for page in PAGES:
+        for name in FILE.findall(page.read_text()):
+            if not re.search(r"/out|/[A-Z]{4}", name) and not (TOP / name).exists():
+                yield f"{page.name}: no {name}"
+
+
+def parts(_program):
+    """docs/TESTING.md names each part of the tests."""
+    listed = re.findall(r'^    "([\w-]+)": Part\(', text_of("tools/test"), re.M)
+    yield from (f"docs/TESTING.md has no {name}" for name in listed if f"`{name}`" not in text_of("docs/TESTING.md"))
+    if len(listed) < 9:
+        yield f"the parts are {listed}"
+
+
+def checks():
+    return (short_readme, crate_table, laws, refusals, sizes, help_forms, version, kit, links, files, parts)
+
+
+def blocks():
+    """Each console block of a page: where it is, and its lines."""
+    for page in PAGES:
+        for number, block in enumerate(re.findall(r"^```console\n(.*?)^```", page.read_text(), re.M | re.S), 1):
+            yield f"{page.name}, console block {number}", block.splitlines()
+
+
+def commands_of(lines):
+    """The commands of a console block: the words, the script if there is one, and the output."""
+    at = 0
+    while at < len(lines):
+        command = lines[at].removeprefix("$ ")
+        at, script = at + 1, []
+        if command.endswith("<<END"):
+            end = lines.index("END", at)
+            at, script = end + 1, lines[at:end]
+        printed = []
+        while at < len(lines) and not lines[at].startswith("$ "):
+            printed.append(lines[at])
+            at += 1
+        words = shlex.split(command.removesuffix("<<END").partition("#")[0])
+        yield words, "".join(line + "\n" for line in script), "".join(line + "\n" for line in printed)
+
+
+def is_run(words):
+    """Whether these words run a script."""
+    return words[0] == "./vlm" and words[1:2] in (["play"], ["cluster"], ["watch"])
+
+
+def shown_cases():
+    """Each run of the program that a page shows."""
+    for where, lines in blocks():
+        for words, script, printed in commands_of(lines):
+            if not is_run(words):
+                continue
+            if "<" in words:
+                script, words = text_of(words[words.index("<") + 1]), words[:words.index("<")]
+            # (of a run that ends with a fault the page shows its line, which goes to standard error)
+            fault = re.search(r"^line \d+: .*\n\Z", printed, re.M)
+            told = fault[0] if fault and "held" not in fault[0] else ""
+            ended = Ended(1 if told else 0, printed.removesuffix(told).encode(), told.encode())
+            yield Case(where, words[1:], script.encode(), ended)
+
+
+def fenced(page, language):
+    """The blocks of a page in a language, each with the text after it."""
+    parts = re.split(rf"^```{language}\n(.*?)^```\n", page.read_text(), flags=re.M | re.S)
+    return list(zip(parts[1::2], parts[2::2]))
+
+
+def shown_programs(_program):
+    """Each whole program in C that a page shows is a file of examples/c, and its output is the file beside it."""
+    sources = {file.read_text().strip(): file for file in (TOP / "examples" / "c").glob("*.c")}
+    for page in PAGES:
+        for block, after in fenced(page, "c"):
+            if "int main" not in block:
+                continue
+            source = next((file for text, file in sources.items() if text.endswith(block.strip())), None)
+            if not source:
+                yield f"{page.name}: a program that is no file of examples/c: {block[:60]!r}"
+            elif not re.match(r"\s*It prints:\s*```text\n" + re.escape(source.with_suffix(".out").read_text()), after):
+                yield f"{page.name}: the output of {source.name}"
+
+
+def shown_code(_program):
+    """Each line of Rust and Rattle that a page shows is in one source, where tests or proofs try it."""
+    texts = [file.read_text() for file in [*sources(), *(TOP / "bindings" / "rust" / "src").glob("*.rs")]]
+    lines = [{re.sub(r"^//!\s*", "", line.strip()) for line in text.splitlines()} for text in texts]
+    for page in PAGES:
+        for block, _ in fenced(page, "rust"):
+            wanted = {line.strip() for line in block.splitlines() if line.strip()}
+            left = min((wanted - found for found in lines), key=len)
+            yield from (f"{page.name}: no source has {line!r}" for line in sorted(left))
+
+
+def shown_changes(_program):
+    """What a page's change takes away is in the file that it names."""
+    for page in PAGES:
+        for block, _ in fenced(page, "diff"):
+            name = ""
+            for line in block.splitlines():
+                if line.startswith("--- "):
+                    name = line[4:]
+                elif line.startswith("-") and line[1:].strip() not in text_of(name):
+                    yield f"{page.name}: {name} has no {line[1:].strip()!r}"
+
+
+def shown_tools(_program):
+    """Each other command of a console block is one of ./vlm's tools, and prints what the page says."""
+    for where, lines in blocks():
+        for words, _, printed in commands_of(lines):
+            if words == ["./vlm", "test", "--list"]:
+                ended = run([TOP / "vlm", *words[1:]])
+                yield from (f"{where}: {it}" for it in difference(ended.printed.decode(), printed))
+            elif not is_run(words):
+                yield f"{where}: nothing tests {words}"
+
+
+def statement(check):
+    return Test(check.__name__.replace("_", " "), check)
+
+
+def once():
+    shown = (shown_programs, shown_code, shown_changes, shown_tools)
+    return [statement(check) for check in (*checks(), *shown)]
+
+
+def tests():
+    return [case.test() for case in shown_cases()]
+
+
+def checked():
+    """The results where nothing is proved: the shown runs are made on the checked build."""
+    yield from results_of(once(), None, os.cpu_count())
+    yield from run_checked(STORED, list(shown_cases()))

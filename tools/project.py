@@ -1,0 +1,112 @@
+"""What the tools share: where things are, the kit, and how a tool fails."""
+
+import os
+import re
+import shutil
+import subprocess
+import sys
+from pathlib import Path
+
+TOP = Path(__file__).resolve().parent.parent
+PROGRAM = TOP / "crates" / "vlm" / "out" / "vlm"
+# What a whole proof left: the program's checksum, the commit and the kit. It is as old as the proof's start.
+RECORD = PROGRAM.with_name("vlm.proved")
+LOGS = TOP / "out"
+# The kit that the crates are proved with, as `rt version` names it: a name, and the checksum of its logic.
+KIT = (TOP / "KIT").read_text().strip()
+
+# The statuses of the tools' own failures. The program's are 0 to 3.
+MISSING = 4  # something is not there that is needed
+UNPROVED = 5  # a crate is not proved
+UNANSWERED = 6  # the checked build gives no answer, or the answer can't be passed on
+WRONG_WORDS = 2
+INTERRUPTED = 130
+
+
+def say(text):
+    try:
+        print(f"vlm: {text}", file=sys.stderr, flush=True)
+    except OSError:
+        pass
+
+
+def fail(status, text):
+    say(text)
+    sys.exit(status)
+
+
+def found_kit():
+    """The kit on the path, as it names itself."""
+    if not shutil.which("rt"):
+        fail(MISSING, f"there is no rt on the path: put the folder bin of {KIT.split()[0]} on it")
+    told = subprocess.run(["rt", "version"], capture_output=True, text=True).stdout.strip()
+    return told or "a kit without a name"
+
+
+def need_kit():
+    """Wants a kit of the same logic, and gives its name. Kits of one logic check proofs alike."""
+    found = found_kit()
+    if found.partition(" ")[2] != KIT.partition(" ")[2]:
+        fail(MISSING, f"rt is of {found}: put the rt of {KIT} first on the path")
+    return found
+
+
+def is_current():
+    """Whether ./vlm runs the proved program."""
+    told = subprocess.run([TOP / "vlm", "--version"], capture_output=True, text=True)
+    return told.stdout.startswith("vlm: proved, ")
+
+
+def crates():
+    """Each crate of crates.txt with those of the repository that it uses, the lowest first."""
+    lines = [line.partition("#")[0].partition(":") for line in (TOP / "crates.txt").read_text().splitlines()]
+    uses = {name.split()[0]: below.split() for name, colon, below in lines if colon}
+    ordered = {}
+
+    def visit(name):
+        if name not in ordered and name in uses:
+            for low in uses[name]:
+                visit(low)
+            ordered[name] = [low for low in uses[name] if low in uses]
+
+    for name in uses:
+        visit(name)
+    return ordered
+
+
+def crates_below(name):
+    """A crate and all that it stands on, the lowest first, each with those that it uses."""
+    uses = crates()
+    wanted, left = set(), [name]
+    while left:
+        it = left.pop()
+        if it not in wanted:
+            wanted.add(it)
+            left += uses[it]
+    return {it: below for it, below in uses.items() if it in wanted}
+
+
+def megabytes_free():
+    """How many MB the disk has left."""
+    told = subprocess.run(["df", "-k", "--output=avail", "--", TOP], capture_output=True, text=True, check=True)
+    return int(told.stdout.split()[-1]) // 1024
+
+
+def lanes():
+    """How many checks run side by side. Each keeps more than one processor busy, and holds up to 3 GB."""
+    processors = len(os.sched_getaffinity(0))
+    memory = int(re.search(r"MemAvailable:\s+(\d+)", Path("/proc/meminfo").read_text())[1])
+    most = processors if processors <= 2 else processors - 1
+    return max(1, min(most, memory // (3 * 1024 * 1024)))
+
+
+def need_folders(*folders):
+    """Makes these folders, in which files are to be made."""
+    for folder in folders:
+        probe = Path(folder) / f"probe.{os.getpid()}"
+        try:
+            os.makedirs(folder, exist_ok=True)
+            probe.touch()
+            probe.unlink()
+        except OSError:
+            fail(MISSING, f"{folder} can't be written: give yourself the right to, or use a clone of your own")
