@@ -5,11 +5,9 @@ watched so too, and so are the tests that try again after a refusal."""
 import functools
 import os
 import subprocess
-import tempfile
 from functools import partial
-from typing import NamedTuple
 
-from harness import Ended, STORED, Test, build_interposer
+from harness import Ended, INTERPOSERS, STORED, Test
 from scripts import stored_scripts
 from units import is_built, names_of, tests_program
 
@@ -41,14 +39,6 @@ class Wrong(Exception):
     """A run that is not as it has to be."""
 
 
-@functools.lru_cache(maxsize=None)
-def interposer():
-    """The path of the library that refuses allocations. Its folder lasts as long as this program."""
-    folder = tempfile.TemporaryDirectory()
-    interposer.folder = folder
-    return build_interposer("refuse_allocation", folder.name)
-
-
 class Program:
     """A program and its words, with the interposer that refuses its allocations."""
 
@@ -58,7 +48,7 @@ class Program:
     def run(self, script, number=0):
         """Runs a script without its allocation of this number. Says whether the run came to it."""
         report, report_to = os.pipe()
-        env = {"LD_PRELOAD": interposer(), "REFUSED": str(number), "REPORT": str(report_to)}
+        env = {"LD_PRELOAD": INTERPOSERS["refuse_allocation"](), "REFUSED": str(number), "REPORT": str(report_to)}
         try:
             ended = subprocess.run(self.command, input=script, capture_output=True,
                                    env=env, pass_fds=[report_to], timeout=60)

@@ -11,7 +11,7 @@ import subprocess
 import tempfile
 from functools import partial
 
-from harness import Ended, SECONDS, Test, build_interposer, difference
+from harness import Ended, INTERPOSERS, SECONDS, Test, difference
 
 NAMES = 20_000
 # A run whose names meet takes at most so many times what another takes.
@@ -184,10 +184,10 @@ def dearer(kind, program):
 
 def without_random_bytes(words, status, program):
     """What is wrong with a run where the system gives no random bytes: status 3 comes with a line of its own."""
-    with tempfile.TemporaryDirectory() as folder, tempfile.TemporaryFile() as text:
+    with tempfile.TemporaryFile() as text:
         text.write(b"show\n")
         text.seek(0)
-        env = {"LD_PRELOAD": build_interposer("no_random_bytes", folder)}
+        env = {"LD_PRELOAD": INTERPOSERS["no_random_bytes"]()}
         ended = subprocess.run([program, *words], stdin=text, capture_output=True, env=env, timeout=SECONDS)
         if text.seek(0, 1) != 0:
             yield "some of the script is read"

@@ -3,7 +3,9 @@
 import re
 import subprocess
 import tempfile
+import threading
 from concurrent.futures import ThreadPoolExecutor
+from functools import partial
 from pathlib import Path
 from typing import Callable, NamedTuple
 
@@ -71,13 +73,38 @@ def kit_folder():
     return Path(told).parent
 
 
-def build_interposer(name, folder):
+class Once:
+    """A function without arguments that is called once, whichever thread comes first."""
+
+    def __init__(self, function):
+        self.function = function
+        self.lock = threading.Lock()
+        self.made = None
+
+    def __call__(self):
+        with self.lock:
+            if self.made is None:
+                self.made = self.function()
+            return self.made
+
+
+# A folder that lasts as long as this program, with blanks in its name.
+ROOM = Once(lambda: tempfile.TemporaryDirectory(prefix="vlm tests "))
+# Where the linker looks for libraries a blank parts names, so those of LD_PRELOAD have a folder of their own.
+PLAIN_ROOM = Once(lambda: tempfile.TemporaryDirectory(prefix="vlm-tests-"))
+
+
+def built_interposer(name):
     """Builds a library that comes before the C library where LD_PRELOAD names it, and gives its path."""
-    built = Path(folder) / f"{name}.so"
+    made = Path(PLAIN_ROOM().name) / f"{name}.so"
     clang = kit_folder() / "toolchain" / "bin" / "clang"
     source = TESTS / "interpose" / f"{name}.c"
-    subprocess.run([clang, "-shared", "-fPIC", "-nostdlib", "-O1", "-o", built, source], check=True)
-    return str(built)
+    subprocess.run([clang, "-shared", "-fPIC", "-nostdlib", "-O1", "-o", made, source], check=True)
+    return str(made)
+
+
+INTERPOSERS = {name: Once(partial(built_interposer, name))
+               for name in ("refuse_allocation", "no_random_bytes", "single_bytes")}
 
 
 class Case(NamedTuple):

@@ -157,7 +157,7 @@ def proofs(tree):
     status, printed, told = tree.run("prove", PAUSE="0.1")
     names = [line.split()[1] for line in tree.noted() if line.startswith("begun")]
     ends = [rf"^vlm: proved \w+, {done} of {len(names)}, \d+ seconds$" for done in range(1, len(names) + 1)]
-    yield from unlike((status, printed, told), 0, b"", f"^vlm: proving {len(names)} crates on ", *ends)
+    yield from unlike((status, printed, told), 0, b"", f"^vlm: proving {len(names)} crates, up to ", *ends)
     if len(set(names)) != len(names) or names[-1] != "vlm" or "vlm_core" not in names or "vlm_uses" in names:
         yield f"proved {names}"
     yield from out_of_order(tree)

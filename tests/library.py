@@ -12,7 +12,7 @@ import tempfile
 from functools import partial
 from pathlib import Path
 
-from harness import Test, TOP, difference
+from harness import ROOM, Test, TOP, difference
 
 # A program of a test runs for at most so many seconds, and an installation may prove the library first.
 SECONDS, INSTALL_SECONDS = 120, 3_600
@@ -29,12 +29,8 @@ def missing():
     return [tool for tool in TOOLS if not shutil.which(tool)]
 
 
-@functools.lru_cache(maxsize=None)
 def room():
-    """A folder that lasts as long as this program, with blanks in the names in it."""
-    folder = tempfile.TemporaryDirectory(prefix="vlm library ")
-    room.folder = folder
-    return Path(folder.name)
+    return Path(ROOM().name)
 
 
 def prefix():

@@ -8,7 +8,7 @@ import socket
 import subprocess
 import tempfile
 
-from harness import Ended, SECONDS, STORED, Test, build_interposer, difference, run
+from harness import Ended, INTERPOSERS, SECONDS, STORED, Test, difference, run
 
 SCRIPT = (STORED / "stdin").read_bytes()
 TEXT = (STORED / "stdout").read_bytes()
@@ -57,8 +57,8 @@ def failing_writes(program):
 
 def single_bytes(program):
     """Reads and writes that move one byte each change nothing. The interposer reports each byte that it moved."""
-    with tempfile.TemporaryDirectory() as folder, tempfile.TemporaryFile() as report:
-        moving = {"LD_PRELOAD": build_interposer("single_bytes", folder), "REPORT": str(report.fileno())}
+    with tempfile.TemporaryFile() as report:
+        moving = {"LD_PRELOAD": INTERPOSERS["single_bytes"](), "REPORT": str(report.fileno())}
         ended = play(program, input=SCRIPT, stdout=subprocess.PIPE, env=moving, pass_fds=[report.fileno()])
         yield from difference(ended, Ended(0, TEXT, b""))
         moved = os.fstat(report.fileno()).st_size
