@@ -1,5 +1,8 @@
 -- What a hub has written down, and what it knows of its ports.
-use Rattle.std.specs.Prelude.{◌≡◌, ◌⊎◌, ◌<◌, ◌≤◌, ◌-◌, ◌+◌, ◌++◌, ℕ, List, [], length, map, slice_get, slice_index_or, Some, None, IsNone}
+use Rattle.std.specs.Prelude.{◌≡◌, ◌⊎◌, ◌<◌, ◌≤◌, ◌-◌, ◌+◌, ◌++◌, ℕ, All, List, [], length, map, slice_get, slice_index_or, Some, None, IsNone}
+use Rattle.vlm_words.specs.declared.asts.Ast.{Ast}
+use Rattle.vlm_words.specs.declared.steps.Answer.TheVariants.{Taken}
+use Rattle.vlm_words.specs.declared.steps.Step.TheVariants.{Take}
 use Rattle.vlm_words.specs.declared.steps.Step.{Step}
 use Rattle.vlm_words.specs.Pending.{first_pending}
 use Rattle.vlm_words.specs.Reasons.{HasDeparted}
@@ -74,13 +77,25 @@ pub record IsSameBut (at : ℕ) (old new : Hub) : Type 0 where
   pub state : new.book.state ≡ old.book.state
   pub lines : (k : ℕ) (d : Line) → (k ≡ at → ⊥) → slice_index_or new.lines.items k d ≡ slice_index_or old.lines.items k d
 
--- so many entries were put at the end, they are legal from the state before them and lead to that behind them, and of a
--- node that had departed each is answered DEPARTED
+-- the entry is a take, and is answered an AST
+pub record TakesAst (entry : Entry) : Type 0 where
+  pub pid : ℕ
+  pub ast : Ast
+  pub step : entry.step ≡ Take pid
+  pub answer : entry.answer ≡ Taken (Some ast)
+
+-- all that the hub makes by itself are takes that are answered an AST
+abbrev pub HubTakesAlone : List Entry → Type 0
+HubTakesAlone entries = All (λ entry. entry.sender ≡ 0 → TakesAst entry) entries
+
+-- so many entries were put at the end, they are legal from the state before them and lead to the state after them; by
+-- itself the hub makes takes alone, and a node that had departed is answered DEPARTED each time
 pub record Grew (n : ℕ) (before : List Entry) (old : State) (now : List Entry) (new : State) : Type 0 where
   pub more : List Entry
   pub is : now ≡ before ++ more
   pub count : length more ≡ n
   pub legal : JournalFrom old more new
+  pub takes : HubTakesAlone more
   pub departed : (node : ℕ) → HasDeparted old node → StaysDeparted node more new
 
 -- the hub has put so many entries at the end

@@ -75,7 +75,8 @@ pub returns-clause-grew : goal.returns-clause-grew
 returns-clause-grew c = (
   omega arith,
   grew_one c.args.self.now.book.entries c.reserve.new.self.entries c.draw-ast.new.self.entries c.args.self.now.book.state c.reserve.new.self.state c.draw-ast.new.self.state (drawing c.in-Some.pid c.draw-ast.result)
-      c.reserve.ensures.entries c.reserve.ensures.state c.draw-ast.ensures.entries c.draw-ast.ensures.leads c.draw-ast.ensures.departed,
+      c.reserve.ensures.entries c.reserve.ensures.state c.draw-ast.ensures.entries c.draw-ast.ensures.leads c.draw-ast.ensures.departed
+      (λ own. record { pid = c.in-Some.pid; ast = c.draw-ast.result; step = refl; answer = refl }),
 )
 
 pub returns-then-not-has_place-clause-grew : goal.returns-then-not-has_place-clause-grew

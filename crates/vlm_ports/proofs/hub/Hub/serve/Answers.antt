@@ -75,10 +75,15 @@ returns-clause-once c =
 
 pub returns-clause-grew : goal.returns-clause-grew
 returns-clause-grew c =
-    let e : Entry = record { sender = c.request-step.new.self.node; step = c.request-step.result; answer = c.serve-answer.result } in (
+    let popped = c.request-step.new.self in
+    let ring = c.request-step.ensures.rings ∙ c.has_request.ensures.rings in
+    let node =
+    node_at c.args.self.now.lines.items c.args.self.now.book.entries c.args.at popped c.index_mut-line.result.now c.args.self.now.linked c.requires c.index_mut-line.ensures.value ring in
+    let e : Entry = record { sender = popped.node; step = c.request-step.result; answer = c.serve-answer.result } in (
       omega arith,
       grew_one c.args.self.now.book.entries c.reserve.new.self.entries c.serve-answer.new.self.entries c.args.self.now.book.state c.reserve.new.self.state c.serve-answer.new.self.state e
-          c.reserve.ensures.entries c.reserve.ensures.state c.serve-answer.ensures.entries c.serve-answer.ensures.leads c.serve-answer.ensures.departed,
+          c.reserve.ensures.entries c.reserve.ensures.state c.serve-answer.ensures.entries c.serve-answer.ensures.leads c.serve-answer.ensures.departed
+          (λ own. absurd (omega (arith, own, node))),
     )
 
 pub returns-then-not-has_known_place-clause-grew : goal.returns-then-not-has_known_place-clause-grew
