@@ -3,6 +3,7 @@ use Rattle.std.specs.Prelude.{◌≡◌, ◌⊎◌, ◌<◌, ◌≤◌, ◌-◌,
 use Rattle.vlm_words.specs.declared.asts.Ast.{Ast}
 use Rattle.vlm_words.specs.declared.steps.Answer.TheVariants.{Taken}
 use Rattle.vlm_words.specs.declared.steps.Step.TheVariants.{Take}
+use mathlib.Core.List.{IsPrefix}
 use Rattle.vlm_words.specs.declared.steps.Step.{Step}
 use Rattle.vlm_words.specs.Pending.{first_pending}
 use Rattle.vlm_words.specs.Reasons.{HasDeparted}
@@ -11,11 +12,11 @@ use Rattle.vlm_journal.specs.declared.entries.Entry.{Entry}
 use Rattle.vlm_journal.specs.declared.entries.Item.{Item}
 use Rattle.vlm_journal.specs.Departed.{StaysDeparted}
 use Rattle.vlm_journal.specs.Journals.{JournalFrom}
-use Rattle.vlm_journal.specs.Told.{asked}
+use Rattle.vlm_journal.specs.Told.{asked, told}
 use Rattle.vlm_ports.specs.declared.hub.Hub.{Hub}
 use Rattle.vlm_ports.specs.declared.line.Line.{Line}
 use Rattle.vlm_ports.specs.declared.port.Port.{Port}
-use Rattle.vlm_ports.specs.Links.{Base, IsDrawn, MayRest, knows, line_base, line_identity, no_base, places}
+use Rattle.vlm_ports.specs.Links.{Base, IsDrawn, Lasts, MayRest, knows, line_base, line_identity, no_base, places}
 use Rattle.vlm_ports.specs.Ports.{identity}
 use Rattle.vlm_ports.specs.Rings.{RingName}
 
@@ -54,6 +55,32 @@ waiting h node = slice_index_or (map knows h.lines.items) (node - 1) []
 -- how many places the hub knows to be free on the item ring of a node
 abbrev pub free_for : Hub → ℕ → ℕ
 free_for h node = slice_index_or (map places h.lines.items) (node - 1) 0
+
+-- the posts of a node that the hub knows of: those that it has made, and then those that wait
+abbrev pub known_posts : Hub → ℕ → List Step
+known_posts h node = (asked_before h node ++ asked node (journal h)) ++ waiting h node
+
+-- how many places of items the hub knows of: those of the items that it has sent to a node, and those that are free
+abbrev pub known_places : Hub → ℕ → ℕ
+known_places h node = length (told_before h node ++ told node (journal h)) + free_for h node
+
+-- what the hub knows of its nodes lasts: each post that it knew of it has made or knows still, and each place that it
+-- knew to be free it has used or knows still
+abbrev pub KeepsKnown : Hub → Hub → Type 0
+KeepsKnown old new = (node : ℕ) → 0 < node → node ≤ nodes old
+    → IsPrefix (known_posts old node) (known_posts new node) × (known_places old node ≤ known_places new node)
+
+-- of a node the hub knows what it knew
+abbrev pub KnowsTheSame : ℕ → Hub → Hub → Type 0
+KnowsTheSame node old new = (waiting new node ≡ waiting old node) × (free_for new node ≡ free_for old node)
+
+-- of each node but one the hub knows what it knew
+abbrev pub OthersLast : ℕ → Hub → Hub → Type 0
+OthersLast own old new = (node : ℕ) → 0 < node → (node ≡ own → ⊥) → KnowsTheSame node old new
+
+-- what is known of each line lasts
+abbrev pub LinesLast : Hub → Hub → Type 0
+LinesLast old new = (k : ℕ) (d : Line) → Lasts (slice_index_or old.lines.items k d) (slice_index_or new.lines.items k d)
 
 -- the port was made with this hub
 abbrev pub IsPortOf : Hub → Port → Type 0
