@@ -2,6 +2,7 @@
 
 ghost use Rattle.std.specs.Prelude.{◌≡◌};
 ghost use Rattle.vlm_journal.specs.Journals.{Journal};
+ghost use Rattle.vlm_ports.specs.Hubs.{HubTakesAlone};
 ghost use Rattle.vlm_cluster.specs.Parts.{AreNumbered, IsAccounted};
 ghost use Rattle.vlm_cluster.specs.Reports.{entries_of, parts_of};
 ghost use Rattle.vlm_cluster.specs.Works.{entries_at};
@@ -42,6 +43,7 @@ impl Desk {
         ensures entries { entries_of result ≡ entries_at self }
         ensures legal { Journal (entries_of result) result.core }
         ensures numbered { AreNumbered (parts_of result) }
+        ensures takes { HubTakesAlone (entries_of result) }
         ensures items { result.items ≡ items }
         ensures posted { result.posted ≡ posted }
     {

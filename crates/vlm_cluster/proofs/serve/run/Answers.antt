@@ -47,11 +47,11 @@ returns-then-finished g c =
     record {
       served =
           served g.G.Gate.never_stops ports lists dones r c.requires.new.0 as_many fewer works noted all items posted
-          c.finish-finished.ensures.legal c.finish-finished.ensures.numbered c.law_departed.ensures.answered
+          c.finish-finished.ensures.legal c.finish-finished.ensures.numbered c.finish-finished.ensures.takes c.law_departed.ensures.answered
           (λ k d v lt. c.finish-finished.ensures.whole c.if-finished.true k d v (omega arith));
       whole = λ never.
           all_posted g.G.Gate.never_stops ports lists dones r c.requires.new.0 as_many fewer works noted all items posted
-          c.finish-finished.ensures.legal c.finish-finished.ensures.numbered c.law_departed.ensures.answered never
+          c.finish-finished.ensures.legal c.finish-finished.ensures.numbered c.finish-finished.ensures.takes c.law_departed.ensures.answered never
           (λ k d v lt. c.finish-finished.ensures.whole c.if-finished.true k d v (omega arith));
       modes = c.law_modes_stay_compatible.ensures _ _ c.finish-finished.ensures.legal;
       once = c.law_requests_end_once.ensures _ _ c.finish-finished.ensures.legal;
@@ -86,7 +86,7 @@ returns g c =
       order = tt;
       cut_short =
           begun g.G.Gate.never_stops ports lists dones r c.requires.new.0 as_many fewer works noted all items posted
-          c.finish-finished.ensures.legal c.finish-finished.ensures.numbered c.law_departed.ensures.answered
+          c.finish-finished.ensures.legal c.finish-finished.ensures.numbered c.finish-finished.ensures.takes c.law_departed.ensures.answered
           (λ k d v lt. c.finish-finished.ensures.begun k d v (omega arith));
     }
 
@@ -118,7 +118,7 @@ returns-then-started-count g c =
       order = tt;
       cut_short =
           given_up g.G.Gate.never_stops ports lists dones r c.requires.new.0 as_many fewer works noted
-          c.give_up-report.ensures.entries (omega arith) (omega arith) c.give_up-report.ensures.legal c.give_up-report.ensures.numbered c.law_departed.ensures.answered
+          c.give_up-report.ensures.entries (omega arith) (omega arith) c.give_up-report.ensures.legal c.give_up-report.ensures.numbered c.give_up-report.ensures.takes c.law_departed.ensures.answered
           (λ k v lt. c.give_up-report.ensures.items k v (omega arith))
           (λ k above. c.give_up-report.ensures.others k (omega (arith, long, above)));
     }
