@@ -1,5 +1,5 @@
 -- A journal in parts.
-use Rattle.std.specs.Prelude.{◌≡◌, ◌<◌, ◌≤◌, ◌-◌, ◌^◌, ◌++◌, ℕ, List, [], ◌∷◌, Some, length, min, slice_get, take}
+use Rattle.std.specs.Prelude.{◌≡◌, ◌<◌, ◌≤◌, ◌-◌, ◌^◌, ◌++◌, ℕ, All, List, [], ◌∷◌, Some, length, min, slice_get, take}
 use Rattle.vlm_journal.specs.declared.entries.Entry.{Entry}
 use Rattle.vlm_journal.specs.declared.entries.Part.{Part}
 use Rattle.vlm_journal.specs.Journals.{Journal}
@@ -11,6 +11,10 @@ use Rattle.vlm_ports.specs.Hubs.{HubTakesAlone, asked_before, base, journal, rin
 abbrev pub entries_in : List Part → List Entry
 entries_in [] = []
 entries_in (part ∷ parts) = part.entries.items ++ entries_in parts
+
+-- each part has so many entries, or more
+abbrev pub HaveEnough : ℕ → List Part → Type 0
+HaveEnough every parts = All (λ part. every ≤ length part.entries.items) parts
 
 -- the base of a part behind these entries: how many they are, or 2 ^ 64 - 1 where they are more
 abbrev pub base_behind : List Entry → ℕ
