@@ -2,6 +2,7 @@
 use Rattle.std.proofs.Common.{◌≡◌, ◌+◌, ◌-◌, ◌<◌, ◌≤◌, ◌^◌, ℕ, List, [], ◌∷◌, ◌++◌, length, min, get_or, take, refl, sym, ap, ◌∙◌, subst, append_assoc, append-nil, arith, inl, inr}
 use Rattle.std.proofs.Math.Seq.{take-append_seam}
 use Rattle.std.proofs.lemmas.List.{length-append, length-map, take-append-le}
+use Rattle.std.proofs.lemmas.List.Elements.{All-append, All-nil}
 use Rattle.std.proofs.lemmas.Option.{slice_get_within}
 use Rattle.vlm_words.specs.declared.steps.Step.{Step}
 use Rattle.vlm_words.specs.Reasons.{HasDeparted}
@@ -17,7 +18,7 @@ use Rattle.vlm_journal.proofs.Joining.{join}
 use Rattle.vlm_journal.proofs.Lists.{by_place}
 use Rattle.vlm_ports.specs.declared.hub.Hub.{Hub}
 use Rattle.vlm_ports.specs.declared.port.Port.{Port}
-use Rattle.vlm_ports.specs.Hubs.{Grew, IsNewHub, IsPortOf, asked_before, base, bases, journal, nodes, rings, state, told_before}
+use Rattle.vlm_ports.specs.Hubs.{Grew, HubTakesAlone, IsNewHub, IsPortOf, TakesAst, asked_before, base, bases, journal, nodes, rings, state, told_before}
 use Rattle.vlm_ports.specs.Links.{Base, line_identity, no_base}
 use Rattle.vlm_ports.specs.Ports.{identity}
 use Rattle.vlm_ports.specs.Rings.{RingName}
@@ -56,6 +57,7 @@ accounts_begin h new = record {
   legal = subst (λ (es : List Entry). Journal es (state h)) (sym new.journal) (subst (λ (s : State). Journal [] s) (sym new.state) begin);
   base = new.base;
   numbered = λ k part at. cc;
+  takes = subst HubTakesAlone (sym new.journal) (All-nil _);
   asked = λ node some within. new.asked node some (omega (arith, within, length-map h.lines.items line_identity));
   told = λ node some within. new.told node some (omega (arith, within, length-map h.lines.items line_identity));
 }
@@ -71,6 +73,7 @@ accounts_go_on n ps h i was same_rings same_base same_bases grew =
       legal = subst (λ (es : List Entry). Journal es (state i)) all (join start (entries_in ps ++ journal h) grew.more was.legal grew.legal);
       base = same_base ∙ was.base;
       numbered = was.numbered;
+      takes = subst HubTakesAlone all (All-append (λ (e : Entry). e.sender ≡ 0 → TakesAst e) (entries_in ps ++ journal h) grew.more was.takes grew.takes);
       asked = λ node some within.
           ap (λ (bs : List Base). (get_or bs (node - 1) no_base).asked_before) same_bases ∙ was.asked node some (omega (arith, within, long));
       told = λ node some within.
@@ -87,6 +90,7 @@ accounts_stand ps h i same was =
       is = ap (λ s. s.2) same ∙ sym (append-nil (journal h));
       count = refl;
       legal = ends;
+      takes = All-nil _;
       departed = λ node gone. record { departed = subst (λ (s : State). HasDeparted s node) (sym (ap (λ s. s.3) same)) gone; told = λ k entry lt. absurd (omega arith) };
     })
 
@@ -113,6 +117,7 @@ accounts_cut ps p h i was same_rings entries number left next same_state before 
           ∙ ap (λ (m : ℕ). min m (2 ^ 64 - 1)) (sym (length-append (entries_in ps) (journal h)))
           ∙ ap (λ (es : List Entry). min (length es) (2 ^ 64 - 1)) (sym all);
       numbered = numbered_more ps p was.numbered (number ∙ was.base);
+      takes = subst HubTakesAlone rest was.takes;
       asked = λ node some within.
           (before node some (omega (arith, within, long, lines))).0
           ∙ ap (λ (ss : List Step). ss ++ asked node (journal h)) (was.asked node some (omega (arith, within, long)))

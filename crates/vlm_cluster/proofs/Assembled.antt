@@ -15,7 +15,7 @@ use Rattle.vlm_journal.specs.Journals.{Journal}
 use Rattle.vlm_journal.specs.Told.{asked, told}
 use Rattle.vlm_ports.specs.declared.hub.Hub.{Hub}
 use Rattle.vlm_ports.specs.declared.port.Port.{Port}
-use Rattle.vlm_ports.specs.Hubs.{rings}
+use Rattle.vlm_ports.specs.Hubs.{HubTakesAlone, rings}
 use Rattle.vlm_ports.specs.Ports.{AreNew, identity}
 use Rattle.vlm_ports.specs.Rings.{RingName}
 use Rattle.vlm_cluster.specs.declared.report.Report.{Report}
@@ -63,13 +63,14 @@ module _ {G : Type 0} (never : Bool) (ports : List Port) (lists : List StepList)
       subst (λ (m : ℕ). m ≤ length list.items) (sym on.1) on.0.within
 
   module _ (all : length dones ≡ length lists) (items : length r.items.items ≡ length dones) (posted : length r.posted.items ≡ length dones)
-      (legal : Journal (entries_of r) r.core) (numbered : AreNumbered (parts_of r)) (law : DepartedLaw) where
+      (legal : Journal (entries_of r) r.core) (numbered : AreNumbered (parts_of r)) (takes : HubTakesAlone (entries_of r)) (law : DepartedLaw) where
     report_of : IsReport lists r
     report_of = record {
       counts = (items ∙ all, posted ∙ all);
       within = λ k n list at_list at_n. noted_within k n list at_list at_n (let lt = slice_get_within lists k list at_list in omega (arith, lt, all));
       legal = legal;
       numbered = numbered;
+      takes = takes;
       departed = law (entries_of r) r.core legal;
     }
 
@@ -124,10 +125,10 @@ module _ {G : Type 0} (never : Bool) (ports : List Port) (lists : List StepList)
         on.1 ∙ on.0.whole set (whole k d v lt).left
 
   -- where the hub has made no turn
-  pub given_up : entries_of r ≡ [] → length r.items.items ≡ length lists → length r.posted.items ≡ length lists → Journal (entries_of r) r.core → AreNumbered (parts_of r) → DepartedLaw
+  pub given_up : entries_of r ≡ [] → length r.items.items ≡ length lists → length r.posted.items ≡ length lists → Journal (entries_of r) r.core → AreNumbered (parts_of r) → HubTakesAlone (entries_of r) → DepartedLaw
       → ((k : ℕ) (v : Items) → k < length lists → (get_or r.items.items k v).items ≡ []) → ((k : ℕ) → length dones ≤ k → get_or r.posted.items k 0 ≡ 0)
       → AreServedInPart lists r
-  given_up none items posted legal numbered law empty others = record {
+  given_up none items posted legal numbered takes law empty others = record {
     report = record {
       counts = (items, posted);
       within = λ k n list at_list at_n. elim (cases_lt k (length dones)) [
@@ -136,6 +137,7 @@ module _ {G : Type 0} (never : Bool) (ports : List Port) (lists : List StepList)
       ];
       legal = legal;
       numbered = numbered;
+      takes = takes;
       departed = law (entries_of r) r.core legal;
     };
     asked = λ k n list at_list at_n.

@@ -15,6 +15,7 @@ use Rattle.vlm_journal.specs.declared.entries.Item.{Item}
 use Rattle.vlm_journal.specs.Departed.{IsAnsweredDeparted}
 use Rattle.vlm_journal.specs.Journals.{Journal, JournalFrom, answers_of, steps_of}
 use Rattle.vlm_journal.specs.Told.{asked, told}
+use Rattle.vlm_ports.specs.Hubs.{HubTakesAlone}
 use Rattle.vlm_cluster.specs.declared.report.Fault.{Fault}
 use Rattle.vlm_cluster.specs.declared.report.Fault.TheVariants.{Memory}
 use Rattle.vlm_cluster.specs.declared.report.Report.{Report}
@@ -30,14 +31,15 @@ abbrev pub Items : Type 0
 Items = Vec Item Global
 
 -- what holds of every report: there is something for each list, and no more of it was posted than it has; the journal is
--- legal and leads to the core's state, the base of each of its parts says how many entries stand before it, and a node
--- that has departed is answered so
+-- legal and leads to the core's state, the base of each of its parts says how many entries stand before it, by itself
+-- the hub made takes alone, so it lost no node, and a node that has departed is answered so
 pub record IsReport (lists : List StepList) (r : Report) : Type 0 where
   pub counts : (length r.items.items ≡ length lists) × (length r.posted.items ≡ length lists)
   pub within : (k n : ℕ) (list : StepList) → slice_get lists k ≡ Some list → slice_get r.posted.items k ≡ Some n
       → n ≤ length list.items
   pub legal : Journal (entries_of r) r.core
   pub numbered : AreNumbered (parts_of r)
+  pub takes : HubTakesAlone (entries_of r)
   pub departed : (node : ℕ) → 0 < node → IsAnsweredDeparted node (entries_of r)
 
 -- each node has asked for what was posted of its list and then for its departure, in order, and was told all that the

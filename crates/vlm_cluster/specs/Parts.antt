@@ -1,16 +1,20 @@
 -- A journal in parts.
-use Rattle.std.specs.Prelude.{◌≡◌, ◌<◌, ◌≤◌, ◌-◌, ◌^◌, ◌++◌, ℕ, List, [], ◌∷◌, Some, length, min, slice_get, take}
+use Rattle.std.specs.Prelude.{◌≡◌, ◌<◌, ◌≤◌, ◌-◌, ◌^◌, ◌++◌, ℕ, All, List, [], ◌∷◌, Some, length, min, slice_get, take}
 use Rattle.vlm_journal.specs.declared.entries.Entry.{Entry}
 use Rattle.vlm_journal.specs.declared.entries.Part.{Part}
 use Rattle.vlm_journal.specs.Journals.{Journal}
 use Rattle.vlm_journal.specs.Told.{asked, told}
 use Rattle.vlm_ports.specs.declared.hub.Hub.{Hub}
-use Rattle.vlm_ports.specs.Hubs.{asked_before, base, journal, rings, state, told_before}
+use Rattle.vlm_ports.specs.Hubs.{HubTakesAlone, asked_before, base, journal, rings, state, told_before}
 
 -- the entries of the parts, one part behind another
 abbrev pub entries_in : List Part → List Entry
 entries_in [] = []
 entries_in (part ∷ parts) = part.entries.items ++ entries_in parts
+
+-- each part has so many entries, or more
+abbrev pub HaveEnough : ℕ → List Part → Type 0
+HaveEnough every parts = All (λ part. every ≤ length part.entries.items) parts
 
 -- the base of a part behind these entries: how many they are, or 2 ^ 64 - 1 where they are more
 abbrev pub base_behind : List Entry → ℕ
@@ -22,10 +26,11 @@ AreNumbered parts = (k : ℕ) (part : Part) → slice_get parts k ≡ Some part
     → part.base ≡ base_behind (entries_in (take k parts))
 
 -- the entries of these parts, and behind them those that the hub has written down since, are a legal journal that leads
--- to the hub's state; what each node had asked for and was told before the last cut is what the parts say
+-- to the hub's state, and by itself the hub made takes alone; what each node had asked for and was told before the last cut is what the parts say
 pub record IsAccounted (parts : List Part) (h : Hub) : Type 0 where
   pub legal : Journal (entries_in parts ++ journal h) (state h)
   pub base : base h ≡ base_behind (entries_in parts)
   pub numbered : AreNumbered parts
+  pub takes : HubTakesAlone (entries_in parts ++ journal h)
   pub asked : (node : ℕ) → 0 < node → node ≤ length (rings h) → asked_before h node ≡ asked node (entries_in parts)
   pub told : (node : ℕ) → 0 < node → node ≤ length (rings h) → told_before h node ≡ told node (entries_in parts)

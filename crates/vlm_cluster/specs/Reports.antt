@@ -1,9 +1,11 @@
 -- The journal of a report.
-use Rattle.std.specs.Prelude.{List, [], ◌∷◌, ◌++◌}
+use Rattle.std.specs.Prelude.{◌<◌, ℕ, List, [], ◌∷◌, ◌++◌, None, Some, length, ⊤}
 use Rattle.vlm_journal.specs.declared.entries.Entry.{Entry}
 use Rattle.vlm_journal.specs.declared.entries.Part.{Part}
+use Rattle.vlm_cluster.specs.declared.report.Fault.{Fault}
+use Rattle.vlm_cluster.specs.declared.report.Fault.TheVariants.{Memory}
 use Rattle.vlm_cluster.specs.declared.report.Report.{Report}
-use Rattle.vlm_cluster.specs.Parts.{entries_in}
+use Rattle.vlm_cluster.specs.Parts.{HaveEnough, entries_in}
 
 -- the parts of the journal, the rest last
 abbrev pub parts_of : Report → List Part
@@ -12,3 +14,13 @@ parts_of r = r.parts.items ++ r.rest ∷ []
 -- the entries of the journal, in order
 abbrev pub entries_of : Report → List Entry
 entries_of r = entries_in (parts_of r)
+
+-- each part that was cut off has so many entries, or more, and the rest has fewer
+pub record IsParted (every : ℕ) (r : Report) : Type 0 where
+  pub parts : HaveEnough every r.parts.items
+  pub rest : length r.rest.entries.items < every
+
+-- where memory was refused, each part that was cut off has so many entries, or more
+abbrev pub IsPartedFault : ℕ → Fault → Type 0
+IsPartedFault every (Memory None) = ⊤
+IsPartedFault every (Memory (Some r)) = HaveEnough every r.parts.items

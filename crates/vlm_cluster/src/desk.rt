@@ -1,9 +1,7 @@
 //! The hub, and the parts that were cut off its journal.
 
-ghost use Rattle.std.specs.Prelude.{◌≡◌, []};
-ghost use Rattle.vlm_ports.specs.Hubs.{IsNewHub, nodes, rings};
-ghost use Rattle.vlm_cluster.specs.Parts.{IsAccounted};
-ghost use Rattle.vlm_cluster.specs.Works.{entries_at};
+ghost use Rattle.std.specs.Prelude.{◌≡◌, ◌<◌, [], OnOk, length};
+ghost use Rattle.vlm_cluster.specs.Parts.{HaveEnough};
 
 use crate::pause::Pause;
 use crate::signals::Signals;
@@ -19,12 +17,20 @@ pub(crate) struct Desk {
     pub(crate) parts: Vec<Part>,
     /// How many entries a part has at least.
     pub(crate) every: usize,
+    ghost some: { 0 < every },
+    ghost enough: { HaveEnough every parts.items },
 }
 
 impl Desk {
+    ghost use Rattle.vlm_ports.specs.Hubs.{IsNewHub, journal, nodes, rings};
+    ghost use Rattle.vlm_cluster.specs.Parts.{IsAccounted};
+    ghost use Rattle.vlm_cluster.specs.Works.{entries_at};
+
     /// Of a new hub.
     pub(crate) fn new(alloc: Global, hub: Hub, every: usize) -> Desk
-        requires { IsNewHub (nodes hub) hub }
+        requires hub { IsNewHub (nodes hub) hub }
+        requires every { 0 < every }
+        ensures every { result.every ≡ every }
         ensures hub { result.hub ≡ hub }
         ensures quiet { entries_at result ≡ [] }
         ensures accounted { IsAccounted result.parts.items result.hub }
@@ -40,6 +46,7 @@ impl Desk {
     /// entry was made. Refused, the entries that were made stand.
     pub(crate) fn turn(&mut self) -> Result<bool, AllocError>
         requires { IsAccounted self.old.parts.items self.old.hub }
+        ensures every { self.new.every ≡ self.old.every }
         ensures rings { rings self.new.hub ≡ rings self.old.hub }
         ensures accounted { IsAccounted self.new.parts.items self.new.hub }
     {
@@ -52,9 +59,11 @@ impl Desk {
         }
     }
 
-    // Cuts a part off, if the hub has entries enough for one.
-    fn cut_off(&mut self) -> Result<(), AllocError>
+    /// Cuts a part off, if the hub has entries enough for one. Then the hub has fewer.
+    pub(crate) fn cut_off(&mut self) -> Result<(), AllocError>
         requires { IsAccounted self.old.parts.items self.old.hub }
+        ensures every { self.new.every ≡ self.old.every }
+        ensures few { OnOk result (length (journal self.new.hub) < self.new.every) }
         ensures rings { rings self.new.hub ≡ rings self.old.hub }
         ensures accounted { IsAccounted self.new.parts.items self.new.hub }
     {
@@ -70,6 +79,7 @@ impl Desk {
     /// Has the hub make turns until so many workers are over. Refused, all are to end early.
     pub(crate) fn serve<R: Wait + Clock>(&mut self, rt: &R, signals: &Signals, count: u64)
         requires { IsAccounted self.old.parts.items self.old.hub }
+        ensures every { self.new.every ≡ self.old.every }
         ensures rings { rings self.new.hub ≡ rings self.old.hub }
         ensures accounted { IsAccounted self.new.parts.items self.new.hub }
     {

@@ -2,7 +2,8 @@
 
 ghost use Rattle.std.specs.Prelude.{◌≡◌, ◌<◌, ◌≤◌, [], ℕ, IsTrue, length, map, replicate, slice_index, slice_index_or, vec_capacity, vec_len};
 ghost use Rattle.vlm_journal.specs.Journals.{Journal};
-ghost use Rattle.vlm_cluster.specs.Parts.{AreNumbered, IsAccounted};
+ghost use Rattle.vlm_ports.specs.Hubs.{HubTakesAlone};
+ghost use Rattle.vlm_cluster.specs.Parts.{AreNumbered, HaveEnough, IsAccounted};
 ghost use Rattle.vlm_cluster.specs.Reports.{entries_of, parts_of};
 ghost use Rattle.vlm_cluster.specs.Works.{ArePortsOf, IsBegun, IsWhole, entries_at, work_of};
 
@@ -38,6 +39,9 @@ pub(crate) fn finish<G: Gate>(
     requires posted { vec_len posted ≡ vec_len dones }
     ensures legal { Journal (entries_of result.report) result.report.core }
     ensures numbered { AreNumbered (parts_of result.report) }
+    ensures takes { HubTakesAlone (entries_of result.report) }
+    ensures enough { HaveEnough desk.every result.report.parts.items }
+    ensures rest { IsTrue result.whole → length result.report.rest.entries.items < desk.every }
     ensures counts { (vec_len result.report.items ≡ vec_len dones)
         × (vec_len result.report.posted ≡ vec_len dones) }
     ensures posted { (k : ℕ) (d : _) → k < vec_len dones
@@ -80,6 +84,8 @@ pub(crate) fn give_up<G: Gate>(
     ensures entries { entries_of result ≡ [] }
     ensures legal { Journal (entries_of result) result.core }
     ensures numbered { AreNumbered (parts_of result) }
+    ensures takes { HubTakesAlone (entries_of result) }
+    ensures enough { HaveEnough desk.every result.parts.items }
     ensures counts { (vec_len result.items ≡ vec_len posted)
         × (vec_len result.posted ≡ vec_len posted) }
     ensures items { (k : ℕ) (v : _) → k < vec_len posted

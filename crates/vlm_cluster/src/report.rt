@@ -2,7 +2,8 @@
 
 ghost use Rattle.std.specs.Prelude.{◌≡◌};
 ghost use Rattle.vlm_journal.specs.Journals.{Journal};
-ghost use Rattle.vlm_cluster.specs.Parts.{AreNumbered, IsAccounted};
+ghost use Rattle.vlm_ports.specs.Hubs.{HubTakesAlone, journal};
+ghost use Rattle.vlm_cluster.specs.Parts.{AreNumbered, HaveEnough, IsAccounted};
 ghost use Rattle.vlm_cluster.specs.Reports.{entries_of, parts_of};
 ghost use Rattle.vlm_cluster.specs.Works.{entries_at};
 
@@ -15,7 +16,7 @@ use vlm_journal::entries::{Item, Part};
 #[derive(Drop)]
 pub struct Report {
     /// The parts that were cut off the journal, in order. Each has at least as many entries as was
-    /// asked for.
+    /// asked for, and the rest has fewer where nothing was refused.
     pub parts: Vec<Part>,
     /// The rest of the journal, behind all parts.
     pub rest: Part,
@@ -42,6 +43,9 @@ impl Desk {
         ensures entries { entries_of result ≡ entries_at self }
         ensures legal { Journal (entries_of result) result.core }
         ensures numbered { AreNumbered (parts_of result) }
+        ensures takes { HubTakesAlone (entries_of result) }
+        ensures enough { HaveEnough self.every result.parts.items }
+        ensures rest { result.rest.entries.items ≡ journal self.hub }
         ensures items { result.items ≡ items }
         ensures posted { result.posted ≡ posted }
     {

@@ -1,12 +1,13 @@
 //! Lists of steps are served, each in a thread of its own.
 
-ghost use Rattle.std.specs.Prelude.{◌≡◌, ◌<◌, ◌≤◌, [], map, replicate, vec_capacity, vec_len};
+ghost use Rattle.std.specs.Prelude.{◌≡◌, ◌<◌, ◌≤◌, [], MatchResult, map, replicate, vec_capacity, vec_len};
 ghost use Rattle.vlm_words.specs.State.{start};
 ghost use Rattle.vlm_ports.specs.Hubs.{rings};
 ghost use Rattle.vlm_ports.specs.Ports.{AreNew, identity};
 ghost use Rattle.vlm_cluster.specs.Headline.{IsServing};
 ghost use Rattle.vlm_cluster.specs.Parts.{IsAccounted};
 ghost use Rattle.vlm_cluster.specs.Posts.{AreListsOfPosts};
+ghost use Rattle.vlm_cluster.specs.Reports.{IsParted, IsPartedFault};
 ghost use Rattle.vlm_cluster.specs.Works.{entries_at};
 
 use crate::desk::Desk;
@@ -43,7 +44,8 @@ pub fn serve_lists<R: Threads + Wait + Clock + Copy + Send + 'static, G: Gate + 
     requires lens { (0 < vec_len lists) × (vec_len lists ≤ 8) × (vec_len gates ≡ vec_len lists) }
     requires posts { AreListsOfPosts lists.items }
     requires every { 0 < every }
-    ensures { IsServing G.never_stops lists.items result }
+    ensures serving { IsServing G.never_stops lists.items result }
+    ensures parts { MatchResult result (IsParted every) (IsPartedFault every) }
 {
     serve_lists_over(rt, alloc, Core::new(alloc), gates, lists, every)
 }
@@ -65,7 +67,8 @@ pub fn serve_lists_over<
     requires lens { (0 < vec_len lists) × (vec_len lists ≤ 8) × (vec_len gates ≡ vec_len lists) }
     requires posts { AreListsOfPosts lists.items }
     requires every { 0 < every }
-    ensures { IsServing G.never_stops lists.items result }
+    ensures serving { IsServing G.never_stops lists.items result }
+    ensures parts { MatchResult result (IsParted every) (IsPartedFault every) }
 {
     let Ok(room) = Room::new(alloc, lists.len()) else {
         return Err(Fault::Memory(None));
@@ -96,7 +99,8 @@ fn run<R: Threads + Wait + Clock + Copy + Send + 'static, G: Gate + Send + 'stat
     requires dones { (vec_len room.dones ≡ 0) × (vec_len lists ≤ vec_capacity room.dones) }
     requires items { (vec_len room.items ≡ 0) × (vec_len lists ≤ vec_capacity room.items) }
     requires posted { room.posted.items ≡ replicate (vec_len lists) 0 }
-    ensures { IsServing G.never_stops lists.items result }
+    ensures serving { IsServing G.never_stops lists.items result }
+    ensures parts { MatchResult result (IsParted desk.every) (IsPartedFault desk.every) }
 {
     let Room {
         signals,

@@ -1,7 +1,7 @@
 //! Both ends of each ring are in one hand again: what is left on the rings is served and taken.
 
-ghost use Rattle.std.specs.Prelude.{◌≡◌, IsTrue, length, map};
-ghost use Rattle.vlm_ports.specs.Hubs.{IsPortOf, rings};
+ghost use Rattle.std.specs.Prelude.{◌≡◌, ◌<◌, IsTrue, OnOk, length, map};
+ghost use Rattle.vlm_ports.specs.Hubs.{IsPortOf, journal, rings};
 ghost use Rattle.vlm_cluster.specs.Parts.{IsAccounted};
 ghost use Rattle.vlm_cluster.specs.Works.{AreBegun, ArePortsOf, AreWhole, IsBegun, IsWhole, entries_at, work_of};
 
@@ -24,6 +24,8 @@ pub(crate) fn close<G: Gate>(
     requires accounted { IsAccounted desk.old.parts.items desk.old.hub }
     ensures same { map work_of dones.new ≡ map work_of dones.old }
     ensures accounted { IsAccounted desk.new.parts.items desk.new.hub }
+    ensures every { desk.new.every ≡ desk.old.every }
+    ensures few { IsTrue result → length (journal desk.new.hub) < desk.new.every }
     ensures begun { AreBegun (entries_at desk.new) dones.new (length dones.new) }
     ensures whole { IsTrue result → AreWhole (entries_at desk.new) dones.new (length dones.new) }
 {
@@ -43,13 +45,15 @@ fn serve_rest<G: Gate>(
     ensures rings { rings desk.new.hub ≡ rings desk.old.hub }
     ensures same { map work_of dones.new ≡ map work_of dones.old }
     ensures accounted { IsAccounted desk.new.parts.items desk.new.hub }
+    ensures every { desk.new.every ≡ desk.old.every }
+    ensures few { OnOk result (length (journal desk.new.hub) < desk.new.every) }
 {
     for _ in rt.forever() {
         if signals.is_stopped() {
             return Err(AllocError);
         }
         if settle_all(desk, dones) {
-            return Ok(());
+            return desk.cut_off();
         }
         desk.turn()?;
         collect_all(dones)?;
@@ -64,6 +68,8 @@ fn settle_all<G: Gate>(desk: &mut Desk, dones: &mut [Done<G>]) -> bool
     ensures rings { rings desk.new.hub ≡ rings desk.old.hub }
     ensures same { map work_of dones.new ≡ map work_of dones.old }
     ensures accounted { IsAccounted desk.new.parts.items desk.new.hub }
+    ensures journal { journal desk.new.hub ≡ journal desk.old.hub }
+    ensures every { desk.new.every ≡ desk.old.every }
     ensures begun { AreBegun (entries_at desk.new) dones.new (length dones.new) }
     ensures whole { IsTrue result → AreWhole (entries_at desk.new) dones.new (length dones.new) }
 {
@@ -83,6 +89,8 @@ fn settle<G: Gate>(desk: &mut Desk, done: &mut Done<G>) -> bool
     requires accounted { IsAccounted desk.old.parts.items desk.old.hub }
     ensures rings { rings desk.new.hub ≡ rings desk.old.hub }
     ensures entries { entries_at desk.new ≡ entries_at desk.old }
+    ensures journal { journal desk.new.hub ≡ journal desk.old.hub }
+    ensures every { desk.new.every ≡ desk.old.every }
     ensures same { work_of done.new ≡ work_of done.old }
     ensures accounted { IsAccounted desk.new.parts.items desk.new.hub }
     ensures begun { IsBegun (entries_at desk.new) (work_of done.new) done.new.basket.items.items }

@@ -4,3 +4,4 @@ pub mod Resting
 pub mod Losing
 pub mod Asking
 pub mod Making
+pub mod Lasting

@@ -1,5 +1,5 @@
 -- When the hub may idle.
-use Rattle.std.proofs.Common.{◌≡◌, ℕ, ◌+◌, ◌-◌, ◌<◌, ◌≤◌, List, [], ◌∷◌, ◌++◌, refl, ap, ◌∙◌, sym, subst, append-nil, append_assoc, arith, length, map, get_or, ◌⊎◌, inl, inr, length-append}
+use Rattle.std.proofs.Common.{◌≡◌, ℕ, zero, suc, ◌+◌, ◌-◌, ◌<◌, ◌≤◌, List, [], ◌∷◌, ◌++◌, refl, ap, ◌∙◌, sym, subst, append-nil, append_assoc, arith, length, map, get_or, ◌⊎◌, inl, inr, length-append}
 use Rattle.std.proofs.lemmas.Bool.{cases_eq}
 use Rattle.vlm_journal.specs.declared.entries.Entry.{Entry}
 use Rattle.std.specs.Prelude.{None}
@@ -17,7 +17,12 @@ use Rattle.vlm_ports.specs.declared.hub.Hub.{Hub}
 use Rattle.vlm_ports.specs.declared.line.Line.{Line}
 use Rattle.vlm_ports.specs.Rings.{RingName}
 use Rattle.vlm_ports.specs.Links.{AreLinked, MayRest, knows, places, line_identity}
-use Rattle.vlm_ports.specs.Hubs.{Grew, IsSameBut, MayRestAt, MayIdle, nodes, rings}
+use Rattle.vlm_ports.specs.Hubs.{Grew, HubTakesAlone, IsSameBut, MayRestAt, MayIdle, TakesAst, nodes, rings}
+
+-- an entry is one of itself alone
+takes_one : (e : Entry) → (e.sender ≡ 0 → TakesAst e) → HubTakesAlone (e ∷ [])
+takes_one e takes zero d lt = takes
+takes_one e takes (suc k) d lt = absurd (omega (arith, lt))
 
 pub grew_none : (js ks : List Entry) (s t : State) → ks ≡ js → t ≡ s → Grew 0 js s ks t
 grew_none js ks s t same stays = record {
@@ -25,16 +30,18 @@ grew_none js ks s t same stays = record {
   is = same ∙ sym (append-nil js);
   count = refl;
   legal = subst (λ (x : State). JournalFrom s [] x) (sym stays) begin;
+  takes = All-nil _;
   departed = λ node gone. record { departed = subst (λ (x : State). HasDeparted x node) (sym stays) gone; told = All-nil _ };
 }
 
 pub grew_one : (js room ks : List Entry) (s r t : State) (e : Entry) → room ≡ js → r ≡ s → ks ≡ room ++ e ∷ [] → JournalFrom r (e ∷ []) t
-    → ((node : ℕ) → HasDeparted r node → StaysDeparted node (e ∷ []) t) → Grew 1 js s ks t
-grew_one js room ks s r t e same stays is leads departed = record {
+    → ((node : ℕ) → HasDeparted r node → StaysDeparted node (e ∷ []) t) → (e.sender ≡ 0 → TakesAst e) → Grew 1 js s ks t
+grew_one js room ks s r t e same stays is leads departed takes = record {
   more = e ∷ [];
   is = is ∙ ap (λ (es : List Entry). es ++ e ∷ []) same;
   count = refl;
   legal = subst (λ (x : State). JournalFrom x (e ∷ []) t) stays leads;
+  takes = takes_one e takes;
   departed = λ node gone. departed node (subst (λ (x : State). HasDeparted x node) (sym stays) gone);
 }
 
@@ -48,6 +55,7 @@ grew_add {m} {n} {js} {ks} {ls} {s} a b = record {
   is = b.is ∙ (ap (λ (xs : List Entry). xs ++ b.more) a.is ∙ append_assoc js a.more b.more);
   count = length-append a.more b.more ∙ (ap (λ (x : ℕ). x + length b.more) a.count ∙ ap (λ (x : ℕ). m + x) b.count);
   legal = join s a.more b.more a.legal b.legal;
+  takes = All-append (λ (e : Entry). e.sender ≡ 0 → TakesAst e) a.more b.more a.takes b.takes;
   departed = λ node gone. let first = a.departed node gone in stays_on first (b.departed node first.departed);
 }
 

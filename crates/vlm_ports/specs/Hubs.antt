@@ -1,5 +1,9 @@
 -- What a hub has written down, and what it knows of its ports.
-use Rattle.std.specs.Prelude.{◌≡◌, ◌⊎◌, ◌<◌, ◌≤◌, ◌-◌, ◌+◌, ◌++◌, ℕ, List, [], length, map, slice_get, slice_index_or, Some, None, IsNone}
+use Rattle.std.specs.Prelude.{◌≡◌, ◌⊎◌, ◌<◌, ◌≤◌, ◌-◌, ◌+◌, ◌++◌, ℕ, All, List, [], length, map, slice_get, slice_index_or, Some, None, IsNone}
+use Rattle.vlm_words.specs.declared.asts.Ast.{Ast}
+use Rattle.vlm_words.specs.declared.steps.Answer.TheVariants.{Taken}
+use Rattle.vlm_words.specs.declared.steps.Step.TheVariants.{Take}
+use mathlib.Core.List.{IsPrefix}
 use Rattle.vlm_words.specs.declared.steps.Step.{Step}
 use Rattle.vlm_words.specs.Pending.{first_pending}
 use Rattle.vlm_words.specs.Reasons.{HasDeparted}
@@ -8,11 +12,11 @@ use Rattle.vlm_journal.specs.declared.entries.Entry.{Entry}
 use Rattle.vlm_journal.specs.declared.entries.Item.{Item}
 use Rattle.vlm_journal.specs.Departed.{StaysDeparted}
 use Rattle.vlm_journal.specs.Journals.{JournalFrom}
-use Rattle.vlm_journal.specs.Told.{asked}
+use Rattle.vlm_journal.specs.Told.{asked, told}
 use Rattle.vlm_ports.specs.declared.hub.Hub.{Hub}
 use Rattle.vlm_ports.specs.declared.line.Line.{Line}
 use Rattle.vlm_ports.specs.declared.port.Port.{Port}
-use Rattle.vlm_ports.specs.Links.{Base, IsDrawn, MayRest, knows, line_base, line_identity, no_base, places}
+use Rattle.vlm_ports.specs.Links.{Base, IsDrawn, Lasts, MayRest, knows, line_base, line_identity, no_base, places}
 use Rattle.vlm_ports.specs.Ports.{identity}
 use Rattle.vlm_ports.specs.Rings.{RingName}
 
@@ -52,6 +56,32 @@ waiting h node = slice_index_or (map knows h.lines.items) (node - 1) []
 abbrev pub free_for : Hub → ℕ → ℕ
 free_for h node = slice_index_or (map places h.lines.items) (node - 1) 0
 
+-- the posts of a node that the hub knows of: those that it has made, and then those that wait
+abbrev pub known_posts : Hub → ℕ → List Step
+known_posts h node = (asked_before h node ++ asked node (journal h)) ++ waiting h node
+
+-- how many places of items the hub knows of: those of the items that it has sent to a node, and those that are free
+abbrev pub known_places : Hub → ℕ → ℕ
+known_places h node = length (told_before h node ++ told node (journal h)) + free_for h node
+
+-- what the hub knows of its nodes lasts: each post that it knew of it has made or knows still, and each place that it
+-- knew to be free it has used or knows still
+abbrev pub KeepsKnown : Hub → Hub → Type 0
+KeepsKnown old new = (node : ℕ) → 0 < node → node ≤ nodes old
+    → IsPrefix (known_posts old node) (known_posts new node) × (known_places old node ≤ known_places new node)
+
+-- of a node the hub knows what it knew
+abbrev pub KnowsTheSame : ℕ → Hub → Hub → Type 0
+KnowsTheSame node old new = (waiting new node ≡ waiting old node) × (free_for new node ≡ free_for old node)
+
+-- of each node but one the hub knows what it knew
+abbrev pub OthersLast : ℕ → Hub → Hub → Type 0
+OthersLast own old new = (node : ℕ) → 0 < node → (node ≡ own → ⊥) → KnowsTheSame node old new
+
+-- what is known of each line lasts
+abbrev pub LinesLast : Hub → Hub → Type 0
+LinesLast old new = (k : ℕ) (d : Line) → Lasts (slice_index_or old.lines.items k d) (slice_index_or new.lines.items k d)
+
 -- the port was made with this hub
 abbrev pub IsPortOf : Hub → Port → Type 0
 IsPortOf h p = (0 < p.node) × (slice_get (rings h) (p.node - 1) ≡ Some (identity p))
@@ -74,13 +104,25 @@ pub record IsSameBut (at : ℕ) (old new : Hub) : Type 0 where
   pub state : new.book.state ≡ old.book.state
   pub lines : (k : ℕ) (d : Line) → (k ≡ at → ⊥) → slice_index_or new.lines.items k d ≡ slice_index_or old.lines.items k d
 
--- so many entries were put at the end, they are legal from the state before them and lead to that behind them, and of a
--- node that had departed each is answered DEPARTED
+-- the entry is a take, and is answered an AST
+pub record TakesAst (entry : Entry) : Type 0 where
+  pub pid : ℕ
+  pub ast : Ast
+  pub step : entry.step ≡ Take pid
+  pub answer : entry.answer ≡ Taken (Some ast)
+
+-- all that the hub makes by itself are takes that are answered an AST
+abbrev pub HubTakesAlone : List Entry → Type 0
+HubTakesAlone entries = All (λ entry. entry.sender ≡ 0 → TakesAst entry) entries
+
+-- so many entries were put at the end, they are legal from the state before them and lead to the state after them; by
+-- itself the hub makes takes alone, and a node that had departed is answered DEPARTED each time
 pub record Grew (n : ℕ) (before : List Entry) (old : State) (now : List Entry) (new : State) : Type 0 where
   pub more : List Entry
   pub is : now ≡ before ++ more
   pub count : length more ≡ n
   pub legal : JournalFrom old more new
+  pub takes : HubTakesAlone more
   pub departed : (node : ℕ) → HasDeparted old node → StaysDeparted node more new
 
 -- the hub has put so many entries at the end

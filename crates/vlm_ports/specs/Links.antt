@@ -1,5 +1,6 @@
 -- What the hub's ends of a node's rings have taken and sent.
-use Rattle.std.specs.Prelude.{◌≡◌, ◌⊎◌, ◌<◌, ◌+◌, ◌-◌, ◌++◌, ℕ, List, [], length, map, slice_index_or, take, None}
+use Rattle.std.specs.Prelude.{◌≡◌, ◌⊎◌, ◌<◌, ◌≤◌, ◌+◌, ◌-◌, ◌++◌, ℕ, List, [], length, map, slice_index_or, take, None}
+use mathlib.Core.List.{IsPrefix}
 use Rattle.rtrb.specs.Ring.{known_free, known_items, received, sent}
 use Rattle.vlm_words.specs.declared.steps.Step.{Step}
 use Rattle.vlm_words.specs.Pending.{first_pending}
@@ -26,6 +27,12 @@ knows l = map (λ step. on_behalf l.node step) (known_items l.requests)
 -- how many places for items the hub knows to be free
 abbrev pub places : Line → ℕ
 places l = known_free l.items
+
+-- what was known of a line lasts: each post that was known is taken or still known, and each place that was known to be
+-- free has an item or is still known to be free
+pub record Lasts (was l : Line) : Type 0 where
+  pub posts : IsPrefix (has_taken was ++ knows was) (has_taken l ++ knows l)
+  pub places : length (has_told was) + places was ≤ length (has_told l) + places l
 
 -- the node of a line, and its rings
 abbrev pub line_identity : Line → ℕ × RingName × RingName

@@ -1,6 +1,7 @@
 //! The hub: it alone owns the core and its journal.
 
 ghost use Rattle.std.specs.Prelude.{◌≡◌, ◌⊎◌, ◌≤◌, ◌<◌, ◌+◌, ◌*◌, ◌∷◌, ◌++◌, ◌-◌, ◌^◌, [], length, min, vec_len, IfOk, OnErr, OnOk, IsFalse, All, map, ℕ};
+ghost use mathlib.Core.List.{IsPrefix};
 ghost use Rattle.vlm_ports.specs.Links.{AreFresh, AreLinked, line_identity};
 ghost use Rattle.vlm_ports.specs.Ports.{AreNew as AreNewPorts, identity as port_identity};
 
@@ -54,8 +55,8 @@ impl Hub {
     ghost use Rattle.vlm_journal.specs.Books.{GoesOn, made};
     ghost use Rattle.vlm_journal.specs.Told.{asked, told};
     ghost use Rattle.vlm_ports.specs.Turns.{IsIdleTurn, IsServedTurn, turn_entries};
-    ghost use Rattle.vlm_ports.specs.Hubs.{EachAsksOnce, HubGrew, IsAsWritten, IsDrawnAt, IsNewHub, IsPortOf, IsSameBut, MayIdle, MayRestAt, NoneAsks, OneAsks, asked_before, base, bases, free_for, journal, nodes, rings, state, told_before, waiting};
-    ghost use Rattle.vlm_ports.specs.Ports.{AreNew, arrived, identity, posted, taken};
+    ghost use Rattle.vlm_ports.specs.Hubs.{EachAsksOnce, HubGrew, IsAsWritten, IsDrawnAt, IsNewHub, IsPortOf, IsSameBut, KeepsKnown, LinesLast, MayIdle, MayRestAt, NoneAsks, OneAsks, OthersLast, asked_before, base, bases, free_for, journal, nodes, rings, state, told_before, waiting};
+    ghost use Rattle.vlm_ports.specs.Ports.{AreNew, arrived, free_places, identity, posted, taken};
     ghost use Rattle.vlm_ports.specs.Watched.{IsUnwatched, board};
 
     /// How many nodes it serves.
@@ -119,6 +120,7 @@ impl Hub {
         ensures most { turn_entries result ≤ 2 * nodes self.old }
         ensures once { EachAsksOnce (journal self.old) (journal self.new) }
         ensures idle { IsIdleTurn result → MayIdle self.new }
+        ensures known { KeepsKnown self.old self.new }
     {
         let mut made = 0usize;
         for at in 0..self.nodes() {
@@ -143,6 +145,7 @@ impl Hub {
         ensures base { (base self.new ≡ base self.old) × (bases self.new ≡ bases self.old) }
         ensures board { board self.new ≡ board self.old }
         ensures waiting { waiting self.new ≡ waiting self.old }
+        ensures free { free_for self.new ≡ free_for self.old }
         ensures lost { IfOk result (λ cond. journal self.new ≡ journal self.old
             ++ record { sender = 0; step = Leave node; answer = Plain cond } ∷ []) }
         ensures outcome { IfOk result (λ cond.
@@ -169,11 +172,16 @@ impl Hub {
             × (taken port.new ≡ taken port.old) }
         ensures posted { posted port.new ≡ asked_before self.new port.new.node
             ++ asked port.new.node (journal self.new) ++ waiting self.new port.new.node }
-        ensures steps { result.steps ≡ length (waiting self.new port.new.node) }
+        ensures steps { (result.steps ≡ length (waiting self.new port.new.node)) × (result.steps ≤ 64) }
         ensures told { told_before self.new port.new.node ++ told port.new.node (journal self.new)
             ≡ taken port.new ++ arrived port.new }
-        ensures items { result.items ≡ length (arrived port.new) }
+        ensures items { (result.items ≡ length (arrived port.new)) × (result.items ≤ 64) }
         ensures places { 64 ≤ free_for self.new port.new.node + result.items }
+        ensures free { 64 ≤ free_places port.new + result.steps }
+        ensures lasts { IsPrefix (arrived port.old) (arrived port.new)
+            × (free_places port.old ≤ free_places port.new) }
+        ensures known { KeepsKnown self.old self.new }
+        ensures others { OthersLast port.new.node self.old self.new }
     {
         let line = &mut self.lines[port.node as usize - 1];
         line.settle(port)
@@ -190,6 +198,7 @@ impl Hub {
         ensures next { base self.new ≡ made self.old.book }
         ensures state { state self.new ≡ state self.old }
         ensures waiting { waiting self.new ≡ waiting self.old }
+        ensures free { free_for self.new ≡ free_for self.old }
         ensures before { (node : ℕ) → 0 < node → node ≤ nodes self.old
             → (asked_before self.new node
             ≡ asked_before self.old node ++ asked node (journal self.old))
@@ -242,6 +251,7 @@ impl Hub {
         ensures once { OneAsks at (journal self.old) (journal self.new) }
         ensures idle { result.made ≡ 0 → IsFalse result.refused
             → IsSameBut at self.old self.new × MayRestAt self.new at }
+        ensures known { LinesLast self.old self.new }
     {
         match self.draw(at) {
             Err(_) => Attended {
@@ -271,6 +281,7 @@ impl Hub {
         ensures none_asks { IfOk result (λ n. NoneAsks (journal self.old) (journal self.new)) }
         ensures drawn { IfOk result (λ n. n ≡ 0
             → IsSameBut at self.old self.new × IsDrawnAt self.new at) }
+        ensures known { LinesLast self.old self.new }
         ensures refused { OnErr result (IsAsWritten self.old self.new) }
     {
         let line = &mut self.lines[at];
@@ -298,6 +309,7 @@ impl Hub {
         ensures once { IfOk result (λ n. OneAsks at (journal self.old) (journal self.new)) }
         ensures served { IfOk result (λ n. n ≡ 0
             → IsSameBut at self.old self.new × (IsDrawnAt self.old at → MayRestAt self.new at)) }
+        ensures known { LinesLast self.old self.new }
         ensures refused { OnErr result (IsAsWritten self.old self.new) }
     {
         let line = &mut self.lines[at];

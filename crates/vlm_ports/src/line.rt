@@ -1,6 +1,7 @@
 //! The hub's ends of the two rings of a node.
 
 ghost use Rattle.std.specs.Prelude.{◌≡◌, ◌+◌, ◌<◌, ◌≤◌, ◌∷◌, ◌++◌, [], length, IsTrue, IsFalse, IfOk};
+ghost use mathlib.Core.List.{IsPrefix};
 ghost use Rattle.rtrb.specs.Ring.{producer_capacity};
 ghost use Rattle.vlm_journal.specs.Journals.{IsPostOf};
 
@@ -36,8 +37,8 @@ pub struct Settled {
 }
 
 impl Line {
-    ghost use Rattle.vlm_ports.specs.Links.{has_taken, has_told, knows, line_identity, places};
-    ghost use Rattle.vlm_ports.specs.Ports.{arrived, identity, posted, taken};
+    ghost use Rattle.vlm_ports.specs.Links.{Lasts, has_taken, has_told, knows, line_identity, places};
+    ghost use Rattle.vlm_ports.specs.Ports.{arrived, free_places, identity, posted, taken};
 
     /// The rings of a node, for the hub and for the node.
     pub(crate) fn make(alloc: Global, node: u8) -> Result<(Line, Port), AllocError>
@@ -45,6 +46,8 @@ impl Line {
         ensures line { IfOk result (λ r.
             (r.0.node ≡ node) × (has_taken r.0 ≡ []) × (has_told r.0 ≡ [])) }
         ensures port { IfOk result (λ r. (r.1.node ≡ node) × (posted r.1 ≡ []) × (taken r.1 ≡ [])) }
+        ensures places { IfOk result (λ r.
+            (producer_capacity r.0.items ≡ 64) × (producer_capacity r.1.requests ≡ 64)) }
     {
         let (to_hub, requests) = RingBuffer::new(alloc, PLACES)?;
         let (items, from_hub) = RingBuffer::new(alloc, PLACES)?;
@@ -67,6 +70,7 @@ impl Line {
         ensures taken { has_taken self.new ≡ has_taken self.old }
         ensures told { has_told self.new ≡ has_told self.old }
         ensures knows { knows self.new ≡ knows self.old }
+        ensures lasts { Lasts self.old self.new }
         ensures place { IsTrue result → 0 < places self.new }
         ensures none { IsFalse result → places self.new ≡ 0 }
     {
@@ -87,6 +91,7 @@ impl Line {
         ensures taken { has_taken self.new ≡ has_taken self.old }
         ensures told { has_told self.new ≡ has_told self.old }
         ensures places { places self.new ≡ places self.old }
+        ensures lasts { Lasts self.old self.new }
         ensures some { IsTrue result → 0 < length (knows self.new) }
         ensures none { IsFalse result → knows self.new ≡ [] }
     {
@@ -100,6 +105,7 @@ impl Line {
         ensures taken { has_taken self.new ≡ has_taken self.old ++ result ∷ [] }
         ensures told { has_told self.new ≡ has_told self.old }
         ensures places { places self.new ≡ places self.old }
+        ensures lasts { Lasts self.old self.new }
         ensures post { IsPostOf self.old.node result }
     {
         on_behalf(self.node, self.requests.pop_known())
@@ -111,12 +117,13 @@ impl Line {
         ensures rings { line_identity self.new ≡ line_identity self.old }
         ensures taken { has_taken self.new ≡ has_taken self.old }
         ensures told { has_told self.new ≡ has_told self.old ++ item ∷ [] }
+        ensures lasts { Lasts self.old self.new }
     {
         self.items.push_reserved(item);
     }
 
     /// Both ends in one hand: what the port posted and the hub has not taken, and what the hub sent and the port has not
-    /// taken. Each place that holds no item is then known to be free.
+    /// taken, at most 64 each. Each place that holds none is then known to be free.
     pub(crate) fn settle(&mut self, port: &mut Port) -> Settled
         requires { line_identity self.old ≡ identity port.old }
         ensures rings { line_identity self.new ≡ line_identity self.old }
@@ -125,11 +132,16 @@ impl Line {
         ensures same { (identity port.new ≡ identity port.old) × (posted port.new ≡ posted port.old)
             × (taken port.new ≡ taken port.old) }
         ensures posted { posted port.new ≡ has_taken self.new ++ knows self.new }
-        ensures steps { result.steps ≡ length (knows self.new) }
+        ensures steps { (result.steps ≡ length (knows self.new)) × (result.steps ≤ 64) }
         ensures arrived { has_told self.new ≡ taken port.new ++ arrived port.new }
-        ensures items { result.items ≡ length (arrived port.new) }
+        ensures items { (result.items ≡ length (arrived port.new)) × (result.items ≤ 64) }
         ensures places { 64 ≤ places self.new + result.items }
+        ensures free { 64 ≤ free_places port.new + result.steps }
+        ensures lasts { Lasts self.old self.new }
+        ensures known { IsPrefix (arrived port.old) (arrived port.new)
+            × (free_places port.old ≤ free_places port.new) }
     {
+        let _places = port.requests.slots_beside(&mut self.requests);
         let steps = self.requests.slots_beside(&mut port.requests);
         let _free = self.items.slots_beside(&mut port.items);
         let items = port.items.slots_beside(&mut self.items);

@@ -1,7 +1,9 @@
 //! A node's ends of its two rings.
 
-ghost use Rattle.std.specs.Prelude.{◌≡◌, ◌<◌, ◌∷◌, ◌++◌, [], length, OnOk, IfErr, OnErr, IfSome, IfNone, IsSome, IsOk};
+ghost use Rattle.std.specs.Prelude.{◌≡◌, ◌<◌, ◌≤◌, ◌+◌, ◌∷◌, ◌++◌, [], length, OnOk, IfErr, OnErr, IfSome, IfNone, IsSome, IsOk};
 ghost use Rattle.std.specs.Bool.{OnFalse, OnTrue};
+ghost use mathlib.Core.List.{IsPrefix};
+ghost use Rattle.rtrb.specs.Ring.{producer_capacity};
 ghost use Rattle.vlm_journal.specs.Journals.{IsPostOf};
 
 use crate::posts::is_post_of;
@@ -22,6 +24,7 @@ pub struct Port {
     pub(crate) requests: Producer<Step>,
     /// Where its items come from.
     pub(crate) items: Consumer<Item>,
+    ghost places: { producer_capacity requests ≡ 64 },
 }
 
 impl Port {
@@ -53,6 +56,7 @@ impl Port {
         ensures full { IfErr result (λ f.
             (f.0 ≡ step) × (posted self.new ≡ posted self.old) × (free_places self.new ≡ 0)) }
         ensures known { 0 < free_places self.old → IsOk result }
+        ensures fewer { OnOk result (free_places self.old ≤ free_places self.new + 1) }
     {
         match self.requests.push(step) {
             Ok(()) => Ok(()),
@@ -70,6 +74,7 @@ impl Port {
         ensures full { OnErr result (
             (posted self.new ≡ posted self.old) × (free_places self.new ≡ 0)) }
         ensures known { 0 < free_places self.old → IsOk result }
+        ensures fewer { OnOk result (free_places self.old ≤ free_places self.new + 1) }
     {
         self.post(Step::Leave(self.node))
     }
@@ -82,6 +87,7 @@ impl Port {
         ensures some { IfSome result (λ x. taken self.new ≡ taken self.old ++ x ∷ []) }
         ensures none { IfNone result ((taken self.new ≡ taken self.old) × (arrived self.new ≡ [])) }
         ensures known { 0 < length (arrived self.old) → IsSome result }
+        ensures more { IfSome result (λ x. IsPrefix (arrived self.old) (x ∷ arrived self.new)) }
     {
         self.items.pop().ok()
     }

@@ -1,6 +1,6 @@
 //! A watcher: the end of a board that reads.
 
-ghost use Rattle.std.specs.Prelude.{◌≡◌, ◌<◌, ◌≤◌, true, take, length, IfSome, IfNone, OnSome};
+ghost use Rattle.std.specs.Prelude.{◌≡◌, ◌<◌, ◌≤◌, true, take, length, IfSome, IfNone, IsTrue, OnSome};
 ghost use mathlib.Core.List.{IsPrefix};
 ghost use Rattle.left_right.specs.Sides.{view};
 ghost use Rattle.vlm_watch.specs.Rule.{book_of};
@@ -25,6 +25,8 @@ pub struct Watcher {
     ghost few: { keys ≤ 16 },
     ghost knows: { (view reader.place).knows ≡ true },
     ghost home: { learnt.history.book ≡ book_of (view reader.place) },
+    ghost counted: { shown.count ≡ length (changes_to shown) },
+    ghost same: { shown.before.book ≡ learnt.history.book },
     ghost saw: { take (length (changes_to shown)) (view reader.place).seen ≡ changes_to shown },
 }
 
@@ -128,5 +130,17 @@ impl Watcher {
         ensures told { IsPrefix (told_changes told) (learnt self.new) }
     {
         replace_with(self, told, |watcher, told| watcher.learning(told))
+    }
+
+    /// Whether the row that it showed last is of the last change that is told here. The told value is of the same hub. It
+    /// takes the same time however much is held.
+    pub fn has_seen(&self, told: &Told) -> bool
+        requires { told_board told.now ≡ board_of self.now }
+        ensures { IsTrue result → seen self.now ≡ told_changes told.now }
+    {
+        if self.shown.count != told.count {
+            return false;
+        }
+        told.begins(&self.shown)
     }
 }

@@ -1,4 +1,4 @@
-use Rattle.std.proofs.Common.{◌≡◌, ◌≤◌, ℕ, List, length, get_or, vec_len, arith, ap, sym, ◌∙◌}
+use Rattle.std.proofs.Common.{◌≡◌, ◌<◌, ◌≤◌, ℕ, List, length, get_or, vec_len, arith, ap, subst, sym, ◌∙◌}
 use Rattle.std.specs.declared.thread.PromisedHandle.{PromisedHandle}
 use Rattle.std.proofs.lemmas.List.{length-replicate}
 use Rattle.vlm_ports.specs.declared.port.Port.{Port}
@@ -6,6 +6,7 @@ use Rattle.vlm_cluster.specs.declared.report.Report.{Report}
 use Rattle.vlm_cluster.specs.declared.threads.Given.{Given}
 use Rattle.vlm_cluster.specs.declared.worker.Done.{Done}
 use Rattle.vlm_cluster.specs.Headline.{StepList}
+use Rattle.vlm_cluster.specs.Parts.{HaveEnough}
 use Rattle.vlm_cluster.proofs.Assembled.{AreNoted, AreWorks, all_posted, begun, given_up, ports_of_works, served, works_of}
 use Rattle.vlm_cluster.proofs.serve.run.Goals as goal
 
@@ -25,8 +26,8 @@ finish-finished-requires-clause-ports g c =
     let all : length dones ≤ length ports = omega arith in
     ports_of_works g.G.Gate.never_stops ports lists dones c.serve.new.self.hub c.requires.new.0 works all fewer (c.serve.ensures.rings ∙ sym c.requires.new.1)
 
-pub returns-then-finished : goal.returns-then-finished
-returns-then-finished g c =
+pub returns-then-finished-clause-serving : goal.returns-then-finished-clause-serving
+returns-then-finished-clause-serving g c =
     let D = Done g.row.G.Denot in
     let ports : List Port = c.args.ports.items in let lists : List StepList = c.args.lists.items in
     let children : List (PromisedHandle D Given) = c.start_all.new.children.items in let dones : List D = c.join_all-2.new.dones.items in
@@ -47,11 +48,11 @@ returns-then-finished g c =
     record {
       served =
           served g.G.Gate.never_stops ports lists dones r c.requires.new.0 as_many fewer works noted all items posted
-          c.finish-finished.ensures.legal c.finish-finished.ensures.numbered c.law_departed.ensures.answered
+          c.finish-finished.ensures.legal c.finish-finished.ensures.numbered c.finish-finished.ensures.takes c.law_departed.ensures.answered
           (λ k d v lt. c.finish-finished.ensures.whole c.if-finished.true k d v (omega arith));
       whole = λ never.
           all_posted g.G.Gate.never_stops ports lists dones r c.requires.new.0 as_many fewer works noted all items posted
-          c.finish-finished.ensures.legal c.finish-finished.ensures.numbered c.law_departed.ensures.answered never
+          c.finish-finished.ensures.legal c.finish-finished.ensures.numbered c.finish-finished.ensures.takes c.law_departed.ensures.answered never
           (λ k d v lt. c.finish-finished.ensures.whole c.if-finished.true k d v (omega arith));
       modes = c.law_modes_stay_compatible.ensures _ _ c.finish-finished.ensures.legal;
       once = c.law_requests_end_once.ensures _ _ c.finish-finished.ensures.legal;
@@ -59,8 +60,8 @@ returns-then-finished g c =
       cut_short = tt;
     }
 
-pub returns : goal.returns
-returns g c =
+pub returns-clause-serving : goal.returns-clause-serving
+returns-clause-serving g c =
     let D = Done g.row.G.Denot in
     let ports : List Port = c.args.ports.items in let lists : List StepList = c.args.lists.items in
     let children : List (PromisedHandle D Given) = c.start_all.new.children.items in let dones : List D = c.join_all-2.new.dones.items in
@@ -86,12 +87,12 @@ returns g c =
       order = tt;
       cut_short =
           begun g.G.Gate.never_stops ports lists dones r c.requires.new.0 as_many fewer works noted all items posted
-          c.finish-finished.ensures.legal c.finish-finished.ensures.numbered c.law_departed.ensures.answered
+          c.finish-finished.ensures.legal c.finish-finished.ensures.numbered c.finish-finished.ensures.takes c.law_departed.ensures.answered
           (λ k d v lt. c.finish-finished.ensures.begun k d v (omega arith));
     }
 
-pub returns-then-started-count : goal.returns-then-started-count
-returns-then-started-count g c =
+pub returns-then-started-count-clause-serving : goal.returns-then-started-count-clause-serving
+returns-then-started-count-clause-serving g c =
     let D = Done g.row.G.Denot in
     let ports : List Port = c.args.ports.items in let lists : List StepList = c.args.lists.items in
     let children : List (PromisedHandle D Given) = c.start_all.new.children.items in let dones : List D = c.join_all.new.dones.items in
@@ -118,7 +119,16 @@ returns-then-started-count g c =
       order = tt;
       cut_short =
           given_up g.G.Gate.never_stops ports lists dones r c.requires.new.0 as_many fewer works noted
-          c.give_up-report.ensures.entries (omega arith) (omega arith) c.give_up-report.ensures.legal c.give_up-report.ensures.numbered c.law_departed.ensures.answered
+          c.give_up-report.ensures.entries (omega arith) (omega arith) c.give_up-report.ensures.legal c.give_up-report.ensures.numbered c.give_up-report.ensures.takes c.law_departed.ensures.answered
           (λ k v lt. c.give_up-report.ensures.items k v (omega arith))
           (λ k above. c.give_up-report.ensures.others k (omega (arith, long, above)));
+    }
+
+-- the desk cuts parts as it was told
+pub returns-then-finished-clause-parts : goal.returns-then-finished-clause-parts
+returns-then-finished-clause-parts g c =
+    let r : Report = c.finish-finished.result.report in
+    let every = c.serve.ensures.every in record {
+      parts = subst (λ (n : ℕ). HaveEnough n r.parts.items) every c.finish-finished.ensures.enough;
+      rest = subst (λ (n : ℕ). length r.rest.entries.items < n) every (c.finish-finished.ensures.rest c.if-finished.true);
     }

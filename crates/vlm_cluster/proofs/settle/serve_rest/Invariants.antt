@@ -9,4 +9,5 @@ invariant-loop g l = record {
   rings : rings l.desk.hub ≡ rings l.initial.desk.hub;
   same : map work_of l.dones ≡ map work_of l.initial.dones;
   accounted : IsAccounted l.desk.parts.items l.desk.hub;
+  every : l.desk.every ≡ l.initial.desk.every;
 }

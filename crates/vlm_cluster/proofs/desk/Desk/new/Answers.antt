@@ -6,4 +6,4 @@ use Rattle.vlm_cluster.proofs.desk.Desk.new.Goals as goal
 
 pub returns-clause-accounted : goal.returns-clause-accounted
 returns-clause-accounted c =
-    subst (λ (ps : List Part). IsAccounted ps c.args.hub) (sym c.new.ensures.items) (accounts_begin c.args.hub c.requires)
+    subst (λ (ps : List Part). IsAccounted ps c.args.hub) (sym c.new.ensures.items) (accounts_begin c.args.hub c.requires.hub)

@@ -4,4 +4,5 @@ use Rattle.vlm_cluster.specs.Parts.{IsAccounted}
 use Rattle.vlm_cluster.proofs.desk.Desk.serve.Given as goal
 
 abbrev pub invariant-loop : goal.invariant-loop
-invariant-loop g l = (rings l.self.hub ≡ rings l.initial.self.hub) × IsAccounted l.self.parts.items l.self.hub
+invariant-loop g l =
+    (rings l.self.hub ≡ rings l.initial.self.hub) × IsAccounted l.self.parts.items l.self.hub × (l.self.every ≡ l.initial.self.every)

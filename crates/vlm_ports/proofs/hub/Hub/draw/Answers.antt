@@ -6,6 +6,7 @@ use Rattle.vlm_ports.specs.Links.{line_base}
 use Rattle.vlm_ports.proofs.Asking.{hub_asks}
 use Rattle.vlm_ports.proofs.Lines.{drawing, drawn_follows, node_at, rings_set, set_same}
 use Rattle.vlm_ports.proofs.Resting.{grew_none, grew_one}
+use Rattle.vlm_ports.proofs.Lasting.{lasts_at, lasts_then}
 use Rattle.vlm_ports.proofs.hub.Hub.draw.Goals as goal
 
 pub returns-then-not-has_place-clause-rings : goal.returns-then-not-has_place-clause-rings
@@ -75,7 +76,8 @@ pub returns-clause-grew : goal.returns-clause-grew
 returns-clause-grew c = (
   omega arith,
   grew_one c.args.self.now.book.entries c.reserve.new.self.entries c.draw-ast.new.self.entries c.args.self.now.book.state c.reserve.new.self.state c.draw-ast.new.self.state (drawing c.in-Some.pid c.draw-ast.result)
-      c.reserve.ensures.entries c.reserve.ensures.state c.draw-ast.ensures.entries c.draw-ast.ensures.leads c.draw-ast.ensures.departed,
+      c.reserve.ensures.entries c.reserve.ensures.state c.draw-ast.ensures.entries c.draw-ast.ensures.leads c.draw-ast.ensures.departed
+      (λ own. record { pid = c.in-Some.pid; ast = c.draw-ast.result; step = refl; answer = refl }),
 )
 
 pub returns-then-not-has_place-clause-grew : goal.returns-then-not-has_place-clause-grew
@@ -83,3 +85,23 @@ returns-then-not-has_place-clause-grew c = (omega arith, grew_none c.args.self.n
 
 pub returns-in_default-clause-grew : goal.returns-in_default-clause-grew
 returns-in_default-clause-grew c = (omega arith, grew_none c.args.self.now.book.entries c.args.self.now.book.entries c.args.self.now.book.state c.args.self.now.book.state refl refl)
+
+pub returns-then-not-has_place-clause-known : goal.returns-then-not-has_place-clause-known
+returns-then-not-has_place-clause-known c =
+    lasts_at c.args.self.now.lines.items c.args.at c.has_place.new.self c.index_mut-line.result.now c.requires c.index_mut-line.ensures.value
+    c.has_place.ensures.lasts
+
+pub returns-in_default-clause-known : goal.returns-in_default-clause-known
+returns-in_default-clause-known c =
+    lasts_at c.args.self.now.lines.items c.args.at c.has_place.new.self c.index_mut-line.result.now c.requires c.index_mut-line.ensures.value
+    c.has_place.ensures.lasts
+
+pub returns-in_err-reserve-clause-known : goal.returns-in_err-reserve-clause-known
+returns-in_err-reserve-clause-known c =
+    lasts_at c.args.self.now.lines.items c.args.at c.has_place.new.self c.index_mut-line.result.now c.requires c.index_mut-line.ensures.value
+    c.has_place.ensures.lasts
+
+pub returns-clause-known : goal.returns-clause-known
+returns-clause-known c =
+    lasts_at c.args.self.now.lines.items c.args.at c.tell.new.self c.index_mut-line.result.now c.requires c.index_mut-line.ensures.value
+    (lasts_then _ _ _ c.has_place.ensures.lasts c.tell.ensures.lasts)

@@ -7,6 +7,7 @@ use Rattle.vlm_ports.specs.Links.{line_base}
 use Rattle.vlm_ports.proofs.Asking.{node_asks}
 use Rattle.vlm_ports.proofs.Lines.{node_at, rings_set, served_follows, set_same}
 use Rattle.vlm_ports.proofs.Resting.{grew_none, grew_one}
+use Rattle.vlm_ports.proofs.Lasting.{lasts_at, lasts_still, lasts_then}
 use Rattle.vlm_ports.proofs.hub.Hub.serve.Goals as goal
 
 pub returns-then-not-has_request-clause-rings : goal.returns-then-not-has_request-clause-rings
@@ -75,10 +76,15 @@ returns-clause-once c =
 
 pub returns-clause-grew : goal.returns-clause-grew
 returns-clause-grew c =
-    let e : Entry = record { sender = c.request-step.new.self.node; step = c.request-step.result; answer = c.serve-answer.result } in (
+    let popped = c.request-step.new.self in
+    let ring = c.request-step.ensures.rings ∙ c.has_request.ensures.rings in
+    let node =
+    node_at c.args.self.now.lines.items c.args.self.now.book.entries c.args.at popped c.index_mut-line.result.now c.args.self.now.linked c.requires c.index_mut-line.ensures.value ring in
+    let e : Entry = record { sender = popped.node; step = c.request-step.result; answer = c.serve-answer.result } in (
       omega arith,
       grew_one c.args.self.now.book.entries c.reserve.new.self.entries c.serve-answer.new.self.entries c.args.self.now.book.state c.reserve.new.self.state c.serve-answer.new.self.state e
-          c.reserve.ensures.entries c.reserve.ensures.state c.serve-answer.ensures.entries c.serve-answer.ensures.leads c.serve-answer.ensures.departed,
+          c.reserve.ensures.entries c.reserve.ensures.state c.serve-answer.ensures.entries c.serve-answer.ensures.leads c.serve-answer.ensures.departed
+          (λ own. absurd (omega (arith, own, node))),
     )
 
 pub returns-then-not-has_known_place-clause-grew : goal.returns-then-not-has_known_place-clause-grew
@@ -86,3 +92,23 @@ returns-then-not-has_known_place-clause-grew c = (omega arith, grew_none c.args.
 
 pub returns-then-not-has_request-clause-grew : goal.returns-then-not-has_request-clause-grew
 returns-then-not-has_request-clause-grew c = (omega arith, grew_none c.args.self.now.book.entries c.args.self.now.book.entries c.args.self.now.book.state c.args.self.now.book.state refl refl)
+
+pub returns-then-not-has_known_place-clause-known : goal.returns-then-not-has_known_place-clause-known
+returns-then-not-has_known_place-clause-known c =
+    lasts_at c.args.self.now.lines.items c.args.at c.index_mut-line.result.now c.index_mut-line.result.now c.requires c.index_mut-line.ensures.value
+    (lasts_still c.index_mut-line.result.now)
+
+pub returns-then-not-has_request-clause-known : goal.returns-then-not-has_request-clause-known
+returns-then-not-has_request-clause-known c =
+    lasts_at c.args.self.now.lines.items c.args.at c.has_request.new.self c.index_mut-line.result.now c.requires c.index_mut-line.ensures.value
+    c.has_request.ensures.lasts
+
+pub returns-in_err-reserve-clause-known : goal.returns-in_err-reserve-clause-known
+returns-in_err-reserve-clause-known c =
+    lasts_at c.args.self.now.lines.items c.args.at c.has_request.new.self c.index_mut-line.result.now c.requires c.index_mut-line.ensures.value
+    c.has_request.ensures.lasts
+
+pub returns-clause-known : goal.returns-clause-known
+returns-clause-known c =
+    lasts_at c.args.self.now.lines.items c.args.at c.tell.new.self c.index_mut-line.result.now c.requires c.index_mut-line.ensures.value
+    (lasts_then _ _ _ c.has_request.ensures.lasts (lasts_then _ _ _ c.request-step.ensures.lasts c.tell.ensures.lasts))

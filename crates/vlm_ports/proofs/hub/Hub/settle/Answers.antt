@@ -3,6 +3,7 @@ use Rattle.vlm_words.specs.declared.steps.Step.{Step}
 use Rattle.vlm_journal.specs.Told.{asked}
 use Rattle.vlm_ports.specs.Links.{knows, line_base, no_base, places}
 use Rattle.vlm_ports.proofs.Lines.{at_set, line_within, rings_set, set_same, settled_line}
+use Rattle.vlm_ports.proofs.Lasting.{known_kept, lasts_at, others_last}
 use Rattle.vlm_ports.proofs.hub.Hub.settle.Goals as goal
 
 pub returns-clause-rings : goal.returns-clause-rings
@@ -36,7 +37,7 @@ returns-clause-steps c =
     let node = c.settle.new.port.node in
     let lt = line_within ls at _ c.requires.1 in
     let same : node ≡ c.args.port.now.node = ap (λ i. i.0) c.settle.ensures.same.0 in
-    c.settle.ensures.steps ∙ ap (λ (ws : List Step). length ws) (sym (at_set knows ls at l (node - 1) [] (ap (λ (n : ℕ). n - 1) same) lt))
+    (c.settle.ensures.steps.0 ∙ ap (λ (ws : List Step). length ws) (sym (at_set knows ls at l (node - 1) [] (ap (λ (n : ℕ). n - 1) same) lt)), c.settle.ensures.steps.1)
 
 pub returns-clause-told : goal.returns-clause-told
 returns-clause-told c =
@@ -57,3 +58,19 @@ returns-clause-places c =
     let same : node ≡ c.args.port.now.node = ap (λ i. i.0) c.settle.ensures.same.0 in
     let P : ℕ → Type 0 = λ n. 64 ≤ n + c.settle.result.items in
     subst P (sym (at_set places ls at l (node - 1) 0 (ap (λ (n : ℕ). n - 1) same) lt)) c.settle.ensures.places
+
+pub returns-clause-known : goal.returns-clause-known
+returns-clause-known c =
+    let ls = c.args.self.now.lines.items in let js = c.args.self.now.book.entries in let at = c.args.port.now.node - 1 in let l = c.settle.new.self in
+    let was = c.index_mut-line.result.now in
+    let lt = line_within ls at _ c.requires.1 in
+    let follows = set_same ls js at l was c.args.self.now.linked lt c.index_mut-line.ensures.value c.settle.ensures.rings c.settle.ensures.taken c.settle.ensures.told in
+    known_kept ls (set ls at l) js js c.args.self.now.linked follows.linked (rings_set ls at l was c.index_mut-line.ensures.value c.settle.ensures.rings)
+    (lasts_at ls at l was lt c.index_mut-line.ensures.value c.settle.ensures.lasts)
+
+pub returns-clause-others : goal.returns-clause-others
+returns-clause-others c =
+    let at = c.args.port.now.node - 1 in
+    let same : c.settle.new.port.node ≡ c.args.port.now.node = ap (λ i. i.0) c.settle.ensures.same.0 in
+    let some = c.requires.0 in
+    others_last c.args.self.now.lines.items at c.settle.new.port.node c.settle.new.self (omega (arith, same, some))
