@@ -111,8 +111,8 @@ impl Pair {
     }
 }
 
-// Posts a step on a port, if the port may.
-fn post(port: &mut Port, step: Step) -> Result<(), Full>
+/// Posts a step on a port, if the port may.
+pub(crate) fn post(port: &mut Port, step: Step) -> Result<(), Full>
     ensures { identity port.new ≡ identity port.old }
 {
     if port.may_post(&step) {

@@ -17,3 +17,5 @@ pub mod Privileges
 pub mod Owners
 pub mod NoNewCircles
 pub mod TailMarks
+pub mod AtOnce
+pub mod WarnedSince

@@ -16,12 +16,14 @@ ghost use Rattle.vlm_laws.specs.Owners.{OthersAreLeftAlone};
 ghost use Rattle.vlm_laws.specs.Privileges.{SystemRootsArePrivileged};
 ghost use Rattle.vlm_laws.specs.Accounting.{WhatIsQueuedIsTakenOrPending};
 ghost use Rattle.vlm_laws.specs.Anew.{GivesNoneTwice};
+ghost use Rattle.vlm_laws.specs.AtOnce.{WhatFitsIsGrantedAtOnce};
 ghost use Rattle.vlm_laws.specs.Completing.{EachRequestCompletesOnce};
 ghost use Rattle.vlm_laws.specs.Departing.{DepartedNodesAreToldSo, NoneLivesOnDepartedNodes};
 ghost use Rattle.vlm_laws.specs.EndedProcesses.{EndedProcessesAreToldNoMore};
 ghost use Rattle.vlm_laws.specs.Raising.{NoMoreIsQueuedThanNamed, OnlyOwnRequestsRaiseDues};
 ghost use Rattle.vlm_laws.specs.Warning.{WarningsAreOfGrants};
 ghost use Rattle.vlm_laws.specs.WarnedOnce.{EachGrantIsWarnedAtMostOnce};
+ghost use Rattle.vlm_laws.specs.WarnedSince.{EachGrantIsArmedOrWarned};
 ghost use Rattle.vlm_laws.specs.InTheWay.{WarnedLocksAreInTheWay};
 ghost use Rattle.vlm_laws.specs.NoNewCircles.{NoneIsCaughtAnew};
 ghost use Rattle.vlm_laws.specs.TailMarks.{TailsAreValidWithTheirValues};
@@ -86,6 +88,13 @@ pub fn law_no_more_is_queued_than_was_named()
 pub fn law_a_grant_is_warned_at_most_once()
     ensures { (history : History) (last : State) → Run history last
         → EachGrantIsWarnedAtMostOnce history last }
+{}
+
+/// No warning is forgotten: a lock that is held, granted or converting, under a request that names a blocking routine is
+/// armed, or was warned since that request was granted to it, by a call of that routine with the request's parameter.
+pub fn law_a_grant_is_armed_or_was_warned()
+    ensures { (history : History) (last : State) → (run : Run history last)
+        → EachGrantIsArmedOrWarned run }
 {}
 
 /// No lock is warned for nothing: each blocking AST that a step queues goes to the process of the lock that it tells
@@ -170,4 +179,12 @@ pub fn law_a_search_catches_nobody_anew()
 pub fn law_a_tail_is_valid_with_its_value()
     ensures { (history : History) (last : State) → Run history last
         → TailsAreValidWithTheirValues last }
+{}
+
+/// What fits does not wait: a new request that is accepted is granted at once where it is expedited at NL, or where it
+/// fits and nobody is queued on its resource. So is a conversion that is accepted and fits beside all other locks of its
+/// resource, whatever is queued there; with QUECVT, where no conversion is queued.
+pub fn law_what_fits_is_granted_at_once()
+    ensures { (history : History) (old : State) → Run history old
+        → WhatFitsIsGrantedAtOnce old }
 {}

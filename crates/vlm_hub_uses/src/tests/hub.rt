@@ -1,19 +1,14 @@
-//! Two nodes in one hand: worked turns, full rings, a greedy node, a lost node, and parts of a journal.
+//! One node or two in one hand: worked turns, full rings, a greedy node, a lost node, and parts of a journal.
 
 use crate::Node::{First, Second};
-use crate::tests::steps::{P, Q, declaration, exclusive, is_answer, is_ast};
-use crate::{Node, Pair};
+use crate::tests::steps::{P, Q, SEARCH, SECOND_SEARCH, declaration, exclusive, is_answer, is_ast};
+use crate::{Node, Pair, Single};
 use std::process::Abort;
 use std::test::Fail;
-use vlm_ports::Turn;
+use vlm_ports::{Full, Turn};
 use vlm_words::asts::AstKind;
 use vlm_words::conditions::Cond;
 use vlm_words::steps::{Answer, Step};
-
-// A search by either node.
-const SEARCH: Step = Step::Search(1);
-
-const SECOND_SEARCH: Step = Step::Search(2);
 
 // Posts, and has the hub make that in one turn.
 fn make(rt: &impl Abort, pair: &mut Pair, node: Node, step: Step) {
@@ -21,9 +16,66 @@ fn make(rt: &impl Abort, pair: &mut Pair, node: Node, step: Step) {
     assert!(rt; pair.turn() == Turn::Served(1));
 }
 
-// A search, and a lock that one node holds and the other waits for.
+// Posts the step of a node that is alone, and has the hub make it in one turn.
+fn make_alone(rt: &impl Abort, single: &mut Single, step: Step, want: Answer) {
+    assert!(rt; single.post(step).is_ok());
+    assert!(rt; single.turn() == Turn::Served(1));
+    assert!(rt; is_answer(single.take(), want));
+}
+
+// A hub of one node: a search, and a request whose completion calls routine 8.
 #[test]
 fn hub_alone(rt: HostRuntime) -> Result<(), Fail> {
+    let mut single = Single::new(rt.alloc())?;
+    make_alone(&rt, &mut single, SEARCH, Answer::Victim(None));
+    let settled = single.settle();
+    assert!(&rt; settled.steps == 0 && settled.items == 0);
+    make_alone(&rt, &mut single, declaration(1), Answer::Process(P));
+    make_alone(
+        &rt,
+        &mut single,
+        exclusive(P),
+        Answer::Lock(Cond::Normal, 1),
+    );
+    assert!(&rt; single.turn() == Turn::Served(1));
+    assert!(&rt; is_ast(single.take(), P, AstKind::Completion));
+    single.close();
+    Ok(())
+}
+
+// The ring of posts holds 64: the post behind them is given back, and there is a place again once the hub has taken one.
+#[test]
+fn posts_fill_a_ring(rt: HostRuntime) -> Result<(), Fail> {
+    let mut single = Single::new(rt.alloc())?;
+    for _ in 0..64 {
+        assert!(&rt; single.post(SEARCH).is_ok());
+    }
+    assert!(&rt; matches!(single.post(SEARCH), Err(Full(Step::Search(1)))));
+    assert!(&rt; single.turn() == Turn::Served(1));
+    assert!(&rt; single.post(SEARCH).is_ok());
+    single.close();
+    Ok(())
+}
+
+// The ring of items holds 64: the hub takes no post more until the node has taken one.
+#[test]
+fn items_fill_a_ring(rt: HostRuntime) -> Result<(), Fail> {
+    let mut single = Single::new(rt.alloc())?;
+    for _ in 0..64 {
+        assert!(&rt; single.post(SEARCH).is_ok());
+        assert!(&rt; single.turn() == Turn::Served(1));
+    }
+    assert!(&rt; single.post(SEARCH).is_ok());
+    assert!(&rt; single.turn() == Turn::Idle);
+    assert!(&rt; is_answer(single.take(), Answer::Victim(None)));
+    assert!(&rt; single.turn() == Turn::Served(1));
+    single.close();
+    Ok(())
+}
+
+// A search, and a lock that one node holds and the other waits for.
+#[test]
+fn a_lock_goes_to_the_other_node(rt: HostRuntime) -> Result<(), Fail> {
     let mut pair = Pair::new(rt.alloc())?;
     make(&rt, &mut pair, First, SEARCH);
     assert!(&rt; is_answer(pair.take(First), Answer::Victim(None)));
@@ -60,7 +112,7 @@ fn rings_fill(rt: HostRuntime) -> Result<(), Fail> {
     for _ in 0..64 {
         assert!(&rt; pair.post(First, SEARCH).is_ok());
     }
-    assert!(&rt; pair.post(First, SEARCH).is_err());
+    assert!(&rt; matches!(pair.post(First, SEARCH), Err(Full(Step::Search(1)))));
     assert!(&rt; pair.turn() == Turn::Idle);
     make(&rt, &mut pair, Second, SECOND_SEARCH);
     assert!(&rt; is_answer(pair.take(First), Answer::Victim(None)));
@@ -88,17 +140,19 @@ fn a_greedy_node_keeps_nobody(rt: HostRuntime) -> Result<(), Fail> {
     Ok(())
 }
 
-// What a lost node has posted is answered DEPARTED, and it is lost once.
+// What a lost node has posted is answered DEPARTED, and it is lost once. The other node goes on.
 #[test]
 fn a_lost_node_has_departed(rt: HostRuntime) -> Result<(), Fail> {
     let mut pair = Pair::new(rt.alloc())?;
-    assert!(&rt; pair.post(First, SEARCH).is_ok());
-    assert!(&rt; pair.lost(First) == Ok(Cond::Normal));
+    assert!(&rt; pair.post(Second, declaration(2)).is_ok());
+    assert!(&rt; pair.lost(Second) == Ok(Cond::Normal));
     assert!(&rt; pair.turn() == Turn::Served(1));
-    assert!(&rt; is_answer(pair.take(First), Answer::Plain(Cond::Departed)));
-    assert!(&rt; pair.lost(First) == Ok(Cond::Departed));
-    make(&rt, &mut pair, Second, SECOND_SEARCH);
-    assert!(&rt; is_answer(pair.take(Second), Answer::Victim(None)));
+    assert!(&rt; is_answer(pair.take(Second), Answer::Plain(Cond::Departed)));
+    assert!(&rt; pair.lost(Second) == Ok(Cond::Departed));
+    let settled = pair.settle(Second);
+    assert!(&rt; settled.steps == 0 && settled.items == 0);
+    make(&rt, &mut pair, First, SEARCH);
+    assert!(&rt; is_answer(pair.take(First), Answer::Victim(None)));
     pair.close();
     Ok(())
 }

@@ -11,6 +11,16 @@ pub const P: u32 = 65_537;
 
 pub const Q: u32 = 131_073;
 
+// A search by either node.
+pub const SEARCH: Step = Step::Search(1);
+
+pub const SECOND_SEARCH: Step = Step::Search(2);
+
+// The routines that a request names for its completion and for its warning.
+const COMPLETION: u32 = 8;
+
+const BLOCKING: u32 = 9;
+
 // The item is this answer.
 pub fn is_answer(item: Option<Item>, answer: Answer) -> bool {
     match item {
@@ -19,10 +29,14 @@ pub fn is_answer(item: Option<Item>, answer: Answer) -> bool {
     }
 }
 
-// The item is an AST of this kind for the process.
+// The item is an AST of this kind for the process, and calls the routine that `exclusive` names for it.
 pub fn is_ast(item: Option<Item>, pid: u32, kind: AstKind) -> bool {
+    let routine = match kind {
+        AstKind::Completion => COMPLETION,
+        AstKind::Blocking => BLOCKING,
+    };
     match item {
-        Some(Item::Ast(to, ast)) => to == pid && ast.kind == kind,
+        Some(Item::Ast(to, ast)) => to == pid && ast.kind == kind && ast.routine == routine,
         _ => false,
     }
 }
@@ -40,7 +54,7 @@ pub fn declaration(node: u8) -> Step {
 
 // A request of EX on one name, with both routines.
 pub fn exclusive(pid: u32) -> Step {
-    request(pid, Some(8), Some(9))
+    request(pid, Some(COMPLETION), Some(BLOCKING))
 }
 
 // The same with none.
