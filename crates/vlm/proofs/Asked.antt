@@ -1,5 +1,5 @@
 -- What the words ask for, by the matches that a parse of them gives.
-use Rattle.std.proofs.Common.{◌≡◌, ◌∙◌, ◌<◌, ◌≤◌, ◌^◌, ℕ, List, Option, None, Some, Result, Ok, Err, true, ap, arith, codes, decimal, option_map, refl, sym}
+use Rattle.std.proofs.Common.{◌≡◌, ◌∙◌, ◌<◌, ◌≤◌, ◌^◌, ℕ, List, Option, None, Some, Result, Ok, Err, true, ap, arith, codes, decimal, option_map, refl, subst, sym}
 use Rattle.std.specs.Prelude.{Box, option_and_then}
 use Rattle.std.specs.Box.{box_value}
 use Rattle.std.specs.Str.Parse.{ParsesUnsigned}
@@ -10,7 +10,7 @@ use Rattle.clap.specs.Words.{App, HasMatchesOf, Row, Text, first_of, is_simple, 
 use Rattle.clap.specs.declared.parser.matches.ArgMatches.{ArgMatches}
 use Rattle.clap.specs.declared.parser.matches.ArgMatches.TheViews.{out-ArgMatches, out-SubCommand}
 use Rattle.clap.specs.declared.parser.matches.SubCommand.{SubCommand}
-use Rattle.vlm.specs.Words.{named_command, named_group, named_nodes, named_resource, program_commands}
+use Rattle.vlm.specs.Words.{Spells, named_command, named_group, named_nodes, named_resource, program_commands}
 
 is_known : is_simple program_commands ≡ true
 unfolding clap_on_literals
@@ -56,3 +56,10 @@ read_as_decimal E G bits n (Some v) reads only within most =
 read_as_decimal E G bits n None reads only within most =
     let is = parse-decimal {E = E} bits n (decimal n) (Err reads.0) within (omega arith) refl (only (decimal n) (Err reads.0) reads.1) in
     cc
+
+-- and of any text that spells the number
+pub read_as_spelled : (E : Type 0) (G : List ℕ → Result ℕ E → Type 0) (bits n : ℕ) (text : List ℕ) (r : Option ℕ) → ReadsOne G text r
+    → ((u : List ℕ) (x : Result ℕ E) → G u x → ParsesUnsigned bits 10 u x) → Spells text n → n < 2 ^ bits → r ≡ Some n
+read_as_spelled E G bits n text (Some v) reads only spells within = ap Some ((only text (Ok v) reads).1 ∙ spells.value)
+read_as_spelled E G bits n text None reads only spells within =
+    absurd (only text (Err reads.0) reads.1 (spells.numeral, subst (λ (m : ℕ). m < 2 ^ bits) (sym spells.value) within))

@@ -1,6 +1,7 @@
 mod Asked
 mod Clustered
 mod Errors
+mod Going
 mod Listed
 mod Memory
 mod Numbered

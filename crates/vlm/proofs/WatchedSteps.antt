@@ -1,7 +1,10 @@
 -- The lines of steps, one by one, and what a watch comes to, by its end.
-use Rattle.std.proofs.Common.{◌≡◌, ◌∙◌, ◌+◌, ◌-◌, ◌<◌, ◌≤◌, ℕ, List, [], ◌∷◌, ◌++◌, Option, None, Some, Result, Ok, Err, ap, append-nil, append_assoc, arith, codes, get_or, inl, inr, length, length-append, refl, sym}
+use Rattle.std.proofs.Common.{◌≡◌, ◌∙◌, ◌+◌, ◌-◌, ◌<◌, ◌≤◌, ℕ, List, [], ◌∷◌, ◌++◌, Option, None, Some, Result, Ok, Err, ap, append-nil, append_assoc, arith, codes, get_or, inl, inr, length, length-append, refl, subst, sym}
 use Rattle.std.specs.Prelude.{IfSome}
 use Rattle.std.specs.Io.KnownBytes.{Appends}
+use Rattle.vlm_words.specs.declared.resources.Domain.{Domain}
+use Rattle.vlm_words.specs.State.{State, start}
+use Rattle.vlm_watch.specs.declared.rows.RootKey.{RootKey}
 use Rattle.vlm_script.specs.declared.faults.PlayFault.{PlayFault}
 use Rattle.vlm_script.specs.declared.faults.PlayFault.TheVariants.{Line, Memory, Read, Write, Long}
 use Rattle.vlm_script.specs.declared.printing.rows.WatchedRow.{WatchedRow}
@@ -12,7 +15,7 @@ use Rattle.vlm_script.specs.Texts.{watch_line}
 use Rattle.vlm.specs.declared.ends.WatchFault.{WatchFault}
 use Rattle.vlm.specs.declared.ends.WatchFault.TheVariants.{NoAnswer, NoSeat, Play}
 use Rattle.vlm.specs.Ends.{Output, PrintsLine, StartsWatch}
-use Rattle.vlm.specs.Watches.{AreWatched, EndsSteps, EndsWatched, IsWatchText, PrintsWatch, steps_of, watch_text}
+use Rattle.vlm.specs.Watches.{AreSeen, AreWatched, EndsSteps, EndsWatched, GoesOn, IsWatchText, PrintsWatch, next_seen, none_seen, row_at, steps_of, watch_text}
 
 -- where there are no rows there are no lines
 no_lines : (steps : List ScriptStep) → watch_text steps [] ≡ []
@@ -30,52 +33,57 @@ line_behind (s ∷ steps) (r ∷ rows) step row within is =
     let behind : step ≡ get_or steps (length rows) step = is in
     rw (line_behind steps rows step row (omega arith) behind) (sym (append_assoc (watch_line s.line r) (watch_text steps rows) (watch_line step.line row)))
 
--- the text is that of the lines of the first so many steps
-pub record AreMade (steps : List ScriptStep) (index : ℕ) (text : List ℕ) : Type 0 where
+-- the text is that of the lines of the first so many steps, with the rows that were seen on the way to the state
+pub record AreMade (key : RootKey) (steps : List ScriptStep) (index : ℕ) (text : List ℕ) (state : State) : Type 0 where
   pub rows : List WatchedRow
   pub count : length rows ≡ index
+  pub seen : AreSeen key rows state
   pub printed : text ≡ watch_text steps rows
 
 -- before the first there are none
-pub none_made : (steps : List ScriptStep) (text : List ℕ) → text ≡ [] → AreMade steps 0 text
-none_made steps text is = record { rows = []; count = refl; printed = is ∙ sym (no_lines steps) }
+pub none_made : (key : RootKey) (steps : List ScriptStep) (text : List ℕ) (state : State) → text ≡ [] → state ≡ start → AreMade key steps 0 text state
+none_made key steps text state is begins = record { rows = []; count = refl; seen = subst (AreSeen key []) (sym begins) none_seen; printed = is ∙ sym (no_lines steps) }
 
 -- one more is made
-pub one_made : (steps : List ScriptStep) (index : ℕ) (step : ScriptStep) (row : WatchedRow) (text next : List ℕ) → index < length steps → step ≡ get_or steps index step
-    → next ≡ text ++ watch_line step.line row → AreMade steps index text → AreMade steps (index + 1) next
-one_made steps index step row text next within here is made =
+pub one_made : (key : RootKey) (steps : List ScriptStep) (index : ℕ) (step : ScriptStep) (text next : List ℕ) (old new : State) → index < length steps → step ≡ get_or steps index step
+    → next ≡ text ++ watch_line step.line (row_at new key) → GoesOn old new → AreMade key steps index text old → AreMade key steps (index + 1) next new
+one_made key steps index step text next old new within here is goes_on made =
+    let row : WatchedRow = row_at new key in
     let within : length made.rows < length steps = omega (arith, made.count) in
     let here : step ≡ get_or steps (length made.rows) step = rw made.count here in
     record {
       rows = made.rows ++ row ∷ [];
       count = omega (arith, length-append made.rows (row ∷ []), made.count);
+      seen = next_seen made.seen new goes_on;
       printed = is ∙ ap (λ (t : List ℕ). t ++ watch_line step.line row) made.printed ∙ sym (line_behind steps made.rows step row within here);
     }
 
 -- what comes before the first leaves all
-pub ended_before : (steps : List ScriptStep) (fault : WatchFault) (text : List ℕ) → EndsSteps fault → text ≡ [] → EndsWatched steps (Err fault) text
-ended_before steps fault text ends is = (ends, (length steps, record { rows = []; count = omega arith; printed = is ∙ sym (no_lines steps) }))
+pub ended_before : (key : RootKey) (steps : List ScriptStep) (fault : WatchFault) (text : List ℕ) → EndsSteps fault → text ≡ [] → EndsWatched key steps (Err fault) text
+ended_before key steps fault text ends is =
+    (ends, (length steps, record { rows = []; state = start; count = omega arith; seen = none_seen; printed = is ∙ sym (no_lines steps) }))
 
 -- what ends the steps leaves the others
-pub ended_behind : (steps : List ScriptStep) (index : ℕ) (fault : WatchFault) (text last : List ℕ) → index < length steps → EndsSteps fault → last ≡ text
-    → AreMade steps index text → EndsWatched steps (Err fault) last
-ended_behind steps index fault text last within ends same made =
-    (ends, (length steps - index, record { rows = made.rows; count = omega (arith, made.count); printed = same ∙ made.printed }))
+pub ended_behind : (key : RootKey) (steps : List ScriptStep) (index : ℕ) (fault : WatchFault) (text last : List ℕ) (state : State) → index < length steps → EndsSteps fault → last ≡ text
+    → AreMade key steps index text state → EndsWatched key steps (Err fault) last
+ended_behind key steps index fault text last state within ends same made =
+    (ends, (length steps - index, record { rows = made.rows; state = state; count = omega (arith, made.count); seen = made.seen; printed = same ∙ made.printed }))
 
 -- behind the last none is left
-pub none_left : (steps : List ScriptStep) (index : ℕ) (text : List ℕ) → index ≤ length steps → length steps ≤ index → AreMade steps index text
-    → AreWatched steps 0 text
-none_left steps index text within past made = record { rows = made.rows; count = omega (arith, made.count); printed = made.printed }
+pub none_left : (key : RootKey) (steps : List ScriptStep) (index : ℕ) (text : List ℕ) (state : State) → index ≤ length steps → length steps ≤ index → AreMade key steps index text state
+    → AreWatched key steps 0 text
+none_left key steps index text state within past made =
+    record { rows = made.rows; state = state; count = omega (arith, made.count); seen = made.seen; printed = made.printed }
 
 -- what was made of a script's steps, by what ended them
-watched_text : (script : Option (List ℕ)) (steps : List ScriptStep) (left : ℕ) (text : List ℕ) → IfSome script (λ input. steps_of input ≡ Ok steps)
-    → AreWatched steps left text → IsWatchText script left text
-watched_text script steps left text read watched = record { steps = steps; read = read; watched = watched }
+watched_text : (key : RootKey) (script : Option (List ℕ)) (steps : List ScriptStep) (left : ℕ) (text : List ℕ) → IfSome script (λ input. steps_of input ≡ Ok steps)
+    → AreWatched key steps left text → IsWatchText key script left text
+watched_text key script steps left text read watched = record { steps = steps; read = read; watched = watched }
 
-module _ (script old new : Option (List ℕ)) where
+module _ (key : RootKey) (script old new : Option (List ℕ)) where
   -- the script had a fault, or was not read
   pub prints_nothing : (fault : PlayFault) → IfSome script (λ input. StopsShares input (steps_of input) fault) → ¬ (fault ≡ Write) → new ≡ old
-      → PrintsWatch script (Err (Play fault)) old new
+      → PrintsWatch key script (Err (Play fault)) old new
   prints_nothing (Line number fault) stops no_write same = (stops, same)
   prints_nothing Memory stops no_write same = inl same
   prints_nothing Read stops no_write same = (stops, same)
@@ -84,11 +92,11 @@ module _ (script old new : Option (List ℕ)) where
 
   -- the lines are written
   pub prints_lines : (steps : List ScriptStep) (end : Result (Unit {0}) WatchFault) (text : List ℕ) → IfSome script (λ input. steps_of input ≡ Ok steps)
-      → EndsWatched steps end text → Appends old new text → PrintsWatch script end old new
-  prints_lines steps (Ok done) text read made wrote = (text, wrote, watched_text script steps 0 text read made)
-  prints_lines steps (Err NoSeat) text read made wrote = (made.1.0, (text, wrote, watched_text script steps made.1.0 text read made.1.1))
-  prints_lines steps (Err NoAnswer) text read made wrote = (made.1.0, (text, wrote, watched_text script steps made.1.0 text read made.1.1))
-  prints_lines steps (Err (Play Memory)) text read made wrote = inr (made.1.0, (text, wrote, watched_text script steps made.1.0 text read made.1.1))
+      → EndsWatched key steps end text → Appends old new text → PrintsWatch key script end old new
+  prints_lines steps (Ok done) text read made wrote = (text, wrote, watched_text key script steps 0 text read made)
+  prints_lines steps (Err NoSeat) text read made wrote = (made.1.0, (text, wrote, watched_text key script steps made.1.0 text read made.1.1))
+  prints_lines steps (Err NoAnswer) text read made wrote = (made.1.0, (text, wrote, watched_text key script steps made.1.0 text read made.1.1))
+  prints_lines steps (Err (Play Memory)) text read made wrote = inr (made.1.0, (text, wrote, watched_text key script steps made.1.0 text read made.1.1))
   prints_lines steps (Err (Play (Line number fault))) text read made wrote = absurd made.0
   prints_lines steps (Err (Play Read)) text read made wrote = absurd made.0
   prints_lines steps (Err (Play Write)) text read made wrote = absurd made.0
@@ -96,12 +104,12 @@ module _ (script old new : Option (List ℕ)) where
 
   -- only a part of them is written
   pub prints_part : (steps : List ScriptStep) (end : Result (Unit {0}) WatchFault) (text : List ℕ) → IfSome script (λ input. steps_of input ≡ Ok steps)
-      → EndsWatched steps end text → PassesPart old new text → PrintsWatch script (Err (Play Write)) old new
-  prints_part steps (Ok done) text read made part = (0, text, watched_text script steps 0 text read made, part)
-  prints_part steps (Err fault) text read made part = (made.1.0, text, watched_text script steps made.1.0 text read made.1.1, part)
+      → EndsWatched key steps end text → PassesPart old new text → PrintsWatch key script (Err (Play Write)) old new
+  prints_part steps (Ok done) text read made part = (0, text, watched_text key script steps 0 text read made, part)
+  prints_part steps (Err fault) text read made part = (made.1.0, text, watched_text key script steps made.1.0 text read made.1.1, part)
 
 -- no resource has the name
-pub name_refused : (name script : Option (List ℕ)) (old new : Output) (status : ℕ) → name ≡ None → new.printed ≡ old.printed
-    → PrintsLine (codes "wrong name\n") old.faults new.faults → status ≡ 2 → StartsWatch name script script old new status
-name_refused None script old new status is same told ended = (refl, record { printed = same; faults = told; ended = ended })
-name_refused (Some name) script old new status is same told ended = cc
+pub name_refused : (domain : Domain) (name script : Option (List ℕ)) (old new : Output) (status : ℕ) → name ≡ None → new.printed ≡ old.printed
+    → PrintsLine (codes "wrong name\n") old.faults new.faults → status ≡ 2 → StartsWatch domain name script script old new status
+name_refused domain None script old new status is same told ended = (refl, record { printed = same; faults = told; ended = ended })
+name_refused domain (Some name) script old new status is same told ended = cc

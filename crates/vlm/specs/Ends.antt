@@ -6,6 +6,9 @@ use Rattle.clap.specs.declared.error.kind.ErrorKind.{ErrorKind}
 use Rattle.clap.specs.declared.error.kind.ErrorKind.TheVariants.{OutOfMemory}
 use Rattle.vlm.specs.declared.ends.WatchFault.{WatchFault}
 use Rattle.vlm.specs.declared.ends.WatchFault.TheVariants.{NoAnswer, NoSeat, Play}
+use Rattle.vlm_words.specs.declared.resources.Domain.{Domain}
+use Rattle.vlm_words.specs.declared.resources.Domain.TheVariants.{System}
+use Rattle.vlm_watch.specs.declared.rows.RootKey.{RootKey}
 use Rattle.vlm.specs.declared.words.Subject.{Subject}
 use Rattle.vlm.specs.Clusters.{PrintsCluster}
 use Rattle.vlm.specs.Watches.{PrintsWatch}
@@ -107,10 +110,10 @@ abbrev pub PrintsWatchEnd : Result (Unit {0}) WatchFault → Option (List ℕ) �
 PrintsWatchEnd (Ok done) old new = new ≡ old
 PrintsWatchEnd (Err fault) old new = PrintsLine (watch_fault_line fault) old new
 
--- a resource was watched by a script: the status and the line on standard error are those of its end
-pub record RunsWatch (script left : Option (List ℕ)) (old new : Output) (status : ℕ) : Type 0 where
+-- the resource under the key was watched by a script: the status and the line on standard error are those of its end
+pub record RunsWatch (key : RootKey) (script left : Option (List ℕ)) (old new : Output) (status : ℕ) : Type 0 where
   pub end : Result (Unit {0}) WatchFault
-  pub printed : PrintsWatch script end old.printed new.printed
+  pub printed : PrintsWatch key script end old.printed new.printed
   pub reads : ConsumesAtMost 16777217 script left
   pub ended : status ≡ watch_status_of end
   pub faults : PrintsWatchEnd end old.faults new.faults
@@ -121,17 +124,19 @@ pub record RefusesName (old new : Output) (status : ℕ) : Type 0 where
   pub faults : PrintsLine (codes "wrong name\n") old.faults new.faults
   pub ended : status ≡ 2
 
--- a resource was watched by a script, or the system gave no random bytes, and nothing was read
-abbrev pub StartsNamedWatch : Option (List ℕ) → Option (List ℕ) → Output → Output → ℕ → Type 0
-StartsNamedWatch script left old new status =
-    RunsWatch script left old new status
+-- the resource under the key was watched by a script, or the system gave no random bytes, and nothing was read
+abbrev pub StartsNamedWatch : RootKey → Option (List ℕ) → Option (List ℕ) → Output → Output → ℕ → Type 0
+StartsNamedWatch key script left old new status =
+    RunsWatch key script left old new status
     ⊎ ((left ≡ script) × WantsRandomBytes old new status)
 
--- the resource of this name was to be watched, or no resource has the name that was given, and nothing was read
-abbrev pub StartsWatch : Option (List ℕ) → Option (List ℕ) → Option (List ℕ) → Output → Output → ℕ
+-- the resource of this name in this domain was to be watched, or no resource has the name that was given, and nothing
+-- was read
+abbrev pub StartsWatch : Domain → Option (List ℕ) → Option (List ℕ) → Option (List ℕ) → Output → Output → ℕ
     → Type 0
-StartsWatch None script left old new status = (left ≡ script) × RefusesName old new status
-StartsWatch (Some name) script left old new status = StartsNamedWatch script left old new status
+StartsWatch domain None script left old new status = (left ≡ script) × RefusesName old new status
+StartsWatch domain (Some name) script left old new status =
+    StartsNamedWatch (record { domain = domain; name = name }) script left old new status
 
 -- what the words ask for was started: a cluster or a watch where they name it, and else a run
 abbrev pub StartsTask : List Text → Option (List ℕ) → Option (List ℕ)
@@ -140,7 +145,7 @@ StartsTask words script left old new status =
     (AskForPlay words × StartsRun script left old new status)
     ⊎ ((nodes : ℕ) × AskForCluster words nodes × StartsCluster nodes script left old new status)
     ⊎ ((subject : Subject) × AskForWatch words subject
-    × StartsWatch subject.name script left old new status)
+    × StartsWatch subject.domain subject.name script left old new status)
 
 -- the help that was asked for stands on standard output
 pub record GivesHelp (old new : Output) (status : ℕ) : Type 0 where
@@ -194,8 +199,8 @@ abbrev pub ClustersOrWantsMemory : ℕ → Option (List ℕ) → Option (List �
 ClustersOrWantsMemory nodes script left old new status =
     StartsCluster nodes script left old new status ⊎ ((left ≡ script) × WantsMemory old new status)
 
--- a watch of the resource of this name was started, or memory ran out before
+-- a watch of the resource of this name in the system's domain was started, or memory ran out before
 abbrev pub WatchesOrWantsMemory : Option (List ℕ) → Option (List ℕ) → Option (List ℕ) → Output → Output → ℕ
     → Type 0
 WatchesOrWantsMemory name script left old new status =
-    StartsWatch name script left old new status ⊎ ((left ≡ script) × WantsMemory old new status)
+    StartsWatch System name script left old new status ⊎ ((left ≡ script) × WantsMemory old new status)

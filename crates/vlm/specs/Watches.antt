@@ -1,5 +1,11 @@
 -- What a script comes to by which a resource is watched, and what is printed of it.
 use Rattle.std.specs.Prelude.{◌≡◌, ◌+◌, ◌⊎◌, ℕ, List, [], ◌∷◌, ◌++◌, Option, Result, Ok, Err, IfSome, length}
+use Rattle.vlm_words.specs.State.{State, start}
+use Rattle.vlm_journal.specs.declared.entries.Entry.{Entry}
+use Rattle.vlm_journal.specs.Journals.{JournalFrom}
+use Rattle.vlm_watch.specs.declared.rows.RootKey.{RootKey}
+use Rattle.vlm_watch.specs.declared.rows.Row.{Row}
+use Rattle.vlm_watch.specs.Rows.{row_of}
 use Rattle.vlm_lines.specs.declared.faults.LineFault.{LineFault}
 use Rattle.vlm_lines.specs.Lines.{lines_of}
 use Rattle.vlm_script.specs.declared.faults.PlayFault.{PlayFault}
@@ -23,18 +29,45 @@ watch_text [] rows = []
 watch_text (step ∷ steps) [] = []
 watch_text (step ∷ steps) (row ∷ rows) = watch_line step.line row ++ watch_text steps rows
 
--- the lines of the steps, in order, but for the last so many: each with some row. Which row it is no definition says,
--- since a watcher sees what it was told of, or more
-pub record AreWatched (steps : List ScriptStep) (left : ℕ) (text : List ℕ) : Type 0 where
+-- what is printed of a row: all of it except the number of entries
+abbrev pub printed_row : Row → WatchedRow
+printed_row row = record {
+  held = row.held;
+  conversions = row.conversions;
+  waiters = row.waiters;
+  value = row.value;
+  valid = row.valid;
+}
+
+-- what is printed of the root resource under the key in a state
+abbrev pub row_at : State → RootKey → WatchedRow
+row_at state key = printed_row (row_of (record { entries = []; state = state; base = 0; room = 0 }) key)
+
+-- a hub goes on from one state to another
+abbrev pub GoesOn : State → State → Type 0
+GoesOn old new = (entries : List Entry) × JournalFrom old entries new
+
+-- these are the rows of the resource under the key in states of one run: a hub goes on from each state to the next, from
+-- the start of the machine to this state
+pub data AreSeen (key : RootKey) : List WatchedRow → State → Type 0 where
+  none_seen : AreSeen key [] start
+  next_seen : {rows : List WatchedRow} {old : State} → AreSeen key rows old → (new : State)
+      → GoesOn old new → AreSeen key (rows ++ row_at new key ∷ []) new
+
+-- the lines of the steps, in order, except the last so many: each with the row of the resource under the key in the state
+-- that the run has come to
+pub record AreWatched (key : RootKey) (steps : List ScriptStep) (left : ℕ) (text : List ℕ) : Type 0 where
   pub rows : List WatchedRow
+  pub state : State
   pub count : length rows + left ≡ length steps
+  pub seen : AreSeen key rows state
   pub printed : text ≡ watch_text steps rows
 
--- the text of a script by which a resource is watched: the lines of its steps, but for the last so many
-pub record IsWatchText (script : Option (List ℕ)) (left : ℕ) (text : List ℕ) : Type 0 where
+-- the text of a script by which a resource is watched: the lines of its steps, except the last so many
+pub record IsWatchText (key : RootKey) (script : Option (List ℕ)) (left : ℕ) (text : List ℕ) : Type 0 where
   pub steps : List ScriptStep
   pub read : IfSome script (λ input. steps_of input ≡ Ok steps)
-  pub watched : AreWatched steps left text
+  pub watched : AreWatched key steps left text
 
 -- what can end the steps of a script before the last
 abbrev pub EndsSteps : WatchFault → Type 0
@@ -47,9 +80,9 @@ EndsSteps (Play Write) = ⊥
 EndsSteps (Play Long) = ⊥
 
 -- the text of steps of which all were made, or those before what ended them
-abbrev pub EndsWatched : List ScriptStep → Result (Unit {0}) WatchFault → List ℕ → Type 0
-EndsWatched steps (Ok done) text = AreWatched steps 0 text
-EndsWatched steps (Err fault) text = EndsSteps fault × ((left : ℕ) × AreWatched steps left text)
+abbrev pub EndsWatched : RootKey → List ScriptStep → Result (Unit {0}) WatchFault → List ℕ → Type 0
+EndsWatched key steps (Ok done) text = AreWatched key steps 0 text
+EndsWatched key steps (Err fault) text = EndsSteps fault × ((left : ℕ) × AreWatched key steps left text)
 
 -- nothing was written, since this fault came before any step
 abbrev pub StopsWatch : Option (List ℕ) → PlayFault → Option (List ℕ) → Option (List ℕ) → Type 0
@@ -57,24 +90,24 @@ StopsWatch script fault old new =
     IfSome script (λ input. StopsShares input (steps_of input) fault) × (new ≡ old)
 
 -- the lines of some first steps were written
-abbrev pub PrintsFirst : Option (List ℕ) → Option (List ℕ) → Option (List ℕ) → Type 0
-PrintsFirst script old new = (left : ℕ) × Wrote old new (IsWatchText script left)
+abbrev pub PrintsFirst : RootKey → Option (List ℕ) → Option (List ℕ) → Option (List ℕ) → Type 0
+PrintsFirst key script old new = (left : ℕ) × Wrote old new (IsWatchText key script left)
 
 -- only a first part of the lines of some first steps was written
-abbrev pub PrintsPart : Option (List ℕ) → Option (List ℕ) → Option (List ℕ) → Type 0
-PrintsPart script old new =
-    (left : ℕ) × (text : List ℕ) × IsWatchText script left text × PassesPart old new text
+abbrev pub PrintsPart : RootKey → Option (List ℕ) → Option (List ℕ) → Option (List ℕ) → Type 0
+PrintsPart key script old new =
+    (left : ℕ) × (text : List ℕ) × IsWatchText key script left text × PassesPart old new text
 
 -- what a script by which a resource is watched puts on standard output: the lines of all its steps; of the first where it
 -- ends before the last, and only a part of these where a write fails; and nothing where it has a fault or is not read
-abbrev pub PrintsWatch : Option (List ℕ) → Result (Unit {0}) WatchFault
+abbrev pub PrintsWatch : RootKey → Option (List ℕ) → Result (Unit {0}) WatchFault
     → Option (List ℕ) → Option (List ℕ) → Type 0
-PrintsWatch script (Ok done) old new = Wrote old new (IsWatchText script 0)
-PrintsWatch script (Err NoSeat) old new = PrintsFirst script old new
-PrintsWatch script (Err NoAnswer) old new = PrintsFirst script old new
-PrintsWatch script (Err (Play Memory)) old new = (new ≡ old) ⊎ PrintsFirst script old new
-PrintsWatch script (Err (Play Write)) old new = PrintsPart script old new
-PrintsWatch script (Err (Play (Line number fault))) old new =
+PrintsWatch key script (Ok done) old new = Wrote old new (IsWatchText key script 0)
+PrintsWatch key script (Err NoSeat) old new = PrintsFirst key script old new
+PrintsWatch key script (Err NoAnswer) old new = PrintsFirst key script old new
+PrintsWatch key script (Err (Play Memory)) old new = (new ≡ old) ⊎ PrintsFirst key script old new
+PrintsWatch key script (Err (Play Write)) old new = PrintsPart key script old new
+PrintsWatch key script (Err (Play (Line number fault))) old new =
     StopsWatch script (Line number fault) old new
-PrintsWatch script (Err (Play Read)) old new = StopsWatch script Read old new
-PrintsWatch script (Err (Play Long)) old new = StopsWatch script Long old new
+PrintsWatch key script (Err (Play Read)) old new = StopsWatch script Read old new
+PrintsWatch key script (Err (Play Long)) old new = StopsWatch script Long old new

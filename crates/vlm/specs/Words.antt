@@ -1,6 +1,7 @@
 -- The words that the program takes, what they ask for, and the kinds of error that others get.
 use Rattle.std.specs.Prelude.{◌≡◌, ◌≤◌, ◌⊎◌, ℕ, List, [], ◌∷◌, ◌++◌, Option, None, Some, true, codes, decimal, option_and_then, option_map, pos}
 use Rattle.std.specs.Result.{result_ok}
+use Rattle.std.specs.Str.Parse.{IsNumeral, digits_value, without_leading_plus}
 use Rattle.clap.specs.Words.{App, IsAmong, Kinds, Rule, Text, fault_of, first_of, new_app, new_rule, one_of, subcommand_of, with_rule, with_subcommand}
 use Rattle.clap.specs.declared.builder.value_parser.ValueParser.TheVariants.{Signed}
 use Rattle.clap.specs.declared.error.kind.ErrorKind.{ErrorKind}
@@ -81,12 +82,18 @@ abbrev pub named_nodes : List Text → Option Text
 named_nodes words =
     option_and_then (λ s. one_of (codes "nodes") s.1) (subcommand_of program_commands words)
 
--- the words ask for a cluster of so many nodes
+-- the text spells the number in decimal digits: zeros may stand before them, and a plus before all
+pub record Spells (text : Text) (n : ℕ) : Type 0 where
+  pub numeral : IsNumeral 10 (without_leading_plus text)
+  pub value : digits_value 10 (without_leading_plus text) ≡ n
+
+-- the words ask for a cluster of so many nodes, however they spell the number
 pub record AskForCluster (words : List Text) (nodes : ℕ) : Type 0 where
   pub command : named_command words ≡ Some (codes "cluster")
   pub least : 1 ≤ nodes
   pub most : nodes ≤ 8
   pub number : (n : ℕ) → 1 ≤ n → n ≤ 8 → named_nodes words ≡ Some (decimal n) → nodes ≡ n
+  pub spelled : (text : Text) (n : ℕ) → Spells text n → 1 ≤ n → n ≤ 8 → named_nodes words ≡ Some text → nodes ≡ n
 
 -- the name that a text gives as in a script, if a resource has such a one
 abbrev pub name_given : Text → Option (List ℕ)
@@ -106,12 +113,14 @@ abbrev pub named_group : List Text → Option Text
 named_group words =
     option_and_then (λ s. one_of (codes "group") s.1) (subcommand_of program_commands words)
 
--- the words ask that this be watched: the resource of the name that they give, in the group that they give, or in the
--- system's domain where they give none
+-- the words ask that this be watched: the resource of the name that they give, in the group that they give, however
+-- they spell its number, or in the system's domain where they give none
 pub record AskForWatch (words : List Text) (subject : Subject) : Type 0 where
   pub command : named_command words ≡ Some (codes "watch")
   pub name : subject.name ≡ watched_name words
   pub group : (n : ℕ) → n ≤ 65535 → named_group words ≡ Some (decimal n) → subject.domain ≡ Group n
+  pub spelled : (text : Text) (n : ℕ) → Spells text n → n ≤ 65535 → named_group words ≡ Some text
+      → subject.domain ≡ Group n
   pub system : named_group words ≡ None → subject.domain ≡ System
 
 -- the words ask for a run: they name no other command

@@ -24,7 +24,7 @@ pub(crate) fn start_watch<R: Read, W: Write, F: Write>(
     writer: &mut W,
     faults: &mut F,
 ) -> u8
-    ensures { StartsWatch subject.name (R.remaining reader.old) (R.remaining reader.new)
+    ensures { StartsWatch subject.domain subject.name (R.remaining reader.old) (R.remaining reader.new)
         (output_of (W.contents writer.old) (F.contents faults.old))
         (output_of (W.contents writer.new) (F.contents faults.new)) result }
 {
@@ -44,7 +44,7 @@ fn start_named<R: Read, W: Write, F: Write>(
     writer: &mut W,
     faults: &mut F,
 ) -> u8
-    ensures { StartsNamedWatch (R.remaining reader.old) (R.remaining reader.new)
+    ensures { StartsNamedWatch key (R.remaining reader.old) (R.remaining reader.new)
         (output_of (W.contents writer.old) (F.contents faults.old))
         (output_of (W.contents writer.new) (F.contents faults.new)) result }
 {
@@ -63,7 +63,7 @@ fn run_watch<R: Read, W: Write, F: Write>(
     writer: &mut W,
     faults: &mut F,
 ) -> u8
-    ensures { RunsWatch (R.remaining reader.old) (R.remaining reader.new)
+    ensures { RunsWatch key (R.remaining reader.old) (R.remaining reader.new)
         (output_of (W.contents writer.old) (F.contents faults.old))
         (output_of (W.contents writer.new) (F.contents faults.new)) result }
 {
@@ -82,7 +82,7 @@ fn watch_script<R: Read, W: Write>(
     reader: &mut R,
     writer: &mut W,
 ) -> Result<(), WatchFault>
-    ensures printed { PrintsWatch (R.remaining reader.old) result
+    ensures printed { PrintsWatch key (R.remaining reader.old) result
         (W.contents writer.old) (W.contents writer.new) }
     ensures reads { ConsumesAtMost 16777217 (R.remaining reader.old) (R.remaining reader.new) }
 {
@@ -103,9 +103,9 @@ fn watch_steps(
     text: &mut Vec<u8>,
 ) -> Result<(), WatchFault>
     requires { text.old.items ≡ [] }
-    ensures { EndsWatched steps.now result text.new.items }
+    ensures { EndsWatched key steps.now result text.new.items }
 {
-    let mut watched = match WatchedHub::open(rt, rt.alloc(), keys, key) {
+    let mut watched = match WatchedHub::open(rt, rt.alloc(), keys, &key) {
         Ok(watched) => watched,
         Err(fault) => return Err(fault),
     };

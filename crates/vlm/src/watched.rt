@@ -1,10 +1,11 @@
 //! A hub that is watched, with its ports and its watcher in one hand.
 
-ghost use Rattle.std.specs.Prelude.{◌≡◌, ◌++◌, ◌<◌, [], IfErr, OnErr, OnOk};
-ghost use Rattle.vlm_ports.specs.Watched.{IsWatched, Watches};
+ghost use Rattle.std.specs.Prelude.{◌≡◌, ◌++◌, ◌∷◌, ◌<◌, [], IfErr, IfOk, OnErr, OnOk};
+ghost use Rattle.vlm_words.specs.State.{start};
+ghost use Rattle.vlm_ports.specs.Hubs.{state};
+ghost use Rattle.vlm_ports.specs.Watched.{IsWatched, Watches, watched_keys};
 ghost use Rattle.vlm_script.specs.Texts.{watch_line};
-ghost use Rattle.vlm_script.specs.declared.printing.rows.WatchedRow.{WatchedRow};
-ghost use Rattle.vlm.specs.Watches.{EndsSteps, EndsWatched};
+ghost use Rattle.vlm.specs.Watches.{EndsSteps, EndsWatched, GoesOn, printed_row, row_at};
 
 use crate::ends::WatchFault;
 use std::alloc::Global;
@@ -27,9 +28,11 @@ pub(crate) struct WatchedHub {
     hub: Hub,
     ports: Vec<Port>,
     watcher: Watcher,
+    key: RootKey,
     ghost watched: { IsWatched hub },
     ghost ours: { Watches hub watcher },
     ghost one: { 0 < watcher.keys },
+    ghost subject: { watched_keys hub ≡ key ∷ [] },
 }
 
 // What came to a port.
@@ -48,11 +51,12 @@ impl WatchedHub {
         rt: &R,
         alloc: Global,
         keys: HashKeys,
-        key: RootKey,
+        key: &RootKey,
     ) -> Result<WatchedHub, WatchFault>
-        ensures { IfErr result EndsSteps }
+        ensures faults { IfErr result EndsSteps }
+        ensures made { IfOk result (λ w. (w.key ≡ key.now) × (state w.hub ≡ start)) }
     {
-        let subjects = Vec::from_elem(alloc, key, 1)?;
+        let subjects = Vec::from_elem(alloc, *key, 1)?;
         let (mut hub, ports) = Hub::with_core(alloc, Core::with_keys(alloc, keys), 8)?;
         let mut watchers = match hub.watch(rt, alloc, subjects, 1) {
             Ok(watchers) => watchers,
@@ -65,10 +69,12 @@ impl WatchedHub {
             hub.finish(rt);
             return Err(WatchFault::NoSeat);
         };
+        let key = *key;
         Ok(WatchedHub {
             hub,
             ports,
             watcher,
+            key,
         })
     }
 
@@ -81,8 +87,9 @@ impl WatchedHub {
         steps: &[ScriptStep],
         text: &mut Vec<u8>,
     ) -> Result<(), WatchFault>
-        requires { text.old.items ≡ [] }
-        ensures { EndsWatched steps.now result text.new.items }
+        requires empty { text.old.items ≡ [] }
+        requires start { state self.old.hub ≡ start }
+        ensures { EndsWatched self.old.key steps.now result text.new.items }
     {
         let mut line = Vec::new(alloc);
         for step in steps {
@@ -103,8 +110,10 @@ impl WatchedHub {
         line: &mut Vec<u8>,
         text: &mut Vec<u8>,
     ) -> Result<(), WatchFault>
-        ensures line { OnOk result ((row : WatchedRow)
-            × (text.new.items ≡ text.old.items ++ watch_line step.now.line row)) }
+        ensures key { self.new.key ≡ self.old.key }
+        ensures run { GoesOn (state self.old.hub) (state self.new.hub) }
+        ensures line { OnOk result (text.new.items ≡ text.old.items
+            ++ watch_line step.now.line (row_at (state self.new.hub) self.new.key)) }
         ensures same { OnErr result (text.new.items ≡ text.old.items) }
         ensures faults { IfErr result EndsSteps }
     {
@@ -119,7 +128,9 @@ impl WatchedHub {
 
     // Has the hub make turns until the port at a place has an answer.
     fn turn_until_answered(&mut self, place: usize) -> Result<(), WatchFault>
-        ensures { IfErr result EndsSteps }
+        ensures key { self.new.key ≡ self.old.key }
+        ensures run { GoesOn (state self.old.hub) (state self.new.hub) }
+        ensures faults { IfErr result EndsSteps }
     {
         for _ in 0..u64::MAX {
             if self.turn_until_told(place)? == Came::Answer {
@@ -131,7 +142,9 @@ impl WatchedHub {
 
     // Has the hub make turns until something comes to the port at a place.
     fn turn_until_told(&mut self, place: usize) -> Result<Came, WatchFault>
-        ensures { IfErr result EndsSteps }
+        ensures key { self.new.key ≡ self.old.key }
+        ensures run { GoesOn (state self.old.hub) (state self.new.hub) }
+        ensures faults { IfErr result EndsSteps }
     {
         for _ in 0..TURNS {
             let came = self.turn(place)?;
@@ -144,7 +157,9 @@ impl WatchedHub {
 
     // Has the hub make a turn, and says what came to the port at a place.
     fn turn(&mut self, place: usize) -> Result<Came, WatchFault>
-        ensures { IfErr result EndsSteps }
+        ensures key { self.new.key ≡ self.old.key }
+        ensures run { GoesOn (state self.old.hub) (state self.new.hub) }
+        ensures faults { IfErr result EndsSteps }
     {
         match self.hub.turn() {
             Turn::NoMemory(_) => Err(WatchFault::Play(PlayFault::Memory)),
@@ -152,16 +167,22 @@ impl WatchedHub {
         }
     }
 
-    // Publishes how the resource stands, and answers what the watcher sees of it then.
+    // Publishes how the resource is used, and answers what the watcher sees of it then: just that, since nobody else
+    // has published.
     fn publish<R: Wait>(&mut self, rt: &R) -> Result<Row, WatchFault>
-        ensures { IfErr result EndsSteps }
+        ensures key { self.new.key ≡ self.old.key }
+        ensures state { state self.new.hub ≡ state self.old.hub }
+        ensures row { IfOk result (λ row. printed_row row ≡ row_at (state self.new.hub) self.new.key) }
+        ensures faults { IfErr result EndsSteps }
     {
         let told = self.hub.publish(rt)?;
-        self.hub.cut();
         self.watcher.learn(told);
-        match self.watcher.see(0) {
-            Some(row) => Ok(row),
-            None => Err(WatchFault::NoSeat),
+        let seen = self.watcher.see(0);
+        let told = self.hub.tell();
+        self.hub.cut();
+        match seen {
+            Some(row) if self.watcher.has_seen(&told) => Ok(row),
+            _ => Err(WatchFault::NoSeat),
         }
     }
 
@@ -171,6 +192,7 @@ impl WatchedHub {
             hub,
             ports: _,
             watcher: _,
+            key: _,
         } = self;
         hub.finish(rt);
     }
@@ -221,7 +243,9 @@ fn take_items(port: &mut Port) -> Came {
 }
 
 // What is printed of a row.
-fn watched_row(row: &Row) -> WatchedRow {
+fn watched_row(row: &Row) -> WatchedRow
+    ensures { result ≡ printed_row row.now }
+{
     WatchedRow {
         held: row.held,
         conversions: row.conversions,

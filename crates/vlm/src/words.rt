@@ -1,9 +1,9 @@
 //! The words that the program takes, and what they ask for.
 
 ghost use Rattle.std.specs.Prelude.{◌≡◌, ◌≤◌, ℕ, IfOk, None, Some, codes, decimal, false, map, option_and_then};
-ghost use Rattle.clap.specs.Words.{FailsBy, app_of, first_value, found_of, new_app, one_text, rule_of};
+ghost use Rattle.clap.specs.Words.{FailsBy, Text, app_of, first_value, found_of, new_app, one_text, rule_of};
 ghost use Rattle.clap.specs.declared.builder.command.Command.TheViews.{out-Command as fields_of};
-ghost use Rattle.vlm.specs.Words.{AskFor, cluster_command, group_rule, name_given, name_rule, nodes_rule, program_commands, watch_command, word_errors};
+ghost use Rattle.vlm.specs.Words.{AskFor, Spells, cluster_command, group_rule, name_given, name_rule, nodes_rule, program_commands, watch_command, word_errors};
 
 use clap::{Arg, ArgMatches, Command, Error, value_parser};
 use std::alloc::{AllocError, Global};
@@ -161,6 +161,8 @@ fn nodes_of(options: &ArgMatches<'_>) -> u8
     ensures within { (1 ≤ result) × (result ≤ 8) }
     ensures number { (n : ℕ) → 1 ≤ n → n ≤ 8
         → one_text (found_of options.now) (codes "nodes") ≡ Some (decimal n) → result ≡ n }
+    ensures spelled { (text : Text) (n : ℕ) → Spells text n → 1 ≤ n → n ≤ 8
+        → one_text (found_of options.now) (codes "nodes") ≡ Some text → result ≡ n }
 {
     // The parse has refused any other number, so what this bounds is never out of bounds.
     options.get_one::<u8>("nodes").unwrap_or(2).clamp(1, 8)
@@ -173,6 +175,8 @@ fn subject_of(options: &ArgMatches<'_>) -> Subject
     ensures group { (n : ℕ) → n ≤ 65535
         → one_text (found_of options.now) (codes "group") ≡ Some (decimal n)
         → result.domain ≡ Domain.Group n }
+    ensures spelled { (text : Text) (n : ℕ) → Spells text n → n ≤ 65535
+        → one_text (found_of options.now) (codes "group") ≡ Some text → result.domain ≡ Domain.Group n }
     ensures system { one_text (found_of options.now) (codes "group") ≡ None
         → result.domain ≡ Domain.System }
 {
@@ -187,6 +191,8 @@ fn domain_of(options: &ArgMatches<'_>) -> Domain
     ensures group { (n : ℕ) → n ≤ 65535
         → one_text (found_of options.now) (codes "group") ≡ Some (decimal n)
         → result ≡ Domain.Group n }
+    ensures spelled { (text : Text) (n : ℕ) → Spells text n → n ≤ 65535
+        → one_text (found_of options.now) (codes "group") ≡ Some text → result ≡ Domain.Group n }
     ensures system { one_text (found_of options.now) (codes "group") ≡ None
         → result ≡ Domain.System }
 {

@@ -9,9 +9,9 @@ serve_lists_over-requires-clause-posts g c κs within = listed_posts c.args.list
 -- the gates never stop
 pub returns-in-Ok : goal.returns-in-Ok
 returns-in-Ok g c = record {
-  served = c.in-Ok.ensures.served;
-  posted = c.in-Ok.ensures.whole refl;
-  modes = c.in-Ok.ensures.modes;
-  once = c.in-Ok.ensures.once;
-  order = c.in-Ok.ensures.order;
+  served = c.in-Ok.ensures.serving.served;
+  posted = c.in-Ok.ensures.serving.whole refl;
+  modes = c.in-Ok.ensures.serving.modes;
+  once = c.in-Ok.ensures.serving.once;
+  order = c.in-Ok.ensures.serving.order;
 }

@@ -65,7 +65,8 @@ pub returns-in-Ok-Watch-clause-watch : goal.returns-in-Ok-Watch-clause-watch
 returns-in-Ok-Watch-clause-watch g c =
     let asked = rw c.in-Ok-Watch.field-0-is at c.in-Ok-Watch.ensures.asked in
     λ name res are.
-    watch_started (map g.S.AsStr.text c.args.words.now) name res _ (g.R.Read.remaining c.args.reader.now) (g.R.Read.remaining c.start_watch.new.reader)
+    watch_started (map g.S.AsStr.text c.args.words.now) name res _ _ (g.R.Read.remaining c.args.reader.now) (g.R.Read.remaining c.start_watch.new.reader)
     (output_of (g.W.Write.contents c.args.writer.now) (g.F.Write.contents c.args.faults.now))
     (output_of (g.W.Write.contents c.start_watch.new.writer) (g.F.Write.contents c.start_watch.new.faults))
-    c.start_watch.result are (ap (λ (s : Subject). s.name) c.in-Ok-Watch.subject-is ∙ asked.name) c.start_watch.ensures
+    c.start_watch.result are (ap (λ (s : Subject). s.name) c.in-Ok-Watch.subject-is ∙ asked.name)
+    (λ none. ap (λ (s : Subject). s.domain) c.in-Ok-Watch.subject-is ∙ asked.system none) c.start_watch.ensures

@@ -20,6 +20,8 @@ returns-in-Some-clause-asked g c =
       least = c.nodes_of.ensures.within.0;
       most = c.nodes_of.ensures.within.1;
       number = λ n least most is. c.nodes_of.ensures.number n least most (one_text-rows (found_of c.in-Some.options.now) (codes "nodes") ∙ sym nodes ∙ is);
+      spelled = λ text n spells least most is.
+          c.nodes_of.ensures.spelled text n spells least most (one_text-rows (found_of c.in-Some.options.now) (codes "nodes") ∙ sym nodes ∙ is);
     }
 
 pub returns-in-Some-subcommand_matches-clause-fails : goal.returns-in-Some-subcommand_matches-clause-fails
@@ -37,6 +39,7 @@ returns-in-Some-subcommand_matches-clause-asked g c =
       command = sym name ∙ c.in-Some-subcommand_matches.ensures.found.0 refl;
       name = c.subject_of.ensures.name ∙ ap (option_and_then name_given) (first_value-rows (found_of options) (codes "name") ∙ sym resource);
       group = λ n most is. c.subject_of.ensures.group n most (group_text ∙ is);
+      spelled = λ text n spells most is. c.subject_of.ensures.spelled text n spells most (group_text ∙ is);
       system = λ is. c.subject_of.ensures.system (group_text ∙ is);
     }
 

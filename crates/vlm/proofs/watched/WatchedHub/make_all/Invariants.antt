@@ -1,6 +1,9 @@
+use Rattle.std.proofs.Common.{◌≡◌}
+use Rattle.vlm_ports.specs.Hubs.{state}
 use Rattle.vlm.proofs.WatchedSteps.{AreMade}
 use Rattle.vlm.proofs.watched.WatchedHub.make_all.Given as goal
 
 -- the steps so far have their lines
 abbrev pub invariant-loop-step : goal.invariant-loop-step
-invariant-loop-step g l = AreMade l.steps l.step-index l.text.items
+invariant-loop-step g l =
+    (l.self.key ≡ l.initial.self.key) × AreMade l.initial.self.key l.steps l.step-index l.text.items (state l.self.hub)

@@ -1,4 +1,4 @@
-use Rattle.std.proofs.Common.{◌≡◌, ◌∙◌, ◌<◌, ◌-◌, Some, arith, length, rules, slice_index_or, subst, sym, vec_len}
+use Rattle.std.proofs.Common.{◌≡◌, ◌∙◌, ◌∷◌, [], ◌<◌, ◌-◌, Some, arith, length, rules, slice_index_or, subst, sym, vec_len}
 use Rattle.vlm_ports.specs.Watched.{board_name, watched_keys}
 use Rattle.vlm_watch.specs.declared.watcher.Watcher.{Watcher}
 use Rattle.vlm_watch.specs.Watching.{IsNew}
@@ -21,8 +21,10 @@ invariant_of-result g c =
     let new : IsNew (board_name c.watch.new.self) (vec_len c.in_ok-subjects.subjects) watcher =
     subst (IsNew (board_name c.watch.new.self) (vec_len c.in_ok-subjects.subjects)) last each in
     let keys : length (watched_keys c.watch.new.self) ≡ vec_len c.in_ok-subjects.subjects = search rules in
+    let subject : watched_keys c.watch.new.self ≡ c.args.key.now ∷ [] = search rules in
     record {
       watched = c.in-Ok.ensures.watched;
       ours = (new.board_is, new.keys_are ∙ sym keys);
       one = omega (arith, new.keys_are, one);
+      subject = subject;
     }
