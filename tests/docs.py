@@ -254,15 +254,30 @@ def shown_programs(_program):
                 yield f"{page.name}: the output of {source.name}"
 
 
+def stripped(text):
+    """The lines of a source without their margins, those of an example in a comment too."""
+    return [re.sub(r"^//!\s*", "", line.strip()) for line in text.splitlines()]
+
+
+def is_shown_of(lines, source):
+    """Whether a source has these lines one after another. A contract is shown to its end."""
+    for at in range(len(source) - len(lines) + 1):
+        if source[at:at + len(lines)] == lines:
+            is_clause = re.match(r"(ensures|requires)\b", lines[-1])
+            return not is_clause or source[at + len(lines)].startswith("{")
+    return False
+
+
 def shown_code(_program):
-    """Each line of Rust and Rattle that a page shows is in one source, where tests or proofs try it."""
-    texts = [file.read_text() for file in [*sources(), *(TOP / "bindings" / "rust" / "src").glob("*.rs")]]
-    lines = [{re.sub(r"^//!\s*", "", line.strip()) for line in text.splitlines()} for text in texts]
+    """Each paragraph of Rust and Rattle that a page shows is in a source, where tests or proofs try it."""
+    files = [*sources(), *(TOP / "bindings" / "rust" / "src").glob("*.rs")]
+    texts = [stripped(file.read_text()) for file in files]
     for page in PAGES:
         for block, _ in fenced(page, "rust"):
-            wanted = {line.strip() for line in block.splitlines() if line.strip()}
-            left = min((wanted - found for found in lines), key=len)
-            yield from (f"{page.name}: no source has {line!r}" for line in sorted(left))
+            for paragraph in re.split(r"\n\s*\n", block.strip("\n")):
+                lines = stripped(paragraph)
+                if not any(is_shown_of(lines, text) for text in texts):
+                    yield f"{page.name}: no source has {lines[0]!r} and what follows"
 
 
 def shown_changes(_program):
