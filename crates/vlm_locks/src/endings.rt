@@ -11,7 +11,7 @@ ghost use Rattle.vlm_store.specs.Plain.{plain_processes};
 ghost use Rattle.vlm_store.specs.Records.{DueChanges, DuesStay, IsProcess, SameButNotices, due_of};
 ghost use Rattle.vlm_locks.specs.Owing.{OwedMoves, blocks_written, completions_queued, completions_spared};
 
-use vlm_procs::{end, end_with_return, forgive, queue, status_block_or_new};
+use vlm_procs::{end, end_with_return, forgive, queue_ast, status_block_or_new};
 use vlm_store::laws::law_records_are_sound;
 use vlm_store::{ProcAt, Store, StoredRow};
 use vlm_words::asts::{Ast, AstKind};
@@ -104,7 +104,7 @@ pub(crate) fn complete(
             param: request.param,
             lkid: row.lkid(),
         };
-        queue(store, at, ast);
+        queue_ast(store, at, ast);
     }
 }
 

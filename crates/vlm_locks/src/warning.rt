@@ -9,7 +9,7 @@ ghost use Rattle.vlm_store.specs.Records.{HasResource, IsProcess, IsStored, Same
 ghost use Rattle.vlm_locks.specs.Owing.{IsPaid, OwedMoves};
 ghost use Rattle.vlm_locks.specs.Warning.{IsLockWarned, IsWarned, disarmed_row};
 
-use vlm_procs::{forgive, queue};
+use vlm_procs::{forgive, queue_ast};
 use vlm_store::laws::law_records_are_sound;
 use vlm_store::{LockAt, ProcAt, ResAt, Store, StoredRow};
 use vlm_words::asts::{Ast, AstKind};
@@ -53,7 +53,7 @@ fn queue_warning(store: &mut Store, at: ProcAt, row: &StoredRow)
         param: held.param,
         lkid: row.lkid(),
     };
-    queue(store, at, ast);
+    queue_ast(store, at, ast);
 }
 
 // Warns a granted lock, if it is to be warned: its blocking AST is queued, and it is armed no more.

@@ -49,7 +49,7 @@ pub fn owe(store: &mut Store, at: ProcAt, count: usize) -> Result<(), AllocError
 }
 
 /// Queues an AST that a process is owed, behind those that are queued to it.
-pub fn queue(store: &mut Store, at: ProcAt, ast: Ast)
+pub fn queue_ast(store: &mut Store, at: ProcAt, ast: Ast)
     requires there { HasProcess at store.old }
     requires owed { (pid : ℕ) → IsProcess at pid store.old → 0 < due_of pid store.old }
     ensures queued { (pid : ℕ) → IsProcess at pid store.old → plain_processes store.new

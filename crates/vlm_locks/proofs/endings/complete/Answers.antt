@@ -5,12 +5,12 @@ use Rattle.vlm_locks.proofs.Found.{process_there}
 use Rattle.vlm_locks.proofs.Owing.{one_process}
 use Rattle.vlm_locks.proofs.endings.complete.Goals as goal
 
-pub queue-requires-clause-there : goal.queue-requires-clause-there
-queue-requires-clause-there c = process_there c.args.store.now c.args.at c.args.row.now.pid c.requires.process
+pub queue_ast-requires-clause-there : goal.queue_ast-requires-clause-there
+queue_ast-requires-clause-there c = process_there c.args.store.now c.args.at c.args.row.now.pid c.requires.process
 
 -- one AST is owed, where a routine is named
-pub queue-requires-clause-owed : goal.queue-requires-clause-owed
-queue-requires-clause-owed c pid is =
+pub queue_ast-requires-clause-owed : goal.queue_ast-requires-clause-owed
+queue_ast-requires-clause-owed c pid is =
     subst (λ p. 0 < due_of p c.args.store.now)
     (one_process c.args.store.now c.law_records_are_sound.ensures c.args.at c.args.row.now.pid pid c.requires.process is)
     (omega (arith, c.requires.owed, ap (λ o. one_where (is_some o)) c.in-Some.is))

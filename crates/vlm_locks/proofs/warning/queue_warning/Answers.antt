@@ -38,15 +38,15 @@ returns-in_default-blocking-clause-owed c =
 
 -- a routine is
 
-pub queue-requires-clause-there : goal.queue-requires-clause-there
-queue-requires-clause-there c = process_there c.args.store.now c.args.at c.args.row.now.pid c.requires.process
+pub queue_ast-requires-clause-there : goal.queue_ast-requires-clause-there
+queue_ast-requires-clause-there c = process_there c.args.store.now c.args.at c.args.row.now.pid c.requires.process
 
-pub queue-requires-clause-owed : goal.queue-requires-clause-owed
-queue-requires-clause-owed c pid is =
+pub queue_ast-requires-clause-owed : goal.queue_ast-requires-clause-owed
+queue_ast-requires-clause-owed c pid is =
     subst (λ p. 0 < due_of p c.args.store.now)
     (one_process c.args.store.now c.law_records_are_sound.ensures c.args.at c.args.row.now.pid pid c.requires.process is)
     (omega (arith, warning_fits c.args.row.now c.args.store.now c.requires.armed c.requires.owed))
 
 pub returns-clause-owed : goal.returns-clause-owed
 returns-clause-owed c =
-    warned_owed c.args.row.now c.args.store.now c.queue.new.store c.requires.armed c.requires.owed (c.queue.ensures.owed c.args.row.now.pid c.requires.process)
+    warned_owed c.args.row.now c.args.store.now c.queue_ast.new.store c.requires.armed c.requires.owed (c.queue_ast.ensures.owed c.args.row.now.pid c.requires.process)

@@ -1,7 +1,7 @@
 use Rattle.std.proofs.Common.{◌<◌, ◌-◌, refl}
 use Rattle.vlm_store.specs.Records.{with_owed_ast}
 use Rattle.vlm_procs.proofs.Written.{notices_alone, owed_changes, owed_here, queued_ast}
-use Rattle.vlm_procs.proofs.asts.queue.Goals as goal
+use Rattle.vlm_procs.proofs.asts.queue_ast.Goals as goal
 
 pub queue_ast-requires-clause-owed : goal.queue_ast-requires-clause-owed
 queue_ast-requires-clause-owed c =
