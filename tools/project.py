@@ -93,11 +93,9 @@ def megabytes_free():
 
 
 def lanes():
-    """How many checks run side by side. Each keeps more than one processor busy, and holds up to 3 GB."""
-    processors = len(os.sched_getaffinity(0))
+    """How many checks run side by side: one a processor, each with up to 3 GB."""
     memory = int(re.search(r"MemAvailable:\s+(\d+)", Path("/proc/meminfo").read_text())[1])
-    most = processors if processors <= 2 else processors - 1
-    return max(1, min(most, memory // (3 * 1024 * 1024)))
+    return max(1, min(len(os.sched_getaffinity(0)), memory // (3 * 1024 * 1024)))
 
 
 def need_folders(*folders):
