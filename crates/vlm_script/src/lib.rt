@@ -25,4 +25,4 @@ pub use shares::read_lists;
 pub use steps::{ScriptStep, read_steps};
 pub use streams::write_whole;
 pub use vlm_core::HashKeys;
-pub use vlm_lines::{read_line, read_res};
+pub use vlm_lines::{Line, LineFault, read_line, read_res};

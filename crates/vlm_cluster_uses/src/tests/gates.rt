@@ -2,6 +2,7 @@
 
 ghost use Rattle.std.specs.Prelude.{false, true};
 
+use std::alloc::{AllocError, Global};
 use std::sync::Arc;
 use std::sync::atomic::{AtomicU64, Ordering};
 use vlm_cluster::{Gate, Go};
@@ -66,6 +67,35 @@ impl Gate for Meeting {
     fn after(&mut self, _item: &Item) {}
 }
 
+/// One that follows waits before a post until the other was told an item, and stops if it is told none.
+#[derive(Drop)]
+pub struct Following {
+    pub told: Arc<AtomicU64>,
+    pub follows: bool,
+}
+
+impl Gate for Following {
+    ghost never_stops = { false };
+
+    fn before(&mut self, _n: usize) -> Go {
+        if !self.follows {
+            return Go::Post;
+        }
+        for _ in 0..LOOKS {
+            if self.told.load(Ordering::SeqCst) > 0 {
+                return Go::Post;
+            }
+        }
+        Go::Stop
+    }
+
+    fn after(&mut self, _item: &Item) {
+        if !self.follows {
+            self.told.fetch_add(1, Ordering::SeqCst);
+        }
+    }
+}
+
 /// What a gate was asked and told.
 #[derive(Drop)]
 pub struct Heard {
@@ -81,6 +111,18 @@ impl Heard {
             second: AtomicU64::new(0),
             items: AtomicU64::new(0),
         }
+    }
+
+    /// How often the gate was asked.
+    pub fn asked(&self) -> u64 {
+        self.first
+            .load(Ordering::SeqCst)
+            .wrapping_add(self.second.load(Ordering::SeqCst))
+    }
+
+    /// How many items it was told.
+    pub fn told(&self) -> u64 {
+        self.items.load(Ordering::SeqCst)
     }
 }
 
@@ -112,4 +154,16 @@ impl Gate for Slow {
     fn after(&mut self, _item: &Item) {
         self.heard.items.fetch_add(1, Ordering::SeqCst);
     }
+}
+
+/// So many such gates, and what each hears.
+pub fn slow_gates(alloc: Global, count: usize) -> Result<(Vec<Slow>, Vec<Arc<Heard>>), AllocError> {
+    let mut gates = Vec::new(alloc);
+    let mut all = Vec::new(alloc);
+    for _ in 0..count {
+        let heard = Arc::new(alloc, Heard::new())?;
+        all.push(Arc::try_clone(&heard)?)?;
+        gates.push(Slow { heard, asked: 0 })?;
+    }
+    Ok((gates, all))
 }

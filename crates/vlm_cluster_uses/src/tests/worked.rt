@@ -1,6 +1,6 @@
 //! Worked runs: who is posted and told what, in which parts, and that each list has a thread of its own.
 
-use crate::tests::gates::{Closing, Heard, Meeting, Slow};
+use crate::tests::gates::{Closing, Following, Meeting, slow_gates};
 use crate::tests::steps::{
     are_answers, are_three_served, declaration, entries_of, is_answer, open_gates, report_of,
     searches, three_lists,
@@ -109,19 +109,33 @@ fn lists_run_beside_each_other(rt: HostRuntime) -> Result<(), Fail> {
 // A gate is asked again until it lets a post through, and is told each item.
 #[test]
 fn gates_are_asked_again(rt: HostRuntime) -> Result<(), Fail> {
-    let mut gates = Vec::new(rt.alloc());
-    let mut all = Vec::new(rt.alloc());
-    for _ in 0..2 {
-        let heard = Arc::new(rt.alloc(), Heard::new())?;
-        all.push(Arc::try_clone(&heard)?)?;
-        gates.push(Slow { heard, asked: 0 })?;
-    }
+    let (gates, all) = slow_gates(rt.alloc(), 2)?;
     let report = report_of(&rt, rt.alloc(), gates, searches(rt.alloc(), 2, 2)?, 1_000);
     assert!(&rt; report.is_some_and(|report| report.posted.as_slice() == [2, 2].as_slice()));
     for heard in all.iter() {
         assert!(&rt; heard.first.load(Ordering::SeqCst) == 3);
         assert!(&rt; heard.second.load(Ordering::SeqCst) == 3);
-        assert!(&rt; heard.items.load(Ordering::SeqCst) == 3);
+        assert!(&rt; heard.told() == 3);
     }
+    Ok(())
+}
+
+// A worker stays until its departure is answered, and tells its gate of that while others are at work: one waits for it.
+#[test]
+fn a_worker_stays_for_its_departure(rt: HostRuntime) -> Result<(), Fail> {
+    let told = Arc::new(rt.alloc(), AtomicU64::new(0))?;
+    let mut gates = Vec::new(rt.alloc());
+    for follows in [false, true] {
+        gates.push(Following {
+            told: Arc::try_clone(&told)?,
+            follows,
+        })?;
+    }
+    let mut lists = searches(rt.alloc(), 1, 0)?;
+    let mut second = Vec::new(rt.alloc());
+    second.push(Step::Search(2))?;
+    lists.push(second)?;
+    let report = report_of(&rt, rt.alloc(), gates, lists, 1_000);
+    assert!(&rt; report.is_some_and(|report| report.posted.as_slice() == [0, 1].as_slice()));
     Ok(())
 }

@@ -1,7 +1,9 @@
 //! Two nodes in one hand. What is refused for want of memory has changed nothing, and is tried once more.
 
 use crate::Node::{First, Second};
-use crate::tests::steps::{P, Q, declaration, exclusive, give_up, is_answer, is_ast, quiet};
+use crate::tests::steps::{
+    P, Q, SEARCH, SECOND_SEARCH, declaration, exclusive, give_up, is_answer, is_ast, quiet,
+};
 use crate::tests::watchers::{roots, shows};
 use crate::{Node, Pair, WatchedHub};
 use std::alloc::{AllocError, Global};
@@ -47,6 +49,36 @@ fn make(rt: &impl Abort, pair: &mut Pair, node: Node, step: &Step, want: Answer)
     }
     let second = ask(rt, pair, node, *step);
     assert!(rt; is_answer(second, want));
+}
+
+// Has the hub make a turn in which each node has posted one step. A turn that tells of no want of memory has served both; one
+// that tells of it has left the others to the next turn, and says how many it served.
+fn serve_both(rt: &impl Abort, pair: &mut Pair) {
+    assert!(rt; pair.post(First, SEARCH).is_ok());
+    assert!(rt; pair.post(Second, SECOND_SEARCH).is_ok());
+    let before = pair.entries();
+    let turn = pair.turn();
+    let made = pair.entries().saturating_sub(before);
+    if let Turn::NoMemory(told) = turn {
+        assert!(rt; told == made && made < 2);
+        assert!(rt; pair.turn() == Turn::Served(2usize.saturating_sub(made)));
+    } else {
+        assert!(rt; turn == Turn::Served(2) && made == 2);
+    }
+    assert!(rt; is_answer(pair.take(First), Answer::Victim(None)));
+    assert!(rt; is_answer(pair.take(Second), Answer::Victim(None)));
+}
+
+// The journal grows behind the first entry of a turn, too.
+#[test]
+fn a_turn_tells_of_want_of_memory(rt: HostRuntime) -> Result<(), Fail> {
+    let mut pair = pair_of(rt.alloc())?;
+    make(&rt, &mut pair, First, &SEARCH, Answer::Victim(None));
+    for _ in 0..8 {
+        serve_both(&rt, &mut pair);
+    }
+    pair.close();
+    Ok(())
 }
 
 // A node is lost.
