@@ -1,8 +1,9 @@
-//! Callers of the hub and its ports: one that serves two nodes, and tests.
+//! Callers of the hub and its ports: hubs of one and of two nodes in one hand, and tests.
 #![tactic(auto)]
 
 mod onlookers;
 mod pair;
+mod single;
 #[cfg(test)]
 mod tests;
 mod threads;
@@ -10,4 +11,5 @@ mod watched;
 
 pub use onlookers::Onlooker;
 pub use pair::{Node, Pair};
+pub use single::Single;
 pub use watched::WatchedHub;

@@ -2,6 +2,7 @@
 
 mod hub;
 mod retries;
+mod single;
 mod steps;
 mod threads;
 mod watchers;

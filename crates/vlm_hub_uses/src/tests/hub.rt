@@ -23,7 +23,7 @@ fn make(rt: &impl Abort, pair: &mut Pair, node: Node, step: Step) {
 
 // A search, and a lock that one node holds and the other waits for.
 #[test]
-fn hub_alone(rt: HostRuntime) -> Result<(), Fail> {
+fn two_nodes(rt: HostRuntime) -> Result<(), Fail> {
     let mut pair = Pair::new(rt.alloc())?;
     make(&rt, &mut pair, First, SEARCH);
     assert!(&rt; is_answer(pair.take(First), Answer::Victim(None)));
@@ -97,8 +97,25 @@ fn a_lost_node_has_departed(rt: HostRuntime) -> Result<(), Fail> {
     assert!(&rt; pair.turn() == Turn::Served(1));
     assert!(&rt; is_answer(pair.take(First), Answer::Plain(Cond::Departed)));
     assert!(&rt; pair.lost(First) == Ok(Cond::Departed));
+    let settled = pair.settle(First);
+    assert!(&rt; settled.steps == 0 && settled.items == 0);
     make(&rt, &mut pair, Second, SECOND_SEARCH);
     assert!(&rt; is_answer(pair.take(Second), Answer::Victim(None)));
+    pair.close();
+    Ok(())
+}
+
+// A node that is lost while its first declaration lies on its ring.
+#[test]
+fn lost(rt: HostRuntime) -> Result<(), Fail> {
+    let mut pair = Pair::new(rt.alloc())?;
+    assert!(&rt; pair.post(Second, declaration(2)).is_ok());
+    assert!(&rt; pair.lost(Second) == Ok(Cond::Normal));
+    assert!(&rt; pair.turn() == Turn::Served(1));
+    assert!(&rt; is_answer(pair.take(Second), Answer::Plain(Cond::Departed)));
+    assert!(&rt; pair.lost(Second) == Ok(Cond::Departed));
+    let settled = pair.settle(Second);
+    assert!(&rt; settled.steps == 0 && settled.items == 0);
     pair.close();
     Ok(())
 }

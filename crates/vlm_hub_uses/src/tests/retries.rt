@@ -89,6 +89,40 @@ fn a_hub_goes_on_without_memory(rt: HostRuntime) -> Result<(), Fail> {
     Ok(())
 }
 
+// A search of either node is posted.
+fn post_both(rt: &impl Abort, pair: &mut Pair) {
+    assert!(rt; pair.post(First, Step::Search(1)).is_ok());
+    assert!(rt; pair.post(Second, Step::Search(2)).is_ok());
+}
+
+// A turn that answers Served has made what both nodes had posted. Where the journal could not grow in between, it says so.
+#[test]
+fn a_refused_growth_is_told(rt: HostRuntime) -> Result<(), Fail> {
+    let mut pair = pair_of(rt.alloc())?;
+    make(
+        &rt,
+        &mut pair,
+        First,
+        &Step::Search(1),
+        Answer::Victim(None),
+    );
+    for _ in 0..8 {
+        post_both(&rt, &mut pair);
+        match pair.turn() {
+            Turn::Served(made) => assert!(&rt; made == 2),
+            Turn::NoMemory(made) => {
+                assert!(&rt; made < 2);
+                assert!(&rt; pair.turn() == Turn::Served(2usize.wrapping_sub(made)));
+            }
+            Turn::Idle => assert!(&rt; false),
+        }
+        assert!(&rt; is_answer(pair.take(First), Answer::Victim(None)));
+        assert!(&rt; is_answer(pair.take(Second), Answer::Victim(None)));
+    }
+    pair.close();
+    Ok(())
+}
+
 // A hub that is watched, opened once more where that was refused.
 fn watched<R: Abort + AllocGlobal + Wait>(rt: &R) -> Result<WatchedHub, Fail> {
     match try_watched(rt) {

@@ -19,10 +19,11 @@ pub fn is_answer(item: Option<Item>, answer: Answer) -> bool {
     }
 }
 
-// The item is an AST of this kind for the process.
+// The item is an AST of this kind for the process, by the routine that `exclusive` names for it.
 pub fn is_ast(item: Option<Item>, pid: u32, kind: AstKind) -> bool {
+    let routine = if kind == AstKind::Completion { 8 } else { 9 };
     match item {
-        Some(Item::Ast(to, ast)) => to == pid && ast.kind == kind,
+        Some(Item::Ast(to, ast)) => to == pid && ast.kind == kind && ast.routine == routine,
         _ => false,
     }
 }

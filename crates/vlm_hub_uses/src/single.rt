@@ -1,0 +1,61 @@
+//! A hub of one node, with its port in the same hand.
+
+ghost use Rattle.std.specs.Prelude.{◌≡◌};
+ghost use Rattle.vlm_ports.specs.Hubs.{IsPortOf};
+ghost use Rattle.vlm_ports.specs.Ports.{identity};
+ghost use Rattle.vlm_ports.specs.Watched.{IsUnwatched};
+
+use std::alloc::{AllocError, Global};
+use vlm_journal::entries::Item;
+use vlm_ports::{Full, Hub, Port, Settled, Turn};
+use vlm_words::steps::Step;
+
+/// A hub that serves one node, and its port. End it by [`Single::close`].
+pub struct Single {
+    hub: Hub,
+    port: Port,
+    ghost ours: { IsPortOf hub port },
+    ghost unwatched: { IsUnwatched hub },
+}
+
+impl Single {
+    /// A hub and its port, with nothing posted. Refused, there is neither.
+    pub fn new(alloc: Global) -> Result<Single, AllocError> {
+        let (hub, ports) = Hub::make(alloc, 1)?;
+        let Some(port) = ports.into_iter().next() else {
+            hub.close();
+            return Err(AllocError);
+        };
+        Ok(Single { hub, port })
+    }
+
+    /// Posts a step, if it is of the node and there is a place.
+    pub fn post(&mut self, step: Step) -> Result<(), Full> {
+        if self.port.may_post(&step) {
+            self.port.post(step)
+        } else {
+            Err(Full(step))
+        }
+    }
+
+    /// Takes an item that has come.
+    pub fn take(&mut self) -> Option<Item> {
+        self.port.take()
+    }
+
+    /// Has the hub make a turn.
+    pub fn turn(&mut self) -> Turn {
+        self.hub.turn()
+    }
+
+    /// Settles the port.
+    pub fn settle(&mut self) -> Settled {
+        self.hub.settle(&mut self.port)
+    }
+
+    /// Ends it. It waits for nobody.
+    pub fn close(self) {
+        let Single { hub, port: _ } = self;
+        hub.close();
+    }
+}
