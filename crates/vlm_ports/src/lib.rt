@@ -14,4 +14,5 @@ mod watching;
 pub use hub::{Hub, Turn};
 pub use line::Settled;
 pub use port::{Full, Port};
+pub use vlm_journal::entries::{Entry, Item, Part};
 pub use vlm_watch::{BoardFault, RootKey, Row, Told, Watcher};
