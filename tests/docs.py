@@ -186,8 +186,16 @@ def parts(_program):
         yield f"the parts are {listed}"
 
 
+def functions(_program):
+    """Each function whose name a page gives is there: names of four words and more, such as those of tests."""
+    there = {name for file in sources() for name in re.findall(r"\bfn (\w+)", file.read_text())}
+    for page in PAGES:
+        for name in sorted(set(re.findall(r"`([a-z]+(?:_[a-z0-9]+){3,})`", page.read_text())) - there):
+            yield f"{page.name}: no function {name}"
+
+
 def checks():
-    return (short_readme, crate_table, laws, refusals, sizes, help_forms, version, kit, links, files, parts)
+    return (functions, short_readme, crate_table, laws, refusals, sizes, help_forms, version, kit, links, files, parts)
 
 
 def blocks():
