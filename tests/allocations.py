@@ -94,7 +94,7 @@ class Script:
         return "memory after some text" if run.printed else "memory before any text"
 
     def kind_of_refused_step(self, run):
-        """The run is that of the script with a blank for the refused step, except for its answer."""
+        """Checks that the run equals a run with a blank for the refused step, except for the answer INSFMEM."""
         printed = run.printed.splitlines(keepends=True)
         places = [place for place, line in enumerate(printed) if line.endswith(REFUSAL)]
         if len(places) != 1:
@@ -134,13 +134,13 @@ class WatchedScript(Script):
         return f"{kind} of a watch" if kind.startswith("memory") else kind
 
     def kind_of_refused_step(self, run):
-        """The run is that of the script with steps that change nothing for the refused one. Where that is a
-        declaration, the steps of its process change nothing either."""
+        """Checks that the run equals a run with a step that changes nothing in place of the refused one. A refused
+        declaration takes the steps of its process with it."""
         for number in range(len(self.lines)):
             without, _ = self.program.run(b"".join(self.without(number)))
             if run == without:
                 return "a step of a watch refused"
-        raise Wrong(f"{run} is not that of the script without one of its steps")
+        raise Wrong(f"{run} is no run of the script without one of its steps")
 
     def without(self, number):
         """The lines, with one that changes nothing for the one at this index and for those that need it."""

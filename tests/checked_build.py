@@ -9,7 +9,7 @@ from pathlib import Path
 from harness import Case, Ended, STORED, TOP, Test, difference, run_checked
 from scripts import stored_scripts
 
-# A checked build and its run take at most so many seconds.
+# The longest time of a checked build and its run.
 SECONDS = 900
 
 

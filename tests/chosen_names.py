@@ -1,5 +1,5 @@
 """Names that an enemy chose: scripts whose 20,000 names of processes and 20,000 of resources meet in an index, by the
-hasher of the kit's maps, whose seed is fixed, or by the program's own behind its fixed keys. Each takes at most twice
+hasher of the kit's maps, whose seed is fixed, or by the program's own with its fixed keys. Each takes at most twice
 the instructions of a script with other names. Where there is no valgrind, processor time is compared instead. Where
 the system gives no random bytes, a run of a script ends before it reads anything."""
 
@@ -14,21 +14,21 @@ from functools import partial
 from harness import Ended, INTERPOSERS, SECONDS, Test, difference
 
 NAMES = 20_000
-# A run whose names meet takes at most so many times what another takes.
+# A run whose names meet costs at most this many times as much as another.
 FACTOR = 2
 # Counting instructions makes a run slower by some 50 times.
 COUNTED_SECONDS = 120
 LETTERS = b"ABCDEFGHIJKLMNOPQRSTUVWXYZ"
 LENGTH = 7
 WORD = (1 << 64) - 1
-# Where the kit's map looks first is told by the lowest bits of a hash, and from there on it looks group by group
-# until one is not full. With 20,000 names it has 2,048 groups of 12, and at last 4,096: where these two bits are
-# clear names begin in the first quarter of 2,048 groups alone, and fill all behind it.
+# The lowest bits of a hash say where the kit's map looks first. It then looks group by group until one is not full.
+# With 20,000 names it has 2,048 groups of 12, and at last 4,096. Names whose hashes have these two bits clear all begin
+# in the first quarter of the groups, and fill all groups after it.
 CLEAR = 0x600
 
 
 class Fold:
-    """The hasher of the kit's maps: its state behind what was written, which is the hash too."""
+    """The hasher of the kit's maps: its state after what was written, which is the hash too."""
 
     MULTIPLIER = 0x9E37_79B9_7F4A_7C15
 
@@ -49,7 +49,7 @@ class Fold:
 
 
 class Sip:
-    """SipHash-1-3 with both keys 0, behind what was written: its four words, and the bytes since the last
+    """SipHash-1-3 with both keys 0, after what was written: its four words, and the bytes since the last
     whole word."""
 
     def __init__(self, words=(0x736F_6D65_7073_6575, 0x646F_7261_6E64_6F6D, 0x6C79_6765_6E65_7261,
@@ -85,7 +85,7 @@ class Kept:
 
 
 def taken(words, word):
-    """The words of SipHash behind a word that it takes in."""
+    """The words of SipHash after it takes in a word."""
     a, b, c, d = words
     a, b, c, d = sip_round(a, b, c, d ^ word)
     return a ^ word, b, c, d
@@ -111,15 +111,15 @@ def folded(number):
 
 
 def names(hasher, clear):
-    """Names in the order of the alphabet whose hashes have these bits clear, behind what was written to the hasher."""
-    def behind(begun):
+    """Names in the order of the alphabet whose hashes have these bits clear, after what was written to the hasher."""
+    def after(begun):
         if len(begun) < LENGTH:
             for letter in LETTERS:
-                yield from behind(begun + bytes([letter]))
+                yield from after(begun + bytes([letter]))
         elif not folded(hasher.write(begun).finish()) & clear:
             yield begun.decode()
 
-    found = behind(b"")
+    found = after(b"")
     return [next(found) for _ in range(NAMES)]
 
 

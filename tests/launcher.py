@@ -76,7 +76,7 @@ class Tree:
 
 
 def crates_with_libraries():
-    """Each crate of crates.txt with those that it stands on."""
+    """Each crate of crates.txt, with those that it uses."""
     lines = [line.split("#")[0].split(":") for line in (TOP / "crates.txt").read_text().splitlines()]
     uses = {line[0].split()[0]: line[1].split() for line in lines if len(line) == 2}
     return {name: [low for low in below if low in uses] for name, below in uses.items()}
@@ -110,7 +110,7 @@ def unproved_runs(tree):
 
 
 def unanswered_runs(tree):
-    """What the checked build does not bear is told in one line."""
+    """A run that is too much for the checked build ends with one line that says why."""
     for said, wanted in (("no-answer: the program wrote more than 1048576 bytes", "1 MiB"),
                          ("no-answer: the program did not end within the time limit", "60 seconds"),
                          ("fault", "no answer; .*/out/checked.log")):
@@ -119,7 +119,7 @@ def unanswered_runs(tree):
 
 
 def full_disk(tree):
-    """Where the disk is full, that is told in one line."""
+    """A full disk is reported in one line."""
     df = tree.kit / "df"
     df.write_text("#!/bin/sh\necho Avail\necho 2048\n")
     df.chmod(0o755)
@@ -142,7 +142,7 @@ def slow_pipe(tree):
 
 
 def out_of_order(tree):
-    """What began before a crate that it stands on had ended."""
+    """What began before a crate that it uses had ended."""
     ended = set()
     for line in tree.noted():
         event, name = line.split()
@@ -153,7 +153,7 @@ def out_of_order(tree):
 
 
 def proofs(tree):
-    """Each crate of the program is proved behind those below it, and from then on the program runs alone."""
+    """Each crate of the program is proved after those below it, and from then on the program runs alone."""
     status, printed, told = tree.run("prove", PAUSE="0.1")
     names = [line.split()[1] for line in tree.noted() if line.startswith("begun")]
     ends = [rf"^vlm: proved \w+, {done} of {len(names)}, \d+ seconds$" for done in range(1, len(names) + 1)]
@@ -220,7 +220,7 @@ def two_starts(tree):
 
 
 def missing_parts(tree):
-    """What is missing is told in one line that says what to do."""
+    """Each missing part is reported in one line that says what to do."""
     for words in (["play"], ["prove"]):
         yield from unlike(tree.run(*words, KIT="another-kit"), 4, b"", f"another-kit: put the rt of {KIT} first")
         yield from unlike(tree.run(*words, PATH="/usr/bin:/bin"), 4, b"", "no rt on the path: put ")
@@ -229,7 +229,7 @@ def missing_parts(tree):
 
 
 def unprinted(tree):
-    """A text that can't be passed on is told, and is no success."""
+    """A text that can't be passed on is reported, and is no success."""
     with open("/dev/full", "wb") as full:
         ended = subprocess.run([tree.top / "vlm", "play"], input=b"show\n", stdout=full, stderr=subprocess.PIPE,
                                env=tree.env, timeout=SECONDS)
@@ -244,7 +244,7 @@ def another_kit(tree):
 
 
 def wrong_words(tree):
-    """What a tool does not take is told."""
+    """A tool refuses words that it does not take."""
     for words, wanted in ((["prove", "x"], "prove takes no words"), (["install"], "install takes one word")):
         yield from unlike(tree.run(*words), 2, b"", wanted)
 

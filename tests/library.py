@@ -14,7 +14,7 @@ from pathlib import Path
 
 from harness import ROOM, Test, TOP, difference
 
-# A program of a test runs for at most so many seconds, and an installation may prove the library first.
+# The longest run of a test program, and of an installation, which may prove the library first.
 SECONDS, INSTALL_SECONDS = 120, 3_600
 SOURCES = sorted((TOP / "examples" / "c").glob("*.c")) + sorted((TOP / "tests" / "c").glob("*.c"))
 COMPILERS = ("gcc", "clang")

@@ -9,7 +9,7 @@ from functools import partial
 from harness import Result, SECONDS, TOP, Test, difference, results_of
 
 CRATES = ("vlm_uses", "vlm_hub_uses", "vlm_cluster_uses")
-# A checked build of a crate's tests, and their runs, take at most so many seconds.
+# The longest time of a checked build of a crate's tests and of their runs.
 CHECKED_SECONDS = 900
 
 

@@ -75,7 +75,7 @@ def crates():
 
 
 def crates_below(name):
-    """A crate and all that it stands on, the lowest first, each with those that it uses."""
+    """A crate and all crates below it, the lowest first, each with those that it uses."""
     uses = crates()
     wanted, left = set(), [name]
     while left:
