@@ -136,18 +136,37 @@ class Case(NamedTuple):
 CASE = re.compile(rb"^case=(\S+) run=(\S+)(?: status=(\d+))?.*$")
 
 
+class Progress:
+    """Where a long run says how far it is. `note` gets how many of its cases are done, and how many there are."""
+
+    note = staticmethod(lambda done, total: None)
+
+
+def try_cases(crate, folder, total):
+    """Runs the cases of a folder on the checked build. Gives what they printed and what was told, as the kit writes it."""
+    told, done = [], 0
+    with tempfile.TemporaryFile() as printed:
+        with subprocess.Popen(["rt", "try", "--cases", folder], cwd=crate, stdout=printed, stderr=subprocess.PIPE) as run:
+            for line in run.stderr:
+                told.append(line)
+                done += bool(CASE.match(line))
+                Progress.note(done, total)
+        printed.seek(0)
+        return printed.read(), b"".join(told)
+
+
 def run_checked(crate, cases):
     """Runs cases on the kit's checked build, which is made once, and yields their results in order."""
     with tempfile.TemporaryDirectory() as folder:
         for number, case in enumerate(cases):
             (Path(folder) / f"{number:05}").write_bytes(case.script)
             (Path(folder) / f"{number:05}.args").write_text("".join(word + "\n" for word in case.words))
-        done = subprocess.run(["rt", "try", "--cases", folder], cwd=crate, capture_output=True)
-    printed, told = texts_of(done.stdout), endings_of(done.stderr)
+        output, errors = try_cases(crate, folder, len(cases))
+    printed, told = texts_of(output), endings_of(errors)
     for number, case in enumerate(cases):
         name = b"%05d" % number
         if name not in told:
-            yield Result(case.name, [f"it did not run: {done.stderr[-300:]!r}"])
+            yield Result(case.name, [f"it did not run: {errors[-300:]!r}"])
             continue
         found = Ended(told[name][0], printed.get(name, b""), told[name][1])
         yield Result(case.name, list(difference(found, case.wanted)))
