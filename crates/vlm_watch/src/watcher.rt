@@ -132,8 +132,8 @@ impl Watcher {
         replace_with(self, told, |watcher, told| watcher.learning(told))
     }
 
-    /// Whether the row that it showed last is of the last change that is told here. The told value is of the same hub. It
-    /// takes the same time however much is held.
+    /// Whether the row that it showed last is of the change that `told` carries, and of no later one. `told` is of the same
+    /// hub. It takes constant time.
     pub fn has_seen(&self, told: &Told) -> bool
         requires { told_board told.now ≡ board_of self.now }
         ensures { IsTrue result → seen self.now ≡ told_changes told.now }

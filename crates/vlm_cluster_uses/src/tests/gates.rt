@@ -67,7 +67,7 @@ impl Gate for Meeting {
     fn after(&mut self, _item: &Item) {}
 }
 
-/// One that follows waits before a post until the other was told an item, and stops if it is told none.
+/// A follower waits before a post until the other gate got an item, and stops if that got none.
 #[derive(Drop)]
 pub struct Following {
     pub told: Arc<AtomicU64>,
@@ -156,7 +156,7 @@ impl Gate for Slow {
     }
 }
 
-/// So many such gates, and what each hears.
+/// Gates of this kind, and what each hears.
 pub fn slow_gates(alloc: Global, count: usize) -> Result<(Vec<Slow>, Vec<Arc<Heard>>), AllocError> {
     let mut gates = Vec::new(alloc);
     let mut all = Vec::new(alloc);

@@ -69,7 +69,7 @@ fn serve_both(rt: &impl Abort, pair: &mut Pair) {
     assert!(rt; is_answer(pair.take(Second), Answer::Victim(None)));
 }
 
-// The journal grows behind the first entry of a turn, too.
+// The journal grows after the first entry of a turn, too.
 #[test]
 fn a_turn_tells_of_want_of_memory(rt: HostRuntime) -> Result<(), Fail> {
     let mut pair = pair_of(rt.alloc())?;
