@@ -123,7 +123,7 @@ impl Line {
     }
 
     /// Both ends in one hand: what the port posted and the hub has not taken, and what the hub sent and the port has not
-    /// taken, at most 64 each. Each place that holds none is then known to be free.
+    /// taken, at most 64 each. Then each empty place is known to be free.
     pub(crate) fn settle(&mut self, port: &mut Port) -> Settled
         requires { line_identity self.old ≡ identity port.old }
         ensures rings { line_identity self.new ≡ line_identity self.old }
