@@ -125,6 +125,18 @@ def help_forms(_program):
             yield f"man/vlm.1 has no {form}"
 
 
+def flags(_program):
+    """The manual page, docs/SCRIPT.md and docs/MACHINE.md name each flag of a request that the help names."""
+    line = next(it for it in help_texts()["PLAY_HELP"].splitlines() if it.startswith("The flags are "))
+    named = re.findall(r"[a-z]+", line.removeprefix("The flags are ").replace(" and ", " "))
+    if len(named) < 9:
+        yield f"the help names {named}"
+    for flag in named:
+        for name, word in (("man/vlm.1", flag), ("docs/SCRIPT.md", f"`{flag}`"), ("docs/MACHINE.md", flag.upper())):
+            if word not in text_of(name):
+                yield f"{name} has no {word}"
+
+
 def version(_program):
     """One version, in the program, the package for Rust, the changes and the manual page."""
     wanted = help_texts()["VERSION"]
@@ -195,7 +207,7 @@ def functions(_program):
 
 
 def checks():
-    return (functions, short_readme, crate_table, laws, refusals, sizes, help_forms, version, kit, links, files, parts)
+    return (functions, short_readme, crate_table, laws, refusals, sizes, help_forms, flags, version, kit, links, files, parts)
 
 
 def blocks():
