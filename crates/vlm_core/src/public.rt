@@ -13,9 +13,8 @@ ghost use Rattle.vlm_machine.specs.Between.{IsBetweenSteps};
 
 use std::alloc::Global;
 use std::marker::Model;
-use vlm_cycle::Scratch;
 use vlm_locks::Touched;
-use vlm_machine::Machine;
+use vlm_machine::{Machine, Scratch};
 use vlm_store::laws::law_records_are_sound;
 use vlm_store::{HashKeys, Store};
 use vlm_words::laws::{

@@ -119,6 +119,20 @@ Happens nodes w (lose node) v = Loses w node v
 Happens nodes w (send node) v = Sends nodes w node v
 Happens nodes w (take node) v = Takes nodes w node v
 
+-- what the hub asks for by itself at an event: the take of a draw, and the departure of a node that is lost
+abbrev pub own_step : Event → List Step
+own_step (draw pid) = Take pid ∷ []
+own_step (lose node) = Leave node ∷ []
+own_step (post node step) = []
+own_step (serve node) = []
+own_step (send node) = []
+own_step (take node) = []
+
+-- what the hub asks for by itself, in order
+abbrev pub own_steps : List Event → List Step
+own_steps [] = []
+own_steps (event ∷ events) = own_step event ++ own_steps events
+
 -- the events of so many nodes and their hub lead to the world
 pub data Reached (nodes : ℕ) : List Event → World → Type 0 where
   begin : Reached nodes [] first_world

@@ -15,7 +15,8 @@ ghost use Rattle.vlm_journal.specs.Departed.{IsAnsweredDeparted, ShowsDeparture,
 ghost use Rattle.vlm_journal.specs.Drawing.{GivesAst};
 ghost use Rattle.vlm_journal.specs.Journals.{IsAllowed, Journal, JournalFrom, answers_of, steps_of};
 ghost use Rattle.vlm_journal.specs.Lengthening.{IsSilent, LengthensLittle};
-ghost use Rattle.vlm_journal.specs.Worlds.{Event, IsRight, Reached, World};
+ghost use Rattle.vlm_journal.specs.Told.{asked};
+ghost use Rattle.vlm_journal.specs.Worlds.{Event, IsRight, Reached, World, own_steps};
 
 use vlm_laws::laws::{
     law_a_departed_node_is_answered_departed, law_no_process_of_a_departed_node_lives,
@@ -80,8 +81,11 @@ pub fn law_draw()
 /// After whatever has happened between a hub and its nodes, of which there are up to 8, the journal is legal. What is
 /// served of a node's posts is what the node asked for by the journal, and it is the first of what it posted. What is
 /// sent to it is the first of what the journal tells it, and what it has received is the first of that. No more than 64
-/// of its posts are not served, and no more than 64 items that are sent are not received.
+/// of its posts are not served, and no more than 64 items that are sent are not received. By itself the hub has taken the
+/// ASTs that it drew and has departed the nodes that were lost, in that order, and nothing else.
 pub fn law_world()
-    ensures { (nodes : ℕ) → nodes ≤ 8 → (events : List Event) (world : World)
+    ensures right { (nodes : ℕ) → nodes ≤ 8 → (events : List Event) (world : World)
         → Reached nodes events world → IsRight nodes world }
+    ensures own { (nodes : ℕ) → nodes ≤ 8 → (events : List Event) (world : World)
+        → Reached nodes events world → asked 0 world.journal ≡ own_steps events }
 {}

@@ -28,3 +28,4 @@ mod taking;
 
 pub use processes::{Caller, living};
 pub use records::Machine;
+pub use vlm_cycle::Scratch;
