@@ -181,7 +181,7 @@ fn serve<R: Wait>(rt: &R, hub: &mut Hub, port: &mut Port, step: &Step, times: us
 // Has each watcher look so many times, in a thread of its own.
 fn look_all<R: Threads + Sync>(rt: &R, onlookers: &mut Vec<Onlooker>, times: usize)
     requires { All (λ o. 0 < o.watcher.keys) onlookers.old.items }
-    ensures { LookedOn onlookers.old.items onlookers.new.items }
+    ensures { LookedOn (λ o. o.watcher) onlookers.old.items onlookers.new.items }
 {
     for_each_mut(rt, onlookers.as_mut_slice(), 8, &|_, o| o.look_often(times));
 }
@@ -201,13 +201,13 @@ fn look_beside<R: Threads + Wait + Sync>(
     requires keys { All (λ o. 0 < o.watcher.keys) onlookers.old.items }
     ensures ours { IsPortOf hub.new port.new }
     ensures watched { IsWatchedAsBefore hub.old hub.new }
-    ensures looked { LookedOn onlookers.old.items onlookers.new.items }
+    ensures looked { LookedOn (λ o. o.watcher) onlookers.old.items onlookers.new.items }
 {
     join_mut(
         rt,
         &mut ||
             requires { All (λ o. 0 < o.watcher.keys) onlookers.now.items }
-            ensures { LookedOn onlookers.entry.now.items onlookers.exit.now.items }
+            ensures { LookedOn (λ o. o.watcher) onlookers.entry.now.items onlookers.exit.now.items }
         { look_all(rt, onlookers, looks) },
         &mut ||
             requires { IsPortOf hub.now port.now × IsWatched hub.now }
