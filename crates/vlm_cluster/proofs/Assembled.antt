@@ -166,10 +166,10 @@ ports_of_works never ports lists dones h new works few_ports few_lists same k d 
     )
 
 -- what each worker was given, and what it made of that
-pub works_of : {G : Type 0} (never : Bool) (ports : List Port) (lists : List StepList) (children : List (PromisedHandle (Done G) Given)) (dones : List (Done G)) (n : ℕ)
-    → ((k : ℕ) (h : PromisedHandle (Done G) Given) (p : Port) (l : StepList) → k < n
+pub works_of : {G : Type 0} (never : Bool) (ports : List Port) (lists : List StepList) (children : List (PromisedHandle (Done G) (Given G))) (dones : List (Done G)) (n : ℕ)
+    → ((k : ℕ) (h : PromisedHandle (Done G) (Given G)) (p : Port) (l : StepList) → k < n
     → ((get_or children k h).promise.port.value ≡ get_or ports k p) × ((get_or children k h).promise.list.value ≡ get_or lists k l))
-    → ((k : ℕ) (d : Done G) (h : PromisedHandle (Done G) Given) → k < n
+    → ((k : ℕ) (d : Done G) (h : PromisedHandle (Done G) (Given G)) → k < n
     → IsWorkOn never (get_or children k h).promise.port.value (get_or children k h).promise.list.value.items (work_of (get_or dones k d)))
     → length dones ≡ n → length children ≡ n → AreWorks never ports lists dones
 works_of {G} never ports lists children dones n given made same long k d p l lt =

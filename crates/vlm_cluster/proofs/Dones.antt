@@ -1,8 +1,9 @@
 -- What workers hand back, while it is settled.
-use Rattle.std.proofs.Common.{◌≡◌, ◌≢◌, ◌+◌, ◌-◌, ◌<◌, ℕ, zero, suc, List, [], ◌∷◌, ◌++◌, Some, length, map, get_or, replicate, set, take, refl, sym, ap, ◌∙◌, subst, arith, get_or-set_same, get_or-set_other, below_more}
+use Rattle.std.proofs.Common.{◌≡◌, ◌≢◌, ◌+◌, ◌-◌, ◌<◌, ℕ, zero, suc, List, [], ◌∷◌, ◌++◌, Some, length, map, get_or, replicate, set, take, refl, sym, ap, ◌∙◌, subst, arith, inl, inr, get_or-set_same, get_or-set_other, below_more}
 use Rattle.std.specs.List.{slice_get}
 use Rattle.std.proofs.Math.Seq.{map-set_same}
-use Rattle.std.proofs.lemmas.List.{get_or-map, length-map, take-append-le, take_all}
+use Rattle.std.proofs.lemmas.Bool.{cases_eq}
+use Rattle.std.proofs.lemmas.List.{get_or-map, get_or_default, length-map, take-append-le, take_all}
 use Rattle.vlm_journal.specs.declared.entries.Entry.{Entry}
 use Rattle.vlm_ports.specs.declared.hub.Hub.{Hub}
 use Rattle.vlm_ports.specs.Hubs.{rings}
@@ -10,7 +11,9 @@ use Rattle.vlm_ports.specs.Ports.{identity}
 use Rattle.vlm_ports.specs.Rings.{RingName}
 use Rattle.vlm_cluster.specs.declared.worker.Done.{Done}
 use Rattle.vlm_cluster.specs.Headline.{Items}
-use Rattle.vlm_cluster.specs.Works.{AreBegun, ArePortsOf, AreWhole, IsBegun, IsWhole, Work, work_of}
+use Rattle.vlm_cluster.specs.Gates.{IsTold, IsToldOn, Moves, Point}
+use Rattle.vlm_cluster.specs.Works.{AreBegun, ArePortsOf, AreTold, AreWhole, IsBegun, IsWhole, Work, point_of, work_of}
+use Rattle.vlm_cluster.proofs.Guides.{told_none, told_then}
 
 -- an element of a list that is long enough
 pub element : {X : Type 0} (xs : List X) (k : ℕ) → k < length xs → X
@@ -76,6 +79,25 @@ module _ {G : Type 0} where
       (subst P (sym (get_or-set_same ds at d e lt)) here)
       k below
 
+  pub told_same : (moves : Moves G) (ds : List (Done G)) → AreTold moves ds ds
+  told_same moves ds k d below = told_none moves (point_of (get_or ds k d))
+
+  pub told_on : (moves : Moves G) (ds xs ys : List (Done G)) → length ds ≡ length xs → AreTold moves ds xs → AreTold moves xs ys → AreTold moves ds ys
+  told_on moves ds xs ys long first second k d below =
+      told_then moves (point_of (get_or ds k d)) (point_of (get_or xs k d)) (point_of (get_or ys k d)) (first k d below) (second k d (omega (arith, long, below)))
+
+  pub told_set : (moves : Moves G) (ds xs : List (Done G)) (at : ℕ) (d was : Done G) → at < length xs → AreTold moves ds xs
+      → IsTold moves (point_of (get_or xs at was)) (point_of d) → AreTold moves ds (set xs at d)
+  told_set moves ds xs at d was lt before here k e below =
+      let first : Point G = point_of (get_or ds k e) in elim (cases_eq k at) [
+        | inl same ↦
+            let is : get_or xs k e ≡ get_or xs at was = ap (λ (m : ℕ). get_or xs m e) same ∙ get_or_default xs at e was lt in
+            let new : get_or (set xs at d) k e ≡ d = ap (λ (m : ℕ). get_or (set xs at d) m e) same ∙ get_or-set_same xs at d e lt in
+            subst (λ (x : Done G). IsTold moves first (point_of x)) (sym new)
+            (told_then moves first (point_of (get_or xs at was)) (point_of d) (subst (λ (x : Done G). IsTold moves first (point_of x)) is (before k e below)) here)
+        | inr other ↦ subst (λ (x : Done G). IsTold moves first (point_of x)) (sym (get_or-set_other xs at k d e other)) (before k e below)
+      ]
+
   -- what was taken and settled, of what was handed back
   module _ (ds xs : List (Done G)) (es : List Entry) (vs : List Items) (same : map work_of xs ≡ map work_of ds)
       (are : vs ≡ map (λ (x : Done G). x.basket.items) xs) where
@@ -95,3 +117,11 @@ module _ {G : Type 0} where
         let lt : k < length xs = omega (arith, n, below) in
         subst (λ (w : Work). IsWhole es w (get_or vs k v).items) (work_at xs ds same k d lt)
         (subst (λ (x : Items). IsWhole es (work_of (get_or xs k d)) x.items) (sym (item_at k d v lt)) (whole k d lt))
+
+    pub told_at : (moves : Moves G) → AreTold moves ds xs → (k : ℕ) (d : Done G) (v : Items) → k < length ds → IsToldOn moves (point_of (get_or ds k d)) (get_or vs k v).items
+    told_at moves told k d v below =
+        let n = as_many xs ds same in
+        let lt : k < length xs = omega (arith, n, below) in (
+          (get_or xs k d).gate,
+          subst (λ (x : Items). IsTold moves (point_of (get_or ds k d)) ((get_or xs k d).gate, x.items)) (sym (item_at k d v lt)) (told k d below),
+        )

@@ -1,5 +1,5 @@
 -- What a run of lists comes to.
-use Rattle.std.specs.Prelude.{◌≡◌, ◌<◌, ◌≤◌, ◌+◌, ◌++◌, ℕ, Bool, true, IfErr, IfOk, Result, List, [], ◌∷◌, None, Option, Some, length, slice_get, take, ⊤}
+use Rattle.std.specs.Prelude.{◌≡◌, ◌<◌, ◌≤◌, ◌+◌, ◌++◌, ℕ, Bool, true, false, IfErr, IfOk, Result, List, [], ◌∷◌, None, Option, Some, length, slice_get, take, ⊤}
 use Rattle.std.specs.declared.alloc.Global.{Global}
 use Rattle.std.specs.declared.vec.Vec.{Vec}
 use mathlib.Core.List.{IsPrefix}
@@ -19,6 +19,7 @@ use Rattle.vlm_ports.specs.Hubs.{HubTakesAlone}
 use Rattle.vlm_cluster.specs.declared.report.Fault.{Fault}
 use Rattle.vlm_cluster.specs.declared.report.Fault.TheVariants.{Memory}
 use Rattle.vlm_cluster.specs.declared.report.Report.{Report}
+use Rattle.vlm_cluster.specs.Gates.{IsFollowed, Moves}
 use Rattle.vlm_cluster.specs.Parts.{AreNumbered}
 use Rattle.vlm_cluster.specs.Reports.{entries_of, parts_of}
 
@@ -107,3 +108,24 @@ pub record IsServing (never_stops : Bool) (lists : List StepList) (result : Resu
   pub once : IfOk result (λ r. RequestsEndOnce (entries_of r) r.core)
   pub order : IfOk result (λ r. GrantsKeepOrder (entries_of r) r.core)
   pub cut_short : IfErr result (λ fault. IsCutShort lists fault)
+
+-- each list was posted as its gate said: the gate was told the items of the report, and let through what was posted,
+-- which is all of the list or all before a stop
+abbrev pub AreGated : {G : Type 0} → Moves G → List G → List StepList → Report → Type 0
+AreGated {G} moves gates lists r = (k n : ℕ) (gate : G) (list : StepList) (items : Items)
+    → slice_get gates k ≡ Some gate → slice_get lists k ≡ Some list
+    → slice_get r.posted.items k ≡ Some n → slice_get r.items.items k ≡ Some items
+    → (last : G) × IsFollowed moves (gate, []) (last, items.items) (length list.items) n true
+
+-- the same of workers that may have ended early: the items of the report are the first of those that the gate was told
+abbrev pub AreGatedInPart : {G : Type 0} → Moves G → List G → List StepList → Report → Type 0
+AreGatedInPart {G} moves gates lists r = (k n : ℕ) (gate : G) (list : StepList) (items : Items)
+    → slice_get gates k ≡ Some gate → slice_get lists k ≡ Some list
+    → slice_get r.posted.items k ≡ Some n → slice_get r.items.items k ≡ Some items
+    → (last : G) × (told : List Item) × IsPrefix items.items told
+    × IsFollowed moves (gate, []) (last, told) (length list.items) n false
+
+-- where memory was refused and something was started, that holds
+abbrev pub IsGatedFault : {G : Type 0} → Moves G → List G → List StepList → Fault → Type 0
+IsGatedFault moves gates lists (Memory None) = ⊤
+IsGatedFault moves gates lists (Memory (Some r)) = AreGatedInPart moves gates lists r

@@ -1,4 +1,5 @@
 pub mod Posts
+pub mod Gates
 pub mod Parts
 pub mod Settling
 pub mod Works

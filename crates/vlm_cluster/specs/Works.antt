@@ -13,6 +13,7 @@ use Rattle.vlm_ports.specs.Ports.{identity, posted}
 use Rattle.vlm_ports.specs.Rings.{RingName}
 use Rattle.vlm_cluster.specs.declared.desk.Desk.{Desk}
 use Rattle.vlm_cluster.specs.declared.worker.Done.{Done}
+use Rattle.vlm_cluster.specs.Gates.{IsFollowed, IsTold, Moves, Point}
 use Rattle.vlm_cluster.specs.Parts.{entries_in}
 
 -- the departure, if it was posted
@@ -68,3 +69,16 @@ AreBegun {G} entries dones n = (k : ℕ) (d : Done G) → k < n
 abbrev pub AreWhole : {G : Type 0} → List Entry → List (Done G) → ℕ → Type 0
 AreWhole {G} entries dones n = (k : ℕ) (d : Done G) → k < n
     → IsWhole entries (work_of (slice_index_or dones k d)) (slice_index_or dones k d).basket.items.items
+
+-- the gate of a worker, and the items that it has taken
+abbrev pub point_of : {G : Type 0} → Done G → Point G
+point_of d = (d.gate, d.basket.items.items)
+
+-- the worker has posted its list as this gate said, in the state that it was given in
+abbrev pub IsGatedWork : {G : Type 0} → Moves G → G → List Step → Done G → Type 0
+IsGatedWork moves gate list d = IsFollowed moves (gate, []) (point_of d) (length list) d.posted d.left
+
+-- each worker's gate was told the items that were taken of its port, and was asked nothing
+abbrev pub AreTold : {G : Type 0} → Moves G → List (Done G) → List (Done G) → Type 0
+AreTold {G} moves old new = (k : ℕ) (d : Done G) → k < length old
+    → IsTold moves (point_of (slice_index_or old k d)) (point_of (slice_index_or new k d))

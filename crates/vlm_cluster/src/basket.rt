@@ -5,6 +5,7 @@ ghost use Rattle.vlm_journal.specs.Journals.{IsPostOf};
 ghost use Rattle.vlm_words.specs.declared.steps.Step.TheVariants.{Leave};
 ghost use Rattle.vlm_ports.specs.Hubs.{IsPortOf};
 ghost use Rattle.vlm_ports.specs.Ports.{identity, posted, taken};
+ghost use Rattle.vlm_cluster.specs.Gates.{IsTold, moves};
 ghost use Rattle.vlm_cluster.specs.Settling.{HasBegun, asked_by, standing, told_by};
 
 use crate::gate::Gate;
@@ -36,7 +37,8 @@ impl Basket {
     /// Of a port from which nothing was taken.
     pub(crate) fn new(alloc: Global, port: Port) -> Basket
         requires { taken port ≡ [] }
-        ensures { result.port ≡ port }
+        ensures port { result.port ≡ port }
+        ensures none { result.items.items ≡ [] }
     {
         Basket {
             port,
@@ -51,6 +53,8 @@ impl Basket {
     pub(crate) fn collect<G: Gate>(&mut self, gate: &mut G) -> Result<bool, AllocError>
         ensures same { identity self.new.port ≡ identity self.old.port }
         ensures posted { posted self.new.port ≡ posted self.old.port }
+        ensures told { IsTold (moves G.answers G.hears)
+            (gate.old, self.old.items.items) (gate.new, self.new.items.items) }
     {
         self.items.reserve(1)?;
         let Some(item) = self.port.take() else {
@@ -74,6 +78,8 @@ impl Basket {
     ) -> Result<(), Early>
         ensures same { identity self.new.port ≡ identity self.old.port }
         ensures posted { posted self.new.port ≡ posted self.old.port }
+        ensures told { IsTold (moves G.answers G.hears)
+            (gate.old, self.old.items.items) (gate.new, self.new.items.items) }
     {
         if signals.is_stopped() {
             return Err(Early);
@@ -101,6 +107,8 @@ impl Basket {
         ensures same { identity self.new.port ≡ identity self.old.port }
         ensures ok { OnOk result (posted self.new.port ≡ posted self.old.port ++ step.now ∷ []) }
         ensures early { OnErr result (posted self.new.port ≡ posted self.old.port) }
+        ensures told { IsTold (moves G.answers G.hears)
+            (gate.old, self.old.items.items) (gate.new, self.new.items.items) }
     {
         for _ in rt.forever() {
             if let Ok(()) = self.port.post(*step) {
@@ -122,6 +130,8 @@ impl Basket {
         ensures ok { OnOk result (posted self.new.port
             ≡ posted self.old.port ++ Leave self.old.port.node ∷ []) }
         ensures early { OnErr result (posted self.new.port ≡ posted self.old.port) }
+        ensures told { IsTold (moves G.answers G.hears)
+            (gate.old, self.old.items.items) (gate.new, self.new.items.items) }
     {
         for _ in rt.forever() {
             if let Ok(()) = self.port.bye() {
@@ -142,6 +152,8 @@ impl Basket {
     ) -> Result<(), Early>
         ensures same { identity self.new.port ≡ identity self.old.port }
         ensures posted { posted self.new.port ≡ posted self.old.port }
+        ensures told { IsTold (moves G.answers G.hears)
+            (gate.old, self.old.items.items) (gate.new, self.new.items.items) }
     {
         for _ in rt.forever() {
             if self.answers >= count {
@@ -159,6 +171,7 @@ impl Basket {
         ensures same { (identity self.new.port ≡ identity self.old.port)
             × (posted self.new.port ≡ posted self.old.port)
             × (taken self.new.port ≡ taken self.old.port) }
+        ensures kept { self.new.items ≡ self.old.items }
         ensures begun { HasBegun hub.new self.new.port }
         ensures steps { result.steps ≡ 0
             → asked_by hub.new self.new.port.node ≡ posted self.new.port }

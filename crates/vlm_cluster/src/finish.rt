@@ -3,9 +3,10 @@
 ghost use Rattle.std.specs.Prelude.{◌≡◌, ◌<◌, ◌≤◌, [], ℕ, IsTrue, length, map, replicate, slice_index, slice_index_or, vec_capacity, vec_len};
 ghost use Rattle.vlm_journal.specs.Journals.{Journal};
 ghost use Rattle.vlm_ports.specs.Hubs.{HubTakesAlone};
+ghost use Rattle.vlm_cluster.specs.Gates.{IsToldOn, moves};
 ghost use Rattle.vlm_cluster.specs.Parts.{AreNumbered, HaveEnough, IsAccounted};
 ghost use Rattle.vlm_cluster.specs.Reports.{entries_of, parts_of};
-ghost use Rattle.vlm_cluster.specs.Works.{ArePortsOf, IsBegun, IsWhole, entries_at, work_of};
+ghost use Rattle.vlm_cluster.specs.Works.{ArePortsOf, IsBegun, IsWhole, entries_at, point_of, work_of};
 
 use crate::desk::Desk;
 use crate::gate::Gate;
@@ -51,6 +52,9 @@ pub(crate) fn finish<G: Gate>(
         (slice_index_or result.report.items.items k v).items }
     ensures whole { IsTrue result.whole → (k : ℕ) (d : _) (v : _) → k < vec_len dones
         → IsWhole (entries_of result.report) (work_of (slice_index_or dones.items k d))
+        (slice_index_or result.report.items.items k v).items }
+    ensures told { (k : ℕ) (d : _) (v : _) → k < vec_len dones
+        → IsToldOn (moves G.answers G.hears) (point_of (slice_index_or dones.items k d))
         (slice_index_or result.report.items.items k v).items }
 {
     let mut desk = desk;

@@ -16,7 +16,7 @@ use vlm_journal::entries::Item;
 pub(crate) struct Room<G: Gate> {
     pub(crate) signals: Arc<Signals>,
     /// Room for the handles of the workers.
-    pub(crate) children: Vec<PromisedHandle<Done<G>, Given>>,
+    pub(crate) children: Vec<PromisedHandle<Done<G>, Given<G>>>,
     /// Room for what they hand back.
     pub(crate) dones: Vec<Done<G>>,
     /// Room for what each is told.

@@ -4,7 +4,8 @@ ghost use Rattle.std.specs.Prelude.{◌≡◌, ◌<◌, ◌≤◌, [], MatchResu
 ghost use Rattle.vlm_words.specs.State.{start};
 ghost use Rattle.vlm_ports.specs.Hubs.{rings};
 ghost use Rattle.vlm_ports.specs.Ports.{AreNew, identity};
-ghost use Rattle.vlm_cluster.specs.Headline.{IsServing};
+ghost use Rattle.vlm_cluster.specs.Gates.{moves};
+ghost use Rattle.vlm_cluster.specs.Headline.{AreGated, IsGatedFault, IsServing};
 ghost use Rattle.vlm_cluster.specs.Parts.{IsAccounted};
 ghost use Rattle.vlm_cluster.specs.Posts.{AreListsOfPosts};
 ghost use Rattle.vlm_cluster.specs.Reports.{IsParted, IsPartedFault};
@@ -45,6 +46,9 @@ pub fn serve_lists<R: Threads + Wait + Clock + Copy + Send + 'static, G: Gate + 
     requires posts { AreListsOfPosts lists.items }
     requires every { 0 < every }
     ensures serving { IsServing G.never_stops lists.items result }
+    ensures gated { MatchResult result
+        (AreGated (moves G.answers G.hears) gates.items lists.items)
+        (IsGatedFault (moves G.answers G.hears) gates.items lists.items) }
     ensures parts { MatchResult result (IsParted every) (IsPartedFault every) }
 {
     serve_lists_over(rt, alloc, Core::new(alloc), gates, lists, every)
@@ -68,6 +72,9 @@ pub fn serve_lists_over<
     requires posts { AreListsOfPosts lists.items }
     requires every { 0 < every }
     ensures serving { IsServing G.never_stops lists.items result }
+    ensures gated { MatchResult result
+        (AreGated (moves G.answers G.hears) gates.items lists.items)
+        (IsGatedFault (moves G.answers G.hears) gates.items lists.items) }
     ensures parts { MatchResult result (IsParted every) (IsPartedFault every) }
 {
     let Ok(room) = Room::new(alloc, lists.len()) else {
@@ -100,6 +107,9 @@ fn run<R: Threads + Wait + Clock + Copy + Send + 'static, G: Gate + Send + 'stat
     requires items { (vec_len room.items ≡ 0) × (vec_len lists ≤ vec_capacity room.items) }
     requires posted { room.posted.items ≡ replicate (vec_len lists) 0 }
     ensures serving { IsServing G.never_stops lists.items result }
+    ensures gated { MatchResult result
+        (AreGated (moves G.answers G.hears) gates.items lists.items)
+        (IsGatedFault (moves G.answers G.hears) gates.items lists.items) }
     ensures parts { MatchResult result (IsParted desk.every) (IsPartedFault desk.every) }
 {
     let Room {

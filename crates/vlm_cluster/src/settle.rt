@@ -2,8 +2,9 @@
 
 ghost use Rattle.std.specs.Prelude.{◌≡◌, ◌<◌, IsTrue, OnOk, length, map};
 ghost use Rattle.vlm_ports.specs.Hubs.{IsPortOf, journal, rings};
+ghost use Rattle.vlm_cluster.specs.Gates.{IsTold, moves};
 ghost use Rattle.vlm_cluster.specs.Parts.{IsAccounted};
-ghost use Rattle.vlm_cluster.specs.Works.{AreBegun, ArePortsOf, AreWhole, IsBegun, IsWhole, entries_at, work_of};
+ghost use Rattle.vlm_cluster.specs.Works.{AreBegun, ArePortsOf, AreTold, AreWhole, IsBegun, IsWhole, entries_at, point_of, work_of};
 
 use crate::desk::Desk;
 use crate::gate::Gate;
@@ -23,6 +24,7 @@ pub(crate) fn close<G: Gate>(
     requires ports { ArePortsOf desk.old.hub dones.old }
     requires accounted { IsAccounted desk.old.parts.items desk.old.hub }
     ensures same { map work_of dones.new ≡ map work_of dones.old }
+    ensures told { AreTold (moves G.answers G.hears) dones.old dones.new }
     ensures accounted { IsAccounted desk.new.parts.items desk.new.hub }
     ensures every { desk.new.every ≡ desk.old.every }
     ensures few { IsTrue result → length (journal desk.new.hub) < desk.new.every }
@@ -44,6 +46,7 @@ fn serve_rest<G: Gate>(
     requires accounted { IsAccounted desk.old.parts.items desk.old.hub }
     ensures rings { rings desk.new.hub ≡ rings desk.old.hub }
     ensures same { map work_of dones.new ≡ map work_of dones.old }
+    ensures told { AreTold (moves G.answers G.hears) dones.old dones.new }
     ensures accounted { IsAccounted desk.new.parts.items desk.new.hub }
     ensures every { desk.new.every ≡ desk.old.every }
     ensures few { OnOk result (length (journal desk.new.hub) < desk.new.every) }
@@ -67,6 +70,7 @@ fn settle_all<G: Gate>(desk: &mut Desk, dones: &mut [Done<G>]) -> bool
     requires accounted { IsAccounted desk.old.parts.items desk.old.hub }
     ensures rings { rings desk.new.hub ≡ rings desk.old.hub }
     ensures same { map work_of dones.new ≡ map work_of dones.old }
+    ensures told { AreTold (moves G.answers G.hears) dones.old dones.new }
     ensures accounted { IsAccounted desk.new.parts.items desk.new.hub }
     ensures journal { journal desk.new.hub ≡ journal desk.old.hub }
     ensures every { desk.new.every ≡ desk.old.every }
@@ -92,6 +96,7 @@ fn settle<G: Gate>(desk: &mut Desk, done: &mut Done<G>) -> bool
     ensures journal { journal desk.new.hub ≡ journal desk.old.hub }
     ensures every { desk.new.every ≡ desk.old.every }
     ensures same { work_of done.new ≡ work_of done.old }
+    ensures told { IsTold (moves G.answers G.hears) (point_of done.old) (point_of done.new) }
     ensures accounted { IsAccounted desk.new.parts.items desk.new.hub }
     ensures begun { IsBegun (entries_at desk.new) (work_of done.new) done.new.basket.items.items }
     ensures whole { IsTrue result
@@ -106,7 +111,8 @@ fn settle<G: Gate>(desk: &mut Desk, done: &mut Done<G>) -> bool
 
 // Takes an item of each port that knows one, and tells the gate of its list.
 fn collect_all<G: Gate>(dones: &mut [Done<G>]) -> Result<(), AllocError>
-    ensures { map work_of dones.new ≡ map work_of dones.old }
+    ensures same { map work_of dones.new ≡ map work_of dones.old }
+    ensures told { AreTold (moves G.answers G.hears) dones.old dones.new }
 {
     for at in 0..dones.len() {
         let done = &mut dones[at];
@@ -117,7 +123,8 @@ fn collect_all<G: Gate>(dones: &mut [Done<G>]) -> Result<(), AllocError>
 
 // Takes an item, if the port knows one, and tells the gate.
 fn collect<G: Gate>(done: &mut Done<G>) -> Result<bool, AllocError>
-    ensures { work_of done.new ≡ work_of done.old }
+    ensures same { work_of done.new ≡ work_of done.old }
+    ensures told { IsTold (moves G.answers G.hears) (point_of done.old) (point_of done.new) }
 {
     done.basket.collect(&mut done.gate)
 }

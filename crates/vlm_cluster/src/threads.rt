@@ -2,8 +2,9 @@
 
 ghost use Rattle.std.specs.Prelude.{◌≡◌, ◌<◌, ◌≤◌, [], ℕ, IfOk, slice_index_or, vec_capacity, vec_len};
 ghost use Rattle.vlm_ports.specs.Ports.{AreNew, posted, taken};
+ghost use Rattle.vlm_cluster.specs.Gates.{moves};
 ghost use Rattle.vlm_cluster.specs.Posts.{AreListsOfPosts, ArePostsOf};
-ghost use Rattle.vlm_cluster.specs.Works.{IsWorkOn, work_of};
+ghost use Rattle.vlm_cluster.specs.Works.{IsGatedWork, IsWorkOn, work_of};
 
 use crate::gate::Gate;
 use crate::signals::Signals;
@@ -19,14 +20,16 @@ use vlm_words::steps::Step;
 
 /// What a worker was given.
 #[derive(Drop)]
-pub(crate) struct Given {
+pub(crate) struct Given<G> {
+    pub(crate) gate: Snapshot<G>,
     pub(crate) port: Snapshot<Port>,
     pub(crate) list: Snapshot<Vec<Step>>,
 }
 
 // What the worker hands back is its work on that.
-impl<G: Gate> Promise<Done<G>> for Given {
-    ghost kept_by = { λ p r. IsWorkOn G.never_stops p.port.value p.list.value.items (work_of r) };
+impl<G: Gate> Promise<Done<G>> for Given<G> {
+    ghost kept_by = { λ p r. IsWorkOn G.never_stops p.port.value p.list.value.items (work_of r)
+        × IsGatedWork (moves G.answers G.hears) p.gate.value p.list.value.items r };
 }
 
 /// Starts a worker for each list, or for the first of them: where a thread is refused, all are to
@@ -38,7 +41,7 @@ pub(crate) fn start_all<
     rt: &R,
     alloc: Global,
     signals: &Arc<Signals>,
-    children: &mut Vec<PromisedHandle<Done<G>, Given>>,
+    children: &mut Vec<PromisedHandle<Done<G>, Given<G>>>,
     gates: Vec<G>,
     ports: Vec<Port>,
     lists: Vec<Vec<Step>>,
@@ -49,6 +52,9 @@ pub(crate) fn start_all<
     requires new { AreNew ports.items }
     requires posts { AreListsOfPosts lists.items }
     ensures few { vec_len children.new ≤ vec_len ports }
+    ensures gates { (k : ℕ) (h : _) (g : _) → k < vec_len children.new
+        → (slice_index_or children.new.items k h).promise.gate.value
+        ≡ slice_index_or gates.items k g }
     ensures each { (k : ℕ) (h : _) (p : _) (l : _) → k < vec_len children.new
         → ((slice_index_or children.new.items k h).promise.port.value
         ≡ slice_index_or ports.items k p)
@@ -78,14 +84,16 @@ fn start<R: Threads + Wait + Clock + Copy + Send + 'static, G: Gate + Send + 'st
     gate: G,
     port: Port,
     list: Vec<Step>,
-) -> Result<PromisedHandle<Done<G>, Given>, AllocError>
+) -> Result<PromisedHandle<Done<G>, Given<G>>, AllocError>
     requires new { (posted port ≡ []) × (taken port ≡ []) }
     requires posts { ArePostsOf port.node list.items }
+    ensures gate { IfOk result (λ h. h.promise.gate.value ≡ gate) }
     ensures port { IfOk result (λ h. h.promise.port.value ≡ port) }
     ensures list { IfOk result (λ h. h.promise.list.value ≡ list) }
 {
     let theirs = Arc::try_clone(signals)?;
     let given = Given {
+        gate: Snapshot::of(&gate),
         port: Snapshot::of(&port),
         list: Snapshot::of(&list),
     };
@@ -95,7 +103,8 @@ fn start<R: Threads + Wait + Clock + Copy + Send + 'static, G: Gate + Send + 'st
         given,
         move || -> Done<G>
             requires { (posted port ≡ []) × (taken port ≡ []) × ArePostsOf port.node list.items }
-            ensures { IsWorkOn G.never_stops port list.items (work_of result) }
+            ensures { IsWorkOn G.never_stops port list.items (work_of result)
+                × IsGatedWork (moves G.answers G.hears) gate list.items result }
         {
             let done = work(&handle, alloc, &theirs, gate, port, list.as_slice());
             theirs.end();
@@ -108,7 +117,7 @@ fn start<R: Threads + Wait + Clock + Copy + Send + 'static, G: Gate + Send + 'st
 /// Joins each worker, and puts in order what they hand back. It takes no memory.
 pub(crate) fn join_all<R: Threads, G: Gate + Send + 'static>(
     rt: &R,
-    children: Vec<PromisedHandle<Done<G>, Given>>,
+    children: Vec<PromisedHandle<Done<G>, Given<G>>>,
     dones: &mut Vec<Done<G>>,
 )
     requires none { vec_len dones.old ≡ 0 }
@@ -118,6 +127,11 @@ pub(crate) fn join_all<R: Threads, G: Gate + Send + 'static>(
         → IsWorkOn G.never_stops (slice_index_or children.items k h).promise.port.value
         (slice_index_or children.items k h).promise.list.value.items
         (work_of (slice_index_or dones.new.items k d)) }
+    ensures gated { (k : ℕ) (d : _) (h : _) → k < vec_len children
+        → IsGatedWork (moves G.answers G.hears)
+        (slice_index_or children.items k h).promise.gate.value
+        (slice_index_or children.items k h).promise.list.value.items
+        (slice_index_or dones.new.items k d) }
 {
     for child in children {
         dones.push_reserved(child.join(rt));

@@ -1,9 +1,10 @@
 //! A worker posts its list and the departure of its node.
 
-ghost use Rattle.std.specs.Prelude.{◌≡◌, ◌≤◌, ◌++◌, [], false, length, take, true};
+ghost use Rattle.std.specs.Prelude.{◌≡◌, ◌≤◌, ◌++◌, [], false, length, not, take, true};
 ghost use Rattle.vlm_ports.specs.Ports.{identity, posted, taken};
+ghost use Rattle.vlm_cluster.specs.Gates.{IsFollowed, moves};
 ghost use Rattle.vlm_cluster.specs.Posts.{ArePostsOf};
-ghost use Rattle.vlm_cluster.specs.Works.{IsWorkOn, work_of};
+ghost use Rattle.vlm_cluster.specs.Works.{IsGatedWork, IsWorkOn, work_of};
 
 use crate::basket::Basket;
 use crate::gate::{Gate, Go};
@@ -55,7 +56,8 @@ pub(crate) fn work<R: Wait + Clock, G: Gate>(
 ) -> Done<G>
     requires new { (posted port ≡ []) × (taken port ≡ []) }
     requires posts { ArePostsOf port.node list.now }
-    ensures { IsWorkOn G.never_stops port list.now (work_of result) }
+    ensures work { IsWorkOn G.never_stops port list.now (work_of result) }
+    ensures gated { IsGatedWork (moves G.answers G.hears) gate list.now result }
 {
     let mut gate = gate;
     let mut basket = Basket::new(alloc, port);
@@ -91,6 +93,9 @@ fn post_list<R: Wait + Clock, G: Gate>(
     ensures posted { posted basket.new.port ≡ posted basket.old.port ++ take result.count list.now }
     ensures within { result.count ≤ length list.now }
     ensures whole { G.never_stops ≡ true → result.early ≡ false → result.count ≡ length list.now }
+    ensures gated { IsFollowed (moves G.answers G.hears)
+        (gate.old, basket.old.items.items) (gate.new, basket.new.items.items)
+        (length list.now) result.count (not result.early) }
 {
     let mut next = 0usize;
     for _ in rt.forever() {

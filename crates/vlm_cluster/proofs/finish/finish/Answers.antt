@@ -1,8 +1,9 @@
 use Rattle.std.proofs.Common.{◌≡◌, ◌<◌, ℕ, List, length, map, get_or, drop, arith, sym, ap, ◌∙◌, subst}
 use Rattle.vlm_journal.specs.declared.entries.Entry.{Entry}
 use Rattle.vlm_cluster.specs.declared.worker.Done.{Done}
-use Rattle.vlm_cluster.specs.Works.{IsBegun, IsWhole, Work, entries_at, work_of}
-use Rattle.vlm_cluster.proofs.Dones.{after_lend, as_many, begun_at, whole_at, work_at}
+use Rattle.vlm_cluster.specs.Gates.{moves}
+use Rattle.vlm_cluster.specs.Works.{AreTold, IsBegun, IsWhole, Work, entries_at, work_of}
+use Rattle.vlm_cluster.proofs.Dones.{after_lend, as_many, begun_at, told_at, whole_at, work_at}
 use Rattle.vlm_cluster.proofs.finish.finish.Goals as goal
 
 pub returns-clause-posted : goal.returns-clause-posted
@@ -51,3 +52,18 @@ returns-clause-whole g c is k d v below =
     let lt : k < length ds = (let ok = c.args.dones.ok in omega (arith, below)) in
     subst (λ (es : List Entry). IsWhole es (work_of (get_or ds k d)) (get_or c.report.result.items.items k v).items) (sym c.report.ensures.entries)
     (whole_at ds xs (entries_at c.close-whole.new.desk) c.report.result.items.items same are (c.close-whole.ensures.whole is) k d v lt)
+
+pub returns-clause-told : goal.returns-clause-told
+returns-clause-told g c k d v below =
+    let D = Done g.row.G.Denot in
+    let ds : List D = c.args.dones.items in let xs : List D = c.close-whole.new.dones in
+    let M = moves g.G.Gate.answers g.G.Gate.hears in
+    let same : map work_of xs ≡ map work_of ds = c.close-whole.ensures.same ∙ ap (λ (ys : List D). map work_of ys) c.as_mut_slice.ensures.value in
+    let n = as_many xs ds same in
+    let long : length xs ≡ c.args.dones.len = (let ok = c.args.dones.ok in omega (arith, n)) in
+    let are : c.report.result.items.items ≡ map (λ (x : D). x.basket.items) xs =
+    ap (λ vs. vs.items) c.report.ensures.items ∙ c.take_items.ensures
+    ∙ ap (λ (ys : List D). map (λ (x : D). x.basket.items) ys) (after_lend c.args.dones.len xs (drop (length xs) ds) long) in
+    let lt : k < length ds = (let ok = c.args.dones.ok in omega (arith, below)) in
+    told_at ds xs (entries_at c.close-whole.new.desk) c.report.result.items.items same are M
+    (subst (λ (ys : List D). AreTold M ys xs) c.as_mut_slice.ensures.value c.close-whole.ensures.told) k d v lt

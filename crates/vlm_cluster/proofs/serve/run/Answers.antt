@@ -5,16 +5,19 @@ use Rattle.vlm_ports.specs.declared.port.Port.{Port}
 use Rattle.vlm_cluster.specs.declared.report.Report.{Report}
 use Rattle.vlm_cluster.specs.declared.threads.Given.{Given}
 use Rattle.vlm_cluster.specs.declared.worker.Done.{Done}
+use Rattle.vlm_cluster.specs.Gates.{Moves, moves}
 use Rattle.vlm_cluster.specs.Headline.{StepList}
 use Rattle.vlm_cluster.specs.Parts.{HaveEnough}
 use Rattle.vlm_cluster.proofs.Assembled.{AreNoted, AreWorks, all_posted, begun, given_up, ports_of_works, served, works_of}
+use Rattle.vlm_cluster.proofs.Dones.{element}
+use Rattle.vlm_cluster.proofs.Gated.{AreGatedWorks, gated, gated_by_none, gated_in_part, gated_works_of}
 use Rattle.vlm_cluster.proofs.serve.run.Goals as goal
 
 pub finish-finished-requires-clause-ports : goal.finish-finished-requires-clause-ports
 finish-finished-requires-clause-ports g c =
     let D = Done g.row.G.Denot in
     let ports : List Port = c.args.ports.items in let lists : List StepList = c.args.lists.items in
-    let children : List (PromisedHandle D Given) = c.start_all.new.children.items in let dones : List D = c.join_all-2.new.dones.items in
+    let children : List (PromisedHandle D (Given g.row.G.Denot)) = c.start_all.new.children.items in let dones : List D = c.join_all-2.new.dones.items in
     let op = c.args.ports.ok in let ol = c.args.lists.ok in let oc = c.start_all.new.children.ok in let od = c.join_all-2.new.dones.ok in
     let ports_are : vec_len c.args.ports ≡ vec_len c.args.lists = c.requires.lens.0 in
     let few : vec_len c.start_all.new.children ≤ vec_len c.args.ports = c.start_all.ensures.few in
@@ -30,7 +33,7 @@ pub returns-then-finished-clause-serving : goal.returns-then-finished-clause-ser
 returns-then-finished-clause-serving g c =
     let D = Done g.row.G.Denot in
     let ports : List Port = c.args.ports.items in let lists : List StepList = c.args.lists.items in
-    let children : List (PromisedHandle D Given) = c.start_all.new.children.items in let dones : List D = c.join_all-2.new.dones.items in
+    let children : List (PromisedHandle D (Given g.row.G.Denot)) = c.start_all.new.children.items in let dones : List D = c.join_all-2.new.dones.items in
     let op = c.args.ports.ok in let ol = c.args.lists.ok in let oc = c.start_all.new.children.ok in let od = c.join_all-2.new.dones.ok in
     let ports_are : vec_len c.args.ports ≡ vec_len c.args.lists = c.requires.lens.0 in
     let few : vec_len c.start_all.new.children ≤ vec_len c.args.ports = c.start_all.ensures.few in
@@ -64,7 +67,7 @@ pub returns-clause-serving : goal.returns-clause-serving
 returns-clause-serving g c =
     let D = Done g.row.G.Denot in
     let ports : List Port = c.args.ports.items in let lists : List StepList = c.args.lists.items in
-    let children : List (PromisedHandle D Given) = c.start_all.new.children.items in let dones : List D = c.join_all-2.new.dones.items in
+    let children : List (PromisedHandle D (Given g.row.G.Denot)) = c.start_all.new.children.items in let dones : List D = c.join_all-2.new.dones.items in
     let op = c.args.ports.ok in let ol = c.args.lists.ok in let oc = c.start_all.new.children.ok in let od = c.join_all-2.new.dones.ok in
     let ports_are : vec_len c.args.ports ≡ vec_len c.args.lists = c.requires.lens.0 in
     let few : vec_len c.start_all.new.children ≤ vec_len c.args.ports = c.start_all.ensures.few in
@@ -95,7 +98,7 @@ pub returns-then-started-count-clause-serving : goal.returns-then-started-count-
 returns-then-started-count-clause-serving g c =
     let D = Done g.row.G.Denot in
     let ports : List Port = c.args.ports.items in let lists : List StepList = c.args.lists.items in
-    let children : List (PromisedHandle D Given) = c.start_all.new.children.items in let dones : List D = c.join_all.new.dones.items in
+    let children : List (PromisedHandle D (Given g.row.G.Denot)) = c.start_all.new.children.items in let dones : List D = c.join_all.new.dones.items in
     let op = c.args.ports.ok in let ol = c.args.lists.ok in let oc = c.start_all.new.children.ok in let od = c.join_all.new.dones.ok in
     let ports_are : vec_len c.args.ports ≡ vec_len c.args.lists = c.requires.lens.0 in
     let few : vec_len c.start_all.new.children ≤ vec_len c.args.ports = c.start_all.ensures.few in
@@ -132,3 +135,57 @@ returns-then-finished-clause-parts g c =
       parts = subst (λ (n : ℕ). HaveEnough n r.parts.items) every c.finish-finished.ensures.enough;
       rest = subst (λ (n : ℕ). length r.rest.entries.items < n) every (c.finish-finished.ensures.rest c.if-finished.true);
     }
+
+pub returns-then-finished-clause-gated : goal.returns-then-finished-clause-gated
+returns-then-finished-clause-gated g c =
+    let D = Done g.row.G.Denot in let M : Moves g.row.G.Denot = moves g.G.Gate.answers g.G.Gate.hears in
+    let gates : List g.row.G.Denot = c.args.gates.items in let ports : List Port = c.args.ports.items in let lists : List StepList = c.args.lists.items in
+    let children : List (PromisedHandle D (Given g.row.G.Denot)) = c.start_all.new.children.items in let dones : List D = c.join_all-2.new.dones.items in
+    let op = c.args.ports.ok in let oc = c.start_all.new.children.ok in let od = c.join_all-2.new.dones.ok in
+    let few : vec_len c.start_all.new.children ≤ vec_len c.args.ports = c.start_all.ensures.few in
+    let joined : vec_len c.join_all-2.new.dones ≡ vec_len c.start_all.new.children = c.join_all-2.ensures.len in
+    let works : AreGatedWorks M gates lists dones =
+    gated_works_of M gates lists children dones (vec_len c.start_all.new.children) c.start_all.ensures.gates
+    (λ k h l lt. (c.start_all.ensures.each k h (element ports k (omega (arith, lt, few))) l lt).1) c.join_all-2.ensures.gated (omega arith) (omega arith) in
+    let r : Report = c.finish-finished.result.report in
+    let oi = r.items.ok in let counts = c.finish-finished.ensures.counts in
+    let items : length r.items.items ≡ length dones = omega arith in
+    let noted : AreNoted dones r.posted.items = λ k d lt. c.finish-finished.ensures.posted k d (omega arith) in
+    gated M gates lists dones r works noted items (λ k d v lt. c.finish-finished.ensures.told k d v (omega arith))
+    (λ k d lt. (c.finish-finished.ensures.whole c.if-finished.true k d (element r.items.items k (omega (arith, items, lt))) (omega arith)).left)
+
+pub returns-clause-gated : goal.returns-clause-gated
+returns-clause-gated g c =
+    let D = Done g.row.G.Denot in let M : Moves g.row.G.Denot = moves g.G.Gate.answers g.G.Gate.hears in
+    let gates : List g.row.G.Denot = c.args.gates.items in let ports : List Port = c.args.ports.items in let lists : List StepList = c.args.lists.items in
+    let children : List (PromisedHandle D (Given g.row.G.Denot)) = c.start_all.new.children.items in let dones : List D = c.join_all-2.new.dones.items in
+    let op = c.args.ports.ok in let oc = c.start_all.new.children.ok in let od = c.join_all-2.new.dones.ok in
+    let few : vec_len c.start_all.new.children ≤ vec_len c.args.ports = c.start_all.ensures.few in
+    let joined : vec_len c.join_all-2.new.dones ≡ vec_len c.start_all.new.children = c.join_all-2.ensures.len in
+    let works : AreGatedWorks M gates lists dones =
+    gated_works_of M gates lists children dones (vec_len c.start_all.new.children) c.start_all.ensures.gates
+    (λ k h l lt. (c.start_all.ensures.each k h (element ports k (omega (arith, lt, few))) l lt).1) c.join_all-2.ensures.gated (omega arith) (omega arith) in
+    let r : Report = c.finish-finished.result.report in
+    let oi = r.items.ok in let counts = c.finish-finished.ensures.counts in
+    let items : length r.items.items ≡ length dones = omega arith in
+    let noted : AreNoted dones r.posted.items = λ k d lt. c.finish-finished.ensures.posted k d (omega arith) in
+    gated_in_part M gates lists dones r works noted items (λ k d v lt. c.finish-finished.ensures.told k d v (omega arith))
+
+pub returns-then-started-count-clause-gated : goal.returns-then-started-count-clause-gated
+returns-then-started-count-clause-gated g c =
+    let D = Done g.row.G.Denot in let M : Moves g.row.G.Denot = moves g.G.Gate.answers g.G.Gate.hears in
+    let gates : List g.row.G.Denot = c.args.gates.items in let ports : List Port = c.args.ports.items in let lists : List StepList = c.args.lists.items in
+    let children : List (PromisedHandle D (Given g.row.G.Denot)) = c.start_all.new.children.items in let dones : List D = c.join_all.new.dones.items in
+    let op = c.args.ports.ok in let oc = c.start_all.new.children.ok in let od = c.join_all.new.dones.ok in
+    let few : vec_len c.start_all.new.children ≤ vec_len c.args.ports = c.start_all.ensures.few in
+    let joined : vec_len c.join_all.new.dones ≡ vec_len c.start_all.new.children = c.join_all.ensures.len in
+    let works : AreGatedWorks M gates lists dones =
+    gated_works_of M gates lists children dones (vec_len c.start_all.new.children) c.start_all.ensures.gates
+    (λ k h l lt. (c.start_all.ensures.each k h (element ports k (omega (arith, lt, few))) l lt).1) c.join_all.ensures.gated (omega arith) (omega arith) in
+    let r : Report = c.give_up-report.result in
+    let oi = r.items.ok in let counts = c.give_up-report.ensures.counts in
+    let now = c.as_slice.ensures.value in
+    let long : length c.as_slice.result.now ≡ length dones = ap (λ (xs : List D). length xs) now in
+    let noted : AreNoted dones r.posted.items = λ k d lt. c.give_up-report.ensures.posted k d (omega (arith, long, lt)) ∙ ap (λ (xs : List D). (get_or xs k d).posted) now in
+    gated_by_none M gates lists dones r works noted (λ k v lt. c.give_up-report.ensures.items k v (omega arith))
+    (λ k above. c.give_up-report.ensures.others k (omega (arith, long, above)))

@@ -1,12 +1,25 @@
-use Rattle.std.proofs.Common.{◌∙◌}
+use Rattle.std.proofs.Common.{◌<◌, length, arith, refl, ◌∙◌}
 use Rattle.std.proofs.Math.Seq.{map-set_same}
+use Rattle.vlm_cluster.specs.Gates.{moves}
 use Rattle.vlm_cluster.specs.Works.{work_of}
+use Rattle.vlm_cluster.proofs.Dones.{told_same, told_set}
 use Rattle.vlm_cluster.proofs.settle.collect_all.Goals as goal
 
-pub returns-in_err-collect : goal.returns-in_err-collect
-returns-in_err-collect g c =
-    map-set_same work_of c.loop-at.dones c.loop-at.at c.collect.new.done c.index-dones-at.result c.collect.ensures ∙ c.loop-at.invariant
+pub loop-at-init : goal.loop-at-init
+loop-at-init g c = (refl, told_same (moves g.G.Gate.answers g.G.Gate.hears) c.args.dones.now)
+
+pub returns-in_err-collect-clause-same : goal.returns-in_err-collect-clause-same
+returns-in_err-collect-clause-same g c =
+    map-set_same work_of c.loop-at.dones c.loop-at.at c.collect.new.done c.index-dones-at.result c.collect.ensures.same ∙ c.loop-at.invariant.0
+
+pub returns-in_err-collect-clause-told : goal.returns-in_err-collect-clause-told
+returns-in_err-collect-clause-told g c =
+    let lt : c.loop-at.at < length c.loop-at.dones = omega arith in
+    told_set (moves g.G.Gate.answers g.G.Gate.hears) c.args.dones.now c.loop-at.dones c.loop-at.at c.collect.new.done c.index-dones-at.result lt c.loop-at.invariant.1 c.collect.ensures.told
 
 pub loop-at-preserved : goal.loop-at-preserved
 loop-at-preserved g c =
-    map-set_same work_of c.loop-at.dones c.loop-at.at c.collect.new.done c.index-dones-at.result c.collect.ensures ∙ c.loop-at.invariant
+    let lt : c.loop-at.at < length c.loop-at.dones = omega arith in (
+      map-set_same work_of c.loop-at.dones c.loop-at.at c.collect.new.done c.index-dones-at.result c.collect.ensures.same ∙ c.loop-at.invariant.0,
+      told_set (moves g.G.Gate.answers g.G.Gate.hears) c.args.dones.now c.loop-at.dones c.loop-at.at c.collect.new.done c.index-dones-at.result lt c.loop-at.invariant.1 c.collect.ensures.told,
+    )

@@ -2,8 +2,9 @@ use Rattle.std.proofs.Common.{◌≡◌, ◌<◌, true, false, List, length, ari
 use Rattle.std.specs.Prelude.{IsTrue}
 use Rattle.std.proofs.Math.Seq.{map-set_same}
 use Rattle.vlm_journal.specs.declared.entries.Entry.{Entry}
+use Rattle.vlm_cluster.specs.Gates.{moves}
 use Rattle.vlm_cluster.specs.Works.{AreBegun, AreWhole, entries_at, work_of}
-use Rattle.vlm_cluster.proofs.Dones.{begun_more, ports_kept, whole_more}
+use Rattle.vlm_cluster.proofs.Dones.{begun_more, ports_kept, told_set, whole_more}
 use Rattle.vlm_cluster.proofs.settle.settle_all.Goals as goal
 use Rattle.vlm_cluster.proofs.settle.settle_all.Goals.{then-not-settle, else-not-settle}
 
@@ -18,6 +19,7 @@ loop-at-preserved g c =
     let lt : at < length ds = omega arith in record {
       rings = new.rings ∙ was.rings;
       same = map-set_same work_of ds at d c.index-dones-at.result new.same ∙ was.same;
+      told = told_set (moves g.G.Gate.answers g.G.Gate.hears) c.args.dones.now ds at d c.index-dones-at.result lt was.told new.told;
       accounted = new.accounted;
       journal = new.journal ∙ was.journal;
       every = new.every ∙ was.every;
