@@ -1,7 +1,8 @@
 -- The lines of steps, one by one, and what a watch comes to, by its end.
-use Rattle.std.proofs.Common.{◌≡◌, ◌∙◌, ◌+◌, ◌-◌, ◌<◌, ◌≤◌, ℕ, List, [], ◌∷◌, ◌++◌, Option, None, Some, Result, Ok, Err, ap, append-nil, append_assoc, arith, codes, get_or, inl, inr, length, length-append, refl, subst, sym}
+use Rattle.std.proofs.Common.{◌≡◌, ◌∙◌, ◌+◌, ◌-◌, ◌<◌, ◌≤◌, ℕ, List, [], ◌∷◌, ◌++◌, Option, None, Some, Result, Ok, Err, ap, append-nil, append_assoc, arith, codes, get_or, inl, inr, length, length-append, refl, subst, sym, take}
 use Rattle.std.specs.Prelude.{IfSome}
 use Rattle.std.specs.Io.KnownBytes.{Appends}
+use Rattle.std.proofs.lemmas.List.{take_more}
 use Rattle.vlm_words.specs.declared.resources.Domain.{Domain}
 use Rattle.vlm_words.specs.State.{State, start}
 use Rattle.vlm_watch.specs.declared.rows.RootKey.{RootKey}
@@ -15,7 +16,7 @@ use Rattle.vlm_script.specs.Texts.{watch_line}
 use Rattle.vlm.specs.declared.ends.WatchFault.{WatchFault}
 use Rattle.vlm.specs.declared.ends.WatchFault.TheVariants.{NoAnswer, NoSeat, Play}
 use Rattle.vlm.specs.Ends.{Output, PrintsLine, StartsWatch}
-use Rattle.vlm.specs.Watches.{AreSeen, AreWatched, EndsSteps, EndsWatched, GoesOn, IsWatchText, PrintsWatch, next_seen, none_seen, row_at, steps_of, watch_text}
+use Rattle.vlm.specs.Watches.{AreSeen, AreWatched, EndsSteps, EndsWatched, IsWatchText, Makes, PrintsWatch, next_seen, none_seen, row_at, steps_of, watch_text}
 
 -- where there are no rows there are no lines
 no_lines : (steps : List ScriptStep) → watch_text steps [] ≡ []
@@ -33,28 +34,30 @@ line_behind (s ∷ steps) (r ∷ rows) step row within is =
     let behind : step ≡ get_or steps (length rows) step = is in
     rw (line_behind steps rows step row (omega arith) behind) (sym (append_assoc (watch_line s.line r) (watch_text steps rows) (watch_line step.line row)))
 
--- the text is that of the lines of the first so many steps, with the rows that were seen on the way to the state
+-- the first so many steps were made, and the text is that of their lines, with the rows that were seen
 pub record AreMade (key : RootKey) (steps : List ScriptStep) (index : ℕ) (text : List ℕ) (state : State) : Type 0 where
   pub rows : List WatchedRow
   pub count : length rows ≡ index
-  pub seen : AreSeen key rows state
+  pub seen : AreSeen key (take (length rows) steps) rows state
   pub printed : text ≡ watch_text steps rows
 
 -- before the first there are none
 pub none_made : (key : RootKey) (steps : List ScriptStep) (text : List ℕ) (state : State) → text ≡ [] → state ≡ start → AreMade key steps 0 text state
-none_made key steps text state is begins = record { rows = []; count = refl; seen = subst (AreSeen key []) (sym begins) none_seen; printed = is ∙ sym (no_lines steps) }
+none_made key steps text state is begins = record { rows = []; count = refl; seen = subst (AreSeen key [] []) (sym begins) none_seen; printed = is ∙ sym (no_lines steps) }
 
 -- one more is made
 pub one_made : (key : RootKey) (steps : List ScriptStep) (index : ℕ) (step : ScriptStep) (text next : List ℕ) (old new : State) → index < length steps → step ≡ get_or steps index step
-    → next ≡ text ++ watch_line step.line (row_at new key) → GoesOn old new → AreMade key steps index text old → AreMade key steps (index + 1) next new
-one_made key steps index step text next old new within here is goes_on made =
+    → next ≡ text ++ watch_line step.line (row_at new key) → Makes step.step old new → AreMade key steps index text old → AreMade key steps (index + 1) next new
+one_made key steps index step text next old new within here is makes made =
     let row : WatchedRow = row_at new key in
     let within : length made.rows < length steps = omega (arith, made.count) in
     let here : step ≡ get_or steps (length made.rows) step = rw made.count here in
-    record {
+    let count : length (made.rows ++ row ∷ []) ≡ length made.rows + 1 = length-append made.rows (row ∷ []) in
+    let taken : take (length (made.rows ++ row ∷ [])) steps ≡ take (length made.rows) steps ++ step ∷ [] =
+    ap (λ (n : ℕ). take n steps) count ∙ take_more steps (length made.rows) step within ∙ ap (λ (s : ScriptStep). take (length made.rows) steps ++ s ∷ []) (sym here) in record {
       rows = made.rows ++ row ∷ [];
-      count = omega (arith, length-append made.rows (row ∷ []), made.count);
-      seen = next_seen made.seen new goes_on;
+      count = omega (arith, count, made.count);
+      seen = subst (λ (ss : List ScriptStep). AreSeen key ss (made.rows ++ row ∷ []) new) (sym taken) (next_seen made.seen step new makes);
       printed = is ∙ ap (λ (t : List ℕ). t ++ watch_line step.line row) made.printed ∙ sym (line_behind steps made.rows step row within here);
     }
 

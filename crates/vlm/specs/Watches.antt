@@ -1,8 +1,10 @@
 -- What a script comes to by which a resource is watched, and what is printed of it.
-use Rattle.std.specs.Prelude.{◌≡◌, ◌+◌, ◌⊎◌, ℕ, List, [], ◌∷◌, ◌++◌, Option, Result, Ok, Err, IfSome, length}
+use Rattle.std.specs.Prelude.{◌≡◌, ◌==◌, ◌+◌, ◌⊎◌, ℕ, List, [], ◌∷◌, ◌++◌, Option, Result, Ok, Err, IfSome, if◌then◌else◌, length, take}
+use Rattle.vlm_words.specs.declared.steps.Step.{Step}
 use Rattle.vlm_words.specs.State.{State, start}
 use Rattle.vlm_journal.specs.declared.entries.Entry.{Entry}
 use Rattle.vlm_journal.specs.Journals.{JournalFrom}
+use Rattle.vlm_ports.specs.Hubs.{HubTakesAlone}
 use Rattle.vlm_watch.specs.declared.rows.RootKey.{RootKey}
 use Rattle.vlm_watch.specs.declared.rows.Row.{Row}
 use Rattle.vlm_watch.specs.Rows.{row_of}
@@ -43,24 +45,34 @@ printed_row row = record {
 abbrev pub row_at : State → RootKey → WatchedRow
 row_at state key = printed_row (row_of (record { entries = []; state = state; base = 0; room = 0 }) key)
 
--- a hub goes on from one state to another
-abbrev pub GoesOn : State → State → Type 0
-GoesOn old new = (entries : List Entry) × JournalFrom old entries new
+-- the steps that nodes asked for, in order
+abbrev pub steps_asked : List Entry → List Step
+steps_asked [] = []
+steps_asked (entry ∷ entries) =
+    if entry.sender == 0 then steps_asked entries else entry.step ∷ steps_asked entries
 
--- these are the rows of the resource under the key in states of one run: a hub goes on from each state to the next, from
--- the start of the machine to this state
-pub data AreSeen (key : RootKey) : List WatchedRow → State → Type 0 where
-  none_seen : AreSeen key [] start
-  next_seen : {rows : List WatchedRow} {old : State} → AreSeen key rows old → (new : State)
-      → GoesOn old new → AreSeen key (rows ++ row_at new key ∷ []) new
+-- a hub goes from one state to another: the nodes ask for this step alone, and by itself the hub takes ASTs alone
+pub record Makes (step : Step) (old new : State) : Type 0 where
+  pub entries : List Entry
+  pub legal : JournalFrom old entries new
+  pub asked : steps_asked entries ≡ step ∷ []
+  pub takes : HubTakesAlone entries
+
+-- a hub has made these steps and no others, from the start of the machine to this state, and these are the rows of the
+-- resource under the key: one for each step, in the state to which the step led
+pub data AreSeen (key : RootKey) : List ScriptStep → List WatchedRow → State → Type 0 where
+  none_seen : AreSeen key [] [] start
+  next_seen : {steps : List ScriptStep} {rows : List WatchedRow} {old : State} → AreSeen key steps rows old
+      → (step : ScriptStep) (new : State) → Makes step.step old new
+      → AreSeen key (steps ++ step ∷ []) (rows ++ row_at new key ∷ []) new
 
 -- the lines of the steps, in order, except the last so many: each with the row of the resource under the key in the state
--- that the run has come to
+-- to which its step led
 pub record AreWatched (key : RootKey) (steps : List ScriptStep) (left : ℕ) (text : List ℕ) : Type 0 where
   pub rows : List WatchedRow
   pub state : State
   pub count : length rows + left ≡ length steps
-  pub seen : AreSeen key rows state
+  pub seen : AreSeen key (take (length rows) steps) rows state
   pub printed : text ≡ watch_text steps rows
 
 -- the text of a script by which a resource is watched: the lines of its steps, except the last so many

@@ -1,17 +1,18 @@
 //! A hub that is watched, with its ports and its watcher in one hand.
 
-ghost use Rattle.std.specs.Prelude.{◌≡◌, ◌++◌, ◌∷◌, ◌<◌, [], IfErr, IfOk, OnErr, OnOk};
+ghost use Rattle.std.specs.Prelude.{◌≡◌, ◌++◌, ◌∷◌, ◌<◌, [], All, IfErr, IfOk, OnErr, OnOk, length, map};
 ghost use Rattle.vlm_words.specs.State.{start};
-ghost use Rattle.vlm_ports.specs.Hubs.{state};
+ghost use Rattle.vlm_ports.specs.Hubs.{IsAsWritten, IsPortOf, journal, state};
 ghost use Rattle.vlm_ports.specs.Watched.{IsWatched, Watches, watched_keys};
 ghost use Rattle.vlm_script.specs.Texts.{watch_line};
-ghost use Rattle.vlm.specs.Watches.{EndsSteps, EndsWatched, GoesOn, printed_row, row_at};
+ghost use Rattle.vlm.specs.Watches.{EndsSteps, EndsWatched, Makes, printed_row, row_at, steps_asked};
+ghost use Rattle.vlm.specs.WatchedPorts.{HasGrown, posts_of};
 
 use crate::ends::WatchFault;
 use std::alloc::Global;
 use std::sync::Wait;
 use vlm_core::Core;
-use vlm_journal::entries::Item;
+use vlm_journal::entries::{Entry, Item};
 use vlm_ports::{Hub, Port, RootKey, Row, Turn, Watcher};
 use vlm_script::{HashKeys, PlayFault, ScriptStep, WatchedRow, watch_line};
 use vlm_words::steps::Step;
@@ -33,6 +34,7 @@ pub(crate) struct WatchedHub {
     ghost ours: { Watches hub watcher },
     ghost one: { 0 < watcher.keys },
     ghost subject: { watched_keys hub ≡ key ∷ [] },
+    ghost linked: { All (IsPortOf hub) ports.items },
 }
 
 // What came to a port.
@@ -46,6 +48,8 @@ enum Came {
 }
 
 impl WatchedHub {
+    ghost use Rattle.vlm.specs.WatchedHubs.{HasLeftAt, standing};
+
     /// A hub with nothing posted, and a watcher of the resource under this key. Refused, there is neither.
     pub(crate) fn open<R: Wait>(
         rt: &R,
@@ -54,7 +58,8 @@ impl WatchedHub {
         key: &RootKey,
     ) -> Result<WatchedHub, WatchFault>
         ensures faults { IfErr result EndsSteps }
-        ensures made { IfOk result (λ w. (w.key ≡ key.now) × (state w.hub ≡ start)) }
+        ensures made { IfOk result (λ w.
+            (w.key ≡ key.now) × (state w.hub ≡ start) × (journal w.hub ≡ [])) }
     {
         let subjects = Vec::from_elem(alloc, *key, 1)?;
         let (mut hub, ports) = Hub::with_core(alloc, Core::with_keys(alloc, keys), 8)?;
@@ -89,6 +94,7 @@ impl WatchedHub {
     ) -> Result<(), WatchFault>
         requires empty { text.old.items ≡ [] }
         requires start { state self.old.hub ≡ start }
+        requires quiet { journal self.old.hub ≡ [] }
         ensures { EndsWatched self.old.key steps.now result text.new.items }
     {
         let mut line = Vec::new(alloc);
@@ -110,15 +116,16 @@ impl WatchedHub {
         line: &mut Vec<u8>,
         text: &mut Vec<u8>,
     ) -> Result<(), WatchFault>
+        requires quiet { journal self.old.hub ≡ [] }
         ensures key { self.new.key ≡ self.old.key }
-        ensures run { GoesOn (state self.old.hub) (state self.new.hub) }
+        ensures made { OnOk result (Makes step.now.step (state self.old.hub) (state self.new.hub)) }
+        ensures quiet { OnOk result (journal self.new.hub ≡ []) }
         ensures line { OnOk result (text.new.items ≡ text.old.items
             ++ watch_line step.now.line (row_at (state self.new.hub) self.new.key)) }
         ensures same { OnErr result (text.new.items ≡ text.old.items) }
         ensures faults { IfErr result EndsSteps }
     {
-        let place = post(&mut self.ports, step.step)?;
-        self.turn_until_answered(place)?;
+        self.make(step.step)?;
         let row = self.publish(rt)?;
         line.clear();
         watch_line(line, step.line, &watched_row(&row))?;
@@ -126,10 +133,68 @@ impl WatchedHub {
         Ok(())
     }
 
+    // Makes a step, and checks that the hub has made no other of any node.
+    fn make(&mut self, step: Step) -> Result<(), WatchFault>
+        requires quiet { journal self.old.hub ≡ [] }
+        ensures key { self.new.key ≡ self.old.key }
+        ensures made { OnOk result (Makes step (state self.old.hub) (state self.new.hub)) }
+        ensures faults { IfErr result EndsSteps }
+    {
+        let place = self.post(step)?;
+        self.turn_until_answered(place)?;
+        self.settle(place)?;
+        if asked_count(self.hub.journal()) == 1 {
+            Ok(())
+        } else {
+            Err(WatchFault::NoAnswer)
+        }
+    }
+
+    // Posts a step at the port of its node, and says at which place that port is. Refused where the
+    // hub has not made all that was posted there.
+    fn post(&mut self, step: Step) -> Result<usize, WatchFault>
+        ensures key { self.new.key ≡ self.old.key }
+        ensures written { IsAsWritten self.old.hub self.new.hub }
+        ensures within { IfOk result (λ place. place < length self.new.ports.items) }
+        ensures left { IfOk result (λ place. HasLeftAt self.new place (step ∷ [])) }
+        ensures faults { IfErr result EndsSteps }
+    {
+        let place = usize::from(step.node()).wrapping_sub(1);
+        if place >= self.ports.len() {
+            return Err(WatchFault::NoAnswer);
+        }
+        self.settle(place)?;
+        let port = &mut self.ports[place];
+        if !port.may_post(&step) {
+            return Err(WatchFault::NoAnswer);
+        }
+        match port.post(step) {
+            Ok(()) => Ok(place),
+            Err(_) => Err(WatchFault::NoAnswer),
+        }
+    }
+
+    // Settles the port at a place. Refused where the hub has not made all that was posted there.
+    fn settle(&mut self, place: usize) -> Result<(), WatchFault>
+        requires within { place < length self.old.ports.items }
+        ensures standing { standing self.new ≡ standing self.old }
+        ensures written { IsAsWritten self.old.hub self.new.hub }
+        ensures left { OnOk result (HasLeftAt self.new place []) }
+        ensures faults { IfErr result EndsSteps }
+    {
+        let port = &mut self.ports[place];
+        let settled = self.hub.settle(port);
+        if settled.steps == 0 {
+            Ok(())
+        } else {
+            Err(WatchFault::NoAnswer)
+        }
+    }
+
     // Has the hub make turns until the port at a place has an answer.
     fn turn_until_answered(&mut self, place: usize) -> Result<(), WatchFault>
-        ensures key { self.new.key ≡ self.old.key }
-        ensures run { GoesOn (state self.old.hub) (state self.new.hub) }
+        ensures standing { standing self.new ≡ standing self.old }
+        ensures grown { HasGrown self.old.hub self.new.hub }
         ensures faults { IfErr result EndsSteps }
     {
         for _ in 0..u64::MAX {
@@ -142,8 +207,8 @@ impl WatchedHub {
 
     // Has the hub make turns until something comes to the port at a place.
     fn turn_until_told(&mut self, place: usize) -> Result<Came, WatchFault>
-        ensures key { self.new.key ≡ self.old.key }
-        ensures run { GoesOn (state self.old.hub) (state self.new.hub) }
+        ensures standing { standing self.new ≡ standing self.old }
+        ensures grown { HasGrown self.old.hub self.new.hub }
         ensures faults { IfErr result EndsSteps }
     {
         for _ in 0..TURNS {
@@ -157,8 +222,8 @@ impl WatchedHub {
 
     // Has the hub make a turn, and says what came to the port at a place.
     fn turn(&mut self, place: usize) -> Result<Came, WatchFault>
-        ensures key { self.new.key ≡ self.old.key }
-        ensures run { GoesOn (state self.old.hub) (state self.new.hub) }
+        ensures standing { standing self.new ≡ standing self.old }
+        ensures grown { HasGrown self.old.hub self.new.hub }
         ensures faults { IfErr result EndsSteps }
     {
         match self.hub.turn() {
@@ -172,6 +237,7 @@ impl WatchedHub {
     fn publish<R: Wait>(&mut self, rt: &R) -> Result<Row, WatchFault>
         ensures key { self.new.key ≡ self.old.key }
         ensures state { state self.new.hub ≡ state self.old.hub }
+        ensures quiet { OnOk result (journal self.new.hub ≡ []) }
         ensures row { IfOk result (λ row. printed_row row ≡ row_at (state self.new.hub) self.new.key) }
         ensures faults { IfErr result EndsSteps }
     {
@@ -198,25 +264,26 @@ impl WatchedHub {
     }
 }
 
-// Posts a step at the port that may post it, and says at which place that is.
-fn post(ports: &mut [Port], step: Step) -> Result<usize, WatchFault>
-    ensures { IfErr result EndsSteps }
+// How many of these steps nodes asked for.
+fn asked_count(entries: &[Entry]) -> usize
+    ensures { result ≡ length (steps_asked entries.now) }
 {
-    for (place, port) in ports.iter_mut().enumerate() {
-        if port.may_post(&step) {
-            return match port.post(step) {
-                Ok(()) => Ok(place),
-                Err(_) => Err(WatchFault::NoAnswer),
-            };
+    let mut count = 0usize;
+    for entry in entries {
+        if entry.sender != 0 {
+            count += 1;
         }
     }
-    Err(WatchFault::NoAnswer)
+    count
 }
 
 // Takes all that waits at each port, and says what came to the one at a place.
-fn take_all(ports: &mut [Port], place: usize) -> Came {
+fn take_all(ports: &mut [Port], place: usize) -> Came
+    ensures { map posts_of ports.new ≡ map posts_of ports.old }
+{
     let mut came = Came::Nothing;
-    for (at, port) in ports.iter_mut().enumerate() {
+    for at in 0..ports.len() {
+        let port = &mut ports[at];
         let taken = take_items(port);
         if at == place {
             came = taken;
@@ -226,7 +293,9 @@ fn take_all(ports: &mut [Port], place: usize) -> Came {
 }
 
 // Takes all that waits at a port.
-fn take_items(port: &mut Port) -> Came {
+fn take_items(port: &mut Port) -> Came
+    ensures { posts_of port.new ≡ posts_of port.old }
+{
     let mut came = Came::Nothing;
     for _ in 0..u64::MAX {
         match port.take() {

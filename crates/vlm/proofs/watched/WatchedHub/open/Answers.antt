@@ -1,7 +1,10 @@
-use Rattle.std.proofs.Common.{◌≡◌, ◌∙◌, ◌∷◌, [], ◌<◌, ◌-◌, Some, arith, length, rules, slice_index_or, subst, sym, vec_len}
+use Rattle.std.proofs.Common.{◌≡◌, ◌∙◌, ◌∷◌, [], ◌<◌, ◌-◌, Some, Global, Vec, ap, arith, length, map, refl, rules, slice_index_or, subst, sym, vec_len}
+use Rattle.vlm_ports.specs.declared.line.Line.{Line}
+use Rattle.vlm_ports.specs.Links.{line_identity}
 use Rattle.vlm_ports.specs.Watched.{board_name, watched_keys}
 use Rattle.vlm_watch.specs.declared.watcher.Watcher.{Watcher}
 use Rattle.vlm_watch.specs.Watching.{IsNew}
+use Rattle.vlm.proofs.Going.{ports_stay}
 use Rattle.vlm.proofs.watched.WatchedHub.open.Goals as goal
 
 -- the last of the watchers that were made
@@ -21,10 +24,12 @@ invariant_of-result g c =
     let new : IsNew (board_name c.watch.new.self) (vec_len c.in_ok-subjects.subjects) watcher =
     subst (IsNew (board_name c.watch.new.self) (vec_len c.in_ok-subjects.subjects)) last each in
     let keys : length (watched_keys c.watch.new.self) ≡ vec_len c.in_ok-subjects.subjects = search rules in
+    let hub = c.in_ok-hub.hub in let ports = c.in_ok-hub.ports.items in
     let subject : watched_keys c.watch.new.self ≡ c.args.key.now ∷ [] = search rules in
     record {
       watched = c.in-Ok.ensures.watched;
       ours = (new.board_is, new.keys_are ∙ sym keys);
       one = omega (arith, new.keys_are, one);
       subject = subject;
+      linked = ports_stay hub c.watch.new.self ports ports (ap (λ (ls : Vec Line Global). map line_identity ls.items) c.watch.ensures.same.1) refl c.in_ok-hub.ensures.ours;
     }

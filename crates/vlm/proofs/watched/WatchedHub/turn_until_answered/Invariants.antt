@@ -1,8 +1,8 @@
 use Rattle.std.proofs.Common.{◌≡◌}
-use Rattle.vlm_ports.specs.Hubs.{state}
-use Rattle.vlm.specs.Watches.{GoesOn}
+use Rattle.vlm.specs.WatchedHubs.{standing}
+use Rattle.vlm.specs.WatchedPorts.{HasGrown}
 use Rattle.vlm.proofs.watched.WatchedHub.turn_until_answered.Given as goal
 
--- the turns so far lead on
+-- the turns so far have put entries at the end, and left the rest as it is
 abbrev pub invariant-loop : goal.invariant-loop
-invariant-loop l = (l.self.key ≡ l.initial.self.key) × GoesOn (state l.initial.self.hub) (state l.self.hub)
+invariant-loop l = (standing l.self ≡ standing l.initial.self) × HasGrown l.initial.self.hub l.self.hub
