@@ -1,11 +1,10 @@
 mod Asked
 mod Clustered
 mod Errors
-mod Going
 mod Listed
 mod Memory
+mod Names
 mod Numbered
 mod Play
 mod Printed
 mod WatchWords
-mod WatchedSteps

@@ -2,11 +2,9 @@
 #![tactic(auto)]
 
 mod cluster;
-mod ends;
 mod run;
 mod told;
 mod watch;
-mod watched;
 mod words;
 
 use std::process::ExitCode;

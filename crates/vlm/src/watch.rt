@@ -1,20 +1,16 @@
 //! A resource that is watched while the steps of a script are made.
 
-ghost use Rattle.std.specs.Prelude.{◌≡◌, []};
-ghost use Rattle.vlm_script.specs.Plays.{ConsumesAtMost};
-ghost use Rattle.vlm.specs.Ends.{RunsWatch, StartsNamedWatch, StartsWatch, output_of};
-ghost use Rattle.vlm.specs.Watches.{EndsWatched, PrintsWatch};
+ghost use Rattle.std.specs.Prelude.{◌≡◌, Err};
+ghost use Rattle.vlm.specs.Ends.{PrintsLine, RunsWatch, StartsNamedWatch, StartsWatch, output_of, watch_fault_line, watch_status_of};
 
-use crate::ends::WatchFault;
-use crate::run::{DONE, REFUSED, random_keys, refused_by, without_random_bytes};
-use crate::watched::{NODES, WatchedHub};
+use crate::run::{DONE, FAILED, REFUSED, failed, random_keys, refused_by, without_random_bytes};
 use crate::words::Subject;
-use std::alloc::Global;
 use std::io::{Read, Write};
 use std::random::RandomSource;
 use std::sync::Wait;
+use vlm_monitor::{WatchFault, watch_script};
 use vlm_ports::RootKey;
-use vlm_script::{HashKeys, ScriptStep, read_steps, write_whole};
+use vlm_script::HashKeys;
 
 /// Watches a resource by a script, where it has a name.
 pub(crate) fn start_watch<R: Read, W: Write, F: Write>(
@@ -69,47 +65,19 @@ fn run_watch<R: Read, W: Write, F: Write>(
 {
     match watch_script(rt, keys, key, reader, writer) {
         Ok(()) => DONE,
-        Err(fault) => fault.tell(faults),
+        Err(fault) => tell(&fault, faults),
     }
 }
 
-// Makes the steps of a script, and writes what is seen behind each once no more are made. Memory grows
-// with the script, with what its steps need and with the lines.
-fn watch_script<R: Read, W: Write>(
-    rt: &(impl AllocGlobal + Wait),
-    keys: HashKeys,
-    key: RootKey,
-    reader: &mut R,
-    writer: &mut W,
-) -> Result<(), WatchFault>
-    ensures printed { PrintsWatch key (R.remaining reader.old) result
-        (W.contents writer.old) (W.contents writer.new) }
-    ensures reads { ConsumesAtMost 16777217 (R.remaining reader.old) (R.remaining reader.new) }
+// Prints the line of what ended a watch, and answers the exit status. A line that can't be printed changes no status.
+fn tell<F: Write>(fault: &WatchFault, faults: &mut F) -> u8
+    ensures status { result ≡ watch_status_of (Err fault.now) }
+    ensures faults { PrintsLine (watch_fault_line fault.now)
+        (F.contents faults.old) (F.contents faults.new) }
 {
-    let alloc = rt.alloc();
-    let steps = read_steps(alloc, keys, NODES, reader)?;
-    let mut text = Vec::new(alloc);
-    let end = watch_steps(rt, keys, key, &steps, &mut text);
-    write_whole(writer, &text)?;
-    end
-}
-
-// Makes these steps on a hub of their own, and puts the line of what is seen behind each into the text.
-fn watch_steps(
-    rt: &(impl AllocGlobal + Wait),
-    keys: HashKeys,
-    key: RootKey,
-    steps: &[ScriptStep],
-    text: &mut Vec<u8>,
-) -> Result<(), WatchFault>
-    requires { text.old.items ≡ [] }
-    ensures { EndsWatched key steps.now result text.new.items }
-{
-    let mut watched = match WatchedHub::open(rt, rt.alloc(), keys, &key) {
-        Ok(watched) => watched,
-        Err(fault) => return Err(fault),
-    };
-    let end = watched.make_all(rt, rt.alloc(), steps, text);
-    watched.finish(rt);
-    end
+    match fault {
+        WatchFault::Play(fault) => failed(fault, faults),
+        WatchFault::NoSeat => refused_by(b"no seat\n", FAILED, faults),
+        WatchFault::NoAnswer => refused_by(b"no answer\n", FAILED, faults),
+    }
 }

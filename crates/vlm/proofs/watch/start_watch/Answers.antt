@@ -1,6 +1,6 @@
 use Rattle.std.proofs.Common.{refl}
 use Rattle.vlm.specs.Ends.{output_of}
-use Rattle.vlm.proofs.WatchedSteps.{name_refused}
+use Rattle.vlm.proofs.Names.{name_refused}
 use Rattle.vlm.proofs.watch.start_watch.Goals as goal
 
 pub returns-in-None : goal.returns-in-None

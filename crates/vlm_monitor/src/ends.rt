@@ -1,0 +1,55 @@
+//! What ends a watch.
+
+use std::alloc::AllocError;
+use vlm_ports::BoardFault;
+use vlm_script::PlayFault;
+
+/// What ends a watch before the last step of its script.
+#[derive(Drop)]
+pub enum WatchFault {
+    /// What ends a script's run, too.
+    Play(PlayFault),
+    /// There is no seat for the watcher, or it sees nothing.
+    NoSeat,
+    /// A step had no answer.
+    NoAnswer,
+}
+
+impl From<PlayFault> for WatchFault {
+    ghost use Rattle.std.specs.Prelude.{◌≡◌};
+    ghost use Rattle.vlm_monitor.specs.declared.ends.WatchFault.TheVariants.{Play};
+
+    ghost from_gives = { λ fault ended. ended ≡ Play fault };
+
+    /// What ends a run ends a watch.
+    fn from(fault: PlayFault) -> WatchFault {
+        WatchFault::Play(fault)
+    }
+}
+
+impl From<AllocError> for WatchFault {
+    ghost use Rattle.std.specs.Prelude.{◌≡◌};
+    ghost use Rattle.vlm_script.specs.declared.faults.PlayFault.TheVariants.{Memory};
+    ghost use Rattle.vlm_monitor.specs.declared.ends.WatchFault.TheVariants.{Play};
+
+    ghost from_gives = { λ _ ended. ended ≡ Play Memory };
+
+    /// Want of memory ends a watch.
+    fn from(_refused: AllocError) -> WatchFault {
+        WatchFault::Play(PlayFault::Memory)
+    }
+}
+
+impl From<BoardFault> for WatchFault {
+    ghost use Rattle.vlm_monitor.specs.Watches.{EndsSteps};
+
+    ghost from_gives = { λ _ ended. EndsSteps ended };
+
+    /// Without a board there is no watch.
+    fn from(fault: BoardFault) -> WatchFault {
+        match fault {
+            BoardFault::Memory => WatchFault::Play(PlayFault::Memory),
+            BoardFault::Seat => WatchFault::NoSeat,
+        }
+    }
+}
