@@ -74,7 +74,7 @@ AreWhole {G} entries dones n = (k : ℕ) (d : Done G) → k < n
 abbrev pub point_of : {G : Type 0} → Done G → Point G
 point_of d = (d.gate, d.basket.items.items)
 
--- the worker has posted its list as this gate said, in the state that it was given in
+-- the worker has posted its list as its gate said, which it got in this state
 abbrev pub IsGatedWork : {G : Type 0} → Moves G → G → List Step → Done G → Type 0
 IsGatedWork moves gate list d = IsFollowed moves (gate, []) (point_of d) (length list) d.posted d.left
 
