@@ -1,4 +1,4 @@
-//! The steps of a script, and the line of what is seen after each.
+//! The steps of a script, and the line that is printed after each.
 
 ghost use Rattle.std.specs.Prelude.{◌≡◌, []};
 ghost use Rattle.vlm_script.specs.Plays.{ConsumesAtMost};
@@ -12,8 +12,8 @@ use std::sync::Wait;
 use vlm_ports::RootKey;
 use vlm_script::{HashKeys, ScriptStep, read_steps, write_whole};
 
-/// Makes the steps of a script, and writes what is seen after each once no more are made. Memory grows
-/// with the script, with what its steps need and with the lines.
+/// Makes the steps of a script, and then writes a line for each: the row of the resource after the
+/// step. Memory grows with the script, with what its steps need and with the lines.
 pub fn watch_script<R: Read, W: Write>(
     rt: &(impl AllocGlobal + Wait),
     keys: HashKeys,
@@ -33,7 +33,7 @@ pub fn watch_script<R: Read, W: Write>(
     end
 }
 
-// Makes these steps on a hub of their own, and puts the line of what is seen behind each into the text.
+// Makes these steps on a new hub, and adds the line of the row after each step to the text.
 fn watch_steps(
     rt: &(impl AllocGlobal + Wait),
     keys: HashKeys,
