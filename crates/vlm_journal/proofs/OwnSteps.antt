@@ -1,5 +1,5 @@
 -- What the hub asks for by itself is what its events say.
-use Rattle.std.proofs.Common.{◌≡◌, ◌≢◌, ◌<◌, ℕ, List, [], ◌∷◌, ◌++◌, refl, ap, ◌∙◌, sym, arith, append_assoc, append-nil, Some}
+use Rattle.std.proofs.Common.{◌≡◌, ℕ, List, [], ◌∷◌, ◌++◌, refl, ap, ◌∙◌, sym, arith, append_assoc, append-nil, Some}
 use Rattle.vlm_words.specs.declared.steps.Answer.TheVariants.{Taken}
 use Rattle.vlm_words.specs.declared.steps.Step.TheVariants.{Leave, Take}
 use Rattle.vlm_words.specs.declared.steps.Step.{Step}
