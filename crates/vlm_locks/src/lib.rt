@@ -26,7 +26,7 @@ pub use entering::{Entry, enter, enters_at_once};
 pub use finding::{Standing, find_lock, standing_of};
 pub use giving_up::{Choice, give_up_together};
 pub use running_down::{end_process, end_processes_of};
-pub use sweeping::sweep;
+pub use sweeping::{sweep, sweep_resource};
 pub use touched::{Touch, Touched};
 pub use withdrawals::{End, Withdrawal};
 pub use withdrawing::withdraw;

@@ -94,8 +94,7 @@ fn nothing_queued(store: &Store, res: ResAt) -> bool
     is_empty(store, res, Queue::Conversion) && is_empty(store, res, Queue::Waiting)
 }
 
-// Grants what can be granted on a resource, with the value block that the grants leave. Where no request is queued no
-// value block is copied.
+// Grants what can be granted on a resource, with the value block that the grants leave.
 fn grant_queued(store: &mut Store, res: ResAt)
     requires there { HasResource res store.old }
     requires paid { IsPaid store.old }
@@ -103,10 +102,6 @@ fn grant_queued(store: &mut Store, res: ResAt)
     ensures there { HasResource res store.new }
     ensures paid { IsPaid store.new }
 {
-    law_records_are_sound(store);
-    if nothing_queued(store, res) {
-        return;
-    }
     let mut value_block = store.resource_record(res).value_block;
     serve_queues(&mut value_block, store, res);
     law_records_are_sound(store);
@@ -124,6 +119,10 @@ pub(crate) fn serve(store: &mut Store, res: ResAt)
     ensures there { HasResource res store.new }
     ensures paid { IsPaid store.new }
 {
+    law_records_are_sound(store);
+    if nothing_queued(store, res) {
+        return;
+    }
     grant_queued(store, res);
     warn(store, res);
 }

@@ -1,6 +1,6 @@
 //! The sweep of the resources that a step has touched.
 
-ghost use Rattle.std.specs.Prelude.{◌≡◌};
+ghost use Rattle.std.specs.Prelude.{◌≡◌, [], ◌∷◌};
 ghost use Rattle.vlm_words.specs.Sweeps.{processes_after_service, resources_after_sweep};
 ghost use Rattle.vlm_store.specs.Plain.{plain_processes, plain_resources};
 ghost use Rattle.vlm_store.specs.Records.{HasResource};
@@ -32,6 +32,25 @@ fn sweep_one(store: &mut Store, res: ResAt)
     if is_idle(store, res) {
         store.remove_resource(res);
     }
+}
+
+/// Ends a step that touched one resource: what is queued there is granted as far as it can be, who is in the way of the
+/// rest is warned, and the resource goes if no lock is left on it. On the others nothing is to be done.
+pub fn sweep_resource(store: &mut Store, res: ResAt)
+    requires rest { IsAtRest store.old }
+    requires there { HasResource res store.old }
+    requires settled { AreSettledBut (res ∷ []) store.old.resources }
+    requires paid { IsPaid store.old }
+    ensures resources { plain_resources store.new
+        ≡ resources_after_sweep (plain_processes store.old) (plain_resources store.old) }
+    ensures statuses { plain_processes store.new
+        ≡ processes_after_service (plain_processes store.old) (plain_resources store.old) }
+    ensures rest { IsAtRest store.new }
+    ensures paid { IsPaid store.new }
+{
+    law_a_sweep_touches_only_what_is_not_settled();
+    law_records_are_sound(store);
+    sweep_one(store, res);
 }
 
 /// Ends a step that touched these resources, in the order of their making: what is queued on each is granted as

@@ -14,7 +14,7 @@ use crate::nodes::{NODES, Node};
 use std::alloc::Global;
 use std::marker::Model;
 use vlm_cycle::Scratch;
-use vlm_locks::{Touch, Touched, sweep};
+use vlm_locks::{Touched, sweep, sweep_resource};
 use vlm_store::{HashKeys, ResAt, Store};
 use vlm_words::steps::{Answer, Step};
 
@@ -93,8 +93,7 @@ impl Machine {
         requires settled { AreSettledBut (res ∷ []) self.old.records.resources }
         ensures { plain_state self.new ≡ state_after_sweep (plain_state self.old) }
     {
-        let touch = Touch::of(&self.store, res);
-        sweep(&mut self.store, &[touch]);
+        sweep_resource(&mut self.store, res);
     }
 
     /// Ends a step that touched the resources that are noted, in the order of their making, and forgets the notes.

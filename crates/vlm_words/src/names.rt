@@ -78,9 +78,16 @@ impl NameArg {
     }
 
     /// The name that was given. IVBUFLEN where its bytes are no name.
+    #[tactic(auto, unfolding(crate::specs::Names::name_of))]
     pub fn name(&self) -> Result<Name, Cond>
         ensures { result ≡ name_of self.now }
     {
-        Name::new(self.text.bytes())
+        let len = self.text.len();
+        if len == 0 || 31 < len {
+            return Err(Cond::Ivbuflen);
+        }
+        Ok(Name {
+            text: self.text.narrowed(),
+        })
     }
 }

@@ -1,6 +1,6 @@
 //! Short texts that are copied as a whole.
 
-ghost use Rattle.std.specs.Prelude.{◌≡◌, ◌≤◌, take};
+ghost use Rattle.std.specs.Prelude.{◌≡◌, ◌≤◌, length, take};
 
 use std::hash::{Hash, Hasher};
 use std::marker::Model;
@@ -47,11 +47,33 @@ impl<const N: usize> Text<N> {
         }
     }
 
+    /// How many bytes the text has.
+    pub fn len(&self) -> usize
+        ensures { result ≡ length self.now }
+    {
+        usize::from(self.len)
+    }
+
     /// The text's bytes.
     pub fn bytes(&self) -> &[u8]
         ensures { result.now ≡ self.now }
     {
         &self.cells[..usize::from(self.len)]
+    }
+}
+
+impl Text<32> {
+    /// The same text in one byte less, where it fits. Its cells are copied as a whole, whatever its length.
+    pub fn narrowed(&self) -> Text<31>
+        requires { length self.now ≤ 31 }
+        ensures { result ≡ self.now }
+    {
+        let mut cells = [0; 31];
+        cells.copy_from_slice(&self.cells[..31]);
+        Text {
+            cells,
+            len: self.len,
+        }
     }
 }
 
