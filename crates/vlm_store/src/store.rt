@@ -170,34 +170,31 @@ impl Store {
     }
 
     /// Adds a lock, the last in the list of a place, of its process's locks, and of those below its parent.
-    /// Where there is no room and memory is refused, or no handle is left, nothing is changed but that there may be
-    /// more room.
-    pub fn add_lock(
+    /// `reserve_lock` made the room.
+    pub fn add_lock_reserved(
         &mut self,
-        row: StoredRow,
+        row: &StoredRow,
         owner: ProcAt,
         parent: Option<LockAt>,
         to: Place,
-    ) -> Result<LockAt, AllocError>
-        requires new { IsNewLock row.lkid self.old }
-        requires owner { IsProcess owner row.pid self.old }
-        requires parent { IsParentOf parent row self.old }
+    ) -> LockAt
+        requires room { HasRoomForLock self.old }
+        requires new { IsNewLock row.now.lkid self.old }
+        requires owner { IsProcess owner row.now.pid self.old }
+        requires parent { IsParentOf parent row.now self.old }
         requires there { HasPlace to self.old }
-        ensures added { IfOk result (λ at. self.new
-            ≡ with_lock_room self.new.room.locks (with_new_lock at row owner parent to self.old)) }
-        ensures fresh { IfOk result (λ at. ¬ IsStored at self.old) }
-        ensures taken { OnOk result (IsTaken self.old.room.locks self.new.room.locks) }
-        ensures succeeds { HasRoomForLock self.old → IsOk result }
-        ensures err { OnErr result (IsUnchanged self.old self.new) }
+        ensures added { self.new ≡ with_lock_room self.new.room.locks
+            (with_new_lock result row.now owner parent to self.old) }
+        ensures fresh { ¬ IsStored result self.old }
+        ensures taken { IsTaken self.old.room.locks self.new.room.locks }
     {
-        reserve_one(&mut self.queues.locks, &mut self.lock_index)?;
-        let slot = self.queues.add(&row, owner, parent, to);
+        let slot = self.queues.add(row, owner, parent, to);
         join_line(&mut self.queues.locks, &mut self.line, slot);
         join_process(&mut self.processes, &mut self.queues.locks, slot);
         join_parent(&mut self.queues.locks, slot);
         let at = LockAt::of(slot);
         let _ = self.lock_index.insert(row.lkid(), at);
-        Ok(at)
+        at
     }
 
     /// Takes a lock from where it stands, writes what it holds and wants, and puts it at the end of the
@@ -249,22 +246,18 @@ impl Store {
         reserve_one(&mut self.queues.resources, &mut self.resource_index)
     }
 
-    /// Adds a resource without locks, whose key is hashed so, the last in order of making, with a valid value block of zeros. Where
-    /// there is no room and memory is refused, or no handle is left, nothing is changed but that there may be
-    /// more room.
-    pub fn add_resource(&mut self, serial: u32, site: &Site, hash: u32) -> Result<ResAt, AllocError>
+    /// Adds a resource without locks, whose key is hashed so, the last in order of making, with a valid value block of
+    /// zeros. `reserve_resource` made the room.
+    pub fn add_resource_reserved(&mut self, serial: u32, site: &Site, hash: u32) -> ResAt
+        requires room { HasRoomForResource self.old }
         requires new { IsNewKey site.now.key self.old }
         requires hash { hash ≡ hash_key self.old.keys site.now.key }
-        ensures added { IfOk result (λ res. self.new
-            ≡ with_resource_room self.new.room.resources (record self.old {
-              resources = self.old.resources ++ new_stored_resource res serial site.now ∷ [];
-            })) }
-        ensures fresh { IfOk result (λ res. ¬ HasResource res self.old) }
-        ensures taken { OnOk result (IsTaken self.old.room.resources self.new.room.resources) }
-        ensures succeeds { HasRoomForResource self.old → IsOk result }
-        ensures err { OnErr result (IsUnchanged self.old self.new) }
+        ensures added { self.new ≡ with_resource_room self.new.room.resources (record self.old {
+          resources = self.old.resources ++ new_stored_resource result serial site.now ∷ [];
+        }) }
+        ensures fresh { ¬ HasResource result self.old }
+        ensures taken { IsTaken self.old.room.resources self.new.room.resources }
     {
-        reserve_one(&mut self.queues.resources, &mut self.resource_index)?;
         let res = ResAt::of(
             self.queues
                 .add_resource(&mut self.order, serial, site, hash),
@@ -274,7 +267,7 @@ impl Store {
             hash,
         };
         let _ = self.resource_index.insert(found, res);
-        Ok(res)
+        res
     }
 
     /// The handle of the first lock at a place, if there is one.

@@ -1,7 +1,10 @@
+use Rattle.vlm_store.specs.declared.store.Store.TheInside.{Inside}
+use Rattle.slab.specs.Slab.{HasRoomFor}
+use Rattle.vlm_links.specs.declared.link.TheConstants.{LAST_HANDLE}
 use Rattle.vlm_store.specs.Index.{hash_key}
 use Rattle.vlm_store.proofs.Lined.{line_added, line_below, line_kin, line_own, line_queued, line_same}
 use Rattle.vlm_store.proofs.RoomShown.{room_shown, shown_room, is_taken, rooms_are, room_of_same, lock_room_made, has_room, lock_room_kept}
-use Rattle.std.proofs.Common.{◌≡◌, ◌≢◌, ◌∙◌, ◌++◌, ◌∷◌, [], ℕ, map, None, Some, IsSome, ap, sym, refl, arith, nat_eq, ◌+◌}
+use Rattle.std.proofs.Common.{◌≡◌, ◌<◌, ◌≤◌, ◌≢◌, ◌∙◌, ◌++◌, ◌∷◌, [], ℕ, map, None, Some, IsSome, ap, sym, refl, arith, nat_eq, ◌+◌}
 use Rattle.std.specs.Cmp.{unsigned_Decides}
 use Rattle.std.specs.Map.{lookup}
 use Rattle.std.specs.Option.{option_map}
@@ -14,7 +17,7 @@ use Rattle.vlm_store.proofs.HashedKeys.{IsHashed-same}
 use Rattle.vlm_records.specs.declared.handles.Place.{Place}
 use Rattle.vlm_records.specs.declared.locks.Lock.{Lock}
 use Rattle.vlm_records.specs.Kin.{pid_at}
-use Rattle.vlm_store.specs.Kept.{beside_shown}
+use Rattle.vlm_store.specs.Kept.{records_shown, beside_shown}
 use Rattle.vlm_store.specs.Records.{process_with_lock, HasRoom, IsTaken, joining, with_lists, with_new_lock}
 use Rattle.vlm_records.specs.Shown.{but_in_line, but_kin, but_queued, but_queues, handles_at, list_at, lkid_of, new_lock, queue_links, row_in, rows}
 use Rattle.vlm_store.specs.Store.{lkid_at, records_of, tables}
@@ -27,11 +30,12 @@ use Rattle.vlm_store.specs.Pending.{is_of_nodes, waits_in}
 use Rattle.vlm_store.proofs.Marked.{nodes-own, own_marked, waits-own}
 use Rattle.vlm_store.proofs.Kinship.{kin_handles, kin_placed, kin_rows, kin_tallied, own_below, own_pids, own_process_linked, own_process_whole, records_processes}
 use Rattle.vlm_store.proofs.Layouts.{joining-under_handle, lists_changed_beside}
-use Rattle.vlm_store.proofs.store.Store.add_lock.Goals as goal
+use Rattle.vlm_store.proofs.store.Store.add_lock_reserved.Goals as goal
 use Rattle.vlm_store.proofs.Order.{keys_same, order_handles, order_linked, order_whole}
 
-pub invariant_of-self : goal.invariant_of-self
-invariant_of-self c = lock_room_kept c.self.inside c.self.invariant c.reserve_one.new.records c.reserve_one.new.index c.reserve_one.ensures.records c.reserve_one.ensures.index
+-- there is room in the slab, for a link, and in the index
+has_its_room : (s : Inside) → HasRoom (records_shown s).room.locks → HasRoomFor s.queues.locks 1 × (s.queues.locks.vacant_key ≤ LAST_HANDLE) × (0 < spare s.lock_index)
+has_its_room s has = has_room s.queues.locks (spare s.lock_index) (shown_room (λ r. HasRoom r.locks) (tables s.queues s.order (beside_shown s)) has)
 
 pub add-slot-requires-clause-there : goal.add-slot-requires-clause-there
 add-slot-requires-clause-there c =
@@ -43,16 +47,16 @@ join_line-requires-clause-line c =
     let s = c.self.inside in
     let kept = c.self.invariant in
     let added = c.add-slot.ensures in
-    let same : (k : ℕ) → slot_of c.reserve_one.new.records k ≡ slot_of s.queues.locks k = λ k. ap (λ x. slot_of x k) c.reserve_one.ensures.records in
-    line_added (record s.queues { locks = c.reserve_one.new.records }) c.add-slot.new.self s.line c.add-slot.result c.args.to (reserved_placed s.queues c.reserve_one.new.records same kept.placed) added.laid_out.placed
-    added.fresh added.line added.here added.elsewhere (line_same s.queues.locks c.reserve_one.new.records s.line same kept.line)
+    let same : (k : ℕ) → slot_of s.queues.locks k ≡ slot_of s.queues.locks k = λ k. refl in
+    line_added (record s.queues { locks = c.self.inside.queues.locks }) c.add-slot.new.self s.line c.add-slot.result c.args.to (reserved_placed s.queues c.self.inside.queues.locks same kept.placed) added.laid_out.placed
+    added.fresh added.line added.here added.elsewhere (line_same s.queues.locks c.self.inside.queues.locks s.line same kept.line)
 
 pub join_process-requires-clause-present : goal.join_process-requires-clause-present
 join_process-requires-clause-present c =
     let locks = c.add-slot.new.self.locks in
     let at = c.add-slot.result in
     there_through but_in_line locks c.join_line.new.locks c.join_line.ensures.rest at
-    (there_by_part but_queued (slot_of locks at) (Some (new_lock c.args.row c.args.owner c.args.parent)) c.add-slot.ensures.lock refl)
+    (there_by_part but_queued (slot_of locks at) (Some (new_lock c.args.row.now c.args.owner c.args.parent)) c.add-slot.ensures.lock refl)
 
 pub join_process-requires-clause-owned : goal.join_process-requires-clause-owned
 join_process-requires-clause-owned c =
@@ -64,11 +68,11 @@ join_process-requires-clause-owned c =
     let locks1 = c.join_line.new.locks in
     let lined = line_queued q'.locks locks1 c.join_line.ensures.rest in
     let lock = lined at ∙ added.lock in
-    let others : (k : ℕ) → k ≢ at → option_map but_queued (slot_of locks1 k) ≡ option_map but_queued (slot_of c.reserve_one.new.records k) = λ k differs. lined k ∙ added.kin k differs in
-    let same : (k : ℕ) → slot_of c.reserve_one.new.records k ≡ slot_of s.queues.locks k = λ k. ap (λ x. slot_of x k) c.reserve_one.ensures.records in
+    let others : (k : ℕ) → k ≢ at → option_map but_queued (slot_of locks1 k) ≡ option_map but_queued (slot_of c.self.inside.queues.locks k) = λ k differs. lined k ∙ added.kin k differs in
+    let same : (k : ℕ) → slot_of s.queues.locks k ≡ slot_of s.queues.locks k = λ k. refl in
     let owner = rw (← c.self.view_is) at c.requires.owner in
     let parent = rw (← c.self.view_is) at c.requires.parent in
-    new_owned s kept c.reserve_one.new.records locks1 at c.args.row c.args.owner c.args.parent same added.fresh lock others owner parent
+    new_owned s kept c.self.inside.queues.locks locks1 at c.args.row.now c.args.owner c.args.parent same added.fresh lock others owner parent
 
 pub join_process-requires-clause-there : goal.join_process-requires-clause-there
 join_process-requires-clause-there c =
@@ -80,11 +84,11 @@ join_process-requires-clause-there c =
     let locks1 = c.join_line.new.locks in
     let lined = line_queued q'.locks locks1 c.join_line.ensures.rest in
     let lock = lined at ∙ added.lock in
-    let others : (k : ℕ) → k ≢ at → option_map but_queued (slot_of locks1 k) ≡ option_map but_queued (slot_of c.reserve_one.new.records k) = λ k differs. lined k ∙ added.kin k differs in
-    let same : (k : ℕ) → slot_of c.reserve_one.new.records k ≡ slot_of s.queues.locks k = λ k. ap (λ x. slot_of x k) c.reserve_one.ensures.records in
+    let others : (k : ℕ) → k ≢ at → option_map but_queued (slot_of locks1 k) ≡ option_map but_queued (slot_of c.self.inside.queues.locks k) = λ k differs. lined k ∙ added.kin k differs in
+    let same : (k : ℕ) → slot_of s.queues.locks k ≡ slot_of s.queues.locks k = λ k. refl in
     let owner = rw (← c.self.view_is) at c.requires.owner in
     let parent = rw (← c.self.view_is) at c.requires.parent in
-    owner_was_there s kept c.reserve_one.new.records locks1 at c.args.row c.args.owner c.args.parent same added.fresh lock others owner parent
+    owner_was_there s kept c.self.inside.queues.locks locks1 at c.args.row.now c.args.owner c.args.parent same added.fresh lock others owner parent
 
 pub join_parent-requires-clause-below : goal.join_parent-requires-clause-below
 join_parent-requires-clause-below c =
@@ -96,11 +100,11 @@ join_parent-requires-clause-below c =
     let locks1 = c.join_line.new.locks in
     let lined = line_queued q'.locks locks1 c.join_line.ensures.rest in
     let lock = lined at ∙ added.lock in
-    let others : (k : ℕ) → k ≢ at → option_map but_queued (slot_of locks1 k) ≡ option_map but_queued (slot_of c.reserve_one.new.records k) = λ k differs. lined k ∙ added.kin k differs in
-    let same : (k : ℕ) → slot_of c.reserve_one.new.records k ≡ slot_of s.queues.locks k = λ k. ap (λ x. slot_of x k) c.reserve_one.ensures.records in
+    let others : (k : ℕ) → k ≢ at → option_map but_queued (slot_of locks1 k) ≡ option_map but_queued (slot_of c.self.inside.queues.locks k) = λ k differs. lined k ∙ added.kin k differs in
+    let same : (k : ℕ) → slot_of s.queues.locks k ≡ slot_of s.queues.locks k = λ k. refl in
     let owner = rw (← c.self.view_is) at c.requires.owner in
     let parent = rw (← c.self.view_is) at c.requires.parent in
-    own_below locks1 c.join_process.new.locks c.join_process.ensures.relinks (Some at) (new_below s kept c.reserve_one.new.records locks1 at c.args.row c.args.owner c.args.parent same added.fresh lock others owner parent)
+    own_below locks1 c.join_process.new.locks c.join_process.ensures.relinks (Some at) (new_below s kept c.self.inside.queues.locks locks1 at c.args.row.now c.args.owner c.args.parent same added.fresh lock others owner parent)
 
 pub join_parent-requires-clause-there : goal.join_parent-requires-clause-there
 join_parent-requires-clause-there c =
@@ -112,14 +116,14 @@ join_parent-requires-clause-there c =
     let locks1 = c.join_line.new.locks in
     let lined = line_queued q'.locks locks1 c.join_line.ensures.rest in
     let lock = lined at ∙ added.lock in
-    let others : (k : ℕ) → k ≢ at → option_map but_queued (slot_of locks1 k) ≡ option_map but_queued (slot_of c.reserve_one.new.records k) = λ k differs. lined k ∙ added.kin k differs in
-    let same : (k : ℕ) → slot_of c.reserve_one.new.records k ≡ slot_of s.queues.locks k = λ k. ap (λ x. slot_of x k) c.reserve_one.ensures.records in
+    let others : (k : ℕ) → k ≢ at → option_map but_queued (slot_of locks1 k) ≡ option_map but_queued (slot_of c.self.inside.queues.locks k) = λ k differs. lined k ∙ added.kin k differs in
+    let same : (k : ℕ) → slot_of s.queues.locks k ≡ slot_of s.queues.locks k = λ k. refl in
     let owner = rw (← c.self.view_is) at c.requires.owner in
     let parent = rw (← c.self.view_is) at c.requires.parent in
-    linked_parent_there s kept c.reserve_one.new.records locks1 at c.args.row c.args.owner c.args.parent same added.fresh lock others owner parent c.join_process.new.locks c.join_process.ensures.relinks
+    linked_parent_there s kept c.self.inside.queues.locks locks1 at c.args.row.now c.args.owner c.args.parent same added.fresh lock others owner parent c.join_process.new.locks c.join_process.ensures.relinks
 
-pub invariant_of-self-2 : goal.invariant_of-self-2
-invariant_of-self-2 c =
+pub invariant_of-self : goal.invariant_of-self
+invariant_of-self c =
     let s = c.self.inside in
     let kept = c.self.invariant in
     let q' = c.add-slot.new.self in
@@ -128,21 +132,20 @@ invariant_of-self-2 c =
     let locks1 = c.join_line.new.locks in
     let lined = line_queued q'.locks locks1 c.join_line.ensures.rest in
     let lock = lined at ∙ added.lock in
-    let others : (k : ℕ) → k ≢ at → option_map but_queued (slot_of locks1 k) ≡ option_map but_queued (slot_of c.reserve_one.new.records k) = λ k differs. lined k ∙ added.kin k differs in
-    let same : (k : ℕ) → slot_of c.reserve_one.new.records k ≡ slot_of s.queues.locks k = λ k. ap (λ x. slot_of x k) c.reserve_one.ensures.records in
+    let others : (k : ℕ) → k ≢ at → option_map but_queued (slot_of locks1 k) ≡ option_map but_queued (slot_of c.self.inside.queues.locks k) = λ k differs. lined k ∙ added.kin k differs in
+    let same : (k : ℕ) → slot_of s.queues.locks k ≡ slot_of s.queues.locks k = λ k. refl in
     let owner = rw (← c.self.view_is) at c.requires.owner in
     let parent = rw (← c.self.view_is) at c.requires.parent in
     let process = c.join_process.ensures in
     let below = c.join_parent.ensures in
     let rest = added.rest in
     let q'' = record q' { locks = c.join_parent.new.locks } in
-    let kin = same_then but_kin q'.locks locks1 c.join_parent.new.locks (line_kin q'.locks locks1 c.join_line.ensures.rest) (joined_kin s kept c.reserve_one.new.records locks1 at c.args.row c.args.owner c.args.parent same added.fresh lock others owner parent c.join_process.new.processes c.join_process.new.locks c.join_parent.new.locks process.owned process.here process.elsewhere process.relinks process.rest below.here below.elsewhere below.rest) in
-    let lkids = joined_lkids s kept c.reserve_one.new.records locks1 at c.args.row c.args.owner c.args.parent same added.fresh lock others owner parent c.join_process.new.processes c.join_process.new.locks c.join_parent.new.locks process.owned process.here process.elsewhere process.relinks process.rest below.here below.elsewhere below.rest in
-    let indexes1 = Indexes-same (get nat_eq s.lock_index) (get nat_eq c.reserve_one.new.index) (lkid_at s.queues) (lkid_at (record s.queues { locks = c.reserve_one.new.records }))
-    (λ k. ap (λ es. lookup (nat_eq k) es) c.reserve_one.ensures.index) (λ at. ap (option_map lkid_of) (same at)) kept.locks in
-    let fresh : get nat_eq c.reserve_one.new.index c.args.row.lkid ≡ None =
-    ap (λ es. lookup (nat_eq c.args.row.lkid) es) c.reserve_one.ensures.index
-    ∙ no_lock s.queues s.order (beside_shown s) kept.placed kept.linked kept.ordered (get nat_eq s.lock_index) kept.locks c.args.row.lkid (rw (← c.self.view_is) at c.requires.new) in
+    let kin = same_then but_kin q'.locks locks1 c.join_parent.new.locks (line_kin q'.locks locks1 c.join_line.ensures.rest) (joined_kin s kept c.self.inside.queues.locks locks1 at c.args.row.now c.args.owner c.args.parent same added.fresh lock others owner parent c.join_process.new.processes c.join_process.new.locks c.join_parent.new.locks process.owned process.here process.elsewhere process.relinks process.rest below.here below.elsewhere below.rest) in
+    let lkids = joined_lkids s kept c.self.inside.queues.locks locks1 at c.args.row.now c.args.owner c.args.parent same added.fresh lock others owner parent c.join_process.new.processes c.join_process.new.locks c.join_parent.new.locks process.owned process.here process.elsewhere process.relinks process.rest below.here below.elsewhere below.rest in
+    let indexes1 = Indexes-same (get nat_eq s.lock_index) (get nat_eq c.self.inside.lock_index) (lkid_at s.queues) (lkid_at (record s.queues { locks = c.self.inside.queues.locks }))
+    (λ _. refl) (λ at. ap (option_map lkid_of) (same at)) kept.locks in
+    let fresh : get nat_eq c.self.inside.lock_index c.args.row.now.lkid ≡ None =
+    no_lock s.queues s.order (beside_shown s) kept.placed kept.linked kept.ordered (get nat_eq s.lock_index) kept.locks c.args.row.now.lkid (rw (← c.self.view_is) at c.requires.new) in
     record {
       placed = kin_placed q' c.join_parent.new.locks kin added.laid_out.placed;
       tallied = kin_tallied q' c.join_parent.new.locks kin added.laid_out.placed added.laid_out.tallied;
@@ -150,13 +153,13 @@ invariant_of-self-2 c =
       line = line_below c.join_process.new.locks c.join_parent.new.locks c.join_line.new.line below.rest (line_own locks1 c.join_process.new.locks c.join_line.new.line process.relinks c.join_line.ensures.line);
       linked = order_linked but_queues (λ r. refl) s.queues.resources q'.resources rest s.order kept.linked;
       ordered = order_whole but_queues (λ r. refl) s.queues.resources q'.resources rest s.order kept.linked kept.ordered;
-      locks = Indexes-added nat_eq unsigned_Decides c.reserve_one.new.index c.insert.new.self c.args.row.lkid (lkid_at (record s.queues { locks = c.reserve_one.new.records })) (lkid_at q'') at
-          (rw (c.of-at.ensures, c.lkid.ensures) at (on_ok c.insert.result _ (c.insert.ensures.succeeds (omega (arith, c.in_ok-reserve_one.ensures.find))) c.insert.ensures.updates))
-          (ap (option_map lkid_of) added.fresh) (lkids at ∙ new_lkid s kept c.reserve_one.new.records locks1 at c.args.row c.args.owner c.args.parent same added.fresh lock others owner parent) (λ k differs. lkids k ∙ other_lkids s kept c.reserve_one.new.records locks1 at c.args.row c.args.owner c.args.parent same added.fresh lock others owner parent k differs) fresh indexes1;
+      locks = Indexes-added nat_eq unsigned_Decides c.self.inside.lock_index c.insert.new.self c.args.row.now.lkid (lkid_at (record s.queues { locks = c.self.inside.queues.locks })) (lkid_at q'') at
+          (rw (c.of-at.ensures, c.lkid.ensures) at (on_ok c.insert.result _ (c.insert.ensures.succeeds (omega (arith, (has_its_room s (rw (← c.self.view_is) at c.requires.room)).2))) c.insert.ensures.updates))
+          (ap (option_map lkid_of) added.fresh) (lkids at ∙ new_lkid s kept c.self.inside.queues.locks locks1 at c.args.row.now c.args.owner c.args.parent same added.fresh lock others owner parent) (λ k differs. lkids k ∙ other_lkids s kept c.self.inside.queues.locks locks1 at c.args.row.now c.args.owner c.args.parent same added.fresh lock others owner parent k differs) fresh indexes1;
       resources = IsHashed-same (hash_key s.keys) (get is_same_hashed s.resource_index) (get is_same_hashed s.resource_index) (hashed_at s.queues) (hashed_at q'') (λ k. refl) (keys_same but_queues (λ r. refl) s.queues.resources q'.resources rest) kept.resources;
-      owned = joined_owned s kept c.reserve_one.new.records locks1 at c.args.row c.args.owner c.args.parent same added.fresh lock others owner parent c.join_process.new.processes c.join_process.new.locks c.join_parent.new.locks process.owned process.here process.elsewhere process.relinks process.rest below.here below.elsewhere below.rest;
+      owned = joined_owned s kept c.self.inside.queues.locks locks1 at c.args.row.now c.args.owner c.args.parent same added.fresh lock others owner parent c.join_process.new.processes c.join_process.new.locks c.join_parent.new.locks process.owned process.here process.elsewhere process.relinks process.rest below.here below.elsewhere below.rest;
       below = below.below;
-      named = joined_named s kept c.reserve_one.new.records locks1 at c.args.row c.args.owner c.args.parent same added.fresh lock others owner parent c.join_process.new.processes c.join_process.new.locks c.join_parent.new.locks process.owned process.here process.elsewhere process.relinks process.rest below.here below.elsewhere below.rest;
+      named = joined_named s kept c.self.inside.queues.locks locks1 at c.args.row.now c.args.owner c.args.parent same added.fresh lock others owner parent c.join_process.new.processes c.join_process.new.locks c.join_parent.new.locks process.owned process.here process.elsewhere process.relinks process.rest below.here below.elsewhere below.rest;
       processes_linked = own_process_linked s.processes c.join_process.new.processes process.rest s.process_order kept.processes_linked;
       processes_ordered = own_process_whole s.processes c.join_process.new.processes process.rest s.process_order kept.processes_linked kept.processes_ordered;
       processes = Indexes-same (get nat_eq s.process_index) (get nat_eq s.process_index) (pid_at s.processes) (pid_at c.join_process.new.processes) (λ k. refl) (own_pids s.processes c.join_process.new.processes process.rest) kept.processes;
@@ -174,16 +177,16 @@ returns-clause-added c =
     let locks1 = c.join_line.new.locks in
     let lined = line_queued q'.locks locks1 c.join_line.ensures.rest in
     let lock = lined at ∙ added.lock in
-    let others : (k : ℕ) → k ≢ at → option_map but_queued (slot_of locks1 k) ≡ option_map but_queued (slot_of c.reserve_one.new.records k) = λ k differs. lined k ∙ added.kin k differs in
-    let same : (k : ℕ) → slot_of c.reserve_one.new.records k ≡ slot_of s.queues.locks k = λ k. ap (λ x. slot_of x k) c.reserve_one.ensures.records in
+    let others : (k : ℕ) → k ≢ at → option_map but_queued (slot_of locks1 k) ≡ option_map but_queued (slot_of c.self.inside.queues.locks k) = λ k differs. lined k ∙ added.kin k differs in
+    let same : (k : ℕ) → slot_of s.queues.locks k ≡ slot_of s.queues.locks k = λ k. refl in
     let owner = rw (← c.self.view_is) at c.requires.owner in
     let parent = rw (← c.self.view_is) at c.requires.parent in
     let process = c.join_process.ensures in
     let below = c.join_parent.ensures in
     let rest = added.rest in
     let q'' = record q' { locks = c.join_parent.new.locks } in
-    let kin = same_then but_kin q'.locks locks1 c.join_parent.new.locks (line_kin q'.locks locks1 c.join_line.ensures.rest) (joined_kin s kept c.reserve_one.new.records locks1 at c.args.row c.args.owner c.args.parent same added.fresh lock others owner parent c.join_process.new.processes c.join_process.new.locks c.join_parent.new.locks process.owned process.here process.elsewhere process.relinks process.rest below.here below.elsewhere below.rest) in
-    let handles1 = reserved_handles s.queues c.reserve_one.new.records same kept.placed in
+    let kin = same_then but_kin q'.locks locks1 c.join_parent.new.locks (line_kin q'.locks locks1 c.join_line.ensures.rest) (joined_kin s kept c.self.inside.queues.locks locks1 at c.args.row.now c.args.owner c.args.parent same added.fresh lock others owner parent c.join_process.new.processes c.join_process.new.locks c.join_parent.new.locks process.owned process.here process.elsewhere process.relinks process.rest below.here below.elsewhere below.rest) in
+    let handles1 = reserved_handles s.queues c.self.inside.queues.locks same kept.placed in
     let handles2 = kin_handles q' c.join_parent.new.locks kin added.laid_out.placed in
     let unlisted : (p : Place) → ¬ IsIn at (handles_at s.queues p) =
     λ p. vacant_unlisted queue_links s.queues.locks (list_at s.queues p) (kept.placed.linked p) at (sym (same at) ∙ added.fresh) in
@@ -191,15 +194,15 @@ returns-clause-added c =
     let s' = record s { queues = q''; line = c.join_line.new.line; processes = c.join_process.new.processes; lock_index = c.insert.new.self } in
     let new = tables q'' s.order (beside_shown s') in
     let rows2 = kin_rows q' c.join_parent.new.locks kin in
-    let change = joining c.args.to (record { at = at; row = c.args.row }) in
+    let change = joining c.args.to (record { at = at; row = c.args.row.now }) in
     rw (← c.self.view_is, c.of-at.ensures)
     (lists_changed_beside old new change (faces_same s.queues.resources q'.resources rest)
-    (joining-under_handle (rows s.queues) (rows q'') (handles_at s.queues) (handles_at q'') at c.args.row c.args.to (rows2 at ∙ added.row) (λ k differs. rows2 k ∙ added.rows k differs ∙ ap row_in (same k)) unlisted
+    (joining-under_handle (rows s.queues) (rows q'') (handles_at s.queues) (handles_at q'') at c.args.row.now c.args.to (rows2 at ∙ added.row) (λ k differs. rows2 k ∙ added.rows k differs ∙ ap row_in (same k)) unlisted
     (handles2 c.args.to ∙ added.here ∙ ap (λ ks. ks ++ at ∷ []) (handles1 c.args.to)) (λ p differs. handles2 p ∙ added.elsewhere p differs ∙ handles1 p))
     (order_handles but_queues (λ r. refl) s.queues.resources q'.resources rest s.order kept.linked) refl
     ∙ ap (λ ps. record (with_lists change (records_of old)) { processes = ps; room = (records_of new).room })
-    (joined_processes s kept c.reserve_one.new.records locks1 at c.args.row c.args.owner c.args.parent same added.fresh lock others owner parent c.join_process.new.processes c.join_process.new.locks c.join_parent.new.locks process.owned process.here process.elsewhere process.relinks process.rest below.here below.elsewhere below.rest ∙ ap (map (process_with_lock c.args.owner c.args.parent at)) (sym (records_processes old)))
-    ∙ ap (λ r. record (with_new_lock at c.args.row c.args.owner c.args.parent c.args.to (records_of old)) { room = r })
+    (joined_processes s kept c.self.inside.queues.locks locks1 at c.args.row.now c.args.owner c.args.parent same added.fresh lock others owner parent c.join_process.new.processes c.join_process.new.locks c.join_parent.new.locks process.owned process.here process.elsewhere process.relinks process.rest below.here below.elsewhere below.rest ∙ ap (map (process_with_lock c.args.owner c.args.parent at)) (sym (records_processes old)))
+    ∙ ap (λ r. record (with_new_lock at c.args.row.now c.args.owner c.args.parent c.args.to (records_of old)) { room = r })
     (room_shown (λ a b. b ≡ record a { locks = b.locks }) old new
     (rooms_are _ _ _ _ _ _ refl (room_of_same s.queues.resources q'.resources (spare s.resource_index) added.resources_room) (room_of_same s.processes c.join_process.new.processes (spare s.process_index) process.processes_room))))
 
@@ -208,7 +211,7 @@ returns-clause-fresh c stored =
     let s = c.self.inside in
     let is = rw (c.of-at.ensures, ← c.self.view_is) at stored in
     let there = (stored_there s.queues s.order (beside_shown s) c.self.invariant.placed c.add-slot.result is.0 is.1).0 in
-    let vacant : slot_of s.queues.locks c.add-slot.result ≡ None = sym (ap (λ x. slot_of x c.add-slot.result) c.reserve_one.ensures.records) ∙ c.add-slot.ensures.fresh in
+    let vacant : slot_of s.queues.locks c.add-slot.result ≡ None = c.add-slot.ensures.fresh in
     let nothing : IsSome {T = Lock} None = rw vacant at there in
     absurd (cc)
 
@@ -219,32 +222,25 @@ returns-clause-taken c =
     let s' = record s { queues = q''; line = c.join_line.new.line; processes = c.join_process.new.processes; lock_index = c.insert.new.self } in
     rw (← c.self.view_is)
     (room_shown (λ a b. IsTaken a.locks b.locks) (tables s.queues s.order (beside_shown s)) (tables q'' s.order (beside_shown s'))
-    (is_taken s.queues.locks c.reserve_one.new.records q''.locks (spare s.lock_index) (spare c.reserve_one.new.index) (spare c.insert.new.self) c.reserve_one.ensures.records c.reserve_one.ensures.capacity
-    (ap (λ (p : ℕ × ℕ). p.0 + 1) (c.join_parent.ensures.locks_room ∙ c.join_process.ensures.locks_room ∙ c.join_line.ensures.room) ∙ c.add-slot.ensures.taken) c.reserve_one.ensures.finds c.insert.ensures.spare))
-
--- where there is room none is refused
-pub returns-in_err-reserve_one-clause-succeeds : goal.returns-in_err-reserve_one-clause-succeeds
-returns-in_err-reserve_one-clause-succeeds c has =
-    let s = c.self.inside in
-    let room = has_room s.queues.locks (spare s.lock_index) (shown_room (λ r. HasRoom r.locks) (tables s.queues s.order (beside_shown s)) (rw (← c.self.view_is) at has)) in
-    let never = c.in_err-reserve_one.ensures.succeeds room.0 room.1 room.2 in
-    cc
-
-pub returns-in_err-reserve_one-clause-err : goal.returns-in_err-reserve_one-clause-err
-returns-in_err-reserve_one-clause-err c =
-    rw (← c.self.view_is)
-    (on_err c.from_residual.result _ (lock_room_made c.self.inside c.reserve_one.new.records (spare c.reserve_one.new.index) c.reserve_one.ensures.records c.reserve_one.ensures.capacity c.reserve_one.ensures.finds))
+    (is_taken s.queues.locks c.self.inside.queues.locks q''.locks (spare s.lock_index) (spare c.self.inside.lock_index) (spare c.insert.new.self) refl (omega arith)
+    (ap (λ (p : ℕ × ℕ). p.0 + 1) (c.join_parent.ensures.locks_room ∙ c.join_process.ensures.locks_room ∙ c.join_line.ensures.room) ∙ c.add-slot.ensures.taken) (omega arith) c.insert.ensures.spare))
 
 pub add-slot-requires-clause-laid_out : goal.add-slot-requires-clause-laid_out
 add-slot-requires-clause-laid_out c = record {
   placed =
       let s = c.self.inside in
-      reserved_placed s.queues c.reserve_one.new.records (λ k. ap (λ x. slot_of x k) c.reserve_one.ensures.records) c.self.invariant.placed;
+      reserved_placed s.queues c.self.inside.queues.locks (λ _. refl) c.self.invariant.placed;
   tallied =
       let s = c.self.inside in
-      reserved_tallied s.queues c.reserve_one.new.records (λ k. ap (λ x. slot_of x k) c.reserve_one.ensures.records) c.self.invariant.placed c.self.invariant.tallied;
+      reserved_tallied s.queues c.self.inside.queues.locks (λ _. refl) c.self.invariant.placed c.self.invariant.tallied;
   armed =
       let s = c.self.inside in
-      let same : (k : ℕ) → slot_of c.reserve_one.new.records k ≡ slot_of s.queues.locks k = λ k. ap (λ x. slot_of x k) c.reserve_one.ensures.records in
-      armed_reserved s.queues c.reserve_one.new.records same (reserved_handles s.queues c.reserve_one.new.records same c.self.invariant.placed) c.self.invariant.armed;
+      let same : (k : ℕ) → slot_of s.queues.locks k ≡ slot_of s.queues.locks k = λ k. refl in
+      armed_reserved s.queues c.self.inside.queues.locks same (reserved_handles s.queues c.self.inside.queues.locks same c.self.invariant.placed) c.self.invariant.armed;
 }
+
+pub add-slot-requires-clause-room : goal.add-slot-requires-clause-room
+add-slot-requires-clause-room c = (has_its_room c.self.inside (rw (← c.self.view_is) at c.requires.room)).0
+
+pub add-slot-requires-clause-within : goal.add-slot-requires-clause-within
+add-slot-requires-clause-within c = (has_its_room c.self.inside (rw (← c.self.view_is) at c.requires.room)).1
