@@ -157,7 +157,7 @@ module _ (res : ℕ) (old s new : Records) (old_block block : ValueBlock) (sound
 -- ---- nothing is queued
 
 -- a queue without locks
-empty_is : (rows : List Row) → is_empty rows ≡ true → rows ≡ []
+pub empty_is : (rows : List Row) → is_empty rows ≡ true → rows ≡ []
 empty_is [] empty = refl
 empty_is (row ∷ rows) empty = cc
 

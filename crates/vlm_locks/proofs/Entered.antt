@@ -19,7 +19,7 @@ use Rattle.vlm_locks.specs.Rest.{but_service}
 use Rattle.vlm_locks.proofs.Found.{resource_alone, resource_at-put}
 use Rattle.vlm_locks.specs.declared.entering.Entry.{Entry}
 use Rattle.vlm_locks.specs.Owing.{entered_row}
-use Rattle.vlm_locks.specs.Entering.{IsAdded, IsEntered, entered_queue, resource_for}
+use Rattle.vlm_locks.specs.Entering.{IsAdded, IsEntered, entered_queue, resource_for, new_row}
 use Rattle.vlm_words.specs.Resources.{IsKeyed}
 use Rattle.vlm_locks.specs.Rest.{IsAtRest, IsReplaced, OtherLocksStay}
 use Rattle.vlm_locks.proofs.Keyed.{AreKeyed, finds_one, key_cases}
@@ -91,8 +91,8 @@ on_resource-absent res left (x ∷ rest) absent =
 module _ (e : Entry) (keyed : IsKeyed e.site.domain e.site.key) where
   -- the resource of the key is the only one that changes
   pub entered_one : (r left : StoredResource) (rs : List StoredResource) → AreKeyed rs → AreResourcesApart rs → IsIn r rs → r.key ≡ e.site.key
-      → ((x : StoredResource) → IsIn x rs → x.key ≡ e.site.key → x.at ≡ r.at) → plain_resource left ≡ resource_after_entry e.row e.at_once (plain_resource r)
-      → map plain_resource (on_resource r.at (λ x. left) rs) ≡ resources_after_entry e.serial e.site e.row e.at_once (map plain_resource rs)
+      → ((x : StoredResource) → IsIn x rs → x.key ≡ e.site.key → x.at ≡ r.at) → plain_resource left ≡ resource_after_entry (new_row e) e.at_once (plain_resource r)
+      → map plain_resource (on_resource r.at (λ x. left) rs) ≡ resources_after_entry e.serial e.site (new_row e) e.at_once (map plain_resource rs)
   entered_one r left [] all apart among same only after = absurd among
   entered_one r left (x ∷ rest) all apart among same only after =
       elim (key_cases e.site.domain e.site.key keyed x (all x (inl refl))) [
@@ -100,8 +100,8 @@ module _ (e : Entry) (keyed : IsKeyed e.site.domain e.site.key) where
             let at : x.at ≡ r.at = only x (inl refl) here.1 in
             let is : x ≡ r = elim among [ inl is ↦ is | inr there ↦ absurd (apart.0 r there (sym at)) ] in
             rw (eq-eqb x.at r.at at, here.0)
-            (ap (λ y. y ∷ map plain_resource (on_resource r.at (λ y. left) rest)) (after ∙ ap (λ y. resource_after_entry e.row e.at_once (plain_resource y)) (sym is))
-            ∙ ap (λ ys. resource_after_entry e.row e.at_once (plain_resource x) ∷ map plain_resource ys)
+            (ap (λ y. y ∷ map plain_resource (on_resource r.at (λ y. left) rest)) (after ∙ ap (λ y. resource_after_entry (new_row e) e.at_once (plain_resource y)) (sym is))
+            ∙ ap (λ ys. resource_after_entry (new_row e) e.at_once (plain_resource x) ∷ map plain_resource ys)
             (on_resource-absent r.at left rest (λ y there there_at. apart.0 y there (there_at ∙ sym at))))
         | inr other ↦ elim among [
           | inl is ↦ absurd (other.1 (ap (λ (y : StoredResource). y.key) is ∙ same))
@@ -195,12 +195,12 @@ module _ (s : Records) (sound : IsSound s) (rest : IsAtRest s) (e : Entry) (keye
             by_place (Queued r queue) here = (Queued r queue, here)
 
     -- what held between two steps holds with it
-    rest_with : ¬ IsStored at s → IsSameLock e.row row → IsAboveEachLock e.row.lkid s → IsAtRest new
+    rest_with : ¬ IsStored at s → IsSameLock (new_row e) row → IsAboveEachLock e.lkid s → IsAtRest new
     rest_with fresh same above = record {
       none_loose = new_loose ∙ rest.none_loose;
       keyed = keyed_still res found.0 left (owned_by e at s) new replaced rest.keyed;
       rising = subst (AllRise new) (sym new_processes)
-          (all_rise_with e.owner e.parent at s new sound e.row.lkid fresh above
+          (all_rise_with e.owner e.parent at s new sound e.lkid fresh above
           (λ x other stored. elim (lock_cases x other stored) [ inl is ↦ inl (is.0, ap (λ (r : Row). r.lkid) is.1 ∙ sym same.lkid) | inr there ↦ inr there ])
           rest.rising);
     }
@@ -214,8 +214,8 @@ module _ (s : Records) (sound : IsSound s) (rest : IsAtRest s) (e : Entry) (keye
     same_at x among same = sym (sound.keys_apart found.0 x found.1.0 among (found.1.2 ∙ sym same))
 
     -- the resources are those of the plain machine
-    entered_here : plain_resource left ≡ resource_after_entry e.row e.at_once (plain_resource found.0)
-        → plain_resources new ≡ resources_after_entry e.serial e.site e.row e.at_once (plain_resources s)
+    entered_here : plain_resource left ≡ resource_after_entry (new_row e) e.at_once (plain_resource found.0)
+        → plain_resources new ≡ resources_after_entry e.serial e.site (new_row e) e.at_once (plain_resources s)
     entered_here after =
         ap (map plain_resource) new_resources ∙ ap (λ x. map plain_resource (on_resource x (λ y. left) s.resources)) (sym found.1.1)
         ∙ entered_one e keyed found.0 left s.resources rest.keyed sound.resources_apart found.1.0 found.1.2 same_at after
@@ -236,7 +236,7 @@ module _ (s : Records) (sound : IsSound s) (rest : IsAtRest s) (e : Entry) (keye
         of_queue Waiting = among_last (record { at = at; row = row }) found.0.waiting
 
     -- it alone is added
-    is_added : ¬ IsStored at s → IsSameLock e.row row → IsAdded e s new
+    is_added : ¬ IsStored at s → IsSameLock (new_row e) row → IsAdded e s new
     is_added fresh same = record {
       lock = at;
       fresh = fresh;
@@ -248,7 +248,7 @@ module _ (s : Records) (sound : IsSound s) (rest : IsAtRest s) (e : Entry) (keye
     }
 
     -- the lock has entered the resource
-    pub entered_by : ¬ IsStored at s → IsSameLock e.row row → IsAboveEachLock e.row.lkid s → IsProcess e.owner e.row.pid s → plain_resource left ≡ resource_after_entry e.row e.at_once (plain_resource found.0)
+    pub entered_by : ¬ IsStored at s → IsSameLock (new_row e) row → IsAboveEachLock e.lkid s → IsProcess e.owner e.pid s → plain_resource left ≡ resource_after_entry (new_row e) e.at_once (plain_resource found.0)
         → IsEntered e res s new
     entered_by fresh same above owner after = record {
       taken = record {

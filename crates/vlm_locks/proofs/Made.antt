@@ -14,7 +14,7 @@ use Rattle.vlm_store.specs.Plain.{plain_resource, plain_resources}
 use Rattle.vlm_store.specs.Records.{FindsResource, IsNewKey, IsParentOf, Records, Rooms, StoredResource, Stores, locks_at, new_stored_resource, queued, resource_at, with_resource_room, without_lock, without_resource}
 use Rattle.vlm_words.specs.declared.locks.Row.{Row}
 use Rattle.vlm_locks.specs.declared.entering.Entry.{Entry}
-use Rattle.vlm_locks.specs.Entering.{IsEntered, resource_for}
+use Rattle.vlm_locks.specs.Entering.{IsEntered, resource_for, new_row}
 use Rattle.vlm_words.specs.Resources.{IsKeyed}
 use Rattle.vlm_locks.specs.Rest.{IsAtRest}
 use Rattle.vlm_locks.specs.Rising.{IsAboveEachLock}
@@ -130,13 +130,13 @@ module _ (e : Entry) (res : ℕ) (room : Rooms) (s : Records) where
         only x among same = elim (made_cases (made e res) s.resources x among) [ inl is ↦ is | inr was ↦ absurd (free x was same) ]
 
     -- its entry leaves the same resources
-    same_after : resources_after_entry e.serial e.site e.row e.at_once (plain_resources (with_made e res room s))
-        ≡ resources_after_entry e.serial e.site e.row e.at_once (plain_resources s)
+    same_after : resources_after_entry e.serial e.site (new_row e) e.at_once (plain_resources (with_made e res room s))
+        ≡ resources_after_entry e.serial e.site (new_row e) e.at_once (plain_resources s)
     same_after = of_list s.resources rest.keyed free
       where
         of_list : (rs : List StoredResource) → AreKeyed rs → IsKeyFree e.site.key rs
-            → resources_after_entry e.serial e.site e.row e.at_once (map plain_resource (rs ++ made e res ∷ []))
-            ≡ resources_after_entry e.serial e.site e.row e.at_once (map plain_resource rs)
+            → resources_after_entry e.serial e.site (new_row e) e.at_once (map plain_resource (rs ++ made e res ∷ []))
+            ≡ resources_after_entry e.serial e.site (new_row e) e.at_once (map plain_resource rs)
         of_list [] all free =
             elim (key_cases e.site.domain e.site.key keyed (made e res) keyed) [
               | inl here ↦ rw (here.0) refl

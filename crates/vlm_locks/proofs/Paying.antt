@@ -174,7 +174,7 @@ module _ (row : Row) (unarmed : row.armed ≡ false) where
         omega (arith, due_noticed t u same pid, owed pid, more.due pid, more.dues pid, owes pid, new_due_to pid)
 
 -- each process is owed what was due to it, and that of the entry the ASTs of the routines that its request names
-pub owes_ready : (e : Entry) (s t : Records) → IsReady e s t → IsPaid s → OwesMore e.row.pid (routines_of e.row.want) t
+pub owes_ready : (e : Entry) (s t : Records) → IsReady e s t → IsPaid s → OwesMore e.pid (routines_of (Some e.asked)) t
 owes_ready e s t ready paid =
-    owes_more e.row.pid (routines_of e.row.want) (record s { room = t.room }) t paid ready.owed
+    owes_more e.pid (routines_of (Some e.asked)) (record s { room = t.room }) t paid ready.owed
     (record { resources = ready.resources; loose = ready.loose; processes = ready.processes; room = refl; keys = ready.keys })

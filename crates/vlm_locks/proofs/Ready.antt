@@ -14,7 +14,7 @@ use Rattle.vlm_records.specs.declared.handles.Place.TheVariants.{Loose, Queued}
 use Rattle.vlm_store.specs.Plain.{plain_processes, plain_resource, plain_resources}
 use Rattle.vlm_store.specs.Records.{DueChanges, FindsResource, HasRoom, HasRoomForLock, HasRoomForResource, IsParentOf, IsProcess, IsUnchanged, Records, Rooms, SameButNotices, StoredProcess, Stores, but_notices, due_of, locks_at, process_with_lock, queued, resource_at, without_lock, without_resource}
 use Rattle.vlm_locks.specs.declared.entering.Entry.{Entry}
-use Rattle.vlm_locks.specs.Entering.{HasEntered, IsAdded, IsReady, MayEnter, processes_entered, resource_for}
+use Rattle.vlm_locks.specs.Entering.{HasEntered, IsAdded, IsReady, MayEnter, processes_entered, resource_for, new_row}
 use Rattle.vlm_locks.proofs.Found.{process_still}
 use Rattle.vlm_locks.proofs.Rising.{all_rise_still, were_stored}
 
@@ -57,8 +57,8 @@ module _ (e : Entry) (s o : Records) (ready : IsReady e s o) where
       rising = all_rise_still s o (were_stored s o ready.resources ready.loose) ready.processes may.rest.rising;
     };
     rising = λ at row stored. may.rising at row (was_stored at row stored);
-    owner = process_still (record s { room = o.room }) o e.owner e.row.pid same may.owner;
-    parent = parent_ready e.parent e.row may.parent;
+    owner = process_still (record s { room = o.room }) o e.owner e.pid same may.owner;
+    parent = parent_ready e.parent (new_row e) may.parent;
     keyed = may.keyed;
     hash = may.hash ∙ ap (λ (h : HashKeys). hash_key h e.site.key) (sym ready.keys);
   }
@@ -86,7 +86,7 @@ module _ (e : Entry) (s o : Records) (ready : IsReady e s o) where
     taken =
         let taken = entered.taken in
         record {
-          entered = taken.entered ∙ ap (λ rs. resources_after_entry e.serial e.site e.row e.at_once (map plain_resource rs)) ready.resources;
+          entered = taken.entered ∙ ap (λ rs. resources_after_entry e.serial e.site (new_row e) e.at_once (map plain_resource rs)) ready.resources;
           added = added_ready t taken.added;
           others = taken.others ∙ ap (without_resource res) ready.resources;
           there = taken.there;
@@ -104,9 +104,9 @@ on_ok_of (Ok x) f a b c = f a b c
 on_ok_of (Err e) f a b c = tt
 
 -- room is made, and then the ASTs are owed
-pub made_ready : {T E : Type 0} (r : Result T E) (e : Entry) (s mid o : Records) → IsUnchanged s mid → HasRoomForLock mid → (e.res ≡ None → HasRoomForResource mid) → IsProcess e.owner e.row.pid mid
+pub made_ready : {T E : Type 0} (r : Result T E) (e : Entry) (s mid o : Records) → IsUnchanged s mid → HasRoomForLock mid → (e.res ≡ None → HasRoomForResource mid) → IsProcess e.owner e.pid mid
     → OnOk r (plain_processes o ≡ plain_processes mid)
-    → OnOk r ((pid : ℕ) → IsProcess e.owner pid mid → DueChanges pid (λ due. due + routines_of e.row.want) mid o)
+    → OnOk r ((pid : ℕ) → IsProcess e.owner pid mid → DueChanges pid (λ due. due + routines_of (Some e.asked)) mid o)
     → OnOk r (SameButNotices mid o) → OnOk r (IsReady e s o)
 made_ready r e s mid o unchanged lock resource lives =
     on_ok_of r (λ statuses owed same. record {
@@ -118,6 +118,6 @@ made_ready r e s mid o unchanged lock resource lives =
       lock = subst (λ (room : Rooms). HasRoom room.locks) (sym same.room) lock;
       resource = λ none. subst (λ (room : Rooms). HasRoom room.resources) (sym same.room) (resource none);
       owed = λ pid.
-          owed e.row.pid lives pid
-          ∙ ap (λ (due : ℕ). cond (pid == e.row.pid) (due + routines_of e.row.want) due) (ap (due_of pid) unchanged.same);
+          owed e.pid lives pid
+          ∙ ap (λ (due : ℕ). cond (pid == e.pid) (due + routines_of (Some e.asked)) due) (ap (due_of pid) unchanged.same);
     })

@@ -1,14 +1,17 @@
 -- The granted locks of a resource are warned, one after the other.
 use Rattle.std.proofs.Common.{◌≡◌, ◌≢◌, ◌≤◌, ◌<◌, ◌+◌, ◌-◌, ℕ, Bool, true, false, List, [], ◌∷◌, ◌++◌, map, flat_map, length, cond, Option, None, Some, IfSome, IsSome, append_assoc, refl, sym, ap, ◌∙◌, subst, inl, inr, arith, eq-eqb, ne_eqb}
-use Rattle.std.specs.Prelude.{◌==◌}
+use Rattle.std.specs.Prelude.{◌==◌, ◌&&◌, ◌||◌}
+use Rattle.std.specs.List.{list_any}
 use Rattle.std.specs.Option.{option_map_or}
 use Rattle.std.proofs.lemmas.Bool.{and_parts, cases_Bool, cases_eq}
 use Rattle.std.proofs.lemmas.List.{append-nil, map-append}
 use Rattle.std.proofs.lemmas.Option.{none-some, same_Some}
+use Rattle.vlm_words.specs.declared.locks.Request.{Request}
 use Rattle.vlm_words.specs.declared.locks.Row.{Row}
 use Rattle.vlm_words.specs.declared.resources.Queue.{Queue}
 use Rattle.vlm_words.specs.declared.resources.Queue.TheVariants.{Granted, Conversion, Waiting}
-use Rattle.vlm_words.specs.State.{Process}
+use Rattle.vlm_words.specs.Grants.{is_empty}
+use Rattle.vlm_words.specs.State.{Process, Resource}
 use Rattle.vlm_words.specs.Asts.{Queued as QueuedAst, blocking_asts, has_to_warn, is_in_the_way, is_to_warn, processes_after_asts, processes_after_queueing, resource_after_warning, row_after_warning, row_warnings, warnings}
 use Rattle.vlm_words.specs.Dues.{due_to, one_where, routines_of, row_due}
 use Rattle.vlm_words.proofs.Warned.{blind_warned}
@@ -22,7 +25,9 @@ use Rattle.vlm_store.specs.Records.{AreApart, DueChanges, HasResource, IsSameLoc
 use Rattle.vlm_store.proofs.Records.{map_on, queue_at}
 use Rattle.vlm_locks.specs.Owing.{DueMoves, IsPaid, OwedMoves, due_for}
 use Rattle.vlm_locks.specs.Rest.{IsReplaced}
+use Rattle.vlm_locks.specs.Serving.{nothing_queued}
 use Rattle.vlm_locks.specs.Staying.{LocksStay}
+use Rattle.vlm_locks.proofs.Ended.{empty_is}
 use Rattle.vlm_locks.specs.Warning.{IsLockWarned, IsWarned, disarmed_if, disarmed_row, is_warned_on}
 use Rattle.vlm_locks.proofs.ArmedOnes.{StartsArmed, among_armed, armed_apart, armed_split, behind, from_armed, from_lock, handles, handles_from}
 use Rattle.vlm_locks.proofs.Found.{on_resource-own, on_resource-put, resource_alone, resource_at-put}
@@ -563,6 +568,35 @@ none_warned res s sound there none = of_found (resource_at res s.resources) refl
       resource = sym (unwarned_stays (plain_resource r) (sym none));
       statuses = sym (ap (λ queued. processes_after_asts queued (plain_processes s)) (unwarned_says_nothing (plain_resource r) (sym none)));
     }
+
+-- where nothing is queued nobody is to be warned
+unwarned : (queued : Resource) → nothing_queued queued ≡ true → (row : Row) → is_to_warn queued.converting queued.waiting row ≡ false
+unfolding is_to_warn
+unwarned queued nothing row = rw (not_held row.held) (one row.armed)
+  where
+    both : (is_empty queued.converting ≡ true) × (is_empty queued.waiting ≡ true)
+    both = and_parts (is_empty queued.converting) (is_empty queued.waiting) nothing
+
+    not_held : (held : Option Request) → is_in_the_way held queued.converting queued.waiting ≡ false
+    not_held None = refl
+    not_held (Some held) = rw (empty_is queued.converting both.0, empty_is queued.waiting both.1) refl
+
+    one : (armed : Bool) → (armed && false) ≡ false
+    one true = refl
+    one false = refl
+
+none_unwarned : (queued : Resource) → nothing_queued queued ≡ true → (rows : List Row) → list_any (is_to_warn queued.converting queued.waiting) rows ≡ false
+none_unwarned queued nothing [] = refl
+none_unwarned queued nothing (row ∷ rows) = rw (unwarned queued nothing row) (none_unwarned queued nothing rows)
+
+pub none_in_the_way : (res : ℕ) (s : Records) → IsSound s → HasResource res s → IfSome (resource_at res s.resources) (λ r. true ≡ nothing_queued (plain_resource r))
+    → IfSome (resource_at res s.resources) (λ r. IsWarned res r s s)
+unfolding has_to_warn
+none_in_the_way res s sound there nothing = none_warned res s sound there (of_found (resource_at res s.resources) nothing)
+  where
+    of_found : (o : Option StoredResource) → IfSome o (λ r. true ≡ nothing_queued (plain_resource r)) → IfSome o (λ r. false ≡ has_to_warn (plain_resource r))
+    of_found None nothing = tt
+    of_found (Some r) nothing = sym (none_unwarned (plain_resource r) (sym nothing) (plain_resource r).granted)
 
 -- the walk is at its end
 pub if_warned : (res : ℕ) (old s : Records) (next : Option ℕ) (warning : IsWarning res old s next) → None ≡ next → IfSome (resource_at res old.resources) (λ r. IsWarned res r old s)

@@ -1,5 +1,5 @@
 -- The entry of a new lock into the queues of a resource.
-use Rattle.std.specs.Prelude.{◌≡◌, ◌+◌, ℕ, Bool, true, List, [], find, map, unwrap_or, IfSome, Option, None, Some, if◌then◌else◌}
+use Rattle.std.specs.Prelude.{◌≡◌, ◌+◌, ℕ, Bool, true, false, List, [], find, map, unwrap_or, IfSome, Option, None, Some, if◌then◌else◌}
 use Rattle.vlm_store.specs.Index.{hash_key}
 use Rattle.vlm_words.specs.declared.locks.Request.{Request}
 use Rattle.vlm_words.specs.declared.locks.Row.{Row}
@@ -20,6 +20,17 @@ use Rattle.vlm_locks.specs.Owing.{IsPaid, due_for}
 use Rattle.vlm_locks.specs.Rest.{IsAtRest, OtherLocksStay, OthersStay}
 use Rattle.vlm_locks.specs.Rising.{IsAboveEachLock}
 
+-- the row of the new lock: it wants what it asks for, and holds nothing
+abbrev pub new_row : Entry → Row
+new_row e = record {
+  lkid = e.lkid;
+  pid = e.pid;
+  parent = e.parent_lkid;
+  held = None;
+  want = Some e.asked;
+  armed = false;
+}
+
 -- the resource that the lock finds under its key: a new one where none is there
 abbrev pub resource_for : Entry → List Resource → Resource
 resource_for e resources = unwrap_or (find (is_at e.site.key) resources) (new_resource e.serial e.site)
@@ -32,9 +43,9 @@ entered_queue at_once = if at_once then Granted else Waiting
 -- there, the handle of its resource fits the domain, and its key is hashed as the index does
 pub record MayEnter (e : Entry) (s : Records) : Type 0 where
   pub rest : IsAtRest s
-  pub rising : IsAboveEachLock e.row.lkid s
-  pub owner : IsProcess e.owner e.row.pid s
-  pub parent : IsParentOf e.parent e.row s
+  pub rising : IsAboveEachLock e.lkid s
+  pub owner : IsProcess e.owner e.pid s
+  pub parent : IsParentOf e.parent (new_row e) s
   pub keyed : IsKeyed e.site.domain e.site.key
   pub hash : e.hash ≡ hash_key s.keys e.site.key
 
@@ -42,7 +53,7 @@ pub record MayEnter (e : Entry) (s : Records) : Type 0 where
 pub record HasRoomToEnter (e : Entry) (s : Records) : Type 0 where
   pub lock : HasRoomForLock s
   pub resource : e.res ≡ None → HasRoomForResource s
-  pub asts : routines_of e.row.want ≡ 0
+  pub asts : routines_of (Some e.asked) ≡ 0
 
 -- there is room for the lock, and for its resource where none is there, and its process is owed the ASTs of the routines
 -- that its request names; nothing else is changed
@@ -54,23 +65,18 @@ pub record IsReady (e : Entry) (old new : Records) : Type 0 where
   pub statuses : plain_processes new ≡ plain_processes old
   pub lock : HasRoomForLock new
   pub resource : e.res ≡ None → HasRoomForResource new
-  pub owed : DueChanges e.row.pid (λ due. due + routines_of e.row.want) old new
+  pub owed : DueChanges e.pid (λ due. due + routines_of (Some e.asked)) old new
 
 -- more is due, by what is due for a new lock with this row, and what is owed stays
 pub record IsDueMore (row : Row) (old new : Records) : Type 0 where
   pub due : (pid : ℕ) → due_for pid new ≡ due_for pid old + due_to pid row
   pub dues : DuesStay old new
 
--- the processes once what a lock wants is accepted: its status block is that of a pending request
-abbrev pub processes_accepted : Option Request → Row → List Process → List Process
-processes_accepted None row processes = processes
-processes_accepted (Some want) row processes = processes_after_acceptance row.pid want.block row.lkid processes
-
 -- the processes once a new lock has entered: its request is accepted, and has ended if it is granted at once
 abbrev pub processes_entered : Entry → ValueBlock → List Process → List Process
 processes_entered e block processes =
-    (blocks_after (if e.at_once then grant_endings true e.row else [])
-    (blocks_with block (processes_accepted e.row.want e.row processes))).processes
+    (blocks_after (if e.at_once then grant_endings true (new_row e) else [])
+    (blocks_with block (processes_after_acceptance e.pid e.asked.block e.lkid processes))).processes
 
 -- one lock is added, that of the entry, under a handle that no lock had: it is the last of its process, and of those below
 -- its parent; each other lock stands where it stood
@@ -79,14 +85,14 @@ pub record IsAdded (e : Entry) (old new : Records) : Type 0 where
   pub fresh : ¬ IsStored lock old
   pub row : Row
   pub stands : Stores new lock row
-  pub same : IsSameLock e.row row
+  pub same : IsSameLock (new_row e) row
   pub own_locks : map but_notices new.processes ≡ map but_notices (map (process_with_lock e.owner e.parent lock) old.processes)
   pub others : OtherLocksStay lock old new
 
 -- the lock stands on the resource of this handle, in the queue where its request puts it, and no other lock and no other
 -- resource changed
 pub record IsTakenIn (e : Entry) (res : ℕ) (old new : Records) : Type 0 where
-  pub entered : plain_resources new ≡ resources_after_entry e.serial e.site e.row e.at_once (plain_resources old)
+  pub entered : plain_resources new ≡ resources_after_entry e.serial e.site (new_row e) e.at_once (plain_resources old)
   pub added : IsAdded e old new
   pub others : OthersStay res old new
   pub there : HasResource res new
@@ -96,7 +102,7 @@ pub record IsTakenIn (e : Entry) (res : ℕ) (old new : Records) : Type 0 where
 pub record IsEntered (e : Entry) (res : ℕ) (old new : Records) : Type 0 where
   pub taken : IsTakenIn e res old new
   pub processes : plain_processes new ≡ plain_processes old
-  pub owner : IsProcess e.owner e.row.pid new
+  pub owner : IsProcess e.owner e.pid new
   pub value_block : IfSome (resource_at res new.resources) (λ r. r.value_block ≡ (resource_for e (plain_resources old)).value_block)
 
 -- the lock is taken in on the resource of this handle, its status block is that of a pending request or tells of its grant,

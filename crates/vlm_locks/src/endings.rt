@@ -1,7 +1,9 @@
 //! What the end of a request does: it writes its status, and with VALBLK a grant returns or writes a value block; and
 //! its completion AST is queued.
 
-ghost use Rattle.std.specs.Prelude.{◌≡◌, ◌≤◌, ◌-◌, Some, is_some};
+ghost use Rattle.std.specs.Prelude.{◌≡◌, ◌≤◌, ◌-◌, Some, true, false, is_some};
+ghost use Rattle.vlm_words.specs.declared.resources.ValueBlock.{ValueBlock};
+ghost use Rattle.vlm_words.specs.Flags.{flag_bits, has_flag, valblk};
 ghost use Rattle.vlm_words.specs.Effects.{blocks_after, blocks_with};
 ghost use Rattle.vlm_words.specs.Asts.{completion_asts, processes_after_asts};
 ghost use Rattle.vlm_words.specs.Dues.{one_where, row_due};
@@ -126,6 +128,49 @@ fn completions_spared(request: &Request, at_once: bool) -> usize
     }
 }
 
+// The completion AST of a request that is granted is queued, and what is owed for its lock and does not come is forgiven.
+fn tell_grant(store: &mut Store, at: ProcAt, row: &StoredRow, request: &Request, at_once: bool)
+    requires process { IsProcess at row.now.pid store.old }
+    requires wanted { row.now.want ≡ Some request.now }
+    requires owed { row_due row.now ≤ due_of row.now.pid store.old }
+    ensures queued { plain_processes store.new ≡ processes_after_asts
+        (completion_asts at_once request.now row.now.lkid row.now.pid)
+        (plain_processes store.old) }
+    ensures owed { OwedMoves row.now (granted_row row.now) store.old store.new }
+    ensures only_notices { SameButNotices store.old store.new }
+{
+    law_records_are_sound(store);
+    complete(store, at, row, request, at_once);
+    let spared = one_where(row.is_armed()) + completions_spared(request, at_once);
+    if spared > 0 {
+        forgive(store, at, spared);
+    }
+}
+
+/// The request of a lock is granted at once, and says nothing of the value block: its status is written to the status
+/// block of the lock's process, and its completion AST is queued. What is owed for the lock and does not come is
+/// forgiven.
+#[tactic(auto, unfolding(vlm_words::specs::Grants::grant_act))]
+pub(crate) fn end_without_value_block(
+    store: &mut Store,
+    at: ProcAt,
+    row: &StoredRow,
+    request: &Request,
+)
+    requires process { IsProcess at row.now.pid store.old }
+    requires wanted { row.now.want ≡ Some request.now }
+    requires plain { has_flag (flag_bits request.now.flags) valblk ≡ false }
+    requires owed { row_due row.now ≤ due_of row.now.pid store.old }
+    ensures statuses { (block : ValueBlock) → blocks_with block (plain_processes store.new)
+        ≡ blocks_after (grant_endings true row.now)
+        (blocks_with block (plain_processes store.old)) }
+    ensures owed { OwedMoves row.now (granted_row row.now) store.old store.new }
+    ensures only_notices { SameButNotices store.old store.new }
+{
+    end(store, at, request.block, Cond::Normal);
+    tell_grant(store, at, row, request, true);
+}
+
 /// The request that the lock of a row wanted is granted, at once or from a queue: its status is written to the
 /// status block of the lock's process, with VALBLK the value block is returned there, or written from there, and
 /// its completion AST is queued. What is owed for the lock and does not come is forgiven.
@@ -152,7 +197,5 @@ pub(crate) fn end_by_grant(
         return;
     };
     write_grant(value_block, store, at, row, &request);
-    complete(store, at, row, &request, at_once);
-    let spared = one_where(row.is_armed()) + completions_spared(&request, at_once);
-    forgive(store, at, spared);
+    tell_grant(store, at, row, &request, at_once);
 }

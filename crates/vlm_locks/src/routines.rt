@@ -38,5 +38,8 @@ pub(crate) fn owe_routines(
     ensures refused { OnErr result (store.new ≡ store.old) }
     ensures succeeds { routines_of want ≡ 0 → IsOk result }
 {
-    owe(store, owner, routines_of(want))
+    match routines_of(want) {
+        0 => Ok(()),
+        count => owe(store, owner, count),
+    }
 }

@@ -1,5 +1,3 @@
-use Rattle.std.proofs.lemmas.Result.{IfOk-weaker}
-use Rattle.vlm_locks.specs.Entering.{HasEntered}
 use Rattle.vlm_locks.proofs.Paying.{owes_ready}
 use Rattle.vlm_locks.proofs.Ready.{entered_ready, found_ready, may_enter_ready}
 use Rattle.vlm_locks.proofs.entering.enter.Goals as goal
@@ -15,7 +13,4 @@ enter_ready-requires-clause-owed c = owes_ready c.args.entry.now c.args.store.no
 
 pub returns-clause-entered : goal.returns-clause-entered
 returns-clause-entered c =
-    let e = c.args.entry.now in
-    let new = c.enter_ready.new.store in
-    IfOk-weaker c.enter_ready.result (λ res. HasEntered e res c.make_ready.new.store new) (λ res. HasEntered e res c.args.store.now new)
-    (λ res. entered_ready e c.args.store.now c.make_ready.new.store c.in_ok-make_ready.ensures.ready res new) c.enter_ready.ensures.entered
+    entered_ready c.args.entry.now c.args.store.now c.make_ready.new.store c.in_ok-make_ready.ensures.ready c.enter_ready.result c.enter_ready.new.store c.enter_ready.ensures.entered

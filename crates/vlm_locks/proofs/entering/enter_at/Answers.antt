@@ -1,6 +1,6 @@
 use Rattle.std.proofs.Common.{subst}
 use Rattle.vlm_store.specs.Records.{IsNewLock, IsProcess}
-use Rattle.vlm_locks.specs.Entering.{entered_queue}
+use Rattle.vlm_locks.specs.Entering.{entered_queue, new_row}
 use Rattle.vlm_locks.specs.Owing.{entered_row}
 use Rattle.vlm_locks.proofs.Entered.{entered_by, entered_same, is_there, joins_entered, parent_same}
 use Rattle.vlm_locks.proofs.Paying.{due_entered}
@@ -8,34 +8,34 @@ use Rattle.vlm_locks.proofs.Rising.{new_above}
 use Rattle.vlm_locks.proofs.entering.enter_at.Goals as goal
 
 -- its row is that of the entry, but for what it holds and wants
-pub add_lock-requires-clause-new : goal.add_lock-requires-clause-new
-add_lock-requires-clause-new c =
+pub add_lock_reserved-requires-clause-new : goal.add_lock_reserved-requires-clause-new
+add_lock_reserved-requires-clause-new c =
     let e = c.args.entry.now in
     rw c.entered_row.ensures
-    (subst (λ lkid. IsNewLock lkid c.args.store.now) (entered_same e.at_once e.row).lkid (new_above e.row.lkid c.args.store.now c.requires.may_enter.rising))
+    (subst (λ lkid. IsNewLock lkid c.args.store.now) (entered_same e.at_once (new_row e)).lkid (new_above e.lkid c.args.store.now c.requires.may_enter.rising))
 
-pub add_lock-requires-clause-owner : goal.add_lock-requires-clause-owner
-add_lock-requires-clause-owner c =
+pub add_lock_reserved-requires-clause-owner : goal.add_lock_reserved-requires-clause-owner
+add_lock_reserved-requires-clause-owner c =
     let e = c.args.entry.now in
-    rw c.entered_row.ensures (subst (λ pid. IsProcess e.owner pid c.args.store.now) (entered_same e.at_once e.row).pid c.requires.may_enter.owner)
+    rw c.entered_row.ensures (subst (λ pid. IsProcess e.owner pid c.args.store.now) (entered_same e.at_once (new_row e)).pid c.requires.may_enter.owner)
 
-pub add_lock-requires-clause-parent : goal.add_lock-requires-clause-parent
-add_lock-requires-clause-parent c =
+pub add_lock_reserved-requires-clause-parent : goal.add_lock_reserved-requires-clause-parent
+add_lock_reserved-requires-clause-parent c =
     let e = c.args.entry.now in
-    rw c.entered_row.ensures (parent_same e.parent e.row (entered_row e.at_once e.row) c.args.store.now (entered_same e.at_once e.row) c.requires.may_enter.parent)
+    rw c.entered_row.ensures (parent_same e.parent (new_row e) (entered_row e.at_once (new_row e)) c.args.store.now (entered_same e.at_once (new_row e)) c.requires.may_enter.parent)
 
-pub add_lock-requires-clause-there : goal.add_lock-requires-clause-there
-add_lock-requires-clause-there c =
+pub add_lock_reserved-requires-clause-there : goal.add_lock_reserved-requires-clause-there
+add_lock_reserved-requires-clause-there c =
     is_there c.args.store.now c.law_records_are_sound.ensures c.requires.may_enter.rest c.args.entry.now c.requires.may_enter.keyed c.args.res c.requires.found
 
 pub returns-clause-entered : goal.returns-clause-entered
 returns-clause-entered c =
     let e = c.args.entry.now in
     let may = c.requires.may_enter in
-    let lock = c.in_ok-add_lock.field-0 in
-    entered_by c.args.store.now c.law_records_are_sound.ensures may.rest e may.keyed c.args.res c.requires.found lock (entered_row e.at_once e.row) (entered_queue e.at_once) _ c.add_lock.new.self
-    (rw (c.entered_row.ensures, c.entered_queue.ensures) at c.in_ok-add_lock.ensures.added) c.in_ok-add_lock.ensures.fresh (entered_same e.at_once e.row) may.rising may.owner
-    (joins_entered lock e.row e.at_once c.requires.found.0)
+    let lock = c.add_lock_reserved.result in
+    entered_by c.args.store.now c.law_records_are_sound.ensures may.rest e may.keyed c.args.res c.requires.found lock (entered_row e.at_once (new_row e)) (entered_queue e.at_once) _ c.add_lock_reserved.new.self
+    (rw (c.entered_row.ensures, c.entered_queue.ensures) at c.add_lock_reserved.ensures.added) c.add_lock_reserved.ensures.fresh (entered_same e.at_once (new_row e)) may.rising may.owner
+    (joins_entered lock (new_row e) e.at_once c.requires.found.0)
 
 -- more is due, by what is due for it as it has entered
 pub returns-clause-due : goal.returns-clause-due
@@ -43,5 +43,5 @@ returns-clause-due c =
     let e = c.args.entry.now in
     let may = c.requires.may_enter in
     let sound = c.law_records_are_sound.ensures in
-    due_entered c.args.store.now sound c.in_ok-add_lock.field-0 (entered_row e.at_once e.row) e.owner e.parent c.args.res (entered_queue e.at_once)
-    (is_there c.args.store.now sound may.rest e may.keyed c.args.res c.requires.found) _ c.add_lock.new.self (rw (c.entered_row.ensures, c.entered_queue.ensures) at c.in_ok-add_lock.ensures.added)
+    due_entered c.args.store.now sound c.add_lock_reserved.result (entered_row e.at_once (new_row e)) e.owner e.parent c.args.res (entered_queue e.at_once)
+    (is_there c.args.store.now sound may.rest e may.keyed c.args.res c.requires.found) _ c.add_lock_reserved.new.self (rw (c.entered_row.ensures, c.entered_queue.ensures) at c.add_lock_reserved.ensures.added)

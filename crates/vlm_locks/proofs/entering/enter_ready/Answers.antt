@@ -1,3 +1,5 @@
+use Rattle.std.proofs.Common.{refl}
+use Rattle.vlm_locks.specs.Entering.{new_row}
 use Rattle.vlm_locks.specs.Owing.{entered_row}
 use Rattle.vlm_locks.proofs.TakenIn.{has_entered}
 use Rattle.vlm_locks.proofs.Paying.{new_fits, paid_entered}
@@ -6,12 +8,14 @@ use Rattle.vlm_locks.proofs.entering.enter_ready.Goals as goal
 pub accept_entered-requires-clause-owed : goal.accept_entered-requires-clause-owed
 accept_entered-requires-clause-owed c =
     let e = c.args.entry.now in
-    new_fits e.row c.requires.new c.args.store.now c.requires.owed (entered_row e.at_once e.row) c.take_in.new.store c.in_ok-res.ensures.due
+    new_fits (new_row e) refl c.args.store.now c.requires.owed (entered_row e.at_once (new_row e)) c.take_in-res.new.store c.take_in-res.ensures.due
 
-pub returns-clause-entered : goal.returns-clause-entered
-returns-clause-entered c =
-    let e = c.args.entry.now in
-    has_entered e c.in_ok-res.res c.args.store.now c.take_in.new.store c.accept_entered.new.store c.accept_entered.ensures.only_notices
-    c.in_ok-res.ensures.entered c.accept_entered.ensures.statuses
-    (paid_entered e.row c.requires.new c.args.store.now c.requires.owed (entered_row e.at_once e.row) c.take_in.new.store c.in_ok-res.ensures.due
-    c.accept_entered.new.store c.accept_entered.ensures.only_notices c.accept_entered.ensures.owed)
+pub returns : goal.returns
+returns c = record {
+  entered =
+      let e = c.args.entry.now in
+      has_entered e c.take_in-res.result c.args.store.now c.take_in-res.new.store c.accept_entered.new.store c.accept_entered.ensures.only_notices
+      c.take_in-res.ensures.entered c.accept_entered.ensures.statuses
+      (paid_entered (new_row e) refl c.args.store.now c.requires.owed (entered_row e.at_once (new_row e)) c.take_in-res.new.store c.take_in-res.ensures.due
+      c.accept_entered.new.store c.accept_entered.ensures.only_notices c.accept_entered.ensures.owed);
+}

@@ -1,16 +1,6 @@
-use Rattle.std.proofs.Common.{◌≡◌, IfSome, subst}
-use Rattle.vlm_store.specs.Plain.{plain_resource}
-use Rattle.vlm_store.specs.Records.{resource_at}
-use Rattle.vlm_locks.specs.Serving.{nothing_queued}
-use Rattle.vlm_locks.proofs.Ended.{granted, none_granted, still_there}
+use Rattle.vlm_locks.proofs.Ended.{granted, still_there}
 use Rattle.vlm_locks.proofs.Owing.{paid_valued}
 use Rattle.vlm_locks.proofs.serving.grant_queued.Goals as goal
-
--- where nothing is queued nothing is granted
-pub returns-then-nothing_queued-clause-granted : goal.returns-then-nothing_queued-clause-granted
-returns-then-nothing_queued-clause-granted c =
-    none_granted c.args.res c.args.store.now c.law_records_are_sound.ensures c.requires.there
-    (subst (λ b. IfSome (resource_at c.args.res c.args.store.now.resources) (λ r. b ≡ nothing_queued (plain_resource r))) c.if-nothing_queued.true c.nothing_queued.ensures)
 
 pub returns-clause-granted : goal.returns-clause-granted
 returns-clause-granted c =
@@ -24,5 +14,5 @@ returns-clause-there c =
 
 pub returns-clause-paid : goal.returns-clause-paid
 returns-clause-paid c =
-    paid_valued c.serve_queues.new.store c.set_value_block.new.self c.law_records_are_sound-2.ensures c.args.res c.serve_queues.new.value_block c.set_value_block.ensures
+    paid_valued c.serve_queues.new.store c.set_value_block.new.self c.law_records_are_sound.ensures c.args.res c.serve_queues.new.value_block c.set_value_block.ensures
     c.serve_queues.ensures.paid
