@@ -11,7 +11,8 @@ use Rattle.vlm_words.specs.Resources.{is_at, new_resource}
 use Rattle.vlm_words.specs.State.{Process, Resource, State}
 use Rattle.vlm_store.specs.Plain.{plain_processes, plain_resources}
 use Rattle.vlm_store.specs.Records.{FindsResource, Records}
-use Rattle.vlm_locks.specs.Entering.{processes_accepted, processes_entered, resource_for}
+use Rattle.vlm_words.specs.StatusBlocks.{processes_after_acceptance}
+use Rattle.vlm_locks.specs.Entering.{new_row, processes_entered, resource_for}
 use Rattle.vlm_words.specs.Trees.{enq_site}
 use Rattle.vlm_locks.specs.Rest.{IsAtRest}
 use Rattle.vlm_locks.specs.declared.entering.Entry.{Entry}
@@ -37,12 +38,12 @@ module _ (m : MachineState) (e : NewRequest) (entry : Entry) (is : IsEntry m e e
 
   -- the resources once it has entered
   pub resources_are : (t : Records)
-      → plain_resources t ≡ resources_after_entry entry.serial entry.site entry.row entry.at_once s.resources
+      → plain_resources t ≡ resources_after_entry entry.serial entry.site (new_row entry) entry.at_once s.resources
       → plain_resources t ≡ resources_after_entry m.next_serial (enq_site s e) (enq_row s e) (enq_at_once s e) s.resources
   resources_are t entered =
       entered
-      ∙ ap (λ serial. resources_after_entry serial entry.site entry.row entry.at_once s.resources) is.serial
-      ∙ ap (λ (x : Site). resources_after_entry m.next_serial x entry.row entry.at_once s.resources) is.site
+      ∙ ap (λ serial. resources_after_entry serial entry.site (new_row entry) entry.at_once s.resources) is.serial
+      ∙ ap (λ (x : Site). resources_after_entry m.next_serial x (new_row entry) entry.at_once s.resources) is.site
       ∙ ap (λ x. resources_after_entry m.next_serial (enq_site s e) x entry.at_once s.resources) is.row
       ∙ ap (λ b. resources_after_entry m.next_serial (enq_site s e) (enq_row s e) b s.resources) is.at_once
 
@@ -51,12 +52,16 @@ module _ (m : MachineState) (e : NewRequest) (entry : Entry) (is : IsEntry m e e
   processes_are u statuses =
       statuses
       ∙ ap (λ (r : Resource). processes_entered entry r.value_block s.processes) found_is
-      ∙ ap (λ b. written b entry.row) is.at_once
+      ∙ ap (λ b. written b (new_row entry)) is.at_once
       ∙ ap (λ (x : Row). written (enq_at_once s e) x) is.row
     where
+      accepted : Option Request → Row → List Process
+      accepted None row = s.processes
+      accepted (Some want) row = processes_after_acceptance row.pid want.block row.lkid s.processes
+
       written : Bool → Row → List Process
       written at_once row =
-          (blocks_after (cond at_once (grant_endings true row) []) (blocks_with (enq_resource s e).value_block (processes_accepted row.want row s.processes))).processes
+          (blocks_after (cond at_once (grant_endings true row) []) (blocks_with (enq_resource s e).value_block (accepted row.want row))).processes
 
   -- a serial is given where no resource stands under the handle
   pub serial_is : IsAtRest m.records → (last last_serial : ℕ) → last_serial + 1 ≡ m.next_serial → last ≡ cond (is_some entry.res) last_serial entry.serial

@@ -7,7 +7,7 @@ use Rattle.vlm_words.specs.declared.steps.Dequeue.{Dequeue}
 use Rattle.vlm_words.specs.declared.steps.NewRequest.{NewRequest}
 use Rattle.vlm_words.specs.Convert.{convert_admission, convert_lkid, convert_request}
 use Rattle.vlm_words.specs.Dequeue.{dequeue_lkid}
-use Rattle.vlm_words.specs.Enqueue.{enq_at_once, enq_request, enq_row}
+use Rattle.vlm_words.specs.Enqueue.{enq_at_once, enq_row}
 use Rattle.vlm_words.specs.Flags.{cancel, deqall, flag_bits, has_flag, invvalblk}
 use Rattle.vlm_words.specs.Resources.{IsKeyed}
 use Rattle.vlm_words.specs.State.{State}
@@ -18,12 +18,13 @@ use Rattle.vlm_locks.specs.declared.finding.Standing.{Standing}
 use Rattle.vlm_locks.specs.declared.giving_up.Choice.{Choice}
 use Rattle.vlm_locks.specs.declared.giving_up.Choice.TheVariants.{All, Below}
 use Rattle.vlm_locks.specs.Converting.{admission_on}
+use Rattle.vlm_locks.specs.Entering.{new_row}
 use Rattle.vlm_locks.specs.Standing.{IsStanding, IsStandingOf}
 use Rattle.vlm_locks.specs.Withdrawing.{goes}
 use Rattle.vlm_machine.specs.declared.converting.AdmittedConversion.{AdmittedConversion}
 use Rattle.vlm_machine.specs.declared.dequeuing.AdmittedDequeueOfAll.{AdmittedDequeueOfAll}
+use Rattle.vlm_machine.specs.declared.enqueuing.CheckedRequest.{CheckedRequest}
 use Rattle.vlm_machine.specs.declared.enqueuing.Form.{Form}
-use Rattle.vlm_machine.specs.declared.enqueuing.Sought.{Sought}
 use Rattle.vlm_machine.specs.declared.parents.Parent.{Parent}
 use Rattle.vlm_machine.specs.declared.processes.Caller.{Caller}
 use Rattle.vlm_machine.specs.Machine.{MachineState, plain_state}
@@ -47,22 +48,27 @@ pub record IsAskedBy (m : MachineState) (e : NewRequest) (caller : Caller) (form
   pub says : IsForm (plain_state m) e form
   pub stands : IsParent caller.pid form.parent parent m.records
 
--- what a new request asks for, where its resource stands, how its key is hashed, where the resource is, if it is there,
--- and whether the request is granted at once
-pub record IsSought (m : MachineState) (e : NewRequest) (s : Sought) : Type 0 where
-  pub asked : s.asked ≡ enq_request (plain_state m) e
-  pub site : s.site ≡ enq_site (plain_state m) e
-  pub keyed : IsKeyed s.site.domain s.site.key
-  pub hash : s.found.hash ≡ hash_key m.records.keys s.site.key
-  pub found : FindsResource m.records s.site.key s.found.res
-  pub at_once : s.found.at_once ≡ enq_at_once (plain_state m) e
+-- the new request is checked so: who asks and with which flags, its parent lock, where its resource stands, how the key of
+-- that is hashed, where the resource is, if it is there, and whether the request is granted at once; there are numbers for it
+pub record IsChecked (m : MachineState) (e : NewRequest) (c : CheckedRequest) : Type 0 where
+  pub owner : IsProcess c.owner e.pid m.records
+  pub flags : flag_bits c.flags ≡ e.flags
+  pub parent_lkid : c.parent_lkid ≡ parent_lkid (plain_state m) e
+  pub parent : IsParentOf c.parent (enq_row (plain_state m) e) m.records
+  pub site : c.site ≡ enq_site (plain_state m) e
+  pub keyed : IsKeyed c.site.domain c.site.key
+  pub hash : c.found.hash ≡ hash_key m.records.keys c.site.key
+  pub found : FindsResource m.records c.site.key c.found.res
+  pub at_once : c.found.at_once ≡ enq_at_once (plain_state m) e
+  pub lkid : m.next_lkid < 2 ^ 32
+  pub number : m.next_request < 2 ^ 64
 
 -- the entry of a new request's lock: its row and who owns it, its parent lock, where its resource stands, how its key is
 -- hashed, under which serial that is made if it is not there, and whether the request is granted at once
 pub record IsEntry (m : MachineState) (e : NewRequest) (entry : Entry) : Type 0 where
-  pub row : entry.row ≡ enq_row (plain_state m) e
-  pub owner : IsProcess entry.owner entry.row.pid m.records
-  pub parent : IsParentOf entry.parent entry.row m.records
+  pub row : new_row entry ≡ enq_row (plain_state m) e
+  pub owner : IsProcess entry.owner entry.pid m.records
+  pub parent : IsParentOf entry.parent (new_row entry) m.records
   pub site : entry.site ≡ enq_site (plain_state m) e
   pub keyed : IsKeyed entry.site.domain entry.site.key
   pub hash : entry.hash ≡ hash_key m.records.keys entry.site.key

@@ -2,6 +2,7 @@
 
 ghost use Rattle.std.specs.Prelude.{◌≡◌, ◌<◌, ◌^◌, ◌+◌, ℕ, true, false, is_some, find, unwrap_or, [], if◌then◌else◌, IfOk, IfSome, IsOk, OnErr, OnOk};
 ghost use Rattle.std.specs.Result.{result_err};
+ghost use Rattle.vlm_words.specs.declared.locks.Request.{Request};
 ghost use Rattle.vlm_words.specs.declared.resources.Site.{Site};
 ghost use Rattle.vlm_words.specs.declared.steps.NewRequest.{NewRequest};
 ghost use Rattle.vlm_words.specs.Enqueue.{enq_change, enq_flags_refusal, enq_form_refusal, enq_limit_refusal, enq_refusal, expedite_refusal, is_at_once, name_refusal};
@@ -14,7 +15,7 @@ ghost use Rattle.vlm_store.specs.Records.{FindsResource, HasResource, IsUnchange
 ghost use Rattle.vlm_locks.specs.Entering.{HasRoomToEnter};
 ghost use Rattle.vlm_words.specs.Resources.{IsKeyed};
 ghost use Rattle.vlm_locks.specs.Rest.{IsAtRest, OthersStay};
-ghost use Rattle.vlm_machine.specs.Admissions.{IsAdmitted, IsAskedBy, IsCaller, IsEntry, IsForm, IsSought};
+ghost use Rattle.vlm_machine.specs.Admissions.{IsAdmitted, IsAskedBy, IsCaller, IsChecked, IsForm};
 ghost use Rattle.vlm_machine.specs.Between.{IsBetweenSteps};
 ghost use Rattle.vlm_machine.specs.Machine.{plain_state};
 ghost use Rattle.vlm_machine.specs.Notes.{HasRoomToNote};
@@ -24,13 +25,12 @@ use crate::flags::enq_flags;
 use crate::parents::{Parent, lock_of};
 use crate::processes::Caller;
 use crate::records::Machine;
-use bitflags::Flags;
 use std::alloc::AllocError;
 use vlm_locks::{Entry, Touched, enter, enters_at_once};
-use vlm_store::{ResAt, Store, StoredRow};
+use vlm_store::{LockAt, ProcAt, ResAt, Store};
 use vlm_words::conditions::Cond;
 use vlm_words::flags::EnqFlags;
-use vlm_words::locks::{Request, Row};
+use vlm_words::locks::Request;
 use vlm_words::modes::Mode;
 use vlm_words::names::{Name, NameArg};
 use vlm_words::resources::{Key, Site};
@@ -45,8 +45,8 @@ pub(crate) struct Form {
     pub(crate) name: Name,
 }
 
-// How a key is hashed, where its resource is, if it is there, and whether a request is granted at once on it, or on a
-// new one.
+/// How the key of a resource is hashed, where the resource is, if it is there, and whether a request is granted at once
+/// on it, or on a new one.
 #[derive(Clone, Copy)]
 pub(crate) struct Found {
     hash: u32,
@@ -54,20 +54,29 @@ pub(crate) struct Found {
     at_once: bool,
 }
 
-// What a new request asks for, where its resource stands, and what is found there.
+/// A new request that no check refuses, and what its checks found.
 #[derive(Clone, Copy)]
-pub(crate) struct Sought {
-    asked: Request,
+pub(crate) struct CheckedRequest {
+    // where its process is
+    owner: ProcAt,
+    flags: EnqFlags,
+    // the identification of its parent lock, 0 for none
+    parent_lkid: u32,
+    // where that lock is, if one is named
+    parent: Option<LockAt>,
+    // where its resource stands, and what was found there
     site: Site,
     found: Found,
 }
 
-fn entrance(store: &Store, key: &Key, asked: &Request) -> Found
+// Looks the resource of a new request up by its key, and tells whether the request is granted at once there.
+fn look_up(store: &Store, key: &Key, flags: EnqFlags, mode: Mode) -> Found
     requires { IsAtRest store.now }
     ensures hash { result.hash ≡ hash_key store.now.keys key.now }
     ensures found { FindsResource store.now key.now result.res }
-    ensures at_once { (serial : ℕ) (site : Site) → site.key ≡ key.now → IsKeyed site.domain site.key
-        → result.at_once ≡ is_at_once asked.now
+    ensures at_once { (asked : Request) (serial : ℕ) (site : Site)
+        → asked.flags ≡ flags → asked.mode ≡ mode
+        → site.key ≡ key.now → IsKeyed site.domain site.key → result.at_once ≡ is_at_once asked
         (unwrap_or (find (is_at site.key) (plain_resources store.now)) (new_resource serial site)) }
 {
     let hash = store.hash_of(key);
@@ -75,7 +84,7 @@ fn entrance(store: &Store, key: &Key, asked: &Request) -> Found
         Some(res) => Found {
             hash,
             res: Some(res),
-            at_once: enters_at_once(store, res, asked),
+            at_once: enters_at_once(store, res, flags, mode),
         },
         None => Found {
             hash,
@@ -106,29 +115,29 @@ impl Machine {
         ensures notes { HasRoomToNote touched.new self.new }
     {
         let checked = self.checked_request(request);
-        let entry = match &checked {
-            Ok(entry) => entry,
+        let checked = match &checked {
+            Ok(checked) => checked,
             Err(refusal) => return Answer::Plain(*refusal),
         };
         let Ok(()) = touched.make_room_beyond(self.store.total_locks()) else {
             return Answer::Plain(Cond::Insfmem);
         };
-        match self.enq_change(request, entry) {
+        let entry = self.entry(request, checked);
+        match self.enq_change(request, &entry) {
             Ok(res) => {
                 self.sweep(res);
-                let flags = EnqFlags::from_bits_retain(request.flags);
-                Answer::Lock(acceptance(flags, entry.at_once), entry.row.lkid())
+                Answer::Lock(acceptance(entry.asked.flags, entry.at_once), entry.lkid)
             }
             Err(AllocError) => Answer::Plain(Cond::Insfmem),
         }
     }
 
-    // The checks in their order: the lock that is made, and where it is to enter.
+    // The checks in their order.
     #[tactic(auto, unfolding(vlm_words::specs::Enqueue::enq_refusal))]
-    fn checked_request(&self, request: &NewRequest) -> Result<Entry, Cond>
+    fn checked_request(&self, request: &NewRequest) -> Result<CheckedRequest, Cond>
         requires { IsBetweenSteps (plain_state self.now) }
         ensures refusal { result_err result ≡ enq_refusal (plain_state self.now) request.now }
-        ensures admitted { IfOk result (λ entry. IsAdmitted self.now request.now entry) }
+        ensures checked { IfOk result (λ checked. IsChecked self.now request.now checked) }
     {
         let caller = self.checked_caller(request.pid)?;
         let form = self.checked_form(&caller, request)?;
@@ -164,57 +173,62 @@ impl Machine {
         form: &Form,
         parent: &Option<Parent>,
         request: &NewRequest,
-    ) -> Result<Entry, Cond>
+    ) -> Result<CheckedRequest, Cond>
         requires asked { IsAskedBy self.now request.now caller.now form.now parent.now }
         requires between { IsBetweenSteps (plain_state self.now) }
         ensures refusal { result_err result ≡ enq_limit_refusal (plain_state self.now) request.now }
-        ensures admitted { IfOk result (λ entry. IsAdmitted self.now request.now entry) }
+        ensures checked { IfOk result (λ checked. IsChecked self.now request.now checked) }
     {
         self.check_quota(caller)?;
         self.check_numbers()?;
-        let sought = self.sought(caller, form, parent, request);
-        check_queue(form.flags, sought.found.at_once)?;
-        Ok(self.entry(caller, form, parent, &sought))
+        let checked = self.looked_up(caller, form, parent, request);
+        check_queue(form.flags, checked.found.at_once)?;
+        Ok(checked)
     }
 
-    // What the request asks for under the number to come, and what is found where its resource stands.
-    fn sought(
+    // The request with what is found where its resource stands.
+    fn looked_up(
         &self,
         caller: &Caller,
         form: &Form,
         parent: &Option<Parent>,
         request: &NewRequest,
-    ) -> Sought
+    ) -> CheckedRequest
         requires asked { IsAskedBy self.now request.now caller.now form.now parent.now }
         requires between { IsBetweenSteps (plain_state self.now) }
+        requires lkid { self.now.next_lkid < 2 ^ 32 }
         requires number { self.now.next_request < 2 ^ 64 }
-        ensures { IsSought self.now request.now result }
+        ensures { IsChecked self.now request.now result }
     {
-        let asked = request_of(self.last_request + 1, form.flags, request);
         let site = self.site_of(caller, form, parent);
-        Sought {
-            asked,
+        CheckedRequest {
+            owner: caller.at,
+            flags: form.flags,
+            parent_lkid: form.parent,
+            parent: lock_of(parent),
             site,
-            found: entrance(&self.store, &site.key, &asked),
+            found: look_up(&self.store, &site.key, form.flags, request.mode),
         }
     }
 
-    // The lock that a request makes, under the identification to come, and where it is to enter.
-    fn entry(&self, caller: &Caller, form: &Form, parent: &Option<Parent>, sought: &Sought) -> Entry
+    // The lock that a request makes, under the numbers to come, and where it is to enter.
+    fn entry(&self, request: &NewRequest, checked: &CheckedRequest) -> Entry
         requires between { IsBetweenSteps (plain_state self.now) }
-        requires lkid { self.now.next_lkid < 2 ^ 32 }
-        ensures { (e : NewRequest) → IsAskedBy self.now e caller.now form.now parent.now
-            → IsSought self.now e sought.now → IsEntry self.now e result }
+        requires checked { IsChecked self.now request.now checked.now }
+        ensures { IsAdmitted self.now request.now result }
     {
         Entry {
-            row: row_of(self.last_lkid + 1, caller.pid, form.parent, sought.asked),
-            owner: caller.at,
-            parent: lock_of(parent),
-            site: sought.site,
-            hash: sought.found.hash,
+            asked: request_of(self.last_request + 1, checked.flags, request),
+            lkid: self.last_lkid + 1,
+            pid: request.pid,
+            parent_lkid: checked.parent_lkid,
+            owner: checked.owner,
+            parent: checked.parent,
+            site: checked.site,
+            hash: checked.found.hash,
             serial: self.last_serial + 1,
-            res: sought.found.res,
-            at_once: sought.found.at_once,
+            res: checked.found.res,
+            at_once: checked.found.at_once,
         }
     }
 
@@ -290,24 +304,4 @@ fn request_of(number: u64, flags: EnqFlags, request: &NewRequest) -> Request
         blocking: request.bast,
         param: request.param,
     }
-}
-
-fn row_of(lkid: u32, pid: u32, parent: u32, request: Request) -> StoredRow
-    ensures { result ≡ record {
-      lkid = lkid;
-      pid = pid;
-      parent = parent;
-      held = None;
-      want = Some request;
-      armed = false;
-    } }
-{
-    StoredRow::of(&Row {
-        lkid,
-        pid,
-        parent,
-        held: None,
-        want: Some(request),
-        armed: false,
-    })
 }

@@ -1,15 +1,16 @@
 use Rattle.std.proofs.Common.{◌≡◌, None, ap, sym, arith, ◌∙◌, refl, rules}
 use Rattle.vlm_store.specs.Plain.{plain_resources}
-use Rattle.vlm_machine.specs.Admissions.{IsAdmitted}
 use Rattle.vlm_machine.specs.Machine.{MachineState}
 use Rattle.vlm_machine.specs.Notes.{total_locks_on}
 use Rattle.vlm_machine.proofs.Noting.{as_many_stored, room_after}
+use Rattle.std.proofs.lemmas.Option.{same_Some}
+use Rattle.vlm_words.specs.declared.locks.Request.{Request}
 use Rattle.vlm_words.specs.declared.locks.Row.{Row}
 use Rattle.vlm_words.specs.declared.steps.Answer.TheVariants.{Lock}
 use Rattle.vlm_words.specs.declared.steps.Step.TheVariants.{Enq}
 use Rattle.vlm_words.specs.Checks.{acceptance}
 use Rattle.vlm_words.specs.Flags.{flag_bits}
-use Rattle.vlm_words.specs.Enqueue.{enq_at_once, enq_change, enq_refusal}
+use Rattle.vlm_words.specs.Enqueue.{enq_at_once, enq_change, enq_refusal, enq_request}
 use Rattle.vlm_words.specs.Sweeps.{state_after_sweep}
 use Rattle.vlm_machine.specs.Machine.{plain_state}
 use Rattle.vlm_machine.proofs.Made.{made_swept}
@@ -25,17 +26,17 @@ unfolding enq_change
 returns-in-Ok-enq_change-clause-outcome c =
     let s = plain_state c.args.self.now in
     let e = c.args.request.now in
-    let entry = c.in-Ok.entry in
-    let admitted : IsAdmitted c.args.self.now e entry = search rules in
-    let flags : flag_bits c.from_bits_retain-flags.result ≡ e.flags = search rules in
+    let entry = c.entry-entry.result in
+    let is = c.entry-entry.ensures.entered in
     let passed : None ≡ enq_refusal s e = search rules in
-    made_swept s (plain_state c.sweep.new.self) (Enq e) (Lock c.acceptance.result c.lkid.result) refl passed
+    let wants = ap (λ (row : Row). row.want) is.row in
+    let asked : entry.asked ≡ enq_request s e = same_Some entry.asked (enq_request s e) wants in
+    made_swept s (plain_state c.sweep.new.self) (Enq e) (Lock c.acceptance.result entry.lkid) refl passed
     (c.sweep.ensures ∙ ap state_after_sweep c.in-Ok-enq_change.ensures.change)
-    (ap (Lock c.acceptance.result) c.lkid.ensures
-    ∙ ap (λ answer. Lock answer entry.row.lkid) c.acceptance.ensures
-    ∙ ap (λ bits. Lock (acceptance bits entry.at_once) entry.row.lkid) flags
-    ∙ ap (λ at_once. Lock (acceptance e.flags at_once) entry.row.lkid) admitted.entered.at_once
-    ∙ ap (λ (row : Row). Lock (acceptance e.flags (enq_at_once s e)) row.lkid) admitted.entered.row)
+    (ap (λ answer. Lock answer entry.lkid) c.acceptance.ensures
+    ∙ ap (λ (q : Request). Lock (acceptance (flag_bits q.flags) entry.at_once) entry.lkid) asked
+    ∙ ap (λ at_once. Lock (acceptance e.flags at_once) entry.lkid) is.at_once
+    ∙ ap (λ (row : Row). Lock (acceptance e.flags (enq_at_once s e)) row.lkid) is.row)
 
 -- room to note its resource was made before the lock entered
 pub returns-in-Ok-enq_change-clause-notes : goal.returns-in-Ok-enq_change-clause-notes
@@ -43,6 +44,6 @@ returns-in-Ok-enq_change-clause-notes c =
     let stored = as_many_stored c.self.inside.store c.self.invariant.rest.none_loose in
     let same : total_locks_on (plain_state c.args.self.now).resources ≡ total_locks_on (plain_resources c.self.inside.store) =
     ap (λ (m : MachineState). total_locks_on (plain_state m).resources) (sym c.self.view_is) in
-    room_after c.args.self.now c.sweep.new.self c.make_room_beyond.new.self (Enq c.args.request.now) (Lock c.acceptance.result c.lkid.result)
+    room_after c.args.self.now c.sweep.new.self c.make_room_beyond.new.self (Enq c.args.request.now) (Lock c.acceptance.result c.entry-entry.result.lkid)
     (returns-in-Ok-enq_change-clause-outcome c) c.make_room_beyond.ensures.none
     (omega (arith, stored, same, c.in-Ok-make_room_beyond.ensures.room, c.total_locks.ensures))

@@ -14,20 +14,15 @@ pub enter-requires-clause-may_enter : goal.enter-requires-clause-may_enter
 enter-requires-clause-may_enter c =
     let between = subst (λ (m : MachineState). IsBetweenSteps (plain_state m)) (sym c.self.view_is) c.requires.between in
     let admitted = subst (λ (m : MachineState). IsAdmitted m c.args.request.now c.args.entry.now) (sym c.self.view_is) c.requires.admitted in
-    let row = c.args.entry.now.row in
-    let lkid : row.lkid ≡ c.self.inside.last_lkid + 1 = ap (λ (r : Row). r.lkid) admitted.entered.row in
+    let lkid : c.args.entry.now.lkid ≡ c.self.inside.last_lkid + 1 = ap (λ (r : Row). r.lkid) admitted.entered.row in
     record {
       rest = c.self.invariant.rest;
-      rising = above_all c.self.inside.store row.lkid c.self.invariant.rest.none_loose (λ other from. between.identifications.none_to_come other (omega (arith, lkid, from)));
+      rising = above_all c.self.inside.store c.args.entry.now.lkid c.self.invariant.rest.none_loose (λ other from. between.identifications.none_to_come other (omega (arith, lkid, from)));
       owner = admitted.entered.owner;
       parent = admitted.entered.parent;
       keyed = admitted.entered.keyed;
       hash = admitted.entered.hash;
     }
-
--- a new lock is not armed
-pub enter-requires-clause-new : goal.enter-requires-clause-new
-enter-requires-clause-new c = ap (λ (r : Row). r.armed) c.requires.admitted.entered.row
 
 -- where memory is refused it is as it was
 pub invariant_of-self : goal.invariant_of-self
