@@ -58,6 +58,28 @@ module _ (s : Records) (sound : IsSound s) (f : Standing) (standing : IsStanding
             ap plain_processes wrote ∙ ends.statuses ∙ ap (λ b. (blocks_after (grant_endings true row) b).processes) blocks_are;
       }
 
+  -- and what end_without_value_block makes of it
+  pub granted_without_value_block : (row : Row) (moved ended : Records) → moved ≡ with_lists (moving (Queued f.res Granted) (record { at = f.lock; row = granted_row row })) s
+      → ((block : ValueBlock) → blocks_with block (plain_processes ended) ≡ blocks_after (grant_endings true row) (blocks_with block (plain_processes moved)))
+      → SameButNotices moved ended → IsConvertedAtOnce f row standing.resource s ended
+  granted_without_value_block row moved ended is ends same =
+      let first = moved_replaced s sound f standing (granted_row row) Granted moved is in
+      let r = standing.resource in
+      let blocks_are : blocks_with r.value_block (plain_processes ended) ≡ blocks_granted row r s =
+      ends r.value_block ∙ ap (λ (x : Records). blocks_after (grant_endings true row) (blocks_with r.value_block (plain_processes x))) is in
+      record {
+        replaced = record {
+          was = standing.found;
+          same = refl;
+          resources =
+              same.resources ∙ first.resources
+              ∙ ap (λ (b : Blocks). on_resource f.res (λ x. record (moved_in f (granted_row row) Granted r) { value_block = b.value_block }) s.resources) blocks_are;
+          loose = same.loose ∙ first.loose;
+          processes = same.processes ∙ first.processes;
+        };
+        statuses = ap (λ (b : Blocks). b.processes) blocks_are;
+      }
+
   -- whether it is granted at once
   abbrev now : Request → Bool
   now asked = converts_at_once asked f.row.lkid (plain_resource standing.resource)

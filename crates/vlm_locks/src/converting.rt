@@ -1,6 +1,7 @@
 //! The conversion of a granted lock.
 
 ghost use Rattle.std.specs.Prelude.{◌≡◌, ◌≤◌, None, Some, IfSome, IsOk, OnErr, OnOk};
+ghost use Rattle.vlm_words.specs.declared.locks.Request.{Request};
 ghost use Rattle.vlm_words.specs.declared.resources.Queue.{Queue};
 ghost use Rattle.vlm_words.specs.Convert.{converts_at_once, wanting_row};
 ghost use Rattle.vlm_words.specs.Dues.{routines_of, row_due};
@@ -13,7 +14,7 @@ ghost use Rattle.vlm_locks.specs.Owing.{DueMoves, IsPaid, OwedMoves, OwesMore};
 ghost use Rattle.vlm_locks.specs.Rest.{IsAtRest, IsReplaced, LeavesOthers, OtherLocksStay, OwnLocksStay};
 ghost use Rattle.vlm_locks.specs.Standing.{IsStanding};
 
-use crate::endings::end_by_grant;
+use crate::endings::{end_by_grant, end_without_value_block};
 use crate::finding::Standing;
 use crate::routines::owe_routines;
 use std::alloc::AllocError;
@@ -41,21 +42,24 @@ fn fits_others(store: &Store, standing: &Standing, mode: Mode) -> bool
 /// Whether a conversion of a granted lock is granted at once: what it asks for fits beside all other locks
 /// of its resource, and with QUECVT no conversion is queued there.
 #[tactic(auto, unfolding(vlm_words::specs::Convert::converts_at_once))]
-pub fn converts_at_once(store: &Store, standing: &Standing, asked: &Request) -> bool
+pub fn converts_at_once(store: &Store, standing: &Standing, flags: EnqFlags, mode: Mode) -> bool
     requires standing { IsStanding standing.now store.now }
     requires granted { standing.now.queue ≡ Queue.Granted }
-    ensures { (r : StoredResource) → resource_at standing.now.res store.now.resources ≡ Some r
-        → result ≡ converts_at_once asked.now standing.now.row.lkid (plain_resource r) }
+    ensures { (r : StoredResource) (asked : Request)
+        → resource_at standing.now.res store.now.resources ≡ Some r
+        → asked.flags ≡ flags → asked.mode ≡ mode
+        → result ≡ converts_at_once asked standing.now.row.lkid (plain_resource r) }
 {
-    fits_others(store, standing, asked.mode)
-        && (!asked.flags.has(EnqFlags::QUECVT) || is_empty(store, standing.res, Queue::Conversion))
+    fits_others(store, standing, mode)
+        && (!flags.has(EnqFlags::QUECVT) || is_empty(store, standing.res, Queue::Conversion))
 }
 
 // What a lock wants is granted at once: it goes to the end of the granted queue, and the grant takes effect
-// on the value block of its resource and on its status block.
-fn convert_now(store: &mut Store, standing: &Standing, row: &StoredRow)
+// on the value block of its resource, if the request names that, and on its status block.
+fn convert_now(store: &mut Store, standing: &Standing, row: &StoredRow, asked: &Request)
     requires standing { IsStanding standing.now store.old }
     requires row { IsSameLock standing.now.row row.now }
+    requires wanted { row.now.want ≡ Some asked.now }
     requires owed { row_due row.now ≤ due_of row.now.pid store.old }
     ensures granted { IfSome (resource_at standing.now.res store.old.resources)
         (λ r. IsConvertedAtOnce standing.now row.now r store.old store.new) }
@@ -64,11 +68,15 @@ fn convert_now(store: &mut Store, standing: &Standing, row: &StoredRow)
     ensures locks { OtherLocksStay standing.now.lock store.old store.new }
 {
     let owner = store.lock_record(standing.lock).owner;
-    let mut value_block = store.resource_record(standing.res).value_block;
     let granted = Place::Queued(standing.res, Queue::Granted);
     store.move_lock(standing.lock, row.granted(), granted);
-    end_by_grant(&mut value_block, store, owner, row, true);
-    store.set_value_block(standing.res, value_block);
+    if asked.flags.has(EnqFlags::VALBLK) {
+        let mut value_block = store.resource_record(standing.res).value_block;
+        end_by_grant(&mut value_block, store, owner, row, true);
+        store.set_value_block(standing.res, value_block);
+    } else {
+        end_without_value_block(store, owner, row, asked);
+    }
 }
 
 // The conversion waits: the lock goes to the end of the conversion queue.
@@ -108,7 +116,7 @@ fn convert_accepted(store: &mut Store, standing: &Standing, asked: &Request, at_
     law_records_are_sound(store);
     let row = standing.row.wanting(asked);
     if at_once {
-        convert_now(store, standing, &row);
+        convert_now(store, standing, &row, asked);
     } else {
         convert_later(store, standing, row);
     }

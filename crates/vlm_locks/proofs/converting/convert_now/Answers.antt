@@ -7,9 +7,9 @@ use Rattle.vlm_records.specs.declared.handles.Place.TheVariants.{Queued}
 use Rattle.vlm_words.specs.Grants.{granted_row}
 use Rattle.vlm_store.specs.Records.{IsProcess, IsSameLock, moving, resource_at, with_lists}
 use Rattle.vlm_locks.specs.Converting.{IsConvertedAtOnce, moved_in}
-use Rattle.vlm_locks.proofs.Converted.{granted_at_once}
+use Rattle.vlm_locks.proofs.Converted.{granted_at_once, granted_without_value_block}
 use Rattle.vlm_locks.proofs.Moved.{moved_replaced}
-use Rattle.vlm_locks.proofs.Replaced.{still_there}
+use Rattle.vlm_locks.proofs.Replaced.{found_left, still_there}
 use Rattle.vlm_locks.proofs.Stood.{owner_is, stored}
 use Rattle.vlm_locks.proofs.Owing.{due_moved, due_noticed}
 use Rattle.vlm_locks.proofs.Paying.{due_valued, found_there}
@@ -42,6 +42,14 @@ end_by_grant-requires-clause-process c =
 pub end_by_grant-requires-clause-owed : goal.end_by_grant-requires-clause-owed
 end_by_grant-requires-clause-owed c = rw c.move_lock.ensures c.requires.owed
 
+pub resource_record-requires : goal.resource_record-requires
+resource_record-requires c =
+    let s = c.args.store.now in
+    let f = c.args.standing.now in
+    let standing = c.requires.standing in
+    let moved = moved_replaced s c.lock_record.ensures.sound f standing c.granted.result Granted c.move_lock.new.self c.move_lock.ensures in
+    still_there f.res standing.resource (moved_in f c.granted.result Granted standing.resource) s c.move_lock.new.self moved
+
 pub set_value_block-requires : goal.set_value_block-requires
 set_value_block-requires c =
     let s = c.args.store.now in
@@ -51,21 +59,26 @@ set_value_block-requires c =
     let there = still_there f.res standing.resource (moved_in f c.granted.result Granted standing.resource) s c.move_lock.new.self moved in
     subst (λ rs. IsSome (resource_at f.res rs)) (sym c.end_by_grant.ensures.only_notices.resources) there
 
-pub returns-clause-granted : goal.returns-clause-granted
-returns-clause-granted c =
+pub returns-then-has-clause-granted : goal.returns-then-has-clause-granted
+returns-then-has-clause-granted c =
     let s = c.args.store.now in
     let f = c.args.standing.now in
     let standing = c.requires.standing in
     let row = c.args.row.now in
+    let moved = moved_replaced s c.lock_record.ensures.sound f standing c.granted.result Granted c.move_lock.new.self c.move_lock.ensures in
+    let left = moved_in f c.granted.result Granted standing.resource in
+    let block = c.resource_record.result.now.value_block in
+    let told = subst (λ o. IfSome o (λ r. block ≡ r.value_block)) (sym standing.found)
+    (subst (λ o. IfSome o (λ r. block ≡ r.value_block)) (found_left f.res standing.resource left s c.move_lock.new.self moved) c.resource_record.ensures.value_block) in
     subst (λ o. IfSome o (λ r. IsConvertedAtOnce f row r s c.set_value_block.new.self)) (sym standing.found)
     (granted_at_once s c.lock_record.ensures.sound f standing row c.move_lock.new.self c.end_by_grant.new.store c.set_value_block.new.self c.resource_record.result.now.value_block c.end_by_grant.new.value_block
-    c.resource_record.ensures.value_block (c.move_lock.ensures ∙ ap (λ (x : Row). with_lists (moving (Queued f.res Granted) (record { at = f.lock; row = x })) s) c.granted.ensures)
+    told (c.move_lock.ensures ∙ ap (λ (x : Row). with_lists (moving (Queued f.res Granted) (record { at = f.lock; row = x })) s) c.granted.ensures)
     (record { value_block = c.end_by_grant.ensures.value_block; statuses = c.end_by_grant.ensures.statuses; only_notices = c.end_by_grant.ensures.only_notices })
     c.set_value_block.ensures)
 
 -- the lock alone is moved
-pub returns-clause-locks : goal.returns-clause-locks
-returns-clause-locks c =
+pub returns-then-has-clause-locks : goal.returns-then-has-clause-locks
+returns-then-has-clause-locks c =
     let f = c.args.standing.now in
     let moved : OtherLocksStay f.lock c.args.store.now c.move_lock.new.self =
     subst (OtherLocksStay f.lock c.args.store.now) (sym c.move_lock.ensures)
@@ -74,8 +87,8 @@ returns-clause-locks c =
     (locks_stay_over f.lock c.args.store.now c.move_lock.new.self c.end_by_grant.new.store moved (statuses_alone f.lock c.move_lock.new.self c.end_by_grant.new.store c.end_by_grant.ensures.only_notices))
     (subst (OtherLocksStay f.lock c.end_by_grant.new.store) (sym c.set_value_block.ensures) (block_alone f.lock f.res c.end_by_grant.new.value_block c.end_by_grant.new.store))
 
-pub returns-clause-due : goal.returns-clause-due
-returns-clause-due c pid =
+pub returns-then-has-clause-due : goal.returns-then-has-clause-due
+returns-then-has-clause-due c pid =
     let f = c.args.standing.now in
     let s = c.args.store.now in
     let due : due_for pid c.set_value_block.new.self ≡ due_for pid (with_lists (moving (Queued f.res Granted) (record { at = f.lock; row = granted_row c.args.row.now })) s) =
@@ -86,5 +99,51 @@ returns-clause-due c pid =
     ap (λ (n : ℕ). n + due_to pid f.row) due
     ∙ due_moved s c.lock_record.ensures.sound f.lock f.row (granted_row c.args.row.now) f.res Granted (stored s f c.requires.standing) (found_there s f c.requires.standing) pid
 
-pub returns-clause-owed : goal.returns-clause-owed
-returns-clause-owed c pid = rw (c.set_value_block.ensures) (rw c.move_lock.ensures at c.end_by_grant.ensures.owed pid)
+pub returns-then-has-clause-owed : goal.returns-then-has-clause-owed
+returns-then-has-clause-owed c pid = rw (c.set_value_block.ensures) (rw c.move_lock.ensures at c.end_by_grant.ensures.owed pid)
+
+-- ---- where the request says nothing of the value block
+
+pub end_without_value_block-requires-clause-process : goal.end_without_value_block-requires-clause-process
+end_without_value_block-requires-clause-process c =
+    let f = c.args.standing.now in
+    rw (c.move_lock.ensures)
+    (subst (λ pid. IsProcess c.lock_record.result.now.owner pid c.args.store.now) c.requires.row.pid
+    (owner_is c.args.store.now c.lock_record.result.now.owner c.lock_record.result.now.row f.row (c.lock_record.ensures.only f.row (stored c.args.store.now f c.requires.standing)) c.lock_record.ensures.owner))
+
+pub end_without_value_block-requires-clause-owed : goal.end_without_value_block-requires-clause-owed
+end_without_value_block-requires-clause-owed c = rw c.move_lock.ensures c.requires.owed
+
+pub returns-else-has-clause-granted : goal.returns-else-has-clause-granted
+returns-else-has-clause-granted c =
+    let s = c.args.store.now in
+    let f = c.args.standing.now in
+    let standing = c.requires.standing in
+    let row = c.args.row.now in
+    subst (λ o. IfSome o (λ r. IsConvertedAtOnce f row r s c.end_without_value_block.new.store)) (sym standing.found)
+    (granted_without_value_block s c.lock_record.ensures.sound f standing row c.move_lock.new.self c.end_without_value_block.new.store
+    (c.move_lock.ensures ∙ ap (λ (x : Row). with_lists (moving (Queued f.res Granted) (record { at = f.lock; row = x })) s) c.granted.ensures)
+    c.end_without_value_block.ensures.statuses c.end_without_value_block.ensures.only_notices)
+
+pub returns-else-has-clause-locks : goal.returns-else-has-clause-locks
+returns-else-has-clause-locks c =
+    let f = c.args.standing.now in
+    let moved : OtherLocksStay f.lock c.args.store.now c.move_lock.new.self =
+    subst (OtherLocksStay f.lock c.args.store.now) (sym c.move_lock.ensures)
+    (moved_alone (Queued f.res Granted) (record { at = f.lock; row = c.granted.result }) c.args.store.now) in
+    locks_stay_over f.lock c.args.store.now c.move_lock.new.self c.end_without_value_block.new.store moved
+    (statuses_alone f.lock c.move_lock.new.self c.end_without_value_block.new.store c.end_without_value_block.ensures.only_notices)
+
+pub returns-else-has-clause-due : goal.returns-else-has-clause-due
+returns-else-has-clause-due c pid =
+    let f = c.args.standing.now in
+    let s = c.args.store.now in
+    let due : due_for pid c.end_without_value_block.new.store ≡ due_for pid (with_lists (moving (Queued f.res Granted) (record { at = f.lock; row = granted_row c.args.row.now })) s) =
+    due_noticed c.move_lock.new.self c.end_without_value_block.new.store c.end_without_value_block.ensures.only_notices pid
+    ∙ ap (due_for pid) c.move_lock.ensures
+    ∙ ap (λ (x : Row). due_for pid (with_lists (moving (Queued f.res Granted) (record { at = f.lock; row = x })) s)) c.granted.ensures in
+    ap (λ (n : ℕ). n + due_to pid f.row) due
+    ∙ due_moved s c.lock_record.ensures.sound f.lock f.row (granted_row c.args.row.now) f.res Granted (stored s f c.requires.standing) (found_there s f c.requires.standing) pid
+
+pub returns-else-has-clause-owed : goal.returns-else-has-clause-owed
+returns-else-has-clause-owed c pid = rw c.move_lock.ensures at c.end_without_value_block.ensures.owed pid
