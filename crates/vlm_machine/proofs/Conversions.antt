@@ -1,12 +1,12 @@
 -- A conversion and a dequeue on the records are those of the plain machine.
-use Rattle.std.proofs.Common.{◌≡◌, ◌+◌, false, List, [], ◌∷◌, map, flat_map, Some, IfSome, refl, sym, ap, ◌∙◌}
+use Rattle.std.proofs.Common.{◌≡◌, ◌+◌, Bool, false, List, [], ◌∷◌, map, flat_map, Some, IfSome, refl, sym, ap, ◌∙◌}
 use Rattle.std.proofs.lemmas.List.{append-nil}
 use Rattle.std.proofs.lemmas.Option.{same_Some}
 use Rattle.vlm_words.specs.declared.locks.Request.{Request}
 use Rattle.vlm_words.specs.declared.resources.ValueBlock.{ValueBlock}
 use Rattle.vlm_words.specs.declared.steps.Conversion.{Conversion}
 use Rattle.vlm_words.specs.declared.steps.Dequeue.{Dequeue}
-use Rattle.vlm_words.specs.Convert.{ConversionAdmission, conversion_blocks, convert_admission, convert_blocks, convert_change, convert_lkid, resource_after_conversion}
+use Rattle.vlm_words.specs.Convert.{ConversionAdmission, conversion_blocks, convert_admission, convert_blocks, convert_change, convert_lkid, convert_request, resource_after_conversion}
 use Rattle.vlm_words.specs.Dequeue.{deq_change, dequeue_lkid, withdrawal_of, withdrawals_of}
 use Rattle.vlm_words.specs.Flags.{deqall, has_flag}
 use Rattle.vlm_words.specs.Withdrawals.{Withdrawal, processes_after, resource_after_withdrawals, withdrawal_endings, withdrawn_endings}
@@ -15,51 +15,51 @@ use Rattle.vlm_words.specs.State.{Process, Resource, State}
 use Rattle.vlm_words.specs.StatusBlocks.{processes_after_acceptance}
 use Rattle.vlm_store.specs.Plain.{plain_processes, plain_resources}
 use Rattle.vlm_store.specs.Records.{Records, StoredResource, resource_at}
+use Rattle.vlm_locks.specs.declared.finding.Standing.{Standing}
 use Rattle.vlm_locks.specs.Converting.{IsConverted, admission_on, processes_converting}
-use Rattle.vlm_machine.specs.declared.converting.AdmittedConversion.{AdmittedConversion}
 use Rattle.vlm_machine.specs.Admissions.{IsAdmittedConversion}
 use Rattle.vlm_machine.specs.Machine.{MachineState, plain_state}
 
-module _ (old : MachineState) (c : Conversion) (a : AdmittedConversion) (admitted : IsAdmittedConversion old c a) where
+module _ (old : MachineState) (c : Conversion) (f : Standing) (at_once : Bool) (admitted : IsAdmittedConversion old c f at_once) (asked : Request) (asked_is : asked ≡ convert_request (plain_state old) c) where
   -- the resource of the lock
   abbrev own : StoredResource
   own = admitted.standing.standing.resource
 
   -- the conversion there, as it is admitted
   abbrev admission : ConversionAdmission
-  admission = admission_on a.standing a.asked own
+  admission = admission_on f asked own
 
   -- what the conversion writes, once its status block is accepted
-  blocks_is : conversion_blocks admission (processes_converting a.standing a.asked old.records) ≡ convert_blocks (plain_state old) c admission
+  blocks_is : conversion_blocks admission (processes_converting f asked old.records) ≡ convert_blocks (plain_state old) c admission
   unfolding convert_blocks
   blocks_is =
-      ap (λ pid. conversion_blocks admission (processes_after_acceptance pid a.asked.block a.standing.row.lkid (plain_processes old.records))) admitted.standing.owned
-      ∙ ap (λ lkid. conversion_blocks admission (processes_after_acceptance c.pid a.asked.block lkid (plain_processes old.records))) admitted.standing.named
-      ∙ ap (λ (asked : Request). conversion_blocks admission (processes_after_acceptance c.pid asked.block (convert_lkid (plain_state old) c) (plain_processes old.records))) admitted.asked
+      ap (λ pid. conversion_blocks admission (processes_after_acceptance pid asked.block f.row.lkid (plain_processes old.records))) admitted.standing.owned
+      ∙ ap (λ lkid. conversion_blocks admission (processes_after_acceptance c.pid asked.block lkid (plain_processes old.records))) admitted.standing.named
+      ∙ ap (λ (q : Request). conversion_blocks admission (processes_after_acceptance c.pid q.block (convert_lkid (plain_state old) c) (plain_processes old.records))) asked_is
 
   -- the resources once the lock is converted
-  resources_are : (new : Records) → IsConverted a.standing a.asked (processes_converting a.standing a.asked old.records) own old.records new
-      → plain_resources new ≡ map (resource_after_conversion a.asked admission.at_once c.pid (convert_lkid (plain_state old) c) (convert_blocks (plain_state old) c admission).value_block) (plain_resources old.records)
+  resources_are : (new : Records) → IsConverted f asked (processes_converting f asked old.records) own old.records new
+      → plain_resources new ≡ map (resource_after_conversion asked admission.at_once c.pid (convert_lkid (plain_state old) c) (convert_blocks (plain_state old) c admission).value_block) (plain_resources old.records)
   resources_are new converted =
       converted.resources
-      ∙ ap (λ (b : Blocks). map (resource_after_conversion a.asked admission.at_once a.standing.row.pid a.standing.row.lkid b.value_block) (plain_resources old.records)) blocks_is
-      ∙ ap (λ pid. map (resource_after_conversion a.asked admission.at_once pid a.standing.row.lkid left) (plain_resources old.records)) admitted.standing.owned
-      ∙ ap (λ lkid. map (resource_after_conversion a.asked admission.at_once c.pid lkid left) (plain_resources old.records)) admitted.standing.named
+      ∙ ap (λ (b : Blocks). map (resource_after_conversion asked admission.at_once f.row.pid f.row.lkid b.value_block) (plain_resources old.records)) blocks_is
+      ∙ ap (λ pid. map (resource_after_conversion asked admission.at_once pid f.row.lkid left) (plain_resources old.records)) admitted.standing.owned
+      ∙ ap (λ lkid. map (resource_after_conversion asked admission.at_once c.pid lkid left) (plain_resources old.records)) admitted.standing.named
     where
       left : ValueBlock
       left = (convert_blocks (plain_state old) c admission).value_block
 
   -- the state once the lock is converted and the request number is used up
   pub state_converted : (new : Records)
-      → IfSome (resource_at a.standing.res old.records.resources) (λ r. IsConverted a.standing a.asked (processes_converting a.standing a.asked old.records) r old.records new)
+      → IfSome (resource_at f.res old.records.resources) (λ r. IsConverted f asked (processes_converting f asked old.records) r old.records new)
       → (there : ConversionAdmission) → convert_admission (plain_state old) c ≡ Some there
       → plain_state (record old { records = new; next_request = old.next_request + 1 }) ≡ convert_change (plain_state old) c there
   unfolding convert_change
   state_converted new converts there found =
-      let converted : IsConverted a.standing a.asked (processes_converting a.standing a.asked old.records) own old.records new = rw admitted.standing.standing.found at converts in
+      let converted : IsConverted f asked (processes_converting f asked old.records) own old.records new = rw admitted.standing.standing.found at converts in
       ap (λ ps. with_parts ps (plain_resources new)) (converted.statuses ∙ ap (λ (b : Blocks). b.processes) blocks_is)
       ∙ ap (λ rs. with_parts (convert_blocks (plain_state old) c admission).processes rs) (resources_are new converted)
-      ∙ ap (convert_change (plain_state old) c) (same_Some admission there (sym admitted.found ∙ found))
+      ∙ ap (convert_change (plain_state old) c) (same_Some admission there (sym (admitted.found ∙ ap (λ q. Some (admission_on f q own)) (sym asked_is)) ∙ found))
     where
       with_parts : List Process → List Resource → State
       with_parts ps rs = record (plain_state old) { processes = ps; resources = rs; next_request = old.next_request + 1 }

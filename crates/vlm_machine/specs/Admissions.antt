@@ -1,5 +1,5 @@
 -- What the checks of a step decide, for the change that follows.
-use Rattle.std.specs.Prelude.{◌≡◌, ◌<◌, ◌^◌, ℕ, zero, suc, true, false, Option, None, Some}
+use Rattle.std.specs.Prelude.{◌≡◌, ◌<◌, ◌^◌, ℕ, zero, suc, Bool, true, false, Option, None, Some}
 use Rattle.vlm_store.specs.Index.{hash_key}
 use Rattle.vlm_words.specs.declared.resources.Queue.TheVariants.{Granted}
 use Rattle.vlm_words.specs.declared.steps.Conversion.{Conversion}
@@ -21,7 +21,6 @@ use Rattle.vlm_locks.specs.Converting.{admission_on}
 use Rattle.vlm_locks.specs.Entering.{new_row}
 use Rattle.vlm_locks.specs.Standing.{IsStanding, IsStandingOf}
 use Rattle.vlm_locks.specs.Withdrawing.{goes}
-use Rattle.vlm_machine.specs.declared.converting.AdmittedConversion.{AdmittedConversion}
 use Rattle.vlm_machine.specs.declared.dequeuing.AdmittedDequeueOfAll.{AdmittedDequeueOfAll}
 use Rattle.vlm_machine.specs.declared.enqueuing.CheckedRequest.{CheckedRequest}
 use Rattle.vlm_machine.specs.declared.enqueuing.Form.{Form}
@@ -82,14 +81,13 @@ pub record IsAdmitted (m : MachineState) (e : NewRequest) (entry : Entry) : Type
   pub lkid : m.next_lkid < 2 ^ 32
   pub number : m.next_request < 2 ^ 64
 
--- the conversion is admitted so: its lock as it stands granted, what is asked for, and whether that is
--- granted at once; and there is a number for it
-pub record IsAdmittedConversion (m : MachineState) (c : Conversion) (a : AdmittedConversion) : Type 0 where
-  pub standing : IsStandingOf c.pid (convert_lkid (plain_state m) c) a.standing m.records
-  pub granted : a.standing.queue ≡ Granted
-  pub asked : a.asked ≡ convert_request (plain_state m) c
-  pub at_once : a.at_once ≡ (admission_on a.standing a.asked standing.standing.resource).at_once
-  pub found : convert_admission (plain_state m) c ≡ Some (admission_on a.standing a.asked standing.standing.resource)
+-- the conversion is admitted so: its lock as it stands granted, and whether what is asked for is granted at once; and
+-- there is a number for it
+pub record IsAdmittedConversion (m : MachineState) (c : Conversion) (f : Standing) (now : Bool) : Type 0 where
+  pub standing : IsStandingOf c.pid (convert_lkid (plain_state m) c) f m.records
+  pub granted : f.queue ≡ Granted
+  pub at_once : now ≡ (admission_on f (convert_request (plain_state m) c) standing.standing.resource).at_once
+  pub found : convert_admission (plain_state m) c ≡ Some (admission_on f (convert_request (plain_state m) c) standing.standing.resource)
   pub number : m.next_request < 2 ^ 64
 
 -- the dequeue is admitted so: it is of one lock, and this is its lock as it stands

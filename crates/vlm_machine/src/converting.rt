@@ -1,13 +1,13 @@
 //! The step that converts a lock to another mode.
 
-ghost use Rattle.std.specs.Prelude.{◌≡◌, Some, IfOk, OnErr, OnOk};
+ghost use Rattle.std.specs.Prelude.{◌≡◌, Some, IfErr, IfOk, OnErr, OnOk};
 ghost use Rattle.std.specs.Result.{result_err};
 ghost use Rattle.vlm_words.specs.Convert.{ConversionAdmission, admission_refusal, convert_admission, convert_change, convert_flags_refusal, convert_lkid, convert_refusal, is_queued_legally_from, pair_refusal};
 ghost use Rattle.vlm_words.specs.Flags.{flag_bits};
 ghost use Rattle.vlm_words.specs.Stepped.{NamesRoutine, Outcome};
 ghost use Rattle.vlm_store.specs.Records.{HasResource};
 ghost use Rattle.vlm_locks.specs.Rest.{OthersStay};
-ghost use Rattle.vlm_locks.specs.Standing.{IsStandingOf};
+ghost use Rattle.vlm_locks.specs.Standing.{IsLockOf, IsStandingOf};
 ghost use Rattle.vlm_machine.specs.Admissions.{IsAdmittedConversion};
 ghost use Rattle.vlm_machine.specs.Between.{IsBetweenSteps};
 ghost use Rattle.vlm_machine.specs.Machine.{plain_state};
@@ -17,7 +17,7 @@ use crate::flags::enq_flags;
 use crate::records::Machine;
 use std::alloc::AllocError;
 use vlm_locks::{Standing, convert, converts_at_once};
-use vlm_store::StoredRow;
+use vlm_store::{LockAt, StoredRow};
 use vlm_store::laws::law_records_are_sound;
 use vlm_words::conditions::Cond;
 use vlm_words::flags::EnqFlags;
@@ -25,20 +25,11 @@ use vlm_words::locks::Request;
 use vlm_words::modes::{Mode, quecvt_legal};
 use vlm_words::steps::{Answer, Conversion, Step};
 
-/// A conversion that no check refuses.
+/// A lock that a conversion names and its caller has, and the flags of the conversion.
 #[derive(Clone, Copy)]
-pub(crate) struct AdmittedConversion {
-    // the lock as it is granted
-    standing: Standing,
-    asked: Request,
-    at_once: bool,
-}
-
-// What a conversion asks for that no check refuses, and whether that is granted at once.
-#[derive(Clone, Copy)]
-pub(crate) struct Admission {
-    asked: Request,
-    at_once: bool,
+pub(crate) struct Named {
+    lock: LockAt,
+    flags: EnqFlags,
 }
 
 impl Machine {
@@ -48,59 +39,80 @@ impl Machine {
         ensures { Outcome (plain_state self.old) (Step.Convert conversion.now)
             (plain_state self.new) result }
     {
-        let checked = self.checked_conversion(conversion);
-        let admitted = match &checked {
-            Ok(admitted) => admitted,
-            Err(refusal) => return Answer::Plain(*refusal),
-        };
-        match self.convert_change(conversion, admitted) {
-            Ok(()) => {
-                self.sweep(admitted.standing.res);
-                Answer::Lock(
-                    acceptance(admitted.asked.flags, admitted.at_once),
-                    admitted.standing.row.lkid(),
-                )
+        match self.checked_names(conversion) {
+            Ok(named) => {
+                let standing = self.standing(named.lock);
+                self.convert_named(conversion, named.flags, &standing)
             }
-            Err(AllocError) => Answer::Plain(Cond::Insfmem),
+            Err(refusal) => Answer::Plain(refusal),
         }
     }
 
-    // The checks in their order.
+    // The checks of what the conversion names, in their order.
     #[tactic(auto, unfolding(vlm_words::specs::Convert::convert_refusal))]
-    fn checked_conversion(&self, conversion: &Conversion) -> Result<AdmittedConversion, Cond>
-        ensures refusal { result_err result
-            ≡ convert_refusal (plain_state self.now) conversion.now }
-        ensures admitted { IfOk result (λ a. IsAdmittedConversion self.now conversion.now a) }
+    fn checked_names(&self, conversion: &Conversion) -> Result<Named, Cond>
+        ensures refused { IfErr result
+            (λ refusal. convert_refusal (plain_state self.now) conversion.now ≡ Some refusal) }
+        ensures passed { let s = plain_state self.now in OnOk result
+            (convert_refusal s conversion.now
+            ≡ admission_refusal s conversion.now (convert_admission s conversion.now)) }
+        ensures flags { IfOk result (λ named. flag_bits named.flags ≡ conversion.now.flags) }
+        ensures lock { IfOk result (λ named. IsLockOf conversion.now.pid
+            (convert_lkid (plain_state self.now) conversion.now) named.lock self.now.records) }
     {
         let caller = self.checked_caller(conversion.pid)?;
         let flags = checked_flags(conversion)?;
         self.check_status_block(&caller, conversion.block)?;
         let lkid = self.checked_lkid(&caller, conversion.lock)?;
         let lock = self.checked_lock(&caller, lkid)?;
-        let standing = self.standing(lock);
-        let Admission { asked, at_once } = self.checked_admission(flags, &standing, conversion)?;
-        Ok(AdmittedConversion {
-            standing,
-            asked,
-            at_once,
-        })
+        Ok(Named { lock, flags })
     }
 
-    // The lock is granted, or CVTUNGRANT; and then the checks of the conversion there, in their order.
+    // The conversion of the lock that it names: the checks of its admission, its change, and the sweep.
+    fn convert_named(
+        &mut self,
+        conversion: &Conversion,
+        flags: EnqFlags,
+        standing: &Standing,
+    ) -> Answer
+        requires between { IsBetweenSteps (plain_state self.old) }
+        requires flags { flag_bits flags ≡ conversion.now.flags }
+        requires standing { let lkid = convert_lkid (plain_state self.old) conversion.now
+            in IsStandingOf conversion.now.pid lkid standing.now self.old.records }
+        requires passed { let s = plain_state self.old in convert_refusal s conversion.now
+            ≡ admission_refusal s conversion.now (convert_admission s conversion.now) }
+        ensures outcome { Outcome (plain_state self.old) (Step.Convert conversion.now)
+            (plain_state self.new) result }
+    {
+        let at_once = match self.checked_admission(flags, standing, conversion) {
+            Ok(at_once) => at_once,
+            Err(refusal) => return Answer::Plain(refusal),
+        };
+        match self.convert_change(conversion, flags, standing, at_once) {
+            Ok(()) => {
+                self.sweep(standing.res);
+                Answer::Lock(acceptance(flags, at_once), standing.row.lkid())
+            }
+            Err(AllocError) => Answer::Plain(Cond::Insfmem),
+        }
+    }
+
+    // The lock is granted, or CVTUNGRANT; and then the checks of the conversion there, in their order. Tells whether it
+    // is granted at once.
     fn checked_admission(
         &self,
         flags: EnqFlags,
         standing: &Standing,
         conversion: &Conversion,
-    ) -> Result<Admission, Cond>
+    ) -> Result<bool, Cond>
         requires flags { flag_bits flags ≡ conversion.now.flags }
         requires standing { let lkid = convert_lkid (plain_state self.now) conversion.now
             in IsStandingOf conversion.now.pid lkid standing.now self.now.records }
         ensures refusal { let admission = convert_admission (plain_state self.now) conversion.now
             in result_err result
             ≡ admission_refusal (plain_state self.now) conversion.now admission }
-        ensures admitted { IfOk result (λ a. IsAdmittedConversion self.now conversion.now
-            (record { standing = standing.now; asked = a.asked; at_once = a.at_once })) }
+        ensures admitted { IfOk result (λ at_once.
+            IsAdmittedConversion self.now conversion.now standing.now at_once) }
     {
         law_records_are_sound(&self.store);
         if !standing.is_granted() {
@@ -108,10 +120,9 @@ impl Machine {
         }
         check_pair(conversion, flags, &standing.row)?;
         self.check_request_numbers()?;
-        let asked = request_of(self.last_request + 1, flags, conversion);
-        let at_once = converts_at_once(&self.store, standing, &asked);
+        let at_once = converts_at_once(&self.store, standing, flags, conversion.mode);
         check_queue(flags, at_once)?;
-        Ok(Admission { asked, at_once })
+        Ok(at_once)
     }
 
     // The lock converts, with all that becomes of its status block, and the request number that it took is used up.
@@ -119,25 +130,24 @@ impl Machine {
     fn convert_change(
         &mut self,
         conversion: &Conversion,
-        admitted: &AdmittedConversion,
+        flags: EnqFlags,
+        standing: &Standing,
+        at_once: bool,
     ) -> Result<(), AllocError>
-        requires admitted { IsAdmittedConversion self.old conversion.now admitted.now }
+        requires flags { flag_bits flags ≡ conversion.now.flags }
+        requires admitted { IsAdmittedConversion self.old conversion.now standing.now at_once }
         requires between { IsBetweenSteps (plain_state self.old) }
         ensures change { OnOk result ((a : ConversionAdmission)
             → convert_admission (plain_state self.old) conversion.now ≡ Some a
             → plain_state self.new ≡ convert_change (plain_state self.old) conversion.now a) }
         ensures others { OnOk result
-            (OthersStay admitted.now.standing.res self.old.records self.new.records) }
-        ensures there { OnOk result (HasResource admitted.now.standing.res self.new.records) }
+            (OthersStay standing.now.res self.old.records self.new.records) }
+        ensures there { OnOk result (HasResource standing.now.res self.new.records) }
         ensures unchanged { OnErr result (self.new ≡ self.old) }
         ensures named { OnErr result (NamesRoutine conversion.now) }
     {
-        convert(
-            &mut self.store,
-            &admitted.standing,
-            &admitted.asked,
-            admitted.at_once,
-        )?;
+        let asked = request_of(self.last_request + 1, flags, conversion);
+        convert(&mut self.store, standing, &asked, at_once)?;
         self.last_request += 1;
         Ok(())
     }

@@ -1,4 +1,4 @@
-use Rattle.std.proofs.Common.{rules, ◌≡◌, refl}
+use Rattle.std.proofs.Common.{rules, ◌≡◌, refl, sym, ap}
 use Rattle.vlm_words.specs.Convert.{convert_request}
 use Rattle.vlm_machine.specs.Machine.{plain_state}
 use Rattle.vlm_machine.proofs.Admitting.{is_admitted, not_admitted}
@@ -21,27 +21,29 @@ returns-in_err-check_request_numbers-clause-refusal c =
 
 pub returns-in_err-check_queue-clause-refusal : goal.returns-in_err-check_queue-clause-refusal
 returns-in_err-check_queue-clause-refusal c =
-    let asked : c.request_of-asked.result ≡ convert_request (plain_state c.args.self.now) c.args.conversion.now = search rules in
+    let asked = convert_request (plain_state c.args.self.now) c.args.conversion.now in
+    let flags = sym (ap (λ bits. record { 0 = bits }) c.requires.flags) in
     let found = rw (← c.self.view_is) at c.requires.standing.standing.found in
-    let at_once = c.converts_at_once-at_once.ensures c.requires.standing.standing.resource found in
-    rw (is_admitted c.args.self.now (rw (← c.self.view_is) c.law_records_are_sound.ensures) c.args.conversion.now c.args.standing.now c.requires.standing c.request_of-asked.result asked (search rules), ← at_once) (search rules)
+    let at_once = c.converts_at_once-at_once.ensures c.requires.standing.standing.resource asked found flags refl in
+    rw (is_admitted c.args.self.now (rw (← c.self.view_is) c.law_records_are_sound.ensures) c.args.conversion.now c.args.standing.now c.requires.standing asked refl (search rules), ← at_once) (search rules)
 
 pub returns-clause-refusal : goal.returns-clause-refusal
 returns-clause-refusal c =
-    let asked : c.request_of-asked.result ≡ convert_request (plain_state c.args.self.now) c.args.conversion.now = search rules in
+    let asked = convert_request (plain_state c.args.self.now) c.args.conversion.now in
+    let flags = sym (ap (λ bits. record { 0 = bits }) c.requires.flags) in
     let found = rw (← c.self.view_is) at c.requires.standing.standing.found in
-    let at_once = c.converts_at_once-at_once.ensures c.requires.standing.standing.resource found in
-    rw (is_admitted c.args.self.now (rw (← c.self.view_is) c.law_records_are_sound.ensures) c.args.conversion.now c.args.standing.now c.requires.standing c.request_of-asked.result asked (search rules), ← at_once) (search rules)
+    let at_once = c.converts_at_once-at_once.ensures c.requires.standing.standing.resource asked found flags refl in
+    rw (is_admitted c.args.self.now (rw (← c.self.view_is) c.law_records_are_sound.ensures) c.args.conversion.now c.args.standing.now c.requires.standing asked refl (search rules), ← at_once) (search rules)
 
 pub returns-clause-admitted : goal.returns-clause-admitted
 returns-clause-admitted c =
-    let asked : c.request_of-asked.result ≡ convert_request (plain_state c.args.self.now) c.args.conversion.now = search rules in
+    let asked = convert_request (plain_state c.args.self.now) c.args.conversion.now in
+    let flags = sym (ap (λ bits. record { 0 = bits }) c.requires.flags) in
     let found = rw (← c.self.view_is) at c.requires.standing.standing.found in
     record {
       standing = c.requires.standing;
       granted = search rules;
-      asked = asked;
-      at_once = c.converts_at_once-at_once.ensures c.requires.standing.standing.resource found;
-      found = is_admitted c.args.self.now (rw (← c.self.view_is) c.law_records_are_sound.ensures) c.args.conversion.now c.args.standing.now c.requires.standing c.request_of-asked.result asked (search rules);
+      at_once = c.converts_at_once-at_once.ensures c.requires.standing.standing.resource asked found flags refl;
+      found = is_admitted c.args.self.now (rw (← c.self.view_is) c.law_records_are_sound.ensures) c.args.conversion.now c.args.standing.now c.requires.standing asked refl (search rules);
       number = search rules;
     }
