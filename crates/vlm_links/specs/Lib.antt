@@ -1,3 +1,4 @@
 pub mod Hashing
 pub mod Links
 pub mod Lists
+pub mod Sip

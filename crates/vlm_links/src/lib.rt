@@ -22,6 +22,7 @@ mod handles;
 mod hashing;
 mod link;
 mod lists;
+mod sip;
 
 pub use growth::reserve_one;
 pub use handles::At;

@@ -3,11 +3,11 @@ use Rattle.std.specs.Prelude.{◌≡◌, ℕ, Option, Some}
 use Rattle.vlm_links.specs.declared.hashing.HashKeys.{HashKeys}
 use Rattle.vlm_links.specs.Hashing.{hash_of}
 use Rattle.vlm_words.specs.declared.resources.Key.{Key}
-use Rattle.vlm_words.specs.Keys.{key_input}
+use Rattle.vlm_words.specs.NameWords.{hashed_words}
 
 -- the hash of a resource's key under the keys of the store
 abbrev pub hash_key : HashKeys → Key → ℕ
-hash_key keys key = hash_of keys (key_input key)
+hash_key keys key = hash_of keys (hashed_words key)
 
 -- what is found is labelled so, and what is labelled is found
 pub record Indexes {K : Type 0} (found : K → Option ℕ) (label : ℕ → Option K) : Type 0 where

@@ -132,7 +132,8 @@ impl Store {
     pub fn hash_of(&self, key: &Key) -> u32
         ensures { result ≡ hash_key self.now.keys key.now }
     {
-        self.keys.hash_of(key)
+        let words = key.words();
+        self.keys.hash_of(&words[..key.word_count()])
     }
 
     /// Where the resource under this key, which is hashed so, is.
