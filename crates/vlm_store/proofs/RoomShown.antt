@@ -93,14 +93,14 @@ module _ (s : Inside) where
     processes = no_less _;
   }
 
-  pub process_room_made : (processes : Slab Process) (finds : ℕ) → processes ≡ record s.processes { capacity = processes.capacity } → s.processes.capacity ≤ processes.capacity
-      → spare s.process_index ≤ finds → IsUnchanged (records_shown s) (with_processes (record (rooms_shown s) { processes = room_of processes finds }) processes)
+  pub process_room_made : (processes : Slab Process) → processes ≡ record s.processes { capacity = processes.capacity } → s.processes.capacity ≤ processes.capacity
+      → IsUnchanged (records_shown s) (with_processes (record (rooms_shown s) { processes = room_of processes 1 }) processes)
   unfolding records_of
-  process_room_made processes finds is more finds_more = record {
-    same = ap (with_processes (record (rooms_shown s) { processes = room_of processes finds })) is;
+  process_room_made processes is more = record {
+    same = ap (with_processes (record (rooms_shown s) { processes = room_of processes 1 })) is;
     locks = no_less _;
     resources = no_less _;
-    processes = room_of_less s.processes processes (spare s.process_index) finds is more finds_more;
+    processes = room_of_less s.processes processes 1 1 is more (omega arith);
   }
 
 -- the room stays where the queues keep it

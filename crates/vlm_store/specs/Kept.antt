@@ -7,7 +7,7 @@ use Rattle.vlm_links.specs.Lists.{IsIn, IsLinked, handles_of}
 use Rattle.vlm_store.specs.declared.store.Store.TheInside.{Inside}
 use Rattle.vlm_records.specs.Armed.{IsArmed}
 use Rattle.vlm_store.specs.HashedKeys.{IsHashed, hashed, hashed_at, is_same_hashed}
-use Rattle.vlm_store.specs.Index.{Indexes}
+use Rattle.vlm_store.specs.Index.{Indexes, IsTable}
 use Rattle.vlm_words.specs.declared.resources.Key.{Key}
 use Rattle.vlm_store.specs.Pending.{IsMarked, is_of_nodes, waits_in}
 use Rattle.vlm_store.specs.Records.{Records, Rooms, StoredProcess}
@@ -26,7 +26,7 @@ abbrev pub rooms_shown : Inside → Rooms
 rooms_shown s = record {
   locks = room_of s.queues.locks (spare s.lock_index);
   resources = room_of s.queues.resources (spare s.resource_index);
-  processes = room_of s.processes (spare s.process_index);
+  processes = room_of s.processes 1;
 }
 
 -- the processes, the room, and how a key is hashed
@@ -58,6 +58,6 @@ pub record IsKept (s : Inside) : Type 0 where
   pub named : IsNamed s.processes s.queues.locks
   pub processes_linked : IsLinked process_links s.processes s.process_order
   pub processes_ordered : (at : ℕ) → ContainsKey s.processes at → IsIn at (handles_of process_links s.processes s.process_order)
-  pub processes : Indexes (get nat_eq s.process_index) (pid_at s.processes)
+  pub processes : IsTable s.process_index (pid_at s.processes)
   pub marked : IsMarked waits_in s.processes s.pending
   pub living : IsMarked is_of_nodes s.processes s.living

@@ -18,7 +18,7 @@ use indexmap::IndexMap;
 use slab::Slab;
 use std::alloc::{AllocError, Global};
 use std::marker::Model;
-use vlm_links::{HashKeys, LinkedList, reserve_one};
+use vlm_links::{HandleTable, HashKeys, LinkedList, reserve_one};
 use vlm_marks::NodeMarks;
 use vlm_records::{
     InLine, InOrder, Lock, LockAt, Place, ProcAt, Process, Queues, ResAt, Resource, StoredRow,
@@ -46,7 +46,7 @@ pub struct Store {
     // where the resource of each key is, which is hashed by `keys` already; others choose the names in it
     resource_index: IndexMap<HashedKey, ResAt>,
     // where the process of each identification is
-    pub(crate) process_index: IndexMap<u32, ProcAt>,
+    pub(crate) process_index: HandleTable,
     // how the key of a resource is hashed
     keys: HashKeys,
     // the processes that live, node by node
@@ -113,7 +113,7 @@ impl Store {
             process_order: LinkedList::new(),
             lock_index: IndexMap::new(alloc),
             resource_index: IndexMap::new(alloc),
-            process_index: IndexMap::new(alloc),
+            process_index: HandleTable::new(alloc),
             keys,
             living: NodeMarks::new(alloc),
             pending: NodeMarks::new(alloc),

@@ -20,7 +20,7 @@ use Rattle.vlm_records.specs.Shown.{but_in_line, but_kin, but_queued, but_queues
 use Rattle.vlm_store.specs.Store.{lkid_at, records_of, tables}
 use Rattle.vlm_records.proofs.Arming.{armed_kin, armed_reserved}
 use Rattle.vlm_records.proofs.Places.{same_then, there_by_part, there_through}
-use Rattle.vlm_store.proofs.Indexing.{Indexes-added, Indexes-same}
+use Rattle.vlm_store.proofs.Indexing.{Indexes-added, Indexes-same, table_same}
 use Rattle.vlm_store.proofs.Joining.{new_lkid, other_lkids, joined_kin, joined_lkids, joined_named, joined_owned, joined_processes, linked_parent_there, new_below, new_owned, owner_was_there}
 use Rattle.vlm_store.proofs.Kept.{faces_same, no_lock, on_err, on_ok, place_there, reserved_handles, reserved_placed, stored_there, reserved_tallied}
 use Rattle.vlm_store.specs.Pending.{is_of_nodes, waits_in}
@@ -159,7 +159,7 @@ invariant_of-self-2 c =
       named = joined_named s kept c.reserve_one.new.records locks1 at c.args.row c.args.owner c.args.parent same added.fresh lock others owner parent c.join_process.new.processes c.join_process.new.locks c.join_parent.new.locks process.owned process.here process.elsewhere process.relinks process.rest below.here below.elsewhere below.rest;
       processes_linked = own_process_linked s.processes c.join_process.new.processes process.rest s.process_order kept.processes_linked;
       processes_ordered = own_process_whole s.processes c.join_process.new.processes process.rest s.process_order kept.processes_linked kept.processes_ordered;
-      processes = Indexes-same (get nat_eq s.process_index) (get nat_eq s.process_index) (pid_at s.processes) (pid_at c.join_process.new.processes) (λ k. refl) (own_pids s.processes c.join_process.new.processes process.rest) kept.processes;
+      processes = table_same s.process_index (pid_at s.processes) (pid_at c.join_process.new.processes) (own_pids s.processes c.join_process.new.processes process.rest) kept.processes;
       marked = own_marked waits_in waits-own s.processes c.join_process.new.processes s.pending process.rest kept.marked;
       living = own_marked is_of_nodes nodes-own s.processes c.join_process.new.processes s.living process.rest kept.living;
     }
@@ -201,7 +201,7 @@ returns-clause-added c =
     (joined_processes s kept c.reserve_one.new.records locks1 at c.args.row c.args.owner c.args.parent same added.fresh lock others owner parent c.join_process.new.processes c.join_process.new.locks c.join_parent.new.locks process.owned process.here process.elsewhere process.relinks process.rest below.here below.elsewhere below.rest ∙ ap (map (process_with_lock c.args.owner c.args.parent at)) (sym (records_processes old)))
     ∙ ap (λ r. record (with_new_lock at c.args.row c.args.owner c.args.parent c.args.to (records_of old)) { room = r })
     (room_shown (λ a b. b ≡ record a { locks = b.locks }) old new
-    (rooms_are _ _ _ _ _ _ refl (room_of_same s.queues.resources q'.resources (spare s.resource_index) added.resources_room) (room_of_same s.processes c.join_process.new.processes (spare s.process_index) process.processes_room))))
+    (rooms_are _ _ _ _ _ _ refl (room_of_same s.queues.resources q'.resources (spare s.resource_index) added.resources_room) (room_of_same s.processes c.join_process.new.processes 1 process.processes_room))))
 
 pub returns-clause-fresh : goal.returns-clause-fresh
 returns-clause-fresh c stored =

@@ -15,7 +15,7 @@ use Rattle.vlm_store.specs.Records.{leaving, process_without_lock, with_lists, I
 use Rattle.vlm_records.specs.Shown.{but_kin, but_queued, but_queues, handles_at, lkid_of, rows}
 use Rattle.vlm_store.specs.Store.{lkid_at, records_of, tables}
 use Rattle.vlm_records.proofs.Arming.{armed_kin}
-use Rattle.vlm_store.proofs.Indexing.{Indexes-removed, Indexes-same}
+use Rattle.vlm_store.proofs.Indexing.{Indexes-removed, table_same}
 use Rattle.vlm_store.proofs.Kept.{faces_same}
 use Rattle.vlm_store.specs.Pending.{is_of_nodes, waits_in}
 use Rattle.vlm_store.proofs.Marked.{nodes-own, own_marked, waits-own}
@@ -75,7 +75,7 @@ invariant_of-self c =
       named = left_named s kept c.args.lock none c.leave_parent.new.locks c.leave_process.new.locks q'.locks c.leave_process.new.processes parent.below parent.handles parent.rest process.owned process.handles process.relinks process.rest removed.gone gone_kin;
       processes_linked = own_process_linked s.processes c.leave_process.new.processes process.rest s.process_order kept.processes_linked;
       processes_ordered = own_process_whole s.processes c.leave_process.new.processes process.rest s.process_order kept.processes_linked kept.processes_ordered;
-      processes = Indexes-same (get nat_eq s.process_index) (get nat_eq s.process_index) (pid_at s.processes) (pid_at c.leave_process.new.processes) (λ k. refl) (own_pids s.processes c.leave_process.new.processes process.rest) kept.processes;
+      processes = table_same s.process_index (pid_at s.processes) (pid_at c.leave_process.new.processes) (own_pids s.processes c.leave_process.new.processes process.rest) kept.processes;
       marked = own_marked waits_in waits-own s.processes c.leave_process.new.processes s.pending process.rest kept.marked;
       living = own_marked is_of_nodes nodes-own s.processes c.leave_process.new.processes s.living process.rest kept.living;
     }
@@ -109,7 +109,7 @@ returns-clause-removed c =
     (left_processes s kept c.args.lock none c.leave_parent.new.locks c.leave_process.new.locks q'.locks c.leave_process.new.processes parent.below parent.handles parent.rest process.owned process.handles process.relinks process.rest removed.gone gone_kin ∙ ap (map (process_without_lock c.args.lock)) (sym (records_processes old)))
     ∙ ap (λ r. record (without_stored_lock c.args.lock (records_of old)) { room = r })
     (room_shown (λ a b. b ≡ record a { locks = b.locks }) old new
-    (rooms_are _ _ _ _ _ _ refl (room_of_same s.queues.resources q'.resources (spare s.resource_index) removed.resources_room) (room_of_same s.processes c.leave_process.new.processes (spare s.process_index) process.processes_room))))
+    (rooms_are _ _ _ _ _ _ refl (room_of_same s.queues.resources q'.resources (spare s.resource_index) removed.resources_room) (room_of_same s.processes c.leave_process.new.processes 1 process.processes_room))))
 
 pub returns-clause-given_back : goal.returns-clause-given_back
 returns-clause-given_back c =

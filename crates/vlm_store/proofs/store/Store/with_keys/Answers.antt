@@ -1,6 +1,8 @@
 use Rattle.vlm_store.specs.Index.{hash_key}
 use Rattle.vlm_store.proofs.Lined.{empty_line}
-use Rattle.std.proofs.Common.{◌≡◌, ℕ, None, refl, ap, nat_eq}
+use Rattle.std.proofs.Common.{◌≡◌, ◌∙◌, ℕ, None, refl, sym, ap, nat_eq}
+use Rattle.std.proofs.lemmas.Option.{none-some}
+use Rattle.vlm_links.specs.Tables.{handle_of}
 use Rattle.slab.specs.Slab.{get}
 use Rattle.vlm_records.specs.Shown.{lkid_of}
 use Rattle.std.specs.Map.{lookup}
@@ -41,7 +43,12 @@ invariant_of-result c =
       named = empty_named c.new-6.result q.locks no_processes no_locks;
       processes_linked = empty_processes_linked c.new-6.result q.locks no_processes no_locks c.new-7.result c.new-7.ensures;
       processes_ordered = empty_processes_ordered c.new-6.result q.locks no_processes no_locks c.new-7.result c.new-7.ensures;
-      processes = Indexes-empty (found nat_eq c.new-10.result) (pid_at c.new-6.result) (λ k. ap (lookup (nat_eq k)) c.new-10.ensures.empty) (λ p. ap (option_map pid_of) (no_processes p));
+      processes =
+          let none : (p : ℕ) → pid_at c.new-6.result p ≡ None = λ p. ap (option_map pid_of) (no_processes p) in
+          record {
+            indexes = Indexes-empty (handle_of c.new-10.result) (pid_at c.new-6.result) c.new-10.ensures none;
+            room = λ p number is. absurd (none-some number (sym (none p) ∙ is));
+          };
       marked = empty_marked waits_in c.new-6.result c.new-12.result no_processes c.new-12.ensures;
       living = empty_marked is_of_nodes c.new-6.result c.new-11.result no_processes c.new-11.ensures;
     }
