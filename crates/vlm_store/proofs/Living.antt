@@ -20,7 +20,6 @@ use Rattle.vlm_records.specs.Shown.{lkid_of, row_in, rows}
 use Rattle.vlm_store.specs.Holdings.{Holding, holding, own_of, process_face_in, process_under, processes_of}
 use Rattle.vlm_records.specs.Kin.{NamesParent, OwnerFits, ParentFits, below_handles, own_handles, owner_in, parent_in, pid_at, pid_of, process_links}
 use Rattle.vlm_store.specs.Store.{tables}
-use Rattle.vlm_store.specs.HashedKeys.{is_same_hashed}
 use Rattle.vlm_store.proofs.HashedKeys.{by_keys}
 use Rattle.vlm_store.proofs.Kept.{keys_apart, lkids_apart, stored_there, there_stored}
 use Rattle.vlm_store.proofs.Layouts.{IsSound-records_of}
@@ -238,7 +237,7 @@ module _ (s : Inside) (kept : IsKept s) where
   is_sound =
       IsSound-records_of (tables s.queues s.order (beside_shown s)) kept.linked.apart (λ p. (kept.placed.linked p).apart) (one_place s.queues None kept.placed)
       (lkids_apart s.queues s.order (beside_shown s) kept.placed kept.linked kept.ordered (found nat_eq s.lock_index) kept.locks)
-      (keys_apart s.queues s.order (beside_shown s) kept.placed kept.linked kept.ordered (found_in s) (by_keys (hash_key s.keys) (found is_same_hashed s.resource_index) s.queues kept.resources)) are_apart are_owned own_apart
+      (keys_apart s.queues s.order (beside_shown s) kept.placed kept.linked kept.ordered (found_in s) (by_keys (hash_key s.keys) s.resource_index s.queues kept.resources)) are_apart are_owned own_apart
 
   -- the index of processes finds what a caller sees
   pub finds_process : (pid : ℕ) (result : Option ℕ) → result ≡ handle_of s.process_index pid → FindsProcess (records_shown s) pid result

@@ -13,7 +13,7 @@ ghost use Rattle.vlm_store.specs.Plain.{plain_resource};
 ghost use Rattle.vlm_store.specs.Records.{FindsLock, FindsResource, HasNoSublocks, HasPlace, HasResource, HasRoomForLock, HasRoomForResource, IsGivenBack, IsTaken, IsUnchanged, IsParentOf, IsProcess, at_after, disarming, first_at, first_resource_at, fits_beside, resource_at_after, resource_at, rows_of_locks, IsIdle, IsNewKey, IsNewLock, IsRowOf, IsSound, IsStored, Stores, locks_at, moving, new_stored_resource, nothing, on_resource, queued, with_lists, with_lock_room, with_new_lock, with_resource_room, without_resource, without_stored_lock};
 ghost use Rattle.vlm_store.specs.Total.{lock_total};
 
-use crate::hashed::HashedKey;
+use crate::key_index::{KeyIndex, reserve_keyed};
 use indexmap::IndexMap;
 use slab::Slab;
 use std::alloc::{AllocError, Global};
@@ -43,8 +43,8 @@ pub struct Store {
     pub(crate) process_order: LinkedList<InOrder>,
     // where the lock of each identification is
     lock_index: IndexMap<u32, LockAt>,
-    // where the resource of each key is, which is hashed by `keys` already; others choose the names in it
-    resource_index: IndexMap<HashedKey, ResAt>,
+    // where the resource of each key is, which `keys` hash; others choose the names in it
+    resource_index: KeyIndex,
     // where the process of each identification is
     pub(crate) process_index: HandleTable,
     // how the key of a resource is hashed
@@ -112,7 +112,7 @@ impl Store {
             processes: Slab::new(alloc),
             process_order: LinkedList::new(),
             lock_index: IndexMap::new(alloc),
-            resource_index: IndexMap::new(alloc),
+            resource_index: KeyIndex::new(alloc),
             process_index: HandleTable::new(alloc),
             keys,
             living: NodeMarks::new(alloc),
@@ -143,8 +143,7 @@ impl Store {
         ensures there { IfSome result (λ res. HasResource res self.now) }
         ensures sound { IsSound self.now }
     {
-        let found = HashedKey { key: *key, hash };
-        self.resource_index.get(&found).copied()
+        self.resource_index.get(&self.queues.resources, key, hash)
     }
 
     /// The record of a lock: what it holds and wants, where it stands, and whose it is.
@@ -247,7 +246,7 @@ impl Store {
         ensures room { OnOk result (HasRoomForResource self.new) }
         ensures succeeds { HasRoomForResource self.old → IsOk result }
     {
-        reserve_one(&mut self.queues.resources, &mut self.resource_index)
+        reserve_keyed(&mut self.queues.resources, &mut self.resource_index)
     }
 
     /// Adds a resource without locks, whose key is hashed so, the last in order of making, with a valid value block of zeros. Where
@@ -265,16 +264,13 @@ impl Store {
         ensures succeeds { HasRoomForResource self.old → IsOk result }
         ensures err { OnErr result (IsUnchanged self.old self.new) }
     {
-        reserve_one(&mut self.queues.resources, &mut self.resource_index)?;
+        reserve_keyed(&mut self.queues.resources, &mut self.resource_index)?;
         let res = ResAt::of(
             self.queues
                 .add_resource(&mut self.order, serial, site, hash),
         );
-        let found = HashedKey {
-            key: site.key,
-            hash,
-        };
-        let _ = self.resource_index.insert(found, res);
+        self.resource_index
+            .insert(&self.queues.resources, res, hash);
         Ok(res)
     }
 
@@ -387,13 +383,9 @@ impl Store {
             (record self.old { resources = without_resource res self.old.resources }) }
         ensures given_back { IsGivenBack self.old.room.resources self.new.room.resources }
     {
-        let resource = &self.queues.resources[res.slot()];
-        let found = HashedKey {
-            key: resource.key,
-            hash: resource.hash,
-        };
+        self.resource_index
+            .remove(&self.queues.resources[res.slot()]);
         self.queues.remove_resource(&mut self.order, res.slot());
-        self.resource_index.swap_remove(&found);
     }
 
     /// Whether the mode is compatible with what every lock of the resource holds, granted or converting,

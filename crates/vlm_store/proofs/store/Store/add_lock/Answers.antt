@@ -9,8 +9,8 @@ use Rattle.slab.specs.Slab.{get as slot_of}
 use Rattle.indexmap.specs.IndexMap.{get, spare}
 use Rattle.vlm_links.proofs.Keeping.{vacant_unlisted}
 use Rattle.vlm_links.specs.Lists.{IsIn}
-use Rattle.vlm_store.specs.HashedKeys.{hashed_at, is_same_hashed}
-use Rattle.vlm_store.proofs.HashedKeys.{IsHashed-same}
+use Rattle.vlm_store.specs.HashedKeys.{hashed_at}
+use Rattle.vlm_store.proofs.HashedKeys.{labels_same}
 use Rattle.vlm_records.specs.declared.handles.Place.{Place}
 use Rattle.vlm_records.specs.declared.locks.Lock.{Lock}
 use Rattle.vlm_records.specs.Kin.{pid_at}
@@ -27,6 +27,7 @@ use Rattle.vlm_store.specs.Pending.{is_of_nodes, waits_in}
 use Rattle.vlm_store.proofs.Marked.{nodes-own, own_marked, waits-own}
 use Rattle.vlm_store.proofs.Kinship.{kin_handles, kin_placed, kin_rows, kin_tallied, own_below, own_pids, own_process_linked, own_process_whole, records_processes}
 use Rattle.vlm_store.proofs.Layouts.{joining-under_handle, lists_changed_beside}
+use Rattle.vlm_store.specs.KeyIndexes.{spare_of}
 use Rattle.vlm_store.proofs.store.Store.add_lock.Goals as goal
 use Rattle.vlm_store.proofs.Order.{keys_same, order_handles, order_linked, order_whole}
 
@@ -153,7 +154,7 @@ invariant_of-self-2 c =
       locks = Indexes-added nat_eq unsigned_Decides c.reserve_one.new.index c.insert.new.self c.args.row.lkid (lkid_at (record s.queues { locks = c.reserve_one.new.records })) (lkid_at q'') at
           (rw (c.of-at.ensures, c.lkid.ensures) at (on_ok c.insert.result _ (c.insert.ensures.succeeds (omega (arith, c.in_ok-reserve_one.ensures.find))) c.insert.ensures.updates))
           (ap (option_map lkid_of) added.fresh) (lkids at ∙ new_lkid s kept c.reserve_one.new.records locks1 at c.args.row c.args.owner c.args.parent same added.fresh lock others owner parent) (λ k differs. lkids k ∙ other_lkids s kept c.reserve_one.new.records locks1 at c.args.row c.args.owner c.args.parent same added.fresh lock others owner parent k differs) fresh indexes1;
-      resources = IsHashed-same (hash_key s.keys) (get is_same_hashed s.resource_index) (get is_same_hashed s.resource_index) (hashed_at s.queues) (hashed_at q'') (λ k. refl) (keys_same but_queues (λ r. refl) s.queues.resources q'.resources rest) kept.resources;
+      resources = labels_same (hash_key s.keys) s.resource_index (hashed_at s.queues) (hashed_at q'') (keys_same but_queues (λ r. refl) s.queues.resources q'.resources rest) kept.resources;
       owned = joined_owned s kept c.reserve_one.new.records locks1 at c.args.row c.args.owner c.args.parent same added.fresh lock others owner parent c.join_process.new.processes c.join_process.new.locks c.join_parent.new.locks process.owned process.here process.elsewhere process.relinks process.rest below.here below.elsewhere below.rest;
       below = below.below;
       named = joined_named s kept c.reserve_one.new.records locks1 at c.args.row c.args.owner c.args.parent same added.fresh lock others owner parent c.join_process.new.processes c.join_process.new.locks c.join_parent.new.locks process.owned process.here process.elsewhere process.relinks process.rest below.here below.elsewhere below.rest;
@@ -201,7 +202,7 @@ returns-clause-added c =
     (joined_processes s kept c.reserve_one.new.records locks1 at c.args.row c.args.owner c.args.parent same added.fresh lock others owner parent c.join_process.new.processes c.join_process.new.locks c.join_parent.new.locks process.owned process.here process.elsewhere process.relinks process.rest below.here below.elsewhere below.rest ∙ ap (map (process_with_lock c.args.owner c.args.parent at)) (sym (records_processes old)))
     ∙ ap (λ r. record (with_new_lock at c.args.row c.args.owner c.args.parent c.args.to (records_of old)) { room = r })
     (room_shown (λ a b. b ≡ record a { locks = b.locks }) old new
-    (rooms_are _ _ _ _ _ _ refl (room_of_same s.queues.resources q'.resources (spare s.resource_index) added.resources_room) (room_of_same s.processes c.join_process.new.processes 1 process.processes_room))))
+    (rooms_are _ _ _ _ _ _ refl (room_of_same s.queues.resources q'.resources (spare_of s.resource_index) added.resources_room) (room_of_same s.processes c.join_process.new.processes 1 process.processes_room))))
 
 pub returns-clause-fresh : goal.returns-clause-fresh
 returns-clause-fresh c stored =

@@ -2,75 +2,74 @@ use Rattle.vlm_links.specs.declared.hashing.HashKeys.{HashKeys}
 use Rattle.vlm_store.specs.Index.{hash_key}
 use Rattle.vlm_store.proofs.Lined.{line_same}
 use Rattle.vlm_store.proofs.RoomShown.{room_shown, shown_room, is_taken, rooms_are, room_of_same, resource_room_kept, resource_room_made, has_room}
-use Rattle.std.proofs.Common.{◌≡◌, ◌∙◌, ◌++◌, ◌∷◌, [], ℕ, None, Some, IsSome, ap, sym, refl, arith, nat_eq, subst}
-use Rattle.std.specs.Map.{lookup}
+use Rattle.std.proofs.Common.{◌≡◌, ◌∙◌, ◌++◌, ◌∷◌, [], ℕ, None, Some, IsSome, ap, sym, refl, nat_eq, subst}
 use Rattle.std.specs.Option.{option_map}
 use Rattle.slab.specs.Slab.{get as slot_of}
-use Rattle.indexmap.specs.IndexMap.{get, spare, Updates}
+use Rattle.indexmap.specs.IndexMap.{get, spare}
 use Rattle.vlm_links.proofs.Keeping.{vacant_unlisted}
 use Rattle.vlm_links.proofs.Rings.{same-handles, same-linked}
 use Rattle.vlm_words.specs.declared.resources.Queue.TheVariants.{Granted, Conversion, Waiting}
 use Rattle.vlm_records.specs.declared.handles.Place.TheVariants.{Queued}
 use Rattle.vlm_records.specs.declared.resources.Resource.{Resource}
 use Rattle.vlm_store.specs.declared.hashed.HashedKey.{HashedKey}
-use Rattle.vlm_store.specs.HashedKeys.{hashed, hashed_at, hashed_in, is_same_hashed}
-use Rattle.vlm_store.proofs.HashedKeys.{IsHashed-added, IsHashed-same, by_keys, hashed_by_face, hashed_is}
+use Rattle.vlm_store.specs.HashedKeys.{hashed, hashed_at, hashed_in}
+use Rattle.vlm_store.proofs.HashedKeys.{by_keys, fresh_label, hashed_added, hashed_by_face, hashed_is, index_same, last_there}
 use Rattle.vlm_store.specs.Records.{new_stored_resource, HasRoom, IsTaken}
 use Rattle.vlm_records.specs.Shown.{face_in, lkid_of, new_face, order_links, row_in, room_in, but_queued, tally_in}
 use Rattle.vlm_store.specs.Store.{lkid_at, resource_of, tables, records_of}
 use Rattle.vlm_records.specs.Armed.{armed_list_in}
 use Rattle.vlm_records.proofs.Arming.{armed_resources}
 use Rattle.vlm_store.proofs.Indexing.{Indexes-same}
-use Rattle.vlm_store.proofs.Kept.{no_resource, on_ok, on_err}
+use Rattle.vlm_store.proofs.Kept.{no_resource, on_err}
 use Rattle.vlm_store.proofs.Layouts.{HasResource-order, resource_made}
 use Rattle.vlm_records.proofs.Making.{face_by_face, face_is, none_handles, there_by_face, whole_grown, reserved_lists, resources_handles, resources_placed, resources_tallied}
 use Rattle.vlm_store.specs.Kept.{beside_shown, found_in}
 use Rattle.vlm_store.proofs.Kinship.{records_keys, queued_below, queued_named, queued_owned, queued_processes}
 use Rattle.vlm_records.proofs.Places.{same_eq}
+use Rattle.vlm_store.specs.KeyIndexes.{Enters, spare_of}
 use Rattle.vlm_store.proofs.store.Store.add_resource.Goals as goal
 
 pub invariant_of-self : goal.invariant_of-self
-invariant_of-self c = resource_room_kept c.self.inside c.self.invariant c.reserve_one.new.records c.reserve_one.new.index c.reserve_one.ensures.records c.reserve_one.ensures.index
+invariant_of-self c = resource_room_kept c.self.inside c.self.invariant c.reserve_keyed.new.resources c.reserve_keyed.new.index c.reserve_keyed.ensures.records c.reserve_keyed.ensures.index
 
 pub add_resource-requires-clause-linked : goal.add_resource-requires-clause-linked
 add_resource-requires-clause-linked c =
     let s = c.self.inside in
-    same-linked order_links s.queues.resources c.reserve_one.new.records s.order c.self.invariant.linked (λ r _. ap (λ x. slot_of x r) c.reserve_one.ensures.records)
+    same-linked order_links s.queues.resources c.reserve_keyed.new.resources s.order c.self.invariant.linked (λ r _. ap (λ x. slot_of x r) c.reserve_keyed.ensures.records)
 
 pub invariant_of-self-2 : goal.invariant_of-self-2
 invariant_of-self-2 c =
     let s = c.self.inside in
     let kept = c.self.invariant in
-    let same : (r : ℕ) → slot_of c.reserve_one.new.records r ≡ slot_of s.queues.resources r = λ r. ap (λ x. slot_of x r) c.reserve_one.ensures.records in
-    let q1 = record s.queues { resources = c.reserve_one.new.records } in
+    let same : (r : ℕ) → slot_of c.reserve_keyed.new.resources r ≡ slot_of s.queues.resources r = λ r. ap (λ x. slot_of x r) c.reserve_keyed.ensures.records in
+    let q1 = record s.queues { resources = c.reserve_keyed.new.resources } in
     let q' = c.add_resource.new.self in
     let at = c.add_resource.result in
     let added = c.add_resource.ensures in
-    let handles1 = same-handles order_links s.queues.resources c.reserve_one.new.records s.order kept.linked (λ x _. same x) in
+    let handles1 = same-handles order_links s.queues.resources c.reserve_keyed.new.resources s.order kept.linked (λ x _. same x) in
     let key = c.args.site.now.key in
     let found = hashed (hash_key s.keys) key in
     let hash_known : c.args.hash ≡ hash_key s.keys key = (rw (← c.self.view_is) at c.requires.hash) ∙ ap (λ (h : HashKeys). hash_key h key) (records_keys (tables s.queues s.order (beside_shown s))) in
     let hash_is : record { key = key; hash = c.args.hash } ≡ found = ap (λ (n : ℕ). record { key = key; hash = n }) hash_known in
-    let indexes1 = IsHashed-same (hash_key s.keys) (get is_same_hashed s.resource_index) (get is_same_hashed c.reserve_one.new.index) (hashed_at s.queues) (hashed_at q1)
-    (λ k. ap (λ es. lookup (is_same_hashed k) es) c.reserve_one.ensures.index) (λ r. ap (option_map hashed_in) (same r)) kept.resources in
-    let fresh : get is_same_hashed c.reserve_one.new.index found ≡ None =
-    ap (λ es. lookup (is_same_hashed found) es) c.reserve_one.ensures.index
-    ∙ no_resource s.queues s.order (beside_shown s) kept.placed kept.linked kept.ordered (found_in s) (by_keys (hash_key s.keys) (get is_same_hashed s.resource_index) s.queues kept.resources) key
-    (rw (← c.self.view_is) at c.requires.new) in
+    let indexes1 = index_same (hash_key s.keys) s.resource_index c.reserve_keyed.new.index (hashed_at s.queues) (hashed_at q1) c.reserve_keyed.ensures.index (λ r. ap (option_map hashed_in) (same r)) kept.resources in
+    let fresh = fresh_label (hash_key s.keys) s.resource_index s.queues kept.resources key
+    (no_resource s.queues s.order (beside_shown s) kept.placed kept.linked kept.ordered (found_in s) (by_keys (hash_key s.keys) s.resource_index s.queues kept.resources) key
+    (rw (← c.self.view_is) at c.requires.new)) in
     record {
       placed = added.laid_out.placed;
       tallied = added.laid_out.tallied;
       armed = added.laid_out.armed;
       line = line_same s.queues.locks q'.locks s.line (λ k. ap (λ l. slot_of l k) added.locks) kept.line;
       linked = added.linked;
-      ordered = whole_grown order_links c.reserve_one.new.records q'.resources s.order c.add_resource.new.order at (λ r there. rw handles1 (kept.ordered r (rw (same r) at there))) added.order
-          (λ r differs. there_by_face (slot_of q'.resources r) (slot_of c.reserve_one.new.records r) (added.faces r differs));
+      ordered = whole_grown order_links c.reserve_keyed.new.resources q'.resources s.order c.add_resource.new.order at (λ r there. rw handles1 (kept.ordered r (rw (same r) at there))) added.order
+          (λ r differs. there_by_face (slot_of q'.resources r) (slot_of c.reserve_keyed.new.resources r) (added.faces r differs));
       locks = Indexes-same (get nat_eq s.lock_index) (get nat_eq s.lock_index) (lkid_at s.queues) (lkid_at q') (λ k. refl) (λ x. ap (λ l. option_map lkid_of (slot_of l x)) added.locks) kept.locks;
-      resources = IsHashed-added (hash_key s.keys) c.reserve_one.new.index c.insert.new.self (hashed_at q1) (hashed_at q') at
-          (λ r differs. hashed_by_face (slot_of q'.resources r) (slot_of c.reserve_one.new.records r) (added.faces r differs)) indexes1 key
-          (subst (λ (k : HashedKey). Updates is_same_hashed c.reserve_one.new.index c.insert.new.self k (Some at)) hash_is
-          (rw c.of-res.ensures at (on_ok c.insert.result _ (c.insert.ensures.succeeds (omega (arith, c.in_ok-reserve_one.ensures.find))) c.insert.ensures.updates)))
-          (ap (option_map hashed_in) added.fresh) (hashed_is (slot_of q'.resources at) (new_face c.args.serial c.args.site.now c.args.hash) added.face ∙ ap (λ (k : HashedKey). Some k) hash_is) fresh;
+      resources = hashed_added (hash_key s.keys) c.reserve_keyed.new.index c.insert.new.self (hashed_at q1) (hashed_at q') at found
+          (λ r differs. hashed_by_face (slot_of q'.resources r) (slot_of c.reserve_keyed.new.resources r) (added.faces r differs)) indexes1 q'.resources
+          (subst (λ (n : ℕ). Enters q'.resources at n c.reserve_keyed.new.index c.insert.new.self) hash_known (rw c.of-res.ensures at c.insert.ensures.enters))
+          (λ b. refl) (ap (option_map hashed_in) added.fresh)
+          (hashed_is (slot_of q'.resources at) (new_face c.args.serial c.args.site.now c.args.hash) added.face ∙ ap (λ (k : HashedKey). Some k) hash_is)
+          (λ b is. fresh b (sym (ap (option_map hashed_in) (same b)) ∙ is)) refl;
       owned = queued_owned s.processes s.queues.locks q'.locks (same_eq but_queued s.queues.locks q'.locks added.locks) None kept.owned;
       below = queued_below s.processes s.queues.locks q'.locks (same_eq but_queued s.queues.locks q'.locks added.locks) None kept.below;
       named = queued_named s.processes s.queues.locks q'.locks (same_eq but_queued s.queues.locks q'.locks added.locks) kept.named;
@@ -85,13 +84,13 @@ pub returns-clause-added : goal.returns-clause-added
 returns-clause-added c =
     let s = c.self.inside in
     let kept = c.self.invariant in
-    let same : (r : ℕ) → slot_of c.reserve_one.new.records r ≡ slot_of s.queues.resources r = λ r. ap (λ x. slot_of x r) c.reserve_one.ensures.records in
+    let same : (r : ℕ) → slot_of c.reserve_keyed.new.resources r ≡ slot_of s.queues.resources r = λ r. ap (λ x. slot_of x r) c.reserve_keyed.ensures.records in
     let q' = c.add_resource.new.self in
     let at = c.add_resource.result in
     let added = c.add_resource.ensures in
     let vacant : slot_of s.queues.resources at ≡ None = sym (same at) ∙ added.fresh in
-    let handles1 = same-handles order_links s.queues.resources c.reserve_one.new.records s.order kept.linked (λ x _. same x) in
-    let lists1 = resources_handles s.queues c.reserve_one.new.records kept.placed (reserved_lists s.queues c.reserve_one.new.records same) in
+    let handles1 = same-handles order_links s.queues.resources c.reserve_keyed.new.resources s.order kept.linked (λ x _. same x) in
+    let lists1 = resources_handles s.queues c.reserve_keyed.new.resources kept.placed (reserved_lists s.queues c.reserve_keyed.new.resources same) in
     let s' = record s { queues = q'; order = c.add_resource.new.order; resource_index = c.insert.new.self } in
     let old = tables s.queues s.order (beside_shown s) in
     let l' = tables q' s'.order (beside_shown s') in
@@ -104,7 +103,7 @@ returns-clause-added c =
     ) refl in
     rw (← c.self.view_is, c.of-res.ensures)
     (resource_made (tables s.queues s.order (beside_shown s)) l' at (new_stored_resource at c.args.serial c.args.site.now) (λ k. ap (λ l. row_in (slot_of l k)) added.locks) (λ p. added.handles p ∙ lists1 p)
-    (λ r differs. face_by_face (slot_of q'.resources r) (slot_of c.reserve_one.new.records r) (added.faces r differs) ∙ ap face_in (same r))
+    (λ r differs. face_by_face (slot_of q'.resources r) (slot_of c.reserve_keyed.new.resources r) (added.faces r differs) ∙ ap face_in (same r))
     (vacant_unlisted order_links s.queues.resources s.order kept.linked at vacant) (added.order ∙ ap (λ ks. ks ++ at ∷ []) handles1) made
     (queued_processes s.processes s.queues.locks q'.locks (same_eq but_queued s.queues.locks q'.locks added.locks) s.process_order kept.owned kept.below) refl
     ∙ ap (λ r. record (records_of old) { resources = (records_of old).resources ++ new_stored_resource at c.args.serial c.args.site.now ∷ []; room = r })
@@ -116,7 +115,7 @@ returns-clause-fresh c has =
     let s = c.self.inside in
     let is = rw (c.of-res.ensures, ← c.self.view_is) at has in
     let there = c.self.invariant.linked.present c.add_resource.result (HasResource-order (tables s.queues s.order (beside_shown s)) c.add_resource.result is) in
-    let vacant : slot_of s.queues.resources c.add_resource.result ≡ None = sym (ap (λ x. slot_of x c.add_resource.result) c.reserve_one.ensures.records) ∙ c.add_resource.ensures.fresh in
+    let vacant : slot_of s.queues.resources c.add_resource.result ≡ None = sym (ap (λ x. slot_of x c.add_resource.result) c.reserve_keyed.ensures.records) ∙ c.add_resource.ensures.fresh in
     let nothing : IsSome {T = Resource} None = rw vacant at there in
     absurd (cc)
 
@@ -127,34 +126,44 @@ returns-clause-taken c =
     let s' = record s { queues = q'; order = c.add_resource.new.order; resource_index = c.insert.new.self } in
     rw (← c.self.view_is)
     (room_shown (λ a b. IsTaken a.resources b.resources) (tables s.queues s.order (beside_shown s)) (tables q' s'.order (beside_shown s'))
-    (is_taken s.queues.resources c.reserve_one.new.records q'.resources (spare s.resource_index) (spare c.reserve_one.new.index) (spare c.insert.new.self) c.reserve_one.ensures.records c.reserve_one.ensures.capacity
-    c.add_resource.ensures.taken c.reserve_one.ensures.finds c.insert.ensures.spare))
+    (is_taken s.queues.resources c.reserve_keyed.new.resources q'.resources (spare_of s.resource_index) (spare_of c.reserve_keyed.new.index) (spare_of c.insert.new.self) c.reserve_keyed.ensures.records c.reserve_keyed.ensures.capacity
+    c.add_resource.ensures.taken c.reserve_keyed.ensures.finds c.insert.ensures.taken))
 
 -- where there is room none is refused
-pub returns-in_err-reserve_one-clause-succeeds : goal.returns-in_err-reserve_one-clause-succeeds
-returns-in_err-reserve_one-clause-succeeds c has =
+pub returns-in_err-reserve_keyed-clause-succeeds : goal.returns-in_err-reserve_keyed-clause-succeeds
+returns-in_err-reserve_keyed-clause-succeeds c has =
     let s = c.self.inside in
-    let room = has_room s.queues.resources (spare s.resource_index) (shown_room (λ r. HasRoom r.resources) (tables s.queues s.order (beside_shown s)) (rw (← c.self.view_is) at has)) in
-    let never = c.in_err-reserve_one.ensures.succeeds room.0 room.1 room.2 in
+    let room = has_room s.queues.resources (spare_of s.resource_index) (shown_room (λ r. HasRoom r.resources) (tables s.queues s.order (beside_shown s)) (rw (← c.self.view_is) at has)) in
+    let never = c.in_err-reserve_keyed.ensures.succeeds room.0 room.1 room.2 in
     cc
 
-pub returns-in_err-reserve_one-clause-err : goal.returns-in_err-reserve_one-clause-err
-returns-in_err-reserve_one-clause-err c =
+pub returns-in_err-reserve_keyed-clause-err : goal.returns-in_err-reserve_keyed-clause-err
+returns-in_err-reserve_keyed-clause-err c =
     rw (← c.self.view_is)
-    (on_err c.from_residual.result _ (resource_room_made c.self.inside c.reserve_one.new.records (spare c.reserve_one.new.index) c.reserve_one.ensures.records c.reserve_one.ensures.capacity c.reserve_one.ensures.finds))
+    (on_err c.from_residual.result _ (resource_room_made c.self.inside c.reserve_keyed.new.resources (spare_of c.reserve_keyed.new.index) c.reserve_keyed.ensures.records c.reserve_keyed.ensures.capacity c.reserve_keyed.ensures.finds))
 
 pub add_resource-requires-clause-laid_out : goal.add_resource-requires-clause-laid_out
 add_resource-requires-clause-laid_out c = record {
   placed =
       let s = c.self.inside in
-      resources_placed s.queues c.reserve_one.new.records c.self.invariant.placed (reserved_lists s.queues c.reserve_one.new.records (λ r. ap (λ x. slot_of x r) c.reserve_one.ensures.records));
+      resources_placed s.queues c.reserve_keyed.new.resources c.self.invariant.placed (reserved_lists s.queues c.reserve_keyed.new.resources (λ r. ap (λ x. slot_of x r) c.reserve_keyed.ensures.records));
   tallied =
       let s = c.self.inside in
-      let same : (r : ℕ) → slot_of c.reserve_one.new.records r ≡ slot_of s.queues.resources r = λ r. ap (λ x. slot_of x r) c.reserve_one.ensures.records in
-      resources_tallied s.queues c.reserve_one.new.records c.self.invariant.placed (reserved_lists s.queues c.reserve_one.new.records same) (λ r. ap tally_in (same r)) c.self.invariant.tallied;
+      let same : (r : ℕ) → slot_of c.reserve_keyed.new.resources r ≡ slot_of s.queues.resources r = λ r. ap (λ x. slot_of x r) c.reserve_keyed.ensures.records in
+      resources_tallied s.queues c.reserve_keyed.new.resources c.self.invariant.placed (reserved_lists s.queues c.reserve_keyed.new.resources same) (λ r. ap tally_in (same r)) c.self.invariant.tallied;
   armed =
       let s = c.self.inside in
-      let same : (r : ℕ) → slot_of c.reserve_one.new.records r ≡ slot_of s.queues.resources r = λ r. ap (λ x. slot_of x r) c.reserve_one.ensures.records in
-      armed_resources s.queues c.reserve_one.new.records (λ r. ap armed_list_in (same r))
-      (resources_handles s.queues c.reserve_one.new.records c.self.invariant.placed (reserved_lists s.queues c.reserve_one.new.records same)) c.self.invariant.armed;
+      let same : (r : ℕ) → slot_of c.reserve_keyed.new.resources r ≡ slot_of s.queues.resources r = λ r. ap (λ x. slot_of x r) c.reserve_keyed.ensures.records in
+      armed_resources s.queues c.reserve_keyed.new.resources (λ r. ap armed_list_in (same r))
+      (resources_handles s.queues c.reserve_keyed.new.resources c.self.invariant.placed (reserved_lists s.queues c.reserve_keyed.new.resources same)) c.self.invariant.armed;
 }
+
+pub insert-requires-clause-there : goal.insert-requires-clause-there
+insert-requires-clause-there c before last =
+    let s = c.self.inside in
+    let roomy = c.reserve_keyed.new.resources in
+    let added = c.add_resource.ensures in
+    let same = ap (λ x. slot_of x before) c.reserve_keyed.ensures.records in
+    let there : IsSome (slot_of roomy before) = rw same (last_there (hash_key s.keys) s.resource_index s.queues c.self.invariant.resources c.args.hash before (sym (c.reserve_keyed.ensures.index.last c.args.hash) ∙ last)) in
+    let differs = λ (is : before ≡ c.add_resource.result). let nothing : IsSome {T = Resource} None = rw (ap (slot_of roomy) is ∙ added.fresh) at there in absurd (cc) in
+    there_by_face (slot_of roomy before) (slot_of c.add_resource.new.self.resources before) (sym (added.faces before differs)) there

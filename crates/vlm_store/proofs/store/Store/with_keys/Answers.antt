@@ -9,8 +9,8 @@ use Rattle.std.specs.Map.{lookup}
 use Rattle.std.specs.Option.{option_map}
 use Rattle.indexmap.specs.IndexMap.{get as found}
 use Rattle.vlm_records.specs.declared.queues.Queues.{Queues}
-use Rattle.vlm_store.specs.HashedKeys.{hashed_at, hashed_in, is_same_hashed}
-use Rattle.vlm_store.proofs.HashedKeys.{IsHashed-empty}
+use Rattle.vlm_store.specs.HashedKeys.{hashed_at, hashed_in}
+use Rattle.vlm_store.proofs.HashedKeys.{hashed_empty}
 use Rattle.vlm_records.specs.Kin.{pid_at, pid_of}
 use Rattle.vlm_store.proofs.Declaring.{empty_below, empty_named, empty_owned, empty_processes, empty_processes_linked, empty_processes_ordered}
 use Rattle.vlm_store.specs.Store.{lkid_at}
@@ -35,9 +35,7 @@ invariant_of-result c =
       ordered = empty_ordered q no_locks no_resources c.new-3.ensures c.new-5.result c.new-5.ensures;
       locks = Indexes-empty (found nat_eq c.new-8.result) (lkid_at q) (λ k. ap (lookup (nat_eq k)) c.new-8.ensures.empty) (λ at. ap (option_map lkid_of) (no_locks at));
       resources =
-          let none : (r : ℕ) → hashed_at q r ≡ None = λ r. ap (option_map hashed_in) (no_resources r) in
-          IsHashed-empty (hash_key c.args.keys) (found is_same_hashed c.new-9.result) (hashed_at q)
-          (Indexes-empty (found is_same_hashed c.new-9.result) (hashed_at q) (λ k. ap (lookup (is_same_hashed k)) c.new-9.ensures.empty) none) none;
+          hashed_empty (hash_key c.args.keys) c.new-9.result (hashed_at q) c.new-9.ensures (λ r. ap (option_map hashed_in) (no_resources r));
       owned = empty_owned c.new-6.result q.locks no_processes no_locks;
       below = empty_below c.new-6.result q.locks no_processes no_locks;
       named = empty_named c.new-6.result q.locks no_processes no_locks;
