@@ -4,3 +4,4 @@ pub mod Keeping
 pub mod HandleLists
 pub mod Rings
 pub mod Walks
+pub mod HandleRows

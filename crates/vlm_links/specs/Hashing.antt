@@ -1,10 +1,14 @@
 -- The hash under keys.
-use Rattle.std.specs.Prelude.{ℕ, bit_and}
+use Rattle.std.specs.Prelude.{ℕ, ◌/◌, ◌^◌, List, bit_and}
+use Rattle.std.specs.Int.{w128, from_le_bytes}
 use Rattle.std.specs.List.{fold}
-use Rattle.std.specs.Hash.{HashWrites}
-use Rattle.std.specs.Hash.DefaultHasher as sip
 use Rattle.vlm_links.specs.declared.hashing.HashKeys.{HashKeys}
+use Rattle.vlm_links.specs.Sip.{compressed, finished}
 
--- the hash of what makes these writes: the low 32 bits of its SipHash behind the keys
-unfoldable pub hash_of : HashKeys → HashWrites → ℕ
-hash_of keys input = bit_and (sip.finish (fold sip.write keys.keyed input)) 4294967295
+-- the two words of keys that sixteen bytes are
+abbrev pub key_words : List ℕ → ℕ × ℕ
+key_words bytes = (bit_and (from_le_bytes w128 bytes) 0xFFFFFFFFFFFFFFFF, from_le_bytes w128 bytes / 2 ^ 64)
+
+-- the hash of words under keys
+unfoldable pub hash_of : HashKeys → List ℕ → ℕ
+hash_of keys words = finished (fold compressed keys.words words)

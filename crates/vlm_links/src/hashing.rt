@@ -1,55 +1,68 @@
-//! The hasher of an index.
+//! How the indexes hash.
 
 ghost use Rattle.std.specs.Prelude.{◌≡◌};
-ghost use Rattle.std.specs.Hash.DefaultHasher as sip;
-ghost use Rattle.vlm_links.specs.Hashing.{hash_of};
+ghost use Rattle.std.specs.Hash.DefaultHasher.{initial as empty, write};
+ghost use Rattle.vlm_links.specs.Hashing.{hash_of, key_words};
+ghost use Rattle.vlm_links.specs.Sip.{initial};
 
-use std::hash::{BuildHasher, DefaultHasher, Hash, Hasher};
+use crate::sip::SipState;
+use std::hash::{BuildHasher, DefaultHasher, Hasher};
 
-/// How an index hashes: SipHash, each hasher of which begins behind the same keys. Who doesn't know the keys can't
-/// choose names that meet in an index. No answer depends on them.
+/// How indexes hash: SipHash behind keys. Who doesn't know the keys can't choose names that meet in an index. No
+/// answer depends on them.
 #[derive(Clone, Copy)]
 pub struct HashKeys {
-    // the hasher that has taken the keys, and nothing else
-    keyed: DefaultHasher,
+    // the state of a hash of words that has taken the keys, and nothing else
+    words: SipState,
+    // the hasher of bytes that has taken the keys, and nothing else
+    bytes: DefaultHasher,
 }
 
 impl HashKeys {
     /// No keys: names can be chosen that meet.
     pub fn fixed() -> HashKeys
-        ensures { result.keyed ≡ sip.initial }
+        ensures words { result.words ≡ initial 0 0 }
+        ensures bytes { result.bytes ≡ empty }
     {
         HashKeys {
-            keyed: DefaultHasher::new(),
+            words: SipState::new(0, 0),
+            bytes: DefaultHasher::new(),
         }
     }
 
     /// These bytes are the keys. Names can't be chosen where nobody can foresee them.
-    pub fn of(bytes: [u8; 16]) -> HashKeys
-        ensures { result.keyed ≡ sip.write sip.initial bytes }
+    pub fn of(key: [u8; 16]) -> HashKeys
+        ensures words { result.words ≡ (let words = key_words key in initial words.0 words.1) }
+        ensures bytes { result.bytes ≡ write empty key }
     {
-        let mut keyed = DefaultHasher::new();
-        keyed.write(&bytes);
-        HashKeys { keyed }
+        let mut bytes = DefaultHasher::new();
+        bytes.write(&key);
+        let both = u128::from_le_bytes(key);
+        HashKeys {
+            words: SipState::new((both & 0xFFFF_FFFF_FFFF_FFFF) as u64, (both >> 64) as u64),
+            bytes,
+        }
     }
 
-    /// The hash of what is found by it, in 32 bits: who keeps it need not hash it again.
-    #[tactic(auto, unfolding(crate::specs::Hashing::hash_of))]
-    pub fn hash_of<T: Hash>(&self, found: &T) -> u32
-        ensures { result ≡ hash_of self.now (T.hash_input found.now) }
+    /// The hash of these words, in 32 bits: who keeps it need not hash them again.
+    #[tactic(auto, using(std::proofs::lemmas::List::Sums::fold_more), unfolding(crate::specs::Hashing::hash_of))]
+    pub fn hash_of(&self, words: &[u64]) -> u32
+        ensures { result ≡ hash_of self.now words.now }
     {
-        let mut hasher = self.build_hasher();
-        found.hash(&mut hasher);
-        (hasher.finish() & 0xFFFF_FFFF) as u32
+        let mut state = self.words;
+        for word in words {
+            state.compress(*word);
+        }
+        state.finish()
     }
 }
 
 impl BuildHasher for HashKeys {
     type Hasher = DefaultHasher;
 
-    ghost build_hasher = { λ keys. keys.keyed };
+    ghost build_hasher = { λ keys. keys.bytes };
 
     fn build_hasher(&self) -> DefaultHasher {
-        self.keyed
+        self.bytes
     }
 }

@@ -1,10 +1,9 @@
 -- What stays as processes come, go and are written.
-use Rattle.std.proofs.Common.{◌≡◌, ◌≢◌, ℕ, List, Bool, [], map, Option, None, Some, IsSome, refl, sym, ap, ◌∙◌, subst, inl, inr, nat_eq}
+use Rattle.std.proofs.Common.{◌≡◌, ◌≢◌, ℕ, List, Bool, [], map, Option, None, Some, IsSome, refl, sym, ap, ◌∙◌, subst, inl, inr}
 use Rattle.std.proofs.lemmas.Bool.{cases_eq}
 use Rattle.std.proofs.lemmas.Option.{none-some}
 use Rattle.std.specs.Option.{option_map}
 use Rattle.slab.specs.Slab.{Slab, get, ContainsKey, with_value}
-use Rattle.indexmap.specs.IndexMap.{IndexMap, get as found}
 use Rattle.slab.proofs.SlabLemmas.{Updates-with_value}
 use Rattle.vlm_links.specs.declared.link.Links.{Links}
 use Rattle.vlm_links.specs.declared.lists.LinkedList.{LinkedList}
@@ -19,11 +18,12 @@ use Rattle.vlm_store.specs.Holdings.{holding, process_face, process_face_in, pro
 use Rattle.vlm_store.specs.Kept.{IsKept}
 use Rattle.vlm_store.specs.Pending.{is_of_nodes, waits_in}
 use Rattle.vlm_store.specs.declared.store.Store.TheInside.{Inside}
-use Rattle.vlm_store.proofs.Indexing.{Indexes-same}
+use Rattle.vlm_store.proofs.Indexing.{table_grown, table_same}
 use Rattle.vlm_records.proofs.Families.{family-empty, family-kept}
 use Rattle.vlm_records.proofs.Places.{by_part}
 use Rattle.vlm_records.proofs.Making.{no_list_has}
-use Rattle.vlm_marks.specs.Nodes.{Grows}
+use Rattle.vlm_links.specs.Tables.{Grows}
+use Rattle.vlm_marks.specs.Nodes.{Grows as MarksGrow}
 use Rattle.vlm_store.proofs.Marked.{grown_marked, kept_marked}
 use Rattle.vlm_records.proofs.OwnLocks.{written_same}
 
@@ -172,9 +172,9 @@ module _ (processes : Slab Process) (at : ℕ) (was now : Process) (here : get p
     written_whole ordered p there = subst (IsIn p) (sym written_handles) (ordered p (was_there p there))
 
 -- there is more room for processes
-module _ (s : Inside) (kept : IsKept s) (processes : Slab Process) (process_index : IndexMap ℕ ℕ _) (same : (p : ℕ) → get processes p ≡ get s.processes p)
-    (finds : (k : ℕ) → found nat_eq process_index k ≡ found nat_eq s.process_index k) where
-  pub roomier : IsKept (record s { processes = processes; process_index = process_index })
+module _ (s : Inside) (kept : IsKept s) (processes : Slab Process) (rows : List (List (Option ℕ))) (same : (p : ℕ) → get processes p ≡ get s.processes p)
+    (grows : Grows s.process_index rows) where
+  pub roomier : IsKept (record s { processes = processes; process_index = rows })
   roomier = record {
     placed = kept.placed;
     tallied = kept.tallied;
@@ -189,13 +189,13 @@ module _ (s : Inside) (kept : IsKept s) (processes : Slab Process) (process_inde
     named = process_named s.processes processes s.queues.locks (λ k l _. ap (option_map pid_of) (same l.owner)) kept.named;
     processes_linked = same-linked process_links s.processes processes s.process_order kept.processes_linked (λ p _. same p);
     processes_ordered = λ p there. rw (same-handles process_links s.processes processes s.process_order kept.processes_linked (λ x _. same x)) (kept.processes_ordered p (rw (same p) at there));
-    processes = Indexes-same (found nat_eq s.process_index) (found nat_eq process_index) (pid_at s.processes) (pid_at processes) finds (λ p. ap (option_map pid_of) (same p)) kept.processes;
+    processes = table_same rows (pid_at s.processes) (pid_at processes) (λ p. ap (option_map pid_of) (same p)) (table_grown s.process_index rows (pid_at s.processes) grows kept.processes);
     marked = kept_marked waits_in s.processes processes s.pending (λ p. ap (option_map pid_of) (same p)) (λ p. ap waits_in (same p)) kept.marked;
     living = kept_marked is_of_nodes s.processes processes s.living (λ p. ap (option_map pid_of) (same p)) (λ p. ap is_of_nodes (same p)) kept.living;
   }
 
 -- more room for marks does so too
-pub more_marks : (s : Inside) → IsKept s → (marks : List (List Bool)) → Grows s.living marks → IsKept (record s { living = marks })
+pub more_marks : (s : Inside) → IsKept s → (marks : List (List Bool)) → MarksGrow s.living marks → IsKept (record s { living = marks })
 more_marks s kept marks grows = record {
   placed = kept.placed;
   tallied = kept.tallied;

@@ -1,10 +1,12 @@
 -- How an index stays sound and complete as records come and go.
-use Rattle.std.proofs.Common.{◌≡◌, ◌≢◌, ◌⊎◌, ℕ, Bool, true, false, Option, None, Some, refl, sym, ap, ◌∙◌, inl, inr}
+use Rattle.std.proofs.Common.{◌≡◌, ◌≢◌, ◌⊎◌, ℕ, Bool, true, false, List, Option, None, Some, nat_eq, refl, sym, ap, ◌∙◌, subst, inl, inr}
 use Rattle.std.specs.Bool.{Decides}
+use Rattle.std.specs.Cmp.{unsigned_Decides}
 use Rattle.std.proofs.lemmas.Bool.{cases_eq}
 use Rattle.std.proofs.lemmas.Option.{none-some, same_Some}
 use Rattle.indexmap.specs.IndexMap.{IndexMap, get, Updates}
-use Rattle.vlm_store.specs.Index.{Indexes}
+use Rattle.vlm_links.specs.Tables.{Grows, HasRoomFor, Writes, handle_of}
+use Rattle.vlm_store.specs.Index.{Indexes, IsTable}
 
 pub Indexes-same : {K : Type 0} (found found' : K → Option ℕ) (label label' : ℕ → Option K) → ((k : K) → found' k ≡ found k) → ((at : ℕ) → label' at ≡ label at) → Indexes found label → Indexes found' label'
 Indexes-same found found' label label' finds labels indexes = record {
@@ -12,7 +14,9 @@ Indexes-same found found' label label' finds labels indexes = record {
   complete = λ k at is. finds k ∙ indexes.complete k at (sym (labels at) ∙ is);
 }
 
-module _ {K S : Type 0} (eq : K → K → Bool) (decides : (a b : K) → Decides (eq a b) (a ≡ b)) (m m' : IndexMap K ℕ S) (key : K) (label label' : ℕ → Option K) (at : ℕ) where
+-- what is found of one key changes, as its record comes or goes
+module _ {K : Type 0} (eq : K → K → Bool) (decides : (a b : K) → Decides (eq a b) (a ≡ b)) (found found' : K → Option ℕ) (key : K) (label label' : ℕ → Option K) (at : ℕ)
+    (rest : (k : K) → eq key k ≡ false → found' k ≡ found k) (others : (other : ℕ) → other ≢ at → label' other ≡ label other) where
   key_cases : (k : K) → (k ≡ key) ⊎ (eq key k ≡ false)
   key_cases k = by_test (eq key k) refl
     where
@@ -21,39 +25,37 @@ module _ {K S : Type 0} (eq : K → K → Bool) (decides : (a b : K) → Decides
       by_test false is = inr is
 
   -- a record comes
-  pub Indexes-added : Updates eq m m' key (Some at) → label at ≡ None → label' at ≡ Some key → ((other : ℕ) → other ≢ at → label' other ≡ label other) → get eq m key ≡ None
-      → Indexes (get eq m) label → Indexes (get eq m') label'
-  Indexes-added updates was is others fresh indexes = record {
-    sound = λ k x found. elim (key_cases k) [
+  pub found_added : found' key ≡ Some at → label at ≡ None → label' at ≡ Some key → found key ≡ None → Indexes found label → Indexes found' label'
+  found_added here was is fresh indexes = record {
+    sound = λ k x told. elim (key_cases k) [
       | inl same ↦
-          let here : x ≡ at = same_Some x at (sym (ap (get eq m') (sym same) ∙ found) ∙ updates.1) in
-          ap label' here ∙ is ∙ ap Some (sym same)
+          let at_is : x ≡ at = same_Some x at (sym (ap found' (sym same) ∙ told) ∙ here) in
+          ap label' at_is ∙ is ∙ ap Some (sym same)
       | inr differs ↦
-          let old : get eq m k ≡ Some x = sym (updates.2 k differs) ∙ found in
+          let old : found k ≡ Some x = sym (rest k differs) ∙ told in
           let label_old = indexes.sound k x old in
           others x (λ same. none-some k (sym was ∙ ap label (sym same) ∙ label_old)) ∙ label_old
     ];
     complete = λ k x labelled. elim (cases_eq x at) [
       | inl same ↦
           let key_is : key ≡ k = same_Some key k (sym is ∙ ap label' (sym same) ∙ labelled) in
-          ap (get eq m') (sym key_is) ∙ updates.1 ∙ ap Some (sym same)
+          ap found' (sym key_is) ∙ here ∙ ap Some (sym same)
       | inr differs ↦
           let old = indexes.complete k x (sym (others x differs) ∙ labelled) in
           elim (key_cases k) [
-            | inl same ↦ absurd (none-some x (sym fresh ∙ ap (get eq m) (sym same) ∙ old))
-            | inr apart ↦ updates.2 k apart ∙ old
+            | inl same ↦ absurd (none-some x (sym fresh ∙ ap found (sym same) ∙ old))
+            | inr apart ↦ rest k apart ∙ old
           ]
     ];
   }
 
   -- a record goes
-  pub Indexes-removed : Updates eq m m' key None → label at ≡ Some key → label' at ≡ None → ((other : ℕ) → other ≢ at → label' other ≡ label other)
-      → Indexes (get eq m) label → Indexes (get eq m') label'
-  Indexes-removed updates was is others indexes = record {
-    sound = λ k x found. elim (key_cases k) [
-      | inl same ↦ absurd (none-some x (sym updates.1 ∙ ap (get eq m') (sym same) ∙ found))
+  pub found_removed : found' key ≡ None → label at ≡ Some key → label' at ≡ None → Indexes found label → Indexes found' label'
+  found_removed here was is indexes = record {
+    sound = λ k x told. elim (key_cases k) [
+      | inl same ↦ absurd (none-some x (sym here ∙ ap found' (sym same) ∙ told))
       | inr differs ↦
-          let old : get eq m k ≡ Some x = sym (updates.2 k differs) ∙ found in
+          let old : found k ≡ Some x = sym (rest k differs) ∙ told in
           let label_old = indexes.sound k x old in
           others x (λ same. true_false (sym ((decides key k).1 (same_Some key k (sym was ∙ ap label (sym same) ∙ label_old))) ∙ differs)) ∙ label_old
     ];
@@ -63,11 +65,61 @@ module _ {K S : Type 0} (eq : K → K → Bool) (decides : (a b : K) → Decides
           let old = indexes.complete k x (sym (others x differs) ∙ labelled) in
           elim (key_cases k) [
             | inl same ↦
-                absurd (differs (same_Some x at (sym old ∙ ap (get eq m) same ∙ indexes.complete key at was)))
-            | inr apart ↦ updates.2 k apart ∙ old
+                absurd (differs (same_Some x at (sym old ∙ ap found same ∙ indexes.complete key at was)))
+            | inr apart ↦ rest k apart ∙ old
           ]
     ];
   }
     where
       true_false : true ≡ false → ⊥
       true_false e = cc
+
+-- in a map
+module _ {K S : Type 0} (eq : K → K → Bool) (decides : (a b : K) → Decides (eq a b) (a ≡ b)) (m m' : IndexMap K ℕ S) (key : K) (label label' : ℕ → Option K) (at : ℕ) where
+  pub Indexes-added : Updates eq m m' key (Some at) → label at ≡ None → label' at ≡ Some key → ((other : ℕ) → other ≢ at → label' other ≡ label other) → get eq m key ≡ None
+      → Indexes (get eq m) label → Indexes (get eq m') label'
+  Indexes-added updates was is others = found_added eq decides (get eq m) (get eq m') key label label' at updates.2 others updates.1 was is
+
+  pub Indexes-removed : Updates eq m m' key None → label at ≡ Some key → label' at ≡ None → ((other : ℕ) → other ≢ at → label' other ≡ label other)
+      → Indexes (get eq m) label → Indexes (get eq m') label'
+  Indexes-removed updates was is others = found_removed eq decides (get eq m) (get eq m') key label label' at updates.2 others updates.1 was is
+
+-- in a table
+pub table_same : (rows : List (List (Option ℕ))) (label label' : ℕ → Option ℕ) → ((at : ℕ) → label' at ≡ label at) → IsTable rows label → IsTable rows label'
+table_same rows label label' labels kept = record {
+  indexes = Indexes-same (handle_of rows) (handle_of rows) label label' (λ k. refl) labels kept.indexes;
+  room = λ at number is. kept.room at number (sym (labels at) ∙ is);
+}
+
+pub table_grown : (rows rows' : List (List (Option ℕ))) (label : ℕ → Option ℕ) → Grows rows rows' → IsTable rows label → IsTable rows' label
+table_grown rows rows' label grows kept = record {
+  indexes = Indexes-same (handle_of rows) (handle_of rows') label label grows.handles (λ at. refl) kept.indexes;
+  room = λ at number is. grows.room number (kept.room at number is);
+}
+
+module _ (rows rows' : List (List (Option ℕ))) (number at : ℕ) (label label' : ℕ → Option ℕ) (others : (other : ℕ) → other ≢ at → label' other ≡ label other) (kept : IsTable rows label) where
+  rest : (handle : Option ℕ) → Writes number handle rows rows' → (k : ℕ) → nat_eq number k ≡ false → handle_of rows' k ≡ handle_of rows k
+  rest handle writes k differs = writes.others k (λ same. true_false (sym ((unsigned_Decides number k).1 (sym same)) ∙ differs))
+    where
+      true_false : true ≡ false → ⊥
+      true_false e = cc
+
+  pub table_added : Writes number (Some at) rows rows' → label at ≡ None → label' at ≡ Some number → handle_of rows number ≡ None → HasRoomFor rows number → IsTable rows' label'
+  table_added writes was is fresh roomy = record {
+    indexes = found_added nat_eq unsigned_Decides (handle_of rows) (handle_of rows') number label label' at (rest (Some at) writes) others writes.this was is fresh kept.indexes;
+    room = λ other k labelled. elim (cases_eq other at) [
+      | inl same ↦
+          let number_is : number ≡ k = same_Some number k (sym is ∙ ap label' (sym same) ∙ labelled) in
+          writes.room k (subst (HasRoomFor rows) number_is roomy)
+      | inr differs ↦ writes.room k (kept.room other k (sym (others other differs) ∙ labelled))
+    ];
+  }
+
+  pub table_removed : Writes number None rows rows' → label at ≡ Some number → label' at ≡ None → IsTable rows' label'
+  table_removed writes was is = record {
+    indexes = found_removed nat_eq unsigned_Decides (handle_of rows) (handle_of rows') number label label' at (rest None writes) others writes.this was is kept.indexes;
+    room = λ other k labelled. elim (cases_eq other at) [
+      | inl same ↦ absurd (none-some k (sym is ∙ ap label' (sym same) ∙ labelled))
+      | inr differs ↦ writes.room k (kept.room other k (sym (others other differs) ∙ labelled))
+    ];
+  }

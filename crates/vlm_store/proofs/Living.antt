@@ -6,6 +6,7 @@ use Rattle.std.specs.Bool.{OnFalse, OnTrue}
 use Rattle.std.specs.Option.{option_map, option_map_or}
 use Rattle.slab.specs.Slab.{Slab, get, ContainsKey}
 use Rattle.indexmap.specs.IndexMap.{get as found}
+use Rattle.vlm_links.specs.Tables.{handle_of}
 use Rattle.vlm_store.specs.Index.{hash_key}
 use Rattle.vlm_links.specs.declared.link.TheConstants.{LAST_HANDLE}
 use Rattle.vlm_links.specs.Lists.{IsApart, IsIn, handles_of}
@@ -19,7 +20,6 @@ use Rattle.vlm_records.specs.Shown.{lkid_of, row_in, rows}
 use Rattle.vlm_store.specs.Holdings.{Holding, holding, own_of, process_face_in, process_under, processes_of}
 use Rattle.vlm_records.specs.Kin.{NamesParent, OwnerFits, ParentFits, below_handles, own_handles, owner_in, parent_in, pid_at, pid_of, process_links}
 use Rattle.vlm_store.specs.Store.{tables}
-use Rattle.vlm_store.specs.HashedKeys.{is_same_hashed}
 use Rattle.vlm_store.proofs.HashedKeys.{by_keys}
 use Rattle.vlm_store.proofs.Kept.{keys_apart, lkids_apart, stored_there, there_stored}
 use Rattle.vlm_store.proofs.Layouts.{IsSound-records_of}
@@ -230,36 +230,36 @@ module _ (s : Inside) (kept : IsKept s) where
       let told_a = pid_told (get s.processes a) (kept.processes_linked.present a here) in
       let told_b = pid_told (get s.processes b) (kept.processes_linked.present b there) in
       same_Some a b
-      (sym (kept.processes.complete (process_face_in (get s.processes a)).plain.pid a told_a) ∙ kept.processes.complete (process_face_in (get s.processes a)).plain.pid b (told_b ∙ ap Some (sym same))))
+      (sym (kept.processes.indexes.complete (process_face_in (get s.processes a)).plain.pid a told_a) ∙ kept.processes.indexes.complete (process_face_in (get s.processes a)).plain.pid b (told_b ∙ ap Some (sym same))))
 
   -- what a caller sees is sound
   pub is_sound : IsSound (records_shown s)
   is_sound =
       IsSound-records_of (tables s.queues s.order (beside_shown s)) kept.linked.apart (λ p. (kept.placed.linked p).apart) (one_place s.queues None kept.placed)
       (lkids_apart s.queues s.order (beside_shown s) kept.placed kept.linked kept.ordered (found nat_eq s.lock_index) kept.locks)
-      (keys_apart s.queues s.order (beside_shown s) kept.placed kept.linked kept.ordered (found_in s) (by_keys (hash_key s.keys) (found is_same_hashed s.resource_index) s.queues kept.resources)) are_apart are_owned own_apart
+      (keys_apart s.queues s.order (beside_shown s) kept.placed kept.linked kept.ordered (found_in s) (by_keys (hash_key s.keys) s.resource_index s.queues kept.resources)) are_apart are_owned own_apart
 
   -- the index of processes finds what a caller sees
-  pub finds_process : (pid : ℕ) (result : Option ℕ) → result ≡ found nat_eq s.process_index pid → FindsProcess (records_shown s) pid result
+  pub finds_process : (pid : ℕ) (result : Option ℕ) → result ≡ handle_of s.process_index pid → FindsProcess (records_shown s) pid result
   finds_process pid None is = λ p among same.
       let seen = shown_among p among in
       let there = kept.processes_linked.present p.at seen.0 in
       let told : pid_at s.processes p.at ≡ Some pid = pid_told (get s.processes p.at) there ∙ ap Some (ap (λ (x : StoredProcess). x.process.pid) seen.1 ∙ same) in
-      none-some p.at (is ∙ kept.processes.complete pid p.at told)
+      none-some p.at (is ∙ kept.processes.indexes.complete pid p.at told)
   finds_process pid (Some at) is =
-      let there = pid_there (get s.processes at) pid (kept.processes.sound pid at (sym is)) in
+      let there = pid_there (get s.processes at) pid (kept.processes.indexes.sound pid at (sym is)) in
       (process_under held at, (among_shown at (kept.processes_ordered at there.0), refl, there.1))
 
-  pub found_there : (pid : ℕ) (result : Option ℕ) → result ≡ found nat_eq s.process_index pid → IfSome result (λ at. HasProcess at (records_shown s))
+  pub found_there : (pid : ℕ) (result : Option ℕ) → result ≡ handle_of s.process_index pid → IfSome result (λ at. HasProcess at (records_shown s))
   found_there pid None is = tt
   found_there pid (Some at) is =
-      let there = pid_there (get s.processes at) pid (kept.processes.sound pid at (sym is)) in
+      let there = pid_there (get s.processes at) pid (kept.processes.indexes.sound pid at (sym is)) in
       rw (ap (process_at at) shown ∙ process_at-found held at (kept.processes_ordered at there.0)) refl
 
-  pub no_process_found : (pid : ℕ) → FindsProcess (records_shown s) pid None → found nat_eq s.process_index pid ≡ None
-  no_process_found pid absent = by_answer (found nat_eq s.process_index pid) refl
+  pub no_process_found : (pid : ℕ) → FindsProcess (records_shown s) pid None → handle_of s.process_index pid ≡ None
+  no_process_found pid absent = by_answer (handle_of s.process_index pid) refl
     where
-      by_answer : (answer : Option ℕ) → answer ≡ found nat_eq s.process_index pid → answer ≡ None
+      by_answer : (answer : Option ℕ) → answer ≡ handle_of s.process_index pid → answer ≡ None
       by_answer None is = refl
       by_answer (Some at) is =
           let there = finds_process pid (Some at) is in
@@ -274,3 +274,9 @@ module _ (s : Inside) (kept : IsKept s) where
         pid_told (get s.processes at) there
             ∙ ap Some (ap (λ x. (process_face_in (get s.processes x)).plain.pid) (sym is.1.1) ∙ ap (λ (x : StoredProcess). x.process.pid) seen.1 ∙ is.1.2),
       )
+
+  -- what is found is a handle that a link leads to
+  pub process_within : (pid at : ℕ) → handle_of s.process_index pid ≡ Some at → at ≤ LAST_HANDLE
+  process_within pid at is =
+      let there = pid_there (get s.processes at) pid (kept.processes.indexes.sound pid at is) in
+      kept.processes_linked.within at (kept.processes_ordered at there.0)

@@ -1,7 +1,6 @@
 -- A process is rewritten, but for its identification, its locks and its place in the order.
-use Rattle.std.proofs.Common.{◌≡◌, ◌∙◌, ◌+◌, ℕ, Bool, List, Some, ap, sym, refl, nat_eq}
+use Rattle.std.proofs.Common.{◌≡◌, ◌∙◌, ◌+◌, ℕ, Bool, List, Some, ap, sym, refl}
 use Rattle.slab.specs.Slab.{get}
-use Rattle.indexmap.specs.IndexMap.{get as found, spare}
 use Rattle.vlm_words.specs.declared.asts.Ast.{Ast}
 use Rattle.vlm_words.specs.State.{Process as PlainProcess}
 use Rattle.vlm_asts.specs.Asts.{Asts}
@@ -15,7 +14,7 @@ use Rattle.vlm_records.specs.Pending.{IsToldOf, OtherMarksStay}
 use Rattle.vlm_store.specs.Records.{OwnLock, StoredProcess, changed_process, on_stored, owed_more}
 use Rattle.vlm_store.specs.Store.{tables}
 use Rattle.vlm_store.proofs.Declaring.{process_named, process_own_handles, process_owned, rewritten, written_face, written_handles, written_linked, written_others, written_owns, written_pids, written_whole}
-use Rattle.vlm_store.proofs.Indexing.{Indexes-same}
+use Rattle.vlm_store.proofs.Indexing.{table_same}
 use Rattle.vlm_store.proofs.Kinship.{processes_changed}
 use Rattle.vlm_store.proofs.Marked.{kept_marked, nodes_same, pids_apart, waits_same, written_marked}
 use Rattle.vlm_store.proofs.Members.{process_written}
@@ -53,7 +52,7 @@ module _ (s : Inside) (kept : IsKept s) (at : ℕ) (was now : Process) (here : g
         named = process_named s.processes processes s.queues.locks (λ k l _. pids l.owner) kept.named;
         processes_linked = written_linked s.processes at was now here own order pid s.process_order kept.processes_linked;
         processes_ordered = written_whole s.processes at was now here own order pid s.process_order kept.processes_linked kept.processes_ordered;
-        processes = Indexes-same (found nat_eq s.process_index) (found nat_eq s.process_index) (pid_at s.processes) (pid_at processes) (λ k. refl) pids kept.processes;
+        processes = table_same s.process_index (pid_at s.processes) (pid_at processes) pids kept.processes;
         marked = marked;
         living = kept_marked is_of_nodes s.processes processes s.living pids (λ p. nodes_same (get processes p) (get s.processes p) (pids p)) kept.living;
       }
@@ -69,7 +68,7 @@ module _ (s : Inside) (kept : IsKept s) (at : ℕ) (was now : Process) (here : g
   pub written_kept : (marks : List (List Bool)) → IsToldOf now marks → OtherMarksStay was.pid s.pending marks
       → IsKept (record s { processes = rewritten s.processes at was now here own order pid; pending = marks })
   written_kept marks told others =
-      remarked_kept marks (written_marked s.processes s.pending marks at was now here pid told others (pids_apart s.processes (found nat_eq s.process_index) kept.processes) kept.marked)
+      remarked_kept marks (written_marked s.processes s.pending marks at was now here pid told others (pids_apart s.processes s.process_index kept.processes) kept.marked)
 
   -- and shows the process changed
   pub rewritten_shown : (change : StoredProcess → StoredProcess) → ((locks : List OwnLock) → faced at (process_face now) locks ≡ change (faced at (process_face was) locks))
@@ -88,7 +87,7 @@ module _ (s : Inside) (kept : IsKept s) (at : ℕ) (was now : Process) (here : g
       ∙ ap (λ r. record (records_shown s) { processes = on_stored at change (records_shown s).processes; room = r })
       (room_shown (λ a b. b ≡ a) (tables s.queues s.order (beside_shown s)) (tables s.queues s.order (beside_shown (record s { processes = processes })))
       (ap (λ p. record (rooms_shown s) { processes = p })
-      (room_of_same s.processes processes (spare s.process_index) (room_written s.processes at now (rw here refl)))))
+      (room_of_same s.processes processes 1 (room_written s.processes at now (rw here refl)))))
 
 -- the ASTs of the process at a handle are written
 module _ (s : Inside) (kept : IsKept s) (at : ℕ) (was : Process) (asts : Asts) (here : get s.processes at ≡ Some was) where

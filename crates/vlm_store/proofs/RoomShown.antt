@@ -4,13 +4,14 @@ use Rattle.vlm_store.proofs.Lined.{line_same}
 use Rattle.std.proofs.Common.{◌≡◌, ℕ, ◌+◌, ◌<◌, ◌≤◌, None, nat_eq, Result, Ok, Err, OnOk, refl, sym, ap, ◌∙◌, subst, arith}
 use Rattle.std.specs.Map.{lookup}
 use Rattle.std.specs.Option.{option_map}
+use Rattle.vlm_store.specs.KeyIndexes.{IsSame, spare_of}
 use Rattle.slab.specs.Slab.{Slab, get, HasRoomFor}
 use Rattle.indexmap.specs.IndexMap.{IndexMap, get as found, spare}
 use Rattle.vlm_links.specs.declared.link.TheConstants.{LAST_HANDLE}
 use Rattle.vlm_links.proofs.Rings.{same-handles, same-linked}
-use Rattle.vlm_store.specs.declared.hashed.HashedKey.{HashedKey}
-use Rattle.vlm_store.specs.HashedKeys.{hashed_at, hashed_in, is_same_hashed}
-use Rattle.vlm_store.proofs.HashedKeys.{IsHashed-same}
+use Rattle.vlm_store.specs.declared.key_index.KeyIndex.{KeyIndex}
+use Rattle.vlm_store.specs.HashedKeys.{hashed_at, hashed_in}
+use Rattle.vlm_store.proofs.HashedKeys.{index_same}
 use Rattle.vlm_records.specs.declared.locks.Lock.{Lock}
 use Rattle.vlm_records.specs.declared.processes.Process.{Process}
 use Rattle.vlm_records.specs.declared.queues.Queues.{Queues}
@@ -84,29 +85,29 @@ module _ (s : Inside) where
   }
 
   pub resource_room_made : (resources : Slab Resource) (finds : ℕ) → resources ≡ record s.queues.resources { capacity = resources.capacity } → s.queues.resources.capacity ≤ resources.capacity
-      → spare s.resource_index ≤ finds → IsUnchanged (records_shown s) (with_resources (record (rooms_shown s) { resources = room_of resources finds }) resources)
+      → spare_of s.resource_index ≤ finds → IsUnchanged (records_shown s) (with_resources (record (rooms_shown s) { resources = room_of resources finds }) resources)
   unfolding records_of
   resource_room_made resources finds is more finds_more = record {
     same = ap (with_resources (record (rooms_shown s) { resources = room_of resources finds })) is;
     locks = no_less _;
-    resources = room_of_less s.queues.resources resources (spare s.resource_index) finds is more finds_more;
+    resources = room_of_less s.queues.resources resources (spare_of s.resource_index) finds is more finds_more;
     processes = no_less _;
   }
 
-  pub process_room_made : (processes : Slab Process) (finds : ℕ) → processes ≡ record s.processes { capacity = processes.capacity } → s.processes.capacity ≤ processes.capacity
-      → spare s.process_index ≤ finds → IsUnchanged (records_shown s) (with_processes (record (rooms_shown s) { processes = room_of processes finds }) processes)
+  pub process_room_made : (processes : Slab Process) → processes ≡ record s.processes { capacity = processes.capacity } → s.processes.capacity ≤ processes.capacity
+      → IsUnchanged (records_shown s) (with_processes (record (rooms_shown s) { processes = room_of processes 1 }) processes)
   unfolding records_of
-  process_room_made processes finds is more finds_more = record {
-    same = ap (with_processes (record (rooms_shown s) { processes = room_of processes finds })) is;
+  process_room_made processes is more = record {
+    same = ap (with_processes (record (rooms_shown s) { processes = room_of processes 1 })) is;
     locks = no_less _;
     resources = no_less _;
-    processes = room_of_less s.processes processes (spare s.process_index) finds is more finds_more;
+    processes = room_of_less s.processes processes 1 1 is more (omega arith);
   }
 
 -- the room stays where the queues keep it
 pub queues_room : (s : Inside) (q' : Queues) → room_in q'.locks ≡ room_in s.queues.locks → room_in q'.resources ≡ room_in s.queues.resources → rooms_shown (record s { queues = q' }) ≡ rooms_shown s
 queues_room s q' locks resources =
-    rooms_are _ _ _ _ _ _ (room_of_same s.queues.locks q'.locks (spare s.lock_index) locks) (room_of_same s.queues.resources q'.resources (spare s.resource_index) resources) refl
+    rooms_are _ _ _ _ _ _ (room_of_same s.queues.locks q'.locks (spare s.lock_index) locks) (room_of_same s.queues.resources q'.resources (spare_of s.resource_index) resources) refl
 
 -- a record is taken in where room was made for it
 pub is_taken : {T : Type 0} (old roomy new : Slab T) (had has left : ℕ) → roomy ≡ record old { capacity = roomy.capacity } → old.capacity ≤ roomy.capacity → (room_in new).0 + 1 ≡ (room_in roomy).0
@@ -151,9 +152,9 @@ lock_room_kept s kept locks index is entries =
     }
 
 -- more room for resources does so too
-pub resource_room_kept : (s : Inside) → IsKept s → (resources : Slab Resource) (index : IndexMap HashedKey ℕ _) → resources ≡ record s.queues.resources { capacity = resources.capacity } → index.entries ≡ s.resource_index.entries
+pub resource_room_kept : (s : Inside) → IsKept s → (resources : Slab Resource) (index : KeyIndex) → resources ≡ record s.queues.resources { capacity = resources.capacity } → IsSame s.resource_index index
     → IsKept (record s { queues = record s.queues { resources = resources }; resource_index = index })
-resource_room_kept s kept resources index is entries =
+resource_room_kept s kept resources index is finds =
     let same : (r : ℕ) → get resources r ≡ get s.queues.resources r = λ r. ap (λ x. get x r) is in
     let lists = reserved_lists s.queues resources same in
     record {
@@ -164,8 +165,8 @@ resource_room_kept s kept resources index is entries =
       linked = same-linked order_links s.queues.resources resources s.order kept.linked (λ r _. same r);
       ordered = λ r there. rw (same-handles order_links s.queues.resources resources s.order kept.linked (λ x _. same x)) (kept.ordered r (rw (same r) at there));
       locks = kept.locks;
-      resources = IsHashed-same (hash_key s.keys) (found is_same_hashed s.resource_index) (found is_same_hashed index) (hashed_at s.queues) (hashed_at (record s.queues { resources = resources }))
-          (λ k. ap (λ es. lookup (is_same_hashed k) es) entries) (λ r. ap (option_map hashed_in) (same r)) kept.resources;
+      resources = index_same (hash_key s.keys) s.resource_index index (hashed_at s.queues) (hashed_at (record s.queues { resources = resources })) finds
+          (λ r. ap (option_map hashed_in) (same r)) kept.resources;
       owned = kept.owned;
       below = kept.below;
       named = kept.named;

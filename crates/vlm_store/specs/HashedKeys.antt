@@ -1,5 +1,5 @@
 -- Keys with their hashes, and what the index of resources keeps of both.
-use Rattle.std.specs.Prelude.{◌≡◌, ◌&&◌, ◌==◌, ℕ, Bool, Option, Some}
+use Rattle.std.specs.Prelude.{◌≡◌, ◌&&◌, ◌==◌, ℕ, Bool, Option}
 use Rattle.std.specs.Bool.{Decides}
 use Rattle.std.specs.Cmp.{unsigned_Decides}
 use Rattle.std.specs.Hash as fed
@@ -13,7 +13,6 @@ use Rattle.vlm_words.specs.Keys.{is_same_key, is_same_key-Decides}
 use Rattle.vlm_records.specs.declared.queues.Queues.{Queues}
 use Rattle.vlm_records.specs.declared.resources.Resource.{Resource}
 use Rattle.vlm_store.specs.declared.hashed.HashedKey.{HashedKey}
-use Rattle.vlm_store.specs.Index.{Indexes}
 
 -- the two are one key with one hash
 abbrev pub is_same_hashed : HashedKey → HashedKey → Bool
@@ -47,8 +46,3 @@ hashed_in r = record { key = r.key; hash = r.hash }
 -- those of the resource under a handle
 abbrev pub hashed_at : Queues → ℕ → Option HashedKey
 hashed_at q res = option_map hashed_in (get q.resources res)
-
--- the index finds each resource by its key and the hash that it records, which is the key's
-pub record IsHashed (hash : Key → ℕ) (found : HashedKey → Option ℕ) (label : ℕ → Option HashedKey) : Type 0 where
-  pub indexes : Indexes found label
-  pub hashes : (at : ℕ) (k : HashedKey) → label at ≡ Some k → k.hash ≡ hash k.key

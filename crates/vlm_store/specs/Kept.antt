@@ -6,8 +6,9 @@ use Rattle.vlm_store.specs.Index.{hash_key}
 use Rattle.vlm_links.specs.Lists.{IsIn, IsLinked, handles_of}
 use Rattle.vlm_store.specs.declared.store.Store.TheInside.{Inside}
 use Rattle.vlm_records.specs.Armed.{IsArmed}
-use Rattle.vlm_store.specs.HashedKeys.{IsHashed, hashed, hashed_at, is_same_hashed}
-use Rattle.vlm_store.specs.Index.{Indexes}
+use Rattle.vlm_store.specs.HashedKeys.{hashed, hashed_at}
+use Rattle.vlm_store.specs.KeyIndexes.{IsHashed, found_by, spare_of}
+use Rattle.vlm_store.specs.Index.{Indexes, IsTable}
 use Rattle.vlm_words.specs.declared.resources.Key.{Key}
 use Rattle.vlm_store.specs.Pending.{IsMarked, is_of_nodes, waits_in}
 use Rattle.vlm_store.specs.Records.{Records, Rooms, StoredProcess}
@@ -25,8 +26,8 @@ processes_shown s = processes_of (holding s.processes s.queues.locks s.process_o
 abbrev pub rooms_shown : Inside → Rooms
 rooms_shown s = record {
   locks = room_of s.queues.locks (spare s.lock_index);
-  resources = room_of s.queues.resources (spare s.resource_index);
-  processes = room_of s.processes (spare s.process_index);
+  resources = room_of s.queues.resources (spare_of s.resource_index);
+  processes = room_of s.processes 1;
 }
 
 -- the processes, the room, and how a key is hashed
@@ -39,7 +40,7 @@ records_shown s = records_of (tables s.queues s.order (beside_shown s))
 
 -- what the index of resources finds under a key
 abbrev pub found_in : Inside → Key → Option ℕ
-found_in s key = get is_same_hashed s.resource_index (hashed (hash_key s.keys) key)
+found_in s key = found_by s.resource_index s.queues.resources (hashed (hash_key s.keys) key)
 
 -- each lock stands in the three lists that it notes and, if its request is queued, in the line, each resource counts its
 -- locks and has the armed ones among the granted, resources and processes stand in their orders, each index finds just what is there, and marked are just the
@@ -52,12 +53,12 @@ pub record IsKept (s : Inside) : Type 0 where
   pub linked : IsLinked order_links s.queues.resources s.order
   pub ordered : (res : ℕ) → ContainsKey s.queues.resources res → IsIn res (handles_of order_links s.queues.resources s.order)
   pub locks : Indexes (get nat_eq s.lock_index) (lkid_at s.queues)
-  pub resources : IsHashed (hash_key s.keys) (get is_same_hashed s.resource_index) (hashed_at s.queues)
+  pub resources : IsHashed (hash_key s.keys) s.resource_index (hashed_at s.queues)
   pub owned : IsOwned s.processes s.queues.locks None
   pub below : IsBelow s.queues.locks None
   pub named : IsNamed s.processes s.queues.locks
   pub processes_linked : IsLinked process_links s.processes s.process_order
   pub processes_ordered : (at : ℕ) → ContainsKey s.processes at → IsIn at (handles_of process_links s.processes s.process_order)
-  pub processes : Indexes (get nat_eq s.process_index) (pid_at s.processes)
+  pub processes : IsTable s.process_index (pid_at s.processes)
   pub marked : IsMarked waits_in s.processes s.pending
   pub living : IsMarked is_of_nodes s.processes s.living

@@ -55,7 +55,7 @@ pub record StoredProcess : Type 0 where
   pub own : List OwnLock
 
 -- the room for records of one kind: how many more their table takes with no allocation, the handle that the next
--- one gets, and how many more the index takes with no allocation
+-- one gets, and how many more the index takes with no allocation. Of processes that is one: `IsBesideOne` says of which
 pub record Room : Type 0 where
   pub slots : ℕ
   pub next_handle : ℕ

@@ -17,6 +17,7 @@
 
 mod armed;
 mod hashed;
+mod key_index;
 pub mod laws;
 mod neighbours;
 mod owners;

@@ -14,7 +14,7 @@ ghost use Rattle.vlm_store.specs.Records.{FindsProcess, HasNoLocks, HasNoSublock
 
 use crate::store::Store;
 use std::alloc::AllocError;
-use vlm_links::reserve_one;
+use vlm_links::reserve_slot;
 use vlm_records::{LockAt, ProcAt, Process, put_in, take_out};
 use vlm_words::asts::Ast;
 use vlm_words::blocks::Block;
@@ -27,7 +27,8 @@ impl Store {
         ensures there { IfSome result (λ at. HasProcess at self.now) }
         ensures sound { IsSound self.now }
     {
-        self.process_index.get(&pid).copied()
+        let slot = self.process_index.get(pid)?;
+        Some(ProcAt::of(slot))
     }
 
     /// The least identification of the processes of a node, 1 to 8, that live, if one does.
@@ -63,17 +64,18 @@ impl Store {
         ensures succeeds { HasRoomForProcess pid self.old → IsOk result }
         ensures err { OnErr result (IsUnchanged self.old self.new) }
     {
-        reserve_one(&mut self.processes, &mut self.process_index)?;
+        reserve_slot(&mut self.processes)?;
+        self.process_index.make_room(pid)?;
         self.living.make_room(pid)?;
         self.pending.make_room(pid)?;
         let process = Process::new(pid, declaration, blocks);
-        let at = ProcAt::of(put_in(&mut self.processes, &mut self.process_order, process));
-        let _ = self.process_index.insert(pid, at);
+        let slot = put_in(&mut self.processes, &mut self.process_order, process);
+        self.process_index.put(pid, slot);
         self.living.mark(pid);
-        Ok(at)
+        Ok(ProcAt::of(slot))
     }
 
-    /// Removes a process that has no locks, with its status blocks. The others keep their order. Its slot is free again; the index may have to grow for the next one.
+    /// Removes a process that has no locks, with its status blocks. The others keep their order. Its slot is free again.
     pub fn remove_process(&mut self, at: ProcAt)
         requires there { HasProcess at self.old }
         requires idle { HasNoLocks at self.old }
@@ -83,7 +85,7 @@ impl Store {
     {
         let pid = self.processes[at.slot()].pid;
         take_out(&mut self.processes, &mut self.process_order, at.slot());
-        self.process_index.swap_remove(&pid);
+        self.process_index.remove(pid);
         self.living.unmark(pid);
         self.pending.unmark(pid);
     }

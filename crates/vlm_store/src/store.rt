@@ -13,12 +13,12 @@ ghost use Rattle.vlm_store.specs.Plain.{plain_resource};
 ghost use Rattle.vlm_store.specs.Records.{FindsLock, FindsResource, HasNoSublocks, HasPlace, HasResource, HasRoomForLock, HasRoomForResource, IsGivenBack, IsTaken, IsUnchanged, IsParentOf, IsProcess, at_after, disarming, first_at, first_resource_at, fits_beside, resource_at_after, resource_at, rows_of_locks, IsIdle, IsNewKey, IsNewLock, IsRowOf, IsSound, IsStored, Stores, locks_at, moving, new_stored_resource, nothing, on_resource, queued, with_lists, with_lock_room, with_new_lock, with_resource_room, without_resource, without_stored_lock};
 ghost use Rattle.vlm_store.specs.Total.{lock_total};
 
-use crate::hashed::HashedKey;
+use crate::key_index::{KeyIndex, reserve_keyed};
 use indexmap::IndexMap;
 use slab::Slab;
 use std::alloc::{AllocError, Global};
 use std::marker::Model;
-use vlm_links::{HashKeys, LinkedList, reserve_one};
+use vlm_links::{HandleTable, HashKeys, LinkedList, reserve_one};
 use vlm_marks::NodeMarks;
 use vlm_records::{
     InLine, InOrder, Lock, LockAt, Place, ProcAt, Process, Queues, ResAt, Resource, StoredRow,
@@ -43,10 +43,10 @@ pub struct Store {
     pub(crate) process_order: LinkedList<InOrder>,
     // where the lock of each identification is
     lock_index: IndexMap<u32, LockAt>,
-    // where the resource of each key is, which is hashed by `keys` already; others choose the names in it
-    resource_index: IndexMap<HashedKey, ResAt>,
+    // where the resource of each key is, which `keys` hash; others choose the names in it
+    resource_index: KeyIndex,
     // where the process of each identification is
-    pub(crate) process_index: IndexMap<u32, ProcAt>,
+    pub(crate) process_index: HandleTable,
     // how the key of a resource is hashed
     keys: HashKeys,
     // the processes that live, node by node
@@ -112,8 +112,8 @@ impl Store {
             processes: Slab::new(alloc),
             process_order: LinkedList::new(),
             lock_index: IndexMap::new(alloc),
-            resource_index: IndexMap::new(alloc),
-            process_index: IndexMap::new(alloc),
+            resource_index: KeyIndex::new(alloc),
+            process_index: HandleTable::new(alloc),
             keys,
             living: NodeMarks::new(alloc),
             pending: NodeMarks::new(alloc),
@@ -132,7 +132,8 @@ impl Store {
     pub fn hash_of(&self, key: &Key) -> u32
         ensures { result ≡ hash_key self.now.keys key.now }
     {
-        self.keys.hash_of(key)
+        let words = key.words();
+        self.keys.hash_of(&words[..key.word_count()])
     }
 
     /// Where the resource under this key, which is hashed so, is.
@@ -142,8 +143,7 @@ impl Store {
         ensures there { IfSome result (λ res. HasResource res self.now) }
         ensures sound { IsSound self.now }
     {
-        let found = HashedKey { key: *key, hash };
-        self.resource_index.get(&found).copied()
+        self.resource_index.get(&self.queues.resources, key, hash)
     }
 
     /// The record of a lock: what it holds and wants, where it stands, and whose it is.
@@ -243,7 +243,7 @@ impl Store {
         ensures room { OnOk result (HasRoomForResource self.new) }
         ensures succeeds { HasRoomForResource self.old → IsOk result }
     {
-        reserve_one(&mut self.queues.resources, &mut self.resource_index)
+        reserve_keyed(&mut self.queues.resources, &mut self.resource_index)
     }
 
     /// Adds a resource without locks, whose key is hashed so, the last in order of making, with a valid value block of
@@ -262,11 +262,8 @@ impl Store {
             self.queues
                 .add_resource(&mut self.order, serial, site, hash),
         );
-        let found = HashedKey {
-            key: site.key,
-            hash,
-        };
-        let _ = self.resource_index.insert(found, res);
+        self.resource_index
+            .insert(&self.queues.resources, res, hash);
         res
     }
 
@@ -379,13 +376,9 @@ impl Store {
             (record self.old { resources = without_resource res self.old.resources }) }
         ensures given_back { IsGivenBack self.old.room.resources self.new.room.resources }
     {
-        let resource = &self.queues.resources[res.slot()];
-        let found = HashedKey {
-            key: resource.key,
-            hash: resource.hash,
-        };
+        self.resource_index
+            .remove(&self.queues.resources[res.slot()]);
         self.queues.remove_resource(&mut self.order, res.slot());
-        self.resource_index.swap_remove(&found);
     }
 
     /// Whether the mode is compatible with what every lock of the resource holds, granted or converting,

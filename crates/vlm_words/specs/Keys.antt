@@ -1,17 +1,15 @@
 -- What resources are found by.
-use Rattle.std.specs.Prelude.{◌≡◌, ◌+◌, ◌++◌, ◌∷◌, [], ◌&&◌, ◌==◌, ℕ, Bool, false, nat_eq, refl}
+use Rattle.std.specs.Prelude.{◌≡◌, ◌+◌, ◌&&◌, ◌==◌, ℕ, Bool, false, nat_eq, refl}
 use Rattle.std.specs.Bool.{Decides}
 use Rattle.std.specs.Cmp.{unsigned_Decides}
 use Rattle.std.specs.Cmp.Lexicographic.{bytes_decides, pointwise}
-use Rattle.std.specs.Hash as fed
-use Rattle.std.specs.Hash.{HashWrites}
 use Rattle.std.proofs.Common.{ap}
 use Rattle.std.proofs.lemmas.Bool.{and_from, and_parts}
 use Rattle.vlm_words.specs.declared.resources.Domain.{Domain}
 use Rattle.vlm_words.specs.declared.resources.Domain.TheVariants.{Group, System}
 use Rattle.vlm_words.specs.declared.resources.Key.{Key}
 use Rattle.vlm_words.specs.declared.resources.Key.TheVariants.{Root, Below}
-use Rattle.vlm_words.specs.Resources.{is_domain, key_name}
+use Rattle.vlm_words.specs.Resources.{is_domain}
 
 -- the two name the same resource
 abbrev pub is_same_key : Key → Key → Bool
@@ -26,11 +24,6 @@ abbrev pub name_space : Key → ℕ
 name_space (Root (Group group) name) = group
 name_space (Root System name) = 65536
 name_space (Below parent name) = 4294967296 + parent
-
--- what is hashed of a key: a whole word first, so that words are what is hashed of its name too, and then the name in
--- one write
-abbrev pub key_input : Key → HashWrites
-key_input key = fed.u64 (name_space key) ++ key_name key ∷ []
 
 is_domain-Decides : (a b : Domain) → Decides (is_domain a b) (a ≡ b)
 is_domain-Decides (Group a) (Group b) = (λ h. ap Group ((unsigned_Decides a b).0 h), λ e. (unsigned_Decides a b).1 (cc))

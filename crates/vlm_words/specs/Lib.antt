@@ -15,6 +15,7 @@ pub mod Sweeps
 pub mod Rows
 pub mod Resources
 pub mod Keys
+pub mod NameWords
 pub mod Checks
 pub mod Trees
 pub mod Quotas

@@ -1,6 +1,7 @@
 //! Names of resources, as they are given and as they are accepted.
 
-ghost use Rattle.std.specs.Prelude.{◌≡◌, take};
+ghost use Rattle.std.specs.Prelude.{◌≡◌, length, take};
+ghost use Rattle.vlm_words.specs.NameWords.{name_words};
 ghost use Rattle.vlm_words.specs.Names.{name_of};
 
 use crate::conditions::Cond;
@@ -40,6 +41,26 @@ impl Name {
         } else {
             Err(Cond::Ivbuflen)
         }
+    }
+
+    /// The name's bytes as words of eight, the low byte first and zeros behind the last: those of its first 24 bytes,
+    /// and that of the last eight that a name can have.
+    pub fn words(&self) -> [u64; 4]
+        ensures { result ≡ name_words self.now }
+    {
+        [
+            self.text.word(0),
+            self.text.word(8),
+            self.text.word(16),
+            self.text.word(23),
+        ]
+    }
+
+    /// How many bytes the name has.
+    pub fn len(&self) -> u8
+        ensures { result ≡ length self.now }
+    {
+        self.text.len()
     }
 
     /// The name's bytes.

@@ -1,13 +1,13 @@
 //! Where a resource stands, its value block, and its three queues.
 
-ghost use Rattle.std.specs.Prelude.{◌≡◌};
+ghost use Rattle.std.specs.Prelude.{◌≡◌, ◌<◌, ◌^◌};
 ghost use Rattle.vlm_words.specs.Keys.{name_space};
+ghost use Rattle.vlm_words.specs.NameWords.{key_words, word_count};
 ghost use Rattle.vlm_words.specs.Resources.{key_name, key_parent};
 ghost use Rattle.vlm_words.specs.ValueBlocks.{invalid_value_block, new_value_block, return_status, written_value_block};
 
 use crate::conditions::Cond;
 use crate::names::Name;
-use std::hash::{Hash, Hasher};
 
 /// The space of names that a root resource is in.
 #[derive(Clone, Copy, PartialEq, Eq)]
@@ -58,9 +58,32 @@ impl Key {
         }
     }
 
-    // The space that the resource's name is in, as a number of its own: a hasher takes a whole word in at once.
+    /// What a key is hashed by: the space that its name is in and the name's length in a word, and behind it the words
+    /// of the name.
+    pub fn words(&self) -> [u64; 5]
+        ensures { result ≡ key_words self.now }
+    {
+        let name = self.name();
+        let [first, second, third, last] = name.words();
+        let space = 256 * self.name_space() + u64::from(name.len());
+        [space, first, second, third, last]
+    }
+
+    /// How many of these words are to be hashed: the others are zeros.
+    pub fn word_count(&self) -> usize
+        ensures { result ≡ word_count self.now }
+    {
+        match self.name().len() {
+            0..=8 => 2,
+            9..=16 => 3,
+            _ => 5,
+        }
+    }
+
+    // The space that the resource's name is in, as a number of its own.
     fn name_space(&self) -> u64
-        ensures { result ≡ name_space self.now }
+        ensures space { result ≡ name_space self.now }
+        ensures below { result < 2 ^ 33 }
     {
         match self {
             Key::Root(Domain::Group(group), _) => u64::from(*group),
@@ -96,22 +119,6 @@ impl Eq for Key {
     ghost use Rattle.vlm_words.specs.Keys.{is_same_key, is_same_key-Decides};
 
     ghost laws = { decided is_same_key is_same_key-Decides };
-}
-
-impl Hash for Key {
-    ghost use Rattle.std.specs.Hash.{same_Alike};
-    ghost use Rattle.vlm_words.specs.Keys.{is_same_key-Decides, key_input};
-
-    ghost hash_input = { key_input };
-
-    ghost respects_eq = { (same_Alike key_input is_same_key-Decides).fed };
-
-    fn hash<H: Hasher>(&self, state: &mut H) {
-        state.write_u64(self.name_space());
-        match self {
-            Key::Root(_, name) | Key::Below(_, name) => state.write(name.bytes()),
-        }
-    }
 }
 
 /// The value block of a resource: 16 bytes, the tail of 48 more that makes it wide (this project's own), and

@@ -1,6 +1,8 @@
 //! Short texts that are copied as a whole.
 
-ghost use Rattle.std.specs.Prelude.{◌≡◌, ◌≤◌, length, take};
+ghost use Rattle.std.specs.Prelude.{◌≡◌, ◌≤◌, ◌+◌, length, take};
+ghost use Rattle.vlm_words.specs.NameWords.{word_at};
+ghost use Rattle.vlm_words.specs.Padding.{padded};
 
 use std::hash::{Hash, Hasher};
 use std::marker::Model;
@@ -48,10 +50,28 @@ impl<const N: usize> Text<N> {
     }
 
     /// How many bytes the text has.
-    pub fn len(&self) -> usize
+    pub fn len(&self) -> u8
         ensures { result ≡ length self.now }
     {
-        usize::from(self.len)
+        self.len
+    }
+
+    /// The eight bytes from this index on as a word, the low byte first, and zeros behind the last byte of the text.
+    pub fn word(&self, at: usize) -> u64
+        requires { at + 8 ≤ N }
+        ensures { result ≡ word_at (padded N self.now) at }
+    {
+        let cells = &self.cells;
+        u64::from_le_bytes([
+            cells[at],
+            cells[at + 1],
+            cells[at + 2],
+            cells[at + 3],
+            cells[at + 4],
+            cells[at + 5],
+            cells[at + 6],
+            cells[at + 7],
+        ])
     }
 
     /// The text's bytes.

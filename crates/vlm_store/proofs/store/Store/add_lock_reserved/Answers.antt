@@ -12,8 +12,8 @@ use Rattle.slab.specs.Slab.{get as slot_of}
 use Rattle.indexmap.specs.IndexMap.{get, spare}
 use Rattle.vlm_links.proofs.Keeping.{vacant_unlisted}
 use Rattle.vlm_links.specs.Lists.{IsIn}
-use Rattle.vlm_store.specs.HashedKeys.{hashed_at, is_same_hashed}
-use Rattle.vlm_store.proofs.HashedKeys.{IsHashed-same}
+use Rattle.vlm_store.specs.HashedKeys.{hashed_at}
+use Rattle.vlm_store.proofs.HashedKeys.{labels_same}
 use Rattle.vlm_records.specs.declared.handles.Place.{Place}
 use Rattle.vlm_records.specs.declared.locks.Lock.{Lock}
 use Rattle.vlm_records.specs.Kin.{pid_at}
@@ -23,13 +23,14 @@ use Rattle.vlm_records.specs.Shown.{but_in_line, but_kin, but_queued, but_queues
 use Rattle.vlm_store.specs.Store.{lkid_at, records_of, tables}
 use Rattle.vlm_records.proofs.Arming.{armed_kin, armed_reserved}
 use Rattle.vlm_records.proofs.Places.{same_then, there_by_part, there_through}
-use Rattle.vlm_store.proofs.Indexing.{Indexes-added, Indexes-same}
+use Rattle.vlm_store.proofs.Indexing.{Indexes-added, Indexes-same, table_same}
 use Rattle.vlm_store.proofs.Joining.{new_lkid, other_lkids, joined_kin, joined_lkids, joined_named, joined_owned, joined_processes, linked_parent_there, new_below, new_owned, owner_was_there}
 use Rattle.vlm_store.proofs.Kept.{faces_same, no_lock, on_err, on_ok, place_there, reserved_handles, reserved_placed, stored_there, reserved_tallied}
 use Rattle.vlm_store.specs.Pending.{is_of_nodes, waits_in}
 use Rattle.vlm_store.proofs.Marked.{nodes-own, own_marked, waits-own}
 use Rattle.vlm_store.proofs.Kinship.{kin_handles, kin_placed, kin_rows, kin_tallied, own_below, own_pids, own_process_linked, own_process_whole, records_processes}
 use Rattle.vlm_store.proofs.Layouts.{joining-under_handle, lists_changed_beside}
+use Rattle.vlm_store.specs.KeyIndexes.{spare_of}
 use Rattle.vlm_store.proofs.store.Store.add_lock_reserved.Goals as goal
 use Rattle.vlm_store.proofs.Order.{keys_same, order_handles, order_linked, order_whole}
 
@@ -156,13 +157,13 @@ invariant_of-self c =
       locks = Indexes-added nat_eq unsigned_Decides c.self.inside.lock_index c.insert.new.self c.args.row.now.lkid (lkid_at (record s.queues { locks = c.self.inside.queues.locks })) (lkid_at q'') at
           (rw (c.of-at.ensures, c.lkid.ensures) at (on_ok c.insert.result _ (c.insert.ensures.succeeds (omega (arith, (has_its_room s (rw (← c.self.view_is) at c.requires.room)).2))) c.insert.ensures.updates))
           (ap (option_map lkid_of) added.fresh) (lkids at ∙ new_lkid s kept c.self.inside.queues.locks locks1 at c.args.row.now c.args.owner c.args.parent same added.fresh lock others owner parent) (λ k differs. lkids k ∙ other_lkids s kept c.self.inside.queues.locks locks1 at c.args.row.now c.args.owner c.args.parent same added.fresh lock others owner parent k differs) fresh indexes1;
-      resources = IsHashed-same (hash_key s.keys) (get is_same_hashed s.resource_index) (get is_same_hashed s.resource_index) (hashed_at s.queues) (hashed_at q'') (λ k. refl) (keys_same but_queues (λ r. refl) s.queues.resources q'.resources rest) kept.resources;
+      resources = labels_same (hash_key s.keys) s.resource_index (hashed_at s.queues) (hashed_at q'') (keys_same but_queues (λ r. refl) s.queues.resources q'.resources rest) kept.resources;
       owned = joined_owned s kept c.self.inside.queues.locks locks1 at c.args.row.now c.args.owner c.args.parent same added.fresh lock others owner parent c.join_process.new.processes c.join_process.new.locks c.join_parent.new.locks process.owned process.here process.elsewhere process.relinks process.rest below.here below.elsewhere below.rest;
       below = below.below;
       named = joined_named s kept c.self.inside.queues.locks locks1 at c.args.row.now c.args.owner c.args.parent same added.fresh lock others owner parent c.join_process.new.processes c.join_process.new.locks c.join_parent.new.locks process.owned process.here process.elsewhere process.relinks process.rest below.here below.elsewhere below.rest;
       processes_linked = own_process_linked s.processes c.join_process.new.processes process.rest s.process_order kept.processes_linked;
       processes_ordered = own_process_whole s.processes c.join_process.new.processes process.rest s.process_order kept.processes_linked kept.processes_ordered;
-      processes = Indexes-same (get nat_eq s.process_index) (get nat_eq s.process_index) (pid_at s.processes) (pid_at c.join_process.new.processes) (λ k. refl) (own_pids s.processes c.join_process.new.processes process.rest) kept.processes;
+      processes = table_same s.process_index (pid_at s.processes) (pid_at c.join_process.new.processes) (own_pids s.processes c.join_process.new.processes process.rest) kept.processes;
       marked = own_marked waits_in waits-own s.processes c.join_process.new.processes s.pending process.rest kept.marked;
       living = own_marked is_of_nodes nodes-own s.processes c.join_process.new.processes s.living process.rest kept.living;
     }
@@ -204,7 +205,7 @@ returns-clause-added c =
     (joined_processes s kept c.self.inside.queues.locks locks1 at c.args.row.now c.args.owner c.args.parent same added.fresh lock others owner parent c.join_process.new.processes c.join_process.new.locks c.join_parent.new.locks process.owned process.here process.elsewhere process.relinks process.rest below.here below.elsewhere below.rest ∙ ap (map (process_with_lock c.args.owner c.args.parent at)) (sym (records_processes old)))
     ∙ ap (λ r. record (with_new_lock at c.args.row.now c.args.owner c.args.parent c.args.to (records_of old)) { room = r })
     (room_shown (λ a b. b ≡ record a { locks = b.locks }) old new
-    (rooms_are _ _ _ _ _ _ refl (room_of_same s.queues.resources q'.resources (spare s.resource_index) added.resources_room) (room_of_same s.processes c.join_process.new.processes (spare s.process_index) process.processes_room))))
+    (rooms_are _ _ _ _ _ _ refl (room_of_same s.queues.resources q'.resources (spare_of s.resource_index) added.resources_room) (room_of_same s.processes c.join_process.new.processes 1 process.processes_room))))
 
 pub returns-clause-fresh : goal.returns-clause-fresh
 returns-clause-fresh c stored =

@@ -1,12 +1,11 @@
 use Rattle.vlm_store.specs.Store.{tables, records_of}
 use Rattle.vlm_store.proofs.RoomShown.{has_room, shown_room, room_shown, is_taken, process_room_made}
-use Rattle.std.proofs.Common.{◌≡◌, ◌≢◌, ◌∙◌, ◌++◌, ◌∷◌, ◌/◌, ℕ, true, List, [], length, map, None, Some, IsSome, ap, sym, refl, arith, nat_eq}
+use Rattle.std.proofs.Common.{◌≡◌, ◌≢◌, ◌∙◌, ◌++◌, ◌∷◌, ◌/◌, ℕ, true, List, [], length, map, None, Some, IsSome, ap, sym, refl, arith}
 use Rattle.std.proofs.lemmas.Option.{none-some}
-use Rattle.std.specs.Cmp.{unsigned_Decides}
-use Rattle.std.specs.Map.{lookup}
 use Rattle.std.specs.Option.{option_map}
 use Rattle.slab.specs.Slab.{get}
-use Rattle.indexmap.specs.IndexMap.{get as found, spare}
+use Rattle.vlm_links.specs.Tables.{handle_of}
+use Rattle.vlm_links.proofs.HandleRows.{grows-itself}
 use Rattle.vlm_links.specs.Lists.{handles_of}
 use Rattle.vlm_links.proofs.Keeping.{vacant_unlisted}
 use Rattle.vlm_links.proofs.Rings.{same-handles, same-linked}
@@ -19,8 +18,8 @@ use Rattle.vlm_store.specs.Holdings.{faced, holding, own_of, process_under}
 use Rattle.vlm_store.specs.Kept.{beside_shown}
 use Rattle.vlm_store.specs.Records.{HasRoom, StoredProcess, new_stored_process, IsTaken}
 use Rattle.vlm_store.proofs.Declaring.{names_stay, owner_is_there, owns_stay, more_marks, own_by_order, pid_by_order, face_by_order, process_own_handles, process_owned, roomier}
-use Rattle.vlm_store.proofs.Indexing.{Indexes-added, Indexes-same}
-use Rattle.vlm_store.proofs.Kept.{on_ok, on_err}
+use Rattle.vlm_store.proofs.Indexing.{table_added, table_grown}
+use Rattle.vlm_store.proofs.Kept.{on_err}
 use Rattle.vlm_store.proofs.Kinship.{processes_changed}
 use Rattle.vlm_records.proofs.Places.{there_by_part, no_list_is}
 use Rattle.vlm_store.proofs.Living.{no_process_found, process_named, process_there}
@@ -33,23 +32,23 @@ use Rattle.vlm_store.proofs.store.Store.add_process.Goals as goal
 
 pub invariant_of-self : goal.invariant_of-self
 invariant_of-self c =
-    roomier c.self.inside c.self.invariant c.reserve_one.new.records c.reserve_one.new.index (λ p. ap (λ x. get x p) c.reserve_one.ensures.records) (λ k. ap (λ es. lookup (nat_eq k) es) c.reserve_one.ensures.index)
+    roomier c.self.inside c.self.invariant c.reserve_slot.new.records c.self.inside.process_index (λ p. ap (λ x. get x p) c.reserve_slot.ensures.records) (grows-itself c.self.inside.process_index)
 
-pub put_in-requires-clause-linked : goal.put_in-requires-clause-linked
-put_in-requires-clause-linked c =
+pub put_in-slot-requires-clause-linked : goal.put_in-slot-requires-clause-linked
+put_in-slot-requires-clause-linked c =
     let s = c.self.inside in
-    same-linked process_links s.processes c.reserve_one.new.records s.process_order c.self.invariant.processes_linked (λ p _. ap (λ x. get x p) c.reserve_one.ensures.records)
+    same-linked process_links s.processes c.reserve_slot.new.records s.process_order c.self.invariant.processes_linked (λ p _. ap (λ x. get x p) c.reserve_slot.ensures.records)
 
 pub invariant_of-self-2 : goal.invariant_of-self-2
 invariant_of-self-2 c =
     let s = c.self.inside in
     let kept = c.self.invariant in
-    let roomy = c.reserve_one.new.records in
-    let new = c.put_in.new.processes in
-    let at = c.put_in.result in
-    let entered = c.put_in.ensures in
+    let roomy = c.reserve_slot.new.records in
+    let new = c.put_in-slot.new.processes in
+    let at = c.put_in-slot.result in
+    let entered = c.put_in-slot.ensures in
     let process = c.new-process.result in
-    let same : (p : ℕ) → get roomy p ≡ get s.processes p = λ p. ap (λ x. get x p) c.reserve_one.ensures.records in
+    let same : (p : ℕ) → get roomy p ≡ get s.processes p = λ p. ap (λ x. get x p) c.reserve_slot.ensures.records in
     let others : (p : ℕ) → p ≢ at → option_map but_order (get new p) ≡ option_map but_order (get s.processes p) = λ p differs. entered.others p differs ∙ ap (option_map but_order) (same p) in
     let vacant : get s.processes at ≡ None = sym (same at) ∙ entered.fresh in
     let before = ap own_in vacant in
@@ -57,14 +56,12 @@ invariant_of-self-2 c =
     let apart : (k : ℕ) (l : Lock) → get s.queues.locks k ≡ Some l → l.owner ≢ at =
     λ k l here is. let nothing : IsSome {T = Process} None = rw (ap (get s.processes) is ∙ vacant) at (owner_is_there s.processes s.queues.locks kept.named k l here) in absurd (cc) in
     let handles1 = same-handles process_links s.processes roomy s.process_order kept.processes_linked (λ p _. same p) in
-    let indexes1 = Indexes-same (found nat_eq s.process_index) (found nat_eq c.reserve_one.new.index) (pid_at s.processes) (pid_at roomy) (λ k. ap (λ es. lookup (nat_eq k) es) c.reserve_one.ensures.index)
-    (λ p. ap (option_map pid_of) (same p)) kept.processes in
     let pids : (p : ℕ) → p ≢ at → pid_at new p ≡ pid_at s.processes p = λ p differs. pid_by_order (get new p) (get s.processes p) (others p differs) in
     let here : pid_at new at ≡ Some c.args.pid = pid_by_order (get new at) (Some process) entered.here ∙ ap (λ (p : PlainProcess). Some p.pid) c.new-process.ensures.plain in
     let unknown : (k : ℕ) → pid_at s.processes k ≢ Some c.args.pid =
-    λ k is. none-some k (sym (no_process_found s kept c.args.pid (rw (← c.self.view_is) at c.requires.new)) ∙ kept.processes.complete c.args.pid k is) in
-    let fresh : found nat_eq c.reserve_one.new.index c.args.pid ≡ None =
-    ap (λ es. lookup (nat_eq c.args.pid) es) c.reserve_one.ensures.index ∙ no_process_found s kept c.args.pid (rw (← c.self.view_is) at c.requires.new) in
+    λ k is. none-some k (sym (no_process_found s kept c.args.pid (rw (← c.self.view_is) at c.requires.new)) ∙ kept.processes.indexes.complete c.args.pid k is) in
+    let fresh : handle_of c.make_room.new.self c.args.pid ≡ None =
+    c.make_room.ensures.kept.handles c.args.pid ∙ no_process_found s kept c.args.pid (rw (← c.self.view_is) at c.requires.new) in
     record {
       placed = kept.placed;
       tallied = kept.tallied;
@@ -78,24 +75,23 @@ invariant_of-self-2 c =
       below = kept.below;
       named = names_stay s.processes new at others before after s.queues.locks apart kept.named;
       processes_linked = entered.linked;
-      processes_ordered = whole_grown process_links roomy new s.process_order c.put_in.new.order at (λ p there. rw handles1 (kept.processes_ordered p (rw (same p) at there))) entered.order
+      processes_ordered = whole_grown process_links roomy new s.process_order c.put_in-slot.new.order at (λ p there. rw handles1 (kept.processes_ordered p (rw (same p) at there))) entered.order
           (λ p differs. there_by_part but_order (get roomy p) (get new p) (sym (entered.others p differs)));
-      processes = Indexes-added nat_eq unsigned_Decides c.reserve_one.new.index c.insert.new.self c.args.pid (pid_at roomy) (pid_at new) at
-          (rw c.of-at.ensures at (on_ok c.insert.result _ (c.insert.ensures.succeeds (omega (arith, c.in_ok-reserve_one.ensures.find))) c.insert.ensures.updates))
-          (ap (option_map pid_of) entered.fresh) (pid_by_order (get new at) (Some process) entered.here ∙ ap (λ (p : PlainProcess). Some p.pid) c.new-process.ensures.plain)
-          (λ p differs. pid_by_order (get new p) (get roomy p) (entered.others p differs)) fresh indexes1;
+      processes = table_added c.make_room.new.self c.put.new.self c.args.pid at (pid_at s.processes) (pid_at new) pids
+          (table_grown s.process_index c.make_room.new.self (pid_at s.processes) c.make_room.ensures.kept kept.processes)
+          c.put.ensures (ap (option_map pid_of) vacant) here fresh c.in_ok-make_room.ensures.room;
       marked = added_marked waits_in s.processes new at pids (λ p differs. waits_by_order (get new p) (get s.processes p) (others p differs))
-          c.make_room-2.new.self c.make_room-2.new.self c.args.pid vacant here unknown
-          (unmarked waits_in s.processes new at pids (λ p differs. waits_by_order (get new p) (get s.processes p) (others p differs)) c.make_room-2.new.self c.args.pid unknown
-          (grown_marked waits_in s.processes s.pending c.make_room-2.new.self c.in_ok-make_room-2.ensures.kept kept.marked)
+          c.make_room-3.new.self c.make_room-3.new.self c.args.pid vacant here unknown
+          (unmarked waits_in s.processes new at pids (λ p differs. waits_by_order (get new p) (get s.processes p) (others p differs)) c.make_room-3.new.self c.args.pid unknown
+          (grown_marked waits_in s.processes s.pending c.make_room-3.new.self c.in_ok-make_room-3.ensures.kept kept.marked)
           ∙ sym (waits_by_order (get new at) (Some process) entered.here ∙ waits_not process (ap (λ (p : PlainProcess). length p.asts) c.new-process.ensures.plain)))
-          c.in_ok-make_room-2.ensures.room (none_written c.args.pid c.make_room-2.new.self)
-          (grown_marked waits_in s.processes s.pending c.make_room-2.new.self c.in_ok-make_room-2.ensures.kept kept.marked);
+          c.in_ok-make_room-3.ensures.room (none_written c.args.pid c.make_room-3.new.self)
+          (grown_marked waits_in s.processes s.pending c.make_room-3.new.self c.in_ok-make_room-3.ensures.kept kept.marked);
       living = added_marked is_of_nodes s.processes new at pids (λ p differs. nodes_same (get new p) (get s.processes p) (pids p differs))
-          c.make_room.new.self c.mark.new.self c.args.pid vacant here unknown
+          c.make_room-2.new.self c.mark.new.self c.args.pid vacant here unknown
           (c.mark.ensures.this ∙ and_true (is_node (c.args.pid / 65536)) ∙ sym (nodes_of_pid (get new at) c.args.pid here))
-          c.in_ok-make_room.ensures.room (written_others c.args.pid true c.make_room.new.self c.mark.new.self c.mark.ensures)
-          (grown_marked is_of_nodes s.processes s.living c.make_room.new.self c.in_ok-make_room.ensures.kept kept.living);
+          c.in_ok-make_room-2.ensures.room (written_others c.args.pid true c.make_room-2.new.self c.mark.new.self c.mark.ensures)
+          (grown_marked is_of_nodes s.processes s.living c.make_room-2.new.self c.in_ok-make_room-2.ensures.kept kept.living);
     }
 
 pub returns-clause-added : goal.returns-clause-added
@@ -103,25 +99,25 @@ unfolding records_of
 returns-clause-added c =
     let s = c.self.inside in
     let kept = c.self.invariant in
-    let new = c.put_in.new.processes in
-    let at = c.put_in.result in
-    let entered = c.put_in.ensures in
+    let new = c.put_in-slot.new.processes in
+    let at = c.put_in-slot.result in
+    let entered = c.put_in-slot.ensures in
     let process = c.new-process.result in
-    let same : (p : ℕ) → get c.reserve_one.new.records p ≡ get s.processes p = λ p. ap (λ x. get x p) c.reserve_one.ensures.records in
+    let same : (p : ℕ) → get c.reserve_slot.new.records p ≡ get s.processes p = λ p. ap (λ x. get x p) c.reserve_slot.ensures.records in
     let others : (p : ℕ) → p ≢ at → option_map but_order (get new p) ≡ option_map but_order (get s.processes p) = λ p differs. entered.others p differs ∙ ap (option_map but_order) (same p) in
     let vacant : get s.processes at ≡ None = sym (same at) ∙ entered.fresh in
     let after = own_by_order (get new at) (Some process) entered.here ∙ no_list_is process.own c.new-process.ensures.own in
     let owns = owns_stay s.processes new at others (ap own_in vacant) after in
-    let handles1 = same-handles process_links s.processes c.reserve_one.new.records s.process_order kept.processes_linked (λ p _. same p) in
+    let handles1 = same-handles process_links s.processes c.reserve_slot.new.records s.process_order kept.processes_linked (λ p _. same p) in
     let h = holding s.processes s.queues.locks s.process_order in
-    let h' = holding new s.queues.locks c.put_in.new.order in
+    let h' = holding new s.queues.locks c.put_in-slot.new.order in
     let made : process_under h' at ≡ new_stored_process at c.args.pid c.args.declaration.now =
     ap (λ face. faced at face (map (own_of h') (h'.own at))) (face_by_order (get new at) (Some process) entered.here)
     ∙ ap (λ plain. record { at = at; process = plain; due = process.asts.due; own = map (own_of h') (h'.own at) }) c.new-process.ensures.plain
     ∙ ap (λ due. record { at = at; process = new_process c.args.pid c.args.declaration.now; due = due; own = map (own_of h') (h'.own at) }) c.new-process.ensures.due
     ∙ ap (λ l. record { at = at; process = new_process c.args.pid c.args.declaration.now; due = 0; own = map (own_of h') (handles_of own_links s.queues.locks l) }) after in
-    rw (← c.self.view_is, c.of-at.ensures)
-    (processes_changed s.queues s.order (beside_shown s) (beside_shown (record s { processes = new; process_order = c.put_in.new.order; process_index = c.insert.new.self; living = c.mark.new.self; pending = c.make_room-2.new.self })) (λ (ps : List StoredProcess). ps ++ new_stored_process at c.args.pid c.args.declaration.now ∷ [])
+    rw (← c.self.view_is, c.of.ensures)
+    (processes_changed s.queues s.order (beside_shown s) (beside_shown (record s { processes = new; process_order = c.put_in-slot.new.order; process_index = c.put.new.self; living = c.mark.new.self; pending = c.make_room-3.new.self })) (λ (ps : List StoredProcess). ps ++ new_stored_process at c.args.pid c.args.declaration.now ∷ [])
     (process_made h h' (λ k. refl) at (new_stored_process at c.args.pid c.args.declaration.now) (λ p differs. face_by_order (get new p) (get s.processes p) (others p differs))
     (λ p _. process_own_handles s.processes new s.queues.locks owns p) (vacant_unlisted process_links s.processes s.process_order kept.processes_linked at vacant)
     (entered.order ∙ ap (λ ks. ks ++ at ∷ []) handles1) made) refl)
@@ -129,69 +125,87 @@ returns-clause-added c =
 pub returns-clause-fresh : goal.returns-clause-fresh
 returns-clause-fresh c has =
     let s = c.self.inside in
-    let there = process_there s c.self.invariant c.put_in.result (rw (c.of-at.ensures, ← c.self.view_is) at has) in
-    let vacant : get s.processes c.put_in.result ≡ None = sym (ap (λ x. get x c.put_in.result) c.reserve_one.ensures.records) ∙ c.put_in.ensures.fresh in
+    let there = process_there s c.self.invariant c.put_in-slot.result (rw (c.of.ensures, ← c.self.view_is) at has) in
+    let vacant : get s.processes c.put_in-slot.result ≡ None = sym (ap (λ x. get x c.put_in-slot.result) c.reserve_slot.ensures.records) ∙ c.put_in-slot.ensures.fresh in
     let nothing : IsSome {T = Process} None = rw vacant at there in
     absurd (cc)
 
 pub returns-clause-taken : goal.returns-clause-taken
 returns-clause-taken c =
     let s = c.self.inside in
-    let s' = record s { processes = c.put_in.new.processes; process_order = c.put_in.new.order; process_index = c.insert.new.self; living = c.mark.new.self; pending = c.make_room-2.new.self } in
+    let s' = record s { processes = c.put_in-slot.new.processes; process_order = c.put_in-slot.new.order; process_index = c.put.new.self; living = c.mark.new.self; pending = c.make_room-3.new.self } in
     rw (← c.self.view_is)
     (room_shown (λ a b. IsTaken a.processes b.processes) (tables s.queues s.order (beside_shown s)) (tables s.queues s.order (beside_shown s'))
-    (is_taken s.processes c.reserve_one.new.records c.put_in.new.processes (spare s.process_index) (spare c.reserve_one.new.index) (spare c.insert.new.self) c.reserve_one.ensures.records c.reserve_one.ensures.capacity
-    c.put_in.ensures.taken c.reserve_one.ensures.finds c.insert.ensures.spare))
+    (is_taken s.processes c.reserve_slot.new.records c.put_in-slot.new.processes 1 1 1 c.reserve_slot.ensures.records c.reserve_slot.ensures.capacity
+    c.put_in-slot.ensures.taken (omega arith) (omega arith)))
 
-pub returns-in_err-reserve_one-clause-err : goal.returns-in_err-reserve_one-clause-err
-returns-in_err-reserve_one-clause-err c =
+pub returns-in_err-reserve_slot-clause-err : goal.returns-in_err-reserve_slot-clause-err
+returns-in_err-reserve_slot-clause-err c =
     rw (← c.self.view_is)
-    (on_err c.from_residual.result _ (process_room_made c.self.inside c.reserve_one.new.records (spare c.reserve_one.new.index) c.reserve_one.ensures.records c.reserve_one.ensures.capacity c.reserve_one.ensures.finds))
+    (on_err c.from_residual.result _ (process_room_made c.self.inside c.reserve_slot.new.records c.reserve_slot.ensures.records c.reserve_slot.ensures.capacity))
 
 -- where there is room none is refused
-pub returns-in_err-reserve_one-clause-succeeds : goal.returns-in_err-reserve_one-clause-succeeds
-returns-in_err-reserve_one-clause-succeeds c has =
+pub returns-in_err-reserve_slot-clause-succeeds : goal.returns-in_err-reserve_slot-clause-succeeds
+returns-in_err-reserve_slot-clause-succeeds c has =
     let s = c.self.inside in
-    let room = has_room s.processes (spare s.process_index) (shown_room (λ r. HasRoom r.processes) (tables s.queues s.order (beside_shown s)) (rw (← c.self.view_is) at has.record_room)) in
-    let never = c.in_err-reserve_one.ensures.succeeds room.0 room.1 room.2 in
+    let room = has_room s.processes 1 (shown_room (λ r. HasRoom r.processes) (tables s.queues s.order (beside_shown s)) (rw (← c.self.view_is) at has.record_room)) in
+    let never = c.in_err-reserve_slot.ensures.succeeds room.0 room.1 in
     cc
 
--- where memory is refused for a mark no more than room was made
+-- where memory is refused for the table or a mark no more than room was made
 pub invariant_of-self-in_err-make_room : goal.invariant_of-self-in_err-make_room
 invariant_of-self-in_err-make_room c =
-    rw c.in_err-make_room.ensures.refused
-    (roomier c.self.inside c.self.invariant c.reserve_one.new.records c.reserve_one.new.index (λ p. ap (λ x. get x p) c.reserve_one.ensures.records) (λ k. ap (λ es. lookup (nat_eq k) es) c.reserve_one.ensures.index))
-
-pub invariant_of-self-in_err-make_room-2 : goal.invariant_of-self-in_err-make_room-2
-invariant_of-self-in_err-make_room-2 c =
-    rw c.in_err-make_room-2.ensures.refused
-    (more_marks (record c.self.inside { processes = c.reserve_one.new.records; process_index = c.reserve_one.new.index })
-    (roomier c.self.inside c.self.invariant c.reserve_one.new.records c.reserve_one.new.index (λ p. ap (λ x. get x p) c.reserve_one.ensures.records) (λ k. ap (λ es. lookup (nat_eq k) es) c.reserve_one.ensures.index))
-    c.make_room.new.self c.in_ok-make_room.ensures.kept)
+    roomier c.self.inside c.self.invariant c.reserve_slot.new.records c.make_room.new.self (λ p. ap (λ x. get x p) c.reserve_slot.ensures.records) c.make_room.ensures.kept
 
 pub returns-in_err-make_room-clause-err : goal.returns-in_err-make_room-clause-err
 returns-in_err-make_room-clause-err c =
     rw (← c.self.view_is)
-    (on_err c.from_residual-in_err-make_room.result _ (process_room_made c.self.inside c.reserve_one.new.records (spare c.reserve_one.new.index) c.reserve_one.ensures.records c.reserve_one.ensures.capacity c.reserve_one.ensures.finds))
+    (on_err c.from_residual-in_err-make_room.result _ (process_room_made c.self.inside c.reserve_slot.new.records c.reserve_slot.ensures.records c.reserve_slot.ensures.capacity))
 
--- beside a living process of its node there is room for the mark
+-- beside a living process of its node there is room in the table
 pub returns-in_err-make_room-clause-succeeds : goal.returns-in_err-make_room-clause-succeeds
 returns-in_err-make_room-clause-succeeds c has =
     let beside = rw (← c.self.view_is) at has.mark in
     let p = beside.0 in
     let named = process_named c.self.inside c.self.invariant p.at p.process.pid (p, (beside.1.0, refl, refl)) in
-    let never = c.in_err-make_room.ensures.succeeds p.process.pid beside.1.1 beside.1.2 (c.self.invariant.living.room p.at p.process.pid named.1) in
+    let never = c.in_err-make_room.ensures.succeeds p.process.pid beside.1.1 beside.1.2 (c.self.invariant.processes.room p.at p.process.pid named.1) in
     cc
+
+pub invariant_of-self-in_err-make_room-2 : goal.invariant_of-self-in_err-make_room-2
+invariant_of-self-in_err-make_room-2 c =
+    rw c.in_err-make_room-2.ensures.refused
+    (roomier c.self.inside c.self.invariant c.reserve_slot.new.records c.make_room.new.self (λ p. ap (λ x. get x p) c.reserve_slot.ensures.records) c.make_room.ensures.kept)
+
+pub invariant_of-self-in_err-make_room-3 : goal.invariant_of-self-in_err-make_room-3
+invariant_of-self-in_err-make_room-3 c =
+    rw c.in_err-make_room-3.ensures.refused
+    (more_marks (record c.self.inside { processes = c.reserve_slot.new.records; process_index = c.make_room.new.self })
+    (roomier c.self.inside c.self.invariant c.reserve_slot.new.records c.make_room.new.self (λ p. ap (λ x. get x p) c.reserve_slot.ensures.records) c.make_room.ensures.kept)
+    c.make_room-2.new.self c.in_ok-make_room-2.ensures.kept)
 
 pub returns-in_err-make_room-2-clause-err : goal.returns-in_err-make_room-2-clause-err
 returns-in_err-make_room-2-clause-err c =
     rw (← c.self.view_is)
-    (on_err c.from_residual-in_err-make_room-2.result _ (process_room_made c.self.inside c.reserve_one.new.records (spare c.reserve_one.new.index) c.reserve_one.ensures.records c.reserve_one.ensures.capacity c.reserve_one.ensures.finds))
+    (on_err c.from_residual-in_err-make_room-2.result _ (process_room_made c.self.inside c.reserve_slot.new.records c.reserve_slot.ensures.records c.reserve_slot.ensures.capacity))
 
+-- beside a living process of its node there is room for the mark
 pub returns-in_err-make_room-2-clause-succeeds : goal.returns-in_err-make_room-2-clause-succeeds
 returns-in_err-make_room-2-clause-succeeds c has =
     let beside = rw (← c.self.view_is) at has.mark in
     let p = beside.0 in
     let named = process_named c.self.inside c.self.invariant p.at p.process.pid (p, (beside.1.0, refl, refl)) in
-    let never = c.in_err-make_room-2.ensures.succeeds p.process.pid beside.1.1 beside.1.2 (c.self.invariant.marked.room p.at p.process.pid named.1) in
+    let never = c.in_err-make_room-2.ensures.succeeds p.process.pid beside.1.1 beside.1.2 (c.self.invariant.living.room p.at p.process.pid named.1) in
+    cc
+
+pub returns-in_err-make_room-3-clause-err : goal.returns-in_err-make_room-3-clause-err
+returns-in_err-make_room-3-clause-err c =
+    rw (← c.self.view_is)
+    (on_err c.from_residual-in_err-make_room-3.result _ (process_room_made c.self.inside c.reserve_slot.new.records c.reserve_slot.ensures.records c.reserve_slot.ensures.capacity))
+
+pub returns-in_err-make_room-3-clause-succeeds : goal.returns-in_err-make_room-3-clause-succeeds
+returns-in_err-make_room-3-clause-succeeds c has =
+    let beside = rw (← c.self.view_is) at has.mark in
+    let p = beside.0 in
+    let named = process_named c.self.inside c.self.invariant p.at p.process.pid (p, (beside.1.0, refl, refl)) in
+    let never = c.in_err-make_room-3.ensures.succeeds p.process.pid beside.1.1 beside.1.2 (c.self.invariant.marked.room p.at p.process.pid named.1) in
     cc

@@ -5,36 +5,36 @@ use Rattle.vlm_links.specs.declared.hashing.HashKeys.{HashKeys}
 use Rattle.vlm_store.specs.Index.{hash_key}
 use Rattle.vlm_store.proofs.Lined.{line_same}
 use Rattle.vlm_store.proofs.RoomShown.{room_shown, shown_room, is_taken, rooms_are, room_of_same, resource_room_kept, resource_room_made, has_room}
-use Rattle.std.proofs.Common.{◌≡◌, ◌<◌, ◌≤◌, ◌∙◌, ◌++◌, ◌∷◌, [], ℕ, None, Some, IsSome, ap, sym, refl, arith, nat_eq, subst}
-use Rattle.std.specs.Map.{lookup}
+use Rattle.std.proofs.Common.{◌≡◌, ◌<◌, ◌≤◌, arith, ◌∙◌, ◌++◌, ◌∷◌, [], ℕ, None, Some, IsSome, ap, sym, refl, nat_eq, subst}
 use Rattle.std.specs.Option.{option_map}
 use Rattle.slab.specs.Slab.{get as slot_of}
-use Rattle.indexmap.specs.IndexMap.{get, spare, Updates}
+use Rattle.indexmap.specs.IndexMap.{get, spare}
 use Rattle.vlm_links.proofs.Keeping.{vacant_unlisted}
 use Rattle.vlm_links.proofs.Rings.{same-handles, same-linked}
 use Rattle.vlm_words.specs.declared.resources.Queue.TheVariants.{Granted, Conversion, Waiting}
 use Rattle.vlm_records.specs.declared.handles.Place.TheVariants.{Queued}
 use Rattle.vlm_records.specs.declared.resources.Resource.{Resource}
 use Rattle.vlm_store.specs.declared.hashed.HashedKey.{HashedKey}
-use Rattle.vlm_store.specs.HashedKeys.{hashed, hashed_at, hashed_in, is_same_hashed}
-use Rattle.vlm_store.proofs.HashedKeys.{IsHashed-added, IsHashed-same, by_keys, hashed_by_face, hashed_is}
+use Rattle.vlm_store.specs.HashedKeys.{hashed, hashed_at, hashed_in}
+use Rattle.vlm_store.proofs.HashedKeys.{by_keys, fresh_label, hashed_added, hashed_by_face, hashed_is, index_same, last_there}
 use Rattle.vlm_store.specs.Records.{new_stored_resource, HasRoom, IsTaken}
 use Rattle.vlm_records.specs.Shown.{face_in, lkid_of, new_face, order_links, row_in, room_in, but_queued, tally_in}
 use Rattle.vlm_store.specs.Store.{lkid_at, resource_of, tables, records_of}
 use Rattle.vlm_records.specs.Armed.{armed_list_in}
 use Rattle.vlm_records.proofs.Arming.{armed_resources}
 use Rattle.vlm_store.proofs.Indexing.{Indexes-same}
-use Rattle.vlm_store.proofs.Kept.{no_resource, on_ok, on_err}
+use Rattle.vlm_store.proofs.Kept.{no_resource, on_err}
 use Rattle.vlm_store.proofs.Layouts.{HasResource-order, resource_made}
 use Rattle.vlm_records.proofs.Making.{face_by_face, face_is, none_handles, there_by_face, whole_grown, reserved_lists, resources_handles, resources_placed, resources_tallied}
 use Rattle.vlm_store.specs.Kept.{records_shown, beside_shown, found_in}
 use Rattle.vlm_store.proofs.Kinship.{records_keys, queued_below, queued_named, queued_owned, queued_processes}
 use Rattle.vlm_records.proofs.Places.{same_eq}
+use Rattle.vlm_store.specs.KeyIndexes.{Enters, spare_of}
 use Rattle.vlm_store.proofs.store.Store.add_resource_reserved.Goals as goal
 
 -- there is room in the slab, for a link, and in the index
-has_its_room : (s : Inside) → HasRoom (records_shown s).room.resources → HasRoomFor s.queues.resources 1 × (s.queues.resources.vacant_key ≤ LAST_HANDLE) × (0 < spare s.resource_index)
-has_its_room s has = has_room s.queues.resources (spare s.resource_index) (shown_room (λ r. HasRoom r.resources) (tables s.queues s.order (beside_shown s)) has)
+has_its_room : (s : Inside) → HasRoom (records_shown s).room.resources → HasRoomFor s.queues.resources 1 × (s.queues.resources.vacant_key ≤ LAST_HANDLE) × (0 < spare_of s.resource_index)
+has_its_room s has = has_room s.queues.resources (spare_of s.resource_index) (shown_room (λ r. HasRoom r.resources) (tables s.queues s.order (beside_shown s)) has)
 
 pub add_resource-requires-clause-linked : goal.add_resource-requires-clause-linked
 add_resource-requires-clause-linked c =
@@ -55,11 +55,10 @@ invariant_of-self c =
     let found = hashed (hash_key s.keys) key in
     let hash_known : c.args.hash ≡ hash_key s.keys key = (rw (← c.self.view_is) at c.requires.hash) ∙ ap (λ (h : HashKeys). hash_key h key) (records_keys (tables s.queues s.order (beside_shown s))) in
     let hash_is : record { key = key; hash = c.args.hash } ≡ found = ap (λ (n : ℕ). record { key = key; hash = n }) hash_known in
-    let indexes1 = IsHashed-same (hash_key s.keys) (get is_same_hashed s.resource_index) (get is_same_hashed c.self.inside.resource_index) (hashed_at s.queues) (hashed_at q1)
-    (λ _. refl) (λ r. ap (option_map hashed_in) (same r)) kept.resources in
-    let fresh : get is_same_hashed c.self.inside.resource_index found ≡ None =
-    no_resource s.queues s.order (beside_shown s) kept.placed kept.linked kept.ordered (found_in s) (by_keys (hash_key s.keys) (get is_same_hashed s.resource_index) s.queues kept.resources) key
-    (rw (← c.self.view_is) at c.requires.new) in
+    let indexes1 = kept.resources in
+    let fresh = fresh_label (hash_key s.keys) s.resource_index s.queues kept.resources key
+    (no_resource s.queues s.order (beside_shown s) kept.placed kept.linked kept.ordered (found_in s) (by_keys (hash_key s.keys) s.resource_index s.queues kept.resources) key
+    (rw (← c.self.view_is) at c.requires.new)) in
     record {
       placed = added.laid_out.placed;
       tallied = added.laid_out.tallied;
@@ -69,11 +68,12 @@ invariant_of-self c =
       ordered = whole_grown order_links c.self.inside.queues.resources q'.resources s.order c.add_resource.new.order at (λ r there. rw handles1 (kept.ordered r (rw (same r) at there))) added.order
           (λ r differs. there_by_face (slot_of q'.resources r) (slot_of c.self.inside.queues.resources r) (added.faces r differs));
       locks = Indexes-same (get nat_eq s.lock_index) (get nat_eq s.lock_index) (lkid_at s.queues) (lkid_at q') (λ k. refl) (λ x. ap (λ l. option_map lkid_of (slot_of l x)) added.locks) kept.locks;
-      resources = IsHashed-added (hash_key s.keys) c.self.inside.resource_index c.insert.new.self (hashed_at q1) (hashed_at q') at
-          (λ r differs. hashed_by_face (slot_of q'.resources r) (slot_of c.self.inside.queues.resources r) (added.faces r differs)) indexes1 key
-          (subst (λ (k : HashedKey). Updates is_same_hashed c.self.inside.resource_index c.insert.new.self k (Some at)) hash_is
-          (rw c.of-res.ensures at (on_ok c.insert.result _ (c.insert.ensures.succeeds (omega (arith, (has_its_room s (rw (← c.self.view_is) at c.requires.room)).2))) c.insert.ensures.updates)))
-          (ap (option_map hashed_in) added.fresh) (hashed_is (slot_of q'.resources at) (new_face c.args.serial c.args.site.now c.args.hash) added.face ∙ ap (λ (k : HashedKey). Some k) hash_is) fresh;
+      resources = hashed_added (hash_key s.keys) c.self.inside.resource_index c.insert.new.self (hashed_at q1) (hashed_at q') at found
+          (λ r differs. hashed_by_face (slot_of q'.resources r) (slot_of c.self.inside.queues.resources r) (added.faces r differs)) indexes1 q'.resources
+          (subst (λ (n : ℕ). Enters q'.resources at n c.self.inside.resource_index c.insert.new.self) hash_known (rw c.of-res.ensures at c.insert.ensures.enters))
+          (λ b. refl) (ap (option_map hashed_in) added.fresh)
+          (hashed_is (slot_of q'.resources at) (new_face c.args.serial c.args.site.now c.args.hash) added.face ∙ ap (λ (k : HashedKey). Some k) hash_is)
+          (λ b is. fresh b (sym (ap (option_map hashed_in) (same b)) ∙ is)) refl;
       owned = queued_owned s.processes s.queues.locks q'.locks (same_eq but_queued s.queues.locks q'.locks added.locks) None kept.owned;
       below = queued_below s.processes s.queues.locks q'.locks (same_eq but_queued s.queues.locks q'.locks added.locks) None kept.below;
       named = queued_named s.processes s.queues.locks q'.locks (same_eq but_queued s.queues.locks q'.locks added.locks) kept.named;
@@ -130,8 +130,8 @@ returns-clause-taken c =
     let s' = record s { queues = q'; order = c.add_resource.new.order; resource_index = c.insert.new.self } in
     rw (← c.self.view_is)
     (room_shown (λ a b. IsTaken a.resources b.resources) (tables s.queues s.order (beside_shown s)) (tables q' s'.order (beside_shown s'))
-    (is_taken s.queues.resources c.self.inside.queues.resources q'.resources (spare s.resource_index) (spare c.self.inside.resource_index) (spare c.insert.new.self) refl (omega arith)
-    c.add_resource.ensures.taken (omega arith) c.insert.ensures.spare))
+    (is_taken s.queues.resources c.self.inside.queues.resources q'.resources (spare_of s.resource_index) (spare_of c.self.inside.resource_index) (spare_of c.insert.new.self) refl (omega arith)
+    c.add_resource.ensures.taken (omega arith) c.insert.ensures.taken))
 
 pub add_resource-requires-clause-laid_out : goal.add_resource-requires-clause-laid_out
 add_resource-requires-clause-laid_out c = record {
@@ -149,8 +149,20 @@ add_resource-requires-clause-laid_out c = record {
       (resources_handles s.queues c.self.inside.queues.resources c.self.invariant.placed (reserved_lists s.queues c.self.inside.queues.resources same)) c.self.invariant.armed;
 }
 
+pub insert-requires-clause-there : goal.insert-requires-clause-there
+insert-requires-clause-there c before last =
+    let s = c.self.inside in
+    let roomy = c.self.inside.queues.resources in
+    let added = c.add_resource.ensures in
+    let there : IsSome (slot_of roomy before) = last_there (hash_key s.keys) s.resource_index s.queues c.self.invariant.resources c.args.hash before last in
+    let differs = λ (is : before ≡ c.add_resource.result). let nothing : IsSome {T = Resource} None = rw (ap (slot_of roomy) is ∙ added.fresh) at there in absurd (cc) in
+    there_by_face (slot_of roomy before) (slot_of c.add_resource.new.self.resources before) (sym (added.faces before differs)) there
+
 pub add_resource-requires-clause-room : goal.add_resource-requires-clause-room
 add_resource-requires-clause-room c = (has_its_room c.self.inside (rw (← c.self.view_is) at c.requires.room)).0
 
 pub add_resource-requires-clause-within : goal.add_resource-requires-clause-within
 add_resource-requires-clause-within c = (has_its_room c.self.inside (rw (← c.self.view_is) at c.requires.room)).1
+
+pub insert-requires-clause-room : goal.insert-requires-clause-room
+insert-requires-clause-room c = (has_its_room c.self.inside (rw (← c.self.view_is) at c.requires.room)).2

@@ -2,8 +2,8 @@ use Rattle.vlm_store.specs.Index.{hash_key}
 use Rattle.vlm_store.proofs.Lined.{line_disarmed}
 use Rattle.std.proofs.Common.{None, ◌∙◌, ap, map, refl, nat_eq}
 use Rattle.indexmap.specs.IndexMap.{get}
-use Rattle.vlm_store.specs.HashedKeys.{hashed_at, is_same_hashed}
-use Rattle.vlm_store.proofs.HashedKeys.{IsHashed-same}
+use Rattle.vlm_store.specs.HashedKeys.{hashed_at}
+use Rattle.vlm_store.proofs.HashedKeys.{labels_same}
 use Rattle.vlm_store.specs.Kept.{beside_shown}
 use Rattle.vlm_store.specs.Records.{disarming}
 use Rattle.vlm_records.specs.Shown.{but_queues, handles_at, rows}
@@ -36,7 +36,7 @@ invariant_of-self c =
       linked = order_linked but_queues (λ r. refl) s.queues.resources q'.resources rest s.order kept.linked;
       ordered = order_whole but_queues (λ r. refl) s.queues.resources q'.resources rest s.order kept.linked kept.ordered;
       locks = Indexes-same (get nat_eq s.lock_index) (get nat_eq s.lock_index) (lkid_at s.queues) (lkid_at q') (λ k. refl) (queued_lkids s.processes s.queues.locks q'.locks c.disarm.ensures.kept.kin) kept.locks;
-      resources = IsHashed-same (hash_key s.keys) (get is_same_hashed s.resource_index) (get is_same_hashed s.resource_index) (hashed_at s.queues) (hashed_at q') (λ k. refl) (keys_same but_queues (λ r. refl) s.queues.resources q'.resources rest) kept.resources;
+      resources = labels_same (hash_key s.keys) s.resource_index (hashed_at s.queues) (hashed_at q') (keys_same but_queues (λ r. refl) s.queues.resources q'.resources rest) kept.resources;
       owned = queued_owned s.processes s.queues.locks q'.locks c.disarm.ensures.kept.kin None kept.owned;
       below = queued_below s.processes s.queues.locks q'.locks c.disarm.ensures.kept.kin None kept.below;
       named = queued_named s.processes s.queues.locks q'.locks c.disarm.ensures.kept.kin kept.named;

@@ -3,8 +3,8 @@ use Rattle.vlm_store.proofs.RoomShown.{queues_room}
 use Rattle.std.proofs.Common.{None, ◌∙◌, ◌++◌, ◌∷◌, [], ap, refl, nat_eq}
 use Rattle.indexmap.specs.IndexMap.{get}
 use Rattle.vlm_links.specs.Lists.{without}
-use Rattle.vlm_store.specs.HashedKeys.{hashed_at, is_same_hashed}
-use Rattle.vlm_store.proofs.HashedKeys.{IsHashed-same}
+use Rattle.vlm_store.specs.HashedKeys.{hashed_at}
+use Rattle.vlm_store.proofs.HashedKeys.{labels_same}
 use Rattle.vlm_records.specs.Shown.{but_in_line, but_queued, but_queues, handles_at, named_row, rows}
 use Rattle.vlm_records.proofs.Arming.{armed_kin}
 use Rattle.vlm_records.proofs.Places.{same_then, there_through}
@@ -94,7 +94,7 @@ invariant_of-self c =
       linked = order_linked but_queues (λ r. refl) s.queues.resources q3.resources rest s.order kept.linked;
       ordered = order_whole but_queues (λ r. refl) s.queues.resources q3.resources rest s.order kept.linked kept.ordered;
       locks = Indexes-same (get nat_eq s.lock_index) (get nat_eq s.lock_index) (lkid_at s.queues) (lkid_at q3) (λ k. refl) (queued_lkids s.processes s.queues.locks locks3 queued) kept.locks;
-      resources = IsHashed-same (hash_key s.keys) (get is_same_hashed s.resource_index) (get is_same_hashed s.resource_index) (hashed_at s.queues) (hashed_at q3) (λ k. refl) (keys_same but_queues (λ r. refl) s.queues.resources q3.resources rest) kept.resources;
+      resources = labels_same (hash_key s.keys) s.resource_index (hashed_at s.queues) (hashed_at q3) (keys_same but_queues (λ r. refl) s.queues.resources q3.resources rest) kept.resources;
       owned = queued_owned s.processes s.queues.locks locks3 queued None kept.owned;
       below = queued_below s.processes s.queues.locks locks3 queued None kept.below;
       named = queued_named s.processes s.queues.locks locks3 queued kept.named;

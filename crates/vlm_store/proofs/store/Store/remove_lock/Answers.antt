@@ -5,17 +5,17 @@ use Rattle.std.proofs.Common.{◌≡◌, ◌≢◌, ◌∙◌, [], map, None, ap
 use Rattle.std.specs.Cmp.{unsigned_Decides}
 use Rattle.std.specs.Option.{option_map}
 use Rattle.slab.specs.Slab.{get as slot_of}
-use Rattle.indexmap.specs.IndexMap.{get, spare}
+use Rattle.indexmap.specs.IndexMap.{spare}
 use Rattle.vlm_links.specs.Lists.{without}
-use Rattle.vlm_store.specs.HashedKeys.{hashed_at, is_same_hashed}
-use Rattle.vlm_store.proofs.HashedKeys.{IsHashed-same}
+use Rattle.vlm_store.specs.HashedKeys.{hashed_at}
+use Rattle.vlm_store.proofs.HashedKeys.{labels_same}
 use Rattle.vlm_records.specs.Kin.{below_handles, pid_at}
 use Rattle.vlm_store.specs.Kept.{beside_shown}
 use Rattle.vlm_store.specs.Records.{leaving, process_without_lock, with_lists, IsGivenBack, without_stored_lock}
 use Rattle.vlm_records.specs.Shown.{but_kin, but_queued, but_queues, handles_at, lkid_of, rows}
 use Rattle.vlm_store.specs.Store.{lkid_at, records_of, tables}
 use Rattle.vlm_records.proofs.Arming.{armed_kin}
-use Rattle.vlm_store.proofs.Indexing.{Indexes-removed, Indexes-same}
+use Rattle.vlm_store.proofs.Indexing.{Indexes-removed, table_same}
 use Rattle.vlm_store.proofs.Kept.{faces_same}
 use Rattle.vlm_store.specs.Pending.{is_of_nodes, waits_in}
 use Rattle.vlm_store.proofs.Marked.{nodes-own, own_marked, waits-own}
@@ -24,6 +24,7 @@ use Rattle.vlm_store.proofs.Layouts.{leaving-under_handle, lists_changed_beside}
 use Rattle.vlm_store.proofs.Leaving.{left_below, left_kin, left_lkids, left_named, left_owned, left_processes}
 use Rattle.vlm_store.proofs.Living.{childless, lock_there}
 use Rattle.vlm_records.proofs.Places.{same_then}
+use Rattle.vlm_store.specs.KeyIndexes.{spare_of}
 use Rattle.vlm_store.proofs.store.Store.remove_lock.Goals as goal
 use Rattle.vlm_store.proofs.Order.{keys_same, order_handles, order_linked, order_whole}
 
@@ -69,13 +70,13 @@ invariant_of-self c =
           Indexes-removed nat_eq unsigned_Decides s.lock_index c.swap_remove.new.self c.index.result.now.row.lkid (lkid_at s.queues) (lkid_at q') c.args.lock (rw c.lkid-lkid.ensures at c.swap_remove.ensures.updates)
           (ap (option_map lkid_of) (rw c.slot-at.ensures at c.index.ensures)) (ap (option_map lkid_of) removed.gone)
           (left_lkids s kept c.args.lock none c.leave_parent.new.locks c.leave_process.new.locks q'.locks c.leave_process.new.processes parent.below parent.handles parent.rest process.owned process.handles process.relinks process.rest removed.gone gone_kin) kept.locks;
-      resources = IsHashed-same (hash_key s.keys) (get is_same_hashed s.resource_index) (get is_same_hashed s.resource_index) (hashed_at s.queues) (hashed_at q') (λ k. refl) (keys_same but_queues (λ r. refl) s.queues.resources q'.resources removed.rest) kept.resources;
+      resources = labels_same (hash_key s.keys) s.resource_index (hashed_at s.queues) (hashed_at q') (keys_same but_queues (λ r. refl) s.queues.resources q'.resources removed.rest) kept.resources;
       owned = left_owned s kept c.args.lock none c.leave_parent.new.locks c.leave_process.new.locks q'.locks c.leave_process.new.processes parent.below parent.handles parent.rest process.owned process.handles process.relinks process.rest removed.gone gone_kin;
       below = left_below s kept c.args.lock none c.leave_parent.new.locks c.leave_process.new.locks q'.locks c.leave_process.new.processes parent.below parent.handles parent.rest process.owned process.handles process.relinks process.rest removed.gone gone_kin;
       named = left_named s kept c.args.lock none c.leave_parent.new.locks c.leave_process.new.locks q'.locks c.leave_process.new.processes parent.below parent.handles parent.rest process.owned process.handles process.relinks process.rest removed.gone gone_kin;
       processes_linked = own_process_linked s.processes c.leave_process.new.processes process.rest s.process_order kept.processes_linked;
       processes_ordered = own_process_whole s.processes c.leave_process.new.processes process.rest s.process_order kept.processes_linked kept.processes_ordered;
-      processes = Indexes-same (get nat_eq s.process_index) (get nat_eq s.process_index) (pid_at s.processes) (pid_at c.leave_process.new.processes) (λ k. refl) (own_pids s.processes c.leave_process.new.processes process.rest) kept.processes;
+      processes = table_same s.process_index (pid_at s.processes) (pid_at c.leave_process.new.processes) (own_pids s.processes c.leave_process.new.processes process.rest) kept.processes;
       marked = own_marked waits_in waits-own s.processes c.leave_process.new.processes s.pending process.rest kept.marked;
       living = own_marked is_of_nodes nodes-own s.processes c.leave_process.new.processes s.living process.rest kept.living;
     }
@@ -109,7 +110,7 @@ returns-clause-removed c =
     (left_processes s kept c.args.lock none c.leave_parent.new.locks c.leave_process.new.locks q'.locks c.leave_process.new.processes parent.below parent.handles parent.rest process.owned process.handles process.relinks process.rest removed.gone gone_kin ∙ ap (map (process_without_lock c.args.lock)) (sym (records_processes old)))
     ∙ ap (λ r. record (without_stored_lock c.args.lock (records_of old)) { room = r })
     (room_shown (λ a b. b ≡ record a { locks = b.locks }) old new
-    (rooms_are _ _ _ _ _ _ refl (room_of_same s.queues.resources q'.resources (spare s.resource_index) removed.resources_room) (room_of_same s.processes c.leave_process.new.processes (spare s.process_index) process.processes_room))))
+    (rooms_are _ _ _ _ _ _ refl (room_of_same s.queues.resources q'.resources (spare_of s.resource_index) removed.resources_room) (room_of_same s.processes c.leave_process.new.processes 1 process.processes_room))))
 
 pub returns-clause-given_back : goal.returns-clause-given_back
 returns-clause-given_back c =

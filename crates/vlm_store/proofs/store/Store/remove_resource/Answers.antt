@@ -8,7 +8,7 @@ use Rattle.slab.specs.Slab.{get as slot_of}
 use Rattle.indexmap.specs.IndexMap.{get, spare}
 use Rattle.vlm_records.specs.declared.handles.Place.TheVariants.{Queued}
 use Rattle.vlm_store.specs.HashedKeys.{hashed_at, hashed_in}
-use Rattle.vlm_store.proofs.HashedKeys.{IsHashed-removed, hashed_by_face}
+use Rattle.vlm_store.proofs.HashedKeys.{hashed_by_face, hashed_removed}
 use Rattle.vlm_records.specs.Shown.{handles_at, lkid_of, order_links, row_in, rows, room_in, but_queued}
 use Rattle.vlm_store.specs.Store.{under_handle, lkid_at, tables}
 use Rattle.vlm_store.proofs.Indexing.{Indexes-same}
@@ -17,10 +17,11 @@ use Rattle.vlm_records.proofs.Making.{face_by_face, map-nil, there_by_face, whol
 use Rattle.vlm_store.specs.Kept.{beside_shown, records_shown}
 use Rattle.vlm_store.proofs.Kinship.{queued_below, queued_named, queued_owned, queued_processes}
 use Rattle.vlm_records.proofs.Places.{same_eq}
+use Rattle.vlm_store.specs.KeyIndexes.{spare_of}
 use Rattle.vlm_store.proofs.store.Store.remove_resource.Goals as goal
 
-pub index-resource-requires : goal.index-resource-requires
-index-resource-requires c =
+pub index-requires : goal.index-requires
+index-requires c =
     let s = c.self.inside in
     rw c.slot.ensures (c.self.invariant.linked.present c.args.res (HasResource-order (tables s.queues s.order (beside_shown s)) c.args.res (rw (← c.self.view_is) at c.requires.there)))
 
@@ -47,9 +48,9 @@ invariant_of-self c =
       ordered = whole_left order_links s.queues.resources q'.resources s.order c.remove_resource.new.order c.args.res kept.ordered gone.order gone.gone
           (λ r differs. there_by_face (slot_of q'.resources r) (slot_of s.queues.resources r) (gone.faces r differs));
       locks = Indexes-same (get nat_eq s.lock_index) (get nat_eq s.lock_index) (lkid_at s.queues) (lkid_at q') (λ k. refl) (λ x. ap (λ l. option_map lkid_of (slot_of l x)) gone.locks) kept.locks;
-      resources = IsHashed-removed (hash_key s.keys) s.resource_index c.swap_remove.new.self (hashed_at s.queues) (hashed_at q') c.args.res
+      resources = hashed_removed (hash_key s.keys) s.resource_index c.remove.new.self (hashed_at s.queues) (hashed_at q') c.args.res (hashed_in c.index.result.now)
           (λ r differs. hashed_by_face (slot_of q'.resources r) (slot_of s.queues.resources r) (gone.faces r differs))
-          kept.resources (hashed_in c.index-resource.result.now) c.swap_remove.ensures.updates (ap (option_map hashed_in) (rw c.slot.ensures at c.index-resource.ensures)) (ap (option_map hashed_in) gone.gone);
+          kept.resources c.remove.ensures.leaves (ap (option_map hashed_in) (rw c.slot.ensures at c.index.ensures)) (ap (option_map hashed_in) gone.gone);
       owned = queued_owned s.processes s.queues.locks q'.locks (same_eq but_queued s.queues.locks q'.locks gone.locks) None kept.owned;
       below = queued_below s.processes s.queues.locks q'.locks (same_eq but_queued s.queues.locks q'.locks gone.locks) None kept.below;
       named = queued_named s.processes s.queues.locks q'.locks (same_eq but_queued s.queues.locks q'.locks gone.locks) kept.named;
@@ -65,7 +66,7 @@ returns-clause-removed c =
     let s = c.self.inside in
     let q' = c.remove_resource.new.self in
     let gone = rw c.slot-2.ensures at c.remove_resource.ensures in
-    let s' = record s { queues = q'; order = c.remove_resource.new.order; resource_index = c.swap_remove.new.self } in
+    let s' = record s { queues = q'; order = c.remove_resource.new.order; resource_index = c.remove.new.self } in
     rw (← c.self.view_is)
     (resource_removed (tables s.queues s.order (beside_shown s)) (tables q' s'.order (beside_shown s')) c.args.res (λ k. ap (λ l. row_in (slot_of l k)) gone.locks) gone.handles
     (λ r differs. face_by_face (slot_of q'.resources r) (slot_of s.queues.resources r) (gone.faces r differs)) gone.order
@@ -79,8 +80,8 @@ returns-clause-given_back c =
     let s = c.self.inside in
     let q' = c.remove_resource.new.self in
     let gone = rw c.slot-2.ensures at c.remove_resource.ensures in
-    let s' = record s { queues = q'; order = c.remove_resource.new.order; resource_index = c.swap_remove.new.self } in
+    let s' = record s { queues = q'; order = c.remove_resource.new.order; resource_index = c.remove.new.self } in
     rw (← c.self.view_is)
     (room_shown (λ a b. IsGivenBack a.resources b.resources) (tables s.queues s.order (beside_shown s)) (tables q' s'.order (beside_shown s'))
-    (is_given_back s.queues.resources q'.resources c.args.res (spare s.resource_index) (spare c.swap_remove.new.self) gone.given_back
-    (c.self.invariant.linked.within c.args.res (HasResource-order (tables s.queues s.order (beside_shown s)) c.args.res (rw (← c.self.view_is) at c.requires.there))) c.swap_remove.ensures.room.0))
+    (is_given_back s.queues.resources q'.resources c.args.res (spare_of s.resource_index) (spare_of c.remove.new.self) gone.given_back
+    (c.self.invariant.linked.within c.args.res (HasResource-order (tables s.queues s.order (beside_shown s)) c.args.res (rw (← c.self.view_is) at c.requires.there))) c.remove.ensures.finds))

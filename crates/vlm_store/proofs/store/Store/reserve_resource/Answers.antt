@@ -1,29 +1,29 @@
 use Rattle.std.proofs.Common.{OnOk}
-use Rattle.indexmap.specs.IndexMap.{spare}
 use Rattle.vlm_store.specs.Records.{HasRoom}
 use Rattle.vlm_store.specs.Store.{tables}
 use Rattle.vlm_store.specs.Kept.{beside_shown}
 use Rattle.vlm_store.proofs.RoomShown.{has_reserved, has_room, resource_room_kept, resource_room_made, room_shown, shown_room}
+use Rattle.vlm_store.specs.KeyIndexes.{spare_of}
 use Rattle.vlm_store.proofs.store.Store.reserve_resource.Goals as goal
 
 pub invariant_of-self : goal.invariant_of-self
-invariant_of-self c = resource_room_kept c.self.inside c.self.invariant c.reserve_one.new.records c.reserve_one.new.index c.reserve_one.ensures.records c.reserve_one.ensures.index
+invariant_of-self c = resource_room_kept c.self.inside c.self.invariant c.reserve_keyed.new.resources c.reserve_keyed.new.index c.reserve_keyed.ensures.records c.reserve_keyed.ensures.index
 
 pub returns-clause-unchanged : goal.returns-clause-unchanged
 returns-clause-unchanged c =
     rw (← c.self.view_is)
-    (resource_room_made c.self.inside c.reserve_one.new.records (spare c.reserve_one.new.index) c.reserve_one.ensures.records c.reserve_one.ensures.capacity c.reserve_one.ensures.finds)
+    (resource_room_made c.self.inside c.reserve_keyed.new.resources (spare_of c.reserve_keyed.new.index) c.reserve_keyed.ensures.records c.reserve_keyed.ensures.capacity c.reserve_keyed.ensures.finds)
 
 pub returns-clause-succeeds : goal.returns-clause-succeeds
 returns-clause-succeeds c has =
     let s = c.self.inside in
-    let room = has_room s.queues.resources (spare s.resource_index) (shown_room (λ r. HasRoom r.resources) (tables s.queues s.order (beside_shown s)) (rw (← c.self.view_is) at has)) in
-    c.reserve_one.ensures.succeeds room.0 room.1 room.2
+    let room = has_room s.queues.resources (spare_of s.resource_index) (shown_room (λ r. HasRoom r.resources) (tables s.queues s.order (beside_shown s)) (rw (← c.self.view_is) at has)) in
+    c.reserve_keyed.ensures.succeeds room.0 room.1 room.2
 
 pub returns-clause-room : goal.returns-clause-room
 returns-clause-room c =
     let s = c.self.inside in
-    let s' = record s { queues = record s.queues { resources = c.reserve_one.new.records }; resource_index = c.reserve_one.new.index } in
+    let s' = record s { queues = record s.queues { resources = c.reserve_keyed.new.resources }; resource_index = c.reserve_keyed.new.index } in
     let l = tables s'.queues s'.order (beside_shown s') in
-    room_shown (λ _ room. OnOk c.reserve_one.result (HasRoom room.resources)) l l
-    (has_reserved c.reserve_one.result c.reserve_one.new.records (spare c.reserve_one.new.index) c.reserve_one.ensures.slot c.reserve_one.ensures.handle c.reserve_one.ensures.find)
+    room_shown (λ _ room. OnOk c.reserve_keyed.result (HasRoom room.resources)) l l
+    (has_reserved c.reserve_keyed.result c.reserve_keyed.new.resources (spare_of c.reserve_keyed.new.index) c.reserve_keyed.ensures.slot c.reserve_keyed.ensures.handle c.reserve_keyed.ensures.find)

@@ -7,8 +7,8 @@ use Rattle.slab.specs.Slab.{get as slot_of}
 use Rattle.indexmap.specs.IndexMap.{get}
 use Rattle.vlm_words.specs.declared.resources.Queue.TheVariants.{Granted, Conversion, Waiting}
 use Rattle.vlm_records.specs.declared.handles.Place.TheVariants.{Queued}
-use Rattle.vlm_store.specs.HashedKeys.{hashed_at, is_same_hashed}
-use Rattle.vlm_store.proofs.HashedKeys.{IsHashed-same}
+use Rattle.vlm_store.specs.HashedKeys.{hashed_at}
+use Rattle.vlm_store.proofs.HashedKeys.{labels_same}
 use Rattle.vlm_store.specs.Records.{StoredResource}
 use Rattle.vlm_records.specs.Shown.{but_value_block, face_in, lkid_of, room_in, row_in, but_queued}
 use Rattle.vlm_store.specs.Store.{lkid_at, tables}
@@ -39,7 +39,7 @@ invariant_of-self c =
       linked = order_linked but_value_block (λ r. refl) s.queues.resources q'.resources set.rest s.order kept.linked;
       ordered = order_whole but_value_block (λ r. refl) s.queues.resources q'.resources set.rest s.order kept.linked kept.ordered;
       locks = Indexes-same (get nat_eq s.lock_index) (get nat_eq s.lock_index) (lkid_at s.queues) (lkid_at q') (λ k. refl) (λ x. ap (λ l. option_map lkid_of (slot_of l x)) set.locks) kept.locks;
-      resources = IsHashed-same (hash_key s.keys) (get is_same_hashed s.resource_index) (get is_same_hashed s.resource_index) (hashed_at s.queues) (hashed_at q') (λ k. refl) (keys_same but_value_block (λ r. refl) s.queues.resources q'.resources set.rest) kept.resources;
+      resources = labels_same (hash_key s.keys) s.resource_index (hashed_at s.queues) (hashed_at q') (keys_same but_value_block (λ r. refl) s.queues.resources q'.resources set.rest) kept.resources;
       owned = queued_owned s.processes s.queues.locks q'.locks (same_eq but_queued s.queues.locks q'.locks set.locks) None kept.owned;
       below = queued_below s.processes s.queues.locks q'.locks (same_eq but_queued s.queues.locks q'.locks set.locks) None kept.below;
       named = queued_named s.processes s.queues.locks q'.locks (same_eq but_queued s.queues.locks q'.locks set.locks) kept.named;

@@ -1,14 +1,16 @@
 use Rattle.vlm_store.specs.Index.{hash_key}
 use Rattle.vlm_store.proofs.Lined.{empty_line}
-use Rattle.std.proofs.Common.{◌≡◌, ℕ, None, refl, ap, nat_eq}
+use Rattle.std.proofs.Common.{◌≡◌, ◌∙◌, ℕ, None, refl, sym, ap, nat_eq}
+use Rattle.std.proofs.lemmas.Option.{none-some}
+use Rattle.vlm_links.specs.Tables.{handle_of}
 use Rattle.slab.specs.Slab.{get}
 use Rattle.vlm_records.specs.Shown.{lkid_of}
 use Rattle.std.specs.Map.{lookup}
 use Rattle.std.specs.Option.{option_map}
 use Rattle.indexmap.specs.IndexMap.{get as found}
 use Rattle.vlm_records.specs.declared.queues.Queues.{Queues}
-use Rattle.vlm_store.specs.HashedKeys.{hashed_at, hashed_in, is_same_hashed}
-use Rattle.vlm_store.proofs.HashedKeys.{IsHashed-empty}
+use Rattle.vlm_store.specs.HashedKeys.{hashed_at, hashed_in}
+use Rattle.vlm_store.proofs.HashedKeys.{hashed_empty}
 use Rattle.vlm_records.specs.Kin.{pid_at, pid_of}
 use Rattle.vlm_store.proofs.Declaring.{empty_below, empty_named, empty_owned, empty_processes, empty_processes_linked, empty_processes_ordered}
 use Rattle.vlm_store.specs.Store.{lkid_at}
@@ -33,15 +35,18 @@ invariant_of-result c =
       ordered = empty_ordered q no_locks no_resources c.new-3.ensures c.new-5.result c.new-5.ensures;
       locks = Indexes-empty (found nat_eq c.new-8.result) (lkid_at q) (λ k. ap (lookup (nat_eq k)) c.new-8.ensures.empty) (λ at. ap (option_map lkid_of) (no_locks at));
       resources =
-          let none : (r : ℕ) → hashed_at q r ≡ None = λ r. ap (option_map hashed_in) (no_resources r) in
-          IsHashed-empty (hash_key c.args.keys) (found is_same_hashed c.new-9.result) (hashed_at q)
-          (Indexes-empty (found is_same_hashed c.new-9.result) (hashed_at q) (λ k. ap (lookup (is_same_hashed k)) c.new-9.ensures.empty) none) none;
+          hashed_empty (hash_key c.args.keys) c.new-9.result (hashed_at q) c.new-9.ensures (λ r. ap (option_map hashed_in) (no_resources r));
       owned = empty_owned c.new-6.result q.locks no_processes no_locks;
       below = empty_below c.new-6.result q.locks no_processes no_locks;
       named = empty_named c.new-6.result q.locks no_processes no_locks;
       processes_linked = empty_processes_linked c.new-6.result q.locks no_processes no_locks c.new-7.result c.new-7.ensures;
       processes_ordered = empty_processes_ordered c.new-6.result q.locks no_processes no_locks c.new-7.result c.new-7.ensures;
-      processes = Indexes-empty (found nat_eq c.new-10.result) (pid_at c.new-6.result) (λ k. ap (lookup (nat_eq k)) c.new-10.ensures.empty) (λ p. ap (option_map pid_of) (no_processes p));
+      processes =
+          let none : (p : ℕ) → pid_at c.new-6.result p ≡ None = λ p. ap (option_map pid_of) (no_processes p) in
+          record {
+            indexes = Indexes-empty (handle_of c.new-10.result) (pid_at c.new-6.result) c.new-10.ensures none;
+            room = λ p number is. absurd (none-some number (sym (none p) ∙ is));
+          };
       marked = empty_marked waits_in c.new-6.result c.new-12.result no_processes c.new-12.ensures;
       living = empty_marked is_of_nodes c.new-6.result c.new-11.result no_processes c.new-11.ensures;
     }

@@ -1,0 +1,118 @@
+//! The index of resources by their keys.
+
+ghost use Rattle.std.specs.Prelude.{◌≡◌, ◌+◌, ◌<◌, ◌≤◌, ℕ, Some, IsOk, OnOk};
+ghost use Rattle.slab.specs.Slab.{ContainsKey, HasRoomFor};
+ghost use Rattle.vlm_store.specs.HashedKeys.{hashed_in};
+ghost use Rattle.vlm_store.specs.KeyIndexes.{Enters, FindsNothing, IsSame, Leaves, found_by, last_of, spare_of};
+
+use crate::hashed::HashedKey;
+use indexmap::IndexMap;
+use slab::Slab;
+use std::alloc::{AllocError, Global};
+use vlm_links::{LAST_HANDLE, reserve_slot};
+use vlm_records::{ResAt, Resource};
+use vlm_words::resources::Key;
+
+/// Where the resource of each key is. A hash of 32 bits stands for a key here, which its record has: only of resources
+/// that share a hash all but one are found by their keys, and these are few, since nobody chooses names that meet.
+pub(crate) struct KeyIndex {
+    // where the resource of each hash is, of several the one that was made last
+    last: IndexMap<u32, ResAt>,
+    // where each of the others is
+    others: IndexMap<HashedKey, ResAt>,
+}
+
+// Written out, a drop is one call to each owner of an index.
+impl Drop for KeyIndex {
+    fn drop(self) {
+        let KeyIndex { last: _, others: _ } = self;
+    }
+}
+
+impl KeyIndex {
+    /// No resources. It takes no memory.
+    pub fn new(alloc: Global) -> Self
+        ensures { FindsNothing result }
+    {
+        KeyIndex {
+            last: IndexMap::new(alloc),
+            others: IndexMap::new(alloc),
+        }
+    }
+
+    // Makes room for one more resource, where there is none.
+    fn reserve(&mut self) -> Result<(), AllocError>
+        ensures same { IsSame self.old self.new }
+        ensures finds { spare_of self.old ≤ spare_of self.new }
+        ensures find { OnOk result (0 < spare_of self.new) }
+        ensures succeeds { 0 < spare_of self.old → IsOk result }
+    {
+        self.last.reserve(1)?;
+        self.others.reserve(1)
+    }
+
+    /// Where the resource of this key, which is hashed so, is.
+    pub fn get(&self, resources: &Slab<Resource>, key: &Key, hash: u32) -> Option<ResAt>
+        requires { (at : ℕ) → last_of self.now hash ≡ Some at → ContainsKey resources.now at }
+        ensures { result ≡ found_by self.now resources.now (record { key = key.now; hash = hash }) }
+    {
+        if let Some(at) = self.last.get(&hash).copied() {
+            if resources[at.slot()].key == *key {
+                return Some(at);
+            }
+        }
+        if self.others.is_empty() {
+            return None;
+        }
+        let found = HashedKey { key: *key, hash };
+        self.others.get(&found).copied()
+    }
+
+    /// Enters a resource with this hash. Where another has it already, that is found among the others from here on.
+    pub fn insert(&mut self, resources: &Slab<Resource>, at: ResAt, hash: u32)
+        requires room { 0 < spare_of self.old }
+        requires there { (before : ℕ) → last_of self.old hash ≡ Some before
+            → ContainsKey resources.now before }
+        ensures enters { Enters resources.now at hash self.old self.new }
+        ensures taken { spare_of self.old ≤ spare_of self.new + 1 }
+    {
+        if let Ok(Some(before)) = self.last.insert(hash, at) {
+            let Resource { key, hash, .. } = resources[before.slot()];
+            let _ = self.others.insert(HashedKey { key, hash }, before);
+        }
+    }
+
+    /// Takes a resource out.
+    pub fn remove(&mut self, resource: &Resource)
+        ensures leaves { Leaves (hashed_in resource.now) self.old self.new }
+        ensures finds { spare_of self.old ≤ spare_of self.new }
+    {
+        if !self.others.is_empty() {
+            let Resource { key, hash, .. } = *resource;
+            let found = HashedKey { key, hash };
+            if self.others.swap_remove(&found).is_some() {
+                return;
+            }
+        }
+        self.last.swap_remove(&resource.hash);
+    }
+}
+
+/// Makes room for one more resource, and for it in the index, where there is none. It is refused as `reserve_slot` is.
+pub(crate) fn reserve_keyed(
+    resources: &mut Slab<Resource>,
+    index: &mut KeyIndex,
+) -> Result<(), AllocError>
+    ensures records { resources.new ≡ record resources.old { capacity = resources.new.capacity } }
+    ensures capacity { resources.old.capacity ≤ resources.new.capacity }
+    ensures index { IsSame index.old index.new }
+    ensures finds { spare_of index.old ≤ spare_of index.new }
+    ensures slot { OnOk result (HasRoomFor resources.new 1) }
+    ensures handle { OnOk result (resources.new.vacant_key ≤ LAST_HANDLE) }
+    ensures find { OnOk result (0 < spare_of index.new) }
+    ensures succeeds { HasRoomFor resources.old 1 → resources.old.vacant_key ≤ LAST_HANDLE
+        → 0 < spare_of index.old → IsOk result }
+{
+    reserve_slot(resources)?;
+    index.reserve()
+}
