@@ -3,12 +3,12 @@
 ghost use Rattle.std.specs.Prelude.{◌≡◌, ◌≢◌, ◌≤◌, ◌+◌, ℕ, false, None, Some, [], ◌∷◌, ◌++◌};
 ghost use Rattle.std.specs.Option.{option_map};
 ghost use Rattle.slab.specs.Slab.{get, ContainsKey, HasRoomFor};
-ghost use Rattle.vlm_links.specs.Lists.{Relinks, without};
+ghost use Rattle.vlm_links.specs.Lists.{IsIn, IsLinked, Lists, Relinks, without};
 ghost use Rattle.vlm_records.specs.declared.handles.Place.{Place};
 ghost use Rattle.vlm_records.specs.Armed.{IsLaidOut};
 ghost use Rattle.vlm_records.specs.Kept.{Keeps, WritesLock};
 ghost use Rattle.vlm_records.specs.Line.{line_links};
-ghost use Rattle.vlm_records.specs.Shown.{IsPlaced, IsTallied, IsThere, SameBut, but_counted, but_lists, but_place, but_queued, but_queues, but_requeued, but_row, handles_at, list_at, named_row, new_lock, noted, room_in, rows, with_queue_links};
+ghost use Rattle.vlm_records.specs.Shown.{IsPlaced, IsTallied, IsThere, SameBut, but_counted, but_lists, but_place, but_queued, but_queues, but_requeued, but_row, handles_at, list_at, named_row, new_lock, noted, queue_links, room_in, rows, with_queue_links};
 
 use crate::handles::{LockAt, Place, ProcAt};
 use crate::locks::{InQueue, Lock};
@@ -42,19 +42,50 @@ impl Queues {
         }
     }
 
-    // Writes the list of a place.
-    fn set_list(&mut self, place: &Place, list: LinkedList<InQueue>)
-        requires { IsThere self.old.resources place.now }
-        ensures here { list_at self.new place.now ≡ list }
+    // Takes a lock off the list of a place.
+    fn unlink_from(&mut self, at: usize, place: &Place)
+        requires listed { Lists queue_links self.old.locks (list_at self.old place.now) at }
+        requires there { IsThere self.old.resources place.now }
+        ensures linked { IsLinked queue_links self.new.locks (list_at self.new place.now) }
+        ensures handles { handles_at self.new place.now ≡ without at (handles_at self.old place.now) }
+        ensures others { (other : ℕ) → ¬ IsIn other (handles_at self.old place.now)
+            → get self.new.locks other ≡ get self.old.locks other }
+        ensures relinks { Relinks with_queue_links self.old.locks self.new.locks }
         ensures elsewhere { (other : Place) → other ≢ place.now
             → list_at self.new other ≡ list_at self.old other }
-        ensures locks { self.new.locks ≡ self.old.locks }
         ensures rest { SameBut but_lists self.old.resources self.new.resources }
         ensures resources_room { room_in self.new.resources ≡ room_in self.old.resources }
     {
         match *place {
-            Place::Loose => self.loose = list,
-            Place::Queued(res, queue) => self.resources[res.slot()].set_list(queue, list),
+            Place::Loose => self.loose.unlink(&mut self.locks, at),
+            Place::Queued(res, queue) => {
+                self.resources[res.slot()].unlink(&mut self.locks, queue, at)
+            }
+        }
+    }
+
+    // Puts a lock that is in no list at the end of that of a place.
+    fn link_to(&mut self, at: usize, place: &Place)
+        requires linked { IsLinked queue_links self.old.locks (list_at self.old place.now) }
+        requires present { ContainsKey self.old.locks at }
+        requires within { at ≤ LAST_HANDLE }
+        requires unlisted { ¬ IsIn at (handles_at self.old place.now) }
+        requires there { IsThere self.old.resources place.now }
+        ensures linked { IsLinked queue_links self.new.locks (list_at self.new place.now) }
+        ensures handles { handles_at self.new place.now ≡ handles_at self.old place.now ++ at ∷ [] }
+        ensures others { (other : ℕ) → ¬ IsIn other (handles_at self.old place.now)
+            → other ≢ at → get self.new.locks other ≡ get self.old.locks other }
+        ensures relinks { Relinks with_queue_links self.old.locks self.new.locks }
+        ensures elsewhere { (other : Place) → other ≢ place.now
+            → list_at self.new other ≡ list_at self.old other }
+        ensures rest { SameBut but_lists self.old.resources self.new.resources }
+        ensures resources_room { room_in self.new.resources ≡ room_in self.old.resources }
+    {
+        match *place {
+            Place::Loose => self.loose.push_back(&mut self.locks, at),
+            Place::Queued(res, queue) => {
+                self.resources[res.slot()].push_back(&mut self.locks, queue, at)
+            }
         }
     }
 
@@ -69,9 +100,7 @@ impl Queues {
         ensures kept { Keeps but_requeued but_lists self.old self.new }
     {
         let place = self.locks[at].place;
-        let mut list = self.list(place);
-        list.unlink(&mut self.locks, at);
-        self.set_list(&place, list);
+        self.unlink_from(at, &place);
     }
 
     // Puts a lock that is in no list at the end of that of the place that it notes.
@@ -88,9 +117,7 @@ impl Queues {
         ensures rows { (other : ℕ) → rows self.new other ≡ rows self.old other }
         ensures kept { Keeps but_requeued but_lists self.old self.new }
     {
-        let mut list = self.list(*place);
-        list.push_back(&mut self.locks, at);
-        self.set_list(place, list);
+        self.link_to(at, place);
     }
 
     // Puts a lock that is in no list at the end of one.
