@@ -1,12 +1,13 @@
 //! The locks in their lists.
 
 ghost use Rattle.std.specs.Prelude.{◌≡◌, ◌≢◌, ◌≤◌, ◌+◌, ℕ, false, None, Some, [], ◌∷◌, ◌++◌};
+ghost use Rattle.std.specs.Bool.{OnTrue};
 ghost use Rattle.std.specs.Option.{option_map};
 ghost use Rattle.slab.specs.Slab.{get, ContainsKey, HasRoomFor};
 ghost use Rattle.vlm_links.specs.Lists.{IsIn, IsLinked, Lists, Relinks, without};
 ghost use Rattle.vlm_records.specs.declared.handles.Place.{Place};
-ghost use Rattle.vlm_records.specs.Armed.{IsLaidOut};
-ghost use Rattle.vlm_records.specs.Kept.{Keeps, WritesLock};
+ghost use Rattle.vlm_records.specs.Armed.{IsLaidOut, StandsLast};
+ghost use Rattle.vlm_records.specs.Kept.{Keeps, Requeues, Rewrites, WritesLock};
 ghost use Rattle.vlm_records.specs.Line.{line_links};
 ghost use Rattle.vlm_records.specs.Shown.{IsPlaced, IsTallied, IsThere, SameBut, but_counted, but_lists, but_place, but_queued, but_queues, but_requeued, but_row, handles_at, list_at, named_row, new_lock, noted, queue_links, room_in, rows, with_queue_links};
 
@@ -16,6 +17,7 @@ use crate::resources::Resource;
 use crate::rows::StoredRow;
 use slab::Slab;
 use vlm_links::{LAST_HANDLE, LinkedList, Links};
+use vlm_words::resources::Queue;
 
 /// The locks, each in one list: a queue of a resource, or that of the loose locks.
 #[derive(Drop)]
@@ -26,6 +28,19 @@ pub struct Queues {
     pub resources: Slab<Resource>,
     /// The locks that stand in no queue, in the order in which they joined.
     pub loose: LinkedList<InQueue>,
+}
+
+// Whether both places are the granted queue of one resource.
+fn is_same_grant(from: &Place, to: &Place) -> bool
+    ensures { OnTrue result (from.now ≡ to.now) }
+{
+    let Place::Queued(from, Queue::Granted) = *from else {
+        return false;
+    };
+    let Place::Queued(to, Queue::Granted) = *to else {
+        return false;
+    };
+    from == to
 }
 
 impl Queues {
@@ -158,6 +173,57 @@ impl Queues {
         self.locks[at].row = *row;
     }
 
+    // Whether a lock stands last at the place that it notes.
+    fn is_last(&self, at: usize) -> bool
+        requires placed { IsPlaced self.now None }
+        requires present { ContainsKey self.now.locks at }
+        ensures { OnTrue result (StandsLast self.now at) }
+    {
+        let place = self.locks[at].place;
+        self.list(place).next(&self.locks, at).is_none()
+    }
+
+    // Whether a lock is granted, last in its queue, and is to go to the end of that queue: its links stay.
+    fn stays(&self, at: usize, to: &Place) -> bool
+        requires placed { IsPlaced self.now None }
+        requires present { ContainsKey self.now.locks at }
+        ensures noted { OnTrue result (noted self.now at ≡ Some to.now) }
+        ensures last { OnTrue result (StandsLast self.now at) }
+    {
+        is_same_grant(&self.locks[at].place, to) && self.is_last(at)
+    }
+
+    // Gives a lock another row where it stands. It is not among the armed ones of its resource.
+    fn rewrite(&mut self, at: usize, row: &StoredRow)
+        requires placed { IsPlaced self.old None }
+        requires tallied { IsTallied self.old None }
+        requires present { ContainsKey self.old.locks at }
+        requires named { named_row (rows self.old at) ≡ named_row row.now }
+        ensures { Rewrites at row.now self.old self.new }
+    {
+        self.count_out(at);
+        self.write_row(at, row);
+        self.count_in(at);
+    }
+
+    // Gives a lock another row, takes it off its list, and puts it at the end of one. It is not among the armed ones
+    // of its resource.
+    fn relink(&mut self, at: usize, row: &StoredRow, to: Place)
+        requires placed { IsPlaced self.old None }
+        requires tallied { IsTallied self.old None }
+        requires present { ContainsKey self.old.locks at }
+        requires within { at ≤ LAST_HANDLE }
+        requires there { IsThere self.old.resources to }
+        requires named { named_row (rows self.old at) ≡ named_row row.now }
+        ensures { Requeues at row.now to self.old self.new }
+    {
+        self.count_out(at);
+        self.take_off(at);
+        self.write_row(at, row);
+        self.put_at(at, to);
+        self.count_in(at);
+    }
+
     // Gives a lock another row, and puts it at the end of a list. It is not among the armed ones of its resource.
     fn requeue(&mut self, at: usize, row: &StoredRow, to: Place)
         requires placed { IsPlaced self.old None }
@@ -166,20 +232,13 @@ impl Queues {
         requires within { at ≤ LAST_HANDLE }
         requires there { IsThere self.old.resources to }
         requires named { named_row (rows self.old at) ≡ named_row row.now }
-        ensures placed { IsPlaced self.new None }
-        ensures tallied { IsTallied self.new None }
-        ensures here { handles_at self.new to ≡ without at (handles_at self.old to) ++ at ∷ [] }
-        ensures elsewhere { (other : Place) → other ≢ to
-            → handles_at self.new other ≡ without at (handles_at self.old other) }
-        ensures row { rows self.new at ≡ row.now }
-        ensures rows { (other : ℕ) → other ≢ at → rows self.new other ≡ rows self.old other }
-        ensures kept { Keeps but_requeued but_counted self.old self.new }
+        ensures { Requeues at row.now to self.old self.new }
     {
-        self.count_out(at);
-        self.take_off(at);
-        self.write_row(at, row);
-        self.put_at(at, to);
-        self.count_in(at);
+        if self.stays(at, &to) {
+            self.rewrite(at, row);
+        } else {
+            self.relink(at, row, to);
+        }
     }
 
     /// Gives a lock another row, and puts it at the end of a list.
@@ -215,10 +274,8 @@ impl Queues {
         ensures line { SameBut line_links self.old.locks self.new.locks }
     {
         self.leave_armed(at);
-        self.count_out(at);
         let row = self.locks[at].row.disarmed();
-        self.write_row(at, &row);
-        self.count_in(at);
+        self.rewrite(at, &row);
     }
 
     /// Adds a lock at the end of a list, which is not yet among those of its process and its parent. There
