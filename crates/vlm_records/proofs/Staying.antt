@@ -1,15 +1,13 @@
 -- A lock that stands last in its list, and is to go to its end.
-use Rattle.std.proofs.Common.{◌≡◌, ℕ, List, [], ◌∷◌, ◌++◌, Option, None, Some, false, refl, sym, ap, ◌∙◌, inl, inr, eq-eqb, ne_eqb}
+use Rattle.std.proofs.Common.{◌≡◌, ◌≢◌, ℕ, List, [], ◌∷◌, ◌++◌, Option, None, Some, false, refl, sym, ap, ◌∙◌, inl, inr, eq-eqb, ne_eqb}
 use Rattle.std.specs.Prelude.{is_some, if◌then◌else◌}
 use Rattle.std.proofs.lemmas.Bool.{cases_eq}
 use Rattle.std.proofs.lemmas.Option.{none-some}
 use Rattle.vlm_links.specs.Lists.{IsIn, first_handle, handle_after, without}
 use Rattle.vlm_links.proofs.HandleLists.{without_absent, without_head, without_past}
-use Rattle.vlm_words.specs.declared.locks.Row.{Row}
 use Rattle.vlm_records.specs.declared.handles.Place.{Place}
 use Rattle.vlm_records.specs.declared.queues.Queues.{Queues}
 use Rattle.vlm_records.specs.Armed.{IsLast, StandsLast}
-use Rattle.vlm_records.specs.Kept.{Requeues, Rewrites}
 use Rattle.vlm_records.specs.Shown.{IsPlaced, handles_at, noted}
 use Rattle.vlm_records.proofs.Places.{one_place}
 
@@ -36,15 +34,11 @@ none_after at (k ∷ ks) found none =
     ]
 
 -- it goes where it stands
-pub stayed : (q q' : Queues) (at : ℕ) (row : Row) (to : Place) → IsPlaced q None → noted q at ≡ Some to → StandsLast q at → Rewrites at row q q' → Requeues at row to q q'
-stayed q q' at row to placed is last rewrites = record {
-  placed = rewrites.placed;
-  tallied = rewrites.tallied;
-  here = rewrites.handles to ∙ last to is;
-  elsewhere = λ p differs.
-      rewrites.handles p
-      ∙ sym (without_absent at (handles_at q p) (λ found. differs (one_place q None placed at p to found (placed.stands to at (λ same. none-some at (sym same)) is))));
-  row = rewrites.row;
-  rows = rewrites.rows;
-  kept = rewrites.kept;
-}
+module _ (q : Queues) (at : ℕ) (to : Place) (is : noted q at ≡ Some to) where
+  pub stayed_here : StandsLast q at → (q' : Queues) → ((p : Place) → handles_at q' p ≡ handles_at q p) → handles_at q' to ≡ without at (handles_at q to) ++ at ∷ []
+  stayed_here last q' handles = handles to ∙ last to is
+
+  pub stayed_elsewhere : (q' : Queues) → ((p : Place) → handles_at q' p ≡ handles_at q p) → IsPlaced q None → (p : Place) → p ≢ to → handles_at q' p ≡ without at (handles_at q p)
+  stayed_elsewhere q' handles placed p differs =
+      handles p
+      ∙ sym (without_absent at (handles_at q p) (λ found. differs (one_place q None placed at p to found (placed.stands to at (λ same. none-some at (sym same)) is))))

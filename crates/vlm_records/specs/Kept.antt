@@ -1,13 +1,15 @@
 -- What stays as the locks of a resource leave their lists, join them and are counted.
-use Rattle.std.specs.Prelude.{◌≡◌, ◌≢◌, ℕ, None, [], ◌∷◌, ◌++◌}
-use Rattle.slab.specs.Slab.{get}
+use Rattle.std.specs.Prelude.{◌≡◌, ◌≢◌, ◌+◌, ℕ, None, [], ◌∷◌, ◌++◌}
+use Rattle.slab.specs.Slab.{Slab, get}
 use Rattle.vlm_links.specs.Lists.{without}
 use Rattle.vlm_words.specs.declared.locks.Row.{Row}
+use Rattle.vlm_words.specs.declared.modes.Mode.{Mode}
+use Rattle.vlm_tallies.specs.Tallies.{Count, how_many, weight_of}
 use Rattle.vlm_records.specs.declared.handles.Place.{Place}
 use Rattle.vlm_records.specs.declared.locks.Lock.{Lock}
 use Rattle.vlm_records.specs.declared.queues.Queues.{Queues}
 use Rattle.vlm_records.specs.declared.resources.Resource.{Resource}
-use Rattle.vlm_records.specs.Shown.{IsPlaced, IsTallied, SameBut, but_armed, but_counted, but_in_armed, but_requeued, but_tally, handles_at, room_in, rows}
+use Rattle.vlm_records.specs.Shown.{IsPlaced, IsTallied, SameBut, but_armed, but_counted, but_in_armed, but_requeued, but_tally, handles_at, room_in, rows, share_of, tally_in}
 
 -- each lock and each resource shows what it showed, and both have the room that they had
 pub record Keeps (of_lock : Lock → Lock) (of_resource : Resource → Resource) (old new : Queues) : Type 0 where
@@ -30,6 +32,12 @@ pub record WritesCounts (old new : Queues) : Type 0 where
   pub loose : new.loose ≡ old.loose
   pub rest : SameBut but_tally old.resources new.resources
   pub resources_room : room_in new.resources ≡ room_in old.resources
+
+-- a lock at this place is counted with another row
+pub record Recounts (place : Place) (was now : Row) (old new : Slab Resource) : Type 0 where
+  pub change : (count : Count) (mode : Mode) (res : ℕ)
+      → how_many count (tally_in (get new res)) mode + share_of (weight_of count mode) place res was
+      ≡ how_many count (tally_in (get old res)) mode + share_of (weight_of count mode) place res now
 
 -- the record of one lock alone is written, and there what it holds and wants, or its place
 pub record WritesLock (at : ℕ) (old new : Queues) : Type 0 where

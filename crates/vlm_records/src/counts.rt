@@ -8,8 +8,8 @@ ghost use Rattle.vlm_words.specs.declared.resources.Queue.{Queue};
 ghost use Rattle.vlm_records.specs.declared.handles.Place.{Place};
 ghost use Rattle.vlm_tallies.specs.Tallies.{Count, how_many, is_mode, one_if, weight_of};
 ghost use Rattle.vlm_tallies.specs.Tallies.Count.{of_held};
-ghost use Rattle.vlm_records.specs.Kept.{WritesCounts};
-ghost use Rattle.vlm_records.specs.Shown.{IsPlaced, IsTallied, handles_but, handles_fit, rows, share_of, shares};
+ghost use Rattle.vlm_records.specs.Kept.{Recounts, WritesCounts};
+ghost use Rattle.vlm_records.specs.Shown.{IsPlaced, IsTallied, handles_but, handles_fit, noted, rows, share_of, shares};
 
 use crate::handles::{LockAt, Place, ResAt};
 use crate::locks::Lock;
@@ -63,6 +63,23 @@ impl Queues {
         let Lock { row, place, .. } = self.locks[at];
         if let Place::Queued(res, queue) = place {
             self.resources[res.slot()].tally.add(queue, &row.row());
+        }
+    }
+
+    /// Counts a lock out of the queue in which it stands, and in with another row.
+    pub(crate) fn recount(&mut self, at: usize, row: &StoredRow)
+        requires placed { IsPlaced self.old None }
+        requires present { ContainsKey self.old.locks at }
+        requires tallied { IsTallied self.old None }
+        ensures counts { WritesCounts self.old self.new }
+        ensures change { (place : Place) → noted self.old at ≡ Some place
+            → Recounts place (rows self.old at) row.now self.old.resources self.new.resources }
+    {
+        let lock = &self.locks[at];
+        if let Place::Queued(res, queue) = lock.place {
+            let tally = &mut self.resources[res.slot()].tally;
+            tally.remove(queue, &lock.row.row());
+            tally.add(queue, &row.row());
         }
     }
 

@@ -183,17 +183,20 @@ impl Queues {
         self.list(place).next(&self.locks, at).is_none()
     }
 
-    // Whether a lock is granted, last in its queue, and is to go to the end of that queue: its links stay.
-    fn stays(&self, at: usize, to: &Place) -> bool
+    // Whether a lock is granted, last in its queue, and is to go to the end of that queue, armed as it is: it
+    // keeps its links.
+    fn stays(&self, at: usize, row: &StoredRow, to: &Place) -> bool
         requires placed { IsPlaced self.now None }
         requires present { ContainsKey self.now.locks at }
         ensures noted { OnTrue result (noted self.now at ≡ Some to.now) }
         ensures last { OnTrue result (StandsLast self.now at) }
+        ensures armed { OnTrue result ((rows self.now at).armed ≡ row.now.armed) }
     {
-        is_same_grant(&self.locks[at].place, to) && self.is_last(at)
+        let lock = &self.locks[at];
+        is_same_grant(&lock.place, to) && lock.row.is_armed() == row.is_armed() && self.is_last(at)
     }
 
-    // Gives a lock another row where it stands. It is not among the armed ones of its resource.
+    // Gives a lock another row where it stands, but for the list of the armed ones of its resource.
     fn rewrite(&mut self, at: usize, row: &StoredRow)
         requires placed { IsPlaced self.old None }
         requires tallied { IsTallied self.old None }
@@ -201,14 +204,12 @@ impl Queues {
         requires named { named_row (rows self.old at) ≡ named_row row.now }
         ensures { Rewrites at row.now self.old self.new }
     {
-        self.count_out(at);
+        self.recount(at, row);
         self.write_row(at, row);
-        self.count_in(at);
     }
 
-    // Gives a lock another row, takes it off its list, and puts it at the end of one. It is not among the armed ones
-    // of its resource.
-    fn relink(&mut self, at: usize, row: &StoredRow, to: Place)
+    // Gives a lock another row, and puts it at the end of a list. It is not among the armed ones of its resource.
+    fn requeue(&mut self, at: usize, row: &StoredRow, to: Place)
         requires placed { IsPlaced self.old None }
         requires tallied { IsTallied self.old None }
         requires present { ContainsKey self.old.locks at }
@@ -222,23 +223,6 @@ impl Queues {
         self.write_row(at, row);
         self.put_at(at, to);
         self.count_in(at);
-    }
-
-    // Gives a lock another row, and puts it at the end of a list. It is not among the armed ones of its resource.
-    fn requeue(&mut self, at: usize, row: &StoredRow, to: Place)
-        requires placed { IsPlaced self.old None }
-        requires tallied { IsTallied self.old None }
-        requires present { ContainsKey self.old.locks at }
-        requires within { at ≤ LAST_HANDLE }
-        requires there { IsThere self.old.resources to }
-        requires named { named_row (rows self.old at) ≡ named_row row.now }
-        ensures { Requeues at row.now to self.old self.new }
-    {
-        if self.stays(at, &to) {
-            self.rewrite(at, row);
-        } else {
-            self.relink(at, row, to);
-        }
     }
 
     /// Gives a lock another row, and puts it at the end of a list.
@@ -257,9 +241,13 @@ impl Queues {
         ensures kept { Keeps but_queued but_queues self.old self.new }
         ensures line { SameBut line_links self.old.locks self.new.locks }
     {
-        self.leave_armed(at);
-        self.requeue(at, row, to);
-        self.join_armed(at);
+        if self.stays(at, row, &to) {
+            self.rewrite(at, row);
+        } else {
+            self.leave_armed(at);
+            self.requeue(at, row, to);
+            self.join_armed(at);
+        }
     }
 
     /// A lock is armed no more, and stays where it stands.
