@@ -1,5 +1,6 @@
 -- The armed locks of each resource: what stays, and what becomes of their lists as locks leave and join.
-use Rattle.std.proofs.Common.{◌≡◌, ◌≢◌, ℕ, List, [], ◌∷◌, ◌++◌, cond, true, false, Option, None, Some, refl, sym, ap, ◌∙◌, subst, inl, inr}
+use Rattle.std.proofs.Common.{◌≡◌, ◌≢◌, ℕ, List, [], ◌∷◌, ◌++◌, filter, cond, Bool, true, false, Option, None, Some, refl, sym, ap, ◌∙◌, subst, inl, inr}
+use Rattle.std.proofs.Math.Path.{fun_ext}
 use Rattle.std.proofs.lemmas.Bool.{cases_Bool, cases_eq}
 use Rattle.std.proofs.lemmas.List.Elements.{filter-append}
 use Rattle.std.proofs.lemmas.Option.{none-some, same_Some}
@@ -24,7 +25,7 @@ use Rattle.vlm_records.specs.declared.queues.Queues.{Queues}
 use Rattle.vlm_records.specs.declared.resources.Resource.{Resource}
 use Rattle.vlm_records.specs.Armed.{IsArmed, IsLast, StandsLast, armed_granted, armed_handles, armed_links, armed_list, armed_list_handles, armed_list_in, armed_on, granted_on, with_armed_links}
 use Rattle.vlm_records.specs.Families.{IsFamily}
-use Rattle.vlm_records.specs.Kept.{KeepsPlaces}
+use Rattle.vlm_records.specs.Kept.{KeepsPlaces, Rewrites}
 use Rattle.vlm_records.specs.Shown.{IsPlaced, IsTallied, IsThere, SameBut, but_armed, but_counted, but_in_armed, but_kin, but_lists, but_queued, but_queues, but_requeued, but_tally, handles_at, handles_but, list_at, list_in, noted_in, queue_links, row_in, rows, tally_in}
 use Rattle.vlm_tallies.specs.Tallies.{how_many, weight_of}
 use Rattle.vlm_records.proofs.Counting.{shares_same}
@@ -536,3 +537,21 @@ module _ (q : Queues) (locks1 : Slab Lock) (res : ℕ) (first was : Resource) (l
                 | inr differs ↦ order_elsewhere j differs
               ];
             }
+
+-- ---- a lock has another row where it stands, armed as it was
+armed_flags : (rows rows' : ℕ → Row) (ks : List ℕ) → ((k : ℕ) → (rows' k).armed ≡ (rows k).armed) → armed_handles rows' ks ≡ armed_handles rows ks
+armed_flags rows rows' ks same = ap (λ (armed : ℕ → Bool). filter armed ks) (fun_ext same)
+
+pub armed_rewritten : (q q' : Queues) (at : ℕ) (now : Row) → Rewrites at now q q' → (rows q at).armed ≡ now.armed → IsArmed q None → IsArmed q' None
+armed_rewritten q q' at now rewrites same armed =
+    armed_stays q q' None None armed (armed_lists q.resources q'.resources rewrites.kept.rest)
+    (λ res k _. by_part but_requeued (next_in armed_links) next-requeued (get q'.locks k) (get q.locks k) (rewrites.kept.kin k))
+    (λ res k _. by_part but_requeued (prev_in armed_links) prev-requeued (get q'.locks k) (get q.locks k) (rewrites.kept.kin k))
+    (λ res k _ there. there_by_part but_requeued (get q'.locks k) (get q.locks k) (rewrites.kept.kin k) there)
+    (λ res. ap (armed_handles (rows q')) (rewrites.handles (Queued res Granted)) ∙ armed_flags (rows q) (rows q') (handles_at q (Queued res Granted)) flags)
+  where
+    flags : (k : ℕ) → (rows q' k).armed ≡ (rows q k).armed
+    flags k = elim (cases_eq k at) [
+      | inl here ↦ ap (λ x. (rows q' x).armed) here ∙ ap (λ (r : Row). r.armed) rewrites.row ∙ sym same ∙ sym (ap (λ x. (rows q x).armed) here)
+      | inr differs ↦ ap (λ (r : Row). r.armed) (rewrites.rows k differs)
+    ]

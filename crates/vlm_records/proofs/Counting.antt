@@ -19,6 +19,7 @@ use Rattle.vlm_records.specs.declared.locks.Lock.{Lock}
 use Rattle.vlm_records.specs.declared.queues.Queues.{Queues}
 use Rattle.vlm_records.specs.declared.resources.Resource.{Resource}
 use Rattle.vlm_tallies.specs.declared.tallies.Tally.{Tally}
+use Rattle.vlm_records.specs.Kept.{Recounts}
 use Rattle.vlm_records.specs.Shown.{IsPlaced, IsTallied, SameBut, but_lists, handles_at, handles_but, list_at, noted, noted_in, queue_links, row_in, rows, share_of, shares, tally_in}
 use Rattle.vlm_tallies.specs.Tallies.{Count, counted_request, how_many, is_mode, one_if, total, weight_of}
 use Rattle.vlm_tallies.proofs.Totals.{total-length}
@@ -329,3 +330,55 @@ pub own_weighs : (q : Queues) (weight : Queue → Row → ℕ) (own : ℕ) (l : 
     → shares q weight None res ≡ shares q weight (Some own) res + share_of weight l.place res l.row
 own_weighs q weight own l placed here res =
     shares-out q weight own l.place placed (ap noted_in here) res ∙ ap (λ row. shares q weight (Some own) res + share_of weight l.place res row) (ap row_in here)
+
+-- the count of one resource changes
+tally_changed : (count : Tally → ℕ) (s : Slab Resource) (res : ℕ) (was now : Resource) (less more : ℕ) → ContainsKey s res → get s res ≡ Some was → count now.tally + less ≡ count was.tally + more → (r : ℕ)
+    → count (tally_in (get (with_value s res now) r)) + (if res == r then less else 0) ≡ count (tally_in (get s r)) + (if res == r then more else 0)
+tally_changed count s res was now less more there here change r =
+    let updates = Updates-with_value s res now there in
+    elim (cases_eq res r) [
+      | inl same ↦
+          rw (eq-eqb res r same)
+          (ap (λ x. count (tally_in x) + less) (ap (get (with_value s res now)) (sym same) ∙ updates.changed) ∙ change ∙ ap (λ x. count (tally_in x) + more) (sym here ∙ ap (get s) same))
+      | inr differs ↦ rw (ne_eqb res r differs) (ap (λ x. count (tally_in x) + 0) (updates.others r (λ e. differs (sym e))))
+    ]
+
+-- a lock is counted out, and in with another row
+module _ (q : Queues) (at res : ℕ) (queue : Queue) (l : Lock) (was : Resource) (mid new : Tally) (now : Row) (here : get q.locks at ≡ Some l) (is : l.place ≡ Queued res queue) (held : get q.resources res ≡ Some was)
+    (less : (count : Count) (mode : Mode) → how_many count mid mode + weight_of count mode queue l.row ≡ how_many count was.tally mode)
+    (more : (count : Count) (mode : Mode) → how_many count new mode ≡ how_many count mid mode + weight_of count mode queue now) where
+  abbrev counted : Slab Resource
+  counted = with_value q.resources res (record was { tally = new })
+
+  pub recounts : (place : Place) → noted q at ≡ Some place → Recounts place (rows q at) now q.resources counted
+  recounts place notes =
+      let there : ContainsKey q.resources res = rw held refl in
+      let same : Queued res queue ≡ place = same_Some (Queued res queue) place (sym (ap noted_in here ∙ ap Some is) ∙ notes) in
+      subst (λ p. Recounts p (rows q at) now q.resources counted) same
+      (subst (λ row. Recounts (Queued res queue) row now q.resources counted) (sym (ap row_in here))
+      (record {
+        change = λ count mode r.
+            tally_changed (λ t. how_many count t mode) q.resources res was (record was { tally = new }) (weight_of count mode queue l.row) (weight_of count mode queue now) there held
+            (omega (arith, less count mode, more count mode)) r;
+      }))
+
+-- a lock has another row where it stands, and is counted with it
+module _ (q q' : Queues) (at : ℕ) (now : Row) (placed : IsPlaced q None) (placed' : IsPlaced q' None) (there : ContainsKey q.locks at)
+    (handles : (p : Place) → handles_at q' p ≡ handles_at q p) (others : (k : ℕ) → k ≢ at → rows q' k ≡ rows q k) (here : rows q' at ≡ now) (notes : noted q' at ≡ noted q at) where
+  pub recounted : ((place : Place) → noted q at ≡ Some place → Recounts place (rows q at) now q.resources q'.resources) → IsTallied q None → IsTallied q' None
+  recounted recounts tallied = by_slot (get q.locks at) refl
+    where
+      by_slot : (slot : Option Lock) → get q.locks at ≡ slot → IsTallied q' None
+      by_slot None is = let no = rw is at there in cc
+      by_slot (Some l) is = record {
+        counts = λ count r mode.
+            omega (
+              arith,
+              (recounts l.place (ap noted_in is)).change count mode r,
+              tallied.counts count r mode,
+              shares-out q (weight_of count mode) at l.place placed (ap noted_in is) r,
+              shares-out q' (weight_of count mode) at l.place placed' (notes ∙ ap noted_in is) r,
+              ap (λ row. share_of (weight_of count mode) l.place r row) here,
+              shares_same q q' (weight_of count mode) (Some at) r handles (λ k differs. others k (λ e. differs (ap Some e))),
+            );
+      }

@@ -8,3 +8,4 @@ pub mod OwnLocks
 pub mod Packing
 pub mod Places
 pub mod Rooms
+pub mod Staying

@@ -230,6 +230,9 @@ noted_but_row : (slot : Option Lock) → noted_in (option_map but_row slot) ≡ 
 noted_but_row None = refl
 noted_but_row (Some l) = refl
 
+pub noted_written : (old new : Slab Lock) → SameBut but_row old new → (k : ℕ) → noted_in (get new k) ≡ noted_in (get old k)
+noted_written = through but_row noted_in noted_but_row
+
 next_but_row : (slot : Option Lock) → next_in queue_links (option_map but_row slot) ≡ next_in queue_links slot
 next_but_row None = refl
 next_but_row (Some l) = refl

@@ -1,11 +1,15 @@
 -- What stays as the locks of a resource leave their lists, join them and are counted.
-use Rattle.std.specs.Prelude.{◌≡◌, ◌≢◌, ℕ, None}
-use Rattle.slab.specs.Slab.{get}
+use Rattle.std.specs.Prelude.{◌≡◌, ◌≢◌, ◌+◌, ℕ, None, [], ◌∷◌, ◌++◌}
+use Rattle.slab.specs.Slab.{Slab, get}
+use Rattle.vlm_links.specs.Lists.{without}
+use Rattle.vlm_words.specs.declared.locks.Row.{Row}
+use Rattle.vlm_words.specs.declared.modes.Mode.{Mode}
+use Rattle.vlm_tallies.specs.Tallies.{Count, how_many, weight_of}
 use Rattle.vlm_records.specs.declared.handles.Place.{Place}
 use Rattle.vlm_records.specs.declared.locks.Lock.{Lock}
 use Rattle.vlm_records.specs.declared.queues.Queues.{Queues}
 use Rattle.vlm_records.specs.declared.resources.Resource.{Resource}
-use Rattle.vlm_records.specs.Shown.{IsPlaced, IsTallied, SameBut, but_armed, but_in_armed, but_requeued, but_tally, handles_at, room_in, rows}
+use Rattle.vlm_records.specs.Shown.{IsPlaced, IsTallied, SameBut, but_armed, but_counted, but_in_armed, but_requeued, but_tally, handles_at, room_in, rows, share_of, tally_in}
 
 -- each lock and each resource shows what it showed, and both have the room that they had
 pub record Keeps (of_lock : Lock → Lock) (of_resource : Resource → Resource) (old new : Queues) : Type 0 where
@@ -29,6 +33,12 @@ pub record WritesCounts (old new : Queues) : Type 0 where
   pub rest : SameBut but_tally old.resources new.resources
   pub resources_room : room_in new.resources ≡ room_in old.resources
 
+-- a lock at this place is counted with another row
+pub record Recounts (place : Place) (was now : Row) (old new : Slab Resource) : Type 0 where
+  pub change : (count : Count) (mode : Mode) (res : ℕ)
+      → how_many count (tally_in (get new res)) mode + share_of (weight_of count mode) place res was
+      ≡ how_many count (tally_in (get old res)) mode + share_of (weight_of count mode) place res now
+
 -- the record of one lock alone is written, and there what it holds and wants, or its place
 pub record WritesLock (at : ℕ) (old new : Queues) : Type 0 where
   pub others : (other : ℕ) → other ≢ at → get new.locks other ≡ get old.locks other
@@ -36,3 +46,22 @@ pub record WritesLock (at : ℕ) (old new : Queues) : Type 0 where
   pub resources : new.resources ≡ old.resources
   pub loose : new.loose ≡ old.loose
   pub locks_room : room_in new.locks ≡ room_in old.locks
+
+-- one lock has another row, and stands where it stood
+pub record Rewrites (at : ℕ) (now : Row) (old new : Queues) : Type 0 where
+  pub placed : IsPlaced new None
+  pub tallied : IsTallied new None
+  pub handles : (place : Place) → handles_at new place ≡ handles_at old place
+  pub row : rows new at ≡ now
+  pub rows : (other : ℕ) → other ≢ at → rows new other ≡ rows old other
+  pub kept : Keeps but_requeued but_counted old new
+
+-- one lock has another row, and stands at the end of a list
+pub record Requeues (at : ℕ) (now : Row) (to : Place) (old new : Queues) : Type 0 where
+  pub placed : IsPlaced new None
+  pub tallied : IsTallied new None
+  pub here : handles_at new to ≡ without at (handles_at old to) ++ at ∷ []
+  pub elsewhere : (other : Place) → other ≢ to → handles_at new other ≡ without at (handles_at old other)
+  pub row : rows new at ≡ now
+  pub rows : (other : ℕ) → other ≢ at → rows new other ≡ rows old other
+  pub kept : Keeps but_requeued but_counted old new

@@ -20,9 +20,7 @@ impl Queues {
         let Some(res) = self.locks[at].armed_on() else {
             return;
         };
-        let mut armed = self.resources[res.slot()].armed;
-        armed.unlink(&mut self.locks, at);
-        self.resources[res.slot()].armed = armed;
+        self.resources[res.slot()].armed.unlink(&mut self.locks, at);
     }
 
     /// Puts a lock that stands last in its list at the end of the armed locks of its resource, if it is
@@ -40,8 +38,8 @@ impl Queues {
         let Some(res) = self.locks[at].armed_on() else {
             return;
         };
-        let mut armed = self.resources[res.slot()].armed;
-        armed.push_back(&mut self.locks, at);
-        self.resources[res.slot()].armed = armed;
+        self.resources[res.slot()]
+            .armed
+            .push_back(&mut self.locks, at);
     }
 }

@@ -3,36 +3,38 @@
 ghost use Rattle.std.specs.Prelude.{◌≡◌, ◌≤◌, ◌+◌, None, Some};
 ghost use Rattle.std.specs.Option.{ForSome};
 ghost use Rattle.slab.specs.Slab.{ContainsKey};
+ghost use Rattle.vlm_words.specs.declared.modes.Mode.{Mode};
 ghost use Rattle.vlm_words.specs.declared.resources.Queue.{Queue};
 ghost use Rattle.vlm_records.specs.declared.handles.Place.{Place};
-ghost use Rattle.vlm_tallies.specs.Tallies.{Count, how_many, weight_of};
+ghost use Rattle.vlm_tallies.specs.Tallies.{Count, how_many, is_mode, one_if, weight_of};
 ghost use Rattle.vlm_tallies.specs.Tallies.Count.{of_held};
-ghost use Rattle.vlm_records.specs.Kept.{WritesCounts};
-ghost use Rattle.vlm_records.specs.Shown.{IsPlaced, IsTallied, handles_but, handles_fit, rows, share_of, shares};
+ghost use Rattle.vlm_records.specs.Kept.{Recounts, WritesCounts};
+ghost use Rattle.vlm_records.specs.Shown.{IsPlaced, IsTallied, handles_but, handles_fit, noted, rows, share_of, shares};
 
 use crate::handles::{LockAt, Place, ResAt};
 use crate::locks::Lock;
 use crate::queues::Queues;
+use crate::rows::StoredRow;
 use vlm_tallies::Tally;
-use vlm_words::locks::Row;
+use vlm_words::locks::Request;
 use vlm_words::modes::Mode;
 use vlm_words::resources::Queue;
 
-// The counts of a resource, without a lock that stands at this place.
-fn counted_out(mut tally: Tally, res: ResAt, place: Place, row: &Row) -> Tally
-    requires { (count : Count) (mode : Mode) → share_of (weight_of count mode) place res row.now
-        ≤ how_many count tally mode }
-    ensures { (mode : Mode) → how_many of_held result mode
-        + share_of (weight_of of_held mode) place res row.now ≡ how_many of_held tally mode }
+// What a lock that stands at this place holds on the resource, if it does.
+fn held_on(res: ResAt, place: &Place, row: &StoredRow) -> Option<Request>
+    ensures { (mode : Mode) → one_if (is_mode mode result)
+        ≡ share_of (weight_of of_held mode) place.now res row.now }
 {
-    let Place::Queued(at, queue) = place else {
-        return tally;
+    let Place::Queued(at, queue) = *place else {
+        return None;
     };
     if at != res {
-        return tally;
+        return None;
     }
-    tally.remove(queue, row);
-    tally
+    match queue {
+        Queue::Granted | Queue::Conversion => row.held(),
+        Queue::Waiting => None,
+    }
 }
 
 impl Queues {
@@ -64,7 +66,24 @@ impl Queues {
         }
     }
 
-    // The counts of a resource, without the lock that asks.
+    /// Counts a lock out of the queue in which it stands, and in with another row.
+    pub(crate) fn recount(&mut self, at: usize, row: &StoredRow)
+        requires placed { IsPlaced self.old None }
+        requires present { ContainsKey self.old.locks at }
+        requires tallied { IsTallied self.old None }
+        ensures counts { WritesCounts self.old self.new }
+        ensures change { (place : Place) → noted self.old at ≡ Some place
+            → Recounts place (rows self.old at) row.now self.old.resources self.new.resources }
+    {
+        let lock = &self.locks[at];
+        if let Place::Queued(res, queue) = lock.place {
+            let tally = &mut self.resources[res.slot()].tally;
+            tally.remove(queue, &lock.row.row());
+            tally.add(queue, &row.row());
+        }
+    }
+
+    // The counts of what the locks of a resource hold, without the lock that asks.
     fn tally_without(&self, res: ResAt, asking: Option<LockAt>) -> Tally
         requires placed { IsPlaced self.now None }
         requires tallied { IsTallied self.now None }
@@ -73,12 +92,14 @@ impl Queues {
         ensures { (mode : Mode) → how_many of_held result mode
             ≡ shares self.now (weight_of of_held mode) asking res }
     {
-        let tally = self.resources[res.slot()].tally;
+        let mut tally = self.resources[res.slot()].tally;
         match asking {
             None => tally,
             Some(asking) => {
-                let Lock { row, place, .. } = self.locks[asking.slot()];
-                counted_out(tally, res, place, &row.row())
+                let lock = &self.locks[asking.slot()];
+                let held = held_on(res, &lock.place, &lock.row);
+                tally.remove_held(&held);
+                tally
             }
         }
     }

@@ -25,9 +25,7 @@ pub fn leave_process(processes: &mut Slab<Process>, locks: &mut Slab<Lock>, at: 
     ensures processes_room { room_in processes.new ≡ room_in processes.old }
 {
     let owner = locks[at].owner.slot();
-    let mut own = processes[owner].own;
-    own.unlink(locks, at);
-    processes[owner].own = own;
+    processes[owner].own.unlink(locks, at);
 }
 
 /// Puts a new lock at the end of the locks of its process.
@@ -49,9 +47,7 @@ pub fn join_process(processes: &mut Slab<Process>, locks: &mut Slab<Lock>, at: u
     ensures processes_room { room_in processes.new ≡ room_in processes.old }
 {
     let owner = locks[at].owner.slot();
-    let mut own = processes[owner].own;
-    own.push_back(locks, at);
-    processes[owner].own = own;
+    processes[owner].own.push_back(locks, at);
 }
 
 /// Takes a lock off the locks below its parent, if it has one.

@@ -1,14 +1,15 @@
 //! The locks in their lists.
 
 ghost use Rattle.std.specs.Prelude.{◌≡◌, ◌≢◌, ◌≤◌, ◌+◌, ℕ, false, None, Some, [], ◌∷◌, ◌++◌};
+ghost use Rattle.std.specs.Bool.{OnTrue};
 ghost use Rattle.std.specs.Option.{option_map};
 ghost use Rattle.slab.specs.Slab.{get, ContainsKey, HasRoomFor};
-ghost use Rattle.vlm_links.specs.Lists.{Relinks, without};
+ghost use Rattle.vlm_links.specs.Lists.{IsIn, IsLinked, Lists, Relinks, without};
 ghost use Rattle.vlm_records.specs.declared.handles.Place.{Place};
-ghost use Rattle.vlm_records.specs.Armed.{IsLaidOut};
-ghost use Rattle.vlm_records.specs.Kept.{Keeps, WritesLock};
+ghost use Rattle.vlm_records.specs.Armed.{IsLaidOut, StandsLast};
+ghost use Rattle.vlm_records.specs.Kept.{Keeps, Requeues, Rewrites, WritesLock};
 ghost use Rattle.vlm_records.specs.Line.{line_links};
-ghost use Rattle.vlm_records.specs.Shown.{IsPlaced, IsTallied, IsThere, SameBut, but_counted, but_lists, but_place, but_queued, but_queues, but_requeued, but_row, handles_at, list_at, named_row, new_lock, noted, room_in, rows, with_queue_links};
+ghost use Rattle.vlm_records.specs.Shown.{IsPlaced, IsTallied, IsThere, SameBut, but_counted, but_lists, but_place, but_queued, but_queues, but_requeued, but_row, handles_at, list_at, named_row, new_lock, noted, queue_links, room_in, rows, with_queue_links};
 
 use crate::handles::{LockAt, Place, ProcAt};
 use crate::locks::{InQueue, Lock};
@@ -16,6 +17,7 @@ use crate::resources::Resource;
 use crate::rows::StoredRow;
 use slab::Slab;
 use vlm_links::{LAST_HANDLE, LinkedList, Links};
+use vlm_words::resources::Queue;
 
 /// The locks, each in one list: a queue of a resource, or that of the loose locks.
 #[derive(Drop)]
@@ -26,6 +28,19 @@ pub struct Queues {
     pub resources: Slab<Resource>,
     /// The locks that stand in no queue, in the order in which they joined.
     pub loose: LinkedList<InQueue>,
+}
+
+// Whether both places are the granted queue of one resource.
+fn is_same_grant(from: &Place, to: &Place) -> bool
+    ensures { OnTrue result (from.now ≡ to.now) }
+{
+    let Place::Queued(from, Queue::Granted) = *from else {
+        return false;
+    };
+    let Place::Queued(to, Queue::Granted) = *to else {
+        return false;
+    };
+    from == to
 }
 
 impl Queues {
@@ -42,19 +57,50 @@ impl Queues {
         }
     }
 
-    // Writes the list of a place.
-    fn set_list(&mut self, place: &Place, list: LinkedList<InQueue>)
-        requires { IsThere self.old.resources place.now }
-        ensures here { list_at self.new place.now ≡ list }
+    // Takes a lock off the list of a place.
+    fn unlink_from(&mut self, at: usize, place: &Place)
+        requires listed { Lists queue_links self.old.locks (list_at self.old place.now) at }
+        requires there { IsThere self.old.resources place.now }
+        ensures linked { IsLinked queue_links self.new.locks (list_at self.new place.now) }
+        ensures handles { handles_at self.new place.now ≡ without at (handles_at self.old place.now) }
+        ensures others { (other : ℕ) → ¬ IsIn other (handles_at self.old place.now)
+            → get self.new.locks other ≡ get self.old.locks other }
+        ensures relinks { Relinks with_queue_links self.old.locks self.new.locks }
         ensures elsewhere { (other : Place) → other ≢ place.now
             → list_at self.new other ≡ list_at self.old other }
-        ensures locks { self.new.locks ≡ self.old.locks }
         ensures rest { SameBut but_lists self.old.resources self.new.resources }
         ensures resources_room { room_in self.new.resources ≡ room_in self.old.resources }
     {
         match *place {
-            Place::Loose => self.loose = list,
-            Place::Queued(res, queue) => self.resources[res.slot()].set_list(queue, list),
+            Place::Loose => self.loose.unlink(&mut self.locks, at),
+            Place::Queued(res, queue) => {
+                self.resources[res.slot()].unlink(&mut self.locks, queue, at)
+            }
+        }
+    }
+
+    // Puts a lock that is in no list at the end of that of a place.
+    fn link_to(&mut self, at: usize, place: &Place)
+        requires linked { IsLinked queue_links self.old.locks (list_at self.old place.now) }
+        requires present { ContainsKey self.old.locks at }
+        requires within { at ≤ LAST_HANDLE }
+        requires unlisted { ¬ IsIn at (handles_at self.old place.now) }
+        requires there { IsThere self.old.resources place.now }
+        ensures linked { IsLinked queue_links self.new.locks (list_at self.new place.now) }
+        ensures handles { handles_at self.new place.now ≡ handles_at self.old place.now ++ at ∷ [] }
+        ensures others { (other : ℕ) → ¬ IsIn other (handles_at self.old place.now)
+            → other ≢ at → get self.new.locks other ≡ get self.old.locks other }
+        ensures relinks { Relinks with_queue_links self.old.locks self.new.locks }
+        ensures elsewhere { (other : Place) → other ≢ place.now
+            → list_at self.new other ≡ list_at self.old other }
+        ensures rest { SameBut but_lists self.old.resources self.new.resources }
+        ensures resources_room { room_in self.new.resources ≡ room_in self.old.resources }
+    {
+        match *place {
+            Place::Loose => self.loose.push_back(&mut self.locks, at),
+            Place::Queued(res, queue) => {
+                self.resources[res.slot()].push_back(&mut self.locks, queue, at)
+            }
         }
     }
 
@@ -69,9 +115,7 @@ impl Queues {
         ensures kept { Keeps but_requeued but_lists self.old self.new }
     {
         let place = self.locks[at].place;
-        let mut list = self.list(place);
-        list.unlink(&mut self.locks, at);
-        self.set_list(&place, list);
+        self.unlink_from(at, &place);
     }
 
     // Puts a lock that is in no list at the end of that of the place that it notes.
@@ -88,9 +132,7 @@ impl Queues {
         ensures rows { (other : ℕ) → rows self.new other ≡ rows self.old other }
         ensures kept { Keeps but_requeued but_lists self.old self.new }
     {
-        let mut list = self.list(*place);
-        list.push_back(&mut self.locks, at);
-        self.set_list(place, list);
+        self.link_to(at, place);
     }
 
     // Puts a lock that is in no list at the end of one.
@@ -131,6 +173,41 @@ impl Queues {
         self.locks[at].row = *row;
     }
 
+    // Whether a lock stands last at the place that it notes.
+    fn is_last(&self, at: usize) -> bool
+        requires placed { IsPlaced self.now None }
+        requires present { ContainsKey self.now.locks at }
+        ensures { OnTrue result (StandsLast self.now at) }
+    {
+        let place = self.locks[at].place;
+        self.list(place).next(&self.locks, at).is_none()
+    }
+
+    // Whether a lock is granted, last in its queue, and is to go to the end of that queue, armed as it is: it
+    // keeps its links.
+    fn stays(&self, at: usize, row: &StoredRow, to: &Place) -> bool
+        requires placed { IsPlaced self.now None }
+        requires present { ContainsKey self.now.locks at }
+        ensures noted { OnTrue result (noted self.now at ≡ Some to.now) }
+        ensures last { OnTrue result (StandsLast self.now at) }
+        ensures armed { OnTrue result ((rows self.now at).armed ≡ row.now.armed) }
+    {
+        let lock = &self.locks[at];
+        is_same_grant(&lock.place, to) && lock.row.is_armed() == row.is_armed() && self.is_last(at)
+    }
+
+    // Gives a lock another row where it stands, but for the list of the armed ones of its resource.
+    fn rewrite(&mut self, at: usize, row: &StoredRow)
+        requires placed { IsPlaced self.old None }
+        requires tallied { IsTallied self.old None }
+        requires present { ContainsKey self.old.locks at }
+        requires named { named_row (rows self.old at) ≡ named_row row.now }
+        ensures { Rewrites at row.now self.old self.new }
+    {
+        self.recount(at, row);
+        self.write_row(at, row);
+    }
+
     // Gives a lock another row, and puts it at the end of a list. It is not among the armed ones of its resource.
     fn requeue(&mut self, at: usize, row: &StoredRow, to: Place)
         requires placed { IsPlaced self.old None }
@@ -139,14 +216,7 @@ impl Queues {
         requires within { at ≤ LAST_HANDLE }
         requires there { IsThere self.old.resources to }
         requires named { named_row (rows self.old at) ≡ named_row row.now }
-        ensures placed { IsPlaced self.new None }
-        ensures tallied { IsTallied self.new None }
-        ensures here { handles_at self.new to ≡ without at (handles_at self.old to) ++ at ∷ [] }
-        ensures elsewhere { (other : Place) → other ≢ to
-            → handles_at self.new other ≡ without at (handles_at self.old other) }
-        ensures row { rows self.new at ≡ row.now }
-        ensures rows { (other : ℕ) → other ≢ at → rows self.new other ≡ rows self.old other }
-        ensures kept { Keeps but_requeued but_counted self.old self.new }
+        ensures { Requeues at row.now to self.old self.new }
     {
         self.count_out(at);
         self.take_off(at);
@@ -171,9 +241,13 @@ impl Queues {
         ensures kept { Keeps but_queued but_queues self.old self.new }
         ensures line { SameBut line_links self.old.locks self.new.locks }
     {
-        self.leave_armed(at);
-        self.requeue(at, row, to);
-        self.join_armed(at);
+        if self.stays(at, row, &to) {
+            self.rewrite(at, row);
+        } else {
+            self.leave_armed(at);
+            self.requeue(at, row, to);
+            self.join_armed(at);
+        }
     }
 
     /// A lock is armed no more, and stays where it stands.
@@ -188,10 +262,8 @@ impl Queues {
         ensures line { SameBut line_links self.old.locks self.new.locks }
     {
         self.leave_armed(at);
-        self.count_out(at);
         let row = self.locks[at].row.disarmed();
-        self.write_row(at, &row);
-        self.count_in(at);
+        self.rewrite(at, &row);
     }
 
     /// Adds a lock at the end of a list, which is not yet among those of its process and its parent. There

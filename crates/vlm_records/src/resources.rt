@@ -3,14 +3,15 @@
 ghost use Rattle.std.specs.Prelude.{◌≡◌, ◌≢◌, ◌≤◌, ◌+◌, ℕ, None, Some, [], ◌∷◌, ◌++◌, refl};
 ghost use Rattle.std.specs.Option.{option_map};
 ghost use Rattle.slab.specs.Slab.{get, ContainsKey, HasRoomFor};
-ghost use Rattle.vlm_links.specs.Lists.{IsIn, IsLinked, handles_of, without};
+ghost use Rattle.vlm_links.specs.Lists.{IsIn, IsLinked, Lists, Relinks, handles_of, without};
 ghost use Rattle.vlm_words.specs.declared.resources.Queue.{Queue};
 ghost use Rattle.vlm_records.specs.declared.handles.Place.{Place};
 ghost use Rattle.vlm_records.specs.Armed.{IsLaidOut};
 ghost use Rattle.vlm_records.specs.Shown.{SameBut, but_value_block, face_in, face_of, handles_at, new_face, order_links, room_in};
 
-use crate::locks::{InArmed, InQueue};
+use crate::locks::{InArmed, InQueue, Lock};
 use crate::queues::Queues;
+use slab::Slab;
 use vlm_links::{LAST_HANDLE, Linked, LinkedList, Links};
 use vlm_tallies::Tally;
 use vlm_words::resources::{Domain, Key, Queue, Site, ValueBlock};
@@ -68,7 +69,7 @@ impl Linked<InOrder> for Resource {
 }
 
 impl Resource {
-    ghost use Rattle.vlm_records.specs.Shown.{queue_list, with_queue_list};
+    ghost use Rattle.vlm_records.specs.Shown.{queue_links, queue_list, with_queue_links, with_queue_list};
 
     /// The list of a queue.
     pub(crate) fn list(&self, queue: Queue) -> LinkedList<InQueue>
@@ -81,14 +82,44 @@ impl Resource {
         }
     }
 
-    /// Writes the list of a queue.
-    pub(crate) fn set_list(&mut self, queue: Queue, list: LinkedList<InQueue>)
-        ensures { self.new ≡ with_queue_list queue list self.old }
+    /// Takes a lock off a queue.
+    pub(crate) fn unlink(&mut self, locks: &mut Slab<Lock>, queue: Queue, at: usize)
+        requires { Lists queue_links locks.old (queue_list queue self.old) at }
+        ensures linked { IsLinked queue_links locks.new (queue_list queue self.new) }
+        ensures handles { handles_of queue_links locks.new (queue_list queue self.new)
+            ≡ without at (handles_of queue_links locks.old (queue_list queue self.old)) }
+        ensures others { (other : ℕ)
+            → ¬ IsIn other (handles_of queue_links locks.old (queue_list queue self.old))
+            → get locks.new other ≡ get locks.old other }
+        ensures relinks { Relinks with_queue_links locks.old locks.new }
+        ensures rest { self.new ≡ with_queue_list queue (queue_list queue self.new) self.old }
     {
         match queue {
-            Queue::Granted => self.granted = list,
-            Queue::Conversion => self.converting = list,
-            Queue::Waiting => self.waiting = list,
+            Queue::Granted => self.granted.unlink(locks, at),
+            Queue::Conversion => self.converting.unlink(locks, at),
+            Queue::Waiting => self.waiting.unlink(locks, at),
+        }
+    }
+
+    /// Puts a lock that is in no list at the end of a queue.
+    pub(crate) fn push_back(&mut self, locks: &mut Slab<Lock>, queue: Queue, at: usize)
+        requires linked { IsLinked queue_links locks.old (queue_list queue self.old) }
+        requires present { ContainsKey locks.old at }
+        requires within { at ≤ LAST_HANDLE }
+        requires unlisted { ¬ IsIn at (handles_of queue_links locks.old (queue_list queue self.old)) }
+        ensures linked { IsLinked queue_links locks.new (queue_list queue self.new) }
+        ensures handles { handles_of queue_links locks.new (queue_list queue self.new)
+            ≡ handles_of queue_links locks.old (queue_list queue self.old) ++ at ∷ [] }
+        ensures others { (other : ℕ)
+            → ¬ IsIn other (handles_of queue_links locks.old (queue_list queue self.old))
+            → other ≢ at → get locks.new other ≡ get locks.old other }
+        ensures relinks { Relinks with_queue_links locks.old locks.new }
+        ensures rest { self.new ≡ with_queue_list queue (queue_list queue self.new) self.old }
+    {
+        match queue {
+            Queue::Granted => self.granted.push_back(locks, at),
+            Queue::Conversion => self.converting.push_back(locks, at),
+            Queue::Waiting => self.waiting.push_back(locks, at),
         }
     }
 }

@@ -123,6 +123,15 @@ impl Tally {
         }
     }
 
+    /// Counts out what a lock holds, and not what it wants, nor that it is armed.
+    pub fn remove_held(&mut self, held: &Option<Request>)
+        requires { (mode : Mode) → one_if (is_mode mode held.now) ≤ how_many of_held self.old mode }
+        ensures { (mode : Mode) → how_many of_held self.new mode + one_if (is_mode mode held.now)
+            ≡ how_many of_held self.old mode }
+    {
+        count_out(&mut self.held, held);
+    }
+
     /// How many locks hold each mode, from NL to EX.
     pub fn held(&self) -> [u32; 6]
         ensures { result ≡ by_mode (how_many of_held self.now) }

@@ -6,12 +6,12 @@ use Rattle.vlm_records.specs.Kin.{own_in, own_links, owner_in, with_own_links}
 use Rattle.vlm_records.proofs.OwnLocks.{owner_there, process_left, process_left_handles}
 use Rattle.vlm_records.proofs.kin.leave_process.Goals as goal
 
-pub index-requires-2 : goal.index-requires-2
-index-requires-2 c = rw c.slot-owner.ensures (owner_there c.args.processes.now c.args.locks.now c.requires.owned c.args.at c.index.result.now.owner (ap owner_in c.index.ensures))
+pub index_mut-requires : goal.index_mut-requires
+index_mut-requires c = rw c.slot-owner.ensures (owner_there c.args.processes.now c.args.locks.now c.requires.owned c.args.at c.index.result.now.owner (ap owner_in c.index.ensures))
 
 pub unlink-requires : goal.unlink-requires
 unlink-requires c =
-    subst (λ l. Lists own_links c.args.locks.now l c.args.at) (ap own_in (rw c.slot-owner.ensures at c.index-2.ensures))
+    subst (λ l. Lists own_links c.args.locks.now l c.args.at) (ap own_in (rw c.slot-owner.ensures at c.index_mut.ensures.value))
     (record {
       linked = c.requires.owned.linked c.index.result.now.owner;
       listed = c.requires.owned.stands c.index.result.now.owner c.args.at (λ e. none-some c.args.at (sym e)) (ap owner_in c.index.ensures);
@@ -20,17 +20,17 @@ unlink-requires c =
 pub returns-clause-owned : goal.returns-clause-owned
 returns-clause-owned c =
     rw c.slot-owner.ensures
-    (process_left c.args.processes.now c.args.locks.now c.unlink.new.nodes c.args.at c.index.result.now.owner c.index-2.result.now c.index_mut.result.now c.unlink.new.self (rw c.slot-owner.ensures at c.index-2.ensures) (rw c.slot-owner.ensures at c.index_mut.ensures.value)
+    (process_left c.args.processes.now c.args.locks.now c.unlink.new.nodes c.args.at c.index.result.now.owner c.index_mut.result.now c.index_mut.result.now c.unlink.new.self (rw c.slot-owner.ensures at c.index_mut.ensures.value) (rw c.slot-owner.ensures at c.index_mut.ensures.value)
     c.unlink.ensures.relinks c.unlink.ensures.linked c.requires.owned (ap owner_in c.index.ensures) c.unlink.ensures.handles c.unlink.ensures.others)
 
 pub returns-clause-handles : goal.returns-clause-handles
 returns-clause-handles c =
     rw c.slot-owner.ensures
-    (process_left_handles c.args.processes.now c.args.locks.now c.unlink.new.nodes c.args.at c.index.result.now.owner c.index-2.result.now c.index_mut.result.now c.unlink.new.self (rw c.slot-owner.ensures at c.index-2.ensures) (rw c.slot-owner.ensures at c.index_mut.ensures.value)
+    (process_left_handles c.args.processes.now c.args.locks.now c.unlink.new.nodes c.args.at c.index.result.now.owner c.index_mut.result.now c.index_mut.result.now c.unlink.new.self (rw c.slot-owner.ensures at c.index_mut.ensures.value) (rw c.slot-owner.ensures at c.index_mut.ensures.value)
     c.unlink.ensures.relinks c.unlink.ensures.linked c.requires.owned (ap owner_in c.index.ensures) c.unlink.ensures.handles c.unlink.ensures.others)
 
 pub returns-clause-locks_room : goal.returns-clause-locks_room
 returns-clause-locks_room c = room_relinked with_own_links c.args.locks.now c.unlink.new.nodes c.unlink.ensures.relinks
 
 pub returns-clause-processes_room : goal.returns-clause-processes_room
-returns-clause-processes_room c = room_written c.args.processes.now c.slot-owner.result _ (rw c.index-2.ensures refl)
+returns-clause-processes_room c = room_written c.args.processes.now c.slot-owner.result _ (rw c.index_mut.ensures.value refl)

@@ -9,26 +9,26 @@ pub returns-in_default-clause-armed : goal.returns-in_default-clause-armed
 returns-in_default-clause-armed c = unarmed_joined c.args.self.now c.args.at c.requires.placed (ap armed_on c.index.ensures ∙ sym c.armed_on.ensures ∙ c.in_default.is) c.requires.armed
 
 -- it is
-pub index-requires-2 : goal.index-requires-2
-index-requires-2 c = rw c.slot.ensures (armed_resource c.args.self.now c.args.at c.in-Some.res c.requires.placed (ap armed_on c.index.ensures ∙ sym c.armed_on.ensures ∙ c.in-Some.is))
+pub index_mut-requires : goal.index_mut-requires
+index_mut-requires c = rw c.slot.ensures (armed_resource c.args.self.now c.args.at c.in-Some.res c.requires.placed (ap armed_on c.index.ensures ∙ sym c.armed_on.ensures ∙ c.in-Some.is))
 
 pub push_back-requires-clause-unlisted : goal.push_back-requires-clause-unlisted
 push_back-requires-clause-unlisted c found =
     out_unlisted c.args.self.now c.args.at c.requires.armed c.in-Some.res
-    (subst (λ l. IsIn c.args.at (handles_of armed_links c.args.self.now.locks l)) (sym (ap armed_list_in (rw c.slot.ensures at c.index-2.ensures))) found)
+    (subst (λ l. IsIn c.args.at (handles_of armed_links c.args.self.now.locks l)) (sym (ap armed_list_in (rw c.slot.ensures at c.index_mut.ensures.value))) found)
 
 pub returns-clause-armed : goal.returns-clause-armed
 returns-clause-armed c =
-    rw c.slot-2.ensures
-    (relisted_joined c.args.self.now c.push_back.new.nodes c.in-Some.res c.index-2.result.now c.index_mut.result.now c.push_back.new.self
-    (rw c.slot.ensures at c.index-2.ensures) (rw c.slot-2.ensures at c.index_mut.ensures.value) c.push_back.ensures.relinks c.requires.placed
+    rw c.slot.ensures
+    (relisted_joined c.args.self.now c.push_back.new.nodes c.in-Some.res c.index_mut.result.now c.index_mut.result.now c.push_back.new.self
+    (rw c.slot.ensures at c.index_mut.ensures.value) (rw c.slot.ensures at c.index_mut.ensures.value) c.push_back.ensures.relinks c.requires.placed
     c.args.at c.push_back.ensures.linked (ap armed_on c.index.ensures ∙ sym c.armed_on.ensures ∙ c.in-Some.is) c.requires.armed c.push_back.ensures.handles c.push_back.ensures.others c.requires.last)
 
 pub returns-clause-places : goal.returns-clause-places
 returns-clause-places c =
-    rw c.slot-2.ensures
-    (relisted_places c.args.self.now c.push_back.new.nodes c.in-Some.res c.index-2.result.now c.index_mut.result.now c.push_back.new.self
-    (rw c.slot.ensures at c.index-2.ensures) (rw c.slot-2.ensures at c.index_mut.ensures.value) c.push_back.ensures.relinks c.requires.placed c.requires.tallied)
+    rw c.slot.ensures
+    (relisted_places c.args.self.now c.push_back.new.nodes c.in-Some.res c.index_mut.result.now c.index_mut.result.now c.push_back.new.self
+    (rw c.slot.ensures at c.index_mut.ensures.value) (rw c.slot.ensures at c.index_mut.ensures.value) c.push_back.ensures.relinks c.requires.placed c.requires.tallied)
 
 pub returns-in_default-clause-places : goal.returns-in_default-clause-places
 returns-in_default-clause-places c = same_places c.args.self.now c.requires.placed c.requires.tallied

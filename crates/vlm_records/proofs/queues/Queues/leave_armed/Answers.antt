@@ -10,13 +10,13 @@ pub returns-in_default-clause-armed : goal.returns-in_default-clause-armed
 returns-in_default-clause-armed c = unarmed_left c.args.self.now c.args.at c.requires.laid_out.placed (ap armed_on c.index.ensures ∙ sym c.armed_on.ensures ∙ c.in_default.is) c.requires.laid_out.armed
 
 -- it is
-pub index-requires-2 : goal.index-requires-2
-index-requires-2 c = rw c.slot.ensures (armed_resource c.args.self.now c.args.at c.in-Some.res c.requires.laid_out.placed (ap armed_on c.index.ensures ∙ sym c.armed_on.ensures ∙ c.in-Some.is))
+pub index_mut-requires : goal.index_mut-requires
+index_mut-requires c = rw c.slot.ensures (armed_resource c.args.self.now c.args.at c.in-Some.res c.requires.laid_out.placed (ap armed_on c.index.ensures ∙ sym c.armed_on.ensures ∙ c.in-Some.is))
 
 pub unlink-requires : goal.unlink-requires
 unlink-requires c =
     let family = armed_family c.args.self.now None c.requires.laid_out.placed c.requires.laid_out.armed in
-    subst (λ l. Lists armed_links c.args.self.now.locks l c.args.at) (ap armed_list_in (rw c.slot.ensures at c.index-2.ensures))
+    subst (λ l. Lists armed_links c.args.self.now.locks l c.args.at) (ap armed_list_in (rw c.slot.ensures at c.index_mut.ensures.value))
     (record {
       linked = c.requires.laid_out.armed.linked c.in-Some.res;
       listed = family.stands c.in-Some.res c.args.at (λ e. none-some c.args.at (sym e)) (ap armed_on c.index.ensures ∙ sym c.armed_on.ensures ∙ c.in-Some.is);
@@ -24,16 +24,16 @@ unlink-requires c =
 
 pub returns-clause-armed : goal.returns-clause-armed
 returns-clause-armed c =
-    rw c.slot-2.ensures
-    (relisted_left c.args.self.now c.unlink.new.nodes c.in-Some.res c.index-2.result.now c.index_mut.result.now c.unlink.new.self
-    (rw c.slot.ensures at c.index-2.ensures) (rw c.slot-2.ensures at c.index_mut.ensures.value) c.unlink.ensures.relinks c.requires.laid_out.placed
+    rw c.slot.ensures
+    (relisted_left c.args.self.now c.unlink.new.nodes c.in-Some.res c.index_mut.result.now c.index_mut.result.now c.unlink.new.self
+    (rw c.slot.ensures at c.index_mut.ensures.value) (rw c.slot.ensures at c.index_mut.ensures.value) c.unlink.ensures.relinks c.requires.laid_out.placed
     c.args.at c.unlink.ensures.linked (ap armed_on c.index.ensures ∙ sym c.armed_on.ensures ∙ c.in-Some.is) c.requires.laid_out.armed c.unlink.ensures.handles c.unlink.ensures.others)
 
 pub returns-clause-places : goal.returns-clause-places
 returns-clause-places c =
-    rw c.slot-2.ensures
-    (relisted_places c.args.self.now c.unlink.new.nodes c.in-Some.res c.index-2.result.now c.index_mut.result.now c.unlink.new.self
-    (rw c.slot.ensures at c.index-2.ensures) (rw c.slot-2.ensures at c.index_mut.ensures.value) c.unlink.ensures.relinks c.requires.laid_out.placed c.requires.laid_out.tallied)
+    rw c.slot.ensures
+    (relisted_places c.args.self.now c.unlink.new.nodes c.in-Some.res c.index_mut.result.now c.index_mut.result.now c.unlink.new.self
+    (rw c.slot.ensures at c.index_mut.ensures.value) (rw c.slot.ensures at c.index_mut.ensures.value) c.unlink.ensures.relinks c.requires.laid_out.placed c.requires.laid_out.tallied)
 
 pub returns-in_default-clause-places : goal.returns-in_default-clause-places
 returns-in_default-clause-places c = same_places c.args.self.now c.requires.laid_out.placed c.requires.laid_out.tallied

@@ -2,10 +2,34 @@ use Rattle.std.proofs.Common.{◌∙◌, ◌++◌, ◌∷◌, [], Some, ap}
 use Rattle.slab.specs.Slab.{get}
 use Rattle.vlm_links.specs.Lists.{without}
 use Rattle.vlm_records.specs.Shown.{but_armed, but_in_armed, but_requeued, named_row}
-use Rattle.vlm_records.proofs.Arming.{armed_but_one, armed_lists, armed_queues, counted_queues, in_armed_is, out_unlisted, place_still, requeued_granted, requeued_is, requeued_last}
+use Rattle.vlm_records.proofs.Arming.{armed_but_one, armed_lists, armed_queues, armed_rewritten, counted_queues, in_armed_is, out_unlisted, place_still, requeued_granted, requeued_is, requeued_last}
 use Rattle.vlm_records.proofs.Places.{there_through}
+use Rattle.vlm_records.proofs.Staying.{stayed_elsewhere, stayed_here}
 use Rattle.vlm_records.proofs.queues.Queues.move_to.Goals as goal
 
+-- it keeps its links
+pub returns-then-stays-clause-laid_out : goal.returns-then-stays-clause-laid_out
+returns-then-stays-clause-laid_out c = record {
+  placed = c.rewrite.ensures.placed;
+  tallied = c.rewrite.ensures.tallied;
+  armed = armed_rewritten c.args.self.now c.rewrite.new.self c.args.at c.args.row.now c.rewrite.ensures c.if-stays.ensures.armed c.requires.laid_out.armed;
+}
+
+pub returns-then-stays-clause-here : goal.returns-then-stays-clause-here
+returns-then-stays-clause-here c = stayed_here c.args.self.now c.args.at c.args.to c.if-stays.ensures.noted c.if-stays.ensures.last c.rewrite.new.self c.rewrite.ensures.handles
+
+pub returns-then-stays-clause-elsewhere : goal.returns-then-stays-clause-elsewhere
+returns-then-stays-clause-elsewhere c = stayed_elsewhere c.args.self.now c.args.at c.args.to c.if-stays.ensures.noted c.rewrite.new.self c.rewrite.ensures.handles c.requires.laid_out.placed
+
+pub returns-then-stays-clause-kept : goal.returns-then-stays-clause-kept
+returns-then-stays-clause-kept c = record {
+  kin = λ k. requeued_is (get c.rewrite.new.self.locks k) (get c.args.self.now.locks k) (c.rewrite.ensures.kept.kin k);
+  rest = counted_queues c.args.self.now.resources c.rewrite.new.self.resources c.rewrite.ensures.kept.rest;
+  locks_room = c.rewrite.ensures.kept.locks_room;
+  resources_room = c.rewrite.ensures.kept.resources_room;
+}
+
+-- it is linked anew
 pub requeue-requires-clause-present : goal.requeue-requires-clause-present
 requeue-requires-clause-present c = there_through but_in_armed c.args.self.now.locks c.leave_armed.new.self.locks c.leave_armed.ensures.places.records.kin c.args.at c.requires.present
 
@@ -33,14 +57,14 @@ join_armed-requires-clause-last c =
     let moved = c.requeue.ensures in
     requeued_last c.leave_armed.new.self c.requeue.new.self c.args.at moved.rows c.args.to moved.here moved.elsewhere moved.placed
 
-pub returns-clause-here : goal.returns-clause-here
-returns-clause-here c = c.join_armed.ensures.places.handles c.args.to ∙ c.requeue.ensures.here ∙ ap (λ ks. without c.args.at ks ++ c.args.at ∷ []) (c.leave_armed.ensures.places.handles c.args.to)
+pub returns-else-stays-clause-here : goal.returns-else-stays-clause-here
+returns-else-stays-clause-here c = c.join_armed.ensures.places.handles c.args.to ∙ c.requeue.ensures.here ∙ ap (λ ks. without c.args.at ks ++ c.args.at ∷ []) (c.leave_armed.ensures.places.handles c.args.to)
 
-pub returns-clause-elsewhere : goal.returns-clause-elsewhere
-returns-clause-elsewhere c p differs = c.join_armed.ensures.places.handles p ∙ c.requeue.ensures.elsewhere p differs ∙ ap (without c.args.at) (c.leave_armed.ensures.places.handles p)
+pub returns-else-stays-clause-elsewhere : goal.returns-else-stays-clause-elsewhere
+returns-else-stays-clause-elsewhere c p differs = c.join_armed.ensures.places.handles p ∙ c.requeue.ensures.elsewhere p differs ∙ ap (without c.args.at) (c.leave_armed.ensures.places.handles p)
 
-pub returns-clause-kept : goal.returns-clause-kept
-returns-clause-kept c = record {
+pub returns-else-stays-clause-kept : goal.returns-else-stays-clause-kept
+returns-else-stays-clause-kept c = record {
   kin = λ k.
       let q = c.args.self.now.locks in
       let q1 = c.leave_armed.new.self.locks in
@@ -57,8 +81,8 @@ returns-clause-kept c = record {
   resources_room = c.join_armed.ensures.places.records.resources_room ∙ c.requeue.ensures.kept.resources_room ∙ c.leave_armed.ensures.places.records.resources_room;
 }
 
-pub returns-clause-laid_out : goal.returns-clause-laid_out
-returns-clause-laid_out c = record {
+pub returns-else-stays-clause-laid_out : goal.returns-else-stays-clause-laid_out
+returns-else-stays-clause-laid_out c = record {
   placed = c.join_armed.ensures.places.placed;
   tallied = c.join_armed.ensures.places.tallied;
   armed = c.join_armed.ensures.armed;

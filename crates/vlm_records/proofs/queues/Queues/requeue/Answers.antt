@@ -24,35 +24,36 @@ count_in-requires-clause-tallied c =
     (λ k differs. ap row_in (c.write_row.ensures.lock.others k differs)) tallied1 in
     tallied_put c.write_row.new.self c.put_at.new.self c.args.at c.args.to placed2 c.put_at.ensures.here c.put_at.ensures.elsewhere c.put_at.ensures.rows c.put_at.ensures.kept.rest tallied2
 
-pub returns-clause-placed : goal.returns-clause-placed
-returns-clause-placed c =
-    counted_placed c.put_at.new.self c.count_in.new.self None c.put_at.ensures.placed c.count_in.ensures.counts.rest c.count_in.ensures.counts.loose c.count_in.ensures.counts.locks
-
-pub returns-clause-here : goal.returns-clause-here
-returns-clause-here c =
-    counted_handles c.put_at.new.self c.count_in.new.self None c.put_at.ensures.placed c.count_in.ensures.counts.rest c.count_in.ensures.counts.loose c.count_in.ensures.counts.locks c.args.to
-    ∙ c.put_at.ensures.here
-    ∙ ap (λ ks. ks ++ c.args.at ∷ [])
-    (written_handles c.take_off.new.self c.write_row.new.self (Some c.args.at) c.take_off.ensures.placed c.write_row.ensures.rest c.write_row.ensures.lock.resources c.write_row.ensures.lock.loose c.args.to
-    ∙ c.take_off.ensures.handles c.args.to
-    ∙ ap (without c.args.at)
-    (counted_handles c.args.self.now c.count_out.new.self None c.requires.placed c.count_out.ensures.counts.rest c.count_out.ensures.counts.loose c.count_out.ensures.counts.locks c.args.to))
-
-pub returns-clause-elsewhere : goal.returns-clause-elsewhere
-returns-clause-elsewhere c p differs =
-    counted_handles c.put_at.new.self c.count_in.new.self None c.put_at.ensures.placed c.count_in.ensures.counts.rest c.count_in.ensures.counts.loose c.count_in.ensures.counts.locks p
-    ∙ c.put_at.ensures.elsewhere p differs
-    ∙ written_handles c.take_off.new.self c.write_row.new.self (Some c.args.at) c.take_off.ensures.placed c.write_row.ensures.rest c.write_row.ensures.lock.resources c.write_row.ensures.lock.loose p
-    ∙ c.take_off.ensures.handles p
-    ∙ ap (without c.args.at)
-    (counted_handles c.args.self.now c.count_out.new.self None c.requires.placed c.count_out.ensures.counts.rest c.count_out.ensures.counts.loose c.count_out.ensures.counts.locks p)
-
-pub returns-clause-kept : goal.returns-clause-kept
-returns-clause-kept c = record {
-  kin = search rules;
-  rest = search rules;
-  locks_room = ap room_in c.count_in.ensures.counts.locks ∙ c.put_at.ensures.kept.locks_room ∙ c.write_row.ensures.lock.locks_room ∙ c.take_off.ensures.kept.locks_room ∙ ap room_in c.count_out.ensures.counts.locks;
-  resources_room =
-      c.count_in.ensures.counts.resources_room ∙ c.put_at.ensures.kept.resources_room ∙ ap room_in c.write_row.ensures.lock.resources ∙ c.take_off.ensures.kept.resources_room
-      ∙ c.count_out.ensures.counts.resources_room;
+pub returns : goal.returns
+returns c = record {
+  placed =
+      counted_placed c.put_at.new.self c.count_in.new.self None c.put_at.ensures.placed c.count_in.ensures.counts.rest c.count_in.ensures.counts.loose c.count_in.ensures.counts.locks;
+  tallied = c.count_in.ensures.tallied;
+  here =
+      counted_handles c.put_at.new.self c.count_in.new.self None c.put_at.ensures.placed c.count_in.ensures.counts.rest c.count_in.ensures.counts.loose c.count_in.ensures.counts.locks c.args.to
+      ∙ c.put_at.ensures.here
+      ∙ ap (λ ks. ks ++ c.args.at ∷ [])
+      (written_handles c.take_off.new.self c.write_row.new.self (Some c.args.at) c.take_off.ensures.placed c.write_row.ensures.rest c.write_row.ensures.lock.resources c.write_row.ensures.lock.loose c.args.to
+      ∙ c.take_off.ensures.handles c.args.to
+      ∙ ap (without c.args.at)
+      (counted_handles c.args.self.now c.count_out.new.self None c.requires.placed c.count_out.ensures.counts.rest c.count_out.ensures.counts.loose c.count_out.ensures.counts.locks c.args.to));
+  elsewhere =
+      λ p differs.
+      counted_handles c.put_at.new.self c.count_in.new.self None c.put_at.ensures.placed c.count_in.ensures.counts.rest c.count_in.ensures.counts.loose c.count_in.ensures.counts.locks p
+      ∙ c.put_at.ensures.elsewhere p differs
+      ∙ written_handles c.take_off.new.self c.write_row.new.self (Some c.args.at) c.take_off.ensures.placed c.write_row.ensures.rest c.write_row.ensures.lock.resources c.write_row.ensures.lock.loose p
+      ∙ c.take_off.ensures.handles p
+      ∙ ap (without c.args.at)
+      (counted_handles c.args.self.now c.count_out.new.self None c.requires.placed c.count_out.ensures.counts.rest c.count_out.ensures.counts.loose c.count_out.ensures.counts.locks p);
+  row = search rules;
+  rows = search rules;
+  kept =
+      record {
+        kin = search rules;
+        rest = search rules;
+        locks_room = ap room_in c.count_in.ensures.counts.locks ∙ c.put_at.ensures.kept.locks_room ∙ c.write_row.ensures.lock.locks_room ∙ c.take_off.ensures.kept.locks_room ∙ ap room_in c.count_out.ensures.counts.locks;
+        resources_room =
+            c.count_in.ensures.counts.resources_room ∙ c.put_at.ensures.kept.resources_room ∙ ap room_in c.write_row.ensures.lock.resources ∙ c.take_off.ensures.kept.resources_room
+            ∙ c.count_out.ensures.counts.resources_room;
+      };
 }

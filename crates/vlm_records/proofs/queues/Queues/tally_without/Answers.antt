@@ -5,15 +5,15 @@ use Rattle.vlm_tallies.specs.Tallies.Count.{of_held}
 use Rattle.vlm_records.proofs.Counting.{own_weighs}
 use Rattle.vlm_records.proofs.queues.Queues.tally_without.Goals as goal
 
-pub counted_out-requires : goal.counted_out-requires
-counted_out-requires c count mode =
-    rw c.row.ensures
-    (omega (
+pub remove_held-requires : goal.remove_held-requires
+remove_held-requires c mode =
+    omega (
       arith,
-      ap (λ slot. how_many count (tally_in slot) mode) (rw c.slot.ensures at c.index.ensures),
-      c.requires.tallied.counts count c.args.res mode,
-      own_weighs c.args.self.now (weight_of count mode) c.in-Some.asking c.index-in-Some.result.now c.requires.placed (rw c.slot-in-Some.ensures at c.index-in-Some.ensures) c.args.res,
-    ))
+      ap (λ slot. how_many of_held (tally_in slot) mode) (rw c.slot.ensures at c.index.ensures),
+      c.requires.tallied.counts of_held c.args.res mode,
+      c.held_on-held.ensures mode,
+      own_weighs c.args.self.now (weight_of of_held mode) c.in-Some.asking c.index-lock.result.now c.requires.placed (rw c.slot-in-Some.ensures at c.index-lock.ensures) c.args.res,
+    )
 
 pub returns-in-None : goal.returns-in-None
 returns-in-None c mode =
@@ -27,6 +27,7 @@ returns-in-Some c mode =
       arith,
       ap (λ slot. how_many of_held (tally_in slot) mode) (rw c.slot.ensures at c.index.ensures),
       c.requires.tallied.counts of_held c.args.res mode,
-      rw c.row.ensures at c.counted_out.ensures mode,
-      own_weighs c.args.self.now (weight_of of_held mode) c.in-Some.asking c.index-in-Some.result.now c.requires.placed (rw c.slot-in-Some.ensures at c.index-in-Some.ensures) c.args.res,
+      c.held_on-held.ensures mode,
+      c.remove_held.ensures mode,
+      own_weighs c.args.self.now (weight_of of_held mode) c.in-Some.asking c.index-lock.result.now c.requires.placed (rw c.slot-in-Some.ensures at c.index-lock.ensures) c.args.res,
     ))
