@@ -124,11 +124,10 @@ serial_from_1 s all r among =
 
 -- where the resource of a request stands, by what the request says of itself
 pub site_is : (s : State) (e : NewRequest) (form : Form) (pid parent : ℕ) → IsForm s e form → pid ≡ e.pid → parent ≡ form.parent
-    → site_below (root_domain s pid (flag_bits form.flags)) form.name (parent_resource s pid parent) ≡ enq_site s e
+    → site_below (root_domain s pid (flag_bits form.flags)) e.name (parent_resource s pid parent) ≡ enq_site s e
 site_is s e form pid parent is owner named =
-    ap (λ p. site_below (root_domain s p (flag_bits form.flags)) form.name (parent_resource s p parent)) owner
-    ∙ ap (λ flags. site_below (root_domain s e.pid flags) form.name (parent_resource s e.pid parent)) is.flags
-    ∙ ap (λ name. site_below (root_domain s e.pid e.flags) name (parent_resource s e.pid parent)) is.name
+    ap (λ p. site_below (root_domain s p (flag_bits form.flags)) e.name (parent_resource s p parent)) owner
+    ∙ ap (λ flags. site_below (root_domain s e.pid flags) e.name (parent_resource s e.pid parent)) is.flags
     ∙ ap (λ lkid. site_below (root_domain s e.pid e.flags) e.name (parent_resource s e.pid lkid)) (named ∙ is.parent)
 
 -- ---- the checks of a parent

@@ -9,6 +9,7 @@ use Rattle.vlm_words.specs.Convert.{convert_admission, convert_lkid, convert_req
 use Rattle.vlm_words.specs.Dequeue.{dequeue_lkid}
 use Rattle.vlm_words.specs.Enqueue.{enq_at_once, enq_row}
 use Rattle.vlm_words.specs.Flags.{cancel, deqall, flag_bits, has_flag, invvalblk}
+use Rattle.vlm_words.specs.Names.{is_name}
 use Rattle.vlm_words.specs.Resources.{IsKeyed}
 use Rattle.vlm_words.specs.State.{State}
 use Rattle.vlm_words.specs.Trees.{enq_site, parent_lkid}
@@ -34,11 +35,11 @@ pub record IsCaller (caller : Caller) (s : Records) : Type 0 where
   pub lives : IsProcess caller.at caller.pid s
   pub there : HasProcess caller.at s
 
--- what a new request says of itself: its flags, the parent lock that it names, and its name
+-- what a new request says of itself: its flags and the parent lock that it names; and its name is one
 pub record IsForm (s : State) (e : NewRequest) (form : Form) : Type 0 where
   pub flags : flag_bits form.flags ≡ e.flags
   pub parent : form.parent ≡ parent_lkid s e
-  pub name : form.name ≡ e.name
+  pub name : is_name e.name ≡ true
 
 -- a new request is asked by this caller, says this of itself, and its parent lock stands so, if it names one
 pub record IsAskedBy (m : MachineState) (e : NewRequest) (caller : Caller) (form : Form) (parent : Option Parent) : Type 0 where

@@ -6,6 +6,7 @@ ghost use Rattle.vlm_words.specs.declared.locks.Request.{Request};
 ghost use Rattle.vlm_words.specs.declared.resources.Site.{Site};
 ghost use Rattle.vlm_words.specs.declared.steps.NewRequest.{NewRequest};
 ghost use Rattle.vlm_words.specs.Enqueue.{enq_change, enq_flags_refusal, enq_form_refusal, enq_limit_refusal, enq_refusal, expedite_refusal, is_at_once, name_refusal};
+ghost use Rattle.vlm_words.specs.Names.{is_name};
 ghost use Rattle.vlm_words.specs.Resources.{is_at, new_resource};
 ghost use Rattle.vlm_words.specs.Flags.{flag_bits};
 ghost use Rattle.vlm_words.specs.Stepped.{Outcome};
@@ -32,7 +33,7 @@ use vlm_words::conditions::Cond;
 use vlm_words::flags::EnqFlags;
 use vlm_words::locks::Request;
 use vlm_words::modes::Mode;
-use vlm_words::names::{Name, NameArg};
+use vlm_words::names::NameArg;
 use vlm_words::resources::{Key, Site};
 use vlm_words::steps::{Answer, NewRequest, Step};
 
@@ -42,7 +43,6 @@ pub(crate) struct Form {
     pub(crate) flags: EnqFlags,
     // the identification of its parent lock, 0 for none
     pub(crate) parent: u32,
-    pub(crate) name: Name,
 }
 
 /// How the key of a resource is hashed, where the resource is, if it is there, and whether a request is granted at once
@@ -156,13 +156,9 @@ impl Machine {
         let flags = checked_flags(request)?;
         self.check_status_block(caller, request.block)?;
         let parent = self.checked_lkid(caller, request.parent)?;
-        let name = checked_name(&request.name)?;
+        check_name(&request.name)?;
         check_expedite(request.mode, flags)?;
-        Ok(Form {
-            flags,
-            parent,
-            name,
-        })
+        Ok(Form { flags, parent })
     }
 
     // What is used up, or in the way.
@@ -200,7 +196,7 @@ impl Machine {
         requires number { self.now.next_request < 2 ^ 64 }
         ensures { IsChecked self.now request.now result }
     {
-        let site = self.site_of(caller, form, parent);
+        let site = self.site_of(caller, form, parent, &request.name);
         CheckedRequest {
             owner: caller.at,
             flags: form.flags,
@@ -263,13 +259,17 @@ fn checked_flags(request: &NewRequest) -> Result<EnqFlags, Cond>
     enq_flags(request.flags).ok_or(Cond::Badparam)
 }
 
-// The name that is given, or IVBUFLEN.
+// IVBUFLEN where the bytes that are given are no name.
 #[tactic(auto, unfolding(vlm_words::specs::Enqueue::name_refusal, vlm_words::specs::Names::name_of))]
-fn checked_name(name: &NameArg) -> Result<Name, Cond>
+fn check_name(name: &NameArg) -> Result<(), Cond>
     ensures refusal { result_err result ≡ name_refusal name.now }
-    ensures name { IfOk result (λ n. n ≡ name.now) }
+    ensures name { OnOk result (is_name name.now ≡ true) }
 {
-    name.name()
+    if name.is_name() {
+        Ok(())
+    } else {
+        Err(Cond::Ivbuflen)
+    }
 }
 
 // UNSUPPORTED where EXPEDITE goes with another mode than NL.

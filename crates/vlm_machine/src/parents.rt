@@ -1,11 +1,12 @@
 //! The parent of a new request, and where its resource stands in the tree.
 
-ghost use Rattle.std.specs.Prelude.{◌≡◌, Some, IfOk};
+ghost use Rattle.std.specs.Prelude.{◌≡◌, Some, true, IfOk};
 ghost use Rattle.std.specs.Option.{option_map};
 ghost use Rattle.std.specs.Result.{result_err};
 ghost use Rattle.vlm_words.specs.declared.resources.Site.{Site};
 ghost use Rattle.vlm_words.specs.Checks.{or_else};
 ghost use Rattle.vlm_words.specs.Flags.{flag_bits};
+ghost use Rattle.vlm_words.specs.Names.{is_name};
 ghost use Rattle.vlm_words.specs.Resources.{IsKeyed};
 ghost use Rattle.vlm_words.specs.Trees.{depth_refusal, parent_refusal, parent_resource, privilege_refusal, root_domain, site_below, site_refusal, waiting_refusal};
 ghost use Rattle.vlm_store.specs.Plain.{plain_resource};
@@ -25,6 +26,7 @@ use vlm_store::laws::law_records_are_sound;
 use vlm_store::{LockAt, ResAt};
 use vlm_words::conditions::Cond;
 use vlm_words::flags::EnqFlags;
+use vlm_words::names::NameArg;
 use vlm_words::resources::{Domain, Key, Queue, Site};
 
 // The lowest level at which a resource can stand.
@@ -137,21 +139,29 @@ impl Machine {
     // (a call of its own: the name stands at two places in the two forms of a key, and where this is a part of its
     // caller the key is taken to pieces and put together again)
     #[inline(never)]
-    pub(crate) fn site_of(&self, caller: &Caller, form: &Form, parent: &Option<Parent>) -> Site
+    pub(crate) fn site_of(
+        &self,
+        caller: &Caller,
+        form: &Form,
+        parent: &Option<Parent>,
+        name: &NameArg,
+    ) -> Site
+        requires name { is_name name.now ≡ true }
         requires caller { IsCaller caller.now self.now.records }
         requires parent { IsParent caller.now.pid form.now.parent parent.now self.now.records }
         requires between { IsBetweenSteps (plain_state self.now) }
         ensures site { result
             ≡ site_below (root_domain (plain_state self.now) caller.now.pid
-            (flag_bits form.now.flags)) form.now.name
+            (flag_bits form.now.flags)) name.now
             (parent_resource (plain_state self.now) caller.now.pid form.now.parent) }
         ensures keyed { IsKeyed result.domain result.key }
     {
+        let name = name.checked();
         match parent {
             Some(parent) => {
                 let above = self.store.resource_record(parent.res);
                 Site {
-                    key: Key::Below(above.serial, form.name),
+                    key: Key::Below(above.serial, name),
                     domain: above.domain,
                     level: above.level + 1,
                 }
@@ -159,7 +169,7 @@ impl Machine {
             None => {
                 let domain = self.root_domain(caller, form.flags);
                 Site {
-                    key: Key::Root(domain, form.name),
+                    key: Key::Root(domain, name),
                     domain,
                     level: 0,
                 }

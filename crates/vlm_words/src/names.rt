@@ -1,8 +1,8 @@
 //! Names of resources, as they are given and as they are accepted.
 
-ghost use Rattle.std.specs.Prelude.{◌≡◌, length, take};
+ghost use Rattle.std.specs.Prelude.{◌≡◌, true, length, take};
 ghost use Rattle.vlm_words.specs.NameWords.{name_words};
-ghost use Rattle.vlm_words.specs.Names.{name_of};
+ghost use Rattle.vlm_words.specs.Names.{is_name, name_of};
 
 use crate::conditions::Cond;
 use crate::texts::Text;
@@ -98,17 +98,32 @@ impl NameArg {
         }
     }
 
+    /// Whether its bytes are a name: there are 1 to 31 of them.
+    pub fn is_name(&self) -> bool
+        ensures { result ≡ is_name self.now }
+    {
+        0 < self.text.len() && self.text.len() <= 31
+    }
+
+    /// The name that was given, which `is_name` has found to be one.
+    pub fn checked(&self) -> Name
+        requires { is_name self.now ≡ true }
+        ensures { result ≡ self.now }
+    {
+        Name {
+            text: self.text.narrowed(),
+        }
+    }
+
     /// The name that was given. IVBUFLEN where its bytes are no name.
     #[tactic(auto, unfolding(crate::specs::Names::name_of))]
     pub fn name(&self) -> Result<Name, Cond>
         ensures { result ≡ name_of self.now }
     {
-        let len = self.text.len();
-        if len == 0 || 31 < len {
-            return Err(Cond::Ivbuflen);
+        if self.is_name() {
+            Ok(self.checked())
+        } else {
+            Err(Cond::Ivbuflen)
         }
-        Ok(Name {
-            text: self.text.narrowed(),
-        })
     }
 }

@@ -22,7 +22,7 @@ returns c =
     let form = said.says in
     let found : Site → Resource = λ x. unwrap_or (find (is_at x.key) (plain_resources c.self.inside.store)) (new_resource m.next_serial x) in
     let site_told = subst
-    (λ (k : MachineState). site ≡ site_below (root_domain (plain_state k) c.args.caller.now.pid (flag_bits c.args.form.now.flags)) c.args.form.now.name
+    (λ (k : MachineState). site ≡ site_below (root_domain (plain_state k) c.args.caller.now.pid (flag_bits c.args.form.now.flags)) e.name
     (parent_resource (plain_state k) c.args.caller.now.pid c.args.form.now.parent)) (sym c.self.view_is) c.site_of-site.ensures.site in
     let site_same : site ≡ enq_site (plain_state m) e = site_told ∙ site_is (plain_state m) e c.args.form.now c.args.caller.now.pid c.args.form.now.parent form said.pid refl in
     let flags : c.args.form.now.flags ≡ (enq_request (plain_state m) e).flags = ap (λ bits. record { 0 = bits }) form.flags in

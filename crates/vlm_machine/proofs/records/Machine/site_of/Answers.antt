@@ -25,11 +25,12 @@ returns-in-Some-clause-site c =
     ap (parent_resource (plain_state m) pid) (sym is.standing.named)
     ∙ parent_found m c.resource_record-above.ensures.sound is.lock is.standing.standing pid is.standing.owned (λ zero. is.named (sym is.standing.named ∙ zero)) in
     rw (← c.self.view_is)
-    (site_record (root_domain (plain_state m) pid (flag_bits c.args.form.now.flags)) c.args.form.now.name c.resource_record-above.result.now.serial c.resource_record-above.result.now.domain c.resource_record-above.result.now.level r
+    (site_record (root_domain (plain_state m) pid (flag_bits c.args.form.now.flags)) c.checked-name.result c.resource_record-above.result.now.serial c.resource_record-above.result.now.domain c.resource_record-above.result.now.level r
     (of_some (λ (x : StoredResource). c.resource_record-above.result.now.serial ≡ x.serial) (resource_at up.res m.records.resources) r found c.resource_record-above.ensures.serial)
     (of_some (λ (x : StoredResource). c.resource_record-above.result.now.domain ≡ x.domain) (resource_at up.res m.records.resources) r found c.resource_record-above.ensures.domain)
     (of_some (λ (x : StoredResource). c.resource_record-above.result.now.level ≡ x.level) (resource_at up.res m.records.resources) r found c.resource_record-above.ensures.level)
-    ∙ sym (ap (site_below (root_domain (plain_state m) pid (flag_bits c.args.form.now.flags)) c.args.form.now.name) below))
+    ∙ ap (λ name. site_below (root_domain (plain_state m) pid (flag_bits c.args.form.now.flags)) name (Some (plain_resource r))) c.checked-name.ensures
+    ∙ sym (ap (site_below (root_domain (plain_state m) pid (flag_bits c.args.form.now.flags)) c.args.name.now) below))
 
 -- a parent has a serial
 pub returns-in-Some-clause-keyed : goal.returns-in-Some-clause-keyed
@@ -53,5 +54,6 @@ returns-in-None-clause-site c =
     let lkid = c.args.form.now.parent in
     let zero : lkid ≡ 0 = subst (λ o. IsParent pid lkid o m.records) c.in-None.is c.requires.parent in
     let none : parent_resource (plain_state m) pid lkid ≡ None = ap (parent_resource (plain_state m) pid) zero ∙ parent_none m pid in
-    ap (λ (d : Domain). site_below d c.args.form.now.name None) c.root_domain-domain.ensures
-    ∙ sym (ap (site_below (root_domain (plain_state m) pid (flag_bits c.args.form.now.flags)) c.args.form.now.name) none)
+    ap (λ (d : Domain). site_below d c.checked-name.result None) c.root_domain-domain.ensures
+    ∙ ap (λ name. site_below (root_domain (plain_state m) pid (flag_bits c.args.form.now.flags)) name None) c.checked-name.ensures
+    ∙ sym (ap (site_below (root_domain (plain_state m) pid (flag_bits c.args.form.now.flags)) c.args.name.now) none)
