@@ -48,12 +48,15 @@ class Fold:
         return self.state
 
 
+# SipHash with both keys 0, before it takes anything in.
+START = (0x736F_6D65_7073_6575, 0x646F_7261_6E64_6F6D, 0x6C79_6765_6E65_7261, 0x7465_6462_7974_6573)
+
+
 class Sip:
     """SipHash-1-3 with both keys 0, after what was written: its four words, and the bytes since the last
     whole word."""
 
-    def __init__(self, words=(0x736F_6D65_7073_6575, 0x646F_7261_6E64_6F6D, 0x6C79_6765_6E65_7261,
-                              0x7465_6462_7974_6573), tail=b"", size=0):
+    def __init__(self, words=START, tail=b"", size=0):
         self.words = words
         self.tail = tail
         self.size = size
@@ -66,22 +69,21 @@ class Sip:
 
     def finish(self):
         last = (self.size & 0xFF) << 56 | int.from_bytes(self.tail, "little")
-        a, b, c, d = taken(self.words, last)
-        a, b, c, d = sip_round(*sip_round(*sip_round(a, b, c ^ 0xFF, d)))
-        return a ^ b ^ c ^ d
+        return finished(taken(self.words, last))
 
 
-class Kept:
-    """How the index of resources hashes: the low 32 bits of another hash, by the hasher of the kit's maps."""
+class SipOfWords:
+    """How the index of resources hashes, with both keys 0: the low 32 bits of SipHash-1-3 of whole words, of which each
+    write of at most eight bytes is one."""
 
-    def __init__(self, inner):
-        self.inner = inner
+    def __init__(self, words=START):
+        self.words = words
 
     def write(self, data):
-        return Kept(self.inner.write(data))
+        return SipOfWords(taken(self.words, int.from_bytes(data, "little")))
 
     def finish(self):
-        return Fold().write((self.inner.finish() & 0xFFFF_FFFF).to_bytes(4, "little")).finish()
+        return finished(self.words) & 0xFFFF_FFFF
 
 
 def taken(words, word):
@@ -89,6 +91,13 @@ def taken(words, word):
     a, b, c, d = words
     a, b, c, d = sip_round(a, b, c, d ^ word)
     return a ^ word, b, c, d
+
+
+def finished(words):
+    """The hash of what SipHash has taken in."""
+    a, b, c, d = words
+    a, b, c, d = sip_round(*sip_round(*sip_round(a, b, c ^ 0xFF, d)))
+    return a ^ b ^ c ^ d
 
 
 def sip_round(a, b, c, d):
@@ -128,8 +137,9 @@ def script(hasher, clear, of_resources=None):
     hasher where one is given."""
     lines = [f"declare {name} node=1 group=1 quota=65535 blocks=1" for name in names(hasher, clear)]
     process = lines[0].split()[1]
-    group = (of_resources or hasher).write((1).to_bytes(8, "little"))
-    lines += [f"enq {process} EX name={name} block=1" for name in names(group, clear)]
+    # the group, and the length of each name
+    space = (of_resources or hasher).write((256 * 1 + LENGTH).to_bytes(8, "little"))
+    lines += [f"enq {process} EX name={name} block=1" for name in names(space, clear)]
     return "".join(line + "\n" for line in lines).encode()
 
 
@@ -138,7 +148,7 @@ def scripts():
     """The script of names that were not chosen, and those of names that meet, by what they meet in."""
     return {"none": script(Fold(), 0),
             "the hasher of the kit's maps": script(Fold(), CLEAR),
-            "the fixed keys": script(Sip(), CLEAR, Kept(Sip()))}
+            "the fixed keys": script(Sip(), CLEAR, SipOfWords())}
 
 
 def played(command, text, seconds):

@@ -1,7 +1,8 @@
 -- The hash under keys.
-use Rattle.std.specs.Prelude.{ℕ, ◌/◌, ◌^◌, List, bit_and}
-use Rattle.std.specs.Int.{w128, from_le_bytes}
+use Rattle.std.specs.Prelude.{ℕ, ◌/◌, ◌^◌, ◌==◌, List, bit_and, length, if◌then◌else◌}
+use Rattle.std.specs.Int.{w32, w128, from_le_bytes}
 use Rattle.std.specs.List.{fold}
+use Rattle.vlm_links.specs.declared.hashing.HashAsIs.{HashAsIs}
 use Rattle.vlm_links.specs.declared.hashing.HashKeys.{HashKeys}
 use Rattle.vlm_links.specs.Sip.{compressed, finished}
 
@@ -12,3 +13,7 @@ key_words bytes = (bit_and (from_le_bytes w128 bytes) 0xFFFFFFFFFFFFFFFF, from_l
 -- the hash of words under keys
 unfoldable pub hash_of : HashKeys → List ℕ → ℕ
 hash_of keys words = finished (fold compressed keys.words words)
+
+-- the hash that four bytes are, the low one first, is taken as it is
+abbrev pub taking : HashAsIs → List ℕ → HashAsIs
+taking h bytes = record { taken = if length bytes == 4 then from_le_bytes w32 bytes else 0 }

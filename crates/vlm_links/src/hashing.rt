@@ -2,7 +2,7 @@
 
 ghost use Rattle.std.specs.Prelude.{◌≡◌};
 ghost use Rattle.std.specs.Hash.DefaultHasher.{initial as empty, write};
-ghost use Rattle.vlm_links.specs.Hashing.{hash_of, key_words};
+ghost use Rattle.vlm_links.specs.Hashing.{hash_of, key_words, taking};
 ghost use Rattle.vlm_links.specs.Sip.{initial};
 
 use crate::sip::SipState;
@@ -64,5 +64,48 @@ impl BuildHasher for HashKeys {
 
     fn build_hasher(&self) -> DefaultHasher {
         self.bytes
+    }
+}
+
+/// The hasher of an index whose keys are hashes of 32 bits already: it takes them as they are.
+#[derive(Clone, Copy)]
+pub struct HashAsIs {
+    // the hash that was written, and 0 before; what has not four bytes is none and counts as 0
+    taken: u64,
+}
+
+impl HashAsIs {
+    /// No hash is taken yet.
+    pub fn new() -> HashAsIs
+        ensures { result.taken ≡ 0 }
+    {
+        HashAsIs { taken: 0 }
+    }
+}
+
+impl Hasher for HashAsIs {
+    ghost write = { taking };
+
+    ghost finish = { λ h. h.taken };
+
+    fn finish(&self) -> u64 {
+        self.taken
+    }
+
+    fn write(&mut self, bytes: &[u8]) {
+        self.taken = match <[u8; 4]>::try_from(bytes) {
+            Ok(hash) => u64::from(u32::from_le_bytes(hash)),
+            Err(_) => 0,
+        };
+    }
+}
+
+impl BuildHasher for HashAsIs {
+    type Hasher = HashAsIs;
+
+    ghost build_hasher = { λ h. h };
+
+    fn build_hasher(&self) -> HashAsIs {
+        *self
     }
 }

@@ -1,5 +1,5 @@
-//! The records of a slab: their handles, doubly linked lists that run through them, room for one more, the hasher of
-//! the indexes that find them, and the table that finds some of them by number.
+//! The records of a slab: their handles, doubly linked lists that run through them, room for one more, the hashers
+//! of the indexes that find them, and the table that finds some of them by number.
 //!
 //! A list is a chain of handles, the keys of a slab. Its links stand in the records themselves, so that a record joins at
 //! the end and leaves from anywhere in constant time, and neither wants memory. A record may stand in
@@ -27,7 +27,7 @@ mod tables;
 
 pub use growth::{reserve_one, reserve_slot};
 pub use handles::At;
-pub use hashing::HashKeys;
+pub use hashing::{HashAsIs, HashKeys};
 pub use link::{LAST_HANDLE, Links};
 pub use lists::{Linked, LinkedList};
 pub use tables::HandleTable;

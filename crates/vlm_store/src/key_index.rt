@@ -9,7 +9,7 @@ use crate::hashed::HashedKey;
 use indexmap::IndexMap;
 use slab::Slab;
 use std::alloc::{AllocError, Global};
-use vlm_links::{LAST_HANDLE, reserve_slot};
+use vlm_links::{HashAsIs, LAST_HANDLE, reserve_slot};
 use vlm_records::{ResAt, Resource};
 use vlm_words::resources::Key;
 
@@ -17,7 +17,7 @@ use vlm_words::resources::Key;
 /// that share a hash all but one are found by their keys, and these are few, since nobody chooses names that meet.
 pub(crate) struct KeyIndex {
     // where the resource of each hash is, of several the one that was made last
-    last: IndexMap<u32, ResAt>,
+    last: IndexMap<u32, ResAt, HashAsIs>,
     // where each of the others is
     others: IndexMap<HashedKey, ResAt>,
 }
@@ -35,7 +35,7 @@ impl KeyIndex {
         ensures { FindsNothing result }
     {
         KeyIndex {
-            last: IndexMap::new(alloc),
+            last: IndexMap::with_hasher(alloc, HashAsIs::new()),
             others: IndexMap::new(alloc),
         }
     }
