@@ -12,7 +12,7 @@ use Rattle.vlm_records.specs.declared.handles.Place.TheVariants.{Loose, Queued}
 use Rattle.vlm_records.specs.declared.locks.InLine.{InLine}
 use Rattle.vlm_records.specs.declared.locks.Lock.{Lock}
 use Rattle.vlm_records.specs.Line.{IsLine, is_queued, line_handles, line_in, line_links, queued_line, with_line_links}
-use Rattle.vlm_records.specs.Shown.{SameBut, but_in_line}
+use Rattle.vlm_records.specs.Shown.{SameBut, but_in_line, noted_in}
 use Rattle.vlm_records.proofs.Families.{family-put, family-taken, family-unnoted}
 
 -- there is one list
@@ -32,12 +32,16 @@ unqueued_noted (Queued res Granted) is = refl
 unqueued_noted (Queued res Conversion) is = cc
 unqueued_noted (Queued res Waiting) is = cc
 
--- the same, read off its record
-pub queued_here : (slot : Option Lock) (l : Lock) → slot ≡ Some l → is_queued l.place ≡ true → line_in slot ≡ Some tt
-queued_here slot l here is = ap line_in here ∙ queued_noted l.place is
+-- the same, of a lock that notes the place
+noted_line : (slot : Option Lock) (place : Place) → noted_in slot ≡ Some place → line_in slot ≡ queued_line place
+noted_line None place notes = absurd (none-some place notes)
+noted_line (Some l) place notes = ap queued_line (same_Some l.place place notes)
 
-pub unqueued_here : (slot : Option Lock) (l : Lock) → slot ≡ Some l → is_queued l.place ≡ false → line_in slot ≡ None
-unqueued_here slot l here is = ap line_in here ∙ unqueued_noted l.place is
+pub queued_here : (slot : Option Lock) (place : Place) → noted_in slot ≡ Some place → is_queued place ≡ true → line_in slot ≡ Some tt
+queued_here slot place notes is = noted_line slot place notes ∙ queued_noted place is
+
+pub unqueued_here : (slot : Option Lock) (place : Place) → noted_in slot ≡ Some place → is_queued place ≡ false → line_in slot ≡ None
+unqueued_here slot place notes is = noted_line slot place notes ∙ unqueued_noted place is
 
 -- one that is not is none of them
 pub unqueued_left : (locks : Slab Lock) (line : LinkedList InLine) (at : ℕ) → IsLine locks line None → line_in (get locks at) ≡ None → IsLine locks line (Some at)

@@ -1,11 +1,12 @@
 -- What taking a lock off its list, and putting it on one, make of the places.
-use Rattle.std.proofs.Common.{◌≡◌, ◌≢◌, ◌⊎◌, ℕ, [], ◌∷◌, ◌++◌, Option, None, Some, IsSome, is_some, refl, sym, ap, ◌∙◌, subst, inl, inr}
+use Rattle.std.proofs.Common.{◌≡◌, ◌≢◌, ◌⊎◌, ℕ, [], ◌∷◌, ◌++◌, Option, None, Some, IsSome, is_some, refl, sym, ap, ◌∙◌, subst, inl, inr, List}
 use Rattle.std.proofs.lemmas.Bool.{cases_eq}
 use Rattle.std.proofs.lemmas.Option.{none-some, same_Some}
 use Rattle.std.specs.Option.{option_map}
 use Rattle.slab.specs.Slab.{Slab, get, ContainsKey}
 use Rattle.vlm_links.specs.declared.lists.LinkedList.{LinkedList}
 use Rattle.vlm_links.specs.Lists.{IsIn, IsLinked, IsNoList, Relinks, handles_of, next_in, prev_in, without}
+use Rattle.vlm_links.proofs.HandleLists.{IsIn-push_last}
 use Rattle.vlm_links.proofs.Keeping.{relinked_same}
 use Rattle.vlm_links.proofs.Rings.{kept-linked}
 use Rattle.vlm_words.specs.declared.resources.Queue.{Queue}
@@ -281,3 +282,7 @@ lkid_told (Some l) lkid is = (refl, same_Some l.row.lkid lkid is)
 pub named-queued : (slot : Option Lock) → option_map lasting_part (option_map but_queued slot) ≡ option_map lasting_part slot
 named-queued None = refl
 named-queued (Some l) = refl
+
+-- a lock notes the place at whose end it stands
+pub last_noted : (q : Queues) (at : ℕ) (place : Place) (before : List ℕ) → IsPlaced q None → handles_at q place ≡ before ++ at ∷ [] → noted q at ≡ Some place
+last_noted q at place before placed here = placed.listed place at (subst (IsIn at) (sym here) (IsIn-push_last at before))

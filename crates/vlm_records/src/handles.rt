@@ -1,5 +1,7 @@
 //! The kinds of handles, and where a lock stands.
 
+ghost use Rattle.std.specs.Prelude.{◌≡◌};
+
 use vlm_links::At;
 use vlm_words::resources::Queue;
 
@@ -28,4 +30,15 @@ pub enum Place {
     Loose,
     /// In a queue of a resource.
     Queued(ResAt, Queue),
+}
+
+impl Place {
+    ghost use Rattle.vlm_records.specs.Line.{is_queued};
+
+    /// Whether the request of a lock that stands there is queued.
+    pub fn is_queued(&self) -> bool
+        ensures { result ≡ is_queued self.now }
+    {
+        matches!(*self, Place::Queued(_, Queue::Conversion | Queue::Waiting))
+    }
 }

@@ -6,15 +6,21 @@ ghost use Rattle.vlm_links.specs.Lists.{Relinks, without};
 ghost use Rattle.vlm_records.specs.Shown.{SameBut, room_in};
 ghost use Rattle.vlm_records.specs.Kin.{IsBelow, IsOwned, below_handles, but_below, but_own, own_handles, owner_in, parent_in, with_own_links};
 
-use crate::handles::LockAt;
+use crate::handles::{LockAt, ProcAt};
 use crate::locks::Lock;
 use crate::processes::Process;
 use slab::Slab;
 use vlm_links::LAST_HANDLE;
 
 /// Takes a lock off the locks of its process.
-pub fn leave_process(processes: &mut Slab<Process>, locks: &mut Slab<Lock>, at: usize)
+pub fn leave_process(
+    processes: &mut Slab<Process>,
+    locks: &mut Slab<Lock>,
+    at: usize,
+    owner: ProcAt,
+)
     requires owned { IsOwned processes.old locks.old None }
+    requires owner { owner_in (get locks.old at) ≡ Some owner }
     requires present { ContainsKey locks.old at }
     ensures owned { IsOwned processes.new locks.new (Some at) }
     ensures handles { (owner : ℕ) → own_handles processes.new locks.new owner
@@ -24,13 +30,13 @@ pub fn leave_process(processes: &mut Slab<Process>, locks: &mut Slab<Lock>, at: 
     ensures locks_room { room_in locks.new ≡ room_in locks.old }
     ensures processes_room { room_in processes.new ≡ room_in processes.old }
 {
-    let owner = locks[at].owner.slot();
-    processes[owner].own.unlink(locks, at);
+    processes[owner.slot()].own.unlink(locks, at);
 }
 
 /// Puts a new lock at the end of the locks of its process.
-pub fn join_process(processes: &mut Slab<Process>, locks: &mut Slab<Lock>, at: usize)
+pub fn join_process(processes: &mut Slab<Process>, locks: &mut Slab<Lock>, at: usize, owner: ProcAt)
     requires owned { IsOwned processes.old locks.old (Some at) }
+    requires owner { owner_in (get locks.old at) ≡ Some owner }
     requires present { ContainsKey locks.old at }
     requires within { at ≤ LAST_HANDLE }
     requires there { (owner : ℕ) → owner_in (get locks.old at) ≡ Some owner
@@ -46,13 +52,13 @@ pub fn join_process(processes: &mut Slab<Process>, locks: &mut Slab<Lock>, at: u
     ensures locks_room { room_in locks.new ≡ room_in locks.old }
     ensures processes_room { room_in processes.new ≡ room_in processes.old }
 {
-    let owner = locks[at].owner.slot();
-    processes[owner].own.push_back(locks, at);
+    processes[owner.slot()].own.push_back(locks, at);
 }
 
 /// Takes a lock off the locks below its parent, if it has one.
-pub fn leave_parent(locks: &mut Slab<Lock>, at: usize)
+pub fn leave_parent(locks: &mut Slab<Lock>, at: usize, parent: Option<LockAt>)
     requires below { IsBelow locks.old None }
+    requires parent { parent_in (get locks.old at) ≡ parent }
     requires present { ContainsKey locks.old at }
     ensures below { IsBelow locks.new (Some at) }
     ensures handles { (parent : ℕ) → below_handles locks.new parent
@@ -60,7 +66,6 @@ pub fn leave_parent(locks: &mut Slab<Lock>, at: usize)
     ensures rest { SameBut but_below locks.old locks.new }
     ensures locks_room { room_in locks.new ≡ room_in locks.old }
 {
-    let Lock { parent, .. } = locks[at];
     let Some(parent) = parent else {
         return;
     };
@@ -70,8 +75,9 @@ pub fn leave_parent(locks: &mut Slab<Lock>, at: usize)
 }
 
 /// Puts a new lock at the end of the locks below its parent, if it has one.
-pub fn join_parent(locks: &mut Slab<Lock>, at: usize)
+pub fn join_parent(locks: &mut Slab<Lock>, at: usize, parent: Option<LockAt>)
     requires below { IsBelow locks.old (Some at) }
+    requires parent { parent_in (get locks.old at) ≡ parent }
     requires present { ContainsKey locks.old at }
     requires within { at ≤ LAST_HANDLE }
     requires there { (parent : ℕ) → parent_in (get locks.old at) ≡ Some parent
@@ -84,7 +90,6 @@ pub fn join_parent(locks: &mut Slab<Lock>, at: usize)
     ensures rest { SameBut but_below locks.old locks.new }
     ensures locks_room { room_in locks.new ≡ room_in locks.old }
 {
-    let Lock { parent, .. } = locks[at];
     let Some(parent) = parent else {
         return;
     };

@@ -1,37 +1,39 @@
 //! The locks whose requests are queued, as they join their list and leave it.
 
 ghost use Rattle.std.specs.Prelude.{◌≡◌, ◌≤◌, None, Some};
-ghost use Rattle.slab.specs.Slab.{ContainsKey};
+ghost use Rattle.slab.specs.Slab.{get, ContainsKey};
 ghost use Rattle.vlm_records.specs.Line.{IsLine};
-ghost use Rattle.vlm_records.specs.Shown.{SameBut, but_in_line, room_in};
+ghost use Rattle.vlm_records.specs.Shown.{SameBut, but_in_line, noted_in, room_in};
 
+use crate::handles::Place;
 use crate::locks::{InLine, Lock};
 use slab::Slab;
 use vlm_links::{LAST_HANDLE, LinkedList};
 
-/// Takes a lock off the locks whose requests are queued, if it is among them.
-pub fn leave_line(locks: &mut Slab<Lock>, line: &mut LinkedList<InLine>, at: usize)
+/// Takes a lock that stands at this place off the locks whose requests are queued, if its own is.
+pub fn leave_line(locks: &mut Slab<Lock>, line: &mut LinkedList<InLine>, at: usize, place: &Place)
     requires line { IsLine locks.old line.old None }
-    requires present { ContainsKey locks.old at }
+    requires noted { noted_in (get locks.old at) ≡ Some place.now }
     ensures line { IsLine locks.new line.new (Some at) }
     ensures rest { SameBut but_in_line locks.old locks.new }
     ensures room { room_in locks.new ≡ room_in locks.old }
 {
-    if locks[at].is_queued() {
+    if place.is_queued() {
         line.unlink(locks, at);
     }
 }
 
-/// Puts a lock at the end of the locks whose requests are queued, if its own is.
-pub fn join_line(locks: &mut Slab<Lock>, line: &mut LinkedList<InLine>, at: usize)
+/// Puts a lock that stands at this place at the end of the locks whose requests are queued, if its own is.
+pub fn join_line(locks: &mut Slab<Lock>, line: &mut LinkedList<InLine>, at: usize, place: &Place)
     requires line { IsLine locks.old line.old (Some at) }
+    requires noted { noted_in (get locks.old at) ≡ Some place.now }
     requires present { ContainsKey locks.old at }
     requires within { at ≤ LAST_HANDLE }
     ensures line { IsLine locks.new line.new None }
     ensures rest { SameBut but_in_line locks.old locks.new }
     ensures room { room_in locks.new ≡ room_in locks.old }
 {
-    if locks[at].is_queued() {
+    if place.is_queued() {
         line.push_back(locks, at);
     }
 }

@@ -49,17 +49,6 @@ pub struct Lock {
 
 impl Lock {
     ghost use Rattle.vlm_records.specs.Armed.{armed_of};
-    ghost use Rattle.vlm_records.specs.Line.{is_queued};
-
-    /// Whether its request is queued.
-    pub fn is_queued(&self) -> bool
-        ensures { result ≡ is_queued self.now.place }
-    {
-        matches!(
-            self.place,
-            Place::Queued(_, Queue::Conversion | Queue::Waiting)
-        )
-    }
 
     /// The resource among whose armed locks it belongs, if it is granted and armed.
     pub(crate) fn armed_on(&self) -> Option<ResAt>

@@ -217,6 +217,9 @@ module _ (q : Queues) (locks' : Slab Lock) (same : SameBut but_kin q.locks locks
   pub kin_rows : (k : ℕ) → row_in (get locks' k) ≡ row_in (get q.locks k)
   kin_rows = through but_kin row_in row-kin q.locks locks' same
 
+  pub kin_noted : (k : ℕ) → noted_in (get locks' k) ≡ noted_in (get q.locks k)
+  kin_noted = through but_kin noted_in noted-kin q.locks locks' same
+
   module _ (placed : IsPlaced q None) where
     pub kin_handles : (p : Place) → handles_at (record q { locks = locks' }) p ≡ handles_at q p
     kin_handles =
@@ -269,7 +272,7 @@ own_prev-below : (slot : Option Lock) → prev_in own_links (option_map but_belo
 own_prev-below None = refl
 own_prev-below (Some l) = refl
 
-owner-below : (slot : Option Lock) → owner_in (option_map but_below slot) ≡ owner_in slot
+pub owner-below : (slot : Option Lock) → owner_in (option_map but_below slot) ≡ owner_in slot
 owner-below None = refl
 owner-below (Some l) = refl
 

@@ -189,9 +189,15 @@ impl Store {
         ensures taken { IsTaken self.old.room.locks self.new.room.locks }
     {
         let slot = self.queues.add(row, owner, parent, to);
-        join_line(&mut self.queues.locks, &mut self.line, slot);
-        join_process(&mut self.processes, &mut self.queues.locks, slot);
-        join_parent(&mut self.queues.locks, slot);
+        let Lock {
+            place,
+            owner,
+            parent,
+            ..
+        } = self.queues.locks[slot];
+        join_line(&mut self.queues.locks, &mut self.line, slot, &place);
+        join_process(&mut self.processes, &mut self.queues.locks, slot, owner);
+        join_parent(&mut self.queues.locks, slot, parent);
         let at = LockAt::of(slot);
         let _ = self.lock_index.insert(row.lkid(), at);
         at
@@ -205,9 +211,10 @@ impl Store {
         ensures { self.new ≡ with_lists (moving to (record { at = lock; row = row })) self.old }
     {
         let at = lock.slot();
-        leave_line(&mut self.queues.locks, &mut self.line, at);
+        let from = self.queues.locks[at].place;
+        leave_line(&mut self.queues.locks, &mut self.line, at, &from);
         self.queues.move_to(at, &row, to);
-        join_line(&mut self.queues.locks, &mut self.line, at);
+        join_line(&mut self.queues.locks, &mut self.line, at, &to);
     }
 
     /// A lock is armed no more, and stays where it stands.
@@ -229,12 +236,18 @@ impl Store {
         ensures given_back { IsGivenBack self.old.room.locks self.new.room.locks }
     {
         let at = lock.slot();
-        let lkid = self.queues.locks[at].row.lkid();
-        leave_parent(&mut self.queues.locks, at);
-        leave_process(&mut self.processes, &mut self.queues.locks, at);
-        leave_line(&mut self.queues.locks, &mut self.line, at);
+        let Lock {
+            row,
+            place,
+            owner,
+            parent,
+            ..
+        } = self.queues.locks[at];
+        leave_parent(&mut self.queues.locks, at, parent);
+        leave_process(&mut self.processes, &mut self.queues.locks, at, owner);
+        leave_line(&mut self.queues.locks, &mut self.line, at, &place);
         self.queues.remove(at);
-        self.lock_index.swap_remove(&lkid);
+        self.lock_index.swap_remove(&row.lkid());
     }
 
     /// Makes room for one more resource, where there is none.

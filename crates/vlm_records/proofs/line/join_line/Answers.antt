@@ -14,7 +14,7 @@ push_back-requires-clause-unlisted c found = c.requires.line.gone tt c.args.at r
 pub returns-then-is_queued-clause-line : goal.returns-then-is_queued-clause-line
 returns-then-is_queued-clause-line c =
     line_joined c.args.locks.now c.push_back.new.nodes c.args.line.now c.push_back.new.self c.args.at c.push_back.ensures.relinks c.push_back.ensures.linked
-    (queued_here (get c.args.locks.now c.args.at) c.index.result.now c.index.ensures (sym c.is_queued.ensures ∙ c.if-is_queued.true))
+    (queued_here (get c.args.locks.now c.args.at) c.args.place.now c.requires.noted (sym c.is_queued.ensures ∙ c.if-is_queued.true))
     c.requires.line c.push_back.ensures.handles c.push_back.ensures.others
 
 pub returns-then-is_queued-clause-room : goal.returns-then-is_queued-clause-room
@@ -24,4 +24,4 @@ returns-then-is_queued-clause-room c = room_relinked with_line_links c.args.lock
 pub returns-else-is_queued-clause-line : goal.returns-else-is_queued-clause-line
 returns-else-is_queued-clause-line c =
     unqueued_joined c.args.locks.now c.args.line.now c.args.at c.requires.line
-    (unqueued_here (get c.args.locks.now c.args.at) c.index.result.now c.index.ensures (sym c.is_queued.ensures ∙ c.if-is_queued.false))
+    (unqueued_here (get c.args.locks.now c.args.at) c.args.place.now c.requires.noted (sym c.is_queued.ensures ∙ c.if-is_queued.false))

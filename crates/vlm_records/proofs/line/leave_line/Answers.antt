@@ -11,13 +11,13 @@ unlink-requires c = record {
   linked = c.requires.line.linked tt;
   listed =
       c.requires.line.stands tt c.args.at (λ e. none-some c.args.at (sym e))
-      (queued_here (get c.args.locks.now c.args.at) c.index.result.now c.index.ensures (sym c.is_queued.ensures ∙ c.if-is_queued.true));
+      (queued_here (get c.args.locks.now c.args.at) c.args.place.now c.requires.noted (sym c.is_queued.ensures ∙ c.if-is_queued.true));
 }
 
 pub returns-then-is_queued-clause-line : goal.returns-then-is_queued-clause-line
 returns-then-is_queued-clause-line c =
     line_left c.args.locks.now c.unlink.new.nodes c.args.line.now c.unlink.new.self c.args.at c.unlink.ensures.relinks c.unlink.ensures.linked
-    (queued_here (get c.args.locks.now c.args.at) c.index.result.now c.index.ensures (sym c.is_queued.ensures ∙ c.if-is_queued.true))
+    (queued_here (get c.args.locks.now c.args.at) c.args.place.now c.requires.noted (sym c.is_queued.ensures ∙ c.if-is_queued.true))
     c.requires.line c.unlink.ensures.handles c.unlink.ensures.others
 
 pub returns-then-is_queued-clause-room : goal.returns-then-is_queued-clause-room
@@ -27,4 +27,4 @@ returns-then-is_queued-clause-room c = room_relinked with_line_links c.args.lock
 pub returns-else-is_queued-clause-line : goal.returns-else-is_queued-clause-line
 returns-else-is_queued-clause-line c =
     unqueued_left c.args.locks.now c.args.line.now c.args.at c.requires.line
-    (unqueued_here (get c.args.locks.now c.args.at) c.index.result.now c.index.ensures (sym c.is_queued.ensures ∙ c.if-is_queued.false))
+    (unqueued_here (get c.args.locks.now c.args.at) c.args.place.now c.requires.noted (sym c.is_queued.ensures ∙ c.if-is_queued.false))

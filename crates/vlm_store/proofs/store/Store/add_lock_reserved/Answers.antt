@@ -10,25 +10,25 @@ use Rattle.std.specs.Map.{lookup}
 use Rattle.std.specs.Option.{option_map}
 use Rattle.slab.specs.Slab.{get as slot_of}
 use Rattle.indexmap.specs.IndexMap.{get, spare}
-use Rattle.vlm_links.proofs.Keeping.{vacant_unlisted}
+use Rattle.vlm_links.proofs.Keeping.{relinked_same, vacant_unlisted}
 use Rattle.vlm_links.specs.Lists.{IsIn}
 use Rattle.vlm_store.specs.HashedKeys.{hashed_at}
 use Rattle.vlm_store.proofs.HashedKeys.{labels_same}
 use Rattle.vlm_records.specs.declared.handles.Place.{Place}
 use Rattle.vlm_records.specs.declared.locks.Lock.{Lock}
-use Rattle.vlm_records.specs.Kin.{pid_at}
+use Rattle.vlm_records.specs.Kin.{owner_in, parent_in, pid_at, with_own_links}
 use Rattle.vlm_store.specs.Kept.{records_shown, beside_shown}
 use Rattle.vlm_store.specs.Records.{process_with_lock, HasRoom, IsTaken, joining, with_lists, with_new_lock}
-use Rattle.vlm_records.specs.Shown.{but_in_line, but_kin, but_queued, but_queues, handles_at, list_at, lkid_of, new_lock, queue_links, row_in, rows}
+use Rattle.vlm_records.specs.Shown.{but_in_line, but_kin, but_queued, but_queues, handles_at, list_at, lkid_of, new_lock, queue_links, row_in, rows, noted_in}
 use Rattle.vlm_store.specs.Store.{lkid_at, records_of, tables}
 use Rattle.vlm_records.proofs.Arming.{armed_kin, armed_reserved}
-use Rattle.vlm_records.proofs.Places.{same_then, there_by_part, there_through}
+use Rattle.vlm_records.proofs.Places.{same_then, there_by_part, there_through, through}
 use Rattle.vlm_store.proofs.Indexing.{Indexes-added, Indexes-same, table_same}
 use Rattle.vlm_store.proofs.Joining.{new_lkid, other_lkids, joined_kin, joined_lkids, joined_named, joined_owned, joined_processes, linked_parent_there, new_below, new_owned, owner_was_there}
 use Rattle.vlm_store.proofs.Kept.{faces_same, no_lock, on_err, on_ok, place_there, reserved_handles, reserved_placed, stored_there, reserved_tallied}
 use Rattle.vlm_store.specs.Pending.{is_of_nodes, waits_in}
 use Rattle.vlm_store.proofs.Marked.{nodes-own, own_marked, waits-own}
-use Rattle.vlm_store.proofs.Kinship.{kin_handles, kin_placed, kin_rows, kin_tallied, own_below, own_pids, own_process_linked, own_process_whole, records_processes}
+use Rattle.vlm_store.proofs.Kinship.{kin_handles, kin_placed, kin_rows, kin_tallied, own_below, own_pids, own_process_linked, own_process_whole, owner-queued, parent-queued, records_processes}
 use Rattle.vlm_store.proofs.Layouts.{joining-under_handle, lists_changed_beside}
 use Rattle.vlm_store.specs.KeyIndexes.{spare_of}
 use Rattle.vlm_store.proofs.store.Store.add_lock_reserved.Goals as goal
@@ -51,6 +51,24 @@ join_line-requires-clause-line c =
     let same : (k : ℕ) → slot_of s.queues.locks k ≡ slot_of s.queues.locks k = λ k. refl in
     line_added (record s.queues { locks = c.self.inside.queues.locks }) c.add-slot.new.self s.line c.add-slot.result c.args.to (reserved_placed s.queues c.self.inside.queues.locks same kept.placed) added.laid_out.placed
     added.fresh added.line added.here added.elsewhere (line_same s.queues.locks c.self.inside.queues.locks s.line same kept.line)
+
+pub join_line-requires-clause-noted : goal.join_line-requires-clause-noted
+join_line-requires-clause-noted c = ap noted_in c.index.ensures
+
+pub join_process-requires-clause-owner : goal.join_process-requires-clause-owner
+join_process-requires-clause-owner c =
+    let locks = c.add-slot.new.self.locks in
+    through but_queued owner_in owner-queued locks c.join_line.new.locks (line_queued locks c.join_line.new.locks c.join_line.ensures.rest) c.add-slot.result ∙ ap owner_in c.index.ensures
+
+pub join_parent-requires-clause-parent : goal.join_parent-requires-clause-parent
+join_parent-requires-clause-parent c =
+    let locks = c.add-slot.new.self.locks in
+    relinked_same with_own_links parent_in (λ l pair. refl) c.join_line.new.locks c.join_process.new.locks c.join_process.ensures.relinks c.add-slot.result
+    ∙ through but_queued parent_in parent-queued locks c.join_line.new.locks (line_queued locks c.join_line.new.locks c.join_line.ensures.rest) c.add-slot.result ∙ ap parent_in c.index.ensures
+
+pub index-requires : goal.index-requires
+index-requires c =
+    there_by_part but_queued (slot_of c.add-slot.new.self.locks c.add-slot.result) (Some (new_lock c.args.row.now c.args.owner c.args.parent)) c.add-slot.ensures.lock refl
 
 pub join_process-requires-clause-present : goal.join_process-requires-clause-present
 join_process-requires-clause-present c =

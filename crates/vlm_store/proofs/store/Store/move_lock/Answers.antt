@@ -7,7 +7,7 @@ use Rattle.vlm_store.specs.HashedKeys.{hashed_at}
 use Rattle.vlm_store.proofs.HashedKeys.{labels_same}
 use Rattle.vlm_records.specs.Shown.{but_in_line, but_queued, but_queues, handles_at, named_row, rows}
 use Rattle.vlm_records.proofs.Arming.{armed_kin}
-use Rattle.vlm_records.proofs.Places.{same_then, there_through}
+use Rattle.vlm_records.proofs.Places.{last_noted, same_then, there_through}
 use Rattle.vlm_store.specs.Store.{lkid_at, tables}
 use Rattle.vlm_store.specs.Records.{moving}
 use Rattle.vlm_store.proofs.Indexing.{Indexes-same}
@@ -19,8 +19,8 @@ use Rattle.vlm_store.proofs.Kinship.{kin_handles, kin_placed, kin_rows, kin_tall
 use Rattle.vlm_store.proofs.store.Store.move_lock.Goals as goal
 use Rattle.vlm_store.proofs.Order.{keys_same, order_handles, order_linked, order_whole}
 
-pub leave_line-requires-clause-present : goal.leave_line-requires-clause-present
-leave_line-requires-clause-present c =
+pub index-requires : goal.index-requires
+index-requires c =
     let s = c.self.inside in
     let is = rw (← c.self.view_is) at c.requires.lock in
     rw c.slot-at.ensures (stored_there s.queues s.order (beside_shown s) c.self.invariant.placed c.args.lock is.0 is.1.0).0
@@ -57,6 +57,9 @@ join_line-requires-clause-line c =
     let moved = c.move_to.ensures in
     line_moved q1 c.move_to.new.self c.leave_line.new.line c.slot-at.result c.args.to (kin_placed s.queues c.leave_line.new.locks (line_kin s.queues.locks c.leave_line.new.locks c.leave_line.ensures.rest) c.self.invariant.placed)
     moved.laid_out.placed moved.line moved.here moved.elsewhere c.leave_line.ensures.line
+
+pub join_line-requires-clause-noted : goal.join_line-requires-clause-noted
+join_line-requires-clause-noted c = last_noted c.move_to.new.self c.slot-at.result c.args.to _ c.move_to.ensures.laid_out.placed c.move_to.ensures.here
 
 pub join_line-requires-clause-present : goal.join_line-requires-clause-present
 join_line-requires-clause-present c =

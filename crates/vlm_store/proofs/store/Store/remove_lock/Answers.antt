@@ -9,21 +9,21 @@ use Rattle.indexmap.specs.IndexMap.{spare}
 use Rattle.vlm_links.specs.Lists.{without}
 use Rattle.vlm_store.specs.HashedKeys.{hashed_at}
 use Rattle.vlm_store.proofs.HashedKeys.{labels_same}
-use Rattle.vlm_records.specs.Kin.{below_handles, pid_at}
+use Rattle.vlm_records.specs.Kin.{below_handles, but_below, owner_in, pid_at}
 use Rattle.vlm_store.specs.Kept.{beside_shown}
 use Rattle.vlm_store.specs.Records.{leaving, process_without_lock, with_lists, IsGivenBack, without_stored_lock}
-use Rattle.vlm_records.specs.Shown.{but_kin, but_queued, but_queues, handles_at, lkid_of, rows}
+use Rattle.vlm_records.specs.Shown.{but_kin, but_queued, but_queues, handles_at, lkid_of, noted_in, rows}
 use Rattle.vlm_store.specs.Store.{lkid_at, records_of, tables}
 use Rattle.vlm_records.proofs.Arming.{armed_kin}
 use Rattle.vlm_store.proofs.Indexing.{Indexes-removed, table_same}
 use Rattle.vlm_store.proofs.Kept.{faces_same}
 use Rattle.vlm_store.specs.Pending.{is_of_nodes, waits_in}
 use Rattle.vlm_store.proofs.Marked.{nodes-own, own_marked, waits-own}
-use Rattle.vlm_store.proofs.Kinship.{below_kin, below_owned, kin_handles, kin_placed, kin_rows, kin_tallied, own_kin, own_pids, own_process_linked, own_process_whole, records_processes}
+use Rattle.vlm_store.proofs.Kinship.{below_kin, below_owned, kin_handles, kin_noted, kin_placed, kin_rows, kin_tallied, own_kin, own_pids, own_process_linked, own_process_whole, owner-below, records_processes}
 use Rattle.vlm_store.proofs.Layouts.{leaving-under_handle, lists_changed_beside}
 use Rattle.vlm_store.proofs.Leaving.{left_below, left_kin, left_lkids, left_named, left_owned, left_processes}
 use Rattle.vlm_store.proofs.Living.{childless, lock_there}
-use Rattle.vlm_records.proofs.Places.{same_then}
+use Rattle.vlm_records.proofs.Places.{same_then, through}
 use Rattle.vlm_store.specs.KeyIndexes.{spare_of}
 use Rattle.vlm_store.proofs.store.Store.remove_lock.Goals as goal
 use Rattle.vlm_store.proofs.Order.{keys_same, order_handles, order_linked, order_whole}
@@ -32,6 +32,16 @@ pub index-requires : goal.index-requires
 index-requires c =
     let stored = rw (← c.self.view_is) at c.requires.stored in
     rw c.slot-at.ensures (lock_there c.self.inside c.self.invariant c.args.lock stored.0 stored.1).0
+
+pub leave_process-requires-clause-owner : goal.leave_process-requires-clause-owner
+leave_process-requires-clause-owner c =
+    through but_below owner_in owner-below c.self.inside.queues.locks c.leave_parent.new.locks c.leave_parent.ensures.rest c.slot-at.result ∙ ap owner_in c.index.ensures
+
+pub leave_line-requires-clause-noted : goal.leave_line-requires-clause-noted
+leave_line-requires-clause-noted c =
+    let s = c.self.inside in
+    let kin = same_then but_kin s.queues.locks c.leave_parent.new.locks c.leave_process.new.locks (below_kin s.processes s.queues.locks c.leave_parent.new.locks c.leave_parent.ensures.rest) (own_kin c.leave_parent.new.locks c.leave_process.new.locks c.leave_process.ensures.relinks) in
+    kin_noted s.queues c.leave_process.new.locks kin c.slot-at.result ∙ ap noted_in c.index.ensures
 
 pub leave_process-requires-clause-owned : goal.leave_process-requires-clause-owned
 leave_process-requires-clause-owned c =
@@ -67,7 +77,7 @@ invariant_of-self c =
       linked = order_linked but_queues (λ r. refl) s.queues.resources q'.resources removed.rest s.order kept.linked;
       ordered = order_whole but_queues (λ r. refl) s.queues.resources q'.resources removed.rest s.order kept.linked kept.ordered;
       locks =
-          Indexes-removed nat_eq unsigned_Decides s.lock_index c.swap_remove.new.self c.index.result.now.row.lkid (lkid_at s.queues) (lkid_at q') c.args.lock (rw c.lkid-lkid.ensures at c.swap_remove.ensures.updates)
+          Indexes-removed nat_eq unsigned_Decides s.lock_index c.swap_remove.new.self c.index.result.now.row.lkid (lkid_at s.queues) (lkid_at q') c.args.lock (rw c.lkid.ensures at c.swap_remove.ensures.updates)
           (ap (option_map lkid_of) (rw c.slot-at.ensures at c.index.ensures)) (ap (option_map lkid_of) removed.gone)
           (left_lkids s kept c.args.lock none c.leave_parent.new.locks c.leave_process.new.locks q'.locks c.leave_process.new.processes parent.below parent.handles parent.rest process.owned process.handles process.relinks process.rest removed.gone gone_kin) kept.locks;
       resources = labels_same (hash_key s.keys) s.resource_index (hashed_at s.queues) (hashed_at q') (keys_same but_queues (λ r. refl) s.queues.resources q'.resources removed.rest) kept.resources;
