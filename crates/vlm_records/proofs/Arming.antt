@@ -395,7 +395,7 @@ tally-armed : (slot : Option Resource) → tally_in (option_map but_armed slot) 
 tally-armed None = refl
 tally-armed (Some r) = refl
 
-module _ (q : Queues) (locks1 : Slab Lock) (res : ℕ) (first was : Resource) (list1 : LinkedList InArmed) (here0 : get q.resources res ≡ Some first) (here : get q.resources res ≡ Some was)
+module _ (q : Queues) (locks1 : Slab Lock) (res : ℕ) (was : Resource) (list1 : LinkedList InArmed) (here : get q.resources res ≡ Some was)
     (relinks : Relinks with_armed_links q.locks locks1) where
   -- the records once the list of one resource is written
   abbrev pub relisted : Queues
@@ -464,12 +464,12 @@ module _ (q : Queues) (locks1 : Slab Lock) (res : ℕ) (first was : Resource) (l
         let there : ContainsKey q.resources res = rw here refl in
         ap armed_list_in ((Updates-with_value q.resources res (record was { armed = list1 }) there).others j differs)
 
-    head : first.armed ≡ armed_list q res
-    head = sym (ap armed_list_in here0)
+    head : was.armed ≡ armed_list q res
+    head = sym (ap armed_list_in here)
 
     module _ (at : ℕ) (linked1 : IsLinked armed_links locks1 list1) (is : armed_on (get q.locks at) ≡ Some res) where
-      module _ (armed : IsArmed q None) (handles1 : handles_of armed_links locks1 list1 ≡ without at (handles_of armed_links q.locks first.armed))
-          (others1 : (other : ℕ) → ¬ IsIn other (handles_of armed_links q.locks first.armed) → get locks1 other ≡ get q.locks other) where
+      module _ (armed : IsArmed q None) (handles1 : handles_of armed_links locks1 list1 ≡ without at (handles_of armed_links q.locks was.armed))
+          (others1 : (other : ℕ) → ¬ IsIn other (handles_of armed_links q.locks was.armed) → get locks1 other ≡ get q.locks other) where
         left_handles1 : handles_of armed_links locks1 list1 ≡ without at (armed_list_handles q res)
         left_handles1 = handles1 ∙ ap (λ l. without at (handles_of armed_links q.locks l)) head
 
@@ -492,8 +492,8 @@ module _ (q : Queues) (locks1 : Slab Lock) (res : ℕ) (first was : Resource) (l
                   ∙ sym (granted_same (without at (handles_at q (Queued j Granted))) (without at (handles_at relisted (Queued j Granted))) (ap (without at) (relisted_handles (Queued j Granted))));
             }
 
-      module _ (armed : IsArmed q (Some at)) (handles1 : handles_of armed_links locks1 list1 ≡ handles_of armed_links q.locks first.armed ++ at ∷ [])
-          (others1 : (other : ℕ) → ¬ IsIn other (handles_of armed_links q.locks first.armed) → other ≢ at → get locks1 other ≡ get q.locks other) (last : StandsLast q at) where
+      module _ (armed : IsArmed q (Some at)) (handles1 : handles_of armed_links locks1 list1 ≡ handles_of armed_links q.locks was.armed ++ at ∷ [])
+          (others1 : (other : ℕ) → ¬ IsIn other (handles_of armed_links q.locks was.armed) → other ≢ at → get locks1 other ≡ get q.locks other) (last : StandsLast q at) where
         joined_handles1 : handles_of armed_links locks1 list1 ≡ armed_list_handles q res ++ at ∷ []
         joined_handles1 = handles1 ∙ ap (λ l. handles_of armed_links q.locks l ++ at ∷ []) head
 

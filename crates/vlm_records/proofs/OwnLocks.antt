@@ -38,7 +38,7 @@ owner_there processes locks owned at owner is = by_slot (get processes owner) re
     by_slot None is found = absurd found
     by_slot (Some p) is found = rw is refl
 
-module _ (processes : Slab Process) (locks locks1 : Slab Lock) (at owner : ℕ) (first was : Process) (own1 : LinkedList OfProcess) (here0 : get processes owner ≡ Some first) (here : get processes owner ≡ Some was)
+module _ (processes : Slab Process) (locks locks1 : Slab Lock) (at owner : ℕ) (was : Process) (own1 : LinkedList OfProcess) (here : get processes owner ≡ Some was)
     (relinks : Relinks with_own_links locks locks1) (linked1 : IsLinked own_links locks1 own1) where
   -- the processes once the locks of one are written
   abbrev pub left_processes : Slab Process
@@ -54,14 +54,14 @@ module _ (processes : Slab Process) (locks locks1 : Slab Lock) (at owner : ℕ) 
       let there : ContainsKey processes owner = rw here refl in
       ap own_in ((Updates-with_value processes owner (record was { own = own1 }) there).others j differs)
 
-  head : first.own ≡ own_list processes owner
-  head = sym (ap own_in here0)
+  head : was.own ≡ own_list processes owner
+  head = sym (ap own_in here)
 
   owners : (k : ℕ) → owner_in (get locks1 k) ≡ owner_in (get locks k)
   owners = relinked_same with_own_links owner_in (λ l pair. refl) locks locks1 relinks
 
-  module _ (owned : IsOwned processes locks None) (is : owner_in (get locks at) ≡ Some owner) (handles1 : handles_of own_links locks1 own1 ≡ without at (handles_of own_links locks first.own))
-      (others1 : (other : ℕ) → ¬ IsIn other (handles_of own_links locks first.own) → get locks1 other ≡ get locks other) where
+  module _ (owned : IsOwned processes locks None) (is : owner_in (get locks at) ≡ Some owner) (handles1 : handles_of own_links locks1 own1 ≡ without at (handles_of own_links locks was.own))
+      (others1 : (other : ℕ) → ¬ IsIn other (handles_of own_links locks was.own) → get locks1 other ≡ get locks other) where
     left_handles1 : handles_of own_links locks1 own1 ≡ without at (own_handles processes locks owner)
     left_handles1 = handles1 ∙ ap (λ l. without at (handles_of own_links locks l)) head
 
@@ -78,8 +78,8 @@ module _ (processes : Slab Process) (locks locks1 : Slab Lock) (at owner : ℕ) 
         family-taken own_links owner_in cases_eq locks locks1 locks1 (own_list processes) (own_list left_processes) own1 at owner (λ k. refl) (λ k. refl) (λ k h. h) linked1 head_here head_elsewhere
         owned is left_handles1 left_others1 owners
 
-  module _ (owned : IsOwned processes locks (Some at)) (is : owner_in (get locks at) ≡ Some owner) (handles1 : handles_of own_links locks1 own1 ≡ handles_of own_links locks first.own ++ at ∷ [])
-      (others1 : (other : ℕ) → ¬ IsIn other (handles_of own_links locks first.own) → other ≢ at → get locks1 other ≡ get locks other) where
+  module _ (owned : IsOwned processes locks (Some at)) (is : owner_in (get locks at) ≡ Some owner) (handles1 : handles_of own_links locks1 own1 ≡ handles_of own_links locks was.own ++ at ∷ [])
+      (others1 : (other : ℕ) → ¬ IsIn other (handles_of own_links locks was.own) → other ≢ at → get locks1 other ≡ get locks other) where
     joined_handles1 : handles_of own_links locks1 own1 ≡ own_handles processes locks owner ++ at ∷ []
     joined_handles1 = handles1 ∙ ap (λ l. handles_of own_links locks l ++ at ∷ []) head
 

@@ -75,10 +75,14 @@ impl Queues {
         ensures change { (place : Place) → noted self.old at ≡ Some place
             → Recounts place (rows self.old at) row.now self.old.resources self.new.resources }
     {
-        let lock = &self.locks[at];
-        if let Place::Queued(res, queue) = lock.place {
+        let Lock {
+            row: was,
+            place,
+            ..
+        } = self.locks[at];
+        if let Place::Queued(res, queue) = place {
             let tally = &mut self.resources[res.slot()].tally;
-            tally.remove(queue, &lock.row.row());
+            tally.remove(queue, &was.row());
             tally.add(queue, &row.row());
         }
     }

@@ -12,7 +12,8 @@
 //! its resource, in the order of the granted queue; and one whose request is queued in the line, the list of all such
 //! locks, of whichever resource. Resources and processes are linked in order of making. A resource counts its locks in a
 //! tally, so a lock that moves leaves the armed ones, is counted out, linked anew and counted in, and joins the armed ones
-//! at their end, if it is armed.
+//! at their end, if it is armed. A lock that is granted again where it stands last, armed as it was, keeps
+//! its links: its row and its counts alone are written.
 //!
 //! `Queues` has the slabs of locks and resources, and the lists of a resource (`queues`, `counts`, `armed`). The lists
 //! of own locks and of sublocks are linked beside it (`kin`), since the slab of processes is its owner's, as are the line

@@ -20,15 +20,15 @@ push_back-requires-clause-unlisted c found =
 pub returns-clause-armed : goal.returns-clause-armed
 returns-clause-armed c =
     rw c.slot.ensures
-    (relisted_joined c.args.self.now c.push_back.new.nodes c.in-Some.res c.index_mut.result.now c.index_mut.result.now c.push_back.new.self
-    (rw c.slot.ensures at c.index_mut.ensures.value) (rw c.slot.ensures at c.index_mut.ensures.value) c.push_back.ensures.relinks c.requires.placed
+    (relisted_joined c.args.self.now c.push_back.new.nodes c.in-Some.res c.index_mut.result.now c.push_back.new.self
+    (rw c.slot.ensures at c.index_mut.ensures.value) c.push_back.ensures.relinks c.requires.placed
     c.args.at c.push_back.ensures.linked (ap armed_on c.index.ensures ∙ sym c.armed_on.ensures ∙ c.in-Some.is) c.requires.armed c.push_back.ensures.handles c.push_back.ensures.others c.requires.last)
 
 pub returns-clause-places : goal.returns-clause-places
 returns-clause-places c =
     rw c.slot.ensures
-    (relisted_places c.args.self.now c.push_back.new.nodes c.in-Some.res c.index_mut.result.now c.index_mut.result.now c.push_back.new.self
-    (rw c.slot.ensures at c.index_mut.ensures.value) (rw c.slot.ensures at c.index_mut.ensures.value) c.push_back.ensures.relinks c.requires.placed c.requires.tallied)
+    (relisted_places c.args.self.now c.push_back.new.nodes c.in-Some.res c.index_mut.result.now c.push_back.new.self
+    (rw c.slot.ensures at c.index_mut.ensures.value) c.push_back.ensures.relinks c.requires.placed c.requires.tallied)
 
 pub returns-in_default-clause-places : goal.returns-in_default-clause-places
 returns-in_default-clause-places c = same_places c.args.self.now c.requires.placed c.requires.tallied

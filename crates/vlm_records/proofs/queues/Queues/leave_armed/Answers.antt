@@ -25,15 +25,15 @@ unlink-requires c =
 pub returns-clause-armed : goal.returns-clause-armed
 returns-clause-armed c =
     rw c.slot.ensures
-    (relisted_left c.args.self.now c.unlink.new.nodes c.in-Some.res c.index_mut.result.now c.index_mut.result.now c.unlink.new.self
-    (rw c.slot.ensures at c.index_mut.ensures.value) (rw c.slot.ensures at c.index_mut.ensures.value) c.unlink.ensures.relinks c.requires.laid_out.placed
+    (relisted_left c.args.self.now c.unlink.new.nodes c.in-Some.res c.index_mut.result.now c.unlink.new.self
+    (rw c.slot.ensures at c.index_mut.ensures.value) c.unlink.ensures.relinks c.requires.laid_out.placed
     c.args.at c.unlink.ensures.linked (ap armed_on c.index.ensures ∙ sym c.armed_on.ensures ∙ c.in-Some.is) c.requires.laid_out.armed c.unlink.ensures.handles c.unlink.ensures.others)
 
 pub returns-clause-places : goal.returns-clause-places
 returns-clause-places c =
     rw c.slot.ensures
-    (relisted_places c.args.self.now c.unlink.new.nodes c.in-Some.res c.index_mut.result.now c.index_mut.result.now c.unlink.new.self
-    (rw c.slot.ensures at c.index_mut.ensures.value) (rw c.slot.ensures at c.index_mut.ensures.value) c.unlink.ensures.relinks c.requires.laid_out.placed c.requires.laid_out.tallied)
+    (relisted_places c.args.self.now c.unlink.new.nodes c.in-Some.res c.index_mut.result.now c.unlink.new.self
+    (rw c.slot.ensures at c.index_mut.ensures.value) c.unlink.ensures.relinks c.requires.laid_out.placed c.requires.laid_out.tallied)
 
 pub returns-in_default-clause-places : goal.returns-in_default-clause-places
 returns-in_default-clause-places c = same_places c.args.self.now c.requires.laid_out.placed c.requires.laid_out.tallied

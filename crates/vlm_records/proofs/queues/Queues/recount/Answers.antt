@@ -11,7 +11,7 @@ use Rattle.vlm_records.proofs.queues.Queues.recount.Goals as goal
 pub index_mut-requires : goal.index_mut-requires
 index_mut-requires c =
     rw c.slot.ensures
-    (noted_stands c.args.self.now c.args.at c.index-lock.result.now c.in-Queued.res c.in-Queued.queue c.requires.placed c.index-lock.ensures c.in-Queued.is)
+    (noted_stands c.args.self.now c.args.at c.index.result.now c.in-Queued.res c.in-Queued.queue c.requires.placed c.index.ensures c.in-Queued.is)
 
 pub remove-requires : goal.remove-requires
 remove-requires c count mode =
@@ -20,7 +20,7 @@ remove-requires c count mode =
       arith,
       ap (λ slot. how_many count (tally_in slot) mode) (rw c.slot.ensures at c.index_mut.ensures.value),
       c.requires.tallied.counts count c.in-Queued.res mode,
-      weighs_here c.args.self.now c.args.self.now c.args.at c.in-Queued.res c.in-Queued.queue c.index-lock.result.now c.requires.placed c.index-lock.ensures c.in-Queued.is
+      weighs_here c.args.self.now c.args.self.now c.args.at c.in-Queued.res c.in-Queued.queue c.index.result.now c.requires.placed c.index.ensures c.in-Queued.is
           (λ p. refl) refl (weight_of count mode),
     ))
 
@@ -31,9 +31,9 @@ add-requires c count mode =
       rw c.row.ensures at c.remove.ensures count mode,
       ap (λ slot. how_many count (tally_in slot) mode) (rw c.slot.ensures at c.index_mut.ensures.value),
       c.requires.tallied.counts count c.in-Queued.res mode,
-      weighs_here c.args.self.now c.args.self.now c.args.at c.in-Queued.res c.in-Queued.queue c.index-lock.result.now c.requires.placed c.index-lock.ensures c.in-Queued.is
+      weighs_here c.args.self.now c.args.self.now c.args.at c.in-Queued.res c.in-Queued.queue c.index.result.now c.requires.placed c.index.ensures c.in-Queued.is
           (λ p. refl) refl (weight_of count mode),
-      shares-room c.args.self.now (weight_of count mode) (weight_of-le count mode) c.args.at c.index-lock.result.now.place c.requires.placed (ap noted_in c.index-lock.ensures) c.in-Queued.res,
+      shares-room c.args.self.now (weight_of count mode) (weight_of-le count mode) c.args.at c.index.result.now.place c.requires.placed (ap noted_in c.index.ensures) c.in-Queued.res,
     )
 
 pub returns-in-Queued-clause-counts : goal.returns-in-Queued-clause-counts
@@ -46,11 +46,11 @@ returns-in-Queued-clause-counts c = record {
   resources_room =
       rw c.slot.ensures
       (room_written c.args.self.now.resources c.in-Queued.res _
-      (noted_stands c.args.self.now c.args.at c.index-lock.result.now c.in-Queued.res c.in-Queued.queue c.requires.placed c.index-lock.ensures c.in-Queued.is));
+      (noted_stands c.args.self.now c.args.at c.index.result.now c.in-Queued.res c.in-Queued.queue c.requires.placed c.index.ensures c.in-Queued.is));
 }
 
 pub returns-in-Queued-clause-change : goal.returns-in-Queued-clause-change
 returns-in-Queued-clause-change c =
     rw c.slot.ensures
-    (recounts c.args.self.now c.args.at c.in-Queued.res c.in-Queued.queue c.index-lock.result.now c.index_mut.result.now c.remove.new.self c.add.new.self c.args.row.now c.index-lock.ensures c.in-Queued.is
+    (recounts c.args.self.now c.args.at c.in-Queued.res c.in-Queued.queue c.index.result.now c.index_mut.result.now c.remove.new.self c.add.new.self c.args.row.now c.index.ensures c.in-Queued.is
     (rw c.slot.ensures at c.index_mut.ensures.value) (rw c.row.ensures at c.remove.ensures) (rw c.row-in-Queued.ensures at c.add.ensures))
