@@ -55,6 +55,7 @@ pub fn declare(store: &mut Store, pid: u32, declaration: &Declaration) -> Result
 
 /// Adds a resource, unless it is there.
 pub fn open(store: &mut Store, serial: u32, key: &Key) -> Result<(), AllocError> {
+    store.reserve_resource()?;
     let hash = store.hash_of(key);
     match store.resource(key, hash) {
         Some(_) => Ok(()),
@@ -64,7 +65,7 @@ pub fn open(store: &mut Store, serial: u32, key: &Key) -> Result<(), AllocError>
                 domain: Domain::System,
                 level: 0,
             };
-            store.add_resource(serial, &site, hash)?;
+            store.add_resource_reserved(serial, &site, hash);
             Ok(())
         }
     }
@@ -79,11 +80,12 @@ pub fn add(
 ) -> Result<(), AllocError>
     requires { IsParentOf parent row store.old }
 {
+    store.reserve_lock()?;
     let owner = process(rt, store, row.pid);
     match store.lock(row.lkid) {
         Some(_) => Ok(()),
         None => {
-            store.add_lock(StoredRow::of(&row), owner, parent, Place::Loose)?;
+            store.add_lock_reserved(&StoredRow::of(&row), owner, parent, Place::Loose);
             Ok(())
         }
     }
