@@ -1,6 +1,6 @@
-use Rattle.std.proofs.Common.{◌≡◌, ◌≤◌, ◌-◌, ap, sym, subst, ◌∙◌, arith}
+use Rattle.std.proofs.Common.{◌≤◌, ◌-◌, ap, sym, subst, ◌∙◌, arith}
 use Rattle.vlm_words.specs.Asts.{completion_asts, processes_after_asts}
-use Rattle.vlm_words.specs.Dues.{one_where, row_due}
+use Rattle.vlm_words.specs.Dues.{one_where}
 use Rattle.vlm_words.specs.Effects.{blocks_with}
 use Rattle.vlm_store.specs.Plain.{plain_processes}
 use Rattle.vlm_store.specs.Records.{DueChanges, due_of}

@@ -1,6 +1,3 @@
-use Rattle.std.proofs.Common.{◌≡◌, sym, ap, ◌∙◌, subst}
-use Rattle.vlm_store.specs.Records.{due_of}
-use Rattle.vlm_words.specs.Dues.{row_due}
 use Rattle.vlm_locks.proofs.Found.{process_still, process_there}
 use Rattle.vlm_locks.proofs.endings.end_without_value_block.Goals as goal
 

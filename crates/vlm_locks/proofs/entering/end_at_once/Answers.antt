@@ -1,6 +1,6 @@
-use Rattle.std.proofs.Common.{◌≡◌, IfSome, IsSome, Option, None, Some, ap, true}
+use Rattle.std.proofs.Common.{◌≡◌, IfSome, Option, None, Some, ap, true}
 use Rattle.vlm_store.specs.Plain.{plain_processes}
-use Rattle.vlm_store.specs.Records.{Records, StoredResource, resource_at}
+use Rattle.vlm_store.specs.Records.{StoredResource, resource_at}
 use Rattle.vlm_words.specs.Effects.{blocks_after, blocks_with}
 use Rattle.vlm_words.specs.Grants.{grant_endings}
 use Rattle.vlm_locks.specs.Entering.{new_row}

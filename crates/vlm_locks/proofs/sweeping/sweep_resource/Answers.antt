@@ -1,5 +1,4 @@
 use Rattle.std.proofs.Common.{[], ◌∷◌, refl, eq-eqb}
-use Rattle.vlm_store.specs.Records.{Records}
 use Rattle.vlm_locks.proofs.Parting.{one_in_order}
 use Rattle.vlm_locks.proofs.Sweeps.{IsSweeping, swept_resources, swept_statuses, sweeping_begun, sweeping_next}
 use Rattle.vlm_locks.proofs.sweeping.sweep_resource.Goals as goal

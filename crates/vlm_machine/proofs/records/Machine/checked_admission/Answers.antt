@@ -1,4 +1,4 @@
-use Rattle.std.proofs.Common.{rules, ◌≡◌, refl, sym, ap}
+use Rattle.std.proofs.Common.{rules, refl, sym, ap}
 use Rattle.vlm_words.specs.Convert.{convert_request}
 use Rattle.vlm_machine.specs.Machine.{plain_state}
 use Rattle.vlm_machine.proofs.Admitting.{is_admitted, not_admitted}

@@ -1,4 +1,4 @@
-use Rattle.std.proofs.Common.{◌≡◌, rules, refl, sym, ap, ◌∙◌, subst, find, unwrap_or}
+use Rattle.std.proofs.Common.{◌≡◌, refl, sym, ap, ◌∙◌, subst, find, unwrap_or}
 use Rattle.vlm_words.specs.declared.resources.Site.{Site}
 use Rattle.vlm_words.specs.Enqueue.{enq_request, enq_resource, enq_row, is_at_once}
 use Rattle.vlm_words.specs.Flags.{flag_bits}
@@ -7,7 +7,7 @@ use Rattle.vlm_words.specs.State.{Resource}
 use Rattle.vlm_words.specs.Trees.{enq_site, parent_resource, root_domain, site_below}
 use Rattle.vlm_store.specs.Plain.{plain_resources}
 use Rattle.vlm_store.specs.Records.{IsParentOf, IsProcess}
-use Rattle.vlm_machine.specs.Admissions.{IsAskedBy, IsChecked}
+use Rattle.vlm_machine.specs.Admissions.{IsAskedBy}
 use Rattle.vlm_machine.specs.Machine.{MachineState, kept, plain_state}
 use Rattle.vlm_machine.proofs.Siting.{parent_of_row, site_is}
 use Rattle.vlm_machine.proofs.records.Machine.looked_up.Goals as goal

@@ -4,7 +4,7 @@ use Rattle.vlm_links.specs.declared.link.TheConstants.{LAST_HANDLE}
 use Rattle.vlm_links.specs.declared.hashing.HashKeys.{HashKeys}
 use Rattle.vlm_store.specs.Index.{hash_key}
 use Rattle.vlm_store.proofs.Lined.{line_same}
-use Rattle.vlm_store.proofs.RoomShown.{room_shown, shown_room, is_taken, rooms_are, room_of_same, resource_room_kept, resource_room_made, has_room}
+use Rattle.vlm_store.proofs.RoomShown.{room_shown, shown_room, is_taken, rooms_are, room_of_same, has_room}
 use Rattle.std.proofs.Common.{◌≡◌, ◌<◌, ◌≤◌, arith, ◌∙◌, ◌++◌, ◌∷◌, [], ℕ, None, Some, IsSome, ap, sym, refl, nat_eq, subst}
 use Rattle.std.specs.Option.{option_map}
 use Rattle.slab.specs.Slab.{get as slot_of}
@@ -16,14 +16,14 @@ use Rattle.vlm_records.specs.declared.handles.Place.TheVariants.{Queued}
 use Rattle.vlm_records.specs.declared.resources.Resource.{Resource}
 use Rattle.vlm_store.specs.declared.hashed.HashedKey.{HashedKey}
 use Rattle.vlm_store.specs.HashedKeys.{hashed, hashed_at, hashed_in}
-use Rattle.vlm_store.proofs.HashedKeys.{by_keys, fresh_label, hashed_added, hashed_by_face, hashed_is, index_same, last_there}
+use Rattle.vlm_store.proofs.HashedKeys.{by_keys, fresh_label, hashed_added, hashed_by_face, hashed_is, last_there}
 use Rattle.vlm_store.specs.Records.{new_stored_resource, HasRoom, IsTaken}
 use Rattle.vlm_records.specs.Shown.{face_in, lkid_of, new_face, order_links, row_in, room_in, but_queued, tally_in}
 use Rattle.vlm_store.specs.Store.{lkid_at, resource_of, tables, records_of}
 use Rattle.vlm_records.specs.Armed.{armed_list_in}
 use Rattle.vlm_records.proofs.Arming.{armed_resources}
 use Rattle.vlm_store.proofs.Indexing.{Indexes-same}
-use Rattle.vlm_store.proofs.Kept.{no_resource, on_err}
+use Rattle.vlm_store.proofs.Kept.{no_resource}
 use Rattle.vlm_store.proofs.Layouts.{HasResource-order, resource_made}
 use Rattle.vlm_records.proofs.Making.{face_by_face, face_is, none_handles, there_by_face, whole_grown, reserved_lists, resources_handles, resources_placed, resources_tallied}
 use Rattle.vlm_store.specs.Kept.{records_shown, beside_shown, found_in}
