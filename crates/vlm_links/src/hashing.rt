@@ -8,13 +8,13 @@ ghost use Rattle.vlm_links.specs.Sip.{initial};
 use crate::sip::SipState;
 use std::hash::{BuildHasher, DefaultHasher, Hasher};
 
-/// How indexes hash: SipHash behind keys. Who doesn't know the keys can't choose names that meet in an index. No
-/// answer depends on them.
+/// How the indexes hash: SipHash with secret keys. Somebody who does not know the keys cannot choose names with equal
+/// hashes. No answer depends on the keys.
 #[derive(Clone, Copy)]
 pub struct HashKeys {
-    // the state of a hash of words that has taken the keys, and nothing else
+    // the state of SipHash after the keys, for words
     words: SipState,
-    // the hasher of bytes that has taken the keys, and nothing else
+    // the same for bytes
     bytes: DefaultHasher,
 }
 
@@ -44,7 +44,7 @@ impl HashKeys {
         }
     }
 
-    /// The hash of these words, in 32 bits: who keeps it need not hash them again.
+    /// The hash of these words, in 32 bits.
     #[tactic(auto, using(std::proofs::lemmas::List::Sums::fold_more), unfolding(crate::specs::Hashing::hash_of))]
     pub fn hash_of(&self, words: &[u64]) -> u32
         ensures { result ≡ hash_of self.now words.now }
@@ -67,10 +67,10 @@ impl BuildHasher for HashKeys {
     }
 }
 
-/// The hasher of an index whose keys are hashes of 32 bits already: it takes them as they are.
+/// The hasher of an index whose keys are hashes of 32 bits. It uses them unchanged.
 #[derive(Clone, Copy)]
 pub struct HashAsIs {
-    // the hash that was written, and 0 before; what has not four bytes is none and counts as 0
+    // the hash that was written: 0 before, and after input that is not four bytes long
     taken: u64,
 }
 

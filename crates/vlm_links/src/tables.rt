@@ -10,20 +10,20 @@ use std::marker::Model;
 // How many numbers a range has.
 const RANGE: u32 = 65_536;
 
-/// Handles of records by the numbers of these, of which each range of 65,536 is given in order from its start. A number
-/// is found at its place, and not by a hash.
+/// Handles of records by number. Numbers come in ranges of 65,536, and each range is used in order from its start. So a
+/// number leads to its place in a row, without a hash.
 #[derive(Drop)]
 pub struct HandleTable {
     // where rows are made
     alloc: Global,
-    // the handles of the numbers of range k stand in row k
+    // row k has the handles of range k
     rows: Vec<HandleRow>,
 }
 
 impl Model for HandleTable {
     ghost use Rattle.std.specs.Prelude.{ℕ, List, Option};
 
-    // Of each range, the handle of each number that there is room for, or none.
+    // For each range, the handle of each number, or none.
     ghost Value = { List (List (Option ℕ)) };
 
     ghost view = { λ t. t.rows.items };
@@ -40,8 +40,8 @@ impl HandleTable {
         }
     }
 
-    /// Makes room for the number and all below it in its range, for 64 at a time, and a row for each range below it. The
-    /// memory of a row grows to twice its size, so many calls seldom move it.
+    /// Makes room for the number and for all lower ones of its range, 64 at a time, and a row for each lower range. A
+    /// row doubles as it grows, so it seldom moves.
     pub fn make_room(&mut self, number: u32) -> Result<(), AllocError>
         ensures room { OnOk result (HasRoomFor self.new number) }
         ensures kept { Grows self.old self.new }
@@ -53,7 +53,7 @@ impl HandleTable {
         self.rows[row].make_room((number % RANGE) as u16)
     }
 
-    // Makes so many rows, where there are fewer.
+    // Makes at least this many rows.
     fn make_rows(&mut self, count: usize) -> Result<(), AllocError>
         ensures rows { OnOk result (count ≤ length self.new) }
         ensures kept { Grows self.old self.new }

@@ -128,7 +128,7 @@ fn completions_spared(request: &Request, at_once: bool) -> usize
     }
 }
 
-// The completion AST of a request that is granted is queued, and what is owed for its lock and does not come is forgiven.
+// Queues the completion AST of a granted request, and frees the room of the ASTs that will not come.
 fn tell_grant(store: &mut Store, at: ProcAt, row: &StoredRow, request: &Request, at_once: bool)
     requires process { IsProcess at row.now.pid store.old }
     requires wanted { row.now.want ≡ Some request.now }
@@ -147,9 +147,8 @@ fn tell_grant(store: &mut Store, at: ProcAt, row: &StoredRow, request: &Request,
     }
 }
 
-/// The request of a lock is granted at once, and says nothing of the value block: its status is written to the status
-/// block of the lock's process, and its completion AST is queued. What is owed for the lock and does not come is
-/// forgiven.
+/// Ends a request without VALBLK that is granted at once. It writes the status to the status block of the lock's
+/// process, queues the completion AST, and frees the room of the ASTs that will not come.
 #[tactic(auto, unfolding(vlm_words::specs::Grants::grant_act))]
 pub(crate) fn end_without_value_block(
     store: &mut Store,

@@ -45,13 +45,13 @@ pub struct Entry {
     pub asked: Request,
     /// Its identification.
     pub lkid: u32,
-    /// The process that owns it, by its identification.
+    /// The identification of its process.
     pub pid: u32,
-    /// The lock that it is made under, by its identification, or 0.
+    /// The identification of its parent lock, or 0.
     pub parent_lkid: u32,
-    /// Where that process is.
+    /// The handle of its process.
     pub owner: ProcAt,
-    /// Where that lock is, if there is one.
+    /// The handle of its parent lock, if it has one.
     pub parent: Option<LockAt>,
     /// Where its resource stands.
     pub site: Site,
@@ -65,7 +65,7 @@ pub struct Entry {
     pub at_once: bool,
 }
 
-// The row of a new lock, which wants what it asks for and holds nothing.
+// The row of a new lock before its grant.
 fn new_row(entry: &Entry) -> StoredRow
     ensures { result ≡ new_row entry.now }
 {
@@ -147,8 +147,8 @@ fn take_in(store: &mut Store, entry: &Entry) -> ResAt
     }
 }
 
-// The request of a new lock is granted at once. It returns the value block of its resource, where it asks for that, and
-// never writes it.
+// Ends the request of a new lock that is granted at once. With VALBLK it returns the value block; a new request never
+// writes it.
 fn end_at_once(store: &mut Store, entry: &Entry, res: ResAt)
     requires owner { IsProcess entry.now.owner entry.now.pid store.old }
     requires there { HasResource res store.old }
@@ -169,7 +169,7 @@ fn end_at_once(store: &mut Store, entry: &Entry, res: ResAt)
     }
 }
 
-// The request of a lock that has entered is accepted, and ends if it is granted at once.
+// Accepts the request of a lock that has entered, and ends it if it is granted at once.
 fn accept_entered(store: &mut Store, entry: &Entry, res: ResAt)
     requires owner { IsProcess entry.now.owner entry.now.pid store.old }
     requires there { HasResource res store.old }
@@ -215,8 +215,7 @@ fn make_ready(store: &mut Store, entry: &Entry) -> Result<(), AllocError>
     owe_routines(store, entry.owner, Some(entry.asked))
 }
 
-// Takes a new lock in, once there is room for all of it and its process is owed the ASTs of the routines that its
-// request names.
+// Takes a new lock in, after all room for it was made.
 fn enter_ready(store: &mut Store, entry: &Entry) -> ResAt
     requires may_enter { MayEnter entry.now store.old }
     requires found { FindsResource store.old entry.now.site.key entry.now.res }

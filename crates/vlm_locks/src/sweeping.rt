@@ -34,8 +34,8 @@ fn sweep_one(store: &mut Store, res: ResAt)
     }
 }
 
-/// Ends a step that touched one resource: what is queued there is granted as far as it can be, who is in the way of the
-/// rest is warned, and the resource goes if no lock is left on it. On the others nothing is to be done.
+/// Ends a step that touched one resource. It grants the queued requests that can be granted, warns the locks that block
+/// the others, and removes the resource if no lock is left on it.
 pub fn sweep_resource(store: &mut Store, res: ResAt)
     requires rest { IsAtRest store.old }
     requires there { HasResource res store.old }

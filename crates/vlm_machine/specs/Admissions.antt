@@ -35,7 +35,7 @@ pub record IsCaller (caller : Caller) (s : Records) : Type 0 where
   pub lives : IsProcess caller.at caller.pid s
   pub there : HasProcess caller.at s
 
--- what a new request says of itself: its flags and the parent lock that it names; and its name is one
+-- the flags of a new request and the identification of its parent lock; its name is valid
 pub record IsForm (s : State) (e : NewRequest) (form : Form) : Type 0 where
   pub flags : flag_bits form.flags ≡ e.flags
   pub parent : form.parent ≡ parent_lkid s e
@@ -48,8 +48,9 @@ pub record IsAskedBy (m : MachineState) (e : NewRequest) (caller : Caller) (form
   pub says : IsForm (plain_state m) e form
   pub stands : IsParent caller.pid form.parent parent m.records
 
--- the new request is checked so: who asks and with which flags, its parent lock, where its resource stands, how the key of
--- that is hashed, where the resource is, if it is there, and whether the request is granted at once; there are numbers for it
+-- the result of a new request's checks: its process, flags and parent lock, where its resource stands, the hash of the
+-- key, the handle of the resource, if it is there, and whether the request is granted at once; the numbers are not used
+-- up
 pub record IsChecked (m : MachineState) (e : NewRequest) (c : CheckedRequest) : Type 0 where
   pub owner : IsProcess c.owner e.pid m.records
   pub flags : flag_bits c.flags ≡ e.flags
@@ -82,8 +83,8 @@ pub record IsAdmitted (m : MachineState) (e : NewRequest) (entry : Entry) : Type
   pub lkid : m.next_lkid < 2 ^ 32
   pub number : m.next_request < 2 ^ 64
 
--- the conversion is admitted so: its lock as it stands granted, and whether what is asked for is granted at once; and
--- there is a number for it
+-- an admitted conversion: its lock as it is granted, and whether the request is granted at once; the request numbers
+-- are not used up
 pub record IsAdmittedConversion (m : MachineState) (c : Conversion) (f : Standing) (now : Bool) : Type 0 where
   pub standing : IsStandingOf c.pid (convert_lkid (plain_state m) c) f m.records
   pub granted : f.queue ≡ Granted

@@ -25,7 +25,7 @@ use vlm_words::locks::Request;
 use vlm_words::modes::{Mode, quecvt_legal};
 use vlm_words::steps::{Answer, Conversion, Step};
 
-/// A lock that a conversion names and its caller has, and the flags of the conversion.
+/// The lock of a conversion and its flags, after the first checks.
 #[derive(Clone, Copy)]
 pub(crate) struct Named {
     lock: LockAt,
@@ -48,7 +48,7 @@ impl Machine {
         }
     }
 
-    // The checks of what the conversion names, in their order.
+    // The checks of the caller, the flags, the status block and the lock, in this order.
     #[tactic(auto, unfolding(vlm_words::specs::Convert::convert_refusal))]
     fn checked_names(&self, conversion: &Conversion) -> Result<Named, Cond>
         ensures refused { IfErr result
@@ -68,7 +68,7 @@ impl Machine {
         Ok(Named { lock, flags })
     }
 
-    // The conversion of the lock that it names: the checks of its admission, its change, and the sweep.
+    // Converts a lock of the caller: the other checks, the change, and the sweep.
     fn convert_named(
         &mut self,
         conversion: &Conversion,
@@ -97,8 +97,8 @@ impl Machine {
         }
     }
 
-    // The lock is granted, or CVTUNGRANT; and then the checks of the conversion there, in their order. Tells whether it
-    // is granted at once.
+    // The other checks, in their order. A lock that is not granted is refused first, by CVTUNGRANT. Answers whether the
+    // request is granted at once.
     fn checked_admission(
         &self,
         flags: EnqFlags,

@@ -45,8 +45,8 @@ pub(crate) struct Form {
     pub(crate) parent: u32,
 }
 
-/// How the key of a resource is hashed, where the resource is, if it is there, and whether a request is granted at once
-/// on it, or on a new one.
+/// The hash of a resource's key, the handle of the resource, if it is there, and whether the request is granted at
+/// once.
 #[derive(Clone, Copy)]
 pub(crate) struct Found {
     hash: u32,
@@ -54,22 +54,22 @@ pub(crate) struct Found {
     at_once: bool,
 }
 
-/// A new request that no check refuses, and what its checks found.
+/// A new request that passed its checks, and what they found.
 #[derive(Clone, Copy)]
 pub(crate) struct CheckedRequest {
-    // where its process is
+    // the handle of its process
     owner: ProcAt,
     flags: EnqFlags,
     // the identification of its parent lock, 0 for none
     parent_lkid: u32,
-    // where that lock is, if one is named
+    // the handle of that lock, if one is named
     parent: Option<LockAt>,
     // where its resource stands, and what was found there
     site: Site,
     found: Found,
 }
 
-// Looks the resource of a new request up by its key, and tells whether the request is granted at once there.
+// Looks up the resource of a new request, and whether the request is granted at once.
 fn look_up(store: &Store, key: &Key, flags: EnqFlags, mode: Mode) -> Found
     requires { IsAtRest store.now }
     ensures hash { result.hash ≡ hash_key store.now.keys key.now }
@@ -182,7 +182,7 @@ impl Machine {
         Ok(checked)
     }
 
-    // The request with what is found where its resource stands.
+    // Looks up the resource of the request.
     fn looked_up(
         &self,
         caller: &Caller,
@@ -207,7 +207,7 @@ impl Machine {
         }
     }
 
-    // The lock that a request makes, under the numbers to come, and where it is to enter.
+    // The new lock, with the next identification and the next request number.
     fn entry(&self, request: &NewRequest, checked: &CheckedRequest) -> Entry
         requires between { IsBetweenSteps (plain_state self.now) }
         requires checked { IsChecked self.now request.now checked.now }
@@ -259,7 +259,7 @@ fn checked_flags(request: &NewRequest) -> Result<EnqFlags, Cond>
     enq_flags(request.flags).ok_or(Cond::Badparam)
 }
 
-// IVBUFLEN where the bytes that are given are no name.
+// IVBUFLEN if the bytes are not a name.
 #[tactic(auto, unfolding(vlm_words::specs::Enqueue::name_refusal, vlm_words::specs::Names::name_of))]
 fn check_name(name: &NameArg) -> Result<(), Cond>
     ensures refusal { result_err result ≡ name_refusal name.now }

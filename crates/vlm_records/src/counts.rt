@@ -20,7 +20,7 @@ use vlm_words::locks::Request;
 use vlm_words::modes::Mode;
 use vlm_words::resources::Queue;
 
-// What a lock that stands at this place holds on the resource, if it does.
+// The mode that a lock at this place holds on the resource, if it holds one.
 fn held_on(res: ResAt, place: &Place, row: &StoredRow) -> Option<Request>
     ensures { (mode : Mode) → one_if (is_mode mode result)
         ≡ share_of (weight_of of_held mode) place.now res row.now }
@@ -66,7 +66,7 @@ impl Queues {
         }
     }
 
-    /// Counts a lock out of the queue in which it stands, and in with another row.
+    /// Counts a lock with another row instead of its own.
     pub(crate) fn recount(&mut self, at: usize, row: &StoredRow)
         requires placed { IsPlaced self.old None }
         requires present { ContainsKey self.old.locks at }
@@ -87,7 +87,7 @@ impl Queues {
         }
     }
 
-    // The counts of what the locks of a resource hold, without the lock that asks.
+    // The held modes of a resource, counted without the lock that asks.
     fn tally_without(&self, res: ResAt, asking: Option<LockAt>) -> Tally
         requires placed { IsPlaced self.now None }
         requires tallied { IsTallied self.now None }

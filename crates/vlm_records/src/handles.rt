@@ -35,7 +35,7 @@ pub enum Place {
 impl Place {
     ghost use Rattle.vlm_records.specs.Line.{is_queued};
 
-    /// Whether the request of a lock that stands there is queued.
+    /// Whether a lock at this place has a queued request.
     pub fn is_queued(&self) -> bool
         ensures { result ≡ is_queued self.now }
     {

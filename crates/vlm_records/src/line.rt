@@ -10,7 +10,7 @@ use crate::locks::{InLine, Lock};
 use slab::Slab;
 use vlm_links::{LAST_HANDLE, LinkedList};
 
-/// Takes a lock that stands at this place off the locks whose requests are queued, if its own is.
+/// Removes a lock of this place from the list of queued requests, if it is there.
 pub fn leave_line(locks: &mut Slab<Lock>, line: &mut LinkedList<InLine>, at: usize, place: &Place)
     requires line { IsLine locks.old line.old None }
     requires noted { noted_in (get locks.old at) ≡ Some place.now }
@@ -23,7 +23,7 @@ pub fn leave_line(locks: &mut Slab<Lock>, line: &mut LinkedList<InLine>, at: usi
     }
 }
 
-/// Puts a lock that stands at this place at the end of the locks whose requests are queued, if its own is.
+/// Appends a lock of this place to the list of queued requests, if its request is queued.
 pub fn join_line(locks: &mut Slab<Lock>, line: &mut LinkedList<InLine>, at: usize, place: &Place)
     requires line { IsLine locks.old line.old (Some at) }
     requires noted { noted_in (get locks.old at) ≡ Some place.now }

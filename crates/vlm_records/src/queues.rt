@@ -79,7 +79,7 @@ impl Queues {
         }
     }
 
-    // Puts a lock that is in no list at the end of that of a place.
+    // Appends a lock that is in no list to the list of a place.
     fn link_to(&mut self, at: usize, place: &Place)
         requires linked { IsLinked queue_links self.old.locks (list_at self.old place.now) }
         requires present { ContainsKey self.old.locks at }
@@ -173,7 +173,7 @@ impl Queues {
         self.locks[at].row = *row;
     }
 
-    // Whether a lock stands last at the place that it notes.
+    // Whether a lock is the last of its list.
     fn is_last(&self, at: usize) -> bool
         requires placed { IsPlaced self.now None }
         requires present { ContainsKey self.now.locks at }
@@ -196,7 +196,7 @@ impl Queues {
         is_same_grant(&lock.place, to) && lock.row.is_armed() == row.is_armed() && self.is_last(at)
     }
 
-    // Gives a lock another row where it stands, but for the list of the armed ones of its resource.
+    // Gives a lock another row and leaves it in its queue. The list of armed locks is not touched.
     fn rewrite(&mut self, at: usize, row: &StoredRow)
         requires placed { IsPlaced self.old None }
         requires tallied { IsTallied self.old None }

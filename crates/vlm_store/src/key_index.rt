@@ -13,12 +13,13 @@ use vlm_links::{HashAsIs, LAST_HANDLE, reserve_slot};
 use vlm_records::{ResAt, Resource};
 use vlm_words::resources::Key;
 
-/// Where the resource of each key is. A hash of 32 bits stands for a key here, which its record has: only of resources
-/// that share a hash all but one are found by their keys, and these are few, since nobody chooses names that meet.
+/// Finds resources by their keys. It has hashes of 32 bits; the keys are in the records. Of several resources with one
+/// hash, the last one is found by the hash, and the others by their keys. There are few of these, since nobody can
+/// choose names with equal hashes.
 pub(crate) struct KeyIndex {
-    // where the resource of each hash is, of several the one that was made last
+    // the resource of each hash; of several, the last one made
     last: IndexMap<u32, ResAt, HashAsIs>,
-    // where each of the others is
+    // the others, by their keys
     others: IndexMap<HashedKey, ResAt>,
 }
 
@@ -51,7 +52,7 @@ impl KeyIndex {
         self.others.reserve(1)
     }
 
-    /// Where the resource of this key, which is hashed so, is.
+    /// The handle of the resource with this key and hash.
     pub fn get(&self, resources: &Slab<Resource>, key: &Key, hash: u32) -> Option<ResAt>
         requires { (at : ℕ) → last_of self.now hash ≡ Some at → ContainsKey resources.now at }
         ensures { result ≡ found_by self.now resources.now (record { key = key.now; hash = hash }) }
@@ -68,7 +69,7 @@ impl KeyIndex {
         self.others.get(&found).copied()
     }
 
-    /// Enters a resource with this hash. Where another has it already, that is found among the others from here on.
+    /// Adds a resource with this hash. If another has the hash, that one moves to the others.
     pub fn insert(&mut self, resources: &Slab<Resource>, at: ResAt, hash: u32)
         requires room { 0 < spare_of self.old }
         requires there { (before : ℕ) → last_of self.old hash ≡ Some before
