@@ -52,8 +52,8 @@ fn declare(store: &mut Store) -> Result<(), AllocError> {
 // The process has two locks, of which none stands below the other.
 fn make_two(rt: &impl Abort, store: &mut Store) -> Result<(), AllocError> {
     declare(store)?;
-    stores::add(rt, store, row(1, 0), None)?;
-    stores::add(rt, store, row(2, 0), None)
+    stores::add(rt, store, row(1, 0))?;
+    stores::add(rt, store, row(2, 0))
 }
 
 // The process has so many locks, of which the second is one.
@@ -78,10 +78,12 @@ fn a_process_owns_its_locks(rt: HostRuntime) -> Result<(), Fail> {
 // The process has a lock, and another below it.
 fn make_tree(rt: &impl Abort, store: &mut Store) -> Result<(), AllocError> {
     declare(store)?;
-    stores::add(rt, store, row(1, 0), None)?;
+    stores::add(rt, store, row(1, 0))?;
+    store.reserve_lock()?;
     let parent = stores::lock(rt, store, 1);
     let below = row(2, store.lock_record(parent).row.lkid());
-    stores::add(rt, store, below, Some(parent))
+    stores::add_reserved(rt, store, below, Some(parent));
+    Ok(())
 }
 
 #[test]

@@ -80,14 +80,14 @@ fn add(rt: &impl Abort, store: &mut Store, row: Row) -> Result<(), AllocError>
 {
     let owner = process(rt, store, row.pid);
     let count = store.lock_count(owner);
-    if stores::add(rt, store, row, None).is_err() {
+    if stores::add(rt, store, row).is_err() {
         assert!(rt;
             store.lock(row.lkid).is_none(),
             "a refused lock is not there"
         );
         let owner = process(rt, store, row.pid);
         assert_eq!(rt; store.lock_count(owner), count);
-        stores::add(rt, store, row, None)?;
+        stores::add(rt, store, row)?;
     }
     Ok(())
 }
@@ -314,7 +314,7 @@ fn what_has_room_is_added(rt: HostRuntime) -> Result<(), Fail> {
     declare(&rt, &mut store, 1)?;
     make_room(&mut store)?;
     stores::open(&mut store, 1, &key)?;
-    stores::add(&rt, &mut store, row(1, Some(Mode::Ex), None), None)?;
+    stores::add(&rt, &mut store, row(1, Some(Mode::Ex), None))?;
     settle(&rt, &mut store, &key, 1);
     assert!(rt; !fits(&rt, &store, &key, Mode::Cr, None));
     Ok(())

@@ -1,6 +1,7 @@
 //! Calls on a store that is as it is between two steps.
 
-ghost use Rattle.vlm_store.specs.Records.{HasProcess, HasResource, IsParentOf, IsProcess, IsStored};
+ghost use Rattle.std.specs.Prelude.{◌≡◌};
+ghost use Rattle.vlm_store.specs.Records.{HasProcess, HasResource, HasRoomForLock, IsParentOf, IsProcess, IsStored};
 
 use std::alloc::AllocError;
 use std::process::Abort;
@@ -71,22 +72,25 @@ pub fn open(store: &mut Store, serial: u32, key: &Key) -> Result<(), AllocError>
     }
 }
 
-/// Adds a lock in no queue, below a parent or below none, unless it is there.
-pub fn add(
-    rt: &impl Abort,
-    store: &mut Store,
-    row: Row,
-    parent: Option<LockAt>,
-) -> Result<(), AllocError>
-    requires { IsParentOf parent row store.old }
+/// Adds a lock in no queue and without a parent, unless it is there.
+pub fn add(rt: &impl Abort, store: &mut Store, row: Row) -> Result<(), AllocError>
+    requires { row.parent ≡ 0 }
 {
     store.reserve_lock()?;
+    add_reserved(rt, store, row, None);
+    Ok(())
+}
+
+/// Adds a lock in no queue, below a parent or below none, unless it is there. There is room for it.
+pub fn add_reserved(rt: &impl Abort, store: &mut Store, row: Row, parent: Option<LockAt>)
+    requires room { HasRoomForLock store.old }
+    requires parent { IsParentOf parent row store.old }
+{
     let owner = process(rt, store, row.pid);
     match store.lock(row.lkid) {
-        Some(_) => Ok(()),
+        Some(_) => {}
         None => {
             store.add_lock_reserved(&StoredRow::of(&row), owner, parent, Place::Loose);
-            Ok(())
         }
     }
 }
