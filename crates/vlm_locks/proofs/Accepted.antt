@@ -4,7 +4,7 @@ use Rattle.vlm_words.specs.declared.locks.Request.{Request}
 use Rattle.vlm_words.specs.declared.resources.ValueBlock.{ValueBlock}
 use Rattle.vlm_words.specs.Convert.{conversion_blocks, resource_after_conversion}
 use Rattle.vlm_words.specs.State.{Resource}
-use Rattle.vlm_store.specs.Plain.{plain_processes, plain_resource, plain_resources}
+use Rattle.vlm_store.specs.Plain.{plain_resource, plain_resources}
 use Rattle.vlm_store.specs.Records.{Records, SameButNotices, StoredResource, resource_at}
 use Rattle.vlm_locks.specs.declared.finding.Standing.{Standing}
 use Rattle.vlm_locks.specs.Converting.{IsConverted, admission_on, processes_converting}
@@ -25,13 +25,13 @@ abbrev made : Standing → Request → StoredResource → ValueBlock → List Re
 made f asked r block rs = map (resource_after_conversion asked (admission_on f asked r).at_once f.row.pid f.row.lkid block) rs
 
 -- its conversion
-pub converted_accepted : (f : Standing) (asked : Request) (s t new : Records) → SameButNotices s t → plain_processes t ≡ processes_converting f asked s
-    → IfSome (resource_at f.res t.resources) (λ r. IsConverted f asked (plain_processes t) r t new)
+pub converted_accepted : (f : Standing) (asked : Request) (s t new : Records) → SameButNotices s t → processes_converting f asked t ≡ processes_converting f asked s
+    → IfSome (resource_at f.res t.resources) (λ r. IsConverted f asked (processes_converting f asked t) r t new)
     → IfSome (resource_at f.res s.resources) (λ r. IsConverted f asked (processes_converting f asked s) r s new)
 converted_accepted f asked s t new same accepted converted =
-    of_found (resource_at f.res s.resources) (subst (λ rs. IfSome (resource_at f.res rs) (λ r. IsConverted f asked (plain_processes t) r t new)) same.resources converted)
+    of_found (resource_at f.res s.resources) (subst (λ rs. IfSome (resource_at f.res rs) (λ r. IsConverted f asked (processes_converting f asked t) r t new)) same.resources converted)
   where
-    of_found : (found : Option StoredResource) → IfSome found (λ r. IsConverted f asked (plain_processes t) r t new) → IfSome found (λ r. IsConverted f asked (processes_converting f asked s) r s new)
+    of_found : (found : Option StoredResource) → IfSome found (λ r. IsConverted f asked (processes_converting f asked t) r t new) → IfSome found (λ r. IsConverted f asked (processes_converting f asked s) r s new)
     of_found None none = tt
     of_found (Some r) done = record {
       resources =

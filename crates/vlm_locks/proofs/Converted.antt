@@ -1,5 +1,5 @@
 -- What a conversion makes of the lock's resource.
-use Rattle.std.proofs.Common.{◌≡◌, ◌≢◌, Bool, true, false, [], ◌∷◌, ◌++◌, map, find, cond, Some, IfSome, refl, sym, ap, ◌∙◌, subst}
+use Rattle.std.proofs.Common.{◌≡◌, ◌≢◌, Bool, true, false, List, [], ◌∷◌, ◌++◌, map, find, cond, Some, IfSome, refl, sym, ap, ◌∙◌, subst}
 use Rattle.vlm_words.specs.declared.locks.Request.{Request}
 use Rattle.vlm_words.specs.declared.locks.Row.{Row}
 use Rattle.vlm_words.specs.declared.modes.Mode.{Mode}
@@ -19,54 +19,57 @@ use Rattle.vlm_locks.specs.declared.finding.Standing.{Standing}
 use Rattle.vlm_locks.specs.Converting.{IsConverted, IsConvertedAtOnce, admission_on, blocks_granted, moved_in}
 use Rattle.vlm_locks.specs.Rest.{IsReplaced}
 use Rattle.vlm_locks.specs.Standing.{IsStanding}
+use Rattle.vlm_words.specs.State.{Process}
+use Rattle.vlm_locks.proofs.Owing.{notices_twice}
 use Rattle.vlm_locks.proofs.Moved.{joins, leaves, moved_replaced, not_in}
 use Rattle.vlm_locks.proofs.Named.{find-absent, find-only, without-handle}
 use Rattle.vlm_locks.proofs.Replaced.{plain_replaced}
 use Rattle.vlm_locks.proofs.Stood.{absent, only, own_among}
 
 module _ (s : Records) (sound : IsSound s) (f : Standing) (standing : IsStanding f s) where
-  -- what end_by_grant and the writing of the value block make of the lock that moved
-  pub granted_at_once : (row : Row) (moved ended new : Records) (old_block block : ValueBlock) → IfSome (resource_at f.res s.resources) (λ r. old_block ≡ r.value_block)
+  -- what end_by_grant and the writing of the value block make of the lock that moved, once its request is accepted
+  pub granted_at_once : (row : Row) (accepted : List Process) (moved mid ended new : Records) (old_block block : ValueBlock) → IfSome (resource_at f.res s.resources) (λ r. old_block ≡ r.value_block)
       → moved ≡ with_lists (moving (Queued f.res Granted) (record { at = f.lock; row = granted_row row })) s
+      → SameButNotices moved mid → plain_processes mid ≡ accepted
       → record {
-        value_block : block ≡ (blocks_after (grant_endings true row) (blocks_with old_block (plain_processes moved))).value_block;
-        statuses : plain_processes ended ≡ (blocks_after (grant_endings true row) (blocks_with old_block (plain_processes moved))).processes;
-        only_notices : SameButNotices moved ended;
+        value_block : block ≡ (blocks_after (grant_endings true row) (blocks_with old_block (plain_processes mid))).value_block;
+        statuses : plain_processes ended ≡ (blocks_after (grant_endings true row) (blocks_with old_block (plain_processes mid))).processes;
+        only_notices : SameButNotices mid ended;
       }
       → new ≡ record ended { resources = on_resource f.res (λ r. record r { value_block = block }) ended.resources }
-      → IsConvertedAtOnce f row standing.resource s new
-  granted_at_once row moved ended new old_block block told is ends wrote =
+      → IsConvertedAtOnce f row accepted standing.resource s new
+  granted_at_once row accepted moved mid ended new old_block block told is noticed takes ends wrote =
       let first = moved_replaced s sound f standing (granted_row row) Granted moved is in
       let was : old_block ≡ standing.resource.value_block = subst (λ o. IfSome o (λ r. old_block ≡ r.value_block)) standing.found told in
-      let blocks_are : blocks_with old_block (plain_processes moved) ≡ blocks_with standing.resource.value_block (plain_processes s) =
-      ap (λ b. blocks_with b (plain_processes moved)) was ∙ ap (λ (x : Records). blocks_with standing.resource.value_block (plain_processes x)) is in
-      let block_is : block ≡ (blocks_granted row standing.resource s).value_block = ends.value_block ∙ ap (λ b. (blocks_after (grant_endings true row) b).value_block) blocks_are in
+      let blocks_are : blocks_with old_block (plain_processes mid) ≡ blocks_with standing.resource.value_block accepted =
+      ap (λ b. blocks_with b (plain_processes mid)) was ∙ ap (λ ps. blocks_with standing.resource.value_block ps) takes in
+      let block_is : block ≡ (blocks_granted row standing.resource accepted).value_block = ends.value_block ∙ ap (λ b. (blocks_after (grant_endings true row) b).value_block) blocks_are in
+      let same = notices_twice moved mid ended noticed ends.only_notices in
       record {
         replaced = record {
           was = standing.found;
           same = refl;
           resources =
               ap (λ (x : Records). x.resources) wrote
-              ∙ ap (on_resource f.res (λ r. record r { value_block = block })) (ends.only_notices.resources ∙ first.resources)
+              ∙ ap (on_resource f.res (λ r. record r { value_block = block })) (same.resources ∙ first.resources)
               ∙ on_resource-put f.res (moved_in f (granted_row row) Granted standing.resource) (λ r. record r { value_block = block }) s.resources
               (resource_at-at f.res s.resources standing.resource standing.found)
               ∙ ap (λ b. on_resource f.res (λ r. record (moved_in f (granted_row row) Granted standing.resource) { value_block = b }) s.resources) block_is;
-          loose = ap (λ (x : Records). x.loose) wrote ∙ ends.only_notices.loose ∙ first.loose;
-          processes = ap (λ (x : Records). map but_notices x.processes) wrote ∙ ends.only_notices.processes ∙ first.processes;
+          loose = ap (λ (x : Records). x.loose) wrote ∙ same.loose ∙ first.loose;
+          processes = ap (λ (x : Records). map but_notices x.processes) wrote ∙ same.processes ∙ first.processes;
         };
         statuses =
             ap plain_processes wrote ∙ ends.statuses ∙ ap (λ b. (blocks_after (grant_endings true row) b).processes) blocks_are;
       }
 
-  -- and what end_without_value_block makes of it
-  pub granted_without_value_block : (row : Row) (moved ended : Records) → moved ≡ with_lists (moving (Queued f.res Granted) (record { at = f.lock; row = granted_row row })) s
-      → ((block : ValueBlock) → blocks_with block (plain_processes ended) ≡ blocks_after (grant_endings true row) (blocks_with block (plain_processes moved)))
-      → SameButNotices moved ended → IsConvertedAtOnce f row standing.resource s ended
-  granted_without_value_block row moved ended is ends same =
+  -- and what grant_without_value_block makes of it
+  pub granted_without_value_block : (row : Row) (accepted : List Process) (moved ended : Records) → moved ≡ with_lists (moving (Queued f.res Granted) (record { at = f.lock; row = granted_row row })) s
+      → ((block : ValueBlock) → blocks_with block (plain_processes ended) ≡ blocks_after (grant_endings true row) (blocks_with block accepted))
+      → SameButNotices moved ended → IsConvertedAtOnce f row accepted standing.resource s ended
+  granted_without_value_block row accepted moved ended is ends same =
       let first = moved_replaced s sound f standing (granted_row row) Granted moved is in
       let r = standing.resource in
-      let blocks_are : blocks_with r.value_block (plain_processes ended) ≡ blocks_granted row r s =
-      ends r.value_block ∙ ap (λ (x : Records). blocks_after (grant_endings true row) (blocks_with r.value_block (plain_processes x))) is in
+      let blocks_are : blocks_with r.value_block (plain_processes ended) ≡ blocks_granted row r accepted = ends r.value_block in
       record {
         replaced = record {
           was = standing.found;
@@ -113,15 +116,15 @@ module _ (s : Records) (sound : IsSound s) (f : Standing) (standing : IsStanding
       (without-handle lock standing.resource.converting (only s sound f standing standing.resource own Conversion) ∙ not_in s sound f standing Conversion (elsewhere granted Conversion (λ e. cc)))
 
   -- the conversion is granted
-  pub converted_now : (asked : Request) (new : Records) → f.queue ≡ Granted → converts_at_once asked f.row.lkid (plain_resource standing.resource) ≡ true
-      → IsConvertedAtOnce f (wanting_row f.row asked) standing.resource s new → IsConverted f asked (plain_processes s) standing.resource s new
+  pub converted_now : (asked : Request) (accepted : List Process) (new : Records) → f.queue ≡ Granted → converts_at_once asked f.row.lkid (plain_resource standing.resource) ≡ true
+      → IsConvertedAtOnce f (wanting_row f.row asked) accepted standing.resource s new → IsConverted f asked accepted standing.resource s new
   unfolding resource_after_conversion
-  converted_now asked new granted at_once done =
+  converted_now asked accepted new granted at_once done =
       let r = standing.resource in
       let row = wanting_row f.row asked in
-      let blocks_are : conversion_blocks (admission_on f asked r) (plain_processes s) ≡ blocks_granted row r s =
-      ap (λ b. blocks_after (cond b (grant_endings true row) []) (blocks_with r.value_block (plain_processes s))) at_once in
-      let block = (blocks_granted row r s).value_block in
+      let blocks_are : conversion_blocks (admission_on f asked r) accepted ≡ blocks_granted row r accepted =
+      ap (λ b. blocks_after (cond b (grant_endings true row) []) (blocks_with r.value_block accepted)) at_once in
+      let block = (blocks_granted row r accepted).value_block in
       let left : StoredResource = record (moved_in f (granted_row row) Granted r) { value_block = block } in
       let here : resource_after_conversion asked (now asked) f.row.pid f.row.lkid block (plain_resource r) ≡ plain_resource left =
       ap (resource_after_conversion_of asked (now asked) f.row.lkid block (plain_resource r)) (found_here granted)
@@ -140,15 +143,15 @@ module _ (s : Records) (sound : IsSound s) (f : Standing) (standing : IsStanding
       }
 
   -- the conversion waits
-  pub converted_later : (asked : Request) (new : Records) → f.queue ≡ Granted → converts_at_once asked f.row.lkid (plain_resource standing.resource) ≡ false
-      → IsReplaced f.res standing.resource (moved_in f (wanting_row f.row asked) Conversion standing.resource) s new → plain_processes new ≡ plain_processes s
-      → IsConverted f asked (plain_processes s) standing.resource s new
+  pub converted_later : (asked : Request) (accepted : List Process) (new : Records) → f.queue ≡ Granted → converts_at_once asked f.row.lkid (plain_resource standing.resource) ≡ false
+      → IsReplaced f.res standing.resource (moved_in f (wanting_row f.row asked) Conversion standing.resource) s new → plain_processes new ≡ accepted
+      → IsConverted f asked accepted standing.resource s new
   unfolding resource_after_conversion
-  converted_later asked new granted later replaced statuses =
+  converted_later asked accepted new granted later replaced statuses =
       let r = standing.resource in
       let row = wanting_row f.row asked in
-      let blocks_are : conversion_blocks (admission_on f asked r) (plain_processes s) ≡ blocks_with r.value_block (plain_processes s) =
-      ap (λ b. blocks_after (cond b (grant_endings true row) []) (blocks_with r.value_block (plain_processes s))) later in
+      let blocks_are : conversion_blocks (admission_on f asked r) accepted ≡ blocks_with r.value_block accepted =
+      ap (λ b. blocks_after (cond b (grant_endings true row) []) (blocks_with r.value_block accepted)) later in
       let left : StoredResource = moved_in f row Conversion r in
       let here : resource_after_conversion asked (now asked) f.row.pid f.row.lkid r.value_block (plain_resource r) ≡ plain_resource left =
       ap (resource_after_conversion_of asked (now asked) f.row.lkid r.value_block (plain_resource r)) (found_here granted)

@@ -10,7 +10,7 @@ use Rattle.vlm_links.specs.Lists.{IsIn}
 use Rattle.vlm_records.specs.declared.handles.Place.{Place}
 use Rattle.vlm_records.specs.declared.handles.Place.TheVariants.{Loose, Queued}
 use Rattle.vlm_store.specs.Plain.{plain_resource, plain_resources}
-use Rattle.vlm_store.specs.Records.{HasNoSublocks, HasResource, IsRowOf, IsSound, Records, StoredLock, StoredResource, Stores, but_notices, locks_at, on_resource, queued, resource_at, without_resource}
+use Rattle.vlm_store.specs.Records.{HasNoSublocks, HasResource, IsRowOf, IsSound, Records, SameButNotices, StoredLock, StoredResource, Stores, but_notices, locks_at, on_resource, queued, resource_at, without_resource}
 use Rattle.vlm_words.specs.Resources.{IsKeyed}
 use Rattle.vlm_locks.specs.Rest.{IsAtRest, IsReplaced, OthersStay}
 use Rattle.vlm_locks.specs.Staying.{LocksStay}
@@ -31,6 +31,16 @@ replaced_cases res left (r ∷ rest) x among =
       ]
       | inr there ↦ elim (replaced_cases res left rest x there) [ inl is ↦ inl is | inr was ↦ inr (inr was) ]
     ]
+
+-- a resource is replaced, and then notices alone change
+pub noticed_replaced : (res : ℕ) (had left : StoredResource) (old mid new : Records) → IsReplaced res had left old mid → SameButNotices mid new → IsReplaced res had left old new
+noticed_replaced res had left old mid new replaced same = record {
+  was = replaced.was;
+  same = replaced.same;
+  resources = same.resources ∙ replaced.resources;
+  loose = same.loose ∙ replaced.loose;
+  processes = same.processes ∙ replaced.processes;
+}
 
 -- where status blocks alone are written no lock gets one below it
 pub no_sublocks_still : (old new : Records) → map but_notices new.processes ≡ map but_notices old.processes → (at : ℕ) → HasNoSublocks at old → HasNoSublocks at new

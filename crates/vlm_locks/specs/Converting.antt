@@ -40,11 +40,11 @@ pub record IsConverted (f : Standing) (asked : Request) (accepted : List Process
 abbrev pub moved_in : Standing → Row → Queue → StoredResource → StoredResource
 moved_in f row queue r = resource_with (moving (Queued f.res queue) (record { at = f.lock; row = row })) r
 
--- what the grant of the row writes on the resource
-abbrev pub blocks_granted : Row → StoredResource → Records → Blocks
-blocks_granted row r s = blocks_after (grant_endings true row) (blocks_with r.value_block (plain_processes s))
+-- what the grant of the row writes on the resource, and to these processes
+abbrev pub blocks_granted : Row → StoredResource → List Process → Blocks
+blocks_granted row r accepted = blocks_after (grant_endings true row) (blocks_with r.value_block accepted)
 
--- what a lock wants is granted on its resource, at once
-pub record IsConvertedAtOnce (f : Standing) (row : Row) (r : StoredResource) (old new : Records) : Type 0 where
-  pub replaced : IsReplaced f.res r (record (moved_in f (granted_row row) Granted r) { value_block = (blocks_granted row r old).value_block }) old new
-  pub statuses : plain_processes new ≡ (blocks_granted row r old).processes
+-- what a lock wants is granted on its resource, at once, once these processes have its request accepted
+pub record IsConvertedAtOnce (f : Standing) (row : Row) (accepted : List Process) (r : StoredResource) (old new : Records) : Type 0 where
+  pub replaced : IsReplaced f.res r (record (moved_in f (granted_row row) Granted r) { value_block = (blocks_granted row r accepted).value_block }) old new
+  pub statuses : plain_processes new ≡ (blocks_granted row r accepted).processes

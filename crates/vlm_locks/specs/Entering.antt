@@ -71,11 +71,15 @@ pub record IsDueMore (row : Row) (old new : Records) : Type 0 where
   pub due : (pid : ℕ) → due_for pid new ≡ due_for pid old + due_to pid row
   pub dues : DuesStay old new
 
+-- the processes once the request of a new lock is accepted
+abbrev pub processes_accepted : Entry → List Process → List Process
+processes_accepted e processes = processes_after_acceptance e.pid e.asked.block e.lkid processes
+
 -- the processes once a new lock has entered: its request is accepted, and has ended if it is granted at once
 abbrev pub processes_entered : Entry → ValueBlock → List Process → List Process
 processes_entered e block processes =
     (blocks_after (if e.at_once then grant_endings true (new_row e) else [])
-    (blocks_with block (processes_after_acceptance e.pid e.asked.block e.lkid processes))).processes
+    (blocks_with block (processes_accepted e processes))).processes
 
 -- one lock is added, that of the entry, under a handle that no lock had: it is the last of its process, and of those below
 -- its parent; each other lock stands where it stood

@@ -14,7 +14,7 @@ ghost use Rattle.vlm_locks.specs.Owing.{DueMoves, IsPaid, OwedMoves, OwesMore};
 ghost use Rattle.vlm_locks.specs.Rest.{IsAtRest, IsReplaced, LeavesOthers, OtherLocksStay, OwnLocksStay};
 ghost use Rattle.vlm_locks.specs.Standing.{IsStanding};
 
-use crate::endings::{end_by_grant, end_without_value_block};
+use crate::endings::{end_by_grant, grant_without_value_block};
 use crate::finding::Standing;
 use crate::routines::owe_routines;
 use std::alloc::AllocError;
@@ -54,15 +54,16 @@ pub fn converts_at_once(store: &Store, standing: &Standing, flags: EnqFlags, mod
         && (!flags.has(EnqFlags::QUECVT) || is_empty(store, standing.res, Queue::Conversion))
 }
 
-// What a lock wants is granted at once: it goes to the end of the granted queue, and the grant takes effect
-// on the value block of its resource, if the request names that, and on its status block.
+// What a lock wants is granted at once: it goes to the end of the granted queue, its request is accepted, and the grant
+// takes effect on the value block of its resource, if the request names that, and on its status block.
 fn convert_now(store: &mut Store, standing: &Standing, row: &StoredRow, asked: &Request)
     requires standing { IsStanding standing.now store.old }
     requires row { IsSameLock standing.now.row row.now }
     requires wanted { row.now.want ≡ Some asked.now }
     requires owed { row_due row.now ≤ due_of row.now.pid store.old }
-    ensures granted { IfSome (resource_at standing.now.res store.old.resources)
-        (λ r. IsConvertedAtOnce standing.now row.now r store.old store.new) }
+    ensures granted { let accepted = processes_converting standing.now asked.now store.old
+        in IfSome (resource_at standing.now.res store.old.resources)
+        (λ r. IsConvertedAtOnce standing.now row.now accepted r store.old store.new) }
     ensures due { DueMoves standing.now.row (granted_row row.now) store.old store.new }
     ensures owed { OwedMoves row.now (granted_row row.now) store.old store.new }
     ensures locks { OtherLocksStay standing.now.lock store.old store.new }
@@ -71,22 +72,24 @@ fn convert_now(store: &mut Store, standing: &Standing, row: &StoredRow, asked: &
     let granted = Place::Queued(standing.res, Queue::Granted);
     store.move_lock(standing.lock, row.granted(), granted);
     if asked.flags.has(EnqFlags::VALBLK) {
+        accept(store, standing.owner, asked.block, row.lkid());
         let mut value_block = store.resource_record(standing.res).value_block;
         end_by_grant(&mut value_block, store, standing.owner, row, true);
         store.set_value_block(standing.res, value_block);
     } else {
-        end_without_value_block(store, standing.owner, row, asked);
+        grant_without_value_block(store, standing.owner, row, asked);
     }
 }
 
-// The conversion waits: the lock goes to the end of the conversion queue.
-fn convert_later(store: &mut Store, standing: &Standing, row: StoredRow)
+// The conversion waits: its request is accepted, and the lock goes to the end of the conversion queue.
+fn convert_later(store: &mut Store, standing: &Standing, row: StoredRow, asked: &Request)
     requires standing { IsStanding standing.now store.old }
     requires row { IsSameLock standing.now.row row }
     ensures replaced { IfSome (resource_at standing.now.res store.old.resources) (λ r.
         IsReplaced standing.now.res r (moved_in standing.now row Queue.Conversion r)
         store.old store.new) }
-    ensures statuses { plain_processes store.new ≡ plain_processes store.old }
+    ensures statuses { plain_processes store.new
+        ≡ processes_converting standing.now asked.now store.old }
     ensures due { DueMoves standing.now.row row store.old store.new }
     ensures dues { DuesStay store.old store.new }
     ensures locks { OtherLocksStay standing.now.lock store.old store.new }
@@ -94,11 +97,12 @@ fn convert_later(store: &mut Store, standing: &Standing, row: StoredRow)
     law_records_are_sound(store);
     let queued = Place::Queued(standing.res, Queue::Conversion);
     store.move_lock(standing.lock, row, queued);
+    accept(store, standing.owner, asked.block, standing.row.lkid());
 }
 
-// Converts a granted lock whose request is accepted: at once, or it goes to the end of the conversion queue and holds
-// what it held. A grant at once takes effect on the value block of the resource and on the status block.
-fn convert_accepted(store: &mut Store, standing: &Standing, asked: &Request, at_once: bool)
+// Converts a granted lock whose process is owed the ASTs of the request: at once, or it goes to the end of the conversion
+// queue and holds what it held. A grant at once takes effect on the value block of the resource and on the status block.
+fn convert_owed(store: &mut Store, standing: &Standing, asked: &Request, at_once: bool)
     requires rest { IsAtRest store.old }
     requires standing { IsStanding standing.now store.old }
     requires granted { standing.now.queue ≡ Queue.Granted }
@@ -106,9 +110,9 @@ fn convert_accepted(store: &mut Store, standing: &Standing, asked: &Request, at_
         (λ r. at_once ≡ converts_at_once asked.now standing.now.row.lkid (plain_resource r)) }
     requires wants_nothing { standing.now.row.want ≡ None }
     requires owed { OwesMore standing.now.row.pid (routines_of (Some asked.now)) store.old }
-    ensures converted { IfSome (resource_at standing.now.res store.old.resources)
-        (λ r. IsConverted standing.now asked.now (plain_processes store.old) r
-        store.old store.new) }
+    ensures converted { let accepted = processes_converting standing.now asked.now store.old
+        in IfSome (resource_at standing.now.res store.old.resources)
+        (λ r. IsConverted standing.now asked.now accepted r store.old store.new) }
     ensures beside { LeavesOthers standing.now.res standing.now.lock store.old store.new }
     ensures own_locks { OwnLocksStay store.old store.new }
     ensures paid { IsPaid store.new }
@@ -118,7 +122,7 @@ fn convert_accepted(store: &mut Store, standing: &Standing, asked: &Request, at_
     if at_once {
         convert_now(store, standing, &row, asked);
     } else {
-        convert_later(store, standing, row);
+        convert_later(store, standing, row, asked);
     }
 }
 
@@ -150,7 +154,6 @@ pub fn convert(
     ensures succeeds { routines_of (Some asked.now) ≡ 0 → IsOk result }
 {
     owe_routines(store, standing.owner, Some(*asked))?;
-    accept(store, standing.owner, asked.block, standing.row.lkid());
-    convert_accepted(store, standing, asked, at_once);
+    convert_owed(store, standing, asked, at_once);
     Ok(())
 }

@@ -8,12 +8,13 @@ ghost use Rattle.vlm_words.specs.Effects.{blocks_after, blocks_with};
 ghost use Rattle.vlm_words.specs.Asts.{completion_asts, processes_after_asts};
 ghost use Rattle.vlm_words.specs.Dues.{one_where, row_due};
 ghost use Rattle.vlm_words.specs.Grants.{grant_act, grant_endings, granted_row};
+ghost use Rattle.vlm_words.specs.StatusBlocks.{processes_after_acceptance};
 ghost use Rattle.vlm_words.specs.ValueBlocks.{value_block_written_from};
 ghost use Rattle.vlm_store.specs.Plain.{plain_processes};
 ghost use Rattle.vlm_store.specs.Records.{DueChanges, DuesStay, IsProcess, SameButNotices, due_of};
 ghost use Rattle.vlm_locks.specs.Owing.{OwedMoves, blocks_written, completions_queued, completions_spared};
 
-use vlm_procs::{end, end_with_return, forgive, queue_ast, status_block_or_new};
+use vlm_procs::{accept_granted, end, end_with_return, forgive, queue_ast, status_block_or_new};
 use vlm_store::laws::law_records_are_sound;
 use vlm_store::{ProcAt, Store, StoredRow};
 use vlm_words::asts::{Ast, AstKind};
@@ -147,10 +148,10 @@ fn tell_grant(store: &mut Store, at: ProcAt, row: &StoredRow, request: &Request,
     }
 }
 
-/// Ends a request without VALBLK that is granted at once. It writes the status to the status block of the lock's
-/// process, queues the completion AST, and frees the room of the ASTs that will not come.
+/// Accepts a request without VALBLK and grants it at once. One write makes its status block that of the grant; then the
+/// completion AST is queued, and the room of the ASTs that will not come is free again.
 #[tactic(auto, unfolding(vlm_words::specs::Grants::grant_act))]
-pub(crate) fn end_without_value_block(
+pub(crate) fn grant_without_value_block(
     store: &mut Store,
     at: ProcAt,
     row: &StoredRow,
@@ -160,13 +161,14 @@ pub(crate) fn end_without_value_block(
     requires wanted { row.now.want ≡ Some request.now }
     requires plain { has_flag (flag_bits request.now.flags) valblk ≡ false }
     requires owed { row_due row.now ≤ due_of row.now.pid store.old }
-    ensures statuses { (block : ValueBlock) → blocks_with block (plain_processes store.new)
-        ≡ blocks_after (grant_endings true row.now)
-        (blocks_with block (plain_processes store.old)) }
+    ensures statuses { let accepted = processes_after_acceptance row.now.pid request.now.block
+        row.now.lkid (plain_processes store.old) in (block : ValueBlock)
+        → blocks_with block (plain_processes store.new)
+        ≡ blocks_after (grant_endings true row.now) (blocks_with block accepted) }
     ensures owed { OwedMoves row.now (granted_row row.now) store.old store.new }
     ensures only_notices { SameButNotices store.old store.new }
 {
-    end(store, at, request.block, Cond::Normal);
+    accept_granted(store, at, request.block, row.lkid());
     tell_grant(store, at, row, request, true);
 }
 

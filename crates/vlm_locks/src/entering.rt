@@ -9,10 +9,10 @@ ghost use Rattle.vlm_words.specs.Grants.{grant_endings, granted_row};
 ghost use Rattle.vlm_words.specs.Enqueue.{is_at_once};
 ghost use Rattle.vlm_store.specs.Plain.{plain_processes, plain_resource};
 ghost use Rattle.vlm_store.specs.Records.{DuesStay, FindsResource, HasResource, HasRoomForLock, HasRoomForResource, IsProcess, IsUnchanged, Records, SameButNotices, StoredResource, due_of, resource_at};
-ghost use Rattle.vlm_locks.specs.Entering.{HasRoomToEnter, HasEntered, IsDueMore, IsEntered, IsReady, MayEnter, entered_queue, new_row, processes_entered};
+ghost use Rattle.vlm_locks.specs.Entering.{HasRoomToEnter, HasEntered, IsDueMore, IsEntered, IsReady, MayEnter, entered_queue, new_row, processes_accepted, processes_entered};
 ghost use Rattle.vlm_locks.specs.Owing.{IsPaid, OwedMoves, OwesMore, entered_row};
 
-use crate::endings::{end_by_grant, end_without_value_block};
+use crate::endings::{end_by_grant, grant_without_value_block};
 use crate::routines::owe_routines;
 use std::alloc::AllocError;
 use vlm_procs::accept;
@@ -150,25 +150,27 @@ fn take_in(store: &mut Store, entry: &Entry, row: &StoredRow) -> ResAt
     res
 }
 
-// Ends the request of a new lock that is granted at once. With VALBLK it returns the value block; a new request never
-// writes it.
-fn end_at_once(store: &mut Store, entry: &Entry, row: &StoredRow, res: ResAt)
+// Accepts the request of a new lock and grants it at once. With VALBLK the grant returns the value block; a new request
+// never writes it.
+fn grant_entered(store: &mut Store, entry: &Entry, row: &StoredRow, res: ResAt)
     requires row { row.now ≡ new_row entry.now }
     requires owner { IsProcess entry.now.owner entry.now.pid store.old }
     requires there { HasResource res store.old }
     requires owed { row_due (new_row entry.now) ≤ due_of entry.now.pid store.old }
-    ensures statuses { IfSome (resource_at res store.old.resources) (λ r. plain_processes store.new
+    ensures statuses { let accepted = processes_accepted entry.now (plain_processes store.old)
+        in IfSome (resource_at res store.old.resources) (λ r. plain_processes store.new
         ≡ (blocks_after (grant_endings true (new_row entry.now))
-        (blocks_with r.value_block (plain_processes store.old))).processes) }
+        (blocks_with r.value_block accepted)).processes) }
     ensures owed { OwedMoves (new_row entry.now) (granted_row (new_row entry.now))
         store.old store.new }
     ensures only_notices { SameButNotices store.old store.new }
 {
     if entry.asked.flags.has(EnqFlags::VALBLK) {
+        accept(store, entry.owner, entry.asked.block, entry.lkid);
         let mut value_block = store.resource_record(res).value_block;
         end_by_grant(&mut value_block, store, entry.owner, row, true);
     } else {
-        end_without_value_block(store, entry.owner, row, &entry.asked);
+        grant_without_value_block(store, entry.owner, row, &entry.asked);
     }
 }
 
@@ -184,9 +186,10 @@ fn accept_entered(store: &mut Store, entry: &Entry, row: &StoredRow, res: ResAt)
         (entered_row entry.now.at_once (new_row entry.now)) store.old store.new }
     ensures only_notices { SameButNotices store.old store.new }
 {
-    accept(store, entry.owner, entry.asked.block, entry.lkid);
     if entry.at_once {
-        end_at_once(store, entry, row, res);
+        grant_entered(store, entry, row, res);
+    } else {
+        accept(store, entry.owner, entry.asked.block, entry.lkid);
     }
 }
 

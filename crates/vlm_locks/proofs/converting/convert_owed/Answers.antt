@@ -1,11 +1,11 @@
-use Rattle.vlm_store.specs.Plain.{plain_processes, plain_resource}
+use Rattle.vlm_store.specs.Plain.{plain_resource}
 use Rattle.vlm_store.specs.Records.{IsSameLock, StoredResource}
 use Rattle.std.proofs.Common.{◌≡◌, IfSome, refl, sym, ◌∙◌, subst}
 use Rattle.vlm_words.specs.declared.resources.Queue.TheVariants.{Conversion, Granted}
 use Rattle.vlm_words.specs.declared.locks.Row.{Row}
 use Rattle.vlm_words.specs.Convert.{converts_at_once}
 use Rattle.vlm_words.specs.Grants.{granted_row}
-use Rattle.vlm_locks.specs.Converting.{IsConverted, IsConvertedAtOnce, blocks_granted, moved_in}
+use Rattle.vlm_locks.specs.Converting.{IsConverted, IsConvertedAtOnce, blocks_granted, moved_in, processes_converting}
 use Rattle.vlm_locks.specs.Rest.{IsReplaced}
 use Rattle.vlm_locks.proofs.Converted.{converted_later, converted_now}
 use Rattle.vlm_locks.proofs.Moved.{none_joins_by_moving}
@@ -13,7 +13,7 @@ use Rattle.vlm_locks.proofs.Staying.{none_joins_under_block}
 use Rattle.vlm_locks.proofs.Replaced.{others_stay, rests, still_there}
 use Rattle.vlm_locks.proofs.Paying.{paid_at_once, paid_later, wanting_fits}
 use Rattle.vlm_locks.proofs.Stood.{stored}
-use Rattle.vlm_locks.proofs.converting.convert_accepted.Goals as goal
+use Rattle.vlm_locks.proofs.converting.convert_owed.Goals as goal
 
 pub returns-then-at_once-clause-converted : goal.returns-then-at_once-clause-converted
 returns-then-at_once-clause-converted c =
@@ -22,11 +22,11 @@ returns-then-at_once-clause-converted c =
     let standing = c.requires.standing in
     let asked = c.args.asked.now in
     let new = c.convert_now.new.store in
-    let done = subst (λ (row : Row). IsConvertedAtOnce f row standing.resource s new) c.wanting-row.ensures
-    (subst (λ o. IfSome o (λ r. IsConvertedAtOnce f c.wanting-row.result r s new)) standing.found c.convert_now.ensures.granted) in
+    let done = subst (λ (row : Row). IsConvertedAtOnce f row (processes_converting f asked s) standing.resource s new) c.wanting-row.ensures
+    (subst (λ o. IfSome o (λ r. IsConvertedAtOnce f c.wanting-row.result (processes_converting f asked s) r s new)) standing.found c.convert_now.ensures.granted) in
     let at_once = subst (λ o. IfSome o (λ r. c.args.at_once ≡ converts_at_once asked f.row.lkid (plain_resource r))) standing.found c.requires.at_once in
-    subst (λ o. IfSome o (λ r. IsConverted f asked (plain_processes s) r s new)) (sym standing.found)
-    (converted_now s c.law_records_are_sound.ensures f standing asked new c.requires.granted (sym at_once ∙ c.if-at_once.true) done)
+    subst (λ o. IfSome o (λ r. IsConverted f asked (processes_converting f asked s) r s new)) (sym standing.found)
+    (converted_now s c.law_records_are_sound.ensures f standing asked (processes_converting f asked s) new c.requires.granted (sym at_once ∙ c.if-at_once.true) done)
 
 pub returns-else-at_once-clause-converted : goal.returns-else-at_once-clause-converted
 returns-else-at_once-clause-converted c =
@@ -38,20 +38,21 @@ returns-else-at_once-clause-converted c =
     let done = subst (λ (row : Row). IsReplaced f.res standing.resource (moved_in f row Conversion standing.resource) s new) c.wanting-row.ensures
     (subst (λ o. IfSome o (λ r. IsReplaced f.res r (moved_in f c.wanting-row.result Conversion r) s new)) standing.found c.convert_later.ensures.replaced) in
     let at_once = subst (λ o. IfSome o (λ r. c.args.at_once ≡ converts_at_once asked f.row.lkid (plain_resource r))) standing.found c.requires.at_once in
-    subst (λ o. IfSome o (λ r. IsConverted f asked (plain_processes s) r s new)) (sym standing.found)
-    (converted_later s c.law_records_are_sound.ensures f standing asked new c.requires.granted (sym at_once ∙ c.if-at_once.false) done c.convert_later.ensures.statuses)
+    subst (λ o. IfSome o (λ r. IsConverted f asked (processes_converting f asked s) r s new)) (sym standing.found)
+    (converted_later s c.law_records_are_sound.ensures f standing asked (processes_converting f asked s) new c.requires.granted (sym at_once ∙ c.if-at_once.false) done c.convert_later.ensures.statuses)
 
 pub returns-then-at_once-clause-beside : goal.returns-then-at_once-clause-beside
 returns-then-at_once-clause-beside c =
     let s = c.args.store.now in
     let f = c.args.standing.now in
     let standing = c.requires.standing in
+    let asked = c.args.asked.now in
     let row = granted_row c.wanting-row.result in
     let moved = moved_in f row Granted standing.resource in
-    let block = (blocks_granted c.wanting-row.result standing.resource s).value_block in
+    let block = (blocks_granted c.wanting-row.result standing.resource (processes_converting f asked s)).value_block in
     let left : StoredResource = record moved { value_block = block } in
     let new = c.convert_now.new.store in
-    let replaced = (subst (λ o. IfSome o (λ r. IsConvertedAtOnce f c.wanting-row.result r s new)) standing.found c.convert_now.ensures.granted).replaced in
+    let replaced = (subst (λ o. IfSome o (λ r. IsConvertedAtOnce f c.wanting-row.result (processes_converting f asked s) r s new)) standing.found c.convert_now.ensures.granted).replaced in
     let same = subst (λ (r : Row). IsSameLock f.row (granted_row r)) (sym c.wanting-row.ensures) (record { lkid = refl; pid = refl; parent = refl }) in
     record {
       others = others_stay f.res standing.resource left s new replaced;
