@@ -25,6 +25,8 @@ fn routines_of(want: Option<Request>) -> usize
 
 /// Owes a process the ASTs of the routines that a request of it names, if there is one. Where memory is refused
 /// nothing is changed.
+// (a part of its callers: most requests name no routine, and a test is all that they need)
+#[inline(always)]
 pub(crate) fn owe_routines(
     store: &mut Store,
     owner: ProcAt,

@@ -199,6 +199,7 @@ fn leave_value(store: &mut Store, standing: &Standing, withdrawal: &Withdrawal)
 }
 
 // The lock goes from its queue. No lock stands below it.
+#[inline(always)]
 fn remove(store: &mut Store, standing: &Standing)
     requires rest { IsAtRest store.old }
     requires standing { IsStanding standing.now store.old }
@@ -213,6 +214,8 @@ fn remove(store: &mut Store, standing: &Standing)
 }
 
 // The conversion of the lock is given up: it goes to the end of the granted queue and wants nothing.
+// (a call of its own: few dequeues cancel a conversion)
+#[inline(never)]
 fn grant_again(store: &mut Store, standing: &Standing)
     requires rest { IsAtRest store.old }
     requires standing { IsStanding standing.now store.old }
@@ -274,6 +277,8 @@ pub(crate) fn give_up(store: &mut Store, standing: &Standing, withdrawal: &Withd
 /// Then it goes from its queue; or where a converting lock is to stay, it goes to the end of the granted queue
 /// and holds what it held, while a waiting one goes and a granted one stays as it is. A lock that goes has no
 /// sublocks.
+// (a part of its callers, as `remove` is: a dequeue has just read the lock)
+#[inline(always)]
 pub fn withdraw(store: &mut Store, standing: &Standing, withdrawal: &Withdrawal)
     requires rest { IsAtRest store.old }
     requires standing { IsStanding standing.now store.old }

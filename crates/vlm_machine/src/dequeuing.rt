@@ -149,6 +149,7 @@ impl Machine {
 
     // CANCELGRANT where a granted lock is to be cancelled.
     #[tactic(auto, unfolding(vlm_words::specs::Dequeue::cancel_refusal))]
+    #[inline(always)]
     fn check_cancel(&self, dequeue: &Dequeue, lock: LockAt, cancels: bool) -> Result<(), Cond>
         requires alone { has_flag dequeue.now.flags deqall ≡ false }
         requires lock { IsLockOf dequeue.now.pid (dequeue_lkid (plain_state self.now) dequeue.now)

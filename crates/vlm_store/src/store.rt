@@ -382,6 +382,8 @@ impl Store {
     }
 
     /// Removes a resource in whose queues no lock stands. The others keep their order. Its slot is free again; the index may have to grow for the next one.
+    // (a call of its own, whose registers only a step that removes a resource has to save)
+    #[inline(never)]
     pub fn remove_resource(&mut self, res: ResAt)
         requires there { HasResource res self.old }
         requires idle { IsIdle res self.old }
