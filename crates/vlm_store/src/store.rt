@@ -396,6 +396,7 @@ impl Store {
 
     /// Whether the mode is compatible with what every lock of the resource holds, granted or converting,
     /// but for the lock that asks.
+    #[inline(always)]
     pub fn can_hold(&self, res: ResAt, mode: Mode, asking: Option<LockAt>) -> bool
         requires there { HasResource res self.now }
         requires asking { ForSome asking (λ lock. IsStored lock self.now) }
