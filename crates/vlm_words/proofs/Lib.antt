@@ -1,4 +1,4 @@
-pub mod SameCells
+pub mod Cells
 pub mod Each
 pub mod Pairs
 pub mod Warned

@@ -61,7 +61,7 @@ impl Name {
     pub fn is_same(&self, other: &Name) -> bool
         ensures { result ≡ pointwise nat_eq self.now other.now }
     {
-        self.text.is_same(other.text)
+        self.text.is_same(&other.text)
     }
 
     /// How many bytes the name has.

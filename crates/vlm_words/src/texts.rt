@@ -100,8 +100,8 @@ impl Text<32> {
 
 impl Text<31> {
     /// Whether the texts are the same. Four words have all the cells of a text.
-    pub fn is_same(self, other: Text<31>) -> bool
-        ensures { result ≡ pointwise nat_eq self other }
+    pub fn is_same(&self, other: &Text<31>) -> bool
+        ensures { result ≡ pointwise nat_eq self.now other.now }
     {
         self.len == other.len
             && self.word(0) == other.word(0)

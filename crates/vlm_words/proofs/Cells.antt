@@ -1,5 +1,5 @@
--- Four words have all the cells of a text of 31 bytes.
-use Rattle.std.proofs.Common.{ℕ, ◌≡◌, ◌<◌, ◌≤◌, ◌+◌, ◌-◌, List, [], ◌∷◌, length, take, replicate, get_or, zero, suc, ◌⊎◌, inl, inr, refl, sym, ap, ◌∙◌, subst, arith}
+-- The cells of texts are bytes, and four words have all the cells of 31.
+use Rattle.std.proofs.Common.{ℕ, ◌≡◌, ◌<◌, ◌≤◌, ◌+◌, ◌-◌, List, [], ◌∷◌, ◌++◌, length, take, replicate, get_or, zero, suc, ◌⊎◌, inl, inr, refl, sym, ap, ◌∙◌, subst, arith}
 use Rattle.std.specs.Int.{w64, to_le_bytes}
 use Rattle.std.proofs.Math.Seq.{take-append_seam}
 use Rattle.std.proofs.lemmas.Bool.{cases_lt}
@@ -7,11 +7,26 @@ use Rattle.std.proofs.lemmas.Grind.{same_number_lists}
 use Rattle.std.proofs.lemmas.Nat.{le_bytes_8}
 use Rattle.std.proofs.Math.Numerals.{unary_clauses}
 use Rattle.vlm_words.specs.NameWords.{word_at}
-use Rattle.vlm_words.specs.Padding.{padded}
+use Rattle.vlm_words.specs.Padding.{AreBytes, padded}
 
--- each of them is a byte
-abbrev pub AreBytes : List ℕ → Type 0
-AreBytes cells = (i : ℕ) → get_or cells i 0 < 256
+-- the first of them
+pub take_bytes : (n : ℕ) (cells : List ℕ) → AreBytes cells → AreBytes (take n cells)
+take_bytes zero cells bytes i = omega arith
+take_bytes (suc n) [] bytes i = omega arith
+take_bytes (suc n) (cell ∷ cells) bytes zero = bytes zero
+take_bytes (suc n) (cell ∷ cells) bytes (suc i) = take_bytes n cells (λ j. bytes (suc j)) i
+
+-- those of two lists
+pub both_bytes : (cells others : List ℕ) → AreBytes cells → AreBytes others → AreBytes (cells ++ others)
+both_bytes [] others bytes other_bytes i = other_bytes i
+both_bytes (cell ∷ cells) others bytes other_bytes zero = bytes zero
+both_bytes (cell ∷ cells) others bytes other_bytes (suc i) = both_bytes cells others (λ j. bytes (suc j)) other_bytes i
+
+-- zeros
+pub zero_bytes : (n : ℕ) → AreBytes (replicate n 0)
+zero_bytes zero i = omega arith
+zero_bytes (suc n) zero = omega arith
+zero_bytes (suc n) (suc i) = zero_bytes n i
 
 -- the eight cells from this index on
 abbrev eight : List ℕ → ℕ → List ℕ
