@@ -1,8 +1,8 @@
--- The hash under keys.
-use Rattle.std.specs.Prelude.{ℕ, ◌/◌, ◌^◌, ◌==◌, List, bit_and, length, if◌then◌else◌}
+-- The hash under keys, and the one that spreads numbers.
+use Rattle.std.specs.Prelude.{ℕ, ◌*◌, ◌/◌, ◌%◌, ◌^◌, ◌==◌, List, bit_and, length, if◌then◌else◌}
 use Rattle.std.specs.Int.{w32, w128, from_le_bytes}
 use Rattle.std.specs.List.{fold}
-use Rattle.vlm_links.specs.declared.hashing.HashAsIs.{HashAsIs}
+use Rattle.vlm_links.specs.declared.hashing.HashSpread.{HashSpread}
 use Rattle.vlm_links.specs.declared.hashing.HashKeys.{HashKeys}
 use Rattle.vlm_links.specs.Sip.{compressed, finished}
 
@@ -14,6 +14,6 @@ key_words bytes = (bit_and (from_le_bytes w128 bytes) 0xFFFFFFFFFFFFFFFF, from_l
 unfoldable pub hash_of : HashKeys → List ℕ → ℕ
 hash_of keys words = finished (fold compressed keys.words words)
 
--- the hash that four bytes are, the low one first, is taken as it is
-abbrev pub taking : HashAsIs → List ℕ → HashAsIs
-taking h bytes = record { taken = if length bytes == 4 then from_le_bytes w32 bytes else 0 }
+-- four bytes are a number, the low one first, and its hash is a multiple in 64 bits
+abbrev pub spreading : HashSpread → List ℕ → HashSpread
+spreading h bytes = record { spread = if length bytes == 4 then (from_le_bytes w32 bytes * 0x9E3779B97F4A7C15) % 2 ^ 64 else 0 }

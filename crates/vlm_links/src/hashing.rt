@@ -2,11 +2,14 @@
 
 ghost use Rattle.std.specs.Prelude.{◌≡◌};
 ghost use Rattle.std.specs.Hash.DefaultHasher.{initial as empty, write};
-ghost use Rattle.vlm_links.specs.Hashing.{hash_of, key_words, taking};
+ghost use Rattle.vlm_links.specs.Hashing.{hash_of, key_words, spreading};
 ghost use Rattle.vlm_links.specs.Sip.{initial};
 
 use crate::sip::SipState;
 use std::hash::{BuildHasher, DefaultHasher, Hasher};
+
+// 2^64 over the golden ratio: multiples of it lie far apart.
+const SPREAD: u64 = 0x9E37_79B9_7F4A_7C15;
 
 /// How the indexes hash: SipHash with secret keys. Somebody who does not know the keys cannot choose names with equal
 /// hashes. No answer depends on the keys.
@@ -67,45 +70,47 @@ impl BuildHasher for HashKeys {
     }
 }
 
-/// The hasher of an index whose keys are hashes of 32 bits. It uses them unchanged.
+/// The hasher of an index whose keys are numbers of 32 bits: one multiplication spreads them over the table and its
+/// tags. It keeps nobody from choosing numbers that meet, and nobody can: the machine gives identifications in order,
+/// and hashes of keys are keyed already.
 #[derive(Clone, Copy)]
-pub struct HashAsIs {
-    // the hash that was written: 0 before, and after input that is not four bytes long
-    taken: u64,
+pub struct HashSpread {
+    // the number that was written, spread: 0 before, and after input that is not four bytes long
+    spread: u64,
 }
 
-impl HashAsIs {
-    /// No hash is taken yet.
-    pub fn new() -> HashAsIs
-        ensures { result.taken ≡ 0 }
+impl HashSpread {
+    /// No number is written yet.
+    pub fn new() -> HashSpread
+        ensures { result.spread ≡ 0 }
     {
-        HashAsIs { taken: 0 }
+        HashSpread { spread: 0 }
     }
 }
 
-impl Hasher for HashAsIs {
-    ghost write = { taking };
+impl Hasher for HashSpread {
+    ghost write = { spreading };
 
-    ghost finish = { λ h. h.taken };
+    ghost finish = { λ h. h.spread };
 
     fn finish(&self) -> u64 {
-        self.taken
+        self.spread
     }
 
     fn write(&mut self, bytes: &[u8]) {
-        self.taken = match <[u8; 4]>::try_from(bytes) {
-            Ok(hash) => u64::from(u32::from_le_bytes(hash)),
+        self.spread = match <[u8; 4]>::try_from(bytes) {
+            Ok(number) => u64::from(u32::from_le_bytes(number)).wrapping_mul(SPREAD),
             Err(_) => 0,
         };
     }
 }
 
-impl BuildHasher for HashAsIs {
-    type Hasher = HashAsIs;
+impl BuildHasher for HashSpread {
+    type Hasher = HashSpread;
 
     ghost build_hasher = { λ h. h };
 
-    fn build_hasher(&self) -> HashAsIs {
+    fn build_hasher(&self) -> HashSpread {
         *self
     }
 }

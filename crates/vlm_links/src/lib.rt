@@ -27,7 +27,7 @@ mod tables;
 
 pub use growth::{reserve_one, reserve_slot};
 pub use handles::At;
-pub use hashing::{HashAsIs, HashKeys};
+pub use hashing::{HashKeys, HashSpread};
 pub use link::{LAST_HANDLE, Links};
 pub use lists::{Linked, LinkedList};
 pub use tables::HandleTable;

@@ -69,6 +69,7 @@ pub fn pop_front(store: &mut Store, res: ResAt, queue: Queue) -> Option<LockAt>
 
 /// Whether the mode is compatible with the held mode of every other lock of the resource, granted or
 /// converting. The lock that asks is left out.
+#[inline(always)]
 pub fn can_hold(store: &Store, res: ResAt, mode: Mode, asking: Option<LockAt>) -> bool
     requires there { HasResource res store.now }
     requires asking { ForSome asking (λ lock. IsStored lock store.now) }

@@ -1,21 +1,20 @@
 //! The locks of each resource, counted by their modes.
 
-ghost use Rattle.std.specs.Prelude.{◌≡◌, ◌≤◌, ◌+◌, None, Some};
+ghost use Rattle.std.specs.Prelude.{◌≡◌, None, Some};
 ghost use Rattle.std.specs.Option.{ForSome};
 ghost use Rattle.slab.specs.Slab.{ContainsKey};
 ghost use Rattle.vlm_words.specs.declared.modes.Mode.{Mode};
 ghost use Rattle.vlm_words.specs.declared.resources.Queue.{Queue};
 ghost use Rattle.vlm_records.specs.declared.handles.Place.{Place};
-ghost use Rattle.vlm_tallies.specs.Tallies.{Count, how_many, is_mode, one_if, weight_of};
+ghost use Rattle.vlm_tallies.specs.Tallies.{is_mode, one_if, weight_of};
 ghost use Rattle.vlm_tallies.specs.Tallies.Count.{of_held};
 ghost use Rattle.vlm_records.specs.Kept.{Recounts, WritesCounts};
-ghost use Rattle.vlm_records.specs.Shown.{IsPlaced, IsTallied, handles_but, handles_fit, noted, rows, share_of, shares};
+ghost use Rattle.vlm_records.specs.Shown.{IsPlaced, IsTallied, handles_but, handles_fit, noted, rows, share_of};
 
 use crate::handles::{LockAt, Place, ResAt};
 use crate::locks::Lock;
 use crate::queues::Queues;
 use crate::rows::StoredRow;
-use vlm_tallies::Tally;
 use vlm_words::locks::Request;
 use vlm_words::modes::Mode;
 use vlm_words::resources::Queue;
@@ -87,29 +86,10 @@ impl Queues {
         }
     }
 
-    // The held modes of a resource, counted without the lock that asks.
-    fn tally_without(&self, res: ResAt, asking: Option<LockAt>) -> Tally
-        requires placed { IsPlaced self.now None }
-        requires tallied { IsTallied self.now None }
-        requires there { ContainsKey self.now.resources res }
-        requires asking { ForSome asking (λ at. ContainsKey self.now.locks at) }
-        ensures { (mode : Mode) → how_many of_held result mode
-            ≡ shares self.now (weight_of of_held mode) asking res }
-    {
-        let mut tally = self.resources[res.slot()].tally;
-        match asking {
-            None => tally,
-            Some(asking) => {
-                let lock = &self.locks[asking.slot()];
-                let held = held_on(res, &lock.place, &lock.row);
-                tally.remove_held(&held);
-                tally
-            }
-        }
-    }
-
     /// Whether the mode is compatible with what each lock of a resource holds, but for the lock that
     /// asks.
+    // Inlined, its readings of the lock and the resource are one with its caller's.
+    #[inline(always)]
     pub fn fits(&self, res: ResAt, mode: Mode, asking: Option<LockAt>) -> bool
         requires placed { IsPlaced self.now None }
         requires tallied { IsTallied self.now None }
@@ -120,6 +100,13 @@ impl Queues {
             (handles_but self.now asking (Place.Queued res Queue.Granted))
             (handles_but self.now asking (Place.Queued res Queue.Conversion)) }
     {
-        self.tally_without(res, asking).fits(mode)
+        let tally = &self.resources[res.slot()].tally;
+        match asking {
+            None => tally.fits(mode),
+            Some(asking) => {
+                let lock = &self.locks[asking.slot()];
+                tally.fits_beside(mode, &held_on(res, &lock.place, &lock.row))
+            }
+        }
     }
 }

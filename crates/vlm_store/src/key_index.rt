@@ -9,7 +9,7 @@ use crate::hashed::HashedKey;
 use indexmap::IndexMap;
 use slab::Slab;
 use std::alloc::{AllocError, Global};
-use vlm_links::{HashAsIs, LAST_HANDLE, reserve_slot};
+use vlm_links::{HashSpread, LAST_HANDLE, reserve_slot};
 use vlm_records::{ResAt, Resource};
 use vlm_words::resources::Key;
 
@@ -18,7 +18,7 @@ use vlm_words::resources::Key;
 /// choose names with equal hashes.
 pub(crate) struct KeyIndex {
     // the resource of each hash; of several, the last one made
-    last: IndexMap<u32, ResAt, HashAsIs>,
+    last: IndexMap<u32, ResAt, HashSpread>,
     // the others, by their keys
     others: IndexMap<HashedKey, ResAt>,
 }
@@ -36,7 +36,7 @@ impl KeyIndex {
         ensures { FindsNothing result }
     {
         KeyIndex {
-            last: IndexMap::with_hasher(alloc, HashAsIs::new()),
+            last: IndexMap::with_hasher(alloc, HashSpread::new()),
             others: IndexMap::new(alloc),
         }
     }

@@ -18,7 +18,7 @@ use indexmap::IndexMap;
 use slab::Slab;
 use std::alloc::{AllocError, Global};
 use std::marker::Model;
-use vlm_links::{HandleTable, HashKeys, LinkedList, reserve_one};
+use vlm_links::{HandleTable, HashKeys, HashSpread, LinkedList, reserve_one};
 use vlm_marks::NodeMarks;
 use vlm_records::{
     InLine, InOrder, Lock, LockAt, Place, ProcAt, Process, Queues, ResAt, Resource, StoredRow,
@@ -42,7 +42,7 @@ pub struct Store {
     // the processes in order of making
     pub(crate) process_order: LinkedList<InOrder>,
     // where the lock of each identification is
-    lock_index: IndexMap<u32, LockAt>,
+    lock_index: IndexMap<u32, LockAt, HashSpread>,
     // where the resource of each key is, which `keys` hash; others choose the names in it
     resource_index: KeyIndex,
     // where the process of each identification is
@@ -111,7 +111,7 @@ impl Store {
             order: LinkedList::new(),
             processes: Slab::new(alloc),
             process_order: LinkedList::new(),
-            lock_index: IndexMap::new(alloc),
+            lock_index: IndexMap::with_hasher(alloc, HashSpread::new()),
             resource_index: KeyIndex::new(alloc),
             process_index: HandleTable::new(alloc),
             keys,
@@ -398,6 +398,7 @@ impl Store {
 
     /// Whether the mode is compatible with what every lock of the resource holds, granted or converting,
     /// but for the lock that asks.
+    #[inline(always)]
     pub fn can_hold(&self, res: ResAt, mode: Mode, asking: Option<LockAt>) -> bool
         requires there { HasResource res self.now }
         requires asking { ForSome asking (λ lock. IsStored lock self.now) }

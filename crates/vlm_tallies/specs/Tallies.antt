@@ -1,5 +1,5 @@
 -- Counts of the locks of a resource, mode by mode.
-use Rattle.std.specs.Prelude.{ℕ, Bool, false, not, ◌==◌, ◌+◌, ◌&&◌, ◌||◌, List, [], ◌∷◌, Option, None, Some, cond, if◌then◌else◌, replicate, slice_index_or}
+use Rattle.std.specs.Prelude.{ℕ, Bool, false, not, ◌==◌, ◌+◌, ◌-◌, ◌&&◌, ◌||◌, List, [], ◌∷◌, Option, None, Some, cond, if◌then◌else◌, replicate, slice_index_or}
 use Rattle.vlm_words.specs.declared.locks.Request.{Request}
 use Rattle.vlm_words.specs.declared.locks.Row.{Row}
 use Rattle.vlm_words.specs.declared.modes.Mode.{Mode}
@@ -33,6 +33,10 @@ abbrev pub how_many : Count → Tally → Mode → ℕ
 how_many of_held tally mode = count_of tally.held mode
 how_many of_wanted tally mode = count_of tally.wanted mode
 how_many of_armed tally mode = count_of tally.armed mode
+
+-- how many locks hold a mode, other than one that holds this
+abbrev pub held_beside : Option Request → Tally → Mode → ℕ
+held_beside own tally mode = how_many of_held tally mode - one_if (is_mode mode own)
 
 -- the counts of the six modes, from NL to EX
 abbrev pub by_mode : (Mode → ℕ) → List ℕ

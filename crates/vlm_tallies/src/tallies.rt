@@ -3,7 +3,7 @@
 ghost use Rattle.std.specs.Prelude.{◌≡◌, ◌+◌, ◌<◌, ◌≤◌, ◌^◌, not};
 ghost use Rattle.vlm_words.specs.declared.modes.Mode.{Mode};
 ghost use Rattle.vlm_words.specs.Modes.{is_compatible};
-ghost use Rattle.vlm_tallies.specs.Tallies.{Count, armed_request, by_mode, count_of, counts_fit, counts_warn, how_many, is_mode, none_or, one_if, weight_of};
+ghost use Rattle.vlm_tallies.specs.Tallies.{Count, armed_request, by_mode, count_of, counts_fit, counts_warn, held_beside, how_many, is_mode, none_or, one_if, weight_of};
 ghost use Rattle.vlm_tallies.specs.Tallies.Count.{of_armed, of_held, of_wanted};
 
 use vlm_words::locks::{Request, Row};
@@ -123,15 +123,6 @@ impl Tally {
         }
     }
 
-    /// Counts out what a lock holds, and not what it wants, nor that it is armed.
-    pub fn remove_held(&mut self, held: &Option<Request>)
-        requires { (mode : Mode) → one_if (is_mode mode held.now) ≤ how_many of_held self.old mode }
-        ensures { (mode : Mode) → how_many of_held self.new mode + one_if (is_mode mode held.now)
-            ≡ how_many of_held self.old mode }
-    {
-        count_out(&mut self.held, held);
-    }
-
     /// How many locks hold each mode, from NL to EX.
     pub fn held(&self) -> [u32; 6]
         ensures { result ≡ by_mode (how_many of_held self.now) }
@@ -144,6 +135,16 @@ impl Tally {
         ensures { result ≡ counts_fit mode (how_many of_held self.now) }
     {
         counts_fit(&self.held, mode)
+    }
+
+    /// Whether the mode is compatible with every mode that is held by the locks other than one that holds `own`.
+    pub fn fits_beside(&self, mode: Mode, own: &Option<Request>) -> bool
+        requires { (mode : Mode) → one_if (is_mode mode own.now) ≤ how_many of_held self.now mode }
+        ensures { result ≡ counts_fit mode (held_beside own.now self.now) }
+    {
+        let mut held = self.held;
+        count_out(&mut held, own);
+        counts_fit(&held, mode)
     }
 
     /// Whether the mode is incompatible with some mode that is wanted.

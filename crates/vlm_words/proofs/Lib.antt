@@ -1,3 +1,4 @@
+pub mod Cells
 pub mod Each
 pub mod Pairs
 pub mod Warned

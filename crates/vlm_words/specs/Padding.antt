@@ -1,5 +1,5 @@
 -- Short texts that lie in an array, with zeros behind their last byte.
-use Rattle.std.specs.Prelude.{◌≡◌, ◌≤◌, ℕ, ◌-◌, List, ◌++◌, length, take, replicate}
+use Rattle.std.specs.Prelude.{◌≡◌, ◌<◌, ◌≤◌, ℕ, ◌-◌, List, ◌++◌, length, slice_index, take, replicate}
 use Rattle.std.proofs.Common.{sym, subst}
 use Rattle.std.proofs.lemmas.List.{length-take-le}
 
@@ -7,11 +7,16 @@ use Rattle.std.proofs.lemmas.List.{length-take-le}
 abbrev pub padded : ℕ → List ℕ → List ℕ
 padded size text = text ++ replicate (size - length text) 0
 
+-- each of them is a byte
+abbrev pub AreBytes : List ℕ → Type 0
+AreBytes cells = (i : ℕ) → slice_index cells i < 256
+
 -- the cells hold a text of this length and nothing behind it
 pub record IsPadded (size len : ℕ) (cells : List ℕ) : Type 0 where
   pub fits : len ≤ size
   pub whole : length cells ≡ size
   pub clear : cells ≡ padded size (take len cells)
+  pub bytes : AreBytes cells
 
 -- the text is as long as the cells say
 pub length-text : {size len : ℕ} {cells : List ℕ} → IsPadded size len cells → length (take len cells) ≡ len

@@ -1,6 +1,7 @@
 //! Names of resources, as they are given and as they are accepted.
 
-ghost use Rattle.std.specs.Prelude.{◌≡◌, true, length, take};
+ghost use Rattle.std.specs.Cmp.Lexicographic.{pointwise};
+ghost use Rattle.std.specs.Prelude.{◌≡◌, true, length, nat_eq, take};
 ghost use Rattle.vlm_words.specs.NameWords.{name_words};
 ghost use Rattle.vlm_words.specs.Names.{is_name, name_of};
 
@@ -54,6 +55,13 @@ impl Name {
             self.text.word(16),
             self.text.word(23),
         ]
+    }
+
+    /// Whether the names are the same.
+    pub fn is_same(&self, other: &Name) -> bool
+        ensures { result ≡ pointwise nat_eq self.now other.now }
+    {
+        self.text.is_same(&other.text)
     }
 
     /// How many bytes the name has.

@@ -101,13 +101,15 @@ impl PartialEq for Key {
 
     ghost laws = { partial_equiv_from_equiv (decided is_same_key is_same_key-Decides) };
 
+    // Each look-up calls it at one place; inlined there it costs the step registers.
+    #[inline(never)]
     fn eq(&self, other: &Key) -> bool {
         match (self, other) {
             (Key::Root(domain, name), Key::Root(other_domain, other_name)) => {
-                *domain == *other_domain && name.bytes() == other_name.bytes()
+                *domain == *other_domain && name.is_same(other_name)
             }
             (Key::Below(parent, name), Key::Below(other_parent, other_name)) => {
-                *parent == *other_parent && name.bytes() == other_name.bytes()
+                *parent == *other_parent && name.is_same(other_name)
             }
             _ => false,
         }

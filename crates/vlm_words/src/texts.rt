@@ -1,6 +1,7 @@
 //! Short texts that are copied as a whole.
 
-ghost use Rattle.std.specs.Prelude.{◌≡◌, ◌≤◌, ◌+◌, length, take};
+ghost use Rattle.std.specs.Cmp.Lexicographic.{pointwise};
+ghost use Rattle.std.specs.Prelude.{◌≡◌, ◌≤◌, ◌+◌, length, nat_eq, take};
 ghost use Rattle.vlm_words.specs.NameWords.{word_at};
 ghost use Rattle.vlm_words.specs.Padding.{padded};
 
@@ -94,6 +95,19 @@ impl Text<32> {
             cells,
             len: self.len,
         }
+    }
+}
+
+impl Text<31> {
+    /// Whether the texts are the same. Four words have all the cells of a text.
+    pub fn is_same(&self, other: &Text<31>) -> bool
+        ensures { result ≡ pointwise nat_eq self.now other.now }
+    {
+        self.len == other.len
+            && self.word(0) == other.word(0)
+            && self.word(8) == other.word(8)
+            && self.word(16) == other.word(16)
+            && self.word(23) == other.word(23)
     }
 }
 

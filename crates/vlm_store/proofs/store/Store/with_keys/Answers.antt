@@ -33,7 +33,7 @@ invariant_of-result c =
       line = empty_line q.locks c.new-4.result c.new-4.ensures no_locks;
       linked = empty_linked q no_locks no_resources c.new-3.ensures c.new-5.result c.new-5.ensures;
       ordered = empty_ordered q no_locks no_resources c.new-3.ensures c.new-5.result c.new-5.ensures;
-      locks = Indexes-empty (found nat_eq c.new-8.result) (lkid_at q) (λ k. ap (lookup (nat_eq k)) c.new-8.ensures.empty) (λ at. ap (option_map lkid_of) (no_locks at));
+      locks = Indexes-empty (found nat_eq c.with_hasher.result) (lkid_at q) (λ k. ap (lookup (nat_eq k)) c.with_hasher.ensures.empty) (λ at. ap (option_map lkid_of) (no_locks at));
       resources =
           hashed_empty (hash_key c.args.keys) c.new-9.result (hashed_at q) c.new-9.ensures (λ r. ap (option_map hashed_in) (no_resources r));
       owned = empty_owned c.new-6.result q.locks no_processes no_locks;

@@ -1,7 +1,8 @@
 use Rattle.std.proofs.Common.{ℕ, ◌≡◌, ◌≤◌, ◌+◌, ◌-◌, List, ◌++◌, length, take, replicate, sym, ap, ◌∙◌, subst, arith}
 use Rattle.std.proofs.Math.Seq.{take-append-add, take-append_seam}
 use Rattle.std.proofs.lemmas.List.{take-replicate}
-use Rattle.vlm_words.specs.Padding.{IsPadded, length-text, padded}
+use Rattle.vlm_words.specs.Padding.{AreBytes, IsPadded, length-text, padded}
+use Rattle.vlm_words.proofs.Cells.{take_bytes}
 use Rattle.vlm_words.proofs.texts.Text+32.narrowed.Goals as goal
 
 -- the first 31 of a text's 32 cells
@@ -22,17 +23,18 @@ module _ (len : ℕ) (cells narrow : List ℕ) (kept : IsPadded 32 len cells) (s
       ∙ ap (λ n. take n (padded 31 (take len cells))) (sym (length-text kept))
       ∙ take-append_seam (take len cells) (replicate (31 - length (take len cells)) 0)
 
-  pub is_narrow : length narrow ≡ 31 → IsPadded 31 len narrow
-  is_narrow whole = record {
+  pub is_narrow : length narrow ≡ 31 → AreBytes narrow → IsPadded 31 len narrow
+  is_narrow whole bytes = record {
     fits = subst (λ n. n ≤ 31) (length-text kept) short;
     whole = whole;
     clear = cells_are ∙ ap (padded 31) (sym text_is);
+    bytes = bytes;
   }
 
 pub invariant_of-result : goal.invariant_of-result
 invariant_of-result c =
     is_narrow c.self.inside.len c.self.inside.cells c.copy_from_slice.new.self c.self.invariant (rw (← c.self.view_is) at c.requires) c.copy_from_slice.ensures.after
-    c.copy_from_slice.ensures.len
+    c.copy_from_slice.ensures.len (subst AreBytes (sym c.copy_from_slice.ensures.after) (take_bytes 31 c.self.inside.cells c.self.invariant.bytes))
 
 pub returns : goal.returns
 returns c =
