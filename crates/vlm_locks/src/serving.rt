@@ -95,6 +95,8 @@ fn nothing_queued(store: &Store, res: ResAt) -> bool
 }
 
 // Grants what can be granted on a resource, with the value block that the grants leave.
+// (a call of its own, as `warn` is: most sweeps find nothing queued, and need none of its registers)
+#[inline(never)]
 fn grant_queued(store: &mut Store, res: ResAt)
     requires there { HasResource res store.old }
     requires paid { IsPaid store.old }

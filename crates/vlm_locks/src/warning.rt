@@ -96,6 +96,7 @@ fn warn_armed(store: &mut Store, res: ResAt)
 /// Warns the granted locks of a resource that are armed and in the way of a queued request, in their order: the
 /// blocking AST of each is queued, and it is armed no more. Where counts show that there is none, no lock is looked at;
 /// else those that are armed are.
+#[inline(never)]
 pub(crate) fn warn(store: &mut Store, res: ResAt)
     requires there { HasResource res store.old }
     requires paid { IsPaid store.old }
