@@ -1,5 +1,5 @@
 -- How many locks a process has, in the records and in the plain machine.
-use Rattle.std.proofs.Common.{◌≡◌, ℕ, List, [], ◌∷◌, map, cond, refl, ap, arith}
+use Rattle.std.proofs.Common.{◌≡◌, ℕ, List, [], ◌∷◌, map, cond, refl, arith}
 use Rattle.std.specs.Prelude.{◌==◌}
 use Rattle.std.specs.List.{sum_by}
 use Rattle.std.proofs.lemmas.List.Sums.{sum_by-cons}
@@ -33,6 +33,6 @@ on_all_same pid (r ∷ rest) =
       sum_by-cons (locks_on pid) (plain_resource r) (map plain_resource rest),
     )
 
--- where none is loose, these are all
-pub all_same : (pid : ℕ) (s : Records) → s.loose ≡ [] → owned_by pid s ≡ locks_of pid (plain_resources s)
-all_same pid s none_loose = omega (arith, on_all_same pid s.resources, ap (owned_among pid) none_loose)
+-- the locks of the process are those on all resources
+pub all_same : (pid : ℕ) (s : Records) → owned_by pid s ≡ locks_of pid (plain_resources s)
+all_same pid s = on_all_same pid s.resources
