@@ -76,17 +76,17 @@ certain_alive s ranks row rank top falls is less below =
 -- ---- the gauge at a lock
 
 -- a lock to which a walk has come stands in that queue
-pub standing_there : (s : Records) → IsSound s → (res : ℕ) (queue : Queue) (lock : ℕ) (row : Row) → HasResource res s → IsInQueue res queue (Some lock) s → Stores s lock row
-    → IsStanding (record { lock = lock; row = row; res = res; queue = queue }) s
-standing_there s sound res queue lock row there come stored =
+pub standing_there : (s : Records) → IsSound s → (res : ℕ) (queue : Queue) (lock owner : ℕ) (row : Row) → HasResource res s → IsInQueue res queue (Some lock) s → Stores s lock row → IsProcess owner row.pid s
+    → IsStanding (record { lock = lock; owner = owner; row = row; res = res; queue = queue }) s
+standing_there s sound res queue lock owner row there come stored owned =
     let among = come lock refl in
     let same = one_lock s sound lock among.0 row (Queued res queue, among.1) stored in
     of_found (resource_at res s.resources) refl there (subst (λ (r : Row). IsIn (record { at = lock; row = r }) (locks_at (Queued res queue) s)) same among.1)
   where
     of_found : (o : Option StoredResource) → resource_at res s.resources ≡ o → IsSome o → IsIn (record { at = lock; row = row }) (option_map_or (queued queue) o [])
-        → IsStanding (record { lock = lock; row = row; res = res; queue = queue }) s
+        → IsStanding (record { lock = lock; owner = owner; row = row; res = res; queue = queue }) s
     of_found None is some among = cc
-    of_found (Some r) is some among = record { resource = r; found = is; among = among }
+    of_found (Some r) is some among = record { resource = r; found = is; among = among; owner = owned }
 
 -- the owner of a holder is below
 holder_below : (s : Records) (ranks : Ranks) (peaks : List Peak) (lkid : ℕ) (mode : Mode) (rows : List Row) (top : ℕ) → CountsHolders s ranks peaks rows → IsAboveAll peaks mode lkid top

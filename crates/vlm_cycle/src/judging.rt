@@ -63,9 +63,11 @@ pub(crate) fn standing_in(store: &Store, res: ResAt, queue: Queue, lock: LockAt)
     ensures queue { result.queue ≡ queue }
     ensures lock { result.lock ≡ lock }
 {
+    let record = store.lock_record(lock);
     Standing {
         lock,
-        row: store.lock_record(lock).row,
+        owner: record.owner,
+        row: record.row,
         res,
         queue,
     }

@@ -9,6 +9,7 @@ use Rattle.vlm_store.specs.Records.{Records, SameButNotices, StoredResource, res
 use Rattle.vlm_locks.specs.declared.finding.Standing.{Standing}
 use Rattle.vlm_locks.specs.Converting.{IsConverted, admission_on, processes_converting}
 use Rattle.vlm_locks.specs.Standing.{IsStanding}
+use Rattle.vlm_locks.proofs.Found.{process_still}
 
 -- the lock stands where it stood
 pub stands_accepted : (f : Standing) (s t : Records) → SameButNotices s t → IsStanding f s → IsStanding f t
@@ -16,6 +17,7 @@ stands_accepted f s t same standing = record {
   resource = standing.resource;
   found = ap (resource_at f.res) same.resources ∙ standing.found;
   among = standing.among;
+  owner = process_still s t f.owner f.row.pid same standing.owner;
 }
 
 -- what a conversion makes of resources

@@ -11,7 +11,7 @@ use Rattle.vlm_words.specs.Rows.{is_lock_of}
 use Rattle.vlm_links.specs.Lists.{IsIn}
 use Rattle.vlm_records.specs.declared.handles.Place.TheVariants.{Queued}
 use Rattle.vlm_store.specs.Plain.{plain_resource, plain_resources}
-use Rattle.vlm_store.specs.Records.{IsSound, Records, StoredResource, Stores, locks_at, queued, resource_at, rows_of_locks}
+use Rattle.vlm_store.specs.Records.{IsProcess, IsSound, Records, StoredResource, Stores, locks_at, queued, resource_at, rows_of_locks}
 use Rattle.vlm_locks.specs.declared.finding.Standing.{Standing}
 use Rattle.vlm_locks.specs.Standing.{IsStanding}
 use Rattle.vlm_locks.proofs.Named.{any-among, any-not}
@@ -62,9 +62,9 @@ some_held s sound f standing = of_list s.resources (own_among s sound f standing
         ]
 
 -- a lock at a place that is a queue stands there
-pub stands_queued : (s : Records) (f : Standing) → IsIn (record { at = f.lock; row = f.row }) (locks_at (Queued f.res f.queue) s) → IsStanding f s
-stands_queued s f among = of_found (resource_at f.res s.resources) refl among
+pub stands_queued : (s : Records) (f : Standing) → IsIn (record { at = f.lock; row = f.row }) (locks_at (Queued f.res f.queue) s) → IsProcess f.owner f.row.pid s → IsStanding f s
+stands_queued s f among owner = of_found (resource_at f.res s.resources) refl among
   where
     of_found : (found : Option StoredResource) → resource_at f.res s.resources ≡ found → IsIn (record { at = f.lock; row = f.row }) (option_map_or (queued f.queue) found []) → IsStanding f s
     of_found None is among = absurd among
-    of_found (Some r) is among = record { resource = r; found = is; among = among }
+    of_found (Some r) is among = record { resource = r; found = is; among = among; owner = owner }

@@ -206,6 +206,7 @@ module _ (s : Records) (sound : IsSound s) (f : Standing) (standing : IsStanding
         ap (resource_at f.res) (block_put block)
         ∙ resource_at-put f.res (record standing.resource { value_block = block }) s.resources standing.resource (resource_at-at f.res s.resources standing.resource standing.found) standing.found;
     among = of_queue f.queue standing.among;
+    owner = standing.owner;
   }
     where
       of_queue : (queue : Queue) → IsIn (record { at = f.lock; row = f.row }) (queued queue standing.resource)

@@ -2,14 +2,15 @@
 use Rattle.std.specs.Prelude.{◌≡◌, ℕ, Some}
 use Rattle.vlm_links.specs.Lists.{IsIn}
 use Rattle.vlm_words.specs.declared.locks.Row.{Row}
-use Rattle.vlm_store.specs.Records.{Records, StoredResource, Stores, queued, resource_at}
+use Rattle.vlm_store.specs.Records.{IsProcess, Records, StoredResource, Stores, queued, resource_at}
 use Rattle.vlm_locks.specs.declared.finding.Standing.{Standing}
 
--- the lock stands so: with this row, in this queue of the resource of this handle
+-- the lock stands so: with this row, in this queue of the resource of this handle, and owned by the process of this handle
 pub record IsStanding (f : Standing) (s : Records) : Type 0 where
   pub resource : StoredResource
   pub found : resource_at f.res s.resources ≡ Some resource
   pub among : IsIn (record { at = f.lock; row = f.row }) (queued f.queue resource)
+  pub owner : IsProcess f.owner f.row.pid s
 
 -- it is the lock of this process with this identification
 pub record IsStandingOf (pid lkid : ℕ) (f : Standing) (s : Records) : Type 0 where

@@ -67,15 +67,15 @@ fn convert_now(store: &mut Store, standing: &Standing, row: &StoredRow, asked: &
     ensures owed { OwedMoves row.now (granted_row row.now) store.old store.new }
     ensures locks { OtherLocksStay standing.now.lock store.old store.new }
 {
-    let owner = store.lock_record(standing.lock).owner;
+    law_records_are_sound(store);
     let granted = Place::Queued(standing.res, Queue::Granted);
     store.move_lock(standing.lock, row.granted(), granted);
     if asked.flags.has(EnqFlags::VALBLK) {
         let mut value_block = store.resource_record(standing.res).value_block;
-        end_by_grant(&mut value_block, store, owner, row, true);
+        end_by_grant(&mut value_block, store, standing.owner, row, true);
         store.set_value_block(standing.res, value_block);
     } else {
-        end_without_value_block(store, owner, row, asked);
+        end_without_value_block(store, standing.owner, row, asked);
     }
 }
 
@@ -149,9 +149,8 @@ pub fn convert(
     ensures refused { OnErr result (store.new ≡ store.old) }
     ensures succeeds { routines_of (Some asked.now) ≡ 0 → IsOk result }
 {
-    let owner = store.lock_record(standing.lock).owner;
-    owe_routines(store, owner, Some(*asked))?;
-    accept(store, owner, asked.block, standing.row.lkid());
+    owe_routines(store, standing.owner, Some(*asked))?;
+    accept(store, standing.owner, asked.block, standing.row.lkid());
     convert_accepted(store, standing, asked, at_once);
     Ok(())
 }

@@ -2,12 +2,13 @@
 
 ghost use Rattle.std.specs.Prelude.{◌≡◌, ◌≤◌, true, None, Some, IfOk, IfSome, IsOk, OnErr, OnOk};
 ghost use Rattle.vlm_words.specs.declared.locks.Request.{Request};
+ghost use Rattle.vlm_words.specs.declared.locks.Row.{Row};
 ghost use Rattle.vlm_words.specs.Dues.{routines_of, row_due};
 ghost use Rattle.vlm_words.specs.Effects.{blocks_after, blocks_with};
 ghost use Rattle.vlm_words.specs.Grants.{grant_endings, granted_row};
 ghost use Rattle.vlm_words.specs.Enqueue.{is_at_once};
 ghost use Rattle.vlm_store.specs.Plain.{plain_processes, plain_resource};
-ghost use Rattle.vlm_store.specs.Records.{DuesStay, FindsResource, HasResource, HasRoomForLock, HasRoomForResource, IsNewKey, IsProcess, IsUnchanged, SameButNotices, StoredResource, due_of, resource_at};
+ghost use Rattle.vlm_store.specs.Records.{DuesStay, FindsResource, HasResource, HasRoomForLock, HasRoomForResource, IsProcess, IsUnchanged, Records, SameButNotices, StoredResource, due_of, resource_at};
 ghost use Rattle.vlm_locks.specs.Entering.{HasRoomToEnter, HasEntered, IsDueMore, IsEntered, IsReady, MayEnter, entered_queue, new_row, processes_entered};
 ghost use Rattle.vlm_locks.specs.Owing.{IsPaid, OwedMoves, OwesMore, entered_row};
 
@@ -80,11 +81,11 @@ fn new_row(entry: &Entry) -> StoredRow
 }
 
 // The row of a new lock as it enters: it holds what it wants where it is granted at once.
-fn entered_row(entry: &Entry) -> StoredRow
+fn entered_row(entry: &Entry, row: &StoredRow) -> StoredRow
+    requires { row.now ≡ new_row entry.now }
     ensures { result ≡ entered_row entry.now.at_once (new_row entry.now) }
 {
-    let row = new_row(entry);
-    if entry.at_once { row.granted() } else { row }
+    if entry.at_once { row.granted() } else { *row }
 }
 
 // The queue that a new lock enters.
@@ -98,10 +99,11 @@ fn entered_queue(entry: &Entry) -> Queue
     }
 }
 
-// Takes a new lock in on a resource that is there: at the end of the granted queue where it is granted at once, else
-// at that of the waiting queue.
-fn enter_at(store: &mut Store, entry: &Entry, res: ResAt)
+// Adds a new lock to a resource that is there: at the end of the granted queue where it is granted at once, else at
+// that of the waiting queue.
+fn enter_at(store: &mut Store, entry: &Entry, row: &StoredRow, res: ResAt)
     requires may_enter { MayEnter entry.now store.old }
+    requires row { row.now ≡ new_row entry.now }
     requires found { FindsResource store.old entry.now.site.key (Some res) }
     requires room { HasRoomForLock store.old }
     ensures entered { IsEntered entry.now res store.old store.new }
@@ -110,27 +112,32 @@ fn enter_at(store: &mut Store, entry: &Entry, res: ResAt)
 {
     law_records_are_sound(store);
     let queue = Place::Queued(res, entered_queue(entry));
-    store.add_lock_reserved(&entered_row(entry), entry.owner, entry.parent, queue);
+    store.add_lock_reserved(&entered_row(entry, row), entry.owner, entry.parent, queue);
 }
 
-// Takes a new lock in on a resource that is made for it.
-fn enter_new(store: &mut Store, entry: &Entry) -> ResAt
+// The resource of a new lock. It is made if it is not there.
+fn resource_or_new(store: &mut Store, entry: &Entry) -> ResAt
     requires may_enter { MayEnter entry.now store.old }
-    requires absent { IsNewKey entry.now.site.key store.old }
-    requires room { HasRoomForLock store.old }
-    requires resource_room { HasRoomForResource store.old }
-    ensures entered { IsEntered entry.now result store.old store.new }
-    ensures due { IsDueMore (entered_row entry.now.at_once (new_row entry.now))
-        store.old store.new }
+    requires found { FindsResource store.old entry.now.site.key entry.now.res }
+    requires room { entry.now.res ≡ None → HasRoomForResource store.old }
+    ensures may_enter { MayEnter entry.now store.new }
+    ensures found { FindsResource store.new entry.now.site.key (Some result) }
+    ensures lock_room { HasRoomForLock store.old → HasRoomForLock store.new }
+    ensures entered { (then : Records) → IsEntered entry.now result store.new then
+        → IsEntered entry.now result store.old then }
+    ensures due { (row : Row) (then : Records) → IsDueMore row store.new then
+        → IsDueMore row store.old then }
 {
-    let res = store.add_resource_reserved(entry.serial, &entry.site, entry.hash);
-    enter_at(store, entry, res);
-    res
+    match entry.res {
+        Some(res) => res,
+        None => store.add_resource_reserved(entry.serial, &entry.site, entry.hash),
+    }
 }
 
 // Takes a new lock in on the resource of its handle, which is made if it is not there.
-fn take_in(store: &mut Store, entry: &Entry) -> ResAt
+fn take_in(store: &mut Store, entry: &Entry, row: &StoredRow) -> ResAt
     requires may_enter { MayEnter entry.now store.old }
+    requires row { row.now ≡ new_row entry.now }
     requires found { FindsResource store.old entry.now.site.key entry.now.res }
     requires room { HasRoomForLock store.old }
     requires resource_room { entry.now.res ≡ None → HasRoomForResource store.old }
@@ -138,18 +145,15 @@ fn take_in(store: &mut Store, entry: &Entry) -> ResAt
     ensures due { IsDueMore (entered_row entry.now.at_once (new_row entry.now))
         store.old store.new }
 {
-    match entry.res {
-        Some(res) => {
-            enter_at(store, entry, res);
-            res
-        }
-        None => enter_new(store, entry),
-    }
+    let res = resource_or_new(store, entry);
+    enter_at(store, entry, row, res);
+    res
 }
 
 // Ends the request of a new lock that is granted at once. With VALBLK it returns the value block; a new request never
 // writes it.
-fn end_at_once(store: &mut Store, entry: &Entry, res: ResAt)
+fn end_at_once(store: &mut Store, entry: &Entry, row: &StoredRow, res: ResAt)
+    requires row { row.now ≡ new_row entry.now }
     requires owner { IsProcess entry.now.owner entry.now.pid store.old }
     requires there { HasResource res store.old }
     requires owed { row_due (new_row entry.now) ≤ due_of entry.now.pid store.old }
@@ -160,17 +164,17 @@ fn end_at_once(store: &mut Store, entry: &Entry, res: ResAt)
         store.old store.new }
     ensures only_notices { SameButNotices store.old store.new }
 {
-    let row = new_row(entry);
     if entry.asked.flags.has(EnqFlags::VALBLK) {
         let mut value_block = store.resource_record(res).value_block;
-        end_by_grant(&mut value_block, store, entry.owner, &row, true);
+        end_by_grant(&mut value_block, store, entry.owner, row, true);
     } else {
-        end_without_value_block(store, entry.owner, &row, &entry.asked);
+        end_without_value_block(store, entry.owner, row, &entry.asked);
     }
 }
 
 // Accepts the request of a lock that has entered, and ends it if it is granted at once.
-fn accept_entered(store: &mut Store, entry: &Entry, res: ResAt)
+fn accept_entered(store: &mut Store, entry: &Entry, row: &StoredRow, res: ResAt)
+    requires row { row.now ≡ new_row entry.now }
     requires owner { IsProcess entry.now.owner entry.now.pid store.old }
     requires there { HasResource res store.old }
     requires owed { row_due (new_row entry.now) ≤ due_of entry.now.pid store.old }
@@ -182,7 +186,7 @@ fn accept_entered(store: &mut Store, entry: &Entry, res: ResAt)
 {
     accept(store, entry.owner, entry.asked.block, entry.lkid);
     if entry.at_once {
-        end_at_once(store, entry, res);
+        end_at_once(store, entry, row, res);
     }
 }
 
@@ -224,8 +228,9 @@ fn enter_ready(store: &mut Store, entry: &Entry) -> ResAt
     requires owed { OwesMore entry.now.pid (routines_of (Some entry.now.asked)) store.old }
     ensures entered { HasEntered entry.now result store.old store.new }
 {
-    let res = take_in(store, entry);
-    accept_entered(store, entry, res);
+    let row = new_row(entry);
+    let res = take_in(store, entry, &row);
+    accept_entered(store, entry, &row, res);
     res
 }
 

@@ -11,7 +11,7 @@ ghost use Rattle.vlm_store.specs.Records.{IsStored, Stores};
 ghost use Rattle.vlm_locks.specs.Rest.{IsAtRest};
 ghost use Rattle.vlm_locks.specs.Standing.{IsLockOf, IsStanding};
 
-use vlm_store::{LockAt, Place, ResAt, Store, StoredRow};
+use vlm_store::{LockAt, Place, ProcAt, ResAt, Store, StoredRow};
 use vlm_words::resources::Queue;
 
 /// A lock in its queue, with what it holds and wants.
@@ -19,6 +19,8 @@ use vlm_words::resources::Queue;
 pub struct Standing {
     /// The handle of the lock.
     pub lock: LockAt,
+    /// The handle of the process that owns it.
+    pub owner: ProcAt,
     /// What it holds and wants.
     pub row: StoredRow,
     /// The handle of its resource.
@@ -50,6 +52,7 @@ pub fn standing_of(store: &Store, lock: LockAt) -> Standing
     match record.place {
         Place::Queued(res, queue) => Standing {
             lock,
+            owner: record.owner,
             row: record.row,
             res,
             queue,

@@ -40,10 +40,9 @@ fn end_told(store: &mut Store, standing: &Standing, request: &Request, status: C
     ensures only_notices { SameButNotices store.old store.new }
 {
     law_records_are_sound(store);
-    let owner = store.lock_record(standing.lock).owner;
-    end(store, owner, request.block, status);
-    complete(store, owner, &standing.row, request, false);
-    forgive(store, owner, one_where(request.blocking.is_some()));
+    end(store, standing.owner, request.block, status);
+    complete(store, standing.owner, &standing.row, request, false);
+    forgive(store, standing.owner, one_where(request.blocking.is_some()));
 }
 
 // The request that the lock wants ends with its process: of no routine that it names comes anything.
@@ -56,8 +55,7 @@ fn end_untold(store: &mut Store, standing: &Standing)
     ensures only_notices { SameButNotices store.old store.new }
 {
     law_records_are_sound(store);
-    let owner = store.lock_record(standing.lock).owner;
-    forgive(store, owner, standing.row.wanted_routines());
+    forgive(store, standing.owner, standing.row.wanted_routines());
 }
 
 // What the lock wants ends so. Where it wants nothing, nothing ends.
@@ -115,8 +113,7 @@ fn spare_warning(store: &mut Store, standing: &Standing, gone: bool)
     if !gone {
         return;
     }
-    let owner = store.lock_record(standing.lock).owner;
-    forgive(store, owner, one_where(standing.row.is_armed()));
+    forgive(store, standing.owner, one_where(standing.row.is_armed()));
 }
 
 // Whether a withdrawn lock of this queue goes: always, but where it is to stay and holds a mode.

@@ -1,3 +1,4 @@
 pub mod Authorized
 pub mod Quotas
+pub mod Twice
 pub mod Written

@@ -1,6 +1,7 @@
 //! What is written to status blocks and read from them.
 
 ghost use Rattle.std.specs.Prelude.{◌≡◌, ℕ};
+ghost use Rattle.vlm_words.specs.declared.conditions.Cond.{Cond};
 ghost use Rattle.vlm_words.specs.StatusBlocks.{processes_after_acceptance, processes_after_write, status_block_at, status_block_of, status_blocks_of, processes_after_status, processes_after_return, processes_after_setting};
 ghost use Rattle.vlm_store.specs.Plain.{plain_processes};
 ghost use Rattle.vlm_store.specs.Records.{DuesStay, HasProcess, IsProcess, SameButNotices};
@@ -67,7 +68,22 @@ pub fn accept(store: &mut Store, at: ProcAt, number: u8, lkid: u32)
     ensures only_notices { SameButNotices store.old store.new }
 {
     law_records_are_sound(store);
-    store.set_pending(at, number, lkid);
+    store.set_request(at, number, 0, lkid);
+}
+
+/// A request for the lock was accepted with this status block, and granted at once: the block has the lock's
+/// identification and NORMAL, and keeps its value part and its tail. It is one write for `accept` and `end`.
+#[tactic(auto, unfolding(vlm_words::specs::StatusBlocks::processes_after_acceptance))]
+pub fn accept_granted(store: &mut Store, at: ProcAt, number: u8, lkid: u32)
+    requires { HasProcess at store.old }
+    ensures written { (pid : ℕ) → IsProcess at pid store.old → plain_processes store.new
+        ≡ processes_after_status pid number Cond.Normal
+        (processes_after_acceptance pid number lkid (plain_processes store.old)) }
+    ensures dues { DuesStay store.old store.new }
+    ensures only_notices { SameButNotices store.old store.new }
+{
+    law_records_are_sound(store);
+    store.set_request(at, number, Cond::Normal.number(), lkid);
 }
 
 /// Writes the value part of the status block, and its tail where one is given, and nothing else.

@@ -16,6 +16,6 @@ with_changed_block n change p = process_with_block n (change (block_or_new n p.b
 abbrev pub with_status : ℕ → Block → Block
 with_status status block = record block { status = status }
 
--- the status block of a pending request for this lock; its value part and its tail stay
-abbrev pub pending_for : ℕ → Block → Block
-pending_for lkid block = record block { status = 0; lkid = lkid }
+-- the status block of a request for this lock, with this status; its value part and its tail stay
+abbrev pub requested : ℕ → ℕ → Block → Block
+requested status lkid block = record block { status = status; lkid = lkid }

@@ -8,7 +8,7 @@ ghost use Rattle.vlm_words.specs.Declare.{new_process};
 ghost use Rattle.vlm_words.specs.StatusBlocks.{process_with_block};
 ghost use Rattle.vlm_records.specs.Kin.{but_order, plain_process, process_links};
 ghost use Rattle.vlm_records.specs.Shown.{room_in};
-ghost use Rattle.vlm_records.specs.StatusBlocks.{pending_for, with_changed_block, with_status};
+ghost use Rattle.vlm_records.specs.StatusBlocks.{requested, with_changed_block, with_status};
 
 use crate::locks::OfProcess;
 use crate::resources::InOrder;
@@ -100,11 +100,11 @@ impl Process {
         }
     }
 
-    /// Makes the status block with this number, from 1, if it is there, that of a pending request for a lock. Its value
-    /// part and its tail stay.
-    pub fn set_pending(&mut self, number: u8, lkid: u32)
+    /// Makes the status block with this number, from 1, if it is there, that of a request for a lock, with this status:
+    /// 0 while the request is pending. Its value part and its tail stay.
+    pub fn set_request(&mut self, number: u8, status: u8, lkid: u32)
         ensures plain { plain_process self.new
-            ≡ with_changed_block number (pending_for lkid) (plain_process self.old) }
+            ≡ with_changed_block number (requested status lkid) (plain_process self.old) }
         ensures due { self.new.asts.due ≡ self.old.asts.due }
         ensures own { self.new.own ≡ self.old.own }
         ensures order { process_links self.new ≡ process_links self.old }
@@ -113,7 +113,7 @@ impl Process {
             return;
         };
         if let Some(block) = self.blocks.get_mut(index) {
-            block.status = 0;
+            block.status = status;
             block.lkid = lkid;
         }
     }

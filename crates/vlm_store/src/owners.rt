@@ -7,7 +7,7 @@ ghost use Rattle.vlm_words.specs.Asts.{oldest, without_oldest_ast};
 ghost use Rattle.vlm_words.specs.Declare.{new_process};
 ghost use Rattle.vlm_words.specs.StatusBlocks.{new_status_block, process_with_block};
 ghost use Rattle.vlm_records.specs.Kin.{plain_process};
-ghost use Rattle.vlm_records.specs.StatusBlocks.{pending_for, with_changed_block, with_status};
+ghost use Rattle.vlm_records.specs.StatusBlocks.{requested, with_changed_block, with_status};
 ghost use Rattle.vlm_store.specs.Pending.{IsFirstLiving};
 ghost use Rattle.vlm_store.specs.Plain.{plain_processes};
 ghost use Rattle.vlm_store.specs.Records.{FindsProcess, HasNoLocks, HasNoSublocks, HasProcess, HasRoomForProcess, IsGivenBack, IsNewProcess, IsProcess, IsSound, IsStored, IsTaken, IsUnchanged, authorization_of, new_stored_process, on_process, on_stored, owed_less, owed_more, own_at, owned_by, process_at, with_owed_ast, with_process_room, without_process};
@@ -135,16 +135,16 @@ impl Store {
         self.processes[at.slot()].set_status(number, status);
     }
 
-    /// Makes the status block with this number, from 1, of a process, if it is there, that of a pending request for a
-    /// lock. Its value part and its tail stay.
-    pub fn set_pending(&mut self, at: ProcAt, number: u8, lkid: u32)
+    /// Makes the status block with this number, from 1, of a process, if it is there, that of a request for a lock, with
+    /// this status: 0 while the request is pending. Its value part and its tail stay.
+    pub fn set_request(&mut self, at: ProcAt, number: u8, status: u8, lkid: u32)
         requires { HasProcess at self.old }
         ensures { self.new ≡ record self.old {
-          processes = on_process at (with_changed_block number (pending_for lkid))
+          processes = on_process at (with_changed_block number (requested status lkid))
               self.old.processes;
         } }
     {
-        self.processes[at.slot()].set_pending(number, lkid);
+        self.processes[at.slot()].set_request(number, status, lkid);
     }
 
     /// Takes the oldest AST of a process, if there is one.

@@ -2,13 +2,13 @@ use Rattle.vlm_queue.proofs.Walking.{come_stored}
 use Rattle.vlm_cycle.proofs.Ranked.{standing_there}
 use Rattle.vlm_cycle.proofs.judging.standing_in.Goals as goal
 
-pub lock_record-requires : goal.lock_record-requires
-lock_record-requires c = come_stored c.args.store.now c.args.res c.args.queue c.args.lock c.requires.come
+pub lock_record-record-requires : goal.lock_record-record-requires
+lock_record-record-requires c = come_stored c.args.store.now c.args.res c.args.queue c.args.lock c.requires.come
 
 pub returns-clause-standing : goal.returns-clause-standing
 returns-clause-standing c =
-    standing_there c.args.store.now c.lock_record.ensures.sound c.args.res c.args.queue c.args.lock c.lock_record.result.now.row
-    c.requires.there c.requires.come c.lock_record.ensures.row
+    standing_there c.args.store.now c.lock_record-record.ensures.sound c.args.res c.args.queue c.args.lock c.lock_record-record.result.now.owner c.lock_record-record.result.now.row
+    c.requires.there c.requires.come c.lock_record-record.ensures.row c.lock_record-record.ensures.owner
 
 pub returns-clause-only : goal.returns-clause-only
-returns-clause-only c row stored = c.lock_record.ensures.only row stored
+returns-clause-only c row stored = c.lock_record-record.ensures.only row stored

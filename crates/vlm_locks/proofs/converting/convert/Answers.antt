@@ -10,29 +10,23 @@ use Rattle.vlm_locks.proofs.Found.{process_still, process_there}
 use Rattle.vlm_locks.proofs.OtherLocks.{locks_stay_over, statuses_alone}
 use Rattle.vlm_locks.proofs.Owing.{notices_twice}
 use Rattle.vlm_locks.proofs.Paying.{owes_more, owes_still}
-use Rattle.vlm_locks.proofs.Stood.{owner_is, stored}
 use Rattle.vlm_locks.proofs.converting.convert.Goals as goal
-
-pub lock_record-requires : goal.lock_record-requires
-lock_record-requires c =
-    let f = c.args.standing.now in
-    (f.row, stored c.args.store.now f c.requires.standing)
 
 pub owe_routines-requires : goal.owe_routines-requires
 owe_routines-requires c =
     let s = c.args.store.now in
     let f = c.args.standing.now in
-    process_there s c.lock_record.result.now.owner f.row.pid
-    (owner_is s c.lock_record.result.now.owner c.lock_record.result.now.row f.row (c.lock_record.ensures.only f.row (stored s f c.requires.standing)) c.lock_record.ensures.owner)
+    process_there s c.args.standing.now.owner f.row.pid
+    c.requires.standing.owner
 
 -- and it lives once it is owed the ASTs
 pub accept-requires : goal.accept-requires
 accept-requires c =
     let s = c.args.store.now in
     let f = c.args.standing.now in
-    process_there c.owe_routines.new.store c.lock_record.result.now.owner f.row.pid
-    (process_still s c.owe_routines.new.store c.lock_record.result.now.owner f.row.pid c.in_ok-owe_routines.ensures.only_notices
-    (owner_is s c.lock_record.result.now.owner c.lock_record.result.now.row f.row (c.lock_record.ensures.only f.row (stored s f c.requires.standing)) c.lock_record.ensures.owner))
+    process_there c.owe_routines.new.store c.args.standing.now.owner f.row.pid
+    (process_still s c.owe_routines.new.store c.args.standing.now.owner f.row.pid c.in_ok-owe_routines.ensures.only_notices
+    c.requires.standing.owner)
 
 pub convert_accepted-requires-clause-rest : goal.convert_accepted-requires-clause-rest
 convert_accepted-requires-clause-rest c =
@@ -57,7 +51,7 @@ convert_accepted-requires-clause-owed c =
     owes_still f.row.pid more c.owe_routines.new.store c.accept.new.store c.accept.ensures.dues c.accept.ensures.only_notices
     (owes_more f.row.pid more s c.owe_routines.new.store c.requires.paid
     (c.in_ok-owe_routines.ensures.owed f.row.pid
-    (owner_is s c.lock_record.result.now.owner c.lock_record.result.now.row f.row (c.lock_record.ensures.only f.row (stored s f c.requires.standing)) c.lock_record.ensures.owner))
+    c.requires.standing.owner)
     c.in_ok-owe_routines.ensures.only_notices)
 
 pub returns-clause-converted : goal.returns-clause-converted
@@ -65,9 +59,9 @@ returns-clause-converted c =
     let s = c.args.store.now in
     let f = c.args.standing.now in
     let owed = c.owe_routines.new.store in
-    let lives : IsProcess c.lock_record.result.now.owner f.row.pid owed =
-    process_still s owed c.lock_record.result.now.owner f.row.pid c.in_ok-owe_routines.ensures.only_notices
-    (owner_is s c.lock_record.result.now.owner c.lock_record.result.now.row f.row (c.lock_record.ensures.only f.row (stored s f c.requires.standing)) c.lock_record.ensures.owner) in
+    let lives : IsProcess c.args.standing.now.owner f.row.pid owed =
+    process_still s owed c.args.standing.now.owner f.row.pid c.in_ok-owe_routines.ensures.only_notices
+    c.requires.standing.owner in
     converted_accepted f c.args.asked.now s c.accept.new.store c.convert_accepted.new.store
     (notices_twice s owed c.accept.new.store c.in_ok-owe_routines.ensures.only_notices c.accept.ensures.only_notices)
     (rw c.lkid.ensures at c.accept.ensures.written f.row.pid lives ∙ ap (processes_after_acceptance f.row.pid c.args.asked.now.block f.row.lkid) c.in_ok-owe_routines.ensures.processes)

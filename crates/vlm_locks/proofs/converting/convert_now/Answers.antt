@@ -10,17 +10,12 @@ use Rattle.vlm_locks.specs.Converting.{IsConvertedAtOnce, moved_in}
 use Rattle.vlm_locks.proofs.Converted.{granted_at_once, granted_without_value_block}
 use Rattle.vlm_locks.proofs.Moved.{moved_replaced}
 use Rattle.vlm_locks.proofs.Replaced.{found_left, still_there}
-use Rattle.vlm_locks.proofs.Stood.{owner_is, stored}
+use Rattle.vlm_locks.proofs.Stood.{stored}
 use Rattle.vlm_locks.proofs.Owing.{due_moved, due_noticed}
 use Rattle.vlm_locks.proofs.Paying.{due_valued, found_there}
 use Rattle.vlm_locks.specs.Owing.{due_for}
 use Rattle.vlm_words.specs.Dues.{due_to}
 use Rattle.vlm_locks.proofs.converting.convert_now.Goals as goal
-
-pub lock_record-requires : goal.lock_record-requires
-lock_record-requires c =
-    let f = c.args.standing.now in
-    (f.row, stored c.args.store.now f c.requires.standing)
 
 pub move_lock-requires-clause-lock : goal.move_lock-requires-clause-lock
 move_lock-requires-clause-lock c =
@@ -35,8 +30,8 @@ pub end_by_grant-requires-clause-process : goal.end_by_grant-requires-clause-pro
 end_by_grant-requires-clause-process c =
     let f = c.args.standing.now in
     rw (c.move_lock.ensures)
-    (subst (λ pid. IsProcess c.lock_record.result.now.owner pid c.args.store.now) c.requires.row.pid
-    (owner_is c.args.store.now c.lock_record.result.now.owner c.lock_record.result.now.row f.row (c.lock_record.ensures.only f.row (stored c.args.store.now f c.requires.standing)) c.lock_record.ensures.owner))
+    (subst (λ pid. IsProcess c.args.standing.now.owner pid c.args.store.now) c.requires.row.pid
+    c.requires.standing.owner)
 
 -- and what they are owed
 pub end_by_grant-requires-clause-owed : goal.end_by_grant-requires-clause-owed
@@ -47,7 +42,7 @@ resource_record-requires c =
     let s = c.args.store.now in
     let f = c.args.standing.now in
     let standing = c.requires.standing in
-    let moved = moved_replaced s c.lock_record.ensures.sound f standing c.granted.result Granted c.move_lock.new.self c.move_lock.ensures in
+    let moved = moved_replaced s c.law_records_are_sound.ensures f standing c.granted.result Granted c.move_lock.new.self c.move_lock.ensures in
     still_there f.res standing.resource (moved_in f c.granted.result Granted standing.resource) s c.move_lock.new.self moved
 
 pub set_value_block-requires : goal.set_value_block-requires
@@ -55,7 +50,7 @@ set_value_block-requires c =
     let s = c.args.store.now in
     let f = c.args.standing.now in
     let standing = c.requires.standing in
-    let moved = moved_replaced s c.lock_record.ensures.sound f standing c.granted.result Granted c.move_lock.new.self c.move_lock.ensures in
+    let moved = moved_replaced s c.law_records_are_sound.ensures f standing c.granted.result Granted c.move_lock.new.self c.move_lock.ensures in
     let there = still_there f.res standing.resource (moved_in f c.granted.result Granted standing.resource) s c.move_lock.new.self moved in
     subst (λ rs. IsSome (resource_at f.res rs)) (sym c.end_by_grant.ensures.only_notices.resources) there
 
@@ -65,13 +60,13 @@ returns-then-has-clause-granted c =
     let f = c.args.standing.now in
     let standing = c.requires.standing in
     let row = c.args.row.now in
-    let moved = moved_replaced s c.lock_record.ensures.sound f standing c.granted.result Granted c.move_lock.new.self c.move_lock.ensures in
+    let moved = moved_replaced s c.law_records_are_sound.ensures f standing c.granted.result Granted c.move_lock.new.self c.move_lock.ensures in
     let left = moved_in f c.granted.result Granted standing.resource in
     let block = c.resource_record.result.now.value_block in
     let told = subst (λ o. IfSome o (λ r. block ≡ r.value_block)) (sym standing.found)
     (subst (λ o. IfSome o (λ r. block ≡ r.value_block)) (found_left f.res standing.resource left s c.move_lock.new.self moved) c.resource_record.ensures.value_block) in
     subst (λ o. IfSome o (λ r. IsConvertedAtOnce f row r s c.set_value_block.new.self)) (sym standing.found)
-    (granted_at_once s c.lock_record.ensures.sound f standing row c.move_lock.new.self c.end_by_grant.new.store c.set_value_block.new.self c.resource_record.result.now.value_block c.end_by_grant.new.value_block
+    (granted_at_once s c.law_records_are_sound.ensures f standing row c.move_lock.new.self c.end_by_grant.new.store c.set_value_block.new.self c.resource_record.result.now.value_block c.end_by_grant.new.value_block
     told (c.move_lock.ensures ∙ ap (λ (x : Row). with_lists (moving (Queued f.res Granted) (record { at = f.lock; row = x })) s) c.granted.ensures)
     (record { value_block = c.end_by_grant.ensures.value_block; statuses = c.end_by_grant.ensures.statuses; only_notices = c.end_by_grant.ensures.only_notices })
     c.set_value_block.ensures)
@@ -97,7 +92,7 @@ returns-then-has-clause-due c pid =
     ∙ ap (due_for pid) c.move_lock.ensures
     ∙ ap (λ (x : Row). due_for pid (with_lists (moving (Queued f.res Granted) (record { at = f.lock; row = x })) s)) c.granted.ensures in
     ap (λ (n : ℕ). n + due_to pid f.row) due
-    ∙ due_moved s c.lock_record.ensures.sound f.lock f.row (granted_row c.args.row.now) f.res Granted (stored s f c.requires.standing) (found_there s f c.requires.standing) pid
+    ∙ due_moved s c.law_records_are_sound.ensures f.lock f.row (granted_row c.args.row.now) f.res Granted (stored s f c.requires.standing) (found_there s f c.requires.standing) pid
 
 pub returns-then-has-clause-owed : goal.returns-then-has-clause-owed
 returns-then-has-clause-owed c pid = rw (c.set_value_block.ensures) (rw c.move_lock.ensures at c.end_by_grant.ensures.owed pid)
@@ -108,8 +103,8 @@ pub end_without_value_block-requires-clause-process : goal.end_without_value_blo
 end_without_value_block-requires-clause-process c =
     let f = c.args.standing.now in
     rw (c.move_lock.ensures)
-    (subst (λ pid. IsProcess c.lock_record.result.now.owner pid c.args.store.now) c.requires.row.pid
-    (owner_is c.args.store.now c.lock_record.result.now.owner c.lock_record.result.now.row f.row (c.lock_record.ensures.only f.row (stored c.args.store.now f c.requires.standing)) c.lock_record.ensures.owner))
+    (subst (λ pid. IsProcess c.args.standing.now.owner pid c.args.store.now) c.requires.row.pid
+    c.requires.standing.owner)
 
 pub end_without_value_block-requires-clause-owed : goal.end_without_value_block-requires-clause-owed
 end_without_value_block-requires-clause-owed c = rw c.move_lock.ensures c.requires.owed
@@ -121,7 +116,7 @@ returns-else-has-clause-granted c =
     let standing = c.requires.standing in
     let row = c.args.row.now in
     subst (λ o. IfSome o (λ r. IsConvertedAtOnce f row r s c.end_without_value_block.new.store)) (sym standing.found)
-    (granted_without_value_block s c.lock_record.ensures.sound f standing row c.move_lock.new.self c.end_without_value_block.new.store
+    (granted_without_value_block s c.law_records_are_sound.ensures f standing row c.move_lock.new.self c.end_without_value_block.new.store
     (c.move_lock.ensures ∙ ap (λ (x : Row). with_lists (moving (Queued f.res Granted) (record { at = f.lock; row = x })) s) c.granted.ensures)
     c.end_without_value_block.ensures.statuses c.end_without_value_block.ensures.only_notices)
 
@@ -143,7 +138,7 @@ returns-else-has-clause-due c pid =
     ∙ ap (due_for pid) c.move_lock.ensures
     ∙ ap (λ (x : Row). due_for pid (with_lists (moving (Queued f.res Granted) (record { at = f.lock; row = x })) s)) c.granted.ensures in
     ap (λ (n : ℕ). n + due_to pid f.row) due
-    ∙ due_moved s c.lock_record.ensures.sound f.lock f.row (granted_row c.args.row.now) f.res Granted (stored s f c.requires.standing) (found_there s f c.requires.standing) pid
+    ∙ due_moved s c.law_records_are_sound.ensures f.lock f.row (granted_row c.args.row.now) f.res Granted (stored s f c.requires.standing) (found_there s f c.requires.standing) pid
 
 pub returns-else-has-clause-owed : goal.returns-else-has-clause-owed
 returns-else-has-clause-owed c pid = rw c.move_lock.ensures at c.end_without_value_block.ensures.owed pid

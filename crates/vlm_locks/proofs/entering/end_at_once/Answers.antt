@@ -12,4 +12,4 @@ returns-else-has-clause-statuses c = of_found (resource_at c.args.res c.args.sto
     of_found : (o : Option StoredResource) → IfSome o (λ r. plain_processes c.end_without_value_block.new.store
         ≡ (blocks_after (grant_endings true (new_row c.args.entry.now)) (blocks_with r.value_block (plain_processes c.args.store.now))).processes)
     of_found None = tt
-    of_found (Some r) = ap (λ b. b.processes) (rw c.new_row-row.ensures at c.end_without_value_block.ensures.statuses r.value_block)
+    of_found (Some r) = ap (λ b. b.processes) (rw c.requires.row at c.end_without_value_block.ensures.statuses r.value_block)

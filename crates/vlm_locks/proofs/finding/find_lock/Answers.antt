@@ -6,8 +6,9 @@ use Rattle.vlm_links.specs.Lists.{IsIn}
 use Rattle.vlm_records.specs.declared.handles.Place.{Place}
 use Rattle.vlm_records.specs.declared.handles.Place.TheVariants.{Loose, Queued}
 use Rattle.vlm_store.specs.Plain.{plain_resources}
-use Rattle.vlm_store.specs.Records.{IsSound, Records, Stores, locks_at}
+use Rattle.vlm_store.specs.Records.{IsProcess, IsSound, Records, Stores, locks_at}
 use Rattle.vlm_locks.proofs.Held.{none_held, some_held, stands_queued}
+use Rattle.vlm_locks.proofs.Stood.{owner_is}
 use Rattle.vlm_locks.proofs.finding.find_lock.Goals as goal
 
 -- no lock has the identification
@@ -17,13 +18,13 @@ returns-in_err-lock-clause-held c =
     ∙ sym (none_held c.args.store.now c.in_err-lock.ensures.sound c.args.pid c.args.lkid (λ at row stored same. absurd (c.in_err-lock.ensures.found at row stored same)))
 
 -- where no lock is loose, one that is stored is held by its process
-held_by : (s : Records) → IsSound s → s.loose ≡ [] → (at : ℕ) (row : Row) → Stores s at row → list_any (holds_lock row.pid row.lkid) (plain_resources s) ≡ true
-held_by s sound none_loose at row stored = of_place stored.0 stored.1
+held_by : (s : Records) → IsSound s → s.loose ≡ [] → (at owner : ℕ) (row : Row) → Stores s at row → IsProcess owner row.pid s → list_any (holds_lock row.pid row.lkid) (plain_resources s) ≡ true
+held_by s sound none_loose at owner row stored owned = of_place stored.0 stored.1
   where
     of_place : (place : Place) → IsIn (record { at = at; row = row }) (locks_at place s) → list_any (holds_lock row.pid row.lkid) (plain_resources s) ≡ true
     of_place Loose among = absurd (subst (IsIn (record { at = at; row = row })) none_loose among)
     of_place (Queued res queue) among =
-        some_held s sound (record { lock = at; row = row; res = res; queue = queue }) (stands_queued s (record { lock = at; row = row; res = res; queue = queue }) among)
+        some_held s sound (record { lock = at; owner = owner; row = row; res = res; queue = queue }) (stands_queued s (record { lock = at; owner = owner; row = row; res = res; queue = queue }) among owned)
 
 -- the lock is of the process
 pub returns-then-pid-clause-held : goal.returns-then-pid-clause-held
@@ -31,7 +32,8 @@ returns-then-pid-clause-held c =
     let s = c.args.store.now in
     let found = c.in_ok-lock.ensures.found in
     let owned : found.0.pid ≡ c.args.pid = ap (λ (x : Row). x.pid) (c.lock_record.ensures.only found.0 found.1.0) ∙ sym c.pid.ensures ∙ c.if-pid.true in
-    let held = held_by s c.in_ok-lock.ensures.sound c.requires.none_loose c.in_ok-lock.lock found.0 found.1.0 in
+    let held = held_by s c.in_ok-lock.ensures.sound c.requires.none_loose c.in_ok-lock.lock c.lock_record.result.now.owner found.0 found.1.0
+    (owner_is s c.lock_record.result.now.owner c.lock_record.result.now.row found.0 (c.lock_record.ensures.only found.0 found.1.0) c.lock_record.ensures.owner) in
     sym (rw (owned, found.1.1) at held)
 
 pub returns-then-pid-clause-lock : goal.returns-then-pid-clause-lock

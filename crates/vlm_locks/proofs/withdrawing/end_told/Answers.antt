@@ -5,24 +5,18 @@ use Rattle.vlm_store.specs.Records.{DueChanges, due_of}
 use Rattle.vlm_locks.specs.Owing.{completions_queued}
 use Rattle.vlm_locks.proofs.Found.{process_still, process_there}
 use Rattle.vlm_locks.proofs.Owing.{blocking_fits, changes_then, due_before, ended_owed, notices_twice, same_process}
-use Rattle.vlm_locks.proofs.Stood.{owner_is, stored}
 use Rattle.vlm_locks.proofs.withdrawing.end_told.Goals as goal
-
-pub lock_record-requires : goal.lock_record-requires
-lock_record-requires c =
-    let f = c.args.standing.now in
-    (f.row, stored c.args.store.now f c.requires.standing)
 
 pub end-requires : goal.end-requires
 end-requires c =
-    process_there c.args.store.now c.lock_record.result.now.owner c.args.standing.now.row.pid
-    (owner_is c.args.store.now c.lock_record.result.now.owner c.lock_record.result.now.row c.args.standing.now.row (c.lock_record.ensures.only c.args.standing.now.row (stored c.args.store.now c.args.standing.now c.requires.standing)) c.lock_record.ensures.owner)
+    process_there c.args.store.now c.args.standing.now.owner c.args.standing.now.row.pid
+    c.requires.standing.owner
 
 -- the owner lives on once the status is written
 pub complete-requires-clause-process : goal.complete-requires-clause-process
 complete-requires-clause-process c =
-    process_still c.args.store.now c.end.new.store c.lock_record.result.now.owner c.args.standing.now.row.pid c.end.ensures.only_notices
-    (owner_is c.args.store.now c.lock_record.result.now.owner c.lock_record.result.now.row c.args.standing.now.row (c.lock_record.ensures.only c.args.standing.now.row (stored c.args.store.now c.args.standing.now c.requires.standing)) c.lock_record.ensures.owner)
+    process_still c.args.store.now c.end.new.store c.args.standing.now.owner c.args.standing.now.row.pid c.end.ensures.only_notices
+    c.requires.standing.owner
 
 pub complete-requires-clause-owed : goal.complete-requires-clause-owed
 complete-requires-clause-owed c =
@@ -35,10 +29,10 @@ complete-requires-clause-owed c =
 
 pub forgive-requires-clause-there : goal.forgive-requires-clause-there
 forgive-requires-clause-there c =
-    process_there c.complete.new.store c.lock_record.result.now.owner c.args.standing.now.row.pid
-    (process_still c.args.store.now c.complete.new.store c.lock_record.result.now.owner c.args.standing.now.row.pid
+    process_there c.complete.new.store c.args.standing.now.owner c.args.standing.now.row.pid
+    (process_still c.args.store.now c.complete.new.store c.args.standing.now.owner c.args.standing.now.row.pid
     (notices_twice c.args.store.now c.end.new.store c.complete.new.store c.end.ensures.only_notices c.complete.ensures.only_notices)
-    (owner_is c.args.store.now c.lock_record.result.now.owner c.lock_record.result.now.row c.args.standing.now.row (c.lock_record.ensures.only c.args.standing.now.row (stored c.args.store.now c.args.standing.now c.requires.standing)) c.lock_record.ensures.owner))
+    c.requires.standing.owner)
 
 pub forgive-requires-clause-owed : goal.forgive-requires-clause-owed
 forgive-requires-clause-owed c pid is =
@@ -49,8 +43,8 @@ forgive-requires-clause-owed c pid is =
     subst (λ p. c.one_where.result ≤ due_of p c.complete.new.store)
     (same_process c.args.store.now c.complete.new.store c.law_records_are_sound.ensures
     (notices_twice c.args.store.now c.end.new.store c.complete.new.store c.end.ensures.only_notices c.complete.ensures.only_notices)
-    c.lock_record.result.now.owner f.row.pid pid
-    (owner_is c.args.store.now c.lock_record.result.now.owner c.lock_record.result.now.row c.args.standing.now.row (c.lock_record.ensures.only c.args.standing.now.row (stored c.args.store.now c.args.standing.now c.requires.standing)) c.lock_record.ensures.owner) is)
+    c.args.standing.now.owner f.row.pid pid
+    c.requires.standing.owner is)
     (omega (
       arith,
       c.one_where.ensures ∙ ap one_where c.is_some.ensures,
@@ -64,7 +58,7 @@ returns-clause-statuses c =
     c.forgive.ensures.processes ∙ c.complete.ensures.queued
     ∙ ap (processes_after_asts (completion_asts false c.args.request.now f.row.lkid f.row.pid))
     (c.end.ensures.written f.row.pid
-    (owner_is c.args.store.now c.lock_record.result.now.owner c.lock_record.result.now.row c.args.standing.now.row (c.lock_record.ensures.only c.args.standing.now.row (stored c.args.store.now c.args.standing.now c.requires.standing)) c.lock_record.ensures.owner))
+    c.requires.standing.owner)
 
 pub returns-clause-owed : goal.returns-clause-owed
 returns-clause-owed c =
@@ -74,6 +68,6 @@ returns-clause-owed c =
     c.end.ensures.dues c.complete.ensures.owed)
     (subst (λ n. DueChanges f.row.pid (λ due. due - n) c.complete.new.store c.forgive.new.store) (c.one_where.ensures ∙ ap one_where c.is_some.ensures)
     (c.forgive.ensures.owed f.row.pid
-    (process_still c.args.store.now c.complete.new.store c.lock_record.result.now.owner f.row.pid
+    (process_still c.args.store.now c.complete.new.store c.args.standing.now.owner f.row.pid
     (notices_twice c.args.store.now c.end.new.store c.complete.new.store c.end.ensures.only_notices c.complete.ensures.only_notices)
-    (owner_is c.args.store.now c.lock_record.result.now.owner c.lock_record.result.now.row c.args.standing.now.row (c.lock_record.ensures.only c.args.standing.now.row (stored c.args.store.now c.args.standing.now c.requires.standing)) c.lock_record.ensures.owner))))
+    c.requires.standing.owner)))

@@ -2,22 +2,18 @@ use Rattle.std.proofs.Common.{◌≤◌, ◌-◌, subst, arith}
 use Rattle.vlm_store.specs.Records.{DueChanges, due_of}
 use Rattle.vlm_locks.proofs.Found.{process_there}
 use Rattle.vlm_locks.proofs.Owing.{one_process, untold_owed}
-use Rattle.vlm_locks.proofs.Stood.{owner_is, stored}
 use Rattle.vlm_locks.proofs.withdrawing.end_untold.Goals as goal
-
-pub lock_record-requires : goal.lock_record-requires
-lock_record-requires c = (c.args.standing.now.row, stored c.args.store.now c.args.standing.now c.requires.standing)
 
 pub forgive-requires-clause-there : goal.forgive-requires-clause-there
 forgive-requires-clause-there c =
-    process_there c.args.store.now c.lock_record.result.now.owner c.args.standing.now.row.pid
-    (owner_is c.args.store.now c.lock_record.result.now.owner c.lock_record.result.now.row c.args.standing.now.row (c.lock_record.ensures.only c.args.standing.now.row (stored c.args.store.now c.args.standing.now c.requires.standing)) c.lock_record.ensures.owner)
+    process_there c.args.store.now c.args.standing.now.owner c.args.standing.now.row.pid
+    c.requires.standing.owner
 
 pub forgive-requires-clause-owed : goal.forgive-requires-clause-owed
 forgive-requires-clause-owed c pid is =
     subst (λ p. c.wanted_routines.result ≤ due_of p c.args.store.now)
-    (one_process c.args.store.now c.law_records_are_sound.ensures c.lock_record.result.now.owner c.args.standing.now.row.pid pid
-    (owner_is c.args.store.now c.lock_record.result.now.owner c.lock_record.result.now.row c.args.standing.now.row (c.lock_record.ensures.only c.args.standing.now.row (stored c.args.store.now c.args.standing.now c.requires.standing)) c.lock_record.ensures.owner) is)
+    (one_process c.args.store.now c.law_records_are_sound.ensures c.args.standing.now.owner c.args.standing.now.row.pid pid
+    c.requires.standing.owner is)
     (omega (arith, c.wanted_routines.ensures, c.requires.owed))
 
 pub returns-clause-owed : goal.returns-clause-owed
@@ -26,4 +22,4 @@ returns-clause-owed c =
     untold_owed f.row c.args.store.now c.forgive.new.store c.requires.owed
     (subst (λ n. DueChanges f.row.pid (λ due. due - n) c.args.store.now c.forgive.new.store) c.wanted_routines.ensures
     (c.forgive.ensures.owed f.row.pid
-    (owner_is c.args.store.now c.lock_record.result.now.owner c.lock_record.result.now.row c.args.standing.now.row (c.lock_record.ensures.only c.args.standing.now.row (stored c.args.store.now c.args.standing.now c.requires.standing)) c.lock_record.ensures.owner)))
+    c.requires.standing.owner))

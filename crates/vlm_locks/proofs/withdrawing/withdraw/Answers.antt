@@ -12,7 +12,17 @@ use Rattle.vlm_locks.proofs.Replaced.{no_sublocks_still}
 use Rattle.vlm_locks.proofs.Stood.{stored}
 use Rattle.vlm_locks.proofs.Changed.{rests_still, stay_over}
 use Rattle.vlm_locks.proofs.Withdrawn.{left_staying}
+use Rattle.vlm_locks.proofs.Accepted.{stands_accepted}
 use Rattle.vlm_locks.proofs.withdrawing.withdraw.Goals as goal
+
+-- the lock stands where it stood once its request has ended
+pub leave_value-requires-clause-standing : goal.leave_value-requires-clause-standing
+leave_value-requires-clause-standing c =
+    stands_accepted c.args.standing.now c.args.store.now c.end_notices.new.store c.end_notices.ensures.only_notices c.requires.standing
+
+pub give_up-requires-clause-standing : goal.give_up-requires-clause-standing
+give_up-requires-clause-standing c =
+    stands_accepted c.args.standing.now c.args.store.now c.end_notices.new.store c.end_notices.ensures.only_notices c.requires.standing
 
 pub leave_value-requires-clause-rest : goal.leave_value-requires-clause-rest
 leave_value-requires-clause-rest c = rests_still c.args.store.now c.end_notices.new.store c.end_notices.ensures.only_notices c.requires.rest

@@ -1,0 +1,25 @@
+use Rattle.std.proofs.Common.{ap}
+use Rattle.vlm_words.specs.State.{Process as PlainProcess}
+use Rattle.vlm_records.specs.StatusBlocks.{requested, with_changed_block}
+use Rattle.vlm_store.specs.Records.{changed_process}
+use Rattle.vlm_store.proofs.Living.{process_there}
+use Rattle.vlm_store.proofs.Rewriting.{changed_face, rewritten_kept, rewritten_shown}
+use Rattle.vlm_store.proofs.store.Store.set_request.Goals as goal
+
+pub index_mut-requires : goal.index_mut-requires
+index_mut-requires c = rw c.slot.ensures (process_there c.self.inside c.self.invariant c.args.at (rw (← c.self.view_is) at c.requires))
+
+pub invariant_of-self : goal.invariant_of-self
+invariant_of-self c =
+    let put = c.set_request.ensures in
+    rw c.slot.ensures
+    (rewritten_kept c.self.inside c.self.invariant c.args.at c.index_mut.result.now c.set_request.new.self (rw c.slot.ensures at c.index_mut.ensures.value)
+    put.own put.order (ap (λ (p : PlainProcess). p.pid) put.plain) (ap (λ (p : PlainProcess). p.asts) put.plain))
+
+pub returns : goal.returns
+returns c =
+    let put = c.set_request.ensures in
+    rw (← c.self.view_is, c.slot.ensures)
+    (rewritten_shown c.self.inside c.self.invariant c.args.at c.index_mut.result.now c.set_request.new.self (rw c.slot.ensures at c.index_mut.ensures.value)
+    put.own put.order (ap (λ (p : PlainProcess). p.pid) put.plain) (changed_process (with_changed_block c.args.number (requested c.args.status c.args.lkid)))
+    (changed_face (with_changed_block c.args.number (requested c.args.status c.args.lkid)) c.index_mut.result.now c.set_request.new.self put.plain put.due c.args.at))
