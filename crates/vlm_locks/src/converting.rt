@@ -69,7 +69,7 @@ fn convert_now(store: &mut Store, standing: &Standing, row: &StoredRow, asked: &
 {
     law_records_are_sound(store);
     let granted = Place::Queued(standing.res, Queue::Granted);
-    store.move_lock(standing.lock, row.granted(), granted);
+    store.move_lock(standing.lock, &row.granted(), granted);
     if asked.flags.has(EnqFlags::VALBLK) {
         let mut value_block = store.resource_record(standing.res).value_block;
         end_by_grant(&mut value_block, store, standing.owner, row, true);
@@ -93,7 +93,7 @@ fn convert_later(store: &mut Store, standing: &Standing, row: StoredRow)
 {
     law_records_are_sound(store);
     let queued = Place::Queued(standing.res, Queue::Conversion);
-    store.move_lock(standing.lock, row, queued);
+    store.move_lock(standing.lock, &row, queued);
 }
 
 // Converts a granted lock whose request is accepted: at once, or it goes to the end of the conversion queue and holds
