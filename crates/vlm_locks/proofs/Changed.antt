@@ -6,7 +6,7 @@ use Rattle.vlm_words.specs.State.{Resource}
 use Rattle.vlm_words.specs.declared.resources.Queue.{Queue}
 use Rattle.vlm_words.specs.declared.resources.Queue.TheVariants.{Granted, Conversion, Waiting}
 use Rattle.vlm_links.specs.Lists.{IsIn}
-use Rattle.vlm_records.specs.declared.handles.Place.TheVariants.{Loose, Queued}
+use Rattle.vlm_records.specs.declared.handles.Place.TheVariants.{Queued}
 use Rattle.vlm_store.specs.Plain.{plain_processes, plain_resource}
 use Rattle.vlm_store.specs.Records.{IsSound, Records, Rooms, SameButNotices, StoredProcess, StoredResource, leaving, process_without_lock, queued, resource_at, resource_with, without_lock, without_stored_lock}
 use Rattle.vlm_store.proofs.Records.{map_on, queue_at, unmoved}
@@ -67,9 +67,8 @@ changed_alike res f g old new same change = record {
 -- what held between two steps holds where status blocks alone are written
 pub rests_still : (old new : Records) → SameButNotices old new → IsAtRest old → IsAtRest new
 rests_still old new same rest = record {
-  none_loose = same.loose ∙ rest.none_loose;
   keyed = λ r among. rest.keyed r (subst (IsIn r) same.resources among);
-  rising = all_rise_still old new (were_stored old new same.resources same.loose) same.processes rest.rising;
+  rising = all_rise_still old new (were_stored old new same.resources) same.processes rest.rising;
 }
 
 -- the others stay over two steps
@@ -89,9 +88,8 @@ changed_room res change s new room changes = record {
   others = changes.others;
   there = changes.there;
   rest = record {
-    none_loose = changes.rest.none_loose;
     keyed = changes.rest.keyed;
-    rising = all_rise_still new (record new { room = room }) (were_stored new (record new { room = room }) refl refl) refl changes.rest.rising;
+    rising = all_rise_still new (record new { room = room }) (were_stored new (record new { room = room }) refl) refl changes.rest.rising;
   };
 }
 
@@ -109,7 +107,7 @@ module _ (s : Records) (sound : IsSound s) (f : Standing) (standing : IsStanding
 
   -- the records without the lock, but for the locks of its process
   abbrev pub without_queued : Records
-  without_queued = record s { resources = map (resource_with (leaving f.lock)) s.resources; loose = without_lock f.lock s.loose }
+  without_queued = record s { resources = map (resource_with (leaving f.lock)) s.resources }
 
   -- as the lock goes, just its resource is another
   pub removed_replaced : IsReplaced f.res standing.resource (resource_with (leaving f.lock) standing.resource) s without_queued
@@ -123,7 +121,6 @@ module _ (s : Records) (sound : IsSound s) (f : Standing) (standing : IsStanding
               ∙ sym (ap (λ b. cond b (resource_with (leaving f.lock) standing.resource) x) (eq-eqb x.at f.res same))
           | inr other ↦ stays x among other ∙ sym (ap (λ b. cond b (resource_with (leaving f.lock) standing.resource) x) (ne_eqb x.at f.res other))
         ]);
-    loose = unmoved s f.lock f.row (Queued f.res f.queue) sound (stands s f standing) Loose (λ e. cc);
     processes = refl;
   }
 
@@ -148,10 +145,9 @@ module _ (s : Records) (sound : IsSound s) (f : Standing) (standing : IsStanding
         others = queues.others;
         there = queues.there;
         rest = record {
-          none_loose = queues.rest.none_loose;
           keyed = queues.rest.keyed;
           rising = λ p among.
-              rises_still without_queued (without_stored_lock f.lock s) p p (were_stored without_queued (without_stored_lock f.lock s) refl refl) refl
+              rises_still without_queued (without_stored_lock f.lock s) p p (were_stored without_queued (without_stored_lock f.lock s) refl) refl
               (all_rise_without without_queued f.lock s.processes queues.rest.rising p among);
         };
       }

@@ -55,7 +55,6 @@ module _ (s : Records) (sound : IsSound s) (f : Standing) (standing : IsStanding
               ∙ on_resource-put f.res (moved_in f (granted_row row) Granted standing.resource) (λ r. record r { value_block = block }) s.resources
               (resource_at-at f.res s.resources standing.resource standing.found)
               ∙ ap (λ b. on_resource f.res (λ r. record (moved_in f (granted_row row) Granted standing.resource) { value_block = b }) s.resources) block_is;
-          loose = ap (λ (x : Records). x.loose) wrote ∙ same.loose ∙ first.loose;
           processes = ap (λ (x : Records). map but_notices x.processes) wrote ∙ same.processes ∙ first.processes;
         };
         statuses =
@@ -77,7 +76,6 @@ module _ (s : Records) (sound : IsSound s) (f : Standing) (standing : IsStanding
           resources =
               same.resources ∙ first.resources
               ∙ ap (λ (b : Blocks). on_resource f.res (λ x. record (moved_in f (granted_row row) Granted r) { value_block = b.value_block }) s.resources) blocks_are;
-          loose = same.loose ∙ first.loose;
           processes = same.processes ∙ first.processes;
         };
         statuses = ap (λ (b : Blocks). b.processes) blocks_are;

@@ -32,7 +32,6 @@ left_then res had left last old s new first second = record {
     resources =
         second.replaced.resources ∙ ap (on_resource res (λ x. last)) first.replaced.resources
         ∙ on_resource-put res left (λ x. last) old.resources (resource_at-at res s.resources left first.now);
-    loose = second.replaced.loose ∙ first.replaced.loose;
     processes = second.replaced.processes ∙ first.replaced.processes;
   };
   now = second.now;
@@ -145,7 +144,6 @@ module _ (res : ℕ) (old s new : Records) (old_block block : ValueBlock) (sound
       was = done.change.replaced.was;
       same = done.change.replaced.same;
       resources = resources_are;
-      loose = ap (λ (x : Records). x.loose) wrote ∙ done.change.replaced.loose;
       processes = ap (λ (x : Records). map but_notices x.processes) wrote ∙ done.change.replaced.processes;
     };
     stay = stays_under_block done.had done.left block done.stay;
@@ -183,7 +181,6 @@ none_granted res s sound there nothing = of_found (resource_at res s.resources) 
             was = found;
             same = refl;
             resources = sym (on_resource-own res r s.resources sound.resources_apart found);
-            loose = refl;
             processes = refl;
           };
           stay = all_stay r;
@@ -207,7 +204,6 @@ served res old s new first warned =
         resources =
             then.replaced.resources ∙ ap (on_resource res (λ r. then.left)) first.replaced.resources
             ∙ on_resource-put res first.left (λ r. then.left) old.resources (left_at res first.had first.left old s first.replaced);
-        loose = then.replaced.loose ∙ first.replaced.loose;
         processes = then.replaced.processes ∙ first.replaced.processes;
       };
       stay = stay_twice first.had first.left then.left first.stay then.stay;

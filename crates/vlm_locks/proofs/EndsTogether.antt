@@ -19,7 +19,7 @@ use Rattle.vlm_links.proofs.HandleLists.{IsIn-push, IsIn-push_kept, IsIn-push_la
 use Rattle.vlm_links.proofs.Walks.{handle_after-among}
 use Rattle.std.specs.Option.{option_map_or}
 use Rattle.vlm_records.specs.declared.handles.Place.{Place}
-use Rattle.vlm_records.specs.declared.handles.Place.TheVariants.{Loose, Queued}
+use Rattle.vlm_records.specs.declared.handles.Place.TheVariants.{Queued}
 use Rattle.vlm_store.specs.Plain.{plain_processes, plain_resource, plain_resources}
 use Rattle.vlm_store.specs.Records.{IsProcess, IsSound, IsStored, Records, SameButNotices, Stores, locks_at, own_handles_at, queued, resource_at}
 use Rattle.vlm_locks.specs.declared.giving_up.Choice.{Choice}
@@ -47,10 +47,9 @@ same_handles s t sound sound_t same owner pid lives =
     ∙ ap handles_of_own q.1.3 ∙ sym (its_handles owner pid s sound lives)
 
 -- and each lock stands as it did
-pub stands_alike : (at : ℕ) (row : Row) (s t : Records) → t.resources ≡ s.resources → t.loose ≡ s.loose → (place : Place)
+pub stands_alike : (at : ℕ) (row : Row) (s t : Records) → t.resources ≡ s.resources → (place : Place)
     → IsIn (record { at = at; row = row }) (locks_at place s) → IsIn (record { at = at; row = row }) (locks_at place t)
-stands_alike at row s t resources loose Loose among = subst (IsIn (record { at = at; row = row })) (sym loose) among
-stands_alike at row s t resources loose (Queued res queue) among =
+stands_alike at row s t resources (Queued res queue) among =
     subst (λ rs. IsIn (record { at = at; row = row }) (option_map_or (queued queue) (resource_at res rs) [])) (sym resources) among
 
 -- each of the first stands before each of the others
@@ -139,7 +138,7 @@ pub none_has_ended : (choice : Choice) (invalidates : Bool) (owner pid : ℕ) (s
 none_has_ended choice invalidates owner pid s next lives sound paid first = record {
   lives = lives;
   sound = sound;
-  only_notices = record { resources = refl; loose = refl; processes = refl; room = refl; keys = refl };
+  only_notices = record { resources = refl; processes = refl; room = refl; keys = refl };
   lkids = [];
   rise = tt;
   statuses = refl;
@@ -197,7 +196,7 @@ module _ (choice : Choice) (invalidates : Bool) (owner pid : ℕ) (old s : Recor
 
   -- what is stored is what was
   as_before : (at : ℕ) (row : Row) → Stores s at row → Stores old at row
-  as_before at row stored = (stored.0, stands_alike at row s old (sym so_far.only_notices.resources) (sym so_far.only_notices.loose) stored.0 stored.1)
+  as_before at row stored = (stored.0, stands_alike at row s old (sym so_far.only_notices.resources) stored.0 stored.1)
 
   resources_now : plain_resources s ≡ plain_resources old
   resources_now = ap (map plain_resource) so_far.only_notices.resources

@@ -11,7 +11,7 @@ use Rattle.vlm_words.specs.Grants.{granted_row}
 use Rattle.vlm_words.specs.Resources.{new_resource}
 use Rattle.vlm_links.specs.Lists.{IsIn}
 use Rattle.vlm_records.specs.declared.handles.Place.{Place}
-use Rattle.vlm_records.specs.declared.handles.Place.TheVariants.{Loose, Queued}
+use Rattle.vlm_records.specs.declared.handles.Place.TheVariants.{Queued}
 use Rattle.vlm_store.specs.Plain.{plain_resource, plain_resources}
 use Rattle.vlm_store.specs.Records.{AreResourcesApart, FindsResource, HasResource, IsParentOf, IsProcess, IsSameLock, IsSound, IsStored, Records, Room, Stores, StoredLock, StoredProcess, StoredResource, but_notices, joined_by, locks_at, on_resource, process_with_lock, queued, resource_at, with_lock_room, with_new_lock}
 use Rattle.vlm_store.proofs.Records.{joins_queue, map_on, resource_is}
@@ -144,10 +144,6 @@ module _ (s : Records) (sound : IsSound s) (rest : IsAtRest s) (e : Entry) (keye
               | inr differs ↦ rw (ne_eqb x.at res differs) refl
             ]
 
-    -- the loose locks stay
-    new_loose : new.loose ≡ s.loose
-    new_loose = ap (λ (x : Records). x.loose) added
-
     -- the processes with it
     new_processes : new.processes ≡ map (process_with_lock e.owner e.parent at) s.processes
     new_processes = ap (λ (x : Records). x.processes) added
@@ -158,7 +154,6 @@ module _ (s : Records) (sound : IsSound s) (rest : IsAtRest s) (e : Entry) (keye
       was = found_there;
       same = joined-rest to (record { at = at; row = row }) found.0;
       resources = new_resources;
-      loose = new_loose;
       processes = ap (map but_notices) new_processes;
     }
 
@@ -191,13 +186,11 @@ module _ (s : Records) (sound : IsSound s) (rest : IsAtRest s) (e : Entry) (keye
         was x other stored = inr (by_place stored.0 stored.1)
           where
             by_place : (place : Place) → IsIn (record { at = x; row = other }) (locks_at place (owned_by e at s)) → Stores s x other
-            by_place Loose here = (Loose, here)
             by_place (Queued r queue) here = (Queued r queue, here)
 
     -- what held between two steps holds with it
     rest_with : ¬ IsStored at s → IsSameLock (new_row e) row → IsAboveEachLock e.lkid s → IsAtRest new
     rest_with fresh same above = record {
-      none_loose = new_loose ∙ rest.none_loose;
       keyed = keyed_still res found.0 left (owned_by e at s) new replaced rest.keyed;
       rising = subst (AllRise new) (sym new_processes)
           (all_rise_with e.owner e.parent at s new sound e.lkid fresh above

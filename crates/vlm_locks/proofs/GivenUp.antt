@@ -20,10 +20,10 @@ module _ (choice : Choice) (pid : ℕ) (old mid : Records) (same : SameButNotice
   resources_same = ap (map plain_resource) same.resources
 
   were : (at : ℕ) (row : Row) → Stores mid at row → Stores old at row
-  were at row stored = (stored.0, stands_alike at row mid old (sym same.resources) (sym same.loose) stored.0 stored.1)
+  were at row stored = (stored.0, stands_alike at row mid old (sym same.resources) stored.0 stored.1)
 
   are : (at : ℕ) (row : Row) → Stores old at row → Stores mid at row
-  are at row stored = (stored.0, stands_alike at row old mid same.resources same.loose stored.0 stored.1)
+  are at row stored = (stored.0, stands_alike at row old mid same.resources stored.0 stored.1)
 
   chosen_same : (lkid : ℕ) → is_chosen choice (plain_resources mid) lkid ≡ is_chosen choice (plain_resources old) lkid
   chosen_same lkid = ap (λ rs. is_chosen choice rs lkid) resources_same
@@ -47,11 +47,11 @@ module _ (choice : Choice) (pid : ℕ) (old mid : Records) (same : SameButNotice
         chosen_same row.lkid ∙ closed at other row up (were at row stored) (were other up above) is (sym (chosen_same up.lkid) ∙ up_chosen);
     rest = rests_still old mid same can_end.rest;
     together = λ at other row up stored above is. can_end.together at other row up (were at row stored) (were other up above) is;
-    granted = λ res lock there. can_end.granted res lock (stands_alike lock.at lock.row mid old (sym same.resources) (sym same.loose) (Queued res Granted) there);
+    granted = λ res lock there. can_end.granted res lock (stands_alike lock.at lock.row mid old (sym same.resources) (Queued res Granted) there);
     noted = λ t there. let found = can_end.noted t there in
         (found.0, (subst (IsIn found.0) (sym same.resources) found.1.0, found.1.1, found.1.2));
     room =
-        let as_many : lock_total mid ≡ lock_total old = rw (same.resources, same.loose) refl in
+        let as_many : lock_total mid ≡ lock_total old = rw same.resources refl in
         omega (arith, can_end.room, as_many);
   }
 

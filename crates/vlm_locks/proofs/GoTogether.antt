@@ -205,7 +205,7 @@ module _ (choice : Choice) (invalidates : Bool) (owner pid : ℕ) (old s : Recor
         of_choice : (c : Choice) → is_chosen c (plain_resources s) row.lkid ≡ is_chosen c (plain_resources old) row.lkid
         of_choice All = refl
         of_choice (Below top) =
-            same_below old s sound_old going.sound can_go.rest.none_loose going.rest.none_loose row.lkid still_above were (parents_come_first old sound_old can_go.rest) 15 top row.lkid (omega arith)
+            same_below old s sound_old going.sound row.lkid still_above were (parents_come_first old sound_old can_go.rest) 15 top row.lkid (omega arith)
 
     pub listed_if : is_among so_far.lkids row ≡ is_chosen choice (plain_resources s) row.lkid
     listed_if = listed_is choice owner pid old so_far.lkids so_far.chosen sound_old was lock row (were lock row stored) mine ∙ sym chosen_still

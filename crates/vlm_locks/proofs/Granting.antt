@@ -91,7 +91,6 @@ serving_begun queue res block s sound there = of_found (resource_at res s.resour
           was = found;
           same = refl;
           resources = sym (on_resource-own res r s.resources sound.resources_apart found);
-          loose = refl;
           processes = refl;
         };
         now = found;

@@ -9,7 +9,7 @@ use Rattle.vlm_words.specs.Enqueue.{resources_after_entry}
 use Rattle.vlm_words.specs.Resources as plain
 use Rattle.vlm_links.specs.Lists.{IsIn}
 use Rattle.vlm_records.specs.declared.handles.Place.{Place}
-use Rattle.vlm_records.specs.declared.handles.Place.TheVariants.{Loose, Queued}
+use Rattle.vlm_records.specs.declared.handles.Place.TheVariants.{Queued}
 use Rattle.vlm_store.specs.Plain.{plain_resource, plain_resources}
 use Rattle.vlm_store.specs.Records.{FindsResource, IsNewKey, IsParentOf, Records, Rooms, StoredResource, Stores, locks_at, new_stored_resource, queued, resource_at, with_resource_room, without_lock, without_resource}
 use Rattle.vlm_words.specs.declared.locks.Row.{Row}
@@ -80,7 +80,6 @@ module _ (e : Entry) (res : ℕ) (room : Rooms) (s : Records) where
 
   -- each place has the locks that it had
   same_locks : (place : Place) → locks_at place (with_made e res room s) ≡ locks_at place s
-  same_locks Loose = refl
   same_locks (Queued x queue) = same_queue x queue s.resources
 
   -- no lock is made with it
@@ -107,7 +106,6 @@ module _ (e : Entry) (res : ℕ) (room : Rooms) (s : Records) where
   -- what held between two steps holds still
   pub rest_still : IsKeyed e.site.domain e.site.key → IsAtRest s → IsAtRest (with_made e res room s)
   rest_still keyed rest = record {
-    none_loose = rest.none_loose;
     keyed = keyed_with keyed rest.keyed;
     rising = all_rise_still s (with_made e res room s) (λ at row stored. (row, (was_stored at row stored, same_lock row))) refl rest.rising;
   }

@@ -9,7 +9,7 @@ use Rattle.vlm_words.specs.declared.resources.Queue.TheVariants.{Granted, Conver
 use Rattle.vlm_words.specs.Rows.{rows_without}
 use Rattle.vlm_links.specs.Lists.{IsIn}
 use Rattle.vlm_records.specs.declared.handles.Place.{Place}
-use Rattle.vlm_records.specs.declared.handles.Place.TheVariants.{Loose, Queued}
+use Rattle.vlm_records.specs.declared.handles.Place.TheVariants.{Queued}
 use Rattle.vlm_store.specs.Records.{IsSameLock, IsSound, Records, StoredLock, StoredResource, but_notices, is_place, moving, on_resource, queued, rows_of_locks, with_lists, without_lock}
 use Rattle.vlm_store.proofs.Records.{is_place-other, is_place-same, map_on, queue_at, unmoved}
 use Rattle.vlm_locks.specs.declared.finding.Standing.{Standing}
@@ -40,7 +40,7 @@ module _ (s : Records) (sound : IsSound s) (f : Standing) (standing : IsStanding
   pub moved : with_lists (moving (Queued f.res to) (record { at = f.lock; row = row })) s
       ≡ record s { resources = on_resource f.res (λ x. moved_in f row to standing.resource) s.resources }
   moved =
-      ap (λ x. record s { resources = x; loose = without_lock f.lock s.loose })
+      ap (λ x. record s { resources = x })
       (map_on (moved_in f row to) (λ x. cond (x.at == f.res) (moved_in f row to standing.resource) x) s.resources
       (λ x among. elim (cases_eq x.at f.res) [
         | inl same ↦
@@ -48,8 +48,6 @@ module _ (s : Records) (sound : IsSound s) (f : Standing) (standing : IsStanding
             ∙ sym (ap (λ b. cond b (moved_in f row to standing.resource) x) (eq-eqb x.at f.res same))
         | inr other ↦ stays x among other ∙ sym (ap (λ b. cond b (moved_in f row to standing.resource) x) (ne_eqb x.at f.res other))
       ]))
-      ∙ ap (λ x. record s { resources = on_resource f.res (λ x. moved_in f row to standing.resource) s.resources; loose = x })
-      (unmoved s f.lock f.row (Queued f.res f.queue) sound (stands s f standing) Loose (λ e. cc))
 
   own_at : standing.resource.at ≡ f.res
   own_at = resource_at-at f.res s.resources standing.resource standing.found
@@ -109,6 +107,5 @@ moved_replaced s sound f standing row to new is =
       was = standing.found;
       same = refl;
       resources = ap (λ (x : Records). x.resources) moved;
-      loose = ap (λ (x : Records). x.loose) moved;
       processes = ap (λ (x : Records). map but_notices x.processes) moved;
     }

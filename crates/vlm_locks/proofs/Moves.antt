@@ -8,7 +8,7 @@ use Rattle.vlm_words.specs.declared.locks.Row.{Row}
 use Rattle.vlm_words.specs.declared.resources.Queue.{Queue}
 use Rattle.vlm_words.specs.declared.resources.Queue.TheVariants.{Granted, Conversion, Waiting}
 use Rattle.vlm_links.specs.Lists.{IsIn}
-use Rattle.vlm_records.specs.declared.handles.Place.TheVariants.{Loose, Queued}
+use Rattle.vlm_records.specs.declared.handles.Place.TheVariants.{Queued}
 use Rattle.vlm_store.specs.Records.{AreApart, IsSound, Records, SameButNotices, StoredLock, StoredResource, Stores, first_at, is_place, locks_at, moving, on_resource, queued, resource_at, resource_with, with_lists, without_lock}
 use Rattle.vlm_store.proofs.Records.{is_place-other, is_place-same, map_on, resource_is, unmoved, without_absent}
 use Rattle.vlm_locks.specs.Rest.{but_service}
@@ -142,7 +142,7 @@ pub first_moved : (s : Records) (sound : IsSound s) (res : ℕ) (r : StoredResou
     → with_lists (moving (Queued res Granted) (record { at = at; row = granted })) s
     ≡ record s { resources = on_resource res (λ x. granted_first queue (record { at = at; row = granted }) head.rest r) s.resources }
 first_moved s sound res r queue at row found head granted differs =
-    ap (λ x. record s { resources = x; loose = without_lock at s.loose })
+    ap (λ x. record s { resources = x })
     (map_on (resource_with (moving (Queued res Granted) (record { at = at; row = granted }))) (λ x. cond (x.at == res) (granted_first queue (record { at = at; row = granted }) head.rest r) x) s.resources
     (λ x among. elim (cases_eq x.at res) [
       | inl same ↦
@@ -153,8 +153,6 @@ first_moved s sound res r queue at row found head granted differs =
           moved_there s sound res r queue at row found head granted x among other
           ∙ sym (ap (λ b. cond b (granted_first queue (record { at = at; row = granted }) head.rest r) x) (ne_eqb x.at res other))
     ]))
-    ∙ ap (λ x. record s { resources = on_resource res (λ x. granted_first queue (record { at = at; row = granted }) head.rest r) s.resources; loose = x })
-    (unmoved s at row (Queued res queue) sound (head_stands s sound res r queue at row found head) Loose (λ e. cc))
 
 -- so the queues of the resource are left like this
 pub left_next : (old s new : Records) (sound : IsSound s) (res : ℕ) (had r : StoredResource) (queue : Queue) (at : ℕ) (row : Row) (change : IsLeft res had r old s) (head : IsHead queue r at row)
@@ -172,7 +170,6 @@ left_next old s new sound res had r queue at row change head granted differs sam
         resources =
             resources ∙ ap (on_resource res (λ x. next)) change.replaced.resources
             ∙ on_resource-put res r (λ x. next) old.resources (resource_at-at res s.resources r change.now);
-        loose = same.loose ∙ ap (λ (x : Records). x.loose) moved ∙ change.replaced.loose;
         processes = same.processes ∙ change.replaced.processes;
       };
       now = ap (resource_at res) resources ∙ resource_at-put res next s.resources r keyed change.now;

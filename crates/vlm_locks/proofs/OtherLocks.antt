@@ -8,7 +8,7 @@ use Rattle.vlm_words.specs.declared.resources.Queue.{Queue}
 use Rattle.vlm_words.specs.declared.resources.Queue.TheVariants.{Granted, Conversion, Waiting}
 use Rattle.vlm_words.specs.declared.resources.ValueBlock.{ValueBlock}
 use Rattle.vlm_records.specs.declared.handles.Place.{Place}
-use Rattle.vlm_records.specs.declared.handles.Place.TheVariants.{Loose, Queued}
+use Rattle.vlm_records.specs.declared.handles.Place.TheVariants.{Queued}
 use Rattle.vlm_store.specs.Records.{Records, Room, SameButNotices, StoredLock, StoredProcess, StoredResource, but_notices, is_place, joining, leaving, locks_at, moving, on_resource, process_without_lock, queued, resource_at, resource_with, with_lists, with_lock_room, with_new_lock, without_lock, without_stored_lock}
 use Rattle.vlm_locks.specs.Rest.{OtherLocksStay}
 use Rattle.vlm_locks.specs.Withdrawing.{owned_after}
@@ -42,7 +42,6 @@ without_moved to k place locks = of_test (is_place place to)
 -- a change of lists that shows in no list without the lock
 lists_stay : (lock : ℕ) (change : Place → List StoredLock → List StoredLock) → ((place : Place) (locks : List StoredLock) → without_lock lock (change place locks) ≡ without_lock lock locks)
     → (s : Records) → OtherLocksStay lock s (with_lists change s)
-lists_stay lock change stays s Loose = stays Loose s.loose
 lists_stay lock change stays s (Queued x queue) = of_list s.resources
   where
     of_queue : (queue : Queue) (r : StoredResource) → without_lock lock (queued queue (resource_with change r)) ≡ without_lock lock (queued queue r)
@@ -78,7 +77,6 @@ added_alone lock row owner parent to room s place =
 
     shown : (place : Place)
         → without_lock lock (locks_at place (with_lock_room room (with_new_lock lock row owner parent to s))) ≡ without_lock lock (locks_at place (with_lists (joining to (record { at = lock; row = row })) s))
-    shown Loose = refl
     shown (Queued x queue) = refl
 
 -- a lock is removed
@@ -86,12 +84,10 @@ pub removed_alone : (lock : ℕ) (room : Room) (s : Records) → OtherLocksStay 
 removed_alone lock room s place = shown place ∙ lists_stay lock (leaving lock) (λ place locks. without_twice lock locks) s place
   where
     shown : (place : Place) → without_lock lock (locks_at place (with_lock_room room (without_stored_lock lock s))) ≡ without_lock lock (locks_at place (with_lists (leaving lock) s))
-    shown Loose = refl
     shown (Queued x queue) = refl
 
 -- a value block is written
 pub block_alone : (lock res : ℕ) (block : ValueBlock) (s : Records) → OtherLocksStay lock s (record s { resources = on_resource res (λ r. record r { value_block = block }) s.resources })
-block_alone lock res block s Loose = refl
 block_alone lock res block s (Queued x queue) = ap (without_lock lock) (of_list s.resources)
   where
     of_queue : (queue : Queue) (b : Bool) (r : StoredResource) → queued queue (cond b (record r { value_block = block }) r) ≡ queued queue r
@@ -115,7 +111,6 @@ block_alone lock res block s (Queued x queue) = ap (without_lock lock) (of_list 
 
 -- status blocks are written
 pub statuses_alone : (lock : ℕ) (old new : Records) → SameButNotices old new → OtherLocksStay lock old new
-statuses_alone lock old new same Loose = ap (without_lock lock) same.loose
 statuses_alone lock old new same (Queued x queue) = ap (λ rs. without_lock lock (option_map_or (queued queue) (resource_at x rs) [])) same.resources
 
 -- two changes of one lock, one after the other

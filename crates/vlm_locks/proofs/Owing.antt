@@ -2,7 +2,6 @@
 use Rattle.std.proofs.Common.{◌≡◌, ◌≢◌, ◌≤◌, ◌+◌, ◌-◌, ℕ, Bool, true, false, List, [], ◌∷◌, map, cond, Option, None, Some, refl, sym, ap, ◌∙◌, subst, inl, inr, arith, eq-eqb, ne_eqb}
 use Rattle.std.specs.Prelude.{◌==◌, find, is_some}
 use Rattle.std.specs.Option.{option_map_or}
-use Rattle.std.specs.List.{sum_by}
 use Rattle.std.proofs.lemmas.Bool.{cases_eq}
 use Rattle.std.proofs.lemmas.Option.{same_Some}
 use Rattle.vlm_words.specs.declared.locks.Request.{Request}
@@ -18,7 +17,7 @@ use Rattle.vlm_words.specs.Endings.How.{by_grant}
 use Rattle.vlm_words.specs.Dues.{due_to, one_where, routines_of, row_due}
 use Rattle.vlm_words.specs.Grants.{grant_act, grant_endings, granted_row, is_arming}
 use Rattle.vlm_records.specs.declared.handles.Place.TheVariants.{Queued}
-use Rattle.vlm_store.specs.Records.{DueChanges, DuesStay, HasResource, IsIdle, IsProcess, IsSound, Records, Room, SameButNotices, StoredLock, StoredProcess, Stores, due_of, leaving, moving, on_resource, process_at, process_without_lock, resource_with, with_lists, with_resource_room, without_lock, without_resource}
+use Rattle.vlm_store.specs.Records.{DueChanges, DuesStay, HasResource, IsIdle, IsProcess, IsSound, Records, Room, SameButNotices, StoredLock, StoredProcess, Stores, due_of, leaving, moving, on_resource, process_at, process_without_lock, resource_with, with_lists, with_resource_room, without_resource}
 use Rattle.vlm_store.proofs.Plain.{process_at-stored}
 use Rattle.vlm_locks.specs.Owing.{DueMoves, IsPaid, LosesOne, WeighsTheSame, total_weight, OwedMoves, blocks_written, completions_queued, completions_spared, due_for, row_after_end, row_at_end}
 use Rattle.vlm_locks.specs.Withdrawing.{owned_after}
@@ -39,7 +38,6 @@ one_process s sound at a b one other =
 pub notices_twice : (s t u : Records) → SameButNotices s t → SameButNotices t u → SameButNotices s u
 notices_twice s t u first second = record {
   resources = second.resources ∙ first.resources;
-  loose = second.loose ∙ first.loose;
   processes = second.processes ∙ first.processes;
   room = second.room ∙ first.room;
   keys = second.keys ∙ first.keys;
@@ -50,7 +48,7 @@ pub same_process : (s t : Records) → IsSound s → SameButNotices s t → (at 
 same_process s t sound same at a b one other =
     one_process s sound at a b one
     (process_still t s at b
-    (record { resources = sym same.resources; loose = sym same.loose; processes = sym same.processes; room = sym same.room; keys = sym same.keys }) other)
+    (record { resources = sym same.resources; processes = sym same.processes; room = sym same.room; keys = sym same.keys }) other)
 
 -- what is owed changes so from where it stayed
 pub changes_then : (pid : ℕ) (f : ℕ → ℕ) (s t u : Records) → DuesStay s t → DueChanges pid f t u → DueChanges pid f s u
@@ -177,7 +175,7 @@ due_moved s sound at was now res to stored there pid = moved_weighs (weight pid)
 
 -- and stays where notices alone change
 pub due_noticed : (s t : Records) → SameButNotices s t → (pid : ℕ) → due_for pid t ≡ due_for pid s
-due_noticed s t same pid = rw (same.resources, same.loose) refl
+due_noticed s t same pid = rw same.resources refl
 
 -- a lock that is granted on its resource
 pub paid_granted : (s t : Records) → IsSound s → (at : ℕ) (row : Row) (res : ℕ) → Stores s at row → HasResource res s
@@ -282,9 +280,9 @@ paid_withdrawn was now gone lock s t u v paid owed same left left_due part part_
 
 -- a lock goes
 pub weighs_gone : (s : Records) → IsSound s → (at : ℕ) (row : Row) → Stores s at row → (t : Records) → t.resources ≡ map (resource_with (leaving at)) s.resources
-    → t.loose ≡ without_lock at s.loose → LosesOne (record { at = at; row = row }) s t
-weighs_gone s sound at row stored t resources loose measure =
-    let gone : total_weight measure t ≡ total_weight measure (with_lists (leaving at) s) = rw (resources, loose) refl in
+    → LosesOne (record { at = at; row = row }) s t
+weighs_gone s sound at row stored t resources measure =
+    let gone : total_weight measure t ≡ total_weight measure (with_lists (leaving at) s) = rw resources refl in
     omega (arith, gone, gone_weighs measure s sound at row stored)
 
 -- for a lock at its end nothing is due
@@ -303,7 +301,7 @@ due_gone at row s t loses pid = omega (arith, loses (weight pid), nothing_due ro
 pub weighs_valued : (s : Records) → IsSound s → (res : ℕ) (block : ValueBlock)
     → WeighsTheSame s (record s { resources = on_resource res (λ r. record r { value_block = block }) s.resources })
 weighs_valued s sound res block measure =
-    ap (λ (total : ℕ). total + sum_by measure s.loose) (kept_weighs measure s sound (λ r. record r { value_block = block }) res (λ r. refl))
+    kept_weighs measure s sound (λ r. record r { value_block = block }) res (λ r. refl)
 
 pub paid_valued : (s t : Records) → IsSound s → (res : ℕ) (block : ValueBlock) → t ≡ record s { resources = on_resource res (λ r. record r { value_block = block }) s.resources }
     → IsPaid s → IsPaid t
@@ -313,4 +311,4 @@ paid_valued s t sound res block is paid pid = rw is (paid pid ∙ sym (weighs_va
 pub paid_dropped : (s t : Records) (room : Room) → IsSound s → (res : ℕ) → IsIdle res s
     → t ≡ with_resource_room room (record s { resources = without_resource res s.resources }) → IsPaid s → IsPaid t
 paid_dropped s t room sound res idle is paid pid =
-    rw is (paid pid ∙ sym (ap (λ (due : ℕ). due + sum_by (weight pid) s.loose) (dropped_weighs (weight pid) s sound res idle)))
+    rw is (paid pid ∙ sym (dropped_weighs (weight pid) s sound res idle))

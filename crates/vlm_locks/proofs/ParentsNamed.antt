@@ -140,9 +140,9 @@ IsSomewhere lkid s = (at : ℕ) × (row : Row) × (Stores s at row × (row.lkid 
 
 module _ (s : Records) (sound : IsSound s) where
   -- the parent lock of a lock is the one that its row names
-  pub parent_named : s.loose ≡ [] → (at : ℕ) (row : Row) → Stores s at row → parent_of row.lkid (plain_resources s) ≡ row.parent
+  pub parent_named : (at : ℕ) (row : Row) → Stores s at row → parent_of row.lkid (plain_resources s) ≡ row.parent
   unfolding parent_of
-  parent_named none_loose at row stored =
+  parent_named at row stored =
       ap (λ (rows : List Row). option_map_or (λ (x : Row). x.parent) (slice_get rows 0) 0) first.1
     where
       own : (r : StoredResource) → IsIn r s.resources → AreItsOwnOn row r
@@ -152,7 +152,7 @@ module _ (s : Records) (sound : IsSound s) where
 
       first : IsFirst row (all_rows_of row.lkid (plain_resources s))
       first =
-          let stands = in_queue s none_loose at row stored in
+          let stands = in_queue s at row stored in
           first_among row s.resources own stands.resource stands.there stands.queue (record { at = at; row = row }) stands.among refl
 
   -- what is no lock has none
@@ -225,14 +225,14 @@ on_some lkid (r ∷ rest) =
     none_of none later x (inl here) queue = subst (λ (y : StoredResource). IsAbsent lkid (queued queue y)) here (none queue)
     none_of none later x (inr there) queue = later x there queue
 
--- where none is loose, some lock has an identification or none has it
-pub somewhere_or_not : (s : Records) → IsSound s → s.loose ≡ [] → (lkid : ℕ) → IsSomewhere lkid s ⊎ IsNowhere lkid s
-somewhere_or_not s sound none_loose lkid =
+-- some lock has an identification or none has it
+pub somewhere_or_not : (s : Records) → IsSound s → (lkid : ℕ) → IsSomewhere lkid s ⊎ IsNowhere lkid s
+somewhere_or_not s sound lkid =
     elim (on_some lkid s.resources) [
       | inl found ↦ (let k : StoredLock = found.1.1.1 in
           inl (k.at, k.row, (queued_stored s sound found.0 found.1.0 found.1.1.0 k found.1.1.2.0, found.1.1.2.1)))
       | inr none ↦ inr (λ at row stored same.
-          let stands = in_queue s none_loose at row stored in
+          let stands = in_queue s at row stored in
           none stands.resource stands.there stands.queue (record { at = at; row = row }) stands.among same)
     ]
 
@@ -252,28 +252,28 @@ parents_come_first s sound rest at other sub up stored stored_up has is =
 
 -- ---- records that keep the locks up to one
 
-module _ (s t : Records) (sound : IsSound s) (sound_t : IsSound t) (none_loose : s.loose ≡ []) (none_loose_t : t.loose ≡ []) (last : ℕ)
+module _ (s t : Records) (sound : IsSound s) (sound_t : IsSound t) (last : ℕ)
     (kept : (at : ℕ) (up : Row) → Stores s at up → up.lkid ≤ last → Stores t at up)
     (were : (at : ℕ) (up : Row) → Stores t at up → Stores s at up)
     (first : ParentsComeFirst s) where
   -- up to there each lock has the parent lock that it had
   same_parent : (lkid : ℕ) → lkid ≤ last → parent_of lkid (plain_resources t) ≡ parent_of lkid (plain_resources s)
   same_parent lkid within =
-      elim (somewhere_or_not s sound none_loose lkid) [
+      elim (somewhere_or_not s sound lkid) [
         | inl there ↦ (let at : ℕ = there.0 in
             let row : Row = there.1 in
             let still : Stores t at row = kept at row there.2.0 (omega (arith, there.2.1, within)) in
-            ap (λ n. parent_of n (plain_resources t)) (sym there.2.1) ∙ parent_named t sound_t none_loose_t at row still
-            ∙ sym (parent_named s sound none_loose at row there.2.0) ∙ ap (λ n. parent_of n (plain_resources s)) there.2.1)
+            ap (λ n. parent_of n (plain_resources t)) (sym there.2.1) ∙ parent_named t sound_t at row still
+            ∙ sym (parent_named s sound at row there.2.0) ∙ ap (λ n. parent_of n (plain_resources s)) there.2.1)
         | inr none ↦ parent_nowhere t sound_t lkid (λ at row stored. none at row (were at row stored)) ∙ sym (parent_nowhere s sound lkid none)
       ]
 
   -- and a parent lock is up to there too
   parent_within : (lkid : ℕ) → lkid ≤ last → parent_of lkid (plain_resources s) ≤ last
   parent_within lkid within =
-      elim (somewhere_or_not s sound none_loose lkid) [
+      elim (somewhere_or_not s sound lkid) [
         | inl there ↦ (let is : parent_of lkid (plain_resources s) ≡ there.1.parent =
-            ap (λ n. parent_of n (plain_resources s)) (sym there.2.1) ∙ parent_named s sound none_loose there.0 there.1 there.2.0 in
+            ap (λ n. parent_of n (plain_resources s)) (sym there.2.1) ∙ parent_named s sound there.0 there.1 there.2.0 in
             elim (cases_eq there.1.parent 0) [
               | inl root ↦ omega (arith, is, root)
               | inr has ↦ (let parent = sound.owned.named there.0 there.1 there.2.0 has in

@@ -43,7 +43,7 @@ owes_still owner more s t stay same owes pid =
 -- the value block of a resource is nothing that is due
 pub due_valued : (pid res : ℕ) (block : ValueBlock) (s : Records)
     → due_for pid (record s { resources = on_resource res (λ r. record r { value_block = block }) s.resources }) ≡ due_for pid s
-due_valued pid res block s = ap (λ due. due + sum_by (weight pid) s.loose) (each s.resources)
+due_valued pid res block s = each s.resources
   where
     valued : StoredResource → StoredResource
     valued r = record r { value_block = block }
@@ -126,8 +126,8 @@ due_entered s sound at row owner parent res to there room new added = record {
 
 -- for a resource that is made nothing is due
 pub due_with_resource : (r : StoredResource) → ((pid : ℕ) → due_on pid r ≡ 0) → (s : Records) (row : Row) (mid new : Records)
-    → mid.resources ≡ s.resources ++ r ∷ [] → mid.loose ≡ s.loose → mid.processes ≡ s.processes → IsDueMore row mid new → IsDueMore row s new
-due_with_resource r none s row mid new resources loose processes more = record {
+    → mid.resources ≡ s.resources ++ r ∷ [] → mid.processes ≡ s.processes → IsDueMore row mid new → IsDueMore row s new
+due_with_resource r none s row mid new resources processes more = record {
   due = λ pid.
       omega (
         arith,
@@ -136,7 +136,6 @@ due_with_resource r none s row mid new resources loose processes more = record {
         sum_by-append (due_on pid) s.resources (r ∷ []),
         sum_by-cons (due_on pid) r [],
         none pid,
-        ap (sum_by (weight pid)) loose,
       );
   dues = λ pid. more.dues pid ∙ ap (λ (ps : List StoredProcess). option_map_or (λ (p : StoredProcess). p.due) (find (λ (p : StoredProcess). p.process.pid == pid) ps) 0) processes;
 }
@@ -177,4 +176,4 @@ module _ (row : Row) (unarmed : row.armed ≡ false) where
 pub owes_ready : (e : Entry) (s t : Records) → IsReady e s t → IsPaid s → OwesMore e.pid (routines_of (Some e.asked)) t
 owes_ready e s t ready paid =
     owes_more e.pid (routines_of (Some e.asked)) (record s { room = t.room }) t paid ready.owed
-    (record { resources = ready.resources; loose = ready.loose; processes = ready.processes; room = refl; keys = ready.keys })
+    (record { resources = ready.resources; processes = ready.processes; room = refl; keys = ready.keys })

@@ -12,7 +12,7 @@ use Rattle.vlm_words.specs.Rundown.{processes_but}
 use Rattle.vlm_words.specs.State.{Process}
 use Rattle.vlm_links.specs.Lists.{IsIn}
 use Rattle.vlm_records.specs.declared.handles.Place.{Place}
-use Rattle.vlm_records.specs.declared.handles.Place.TheVariants.{Loose, Queued}
+use Rattle.vlm_records.specs.declared.handles.Place.TheVariants.{Queued}
 use Rattle.vlm_store.specs.Plain.{plain_processes, plain_resources}
 use Rattle.vlm_store.specs.Records.{AreProcessesApart, HasNoLocks, IsProcess, IsSound, Records, Room, StoredLock, StoredProcess, StoredResource, Stores, due_of, locks_at, own_handles_at, with_process_room, without_process}
 use Rattle.vlm_locks.specs.Owing.{IsPaid, due_among, due_for, due_on}
@@ -129,8 +129,8 @@ module _ (s : Records) (sound : IsSound s) (owner pid : ℕ) (lives : IsProcess 
         sum_by-cons (due_on pid) r rs,
       )
 
-  pub nothing_due : s.loose ≡ [] → due_for pid s ≡ 0
-  nothing_due none_loose = omega (arith, nothing_due_on s.resources (λ r there. there), ap (due_among pid) none_loose)
+  pub nothing_due : due_for pid s ≡ 0
+  nothing_due = nothing_due_on s.resources (λ r there. there)
 
   its_tests : (p : StoredProcess) → IsIn p s.processes → (p.at == owner) ≡ (p.process.pid == pid)
   its_tests p there =
@@ -146,9 +146,8 @@ module _ (s : Records) (sound : IsSound s) (owner pid : ℕ) (lives : IsProcess 
 
     pub rest_left : IsAtRest s → IsAtRest gone
     rest_left rest = record {
-      none_loose = rest.none_loose;
       keyed = rest.keyed;
-      rising = λ p among. rises_still s gone p p (were_stored s gone refl refl) refl (rest.rising p (was_left owner s.processes p among));
+      rising = λ p among. rises_still s gone p p (were_stored s gone refl) refl (rest.rising p (was_left owner s.processes p among));
     }
 
     pub together_left : SublocksAreOwn s → SublocksAreOwn gone
@@ -158,14 +157,13 @@ module _ (s : Records) (sound : IsSound s) (owner pid : ℕ) (lives : IsProcess 
         was_stored handle its there = (there.0, by_place there.0 there.1)
           where
             by_place : (place : Place) → IsIn (record { at = handle; row = its }) (locks_at place gone) → IsIn (record { at = handle; row = its }) (locks_at place s)
-            by_place Loose among = among
             by_place (Queued res queue) among = among
 
-    pub paid_left : s.loose ≡ [] → IsPaid s → IsPaid gone
-    paid_left none_loose paid other = owed_left owner pid s.processes its_tests other ∙ of_test (other == pid) refl
+    pub paid_left : IsPaid s → IsPaid gone
+    paid_left paid other = owed_left owner pid s.processes its_tests other ∙ of_test (other == pid) refl
       where
         of_test : (b : Bool) → (other == pid) ≡ b → cond b 0 (due_of other s) ≡ due_for other s
-        of_test true is = sym (nothing_due none_loose) ∙ ap (λ p. due_for p s) (sym (eqb-true other pid is))
+        of_test true is = sym nothing_due ∙ ap (λ p. due_for p s) (sym (eqb-true other pid is))
         of_test false is = paid other
 
 -- ---- the process ends
@@ -192,7 +190,7 @@ others_can_end mid new touched owner pid room sound lives none is can_end =
       rest = rest_left mid sound owner pid lives (ap handles_of_own none) room can_end.rest;
       together = together_left mid sound owner pid lives (ap handles_of_own none) room can_end.together;
       granted = can_end.granted;
-      paid = paid_left mid sound owner pid lives (ap handles_of_own none) room can_end.rest.none_loose can_end.paid;
+      paid = paid_left mid sound owner pid lives (ap handles_of_own none) room can_end.paid;
       noted = can_end.noted;
       room = can_end.room;
     })

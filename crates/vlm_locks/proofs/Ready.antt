@@ -10,7 +10,7 @@ use Rattle.vlm_words.specs.Dues.{routines_of}
 use Rattle.vlm_words.specs.Enqueue.{resources_after_entry}
 use Rattle.vlm_links.specs.Lists.{IsIn}
 use Rattle.vlm_records.specs.declared.handles.Place.{Place}
-use Rattle.vlm_records.specs.declared.handles.Place.TheVariants.{Loose, Queued}
+use Rattle.vlm_records.specs.declared.handles.Place.TheVariants.{Queued}
 use Rattle.vlm_store.specs.Plain.{plain_processes, plain_resource, plain_resources}
 use Rattle.vlm_store.specs.Records.{DueChanges, FindsResource, HasRoom, HasRoomForLock, HasRoomForResource, IsParentOf, IsProcess, IsUnchanged, Records, Rooms, SameButNotices, StoredProcess, Stores, but_notices, due_of, locks_at, process_with_lock, queued, resource_at, without_lock, without_resource}
 use Rattle.vlm_locks.specs.declared.entering.Entry.{Entry}
@@ -30,7 +30,6 @@ joined_alike owner parent at a b same = shown a ∙ ap (map (process_with_lock o
 module _ (e : Entry) (s o : Records) (ready : IsReady e s o) where
   -- each place has the locks that it had
   same_locks : (place : Place) → locks_at place o ≡ locks_at place s
-  same_locks Loose = ready.loose
   same_locks (Queued x queue) = ap (λ rs. option_map_or (queued queue) (resource_at x rs) []) ready.resources
 
   was_stored : (at : ℕ) (row : Row) → Stores o at row → Stores s at row
@@ -46,15 +45,14 @@ module _ (e : Entry) (s o : Records) (ready : IsReady e s o) where
 
   -- notices alone, but for the room
   same : SameButNotices (record s { room = o.room }) o
-  same = record { resources = ready.resources; loose = ready.loose; processes = ready.processes; room = refl; keys = ready.keys }
+  same = record { resources = ready.resources; processes = ready.processes; room = refl; keys = ready.keys }
 
   -- the lock may enter still
   pub may_enter_ready : MayEnter e s → MayEnter e o
   may_enter_ready may = record {
     rest = record {
-      none_loose = ready.loose ∙ may.rest.none_loose;
       keyed = λ r among. may.rest.keyed r (subst (IsIn r) ready.resources among);
-      rising = all_rise_still s o (were_stored s o ready.resources ready.loose) ready.processes may.rest.rising;
+      rising = all_rise_still s o (were_stored s o ready.resources) ready.processes may.rest.rising;
     };
     rising = λ at row stored. may.rising at row (was_stored at row stored);
     owner = process_still (record s { room = o.room }) o e.owner e.pid same may.owner;
@@ -111,7 +109,6 @@ pub made_ready : {T E : Type 0} (r : Result T E) (e : Entry) (s mid o : Records)
 made_ready r e s mid o unchanged lock resource lives =
     on_ok_of r (λ statuses owed same. record {
       resources = same.resources ∙ ap (λ (x : Records). x.resources) unchanged.same;
-      loose = same.loose ∙ ap (λ (x : Records). x.loose) unchanged.same;
       processes = same.processes ∙ ap (λ (x : Records). map but_notices x.processes) unchanged.same;
       keys = same.keys ∙ ap (λ (x : Records). x.keys) unchanged.same;
       statuses = statuses ∙ ap plain_processes unchanged.same;

@@ -8,7 +8,7 @@ use Rattle.vlm_words.specs.declared.locks.Row.{Row}
 use Rattle.vlm_words.specs.declared.resources.Queue.{Queue}
 use Rattle.vlm_links.specs.Lists.{IsIn}
 use Rattle.vlm_records.specs.declared.handles.Place.{Place}
-use Rattle.vlm_records.specs.declared.handles.Place.TheVariants.{Loose, Queued}
+use Rattle.vlm_records.specs.declared.handles.Place.TheVariants.{Queued}
 use Rattle.vlm_store.specs.Plain.{plain_resource, plain_resources}
 use Rattle.vlm_store.specs.Records.{HasNoSublocks, HasResource, IsRowOf, IsSound, Records, SameButNotices, StoredLock, StoredResource, Stores, but_notices, locks_at, on_resource, queued, resource_at, without_resource}
 use Rattle.vlm_words.specs.Resources.{IsKeyed}
@@ -38,7 +38,6 @@ noticed_replaced res had left old mid new replaced same = record {
   was = replaced.was;
   same = replaced.same;
   resources = same.resources ∙ replaced.resources;
-  loose = same.loose ∙ replaced.loose;
   processes = same.processes ∙ replaced.processes;
 }
 
@@ -99,7 +98,6 @@ module _ (res : ℕ) (had left : StoredResource) (old new : Records) (replaced :
   stored_cases {P} here else at row stored = by_place stored.0 stored.1
     where
       by_place : (place : Place) → IsIn (record { at = at; row = row }) (locks_at place new) → P at row
-      by_place Loose among = else at row (Loose, subst (IsIn (record { at = at; row = row })) replaced.loose among)
       by_place (Queued x queue) among =
           elim (cases_eq x res) [
             | inl same ↦ here queue (record { at = at; row = row })
@@ -110,7 +108,6 @@ module _ (res : ℕ) (had left : StoredResource) (old new : Records) (replaced :
   -- what held between two steps holds still, if no lock joins
   pub rests : LocksStay left had → IsAtRest old → IsAtRest new
   rests none_join rest = record {
-    none_loose = replaced.loose ∙ rest.none_loose;
     keyed = keyed_still rest.keyed;
     rising = all_rise_still old new (stored_cases {P = λ at row. IsRowOf at row old} was_here (λ at row stored. (row, (stored, same_lock row)))) replaced.processes rest.rising;
   }

@@ -8,7 +8,7 @@ use Rattle.vlm_words.specs.declared.locks.Row.{Row}
 use Rattle.vlm_links.specs.Lists.{IsIn, without}
 use Rattle.vlm_links.proofs.HandleLists.{IsIn-push, IsIn-without}
 use Rattle.vlm_records.specs.declared.handles.Place.{Place}
-use Rattle.vlm_records.specs.declared.handles.Place.TheVariants.{Loose, Queued}
+use Rattle.vlm_records.specs.declared.handles.Place.TheVariants.{Queued}
 use Rattle.vlm_store.proofs.Counted.{own_handle}
 use Rattle.vlm_store.specs.Records.{IsNewLock, IsRowOf, IsSound, IsStored, OwnLock, Records, StoredProcess, StoredResource, Stores, but_notices, locks_at, new_own, process_with_lock, process_without_lock, queued, resource_at, with_sublock, without_sublock}
 use Rattle.vlm_locks.specs.Staying.{LocksStayAmong}
@@ -65,19 +65,17 @@ before_still old new were first second before a b in_a in_b =
     omega (arith, before was_a.0 was_b.0 was_a.1.0 was_b.1.0, was_a.1.1.lkid, was_b.1.1.lkid)
 
 -- where the locks are the same each was stored
-pub were_stored : (old new : Records) → new.resources ≡ old.resources → new.loose ≡ old.loose → WereStored old new
-were_stored old new resources loose at row stored = (row, ((stored.0, by_place stored.0 stored.1), same_lock row))
+pub were_stored : (old new : Records) → new.resources ≡ old.resources → WereStored old new
+were_stored old new resources at row stored = (row, ((stored.0, by_place stored.0 stored.1), same_lock row))
   where
     by_place : (place : Place) → IsIn (record { at = at; row = row }) (locks_at place new) → IsIn (record { at = at; row = row }) (locks_at place old)
-    by_place Loose among = subst (IsIn (record { at = at; row = row })) loose among
     by_place (Queued res queue) among = subst (λ rs. IsIn (record { at = at; row = row }) (option_map_or (queued queue) (resource_at res rs) [])) resources among
 
 -- and where none joins the resources
-pub none_joined : (old new : Records) → IsSound old → new.loose ≡ old.loose → LocksStayAmong new.resources old.resources → WereStored old new
-none_joined old new sound loose none_join at row stored = by_place stored.0 stored.1
+pub none_joined : (old new : Records) → IsSound old → LocksStayAmong new.resources old.resources → WereStored old new
+none_joined old new sound none_join at row stored = by_place stored.0 stored.1
   where
     by_place : (place : Place) → IsIn (record { at = at; row = row }) (locks_at place new) → IsRowOf at row old
-    by_place Loose among = (row, ((Loose, subst (IsIn (record { at = at; row = row })) loose among), same_lock row))
     by_place (Queued res queue) among = of_found (resource_at res new.resources) refl among
       where
         of_found : (found : Option StoredResource) → resource_at res new.resources ≡ found → IsIn (record { at = at; row = row }) (option_map_or (queued queue) found []) → IsRowOf at row old

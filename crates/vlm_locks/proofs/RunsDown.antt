@@ -536,8 +536,6 @@ one_less s new sound f standing rest rest_new waiting converting invalidates w i
       ap (sum_by (weigh (λ row. 1))) (after ∙ ap (λ (v : Withdrawal). map (resource_after_withdrawals (v ∷ [])) (plain_resources s)) is),
       all_parted waiting converting invalidates f.row.lkid (plain_resources s),
       counted_among (record { at = f.lock; row = f.row }) standing.resource f.queue standing.among s.resources (own_among s sound f standing),
-      ap (λ (locks : List StoredLock). length locks) rest.none_loose,
-      ap (λ (locks : List StoredLock). length locks) rest_new.none_loose,
     )
 
 -- ---- the touched resources

@@ -8,7 +8,7 @@ use Rattle.vlm_words.specs.declared.locks.Row.{Row}
 use Rattle.vlm_words.specs.declared.resources.Queue.{Queue}
 use Rattle.vlm_links.specs.Lists.{IsIn}
 use Rattle.vlm_records.specs.declared.handles.Place.{Place}
-use Rattle.vlm_records.specs.declared.handles.Place.TheVariants.{Loose, Queued}
+use Rattle.vlm_records.specs.declared.handles.Place.TheVariants.{Queued}
 use Rattle.vlm_store.specs.Records.{AreApart, IsProcess, IsSound, Records, StoredLock, StoredResource, Stores, locks_at, queued, resource_at}
 use Rattle.vlm_store.proofs.Records.{queue_at}
 use Rattle.vlm_locks.specs.declared.finding.Standing.{Standing}
@@ -31,12 +31,11 @@ pub record IsQueued (at : ℕ) (row : Row) (s : Records) : Type 0 where
   pub queue : Queue
   pub among : IsIn (record { at = at; row = row }) (queued queue resource)
 
--- where none is loose, each stored lock stands in a queue
-pub in_queue : (s : Records) → s.loose ≡ [] → (at : ℕ) (row : Row) → Stores s at row → IsQueued at row s
-in_queue s none_loose at row stored = by_place stored.0 stored.1
+-- each stored lock stands in a queue
+pub in_queue : (s : Records) (at : ℕ) (row : Row) → Stores s at row → IsQueued at row s
+in_queue s at row stored = by_place stored.0 stored.1
   where
     by_place : (place : Place) → IsIn (record { at = at; row = row }) (locks_at place s) → IsQueued at row s
-    by_place Loose among = absurd (subst (IsIn (record { at = at; row = row })) none_loose among)
     by_place (Queued res queue) among = of_found (resource_at res s.resources) refl among
       where
         of_found : (found : Option StoredResource) → resource_at res s.resources ≡ found → IsIn (record { at = at; row = row }) (option_map_or (queued queue) found []) → IsQueued at row s

@@ -128,9 +128,6 @@ module _ (touched : List ℕ) (res : ℕ) (later : List ℕ) (old s new : Record
       of_part (y ∷ xs) ys among first second =
           elim among [ inl here ↦ first (inl here) | inr there ↦ of_part xs ys there (λ here. first (inr here)) second ]
 
-  none_loose : new.loose ≡ []
-  none_loose = swept.loose ∙ so_far.rest.none_loose
-
   none_join : LocksStayAmong new.resources old.resources
   none_join = stay_twice_among new.resources s.resources old.resources
       (subst (λ rs. LocksStayAmong rs s.resources) (sym swept.resources)
@@ -157,9 +154,8 @@ module _ (touched : List ℕ) (res : ℕ) (later : List ℕ) (old s new : Record
     none_join = none_join;
     processes = swept.processes ∙ so_far.processes;
     rest = record {
-      none_loose = none_loose;
       keyed = keyed;
-      rising = all_rise_still old new (none_joined old new sound (none_loose ∙ sym rest.none_loose) none_join) (swept.processes ∙ so_far.processes) rest.rising;
+      rising = all_rise_still old new (none_joined old new sound none_join) (swept.processes ∙ so_far.processes) rest.rising;
     };
   }
 

@@ -112,7 +112,6 @@ module _ (res : ℕ) (old s : Records) (sound : IsSound old) (served : IsServed 
     none_join = stay_alone left was.own (was.keyed ∙ sym left_handle) (subst (LocksStay left) (sym own_is) served.none_join);
     same = λ r among. elim among [ inl is ↦ subst (λ (x : StoredResource). but_service x ≡ but_service was.own) is same | inr none ↦ absurd none ];
     statuses = statuses;
-    loose = served.replaced.loose;
     processes = served.replaced.processes;
   }
 
@@ -136,6 +135,5 @@ module _ (res : ℕ) (old s : Records) (sound : IsSound old) (served : IsServed 
     none_join = λ r queue lock among here. absurd among;
     same = λ r among. absurd among;
     statuses = ap plain_processes is ∙ statuses;
-    loose = ap (λ (x : Records). x.loose) is ∙ served.replaced.loose;
     processes = ap (λ (x : Records). map but_notices x.processes) is ∙ served.replaced.processes;
   }

@@ -5,7 +5,7 @@ use Rattle.vlm_words.specs.State.{Process}
 use Rattle.vlm_words.specs.declared.resources.ValueBlock.{ValueBlock}
 use Rattle.vlm_links.specs.Lists.{IsIn}
 use Rattle.vlm_records.specs.declared.handles.Place.{Place}
-use Rattle.vlm_records.specs.declared.handles.Place.TheVariants.{Loose, Queued}
+use Rattle.vlm_records.specs.declared.handles.Place.TheVariants.{Queued}
 use Rattle.vlm_store.specs.Plain.{plain_processes, plain_resource}
 use Rattle.vlm_store.specs.Records.{Records, SameButNotices, StoredResource, locks_at, queued, resource_at, without_lock, without_resource}
 use Rattle.vlm_locks.specs.declared.entering.Entry.{Entry}
@@ -22,7 +22,6 @@ by_block e block (Some r) old new there told is = told ∙ ap (λ b. processes_e
 module _ (e : Entry) (res : ℕ) (s mid new : Records) (same : SameButNotices mid new) where
   -- each place has the locks that it had
   same_locks : (place : Place) → locks_at place new ≡ locks_at place mid
-  same_locks Loose = same.loose
   same_locks (Queued x queue) = ap (λ rs. option_map_or (queued queue) (resource_at x rs) []) same.resources
 
   taken_still : IsTakenIn e res s mid → IsTakenIn e res s new

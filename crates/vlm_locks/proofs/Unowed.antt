@@ -5,7 +5,6 @@ use Rattle.std.proofs.lemmas.Bool.{cases_eq}
 use Rattle.vlm_words.specs.declared.locks.Row.{Row}
 use Rattle.vlm_words.specs.declared.resources.Queue.TheVariants.{Granted, Conversion, Waiting}
 use Rattle.vlm_words.specs.Dues.{due_to, row_due}
-use Rattle.vlm_records.specs.declared.handles.Place.TheVariants.{Loose}
 use Rattle.vlm_store.specs.Records.{IsSound, Records, SameButNotices, StoredLock, Stores, due_of}
 use Rattle.vlm_locks.specs.GivingUp.{IsPaidBut, due_but}
 use Rattle.vlm_locks.specs.Left.{is_among}
@@ -28,7 +27,6 @@ weigh_alike s sound f h same =
             sum_alike f h r.converting (λ k there. same k (queued_stored s sound r among Conversion k there)),
             sum_alike f h r.waiting (λ k there. same k (queued_stored s sound r among Waiting k there)),
           )),
-      sum_alike f h s.loose (λ k there. same k (Loose, there)),
     )
 
 -- two measures together
@@ -39,7 +37,6 @@ weigh_both f h s =
       sum_alike (weight_on (λ k. f k + h k)) (λ r. weight_on f r + weight_on h r) s.resources
           (λ r among. omega (arith, sum_both f h r.granted, sum_both f h r.converting, sum_both f h r.waiting)),
       sum_both (weight_on f) (weight_on h) s.resources,
-      sum_both f h s.loose,
     )
 
 module _ (lkids : List ℕ) (s : Records) (sound : IsSound s) (at : ℕ) (row : Row) (stored : Stores s at row) (fresh : is_among lkids row ≡ false) where
@@ -81,7 +78,7 @@ module _ (lkids : List ℕ) (s : Records) (sound : IsSound s) (at : ℕ) (row : 
   -- once its request has ended it is one of these
   pub paid_on : IsPaidBut lkids s → (t : Records) → SameButNotices s t → OwedMoves row (row_at_end row) s t → IsPaidBut (lkids ++ row.lkid ∷ []) t
   paid_on paid t same owed pid =
-      let there : total_weight (due_but (lkids ++ row.lkid ∷ []) pid) t ≡ total_weight (due_but (lkids ++ row.lkid ∷ []) pid) s = rw (same.resources, same.loose) refl in
+      let there : total_weight (due_but (lkids ++ row.lkid ∷ []) pid) t ≡ total_weight (due_but (lkids ++ row.lkid ∷ []) pid) s = rw same.resources refl in
       omega (arith, owed pid, paid pid, one_fewer pid, there, nothing_due row pid)
 
 -- one of these goes

@@ -16,7 +16,7 @@ use Rattle.vlm_words.specs.Asts.{Queued as QueuedAst, blocking_asts, has_to_warn
 use Rattle.vlm_words.specs.Dues.{due_to, one_where, routines_of, row_due}
 use Rattle.vlm_words.proofs.Warned.{blind_warned}
 use Rattle.vlm_links.specs.Lists.{IsIn}
-use Rattle.vlm_records.specs.declared.handles.Place.TheVariants.{Loose, Queued}
+use Rattle.vlm_records.specs.declared.handles.Place.TheVariants.{Queued}
 use Rattle.vlm_store.specs.Armed.{IsArmedAt, armed_among, armed_at}
 use Rattle.vlm_store.specs.Plain.{plain_processes, plain_resource}
 use Rattle.vlm_store.proofs.Walks.{lock_among}
@@ -70,7 +70,7 @@ pub lock_unwarned : (r : StoredResource) (lock : ℕ) (row : Row) (s : Records) 
 unfolding row_warnings row_after_warning
 lock_unwarned r lock row s is = record {
   queued = rw is refl;
-  only = rw is (record { resources = refl; loose = refl; processes = refl; room = refl; keys = refl });
+  only = rw is (record { resources = refl; processes = refl; room = refl; keys = refl });
   owed = λ pid. rw is refl;
 }
 
@@ -84,7 +84,6 @@ lock_warned r lock row s t new is told owed same wrote = record {
   only =
       rw (wrote, is) (record {
         resources = ap (map (resource_with (disarming lock))) same.resources;
-        loose = ap (disarming lock Loose) same.loose;
         processes = same.processes;
         room = same.room;
         keys = same.keys;
@@ -213,7 +212,6 @@ warning_begun res s next sound there is = of_found (resource_at res s.resources)
             was = found;
             same = refl;
             resources = sym (on_resource-own res r s.resources sound.resources_apart found);
-            loose = refl;
             processes = refl;
           };
           first = refl;
@@ -479,18 +477,6 @@ module _ (res : ℕ) (old s : Records) (next : Option ℕ) (warning : IsWarning 
               (then_granted ∙ ap (λ k. before ++ k ∷ has_next.rest) (lock_is_not_warned warning.had own is) ∙ ap (λ locks. before ++ locks) (sym has_next.is)) in
               same.resources ∙ sym (ap (λ r. on_resource res (λ x. r) s.resources) stays ∙ on_resource-own res now s.resources sound.resources_apart now_found)
 
-      loose_then : t.loose ≡ s.loose
-      loose_then = of_test (is_warned_on now has_next.row) refl
-        where
-          of_test : (b : Bool) → is_warned_on now has_next.row ≡ b → t.loose ≡ s.loose
-          of_test true is =
-              (subst (λ b. SameButNotices (disarmed_if b lock s) t) is warned.only).loose
-              ∙ disarm_absent lock s.loose (λ row found. no_loose (sound.one_place lock row has_next.row Loose (Queued res Granted) found next_stands))
-            where
-              no_loose : Loose ≡ Queued res Granted → ⊥
-              no_loose e = cc
-          of_test false is = (subst (λ b. SameButNotices (disarmed_if b lock s) t) is warned.only).loose
-
       processes_then : map but_notices t.processes ≡ map but_notices s.processes
       processes_then = of_test (is_warned_on now has_next.row) refl
         where
@@ -512,7 +498,6 @@ module _ (res : ℕ) (old s : Records) (next : Option ℕ) (warning : IsWarning 
               resources =
                   resources_then ∙ ap (on_resource res (λ r. then)) warning.replaced.resources
                   ∙ on_resource-put res now (λ r. then) old.resources (left_at res warning.had now old s warning.replaced);
-              loose = loose_then ∙ warning.replaced.loose;
               processes = processes_then ∙ warning.replaced.processes;
             };
             first = refl;
@@ -560,7 +545,6 @@ none_warned res s sound there none = of_found (resource_at res s.resources) refl
         was = found;
         same = refl;
         resources = sym (on_resource-own res r s.resources sound.resources_apart found);
-        loose = refl;
         processes = refl;
       };
       stay = all_stay r;

@@ -10,7 +10,7 @@ use Rattle.vlm_words.specs.declared.resources.Queue.{Queue}
 use Rattle.vlm_words.specs.declared.resources.Queue.TheVariants.{Granted, Conversion, Waiting}
 use Rattle.vlm_links.specs.Lists.{IsIn}
 use Rattle.vlm_records.specs.declared.handles.Place.{Place}
-use Rattle.vlm_records.specs.declared.handles.Place.TheVariants.{Loose, Queued}
+use Rattle.vlm_records.specs.declared.handles.Place.TheVariants.{Queued}
 use Rattle.vlm_locks.specs.Owing.{total_weight as all, weight_on as on_one}
 use Rattle.vlm_store.specs.Records.{AreApart, AreResourcesApart, HasResource, IsIdle, IsSound, Records, StoredLock, StoredResource, Stores, disarmed, disarming, is_queue, joined_by, joining, leaving, locks_at, moving, on_resource, queued, resource_at, resource_with, with_lists, without_lock, without_resource}
 use Rattle.vlm_store.proofs.Records.{joins_queue, queue_at}
@@ -101,7 +101,7 @@ module _ (g : StoredLock → ℕ) (at : ℕ) where
       )
 
   all_leaving : (s : Records) → all g (with_lists (leaving at) s) + all (only at g) s ≡ all g s
-  all_leaving s = omega (arith, resources_leaving s.resources, list_leaving s.loose)
+  all_leaving s = resources_leaving s.resources
 
   -- where it does not stand it weighs nothing
   list_absent : (locks : List StoredLock) → ((row : Row) → ¬ IsIn (record { at = at; row = row }) locks) → sum_by (only at g) locks ≡ 0
@@ -141,13 +141,6 @@ module _ (g : StoredLock → ℕ) (at : ℕ) where
         differs (sound.one_place at other row (Queued r.at queue) from
         (subst (IsIn (record { at = at; row = other })) (sym (queue_at s sound r among queue)) found) stands))
 
-    loose_weighs : IsIn (record { at = at; row = row }) s.loose → all (only at g) s ≡ g (record { at = at; row = row })
-    loose_weighs stands =
-        let none : sum_by (on_one (only at g)) s.resources ≡ 0 =
-        sum_none (on_one (only at g)) s.resources
-        (λ r among. omega (arith, queue_absent Loose stands r among Granted (λ e. cc), queue_absent Loose stands r among Conversion (λ e. cc), queue_absent Loose stands r among Waiting (λ e. cc))) in
-        omega (arith, none, list_present row s.loose (sound.locks_apart Loose) stands)
-
     module _ (res : ℕ) (queue : Queue) (there : HasResource res s) (stands : IsIn (record { at = at; row = row }) (locks_at (Queued res queue) s)) where
       -- its own queue
       own_queue : (r : StoredResource) → IsIn r s.resources → r.at ≡ res → sum_by (only at g) (queued queue r) ≡ g (record { at = at; row = row })
@@ -185,12 +178,7 @@ module _ (g : StoredLock → ℕ) (at : ℕ) where
             elsewhere res queue there stands r among differs Waiting,
           ))
         ]) in
-        let loose : sum_by (only at g) s.loose ≡ 0 =
-        list_absent s.loose (λ other found. no_loose (sound.one_place at other row Loose (Queued res queue) found stands)) in
-        omega (arith, resources, loose, sum_at (g (record { at = at; row = row })) res s.resources sound.resources_apart there)
-      where
-        no_loose : Loose ≡ Queued res queue → ⊥
-        no_loose e = cc
+        resources ∙ sum_at (g (record { at = at; row = row })) res s.resources sound.resources_apart there
 
     -- the resource of a queue in which a lock stands is there
     queue_there : (res : ℕ) (queue : Queue) → IsIn (record { at = at; row = row }) (locks_at (Queued res queue) s) → HasResource res s
@@ -205,7 +193,6 @@ module _ (g : StoredLock → ℕ) (at : ℕ) where
     stored_weighs stored = by_place stored.0 stored.1
       where
         by_place : (place : Place) → IsIn (record { at = at; row = row }) (locks_at place s) → all (only at g) s ≡ g (record { at = at; row = row })
-        by_place Loose stands = loose_weighs stands
         by_place (Queued res queue) stands = queued_weighs res queue (queue_there res queue stands) stands
 
 -- ---- a lock joins
@@ -350,4 +337,4 @@ module _ (g : StoredLock → ℕ) (at : ℕ) where
   pub disarmed_weighs : (s : Records) → IsSound s → (row : Row) → Stores s at row
       → all g (with_lists (disarming at) s) + g (record { at = at; row = row }) ≡ all g s + g (record { at = at; row = record row { armed = false } })
   disarmed_weighs s sound row stored =
-      omega (arith, resources_disarmed s.resources, list_disarmed s.loose, stored_weighs g at s sound row stored, stored_weighs (λ k. g (disarmed k)) at s sound row stored)
+      omega (arith, resources_disarmed s.resources, stored_weighs g at s sound row stored, stored_weighs (λ k. g (disarmed k)) at s sound row stored)

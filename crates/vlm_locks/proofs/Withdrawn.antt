@@ -192,7 +192,6 @@ module _ (s : Records) (sound : IsSound s) (f : Standing) (standing : IsStanding
         was = standing.found;
         same = refl;
         resources = block_put block;
-        loose = refl;
         processes = refl;
       })
       (none_joins_under_block r r block (all_stay r))

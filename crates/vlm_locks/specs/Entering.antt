@@ -58,7 +58,6 @@ pub record HasRoomToEnter (e : Entry) (s : Records) : Type 0 where
 -- that its request names; nothing else is changed
 pub record IsReady (e : Entry) (old new : Records) : Type 0 where
   pub resources : new.resources ≡ old.resources
-  pub loose : new.loose ≡ old.loose
   pub processes : map but_notices new.processes ≡ map but_notices old.processes
   pub keys : new.keys ≡ old.keys
   pub statuses : plain_processes new ≡ plain_processes old

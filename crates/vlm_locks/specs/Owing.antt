@@ -19,7 +19,7 @@ due_on pid r = due_among pid r.granted + due_among pid r.converting + due_among 
 
 -- how many are due to it for all its locks
 abbrev pub due_for : ℕ → Records → ℕ
-due_for pid s = sum_by (due_on pid) s.resources + due_among pid s.loose
+due_for pid s = sum_by (due_on pid) s.resources
 
 -- what the locks of a resource come to, by a measure of each
 abbrev pub weight_on : (StoredLock → ℕ) → StoredResource → ℕ
@@ -27,7 +27,7 @@ weight_on measure r = sum_by measure r.granted + sum_by measure r.converting + s
 
 -- what all locks come to
 abbrev pub total_weight : (StoredLock → ℕ) → Records → ℕ
-total_weight measure s = sum_by (weight_on measure) s.resources + sum_by measure s.loose
+total_weight measure s = sum_by (weight_on measure) s.resources
 
 -- by whichever measure, all locks come to less by this one, which is gone
 abbrev pub LosesOne : StoredLock → Records → Records → Type 0

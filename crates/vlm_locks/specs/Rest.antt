@@ -7,10 +7,9 @@ use Rattle.vlm_records.specs.declared.handles.Place.{Place}
 use Rattle.vlm_store.specs.Records.{HasResource, Records, StoredProcess, StoredResource, but_notices, locks_at, on_resource, resource_at, without_lock, without_resource}
 use Rattle.vlm_locks.specs.Rising.{HasRisingLocks}
 
--- between two steps each lock stands in a queue, each resource is in the domain of its key, and the locks of a process
--- and a lock with the locks below it stand by rising identification
+-- between two steps each resource is in the domain of its key, and the locks of a process and a lock with the locks below
+-- it stand by rising identification
 pub record IsAtRest (s : Records) : Type 0 where
-  pub none_loose : s.loose ≡ []
   pub keyed : (r : StoredResource) → IsIn r s.resources → IsKeyed r.domain r.key
   pub rising : (p : StoredProcess) → IsIn p s.processes → HasRisingLocks s p
 
@@ -49,5 +48,4 @@ pub record IsReplaced (res : ℕ) (had left : StoredResource) (old new : Records
   pub was : resource_at res old.resources ≡ Some had
   pub same : but_service left ≡ but_service had
   pub resources : new.resources ≡ on_resource res (λ r. left) old.resources
-  pub loose : new.loose ≡ old.loose
   pub processes : OwnLocksStay old new

@@ -39,5 +39,4 @@ pub record IsSwept (res : ℕ) (old new : Records) (was : Parted res old.resourc
   pub stay : LocksStayAmong (was.own ∷ []) left
   pub none_join : LocksStayAmong left (was.own ∷ [])
   pub statuses : plain_processes new ≡ (blocks_after_service (plain_processes old) (plain_resource was.own)).processes
-  pub loose : new.loose ≡ old.loose
   pub processes : OwnLocksStay old new

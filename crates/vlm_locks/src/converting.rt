@@ -70,7 +70,7 @@ fn convert_now(store: &mut Store, standing: &Standing, row: &StoredRow, asked: &
 {
     law_records_are_sound(store);
     let granted = Place::Queued(standing.res, Queue::Granted);
-    store.move_lock(standing.lock, row.granted(), granted);
+    store.move_lock(standing.lock, &row.granted(), granted);
     if asked.flags.has(EnqFlags::VALBLK) {
         accept(store, standing.owner, asked.block, row.lkid());
         let mut value_block = store.resource_record(standing.res).value_block;
@@ -96,7 +96,7 @@ fn convert_later(store: &mut Store, standing: &Standing, row: StoredRow, asked: 
 {
     law_records_are_sound(store);
     let queued = Place::Queued(standing.res, Queue::Conversion);
-    store.move_lock(standing.lock, row, queued);
+    store.move_lock(standing.lock, &row, queued);
     accept(store, standing.owner, asked.block, standing.row.lkid());
 }
 

@@ -11,7 +11,7 @@ ghost use Rattle.vlm_store.specs.Records.{IsStored, Stores};
 ghost use Rattle.vlm_locks.specs.Rest.{IsAtRest};
 ghost use Rattle.vlm_locks.specs.Standing.{IsLockOf, IsStanding};
 
-use vlm_store::{LockAt, Place, ProcAt, ResAt, Store, StoredRow};
+use vlm_store::{LockAt, ProcAt, ResAt, Store, StoredRow};
 use vlm_words::resources::Queue;
 
 /// A lock in its queue, with what it holds and wants.
@@ -49,15 +49,13 @@ pub fn standing_of(store: &Store, lock: LockAt) -> Standing
     ensures only { (row : Row) → Stores store.now lock row → row ≡ result.row }
 {
     let record = store.lock_record(lock);
-    match record.place {
-        Place::Queued(res, queue) => Standing {
-            lock,
-            owner: record.owner,
-            row: record.row,
-            res,
-            queue,
-        },
-        Place::Loose => unreachable!(),
+    let (res, queue) = record.place.parts();
+    Standing {
+        lock,
+        owner: record.owner,
+        row: record.row,
+        res,
+        queue,
     }
 }
 

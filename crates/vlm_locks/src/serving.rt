@@ -47,7 +47,7 @@ fn grant(value_block: &mut ValueBlock, store: &mut Store, res: ResAt, lock: Lock
     ensures owed { OwedMoves row.now (granted_row row.now) store.old store.new }
 {
     let owner = store.lock_record(lock).owner;
-    store.move_lock(lock, row.granted(), Place::Queued(res, Queue::Granted));
+    store.move_lock(lock, &row.granted(), Place::Queued(res, Queue::Granted));
     end_by_grant(value_block, store, owner, row, false);
 }
 

@@ -226,7 +226,7 @@ fn grant_again(store: &mut Store, standing: &Standing)
 {
     law_records_are_sound(store);
     let granted = Place::Queued(standing.res, Queue::Granted);
-    store.move_lock(standing.lock, standing.row.without_want(), granted);
+    store.move_lock(standing.lock, &standing.row.without_want(), granted);
 }
 
 // Gives up a queued conversion, whose lock stays granted, or a waiting request with its lock.

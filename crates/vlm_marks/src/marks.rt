@@ -42,13 +42,6 @@ impl Marks {
         }
     }
 
-    /// How many numbers there is room for: all below this one.
-    pub fn room(&self) -> usize
-        ensures { result ≡ length self.now }
-    {
-        64 * self.numbers.len()
-    }
-
     /// Makes room for the number and all below it, for 64 at a time. Those that are new are not marked. Where memory
     /// is refused nothing is changed. The memory grows to twice its size, so many calls seldom move the words.
     pub fn make_room(&mut self, number: u16) -> Result<(), AllocError>

@@ -1,12 +1,12 @@
 -- How many locks a process has, in the records and in the plain machine.
-use Rattle.std.proofs.Common.{◌≡◌, ℕ, List, [], ◌∷◌, map, cond, refl, ap, arith}
+use Rattle.std.proofs.Common.{◌≡◌, ℕ, List, [], ◌∷◌, map, cond, refl, arith}
 use Rattle.std.specs.Prelude.{◌==◌}
 use Rattle.std.specs.List.{sum_by}
 use Rattle.std.proofs.lemmas.List.Sums.{sum_by-cons}
 use Rattle.vlm_words.specs.declared.locks.Row.{Row}
 use Rattle.vlm_words.specs.Quotas.{locks_of, locks_on, rows_owned}
-use Rattle.vlm_store.specs.Plain.{plain_resource, plain_resources}
-use Rattle.vlm_store.specs.Records.{Records, StoredLock, StoredResource, owned_among, owned_by, owned_on, rows_of_locks}
+use Rattle.vlm_store.specs.Plain.{plain_resource}
+use Rattle.vlm_store.specs.Records.{StoredLock, StoredResource, owned_among, owned_on, rows_of_locks}
 
 -- the locks of a queue and their rows are as many
 among_same : (pid : ℕ) (locks : List StoredLock) → owned_among pid locks ≡ rows_owned pid (rows_of_locks locks)
@@ -20,7 +20,7 @@ among_same pid (k ∷ rest) =
     )
 
 -- those on all resources
-on_all_same : (pid : ℕ) (rs : List StoredResource) → sum_by (owned_on pid) rs ≡ locks_of pid (map plain_resource rs)
+pub on_all_same : (pid : ℕ) (rs : List StoredResource) → sum_by (owned_on pid) rs ≡ locks_of pid (map plain_resource rs)
 on_all_same pid [] = refl
 on_all_same pid (r ∷ rest) =
     omega (
@@ -32,7 +32,3 @@ on_all_same pid (r ∷ rest) =
       sum_by-cons (owned_on pid) r rest,
       sum_by-cons (locks_on pid) (plain_resource r) (map plain_resource rest),
     )
-
--- where none is loose, these are all
-pub all_same : (pid : ℕ) (s : Records) → s.loose ≡ [] → owned_by pid s ≡ locks_of pid (plain_resources s)
-all_same pid s none_loose = omega (arith, on_all_same pid s.resources, ap (owned_among pid) none_loose)

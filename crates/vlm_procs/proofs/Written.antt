@@ -133,7 +133,6 @@ pub notices_alone : (s : Records) (at : ℕ) (change : StoredProcess → StoredP
     → SameButNotices s (record s { processes = on_stored at change s.processes })
 notices_alone s at change same = record {
   resources = refl;
-  loose = refl;
   room = refl;
   keys = refl;
   processes = shown-on_stored but_notices at change same s.processes;

@@ -1,6 +1,6 @@
 //! What a process may do.
 
-ghost use Rattle.std.specs.Prelude.{◌≡◌, ℕ, [], false, nat_lt};
+ghost use Rattle.std.specs.Prelude.{◌≡◌, ℕ, false, nat_lt};
 ghost use Rattle.std.specs.Option.{option_map_or};
 ghost use Rattle.vlm_words.specs.Quotas.{locks_of, quota_of};
 ghost use Rattle.vlm_words.specs.State.{process_of};
@@ -29,8 +29,7 @@ pub fn has_syslck(store: &Store, at: ProcAt) -> bool
 
 /// Whether a process may have one lock more: it has fewer, waiting ones too, than its quota.
 pub fn has_room(store: &Store, at: ProcAt) -> bool
-    requires there { HasProcess at store.now }
-    requires none_loose { store.now.loose ≡ [] }
+    requires { HasProcess at store.now }
     ensures { (pid : ℕ) → IsProcess at pid store.now → result
         ≡ nat_lt (locks_of pid (plain_resources store.now))
         (quota_of (plain_processes store.now) pid) }

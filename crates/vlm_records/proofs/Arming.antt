@@ -18,7 +18,7 @@ use Rattle.vlm_words.specs.declared.locks.Row.{Row}
 use Rattle.vlm_words.specs.declared.resources.Queue.{Queue}
 use Rattle.vlm_words.specs.declared.resources.Queue.TheVariants.{Granted, Conversion, Waiting}
 use Rattle.vlm_records.specs.declared.handles.Place.{Place}
-use Rattle.vlm_records.specs.declared.handles.Place.TheVariants.{Loose, Queued}
+use Rattle.vlm_records.specs.declared.handles.Place.TheVariants.{Queued}
 use Rattle.vlm_records.specs.declared.locks.InArmed.{InArmed}
 use Rattle.vlm_records.specs.declared.locks.Lock.{Lock}
 use Rattle.vlm_records.specs.declared.queues.Queues.{Queues}
@@ -111,7 +111,6 @@ armed-kept rows rows' (k ∷ ks) same =
 -- ---- where a lock is granted and armed
 
 granted_is : (place : Place) (res : ℕ) → granted_on place ≡ Some res → place ≡ Queued res Granted
-granted_is Loose res is = absurd (none-some res is)
 granted_is (Queued r Granted) res is = ap (λ x. Queued x Granted) (same_Some r res is)
 granted_is (Queued r Conversion) res is = absurd (none-some res is)
 granted_is (Queued r Waiting) res is = absurd (none-some res is)
@@ -276,7 +275,6 @@ in_armed_is = by_part but_in_armed (option_map but_queued) again
 
 -- a place is there where its resource stays
 pub place_still : (part : Resource → Resource) (old new : Slab Resource) → SameBut part old new → (place : Place) → IsThere old place → IsThere new place
-place_still part old new same Loose there = tt
 place_still part old new same (Queued res queue) there = there_through part old new same res there
 
 -- ---- a lock moves that is taken out
@@ -411,7 +409,6 @@ module _ (q : Queues) (locks1 : Slab Lock) (res : ℕ) (was : Resource) (list1 :
   rows_stay = relinked_same with_armed_links row_in (λ l pair. refl) q.locks locks1 relinks
 
   queues_stay : (p : Place) → list_at relisted p ≡ list_at q p
-  queues_stay Loose = refl
   queues_stay (Queued r queue) = through but_armed (list_in queue) (list-armed queue) q.resources relisted.resources relisted_rest r
 
   notes_stay : (k : ℕ) → armed_on (get locks1 k) ≡ armed_on (get q.locks k)

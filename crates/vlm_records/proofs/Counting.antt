@@ -14,7 +14,7 @@ use Rattle.vlm_words.specs.declared.modes.Mode.{Mode}
 use Rattle.vlm_words.specs.declared.resources.Queue.{Queue}
 use Rattle.vlm_words.specs.declared.resources.Queue.TheVariants.{Granted, Conversion, Waiting}
 use Rattle.vlm_records.specs.declared.handles.Place.{Place}
-use Rattle.vlm_records.specs.declared.handles.Place.TheVariants.{Loose, Queued}
+use Rattle.vlm_records.specs.declared.handles.Place.TheVariants.{Queued}
 use Rattle.vlm_records.specs.declared.locks.Lock.{Lock}
 use Rattle.vlm_records.specs.declared.queues.Queues.{Queues}
 use Rattle.vlm_records.specs.declared.resources.Resource.{Resource}
@@ -74,8 +74,6 @@ module _ (q : Queues) (weight : Queue → Row → ℕ) (at : ℕ) (place : Place
 -- the shares of a resource are those of the other locks, and that of the lock
 pub shares-out : (q : Queues) (weight : Queue → Row → ℕ) (at : ℕ) (place : Place) → IsPlaced q None → noted q at ≡ Some place → (res : ℕ)
     → shares q weight None res ≡ shares q weight (Some at) res + share_of weight place res (rows q at)
-shares-out q weight at Loose placed is res =
-    omega (arith, stays q weight at Loose placed is res Granted (λ e. cc), stays q weight at Loose placed is res Conversion (λ e. cc), stays q weight at Loose placed is res Waiting (λ e. cc))
 shares-out q weight at (Queued r queue) placed is res =
     elim (cases_eq r res) [
       | inl same ↦ rw (eq-eqb r res same) (by_queue queue is (ap (λ x. Queued x queue) same))
@@ -213,11 +211,6 @@ module _ (q q' : Queues) (at res : ℕ) (queue : Queue) (l : Lock) (placed : IsP
 
     pub counted_in : ((r : ℕ) → count' r ≡ count r + (if res == r then weight queue l.row else 0)) → ((r : ℕ) → count r ≡ shares q weight (Some at) r) → (r : ℕ) → count' r ≡ shares q' weight None r
     counted_in more tallied r = omega (arith, more r, tallied r, weighs r, shares_same q q' weight None r handles_same (λ k _. rows_same k))
-
--- a loose lock is not counted
-pub loose_weighs : (q : Queues) (at : ℕ) (l : Lock) → IsPlaced q None → get q.locks at ≡ Some l → l.place ≡ Loose → (weight : Queue → Row → ℕ) (r : ℕ)
-    → shares q weight None r ≡ shares q weight (Some at) r
-loose_weighs q at l placed here is weight r = omega (arith, shares-out q weight at Loose placed (ap noted_in here ∙ ap Some is) r)
 
 -- a lock weighs one at most
 one_if-le : (b : Bool) → one_if b ≤ 1

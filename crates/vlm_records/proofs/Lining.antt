@@ -8,7 +8,7 @@ use Rattle.vlm_links.specs.Lists.{IsIn, IsLinked, Relinks, without}
 use Rattle.vlm_links.proofs.Keeping.{relinked_same}
 use Rattle.vlm_words.specs.declared.resources.Queue.TheVariants.{Granted, Conversion, Waiting}
 use Rattle.vlm_records.specs.declared.handles.Place.{Place}
-use Rattle.vlm_records.specs.declared.handles.Place.TheVariants.{Loose, Queued}
+use Rattle.vlm_records.specs.declared.handles.Place.TheVariants.{Queued}
 use Rattle.vlm_records.specs.declared.locks.InLine.{InLine}
 use Rattle.vlm_records.specs.declared.locks.Lock.{Lock}
 use Rattle.vlm_records.specs.Line.{IsLine, is_queued, line_handles, line_in, line_links, queued_line, with_line_links}
@@ -21,13 +21,11 @@ one_line i j = inl refl
 
 -- a lock whose request is queued notes it
 pub queued_noted : (place : Place) → is_queued place ≡ true → queued_line place ≡ Some tt
-queued_noted Loose is = cc
 queued_noted (Queued res Granted) is = cc
 queued_noted (Queued res Conversion) is = refl
 queued_noted (Queued res Waiting) is = refl
 
 pub unqueued_noted : (place : Place) → is_queued place ≡ false → queued_line place ≡ None
-unqueued_noted Loose is = refl
 unqueued_noted (Queued res Granted) is = refl
 unqueued_noted (Queued res Conversion) is = cc
 unqueued_noted (Queued res Waiting) is = cc

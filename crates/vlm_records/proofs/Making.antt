@@ -14,7 +14,7 @@ use Rattle.vlm_words.specs.declared.locks.Row.{Row}
 use Rattle.vlm_words.specs.declared.resources.Queue.{Queue}
 use Rattle.vlm_words.specs.declared.resources.Queue.TheVariants.{Granted, Conversion, Waiting}
 use Rattle.vlm_records.specs.declared.handles.Place.{Place}
-use Rattle.vlm_records.specs.declared.handles.Place.TheVariants.{Loose, Queued}
+use Rattle.vlm_records.specs.declared.handles.Place.TheVariants.{Queued}
 use Rattle.vlm_words.specs.declared.resources.ValueBlock.{ValueBlock}
 use Rattle.vlm_records.specs.declared.locks.Lock.{Lock}
 use Rattle.vlm_records.specs.declared.queues.Queues.{Queues}
@@ -68,7 +68,6 @@ module _ (q : Queues) (r1 r2 : Slab Resource) (at : ℕ) (made : Resource) (upda
     made_list Waiting = no_list_is made.waiting waiting
 
     pub added_lists : ListsStay q r2
-    added_lists Loose = refl
     added_lists (Queued r queue) =
         relinked_same with_order_links (list_in queue) (list_stays queue) r1 r2 relinks r
         ∙ but_one (list_in queue) q.resources r1 at (ap (list_in queue) updates.changed ∙ made_list queue ∙ sym (ap (list_in queue) fresh)) (λ k differs. ap (list_in queue) (updates.others k differs)) r
@@ -86,7 +85,6 @@ module _ (q : Queues) (r1 r2 : Slab Resource) (at : ℕ) (made : Resource) (upda
 -- room is made for resources
 module _ (q : Queues) (resources : Slab Resource) (same : (r : ℕ) → get resources r ≡ get q.resources r) where
   pub reserved_lists : ListsStay q resources
-  reserved_lists Loose = refl
   reserved_lists (Queued r queue) = ap (list_in queue) (same r)
 
 -- no lock stands in a queue of a resource that is not there
@@ -136,7 +134,6 @@ module _ (q : Queues) (res : ℕ) (was now : Resource) (there : ContainsKey q.re
   written = Updates-with_value q.resources res now there
 
   pub written_lists : ((queue : Queue) → list_in queue (Some now) ≡ list_in queue (Some was)) → ListsStay q (with_value q.resources res now)
-  written_lists lists Loose = refl
   written_lists lists (Queued r queue) =
       but_one (list_in queue) q.resources (with_value q.resources res now) res (ap (list_in queue) written.changed ∙ lists queue ∙ sym (ap (list_in queue) here))
       (λ k differs. ap (list_in queue) (written.others k differs)) r
@@ -164,7 +161,6 @@ no_list_has links locks list linked none =
 module _ (q : Queues) (r1 r2 : Slab Resource) (at : ℕ) (relinks : Relinks with_order_links q.resources r1) (updates : Updates r1 r2 at None) (placed : IsPlaced q None)
     (idle : (queue : Queue) → handles_at q (Queued at queue) ≡ []) where
   pub removed_lists : ListsStay q r2
-  removed_lists Loose = refl
   removed_lists (Queued r queue) =
       but_one (list_in queue) q.resources r2 at
       (ap (list_in queue) updates.changed ∙ sym (no_list_has queue_links q.locks (list_at q (Queued at queue)) (placed.linked (Queued at queue)) (idle queue)))

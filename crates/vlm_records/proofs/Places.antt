@@ -12,7 +12,7 @@ use Rattle.vlm_links.proofs.Rings.{kept-linked}
 use Rattle.vlm_words.specs.declared.resources.Queue.{Queue}
 use Rattle.vlm_words.specs.declared.resources.Queue.TheVariants.{Granted, Conversion, Waiting}
 use Rattle.vlm_records.specs.declared.handles.Place.{Place}
-use Rattle.vlm_records.specs.declared.handles.Place.TheVariants.{Loose, Queued}
+use Rattle.vlm_records.specs.declared.handles.Place.TheVariants.{Queued}
 use Rattle.vlm_records.specs.declared.locks.InQueue.{InQueue}
 use Rattle.vlm_records.specs.declared.locks.Lock.{Lock}
 use Rattle.vlm_records.specs.declared.queues.Queues.{Queues}
@@ -33,9 +33,6 @@ queue_cases Waiting Conversion = inr (λ e. cc)
 queue_cases Waiting Waiting = inl refl
 
 pub place_cases : (p q : Place) → (p ≡ q) ⊎ (p ≢ q)
-place_cases Loose Loose = inl refl
-place_cases Loose (Queued b q) = inr (λ e. cc)
-place_cases (Queued a p) Loose = inr (λ e. cc)
 place_cases (Queued a p) (Queued b q) =
     elim (cases_eq a b) [
       | inl same ↦ elim (queue_cases p q) [ inl equal ↦ inl (cc) | inr other ↦ inr (λ e. other (cc)) ]
@@ -81,7 +78,6 @@ there_noted (Some l) place is = refl
 
 -- no lock stands in the queues of a resource that is not there
 pub stands_there : (q : Queues) (place : Place) (at : ℕ) → IsIn at (handles_at q place) → IsThere q.resources place
-stands_there q Loose at found = tt
 stands_there q (Queued res queue) at found = by_slot (get q.resources res) refl found
   where
     by_slot : (slot : Option Resource) → get q.resources res ≡ slot → IsIn at (handles_of queue_links q.locks (list_in queue slot)) → ContainsKey q.resources res
@@ -104,9 +100,8 @@ module _ (q : Queues) (out : Option ℕ) (placed : IsPlaced q out) where
     kept_placed = family-kept queue_links noted_in q.locks (list_at q) out placed q'.locks (list_at q') lists (λ i k _. nexts k) (λ i k _. prevs k) (λ i k _. there k)
 
 -- the heads of the lists are those of the fields
-pub lists_same : (q q' : Queues) → q'.resources ≡ q.resources → q'.loose ≡ q.loose → (p : Place) → list_at q' p ≡ list_at q p
-lists_same q q' resources loose Loose = loose
-lists_same q q' resources loose (Queued res queue) = ap (λ s. list_in queue (get s res)) resources
+pub lists_same : (q q' : Queues) → q'.resources ≡ q.resources → (p : Place) → list_at q' p ≡ list_at q p
+lists_same q q' resources (Queued res queue) = ap (λ s. list_in queue (get s res)) resources
 
 -- what a lock notes stays where only links are written
 noted_by : (new old : Option Lock) → option_map (λ (l : Lock). l.place) new ≡ option_map (λ (l : Lock). l.place) old → noted_in new ≡ noted_in old
@@ -193,9 +188,8 @@ module _ (q q' : Queues) (locks1 : Slab Lock) (list1 : LinkedList InQueue) (at :
       notes k = ap (λ s. noted_in (get s k)) locks ∙ noted_relinked q.locks locks1 relinks1 k
 
 -- counts say nothing of the lists
-pub lists_but_tally : (q q' : Queues) → SameBut but_tally q.resources q'.resources → q'.loose ≡ q.loose → (p : Place) → list_at q' p ≡ list_at q p
-lists_but_tally q q' rest loose Loose = loose
-lists_but_tally q q' rest loose (Queued res queue) = through but_tally (list_in queue) (list_apart queue) q.resources q'.resources rest res
+pub lists_but_tally : (q q' : Queues) → SameBut but_tally q.resources q'.resources → (p : Place) → list_at q' p ≡ list_at q p
+lists_but_tally q q' rest (Queued res queue) = through but_tally (list_in queue) (list_apart queue) q.resources q'.resources rest res
   where
     list_apart : (queue : Queue) (slot : Option Resource) → list_in queue (option_map but_tally slot) ≡ list_in queue slot
     list_apart queue None = refl
@@ -242,26 +236,26 @@ prev_but_row : (slot : Option Lock) → prev_in queue_links (option_map but_row 
 prev_but_row None = refl
 prev_but_row (Some l) = refl
 
-module _ (q q' : Queues) (out : Option ℕ) (placed : IsPlaced q out) (rest : SameBut but_row q.locks q'.locks) (resources : q'.resources ≡ q.resources) (loose : q'.loose ≡ q.loose) where
+module _ (q q' : Queues) (out : Option ℕ) (placed : IsPlaced q out) (rest : SameBut but_row q.locks q'.locks) (resources : q'.resources ≡ q.resources) where
   pub written_handles : (p : Place) → handles_at q' p ≡ handles_at q p
   written_handles =
-      kept_handles q out placed q' (lists_same q q' resources loose) (through but_row (next_in queue_links) next_but_row q.locks q'.locks rest)
+      kept_handles q out placed q' (lists_same q q' resources) (through but_row (next_in queue_links) next_but_row q.locks q'.locks rest)
       (through but_row (prev_in queue_links) prev_but_row q.locks q'.locks rest) (there_through but_row q.locks q'.locks rest)
 
   pub written_placed : IsPlaced q' out
   written_placed =
-      kept_placed q out placed q' (lists_same q q' resources loose) (through but_row (next_in queue_links) next_but_row q.locks q'.locks rest)
+      kept_placed q out placed q' (lists_same q q' resources) (through but_row (next_in queue_links) next_but_row q.locks q'.locks rest)
       (through but_row (prev_in queue_links) prev_but_row q.locks q'.locks rest) (there_through but_row q.locks q'.locks rest) (through but_row noted_in noted_but_row q.locks q'.locks rest)
 
 -- all stays in its place where counts are written
-module _ (q q' : Queues) (out : Option ℕ) (placed : IsPlaced q out) (rest : SameBut but_tally q.resources q'.resources) (loose : q'.loose ≡ q.loose) (locks : q'.locks ≡ q.locks) where
+module _ (q q' : Queues) (out : Option ℕ) (placed : IsPlaced q out) (rest : SameBut but_tally q.resources q'.resources) (locks : q'.locks ≡ q.locks) where
   pub counted_handles : (p : Place) → handles_at q' p ≡ handles_at q p
   counted_handles =
-      kept_handles q out placed q' (lists_but_tally q q' rest loose) (λ k. ap (λ s. next_in queue_links (get s k)) locks) (λ k. ap (λ s. prev_in queue_links (get s k)) locks) (λ k. subst (λ s. ContainsKey s k) (sym locks))
+      kept_handles q out placed q' (lists_but_tally q q' rest) (λ k. ap (λ s. next_in queue_links (get s k)) locks) (λ k. ap (λ s. prev_in queue_links (get s k)) locks) (λ k. subst (λ s. ContainsKey s k) (sym locks))
 
   pub counted_placed : IsPlaced q' out
   counted_placed =
-      kept_placed q out placed q' (lists_but_tally q q' rest loose) (λ k. ap (λ s. next_in queue_links (get s k)) locks) (λ k. ap (λ s. prev_in queue_links (get s k)) locks) (λ k. subst (λ s. ContainsKey s k) (sym locks))
+      kept_placed q out placed q' (lists_but_tally q q' rest) (λ k. ap (λ s. next_in queue_links (get s k)) locks) (λ k. ap (λ s. prev_in queue_links (get s k)) locks) (λ k. subst (λ s. ContainsKey s k) (sym locks))
       (λ k. ap (λ s. noted_in (get s k)) locks)
 
 -- an empty list has nothing in it

@@ -7,7 +7,7 @@ use Rattle.vlm_links.specs.Lists.{IsLinked, handles_of, without}
 use Rattle.vlm_words.specs.declared.locks.Row.{Row}
 use Rattle.vlm_words.specs.declared.resources.Queue.TheVariants.{Granted, Conversion, Waiting}
 use Rattle.vlm_records.specs.declared.handles.Place.{Place}
-use Rattle.vlm_records.specs.declared.handles.Place.TheVariants.{Loose, Queued}
+use Rattle.vlm_records.specs.declared.handles.Place.TheVariants.{Queued}
 use Rattle.vlm_records.specs.declared.locks.InArmed.{InArmed}
 use Rattle.vlm_records.specs.declared.locks.Lock.{Lock}
 use Rattle.vlm_records.specs.declared.queues.Queues.{Queues}
@@ -29,7 +29,6 @@ armed_list_in (Some r) = r.armed
 
 -- the resource on which a lock at this place is granted
 abbrev pub granted_on : Place → Option ℕ
-granted_on Loose = None
 granted_on (Queued res Granted) = Some res
 granted_on (Queued res Conversion) = None
 granted_on (Queued res Waiting) = None

@@ -29,7 +29,6 @@ pub record KeepsPlaces (old new : Queues) : Type 0 where
 -- the counts of resources alone are written
 pub record WritesCounts (old new : Queues) : Type 0 where
   pub locks : new.locks ≡ old.locks
-  pub loose : new.loose ≡ old.loose
   pub rest : SameBut but_tally old.resources new.resources
   pub resources_room : room_in new.resources ≡ room_in old.resources
 
@@ -44,7 +43,6 @@ pub record WritesLock (at : ℕ) (old new : Queues) : Type 0 where
   pub others : (other : ℕ) → other ≢ at → get new.locks other ≡ get old.locks other
   pub kin : SameBut but_requeued old.locks new.locks
   pub resources : new.resources ≡ old.resources
-  pub loose : new.loose ≡ old.loose
   pub locks_room : room_in new.locks ≡ room_in old.locks
 
 -- one lock has another row, and stands where it stood

@@ -6,7 +6,7 @@ use Rattle.vlm_links.specs.declared.lists.LinkedList.{LinkedList}
 use Rattle.vlm_links.specs.Lists.{handles_of}
 use Rattle.vlm_words.specs.declared.resources.Queue.TheVariants.{Granted, Conversion, Waiting}
 use Rattle.vlm_records.specs.declared.handles.Place.{Place}
-use Rattle.vlm_records.specs.declared.handles.Place.TheVariants.{Loose, Queued}
+use Rattle.vlm_records.specs.declared.handles.Place.TheVariants.{Queued}
 use Rattle.vlm_records.specs.declared.locks.InLine.{InLine}
 use Rattle.vlm_records.specs.declared.locks.Lock.{Lock}
 use Rattle.vlm_records.specs.Families.{IsFamily}
@@ -21,14 +21,12 @@ with_line_links l pair = record l { in_line = pair }
 
 -- the place is a conversion or waiting queue
 abbrev pub is_queued : Place → Bool
-is_queued Loose = false
 is_queued (Queued res Granted) = false
 is_queued (Queued res Conversion) = true
 is_queued (Queued res Waiting) = true
 
 -- the one list there is, where the request of the lock is queued
 abbrev pub queued_line : Place → Option (Unit {0})
-queued_line Loose = None
 queued_line (Queued res Granted) = None
 queued_line (Queued res Conversion) = Some tt
 queued_line (Queued res Waiting) = Some tt

@@ -19,7 +19,7 @@ use Rattle.vlm_words.specs.declared.resources.Site.{Site}
 use Rattle.vlm_words.specs.declared.resources.Key.TheVariants.{Below}
 use Rattle.vlm_words.specs.declared.resources.ValueBlock.{ValueBlock}
 use Rattle.vlm_records.specs.declared.handles.Place.{Place}
-use Rattle.vlm_records.specs.declared.handles.Place.TheVariants.{Loose, Queued}
+use Rattle.vlm_records.specs.declared.handles.Place.TheVariants.{Queued}
 use Rattle.vlm_records.specs.declared.locks.InQueue.{InQueue}
 use Rattle.vlm_records.specs.declared.locks.Lock.{Lock}
 use Rattle.vlm_records.specs.declared.queues.Queues.{Queues}
@@ -47,6 +47,10 @@ with_queue_list Waiting list r = record r { waiting = list }
 -- what a look-up that finds nothing gives
 abbrev pub no_row : Row
 no_row = record { lkid = 0; pid = 0; parent = 0; held = None; want = None; armed = false }
+
+-- the place of a lock where its place is left out
+abbrev pub no_place : Place
+no_place = Queued 0 Granted
 
 -- what stands under a handle, read off the record if there is one
 abbrev pub row_in : Option Lock → Row
@@ -114,7 +118,7 @@ lkid_of l = l.row.lkid
 
 -- a lock but for the place that it notes
 abbrev pub but_place : Lock → Lock
-but_place l = record l { place = Loose }
+but_place l = record l { place = no_place }
 
 -- a lock but for what it holds and wants
 abbrev pub but_row : Lock → Lock
@@ -130,7 +134,7 @@ named_row row = record no_row { lkid = row.lkid; pid = row.pid; parent = row.par
 
 -- a lock but for its queue, and what it holds and wants there
 abbrev pub but_requeued : Lock → Lock
-but_requeued l = record l { row = named_row l.row; place = Loose; in_queue = no_links }
+but_requeued l = record l { row = named_row l.row; place = no_place; in_queue = no_links }
 
 -- a lock but for its neighbours among the armed locks of its resource
 abbrev pub but_in_armed : Lock → Lock
@@ -152,7 +156,7 @@ but_kin l = but_in_line (record l { of_process = no_links; of_parent = no_links;
 abbrev pub new_lock : Row → ℕ → Option ℕ → Lock
 new_lock row owner parent = record {
   row = named_row row;
-  place = Loose;
+  place = no_place;
   in_queue = no_links;
   in_armed = no_links;
   in_line = no_links;
@@ -171,9 +175,8 @@ room_in nodes = (nodes.capacity - slab_len nodes, nodes.vacant_key)
 abbrev pub SameBut : {T X : Type 0} → (T → X) → Slab T → Slab T → Type 0
 SameBut part old new = (handle : ℕ) → option_map part (get new handle) ≡ option_map part (get old handle)
 
--- the place, if it is a queue, is that of a resource that is there
+-- the resource of the place is there
 abbrev pub IsThere : Slab Resource → Place → Type 0
-IsThere resources Loose = Unit {0}
 IsThere resources (Queued res queue) = ContainsKey resources res
 
 module _ (q : Queues) where
@@ -187,7 +190,6 @@ module _ (q : Queues) where
 
   -- the list of a place
   abbrev pub list_at : Place → LinkedList InQueue
-  list_at Loose = q.loose
   list_at (Queued res queue) = list_in queue (get q.resources res)
 
   -- the handles at a place, the first in line first
@@ -220,7 +222,6 @@ handles_fit mode rows granted converting =
 
 -- what a lock at this place adds to the count of a resource
 abbrev pub share_of : (Queue → Row → ℕ) → Place → ℕ → Row → ℕ
-share_of weight Loose res row = 0
 share_of weight (Queued at queue) res row = if at == res then weight queue row else 0
 
 -- a resource without its queues

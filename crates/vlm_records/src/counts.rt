@@ -24,9 +24,7 @@ fn held_on(res: ResAt, place: &Place, row: &StoredRow) -> Option<Request>
     ensures { (mode : Mode) → one_if (is_mode mode result)
         ≡ share_of (weight_of of_held mode) place.now res row.now }
 {
-    let Place::Queued(at, queue) = *place else {
-        return None;
-    };
+    let (at, queue) = place.parts();
     if at != res {
         return None;
     }
@@ -46,9 +44,8 @@ impl Queues {
         ensures counts { WritesCounts self.old self.new }
     {
         let Lock { row, place, .. } = self.locks[at];
-        if let Place::Queued(res, queue) = place {
-            self.resources[res.slot()].tally.remove(queue, &row.row());
-        }
+        let (res, queue) = place.parts();
+        self.resources[res.slot()].tally.remove(queue, &row.row());
     }
 
     /// Counts a lock into the queue in which it stands.
@@ -60,9 +57,8 @@ impl Queues {
         ensures counts { WritesCounts self.old self.new }
     {
         let Lock { row, place, .. } = self.locks[at];
-        if let Place::Queued(res, queue) = place {
-            self.resources[res.slot()].tally.add(queue, &row.row());
-        }
+        let (res, queue) = place.parts();
+        self.resources[res.slot()].tally.add(queue, &row.row());
     }
 
     /// Counts a lock with another row instead of its own.
@@ -79,11 +75,10 @@ impl Queues {
             place,
             ..
         } = self.locks[at];
-        if let Place::Queued(res, queue) = place {
-            let tally = &mut self.resources[res.slot()].tally;
-            tally.remove(queue, &was.row());
-            tally.add(queue, &row.row());
-        }
+        let (res, queue) = place.parts();
+        let tally = &mut self.resources[res.slot()].tally;
+        tally.remove(queue, &was.row());
+        tally.add(queue, &row.row());
     }
 
     /// Whether the mode is compatible with what each lock of a resource holds, but for the lock that

@@ -1,6 +1,7 @@
 //! The kinds of handles, and where a lock stands.
 
 ghost use Rattle.std.specs.Prelude.{◌≡◌};
+ghost use Rattle.vlm_records.specs.declared.handles.Place.{Place};
 
 use vlm_links::At;
 use vlm_words::resources::Queue;
@@ -26,14 +27,20 @@ pub type ProcAt = At<ProcessKind>;
 /// Where a lock stands.
 #[derive(Clone, Copy)]
 pub enum Place {
-    /// In no queue.
-    Loose,
     /// In a queue of a resource.
     Queued(ResAt, Queue),
 }
 
 impl Place {
     ghost use Rattle.vlm_records.specs.Line.{is_queued};
+
+    /// The resource, and its queue in which a lock at this place stands.
+    pub fn parts(&self) -> (ResAt, Queue)
+        ensures { self.now ≡ Place.Queued result.0 result.1 }
+    {
+        let Place::Queued(res, queue) = *self;
+        (res, queue)
+    }
 
     /// Whether a lock at this place has a queued request.
     pub fn is_queued(&self) -> bool

@@ -6,9 +6,9 @@
 //! in four bytes (`At`): it is good until the record is removed, and may then be given to another.
 //!
 //! A lock notes where it stands: its queue (`place`), its process (`owner`) and its parent, if it has one. In
-//! the list of each it is linked by a pair of links of its own; what is in no queue is in the list of the
-//! loose locks. The ends of these lists are in the records that have them: three queues in a resource, own
-//! locks in a process, sublocks in a lock. A granted lock that is armed stands in one list more, that of the armed locks of
+//! the list of each it is linked by a pair of links of its own. The ends of these lists are in the records that
+//! have them: three queues in a resource, own locks in a process, sublocks in a lock. A granted lock that is
+//! armed stands in one list more, that of the armed locks of
 //! its resource, in the order of the granted queue; and one whose request is queued in the line, the list of all such
 //! locks, of whichever resource. Resources and processes are linked in order of making. A resource counts its locks in a
 //! tally, so a lock that moves leaves the armed ones, is counted out, linked anew and counted in, and joins the armed ones

@@ -7,7 +7,7 @@ use crate::rows::StoredRow;
 use vlm_links::{Linked, LinkedList, Links};
 use vlm_words::resources::Queue;
 
-/// The lists of locks that are queues, and that of the loose locks.
+/// The lists of locks that are queues.
 pub struct InQueue;
 
 /// The list of the granted locks of a resource that are armed, in the order in which they were granted.
@@ -29,7 +29,7 @@ pub struct Lock {
     pub row: StoredRow,
     /// The queue in which it stands.
     pub place: Place,
-    // its neighbours there, or among the loose locks
+    // its neighbours there
     pub(crate) in_queue: Links,
     // its neighbours among the armed locks of its resource, if it is granted and armed
     pub(crate) in_armed: Links,

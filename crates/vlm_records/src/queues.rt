@@ -19,15 +19,13 @@ use slab::Slab;
 use vlm_links::{LAST_HANDLE, LinkedList, Links};
 use vlm_words::resources::Queue;
 
-/// The locks, each in one list: a queue of a resource, or that of the loose locks.
+/// The locks, each in one queue of a resource.
 #[derive(Drop)]
 pub struct Queues {
-    /// All locks, the loose ones too.
+    /// All locks.
     pub locks: Slab<Lock>,
     /// All resources, those in whose queues no lock stands too.
     pub resources: Slab<Resource>,
-    /// The locks that stand in no queue, in the order in which they joined.
-    pub loose: LinkedList<InQueue>,
 }
 
 // Whether both places are the granted queue of one resource.
@@ -48,12 +46,10 @@ impl Queues {
     pub fn list(&self, place: Place) -> LinkedList<InQueue>
         ensures { result ≡ list_at self.now place }
     {
-        match place {
-            Place::Loose => self.loose,
-            Place::Queued(res, queue) => match self.resources.get(res.slot()) {
-                Some(resource) => resource.list(queue),
-                None => LinkedList::new(),
-            },
+        let (res, queue) = place.parts();
+        match self.resources.get(res.slot()) {
+            Some(resource) => resource.list(queue),
+            None => LinkedList::new(),
         }
     }
 
@@ -71,12 +67,8 @@ impl Queues {
         ensures rest { SameBut but_lists self.old.resources self.new.resources }
         ensures resources_room { room_in self.new.resources ≡ room_in self.old.resources }
     {
-        match *place {
-            Place::Loose => self.loose.unlink(&mut self.locks, at),
-            Place::Queued(res, queue) => {
-                self.resources[res.slot()].unlink(&mut self.locks, queue, at)
-            }
-        }
+        let (res, queue) = place.parts();
+        self.resources[res.slot()].unlink(&mut self.locks, queue, at);
     }
 
     // Appends a lock that is in no list to the list of a place.
@@ -96,12 +88,8 @@ impl Queues {
         ensures rest { SameBut but_lists self.old.resources self.new.resources }
         ensures resources_room { room_in self.new.resources ≡ room_in self.old.resources }
     {
-        match *place {
-            Place::Loose => self.loose.push_back(&mut self.locks, at),
-            Place::Queued(res, queue) => {
-                self.resources[res.slot()].push_back(&mut self.locks, queue, at)
-            }
-        }
+        let (res, queue) = place.parts();
+        self.resources[res.slot()].push_back(&mut self.locks, queue, at);
     }
 
     // Takes a lock off the list in which it stands.

@@ -12,7 +12,7 @@ use Rattle.vlm_words.specs.declared.locks.Row.{Row}
 use Rattle.vlm_words.specs.declared.resources.Queue.{Queue}
 use Rattle.vlm_words.specs.declared.resources.Queue.TheVariants.{Granted, Conversion, Waiting}
 use Rattle.vlm_records.specs.declared.handles.Place.{Place}
-use Rattle.vlm_records.specs.declared.handles.Place.TheVariants.{Loose, Queued}
+use Rattle.vlm_records.specs.declared.handles.Place.TheVariants.{Queued}
 use Rattle.vlm_store.specs.Records.{AreApart, AreOwnApart, AreProcessesApart, AreResourcesApart, IsProcess, IsSound, OwnLock, Records, StoredLock, StoredProcess, StoredResource, Stores, locks_at, own_at, owned_among, owned_by, owned_on, process_at, queued, resource_at}
 use Rattle.vlm_store.proofs.Plain.{process_at-stored}
 use Rattle.vlm_records.proofs.Counting.{IsApart-append, IsIn-append}
@@ -192,38 +192,25 @@ module _ (pid : ℕ) where
 
     -- the handles of all locks of the process
     abbrev handles_by : List ℕ
-    handles_by = handles_in s.resources ++ handles_among s.loose
+    handles_by = handles_in s.resources
 
     handles_by-length : length handles_by ≡ owned_by pid s
-    handles_by-length = omega (arith, length-append (handles_in s.resources) (handles_among s.loose), handles_in-length s.resources, handles_among-length s.loose)
+    handles_by-length = handles_in-length s.resources
 
     handles_by-apart : IsApart handles_by
-    handles_by-apart =
-        IsApart-append (handles_in s.resources) (handles_among s.loose) (handles_in-apart s.resources sound.resources_apart (λ r among. among)) (handles_among-apart s.loose (sound.locks_apart Loose))
-        (λ k here there.
-        let on = in_resource s.resources k here in
-        let one = stands_on on.0 on.1.0 k on.1.1 in
-        let other = among_handles s.loose k there in
-        apart_places on.0.at one.0 (sound.one_place k one.1 other.0 (Queued on.0.at one.0) Loose one.2.0 other.1.0))
-      where
-        apart_places : (res : ℕ) (queue : Queue) → Queued res queue ≢ Loose
-        apart_places res queue same = cc
+    handles_by-apart = handles_in-apart s.resources sound.resources_apart (λ r among. among)
 
     stored_handle : (at : ℕ) (row : Row) → Stores s at row → row.pid ≡ pid → IsIn at handles_by
     stored_handle at row stored is = by_place stored.0 stored.1
       where
         by_place : (place : Place) → IsIn (record { at = at; row = row }) (locks_at place s) → IsIn at handles_by
-        by_place Loose among = IsIn-second at (handles_in s.resources) (handles_among s.loose) (under_handle_among s.loose (record { at = at; row = row }) among is)
-        by_place (Queued res queue) among = IsIn-first at (handles_in s.resources) (handles_among s.loose) (resource_in s.resources res queue (record { at = at; row = row }) among is)
+        by_place (Queued res queue) among = resource_in s.resources res queue (record { at = at; row = row }) among is
 
     handle_stored : (at : ℕ) → IsIn at handles_by → (row : Row) × (Stores s at row × (row.pid ≡ pid))
     handle_stored at found =
-        IsIn-append at (handles_in s.resources) (handles_among s.loose) _
-        (λ queued_so.
-        let on = in_resource s.resources at queued_so in
+        let on = in_resource s.resources at found in
         let stands = stands_on on.0 on.1.0 at on.1.1 in
-        (stands.1, ((Queued on.0.at stands.0, stands.2.0), stands.2.1)))
-        (λ loose. let stands = among_handles s.loose at loose in (stands.0, ((Loose, stands.1.0), stands.1.1))) found
+        (stands.1, ((Queued on.0.at stands.0, stands.2.0), stands.2.1))
 
 -- two processes with one identification are one
 pub one_process : (ps : List StoredProcess) → AreProcessesApart ps → (p q : StoredProcess) → IsIn p ps → IsIn q ps → p.process.pid ≡ q.process.pid → p ≡ q

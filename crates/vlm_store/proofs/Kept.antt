@@ -12,7 +12,7 @@ use Rattle.vlm_words.specs.declared.resources.Queue.{Queue}
 use Rattle.vlm_words.specs.declared.resources.Queue.TheVariants.{Granted, Conversion, Waiting}
 use Rattle.vlm_words.specs.declared.resources.Key.{Key}
 use Rattle.vlm_records.specs.declared.handles.Place.{Place}
-use Rattle.vlm_records.specs.declared.handles.Place.TheVariants.{Loose, Queued}
+use Rattle.vlm_records.specs.declared.handles.Place.TheVariants.{Queued}
 use Rattle.vlm_records.specs.declared.locks.Lock.{Lock}
 use Rattle.vlm_records.specs.declared.queues.Queues.{Queues}
 use Rattle.vlm_records.specs.declared.resources.InOrder.{InOrder}
@@ -20,7 +20,7 @@ use Rattle.vlm_records.specs.declared.resources.Resource.{Resource}
 use Rattle.vlm_store.specs.Index.{Indexes}
 use Rattle.vlm_store.specs.Records.{FindsLock, FindsResource, HasPlace, HasResource, StoredResource, Stores, nothing}
 use Rattle.vlm_records.specs.Shown.{IsPlaced, IsTallied, IsThere, SameBut, but_queues, face_in, handles_at, list_at, noted_in, order_links, queue_links, row_in, rows, shares, tally_in}
-use Rattle.vlm_store.specs.Store.{Beside, key_at, under_handle, lkid_at, records_of, resource_of, tables}
+use Rattle.vlm_store.specs.Store.{Beside, key_at, lkid_at, records_of, resource_of, tables}
 use Rattle.vlm_store.proofs.Layouts.{HasPlace-seen, IsSeen, Stores-listed, among_resource, listed-Stores, resource_at-found, resource_among}
 use Rattle.vlm_tallies.specs.Tallies.{how_many, total, weight_of}
 use Rattle.vlm_tallies.proofs.Totals.{none_counted}
@@ -45,12 +45,10 @@ module _ (q : Queues) (order : LinkedList InOrder) (beside : Beside) (placed : I
         listed-Stores (tables q order beside) place.0 at (seen place.0 (stands_there q place.0 at stands)) stands
       where
         seen : (p : Place) → IsThere q.resources p → IsSeen (tables q order beside) p
-        seen Loose there = tt
         seen (Queued r queue) there = ordered r there
 
     -- the place that a caller sees is there
     pub place_there : (p : Place) → HasPlace p (records_of (tables q order beside)) → IsThere q.resources p
-    place_there Loose has = tt
     place_there (Queued r queue) has = linked.present r (HasPlace-seen (tables q order beside) (Queued r queue) has)
 
     -- the record of a lock that a caller sees has its identification
@@ -127,9 +125,8 @@ module _ (q : Queues) (order : LinkedList InOrder) (beside : Beside) (placed : I
             absurd (absent there.0 there.1.0 there.1.2)
 
 -- nothing is there yet
-module _ (q : Queues) (no_locks : (k : ℕ) → get q.locks k ≡ None) (no_resources : (r : ℕ) → get q.resources r ≡ None) (loose : IsNoList q.loose) where
+module _ (q : Queues) (no_locks : (k : ℕ) → get q.locks k ≡ None) (no_resources : (r : ℕ) → get q.resources r ≡ None) where
   empty_list : (p : Place) → IsNoList (list_at q p)
-  empty_list Loose = loose
   empty_list (Queued r queue) = rw (no_resources r) (record { no_first = refl; no_last = refl; no_handles = refl })
 
   pub empty_handles : (p : Place) → handles_at q p ≡ []
@@ -162,10 +159,9 @@ module _ (q : Queues) (no_locks : (k : ℕ) → get q.locks k ≡ None) (no_reso
     pub empty_records : (beside : Beside) → beside.processes ≡ [] → records_of (tables q order beside) ≡ record (nothing (records_of (tables q order beside)).keys) { room = (records_of (tables q order beside)).room }
     unfolding records_of
     empty_records beside no_processes =
-        ap (λ rs. record { resources = map (resource_of (tables q order beside)) rs; loose = map (under_handle (rows q)) (handles_at q Loose); processes = beside.processes; room = beside.room; keys = beside.keys })
+        ap (λ rs. record { resources = map (resource_of (tables q order beside)) rs; processes = beside.processes; room = beside.room; keys = beside.keys })
         (no_list-linked order_links q.resources order none).1
-        ∙ ap (λ ks. record { resources = []; loose = map (under_handle (rows q)) ks; processes = beside.processes; room = beside.room; keys = beside.keys }) (empty_handles Loose)
-        ∙ ap (λ ps. record { resources = []; loose = []; processes = ps; room = beside.room; keys = beside.keys }) no_processes
+        ∙ ap (λ ps. record { resources = []; processes = ps; room = beside.room; keys = beside.keys }) no_processes
 
 pub Indexes-empty : {K : Type 0} (found : K → Option ℕ) (label : ℕ → Option K) → ((k : K) → found k ≡ None) → ((at : ℕ) → label at ≡ None) → Indexes found label
 Indexes-empty found label finds labels = record {
@@ -186,12 +182,12 @@ module _ (old new : Slab Resource) (rest : SameBut but_queues old new) where
 module _ (q : Queues) (locks : Slab Lock) (same : (k : ℕ) → get locks k ≡ get q.locks k) (placed : IsPlaced q None) where
   pub reserved_placed : IsPlaced (record q { locks = locks }) None
   reserved_placed =
-      kept_placed q None placed (record q { locks = locks }) (lists_same q (record q { locks = locks }) refl refl) (λ k. ap (next_in queue_links) (same k)) (λ k. ap (prev_in queue_links) (same k))
+      kept_placed q None placed (record q { locks = locks }) (lists_same q (record q { locks = locks }) refl) (λ k. ap (next_in queue_links) (same k)) (λ k. ap (prev_in queue_links) (same k))
       (λ k here. rw (same k) here) (λ k. ap noted_in (same k))
 
   pub reserved_handles : (p : Place) → handles_at (record q { locks = locks }) p ≡ handles_at q p
   reserved_handles =
-      kept_handles q None placed (record q { locks = locks }) (lists_same q (record q { locks = locks }) refl refl) (λ k. ap (next_in queue_links) (same k)) (λ k. ap (prev_in queue_links) (same k))
+      kept_handles q None placed (record q { locks = locks }) (lists_same q (record q { locks = locks }) refl) (λ k. ap (next_in queue_links) (same k)) (λ k. ap (prev_in queue_links) (same k))
       (λ k here. rw (same k) here)
 
   pub reserved_tallied : IsTallied q None → IsTallied (record q { locks = locks }) None

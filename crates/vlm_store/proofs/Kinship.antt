@@ -223,12 +223,12 @@ module _ (q : Queues) (locks' : Slab Lock) (same : SameBut but_kin q.locks locks
   module _ (placed : IsPlaced q None) where
     pub kin_handles : (p : Place) → handles_at (record q { locks = locks' }) p ≡ handles_at q p
     kin_handles =
-        kept_handles q None placed (record q { locks = locks' }) (lists_same q (record q { locks = locks' }) refl refl) (through but_kin (next_in queue_links) next-kin q.locks locks' same)
+        kept_handles q None placed (record q { locks = locks' }) (lists_same q (record q { locks = locks' }) refl) (through but_kin (next_in queue_links) next-kin q.locks locks' same)
         (through but_kin (prev_in queue_links) prev-kin q.locks locks' same) (there_through but_kin q.locks locks' same)
 
     pub kin_placed : IsPlaced (record q { locks = locks' }) None
     kin_placed =
-        kept_placed q None placed (record q { locks = locks' }) (lists_same q (record q { locks = locks' }) refl refl) (through but_kin (next_in queue_links) next-kin q.locks locks' same)
+        kept_placed q None placed (record q { locks = locks' }) (lists_same q (record q { locks = locks' }) refl) (through but_kin (next_in queue_links) next-kin q.locks locks' same)
         (through but_kin (prev_in queue_links) prev-kin q.locks locks' same) (there_through but_kin q.locks locks' same) (through but_kin noted_in noted-kin q.locks locks' same)
 
     pub kin_tallied : IsTallied q None → IsTallied (record q { locks = locks' }) None

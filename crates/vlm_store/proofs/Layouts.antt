@@ -11,7 +11,7 @@ use Rattle.vlm_words.specs.declared.locks.Row.{Row}
 use Rattle.vlm_words.specs.declared.resources.Queue.{Queue}
 use Rattle.vlm_words.specs.declared.resources.Queue.TheVariants.{Granted, Conversion, Waiting}
 use Rattle.vlm_records.specs.declared.handles.Place.{Place}
-use Rattle.vlm_records.specs.declared.handles.Place.TheVariants.{Loose, Queued}
+use Rattle.vlm_records.specs.declared.handles.Place.TheVariants.{Queued}
 use Rattle.vlm_store.specs.Records.{AreOwnApart, StoredProcess, Records, StoredLock, StoredResource, AreApart, AreOwned, AreProcessesApart, AreResourcesApart, HasPlace, HasResource, IsSound, Stores, at_after, disarmed, disarming, first_at, first_resource_at, resource_at_after, is_place, joining, leaving, locks_at, moving, on_resource, queued, resource_at, resource_with, with_lists, without_lock, without_resource}
 use Rattle.vlm_store.specs.Store.{Layout, under_handle, records_of, resource_of}
 use Rattle.vlm_records.proofs.Places.{place_cases}
@@ -128,9 +128,8 @@ module _ (old new : Layout) (change : Place → List StoredLock → List StoredL
   pub lists_changed_beside : new.order ≡ old.order → new.keys ≡ old.keys → records_of new ≡ record (with_lists change (records_of old)) { processes = new.processes; room = (records_of new).room }
   unfolding records_of
   lists_changed_beside order keys =
-      ap (λ x. record { resources = x; loose = map (under_handle new.rows) (new.handles Loose); processes = new.processes; room = new.room; keys = new.keys }) (ap (map (resource_of new)) order ∙ changed_resources old.order)
-      ∙ ap (λ x. record { resources = map (resource_with change) (map (resource_of old) old.order); loose = x; processes = new.processes; room = new.room; keys = new.keys }) (lists Loose)
-      ∙ ap (λ (h : HashKeys). record { resources = map (resource_with change) (map (resource_of old) old.order); loose = change Loose (map (under_handle old.rows) (old.handles Loose)); processes = new.processes; room = new.room; keys = h }) keys
+      ap (λ x. record { resources = x; processes = new.processes; room = new.room; keys = new.keys }) (ap (map (resource_of new)) order ∙ changed_resources old.order)
+      ∙ ap (λ (h : HashKeys). record { resources = map (resource_with change) (map (resource_of old) old.order); processes = new.processes; room = new.room; keys = h }) keys
 
   pub lists_changed : new.order ≡ old.order → new.processes ≡ old.processes → new.room ≡ old.room → new.keys ≡ old.keys → records_of new ≡ with_lists change (records_of old)
   unfolding records_of
@@ -168,11 +167,9 @@ HasResource-order l res found = resource_there l res l.order found
 
 -- the place is seen by a caller
 abbrev pub IsSeen : Layout → Place → Type 0
-IsSeen l Loose = Unit {0}
 IsSeen l (Queued res queue) = IsIn res l.order
 
 pub HasPlace-seen : (l : Layout) (p : Place) → HasPlace p (records_of l) → IsSeen l p
-HasPlace-seen l Loose has = tt
 HasPlace-seen l (Queued res queue) has = HasResource-order l res has
 
 -- the locks of a queue are those under its handles
@@ -184,7 +181,6 @@ queued-handles l Waiting r = refl
 -- the locks at a place
 pub locks_at-seen : (l : Layout) (p : Place) → IsSeen l p → locks_at p (records_of l) ≡ map (under_handle l.rows) (l.handles p)
 unfolding records_of
-locks_at-seen l Loose seen = refl
 locks_at-seen l (Queued res queue) seen = ap (λ o. option_map_or (queued queue) o []) (resource_found l res l.order seen) ∙ queued-handles l queue res
 
 in_cases : (at : ℕ) (ks : List ℕ) → IsIn at ks ⊎ (¬ IsIn at ks)
@@ -204,7 +200,6 @@ resource_none l res (r ∷ rs) absent = rw (ne_eqb r res (λ same. absent (inl s
 
 seen_cases : (l : Layout) (p : Place) → IsSeen l p ⊎ (locks_at p (records_of l) ≡ [])
 unfolding records_of
-seen_cases l Loose = inl tt
 seen_cases l (Queued res queue) =
     elim (in_cases res l.order) [
       | inl there ↦ inl there
@@ -232,7 +227,6 @@ Stores-listed l at row stored = (stored.0, locks_at-among l stored.0 (record { a
 
 -- a place where a lock stands is there
 pub HasPlace-among : (s : Records) (p : Place) (lock : StoredLock) → IsIn lock (locks_at p s) → HasPlace p s
-HasPlace-among s Loose lock among = tt
 HasPlace-among s (Queued res queue) lock among = of_found (resource_at res s.resources) among
   where
     of_found : (found : Option StoredResource) → IsIn lock (option_map_or (queued queue) found []) → IsSome found
@@ -294,10 +288,9 @@ pub resource_made : (old new : Layout) (res : ℕ) (made : StoredResource) → (
     → records_of new ≡ record (records_of old) { resources = (records_of old).resources ++ made ∷ []; room = (records_of new).room }
 unfolding records_of
 resource_made old new res made rows handles faces absent order is processes keys =
-    ap (λ x. record { resources = x; loose = map (under_handle new.rows) (new.handles Loose); processes = new.processes; room = new.room; keys = new.keys }) (ap (map (resource_of new)) order ∙ resources old.order absent)
-    ∙ ap (λ x. record { resources = map (resource_of old) old.order ++ made ∷ []; loose = x; processes = new.processes; room = new.room; keys = new.keys }) (list_same old new rows handles Loose)
-    ∙ ap (λ x. record { resources = map (resource_of old) old.order ++ made ∷ []; loose = map (under_handle old.rows) (old.handles Loose); processes = x; room = new.room; keys = new.keys }) processes
-    ∙ ap (λ (h : HashKeys). record { resources = map (resource_of old) old.order ++ made ∷ []; loose = map (under_handle old.rows) (old.handles Loose); processes = old.processes; room = new.room; keys = h }) keys
+    ap (λ x. record { resources = x; processes = new.processes; room = new.room; keys = new.keys }) (ap (map (resource_of new)) order ∙ resources old.order absent)
+    ∙ ap (λ x. record { resources = map (resource_of old) old.order ++ made ∷ []; processes = x; room = new.room; keys = new.keys }) processes
+    ∙ ap (λ (h : HashKeys). record { resources = map (resource_of old) old.order ++ made ∷ []; processes = old.processes; room = new.room; keys = h }) keys
   where
     resources : (rs : List ℕ) → ¬ IsIn res rs → map (resource_of new) (rs ++ res ∷ []) ≡ map (resource_of old) rs ++ made ∷ []
     resources [] absent = ap (λ x. x ∷ []) is
@@ -310,10 +303,9 @@ pub resource_removed : (old new : Layout) (res : ℕ) → ((k : ℕ) → new.row
     → records_of new ≡ record (records_of old) { resources = without_resource res (records_of old).resources; room = (records_of new).room }
 unfolding records_of
 resource_removed old new res rows handles faces order processes keys =
-    ap (λ x. record { resources = x; loose = map (under_handle new.rows) (new.handles Loose); processes = new.processes; room = new.room; keys = new.keys }) (ap (map (resource_of new)) order ∙ resources old.order)
-    ∙ ap (λ x. record { resources = without_resource res (map (resource_of old) old.order); loose = x; processes = new.processes; room = new.room; keys = new.keys }) (list_same old new rows handles Loose)
-    ∙ ap (λ x. record { resources = without_resource res (map (resource_of old) old.order); loose = map (under_handle old.rows) (old.handles Loose); processes = x; room = new.room; keys = new.keys }) processes
-    ∙ ap (λ (h : HashKeys). record { resources = without_resource res (map (resource_of old) old.order); loose = map (under_handle old.rows) (old.handles Loose); processes = old.processes; room = new.room; keys = h }) keys
+    ap (λ x. record { resources = x; processes = new.processes; room = new.room; keys = new.keys }) (ap (map (resource_of new)) order ∙ resources old.order)
+    ∙ ap (λ x. record { resources = without_resource res (map (resource_of old) old.order); processes = x; room = new.room; keys = new.keys }) processes
+    ∙ ap (λ (h : HashKeys). record { resources = without_resource res (map (resource_of old) old.order); processes = old.processes; room = new.room; keys = h }) keys
   where
     resources : (rs : List ℕ) → map (resource_of new) (without res rs) ≡ without_resource res (map (resource_of old) rs)
     resources [] = refl
@@ -332,11 +324,10 @@ pub resource_written : (old new : Layout) (res : ℕ) (change : StoredResource �
     → records_of new ≡ record (records_of old) { resources = on_resource res change (records_of old).resources }
 unfolding records_of
 resource_written old new res change rows handles faces order is processes room keys =
-    ap (λ x. record { resources = x; loose = map (under_handle new.rows) (new.handles Loose); processes = new.processes; room = new.room; keys = new.keys }) (ap (map (resource_of new)) order ∙ resources old.order)
-    ∙ ap (λ x. record { resources = on_resource res change (map (resource_of old) old.order); loose = x; processes = new.processes; room = new.room; keys = new.keys }) (list_same old new rows handles Loose)
-    ∙ ap (λ x. record { resources = on_resource res change (map (resource_of old) old.order); loose = map (under_handle old.rows) (old.handles Loose); processes = x; room = new.room; keys = new.keys }) processes
-    ∙ ap (λ x. record { resources = on_resource res change (map (resource_of old) old.order); loose = map (under_handle old.rows) (old.handles Loose); processes = old.processes; room = x; keys = new.keys }) room
-    ∙ ap (λ (h : HashKeys). record { resources = on_resource res change (map (resource_of old) old.order); loose = map (under_handle old.rows) (old.handles Loose); processes = old.processes; room = old.room; keys = h }) keys
+    ap (λ x. record { resources = x; processes = new.processes; room = new.room; keys = new.keys }) (ap (map (resource_of new)) order ∙ resources old.order)
+    ∙ ap (λ x. record { resources = on_resource res change (map (resource_of old) old.order); processes = x; room = new.room; keys = new.keys }) processes
+    ∙ ap (λ x. record { resources = on_resource res change (map (resource_of old) old.order); processes = old.processes; room = x; keys = new.keys }) room
+    ∙ ap (λ (h : HashKeys). record { resources = on_resource res change (map (resource_of old) old.order); processes = old.processes; room = old.room; keys = h }) keys
   where
     resources : (rs : List ℕ) → map (resource_of new) rs ≡ on_resource res change (map (resource_of old) rs)
     resources [] = refl

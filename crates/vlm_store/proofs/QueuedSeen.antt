@@ -7,7 +7,7 @@ use Rattle.vlm_links.specs.Lists.{IsApart, IsIn, first_handle, handle_after}
 use Rattle.vlm_links.proofs.Walks.{handle_after-in}
 use Rattle.vlm_words.specs.declared.resources.Queue.TheVariants.{Granted, Conversion, Waiting}
 use Rattle.vlm_records.specs.declared.handles.Place.{Place}
-use Rattle.vlm_records.specs.declared.handles.Place.TheVariants.{Loose, Queued}
+use Rattle.vlm_records.specs.declared.handles.Place.TheVariants.{Queued}
 use Rattle.vlm_records.specs.declared.locks.Lock.{Lock}
 use Rattle.vlm_records.specs.Line.{is_queued, line_handles, line_in, queued_line}
 use Rattle.vlm_records.proofs.Lining.{queued_noted}
@@ -61,14 +61,12 @@ listed_at None is = absurd (none-some tt is)
 listed_at (Some l) is = (l.place, (refl, of_place l.place is))
   where
     of_place : (place : Place) → queued_line place ≡ Some tt → is_queued place ≡ true
-    of_place Loose is = absurd (none-some tt is)
     of_place (Queued res Granted) is = absurd (none-some tt is)
     of_place (Queued res Conversion) is = refl
     of_place (Queued res Waiting) is = refl
 
 module _ (s : Inside) (kept : IsKept s) where
   seen : (place : Place) → IsThere s.queues.resources place → IsSeen (tables s.queues s.order (beside_shown s)) place
-  seen Loose there = tt
   seen (Queued res queue) there = kept.ordered res there
 
   -- one of the list is queued, as a caller sees it

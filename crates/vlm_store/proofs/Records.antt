@@ -8,8 +8,8 @@ use Rattle.vlm_words.specs.declared.resources.Queue.{Queue}
 use Rattle.vlm_words.specs.declared.resources.Queue.TheVariants.{Granted, Conversion, Waiting}
 use Rattle.vlm_links.specs.Lists.{IsIn}
 use Rattle.vlm_records.specs.declared.handles.Place.{Place}
-use Rattle.vlm_records.specs.declared.handles.Place.TheVariants.{Loose, Queued}
-use Rattle.vlm_store.specs.Records.{AreResourcesApart, IsSound, Records, StoredLock, StoredResource, is_place, is_queue, joined_by, joining, locks_at, moving, on_resource, queued, resource_at, resource_with, with_lists, without_lock}
+use Rattle.vlm_records.specs.declared.handles.Place.TheVariants.{Queued}
+use Rattle.vlm_store.specs.Records.{AreResourcesApart, IsSound, Records, StoredLock, StoredResource, is_place, is_queue, joined_by, joining, locks_at, on_resource, queued, resource_at, resource_with, with_lists, without_lock}
 
 -- ---- places
 
@@ -30,13 +30,9 @@ is_queue-other Waiting Conversion differs = refl
 is_queue-other Waiting Waiting differs = absurd (differs refl)
 
 pub is_place-same : (p : Place) → is_place p p ≡ true
-is_place-same Loose = refl
 is_place-same (Queued r q) = rw (eq-eqb r r refl, is_queue-same q) refl
 
 pub is_place-other : (p q : Place) → p ≢ q → is_place p q ≡ false
-is_place-other Loose Loose differs = absurd (differs refl)
-is_place-other Loose (Queued b q) differs = refl
-is_place-other (Queued a p) Loose differs = refl
 is_place-other (Queued a p) (Queued b q) differs =
     elim (cases_eq a b) [
       | inl same ↦ rw (eq-eqb a b same, is_queue-other p q (λ e. differs (cc))) refl
@@ -108,21 +104,3 @@ module _ (lock : StoredLock) (res : ℕ) (to : Queue) where
   pub joins_queue : (s : Records) → with_lists (joining (Queued res to) lock) s ≡ record s { resources = on_resource res (joined_by to lock) s.resources }
   joins_queue s =
       ap (λ x. record s { resources = x }) (map_on (resource_with (joining (Queued res to) lock)) (λ x. cond (x.at == res) (joined_by to lock x) x) s.resources (λ x _. joins_one x))
-
-module _ (s : Records) (sound : IsSound s) (at : ℕ) (was row : Row) (stands : IsIn (record { at = at; row = was }) s.loose) (res : ℕ) (to : Queue) where
-  -- so does a loose one
-  joins : (x : StoredResource) → IsIn x s.resources
-      → resource_with (moving (Queued res to) (record { at = at; row = row })) x ≡ cond (x.at == res) (joined_by to (record { at = at; row = row }) x) x
-  joins x among =
-      let kept = queue_without s sound at x among (λ queue other found. no_queue x.at queue (sound.one_place at other was (Queued x.at queue) Loose found stands)) in
-      rw (kept Granted, kept Conversion, kept Waiting) (joins_one (record { at = at; row = row }) res to x)
-    where
-      no_queue : (at : ℕ) (queue : Queue) → Queued at queue ≢ Loose
-      no_queue at queue same = cc
-
-  -- it joins the queue of its resource, and nothing else changes
-  pub loose_joins : with_lists (moving (Queued res to) (record { at = at; row = row })) s
-      ≡ record s { resources = on_resource res (joined_by to (record { at = at; row = row })) s.resources; loose = without_lock at s.loose }
-  loose_joins =
-      ap (λ x. record s { resources = x; loose = without_lock at s.loose })
-      (map_on (resource_with (moving (Queued res to) (record { at = at; row = row }))) (λ x. cond (x.at == res) (joined_by to (record { at = at; row = row }) x) x) s.resources joins)

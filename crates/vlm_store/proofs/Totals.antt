@@ -1,4 +1,4 @@
--- As many locks stand in the queues, and loose, as the slab has.
+-- As many locks stand in the queues as the slab has.
 use Rattle.std.proofs.Common.{◌⊎◌, ◌≡◌, ◌≢◌, ◌+◌, ℕ, zero, suc, Bool, true, false, cond, List, [], ◌∷◌, ◌++◌, map, length, length-append, get_or, set, Option, None, Some, inl, inr, refl, sym, subst, ◌∙◌, arith}
 use Rattle.std.specs.Prelude.{◌==◌, is_some, IsSome, count_by}
 use Rattle.std.specs.List.{flat_map, sum_by}
@@ -11,7 +11,7 @@ use Rattle.vlm_links.specs.Lists.{IsApart, IsIn, IsLinked, handles_of}
 use Rattle.vlm_words.specs.declared.resources.Queue.{Queue}
 use Rattle.vlm_words.specs.declared.resources.Queue.TheVariants.{Granted, Conversion, Waiting}
 use Rattle.vlm_records.specs.declared.handles.Place.{Place}
-use Rattle.vlm_records.specs.declared.handles.Place.TheVariants.{Loose, Queued}
+use Rattle.vlm_records.specs.declared.handles.Place.TheVariants.{Queued}
 use Rattle.vlm_records.specs.declared.queues.Queues.{Queues}
 use Rattle.vlm_records.specs.declared.resources.InOrder.{InOrder}
 use Rattle.vlm_store.specs.Records.{StoredResource}
@@ -167,16 +167,6 @@ module _ (handles : Place → List ℕ) where
         apart_parts (of_resource r) (of_all rest) (resource_apart r) (all_apart rest apart.1)
         (λ k first second. let found = in_all rest k second in apart.0 (subst (λ n. IsIn n rest) (same_resource k found.0 r found.1.1 first) found.1.0))
 
-    -- with those that are loose
-    with_loose : (order : List ℕ) → IsApart order → IsApart (of_all order ++ handles Loose)
-    with_loose order apart =
-        apart_parts (of_all order) (handles Loose) (all_apart order apart) (each Loose)
-        (λ k first second.
-        let found = in_all order k first in
-        let queued = in_resource found.0 k found.1.1 in
-        let same : Queued found.0 queued.0 ≡ Loose = one k (Queued found.0 queued.0) Loose queued.1 second in
-        cc)
-
 -- ---- what a caller sees
 
 shown_length : (l : Layout) (order : List ℕ)
@@ -195,45 +185,33 @@ shown_length l (r ∷ rest) =
       length-append (l.handles (Queued r Conversion)) (l.handles (Queued r Waiting)),
     )
 
-total_shown : (l : Layout) → lock_total (records_of l) ≡ length (of_all l.handles l.order ++ l.handles Loose)
+total_shown : (l : Layout) → lock_total (records_of l) ≡ length (of_all l.handles l.order)
 unfolding records_of
-total_shown l =
-    omega (
-      arith,
-      shown_length l l.order,
-      length-append (of_all l.handles l.order) (l.handles Loose),
-      length-map (l.handles Loose) (under_handle l.rows),
-    )
+total_shown l = shown_length l l.order
 
 module _ (q : Queues) (order : LinkedList InOrder) (beside : Beside) (placed : IsPlaced q None) (linked : IsLinked order_links q.resources order)
     (ordered : (r : ℕ) → ContainsKey q.resources r → IsIn r (handles_of order_links q.resources order)) where
   abbrev in_order : List ℕ
   in_order = handles_of order_links q.resources order
 
-  there : (k : ℕ) → IsIn k (of_all (handles_at q) in_order ++ handles_at q Loose) → ContainsKey q.locks k
+  there : (k : ℕ) → IsIn k (of_all (handles_at q) in_order) → ContainsKey q.locks k
   there k among =
-      elim (in_parts (of_all (handles_at q) in_order) (handles_at q Loose) k among) [
-        | inl first ↦
-            let found = in_all (handles_at q) in_order k first in
-            let queued = in_resource (handles_at q) found.0 k found.1.1 in
-            (placed.linked (Queued found.0 queued.0)).present k queued.1
-        | inr loose ↦ (placed.linked Loose).present k loose
-      ]
+      let found = in_all (handles_at q) in_order k among in
+      let queued = in_resource (handles_at q) found.0 k found.1.1 in
+      (placed.linked (Queued found.0 queued.0)).present k queued.1
 
-  all : (k : ℕ) → ContainsKey q.locks k → IsIn k (of_all (handles_at q) in_order ++ handles_at q Loose)
+  all : (k : ℕ) → ContainsKey q.locks k → IsIn k (of_all (handles_at q) in_order)
   all k is =
       let place = noted_there (get q.locks k) is in
       of_place place.0 (placed.stands place.0 k (λ e. none-some k (sym e)) place.1)
     where
-      of_place : (p : Place) → IsIn k (handles_at q p) → IsIn k (of_all (handles_at q) in_order ++ handles_at q Loose)
-      of_place Loose stands = in_second (of_all (handles_at q) in_order) (handles_at q Loose) k stands
+      of_place : (p : Place) → IsIn k (handles_at q p) → IsIn k (of_all (handles_at q) in_order)
       of_place (Queued r queue) stands =
-          in_first (of_all (handles_at q) in_order) (handles_at q Loose) k
-          (all_in (handles_at q) in_order r k (ordered r (stands_there q (Queued r queue) k stands)) (resource_in (handles_at q) r k queue stands))
+          all_in (handles_at q) in_order r k (ordered r (stands_there q (Queued r queue) k stands)) (resource_in (handles_at q) r k queue stands)
 
   -- as many locks are seen as the slab has
   pub all_counted : lock_total (records_of (tables q order beside)) ≡ slab_len q.locks
   all_counted =
       total_shown (tables q order beside)
-      ∙ as_many (of_all (handles_at q) in_order ++ handles_at q Loose) q.locks.slots
-      (with_loose (handles_at q) (λ p. (placed.linked p).apart) (one_place q None placed) in_order linked.apart) there all
+      ∙ as_many (of_all (handles_at q) in_order) q.locks.slots
+      (all_apart (handles_at q) (λ p. (placed.linked p).apart) (one_place q None placed) in_order linked.apart) there all

@@ -9,9 +9,9 @@ use Rattle.vlm_words.specs.declared.steps.Declaration.{Declaration}
 use Rattle.vlm_words.specs.declared.resources.Queue.TheVariants.{Granted, Conversion, Waiting}
 use Rattle.vlm_words.specs.declared.resources.Site.{Site}
 use Rattle.vlm_records.specs.declared.handles.Place.{Place}
-use Rattle.vlm_records.specs.declared.handles.Place.TheVariants.{Loose, Queued}
+use Rattle.vlm_records.specs.declared.handles.Place.TheVariants.{Queued}
 use Rattle.vlm_store.specs.Records.{HasProcess, HasResource, OwnLock, StoredProcess, Stores, new_own, new_stored_process, process_at, process_with_lock, process_without_lock, with_new_lock, with_sublock, without_process, without_stored_lock, without_sublock, IsSound, IsStored, Records, StoredLock, StoredResource, is_place, joining, leaving, new_stored_resource, resource_at, resource_with, without_lock, without_resource}
-use Rattle.vlm_store.proofs.Records.{queue_without, without_absent}
+use Rattle.vlm_store.proofs.Records.{queue_without}
 
 without_last : (at : ℕ) (row : Row) (locks : List StoredLock) → without_lock at (locks ++ record { at = at; row = row } ∷ []) ≡ without_lock at locks
 without_last at row [] = rw (eq-eqb at at refl) refl
@@ -112,8 +112,6 @@ module _ (s : Records) (at : ℕ) (sound : IsSound s) (absent : ¬ IsStored at s
   pub lock_undone : (row : Row) (owner : ℕ) (parent : Option ℕ) (to : Place) → without_stored_lock at (with_new_lock at row owner parent to s) ≡ s
   lock_undone row owner parent to =
       ap (λ x. record (without_stored_lock at (with_new_lock at row owner parent to s)) { resources = x }) (resources_same row to s.resources (λ r here. here))
-      ∙ ap (λ x. record (without_stored_lock at (with_new_lock at row owner parent to s)) { resources = s.resources; loose = x })
-      (left_joined row to Loose s.loose ∙ without_absent at s.loose (λ r found. absent (r, (Loose, found))))
       ∙ ap (λ x. record s { processes = x }) (each s.processes (λ p here. here))
     where
       each : (ps : List StoredProcess) → ((p : StoredProcess) → IsIn p ps → IsIn p s.processes) → map (process_without_lock at) (map (process_with_lock owner parent at) ps) ≡ ps

@@ -20,7 +20,7 @@ use Rattle.vlm_words.specs.ValueBlocks.{new_value_block}
 use Rattle.vlm_words.specs.declared.resources.Key.{Key}
 use Rattle.vlm_words.specs.declared.resources.Site.{Site}
 use Rattle.vlm_records.specs.declared.handles.Place.{Place}
-use Rattle.vlm_records.specs.declared.handles.Place.TheVariants.{Loose, Queued}
+use Rattle.vlm_records.specs.declared.handles.Place.TheVariants.{Queued}
 use Rattle.vlm_records.specs.declared.processes.Authorization.{Authorization}
 use Rattle.vlm_words.specs.declared.resources.ValueBlock.{ValueBlock}
 
@@ -67,11 +67,10 @@ pub record Rooms : Type 0 where
   pub resources : Room
   pub processes : Room
 
--- the resources in order of making, the locks that stand in no queue for the moment, the processes in order of
--- making, what room there is for more, and how the index hashes a key
+-- the resources in order of making, the processes in order of making, what room there is for more, and how the index
+-- hashes a key
 pub record Records : Type 0 where
   pub resources : List StoredResource
-  pub loose : List StoredLock
   pub processes : List StoredProcess
   pub room : Rooms
   pub keys : HashKeys
@@ -82,7 +81,7 @@ no_room = record { slots = 0; next_handle = 0; finds = 0 }
 
 -- nothing is stored
 abbrev pub nothing : HashKeys → Records
-nothing keys = record { resources = []; loose = []; processes = []; room = record { locks = no_room; resources = no_room; processes = no_room }; keys = keys }
+nothing keys = record { resources = []; processes = []; room = record { locks = no_room; resources = no_room; processes = no_room }; keys = keys }
 
 -- a resource at its making
 abbrev pub new_stored_resource : ℕ → ℕ → Site → StoredResource
@@ -112,14 +111,12 @@ resource_at res resources = find (λ r. r.at == res) resources
 abbrev pub HasResource : ℕ → Records → Type 0
 HasResource res s = IsSome (resource_at res s.resources)
 
--- the place is there, if it is a queue
+-- the resource of the place is there
 abbrev pub HasPlace : Place → Records → Type 0
-HasPlace Loose s = Unit {0}
 HasPlace (Queued res queue) s = HasResource res s
 
 -- the locks at a place, the first in line first
 abbrev pub locks_at : Place → Records → List StoredLock
-locks_at Loose s = s.loose
 locks_at (Queued res queue) s = option_map_or (queued queue) (resource_at res s.resources) []
 
 -- a lock with this handle and row stands somewhere
@@ -172,9 +169,6 @@ is_queue Waiting Waiting = true
 
 -- the same place
 abbrev pub is_place : Place → Place → Bool
-is_place Loose Loose = true
-is_place Loose (Queued b q) = false
-is_place (Queued a p) Loose = false
 is_place (Queued a p) (Queued b q) = (a == b) && is_queue p q
 
 -- the list but for the lock of this handle
@@ -191,7 +185,7 @@ resource_with change r = record r {
 
 -- the records, each list of locks changed
 abbrev pub with_lists : (Place → List StoredLock → List StoredLock) → Records → Records
-with_lists change s = record s { resources = map (resource_with change) s.resources; loose = change Loose s.loose }
+with_lists change s = record s { resources = map (resource_with change) s.resources }
 
 -- a change of lists: the lock of this handle leaves its own
 abbrev pub leaving : ℕ → Place → List StoredLock → List StoredLock
@@ -361,7 +355,6 @@ with_new_lock at row owner parent to s =
 abbrev pub without_stored_lock : ℕ → Records → Records
 without_stored_lock at s = record s {
   resources = map (resource_with (leaving at)) s.resources;
-  loose = leaving at Loose s.loose;
   processes = map (process_without_lock at) s.processes;
 }
 
@@ -403,9 +396,9 @@ owned_among pid locks = count_by (λ k. k.row.pid == pid) locks
 abbrev pub owned_on : ℕ → StoredResource → ℕ
 owned_on pid r = owned_among pid r.granted + owned_among pid r.converting + owned_among pid r.waiting
 
--- how many locks the process has, in whichever queue or in none
+-- how many locks the process has
 abbrev pub owned_by : ℕ → Records → ℕ
-owned_by pid s = sum_by (owned_on pid) s.resources + owned_among pid s.loose
+owned_by pid s = sum_by (owned_on pid) s.resources
 
 -- the process of this handle has no lock
 abbrev pub HasNoLocks : ℕ → Records → Type 0
@@ -419,7 +412,6 @@ but_notices p = record p { process = record p.process { blocks = []; asts = [] }
 -- status blocks are written, ASTs are owed, queued, forgiven or taken, and nothing else
 pub record SameButNotices (old new : Records) : Type 0 where
   pub resources : new.resources ≡ old.resources
-  pub loose : new.loose ≡ old.loose
   pub processes : map but_notices new.processes ≡ map but_notices old.processes
   pub room : new.room ≡ old.room
   pub keys : new.keys ≡ old.keys

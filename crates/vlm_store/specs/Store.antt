@@ -9,7 +9,7 @@ use Rattle.vlm_words.specs.declared.locks.Row.{Row}
 use Rattle.vlm_words.specs.declared.resources.Queue.TheVariants.{Granted, Conversion, Waiting}
 use Rattle.vlm_words.specs.declared.resources.Key.{Key}
 use Rattle.vlm_records.specs.declared.handles.Place.{Place}
-use Rattle.vlm_records.specs.declared.handles.Place.TheVariants.{Loose, Queued}
+use Rattle.vlm_records.specs.declared.handles.Place.TheVariants.{Queued}
 use Rattle.vlm_records.specs.declared.queues.Queues.{Queues}
 use Rattle.vlm_records.specs.declared.resources.InOrder.{InOrder}
 use Rattle.vlm_store.specs.Records.{Records, Room, Rooms, StoredLock, StoredProcess, StoredResource}
@@ -58,7 +58,6 @@ resource_of l r = record {
 unfoldable pub records_of : Layout → Records
 records_of l = record {
   resources = map (resource_of l) l.order;
-  loose = map (under_handle l.rows) (l.handles Loose);
   processes = l.processes;
   room = l.room;
   keys = l.keys;

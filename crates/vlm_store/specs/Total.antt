@@ -4,4 +4,4 @@ use Rattle.vlm_store.specs.Records.{Records}
 
 -- how many locks there are
 abbrev pub lock_total : Records → ℕ
-lock_total s = sum_by (λ r. length r.granted + length r.converting + length r.waiting) s.resources + length s.loose
+lock_total s = sum_by (λ r. length r.granted + length r.converting + length r.waiting) s.resources

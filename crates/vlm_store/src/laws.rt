@@ -6,9 +6,8 @@ ghost use Rattle.vlm_words.specs.declared.locks.Row.{Row};
 ghost use Rattle.vlm_words.specs.declared.resources.Queue.{Queue};
 ghost use Rattle.vlm_words.specs.declared.resources.Site.{Site};
 ghost use Rattle.vlm_words.specs.declared.steps.Declaration.{Declaration};
-ghost use Rattle.vlm_links.specs.Lists.{IsIn};
 ghost use Rattle.vlm_records.specs.declared.handles.Place.{Place};
-ghost use Rattle.vlm_store.specs.Records.{Records, HasProcess, HasResource, IsSound, IsStored, joined_by, moving, new_stored_resource, new_stored_process, on_resource, process_with_lock, with_lists, with_new_lock, without_lock, without_process, without_resource, without_stored_lock};
+ghost use Rattle.vlm_store.specs.Records.{Records, HasProcess, HasResource, IsSound, IsStored, joined_by, new_stored_resource, new_stored_process, on_resource, process_with_lock, with_new_lock, without_process, without_resource, without_stored_lock};
 
 use crate::store::Store;
 
@@ -44,16 +43,5 @@ pub fn law_a_new_lock_joins_one_queue()
         ≡ record s {
           resources = on_resource res (joined_by queue (record { at = at; row = row })) s.resources;
           processes = map (process_with_lock owner parent at) s.processes;
-        } }
-{}
-
-/// A loose lock that moves to a queue joins it at the end, and no other list changes.
-pub fn law_a_loose_lock_joins_one_queue()
-    ensures { (s : Records) (at : ℕ) (row : Row) (res : ℕ) (queue : Queue) → IsSound s
-        → IsIn (record { at = at; row = row }) s.loose
-        → with_lists (moving (Place.Queued res queue) (record { at = at; row = row })) s
-        ≡ record s {
-          resources = on_resource res (joined_by queue (record { at = at; row = row })) s.resources;
-          loose = without_lock at s.loose;
         } }
 {}

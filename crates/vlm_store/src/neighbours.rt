@@ -62,16 +62,6 @@ impl Store {
         Some(LockAt::of(at))
     }
 
-    /// The handle of the last lock that was made under this one, of those that are there, if there are any.
-    pub fn last_sublock(&self, lock: LockAt) -> Option<LockAt>
-        requires { IsStored lock self.now }
-        ensures { result ≡ last_handle (sublocks_at lock self.now) }
-    {
-        let sublocks = self.queues.locks[lock.slot()].sublocks;
-        let at = sublocks.last(&self.queues.locks)?;
-        Some(LockAt::of(at))
-    }
-
     /// The handle of the lock that was made next after this one under the same parent, if there is one.
     pub fn next_sublock(&self, lock: LockAt) -> Option<LockAt>
         requires { IsStored lock self.now }
@@ -84,21 +74,6 @@ impl Store {
         };
         let sublocks = self.queues.locks[parent.slot()].sublocks;
         let at = sublocks.next(&self.queues.locks, lock.slot())?;
-        Some(LockAt::of(at))
-    }
-
-    /// The handle of the lock that was made last before this one under the same parent, if there is one.
-    pub fn previous_sublock(&self, lock: LockAt) -> Option<LockAt>
-        requires { IsStored lock self.now }
-        ensures before { (parent : ℕ) → IsIn lock (sublocks_at parent self.now)
-            → result ≡ handle_before lock (sublocks_at parent self.now) }
-        ensures root { HasNoParent lock self.now → result ≡ None }
-    {
-        let Some(parent) = self.queues.locks[lock.slot()].parent else {
-            return None;
-        };
-        let sublocks = self.queues.locks[parent.slot()].sublocks;
-        let at = sublocks.previous(&self.queues.locks, lock.slot())?;
         Some(LockAt::of(at))
     }
 }

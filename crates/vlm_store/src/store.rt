@@ -105,7 +105,6 @@ impl Store {
             queues: Queues {
                 locks: Slab::new(alloc),
                 resources: Slab::new(alloc),
-                loose: LinkedList::new(),
             },
             line: LinkedList::new(),
             order: LinkedList::new(),
@@ -205,15 +204,15 @@ impl Store {
 
     /// Takes a lock from where it stands, writes what it holds and wants, and puts it at the end of the
     /// list of a place.
-    pub fn move_lock(&mut self, lock: LockAt, row: StoredRow, to: Place)
-        requires lock { IsRowOf lock row self.old }
+    pub fn move_lock(&mut self, lock: LockAt, row: &StoredRow, to: Place)
+        requires lock { IsRowOf lock row.now self.old }
         requires there { HasPlace to self.old }
-        ensures { self.new ≡ with_lists (moving to (record { at = lock; row = row })) self.old }
+        ensures { self.new ≡ with_lists (moving to (record { at = lock; row = row.now })) self.old }
     {
         let at = lock.slot();
         let from = self.queues.locks[at].place;
         leave_line(&mut self.queues.locks, &mut self.line, at, &from);
-        self.queues.move_to(at, &row, to);
+        self.queues.move_to(at, row, to);
         join_line(&mut self.queues.locks, &mut self.line, at, &to);
     }
 

@@ -12,7 +12,7 @@ returns-in-Some c =
     let found = c.in-Some.ensures.found in
     record {
       parent = c.parent.ensures ∙ sym (ap (λ n. parent_of n (plain_resources s)) (sym found.1.1)
-          ∙ parent_named s c.in-Some.ensures.sound c.requires.rest.none_loose c.in-Some.lock found.0 found.1.0
+          ∙ parent_named s c.in-Some.ensures.sound c.in-Some.lock found.0 found.1.0
           ∙ ap (λ (x : Row). x.parent) (c.lock_record.ensures.only found.0 found.1.0));
     }
 

@@ -43,5 +43,5 @@ returns-in-None-clause-due c row then more =
     let s = c.args.store.now in
     let is = made_is e c.add_resource_reserved.result s c.add_resource_reserved.new.self c.add_resource_reserved.ensures.added in
     due_with_resource (new_stored_resource c.add_resource_reserved.result e.serial e.site) (λ pid. refl) s row c.add_resource_reserved.new.self then
-    (ap (λ (x : Records). x.resources) is) (ap (λ (x : Records). x.loose) is) (ap (λ (x : Records). x.processes) is)
+    (ap (λ (x : Records). x.resources) is) (ap (λ (x : Records). x.processes) is)
     more

@@ -1,10 +1,10 @@
-use Rattle.std.proofs.Common.{◌≡◌, ℕ, [], true, is_some, sym, ap, ◌∙◌, subst}
+use Rattle.std.proofs.Common.{◌≡◌, ℕ, true, is_some, sym, ap, ◌∙◌, subst}
 use Rattle.std.specs.List.{list_any}
 use Rattle.vlm_words.specs.declared.locks.Row.{Row}
 use Rattle.vlm_words.specs.Checks.{holds_lock}
 use Rattle.vlm_links.specs.Lists.{IsIn}
 use Rattle.vlm_records.specs.declared.handles.Place.{Place}
-use Rattle.vlm_records.specs.declared.handles.Place.TheVariants.{Loose, Queued}
+use Rattle.vlm_records.specs.declared.handles.Place.TheVariants.{Queued}
 use Rattle.vlm_store.specs.Plain.{plain_resources}
 use Rattle.vlm_store.specs.Records.{IsProcess, IsSound, Records, Stores, locks_at}
 use Rattle.vlm_locks.proofs.Held.{none_held, some_held, stands_queued}
@@ -17,12 +17,11 @@ returns-in_err-lock-clause-held c =
     ap is_some c.from_residual.ensures
     ∙ sym (none_held c.args.store.now c.in_err-lock.ensures.sound c.args.pid c.args.lkid (λ at row stored same. absurd (c.in_err-lock.ensures.found at row stored same)))
 
--- where no lock is loose, one that is stored is held by its process
-held_by : (s : Records) → IsSound s → s.loose ≡ [] → (at owner : ℕ) (row : Row) → Stores s at row → IsProcess owner row.pid s → list_any (holds_lock row.pid row.lkid) (plain_resources s) ≡ true
-held_by s sound none_loose at owner row stored owned = of_place stored.0 stored.1
+-- a stored lock is held by its process
+held_by : (s : Records) → IsSound s → (at owner : ℕ) (row : Row) → Stores s at row → IsProcess owner row.pid s → list_any (holds_lock row.pid row.lkid) (plain_resources s) ≡ true
+held_by s sound at owner row stored owned = of_place stored.0 stored.1
   where
     of_place : (place : Place) → IsIn (record { at = at; row = row }) (locks_at place s) → list_any (holds_lock row.pid row.lkid) (plain_resources s) ≡ true
-    of_place Loose among = absurd (subst (IsIn (record { at = at; row = row })) none_loose among)
     of_place (Queued res queue) among =
         some_held s sound (record { lock = at; owner = owner; row = row; res = res; queue = queue }) (stands_queued s (record { lock = at; owner = owner; row = row; res = res; queue = queue }) among owned)
 
@@ -32,7 +31,7 @@ returns-then-pid-clause-held c =
     let s = c.args.store.now in
     let found = c.in_ok-lock.ensures.found in
     let owned : found.0.pid ≡ c.args.pid = ap (λ (x : Row). x.pid) (c.lock_record.ensures.only found.0 found.1.0) ∙ sym c.pid.ensures ∙ c.if-pid.true in
-    let held = held_by s c.in_ok-lock.ensures.sound c.requires.none_loose c.in_ok-lock.lock c.lock_record.result.now.owner found.0 found.1.0
+    let held = held_by s c.in_ok-lock.ensures.sound c.in_ok-lock.lock c.lock_record.result.now.owner found.0 found.1.0
     (owner_is s c.lock_record.result.now.owner c.lock_record.result.now.row found.0 (c.lock_record.ensures.only found.0 found.1.0) c.lock_record.ensures.owner) in
     sym (rw (owned, found.1.1) at held)
 

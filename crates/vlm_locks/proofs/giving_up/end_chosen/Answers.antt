@@ -55,7 +55,7 @@ end_notices-requires-clause-granted c is =
     let f = c.standing_of-standing.result in
     let lock : StoredLock = record { at = f.lock; row = f.row } in
     c.requires.granted f.res lock
-    (stands_alike f.lock f.row c.loop-next.store c.args.store.now (sym c.loop-next.invariant.only_notices.resources) (sym c.loop-next.invariant.only_notices.loose) (Queued f.res Granted)
+    (stands_alike f.lock f.row c.loop-next.store c.args.store.now (sym c.loop-next.invariant.only_notices.resources) (Queued f.res Granted)
     (subst (λ queue. IsIn lock (locks_at (Queued f.res queue) c.loop-next.store)) is
     (stands c.loop-next.store f c.standing_of-standing.ensures.standing)))
 
@@ -66,10 +66,10 @@ next_own-next-requires c =
     let same : SameButNotices c.loop-next.store c.if-is_chosen.store =
     elim c.if-is_chosen.branch [
       | then-is_chosen w ↦ subst (SameButNotices c.loop-next.store) (sym w.store-is) w.end_notices.ensures.only_notices
-      | else-is_chosen w ↦ subst (SameButNotices c.loop-next.store) (sym w.store-is) (record { resources = refl; loose = refl; processes = refl; room = refl; keys = refl })
+      | else-is_chosen w ↦ subst (SameButNotices c.loop-next.store) (sym w.store-is) (record { resources = refl; processes = refl; room = refl; keys = refl })
     ] in
     let stored = lock_stored c.args.choice c.args.invalidates c.args.owner c.args.pid c.args.store.now c.loop-next.store c.in-Some.lock so_far c.law_records_are_sound.ensures c.requires.owner c.requires.rest in
-    (stored.0, (stored.1.0, stands_alike c.in-Some.lock stored.0 c.loop-next.store c.if-is_chosen.store same.resources same.loose stored.1.0 stored.1.1))
+    (stored.0, (stored.1.0, stands_alike c.in-Some.lock stored.0 c.loop-next.store c.if-is_chosen.store same.resources stored.1.0 stored.1.1))
 
 pub loop-next-smaller : goal.loop-next-smaller
 loop-next-smaller c =
@@ -78,7 +78,7 @@ loop-next-smaller c =
     let same : SameButNotices c.loop-next.store c.if-is_chosen.store =
     elim c.if-is_chosen.branch [
       | then-is_chosen w ↦ subst (SameButNotices c.loop-next.store) (sym w.store-is) w.end_notices.ensures.only_notices
-      | else-is_chosen w ↦ subst (SameButNotices c.loop-next.store) (sym w.store-is) (record { resources = refl; loose = refl; processes = refl; room = refl; keys = refl })
+      | else-is_chosen w ↦ subst (SameButNotices c.loop-next.store) (sym w.store-is) (record { resources = refl; processes = refl; room = refl; keys = refl })
     ] in
     let next = next_is c.args.choice c.args.invalidates c.args.owner c.args.pid c.args.store.now c.loop-next.store c.in-Some.lock so_far c.law_records_are_sound.ensures c.requires.owner c.requires.rest c.if-is_chosen.store c.law_records_are_sound-in-Some-2.ensures same c.next_own-next.result c.next_own-next.ensures in
     omega (
@@ -94,7 +94,7 @@ loop-next-preserved c =
     let same : SameButNotices c.loop-next.store c.if-is_chosen.store =
     elim c.if-is_chosen.branch [
       | then-is_chosen w ↦ subst (SameButNotices c.loop-next.store) (sym w.store-is) w.end_notices.ensures.only_notices
-      | else-is_chosen w ↦ subst (SameButNotices c.loop-next.store) (sym w.store-is) (record { resources = refl; loose = refl; processes = refl; room = refl; keys = refl })
+      | else-is_chosen w ↦ subst (SameButNotices c.loop-next.store) (sym w.store-is) (record { resources = refl; processes = refl; room = refl; keys = refl })
     ] in
     let next = next_is c.args.choice c.args.invalidates c.args.owner c.args.pid c.args.store.now c.loop-next.store c.in-Some.lock so_far c.law_records_are_sound.ensures c.requires.owner c.requires.rest c.if-is_chosen.store c.law_records_are_sound-in-Some-2.ensures same c.next_own-next.result c.next_own-next.ensures in
     let f = c.standing_of-standing.result in

@@ -34,4 +34,4 @@ returns-clause-loses c =
     let s = c.args.store.now in
     let f = c.args.standing.now in
     weighs_gone s c.law_records_are_sound.ensures f.lock f.row (stored s f c.requires.standing) c.remove_lock.new.self
-    (ap (λ (x : Records). x.resources) c.remove_lock.ensures.removed) (ap (λ (x : Records). x.loose) c.remove_lock.ensures.removed)
+    (ap (λ (x : Records). x.resources) c.remove_lock.ensures.removed)

@@ -19,7 +19,7 @@ push_at-requires-clause-placed c =
     let q1 : Queues = record q { locks = c.insert_reserved-at.new.self } in
     added_placed q q1 c.insert_reserved-at.result _ c.insert_reserved-at.ensures.updates c.requires.laid_out.placed.linked
     (λ p. vacant_unlisted queue_links q.locks (list_at q p) (c.requires.laid_out.placed.linked p) c.insert_reserved-at.result c.insert_reserved-at.ensures.was_vacant)
-    (lists_same q q1 refl refl) c.requires.laid_out.placed
+    (lists_same q q1 refl) c.requires.laid_out.placed
 
 pub count_in-requires-clause-tallied : goal.count_in-requires-clause-tallied
 count_in-requires-clause-tallied c =
@@ -27,13 +27,13 @@ count_in-requires-clause-tallied c =
     let at = c.insert_reserved-at.result in
     let q1 : Queues = record q { locks = c.insert_reserved-at.new.self } in
     let unlisted : (p : Place) → ¬ IsIn at (handles_at q p) = λ p. vacant_unlisted queue_links q.locks (list_at q p) (c.requires.laid_out.placed.linked p) at c.insert_reserved-at.ensures.was_vacant in
-    let placed1 = added_placed q q1 at _ c.insert_reserved-at.ensures.updates c.requires.laid_out.placed.linked unlisted (lists_same q q1 refl refl) c.requires.laid_out.placed in
-    let tallied1 = added_tallied q q1 at _ c.insert_reserved-at.ensures.updates c.requires.laid_out.placed.linked unlisted (lists_same q q1 refl refl) refl c.requires.laid_out.tallied in
+    let placed1 = added_placed q q1 at _ c.insert_reserved-at.ensures.updates c.requires.laid_out.placed.linked unlisted (lists_same q q1 refl) c.requires.laid_out.placed in
+    let tallied1 = added_tallied q q1 at _ c.insert_reserved-at.ensures.updates c.requires.laid_out.placed.linked unlisted (lists_same q q1 refl) refl c.requires.laid_out.tallied in
     tallied_put q1 c.push_at.new.self at c.args.to placed1 c.push_at.ensures.here c.push_at.ensures.elsewhere c.push_at.ensures.rows c.push_at.ensures.kept.rest tallied1
 
 pub join_armed-requires-clause-placed : goal.join_armed-requires-clause-placed
 join_armed-requires-clause-placed c =
-    counted_placed c.push_at.new.self c.count_in.new.self None c.push_at.ensures.placed c.count_in.ensures.counts.rest c.count_in.ensures.counts.loose c.count_in.ensures.counts.locks
+    counted_placed c.push_at.new.self c.count_in.new.self None c.push_at.ensures.placed c.count_in.ensures.counts.rest c.count_in.ensures.counts.locks
 
 pub join_armed-requires-clause-armed : goal.join_armed-requires-clause-armed
 join_armed-requires-clause-armed c =
@@ -47,8 +47,8 @@ join_armed-requires-clause-armed c =
     let others = c.insert_reserved-at.ensures.updates.others in
     let linked = c.requires.laid_out.placed.linked in
     let unlisted : (p : Place) → ¬ IsIn at (handles_at q p) = λ p. vacant_unlisted queue_links q.locks (list_at q p) (linked p) at c.insert_reserved-at.ensures.was_vacant in
-    let handles1 = updated_handles q q1 at _ c.insert_reserved-at.ensures.updates linked unlisted (lists_same q q1 refl refl) in
-    let handles3 = counted_handles q2 q3 None put.placed counts.rest counts.loose counts.locks in
+    let handles1 = updated_handles q q1 at _ c.insert_reserved-at.ensures.updates linked unlisted (lists_same q q1 refl) in
+    let handles3 = counted_handles q2 q3 None put.placed counts.rest counts.locks in
     armed_but_one q q3 None (Some at) at c.requires.laid_out.armed
     (λ res. vacant_unlisted armed_links q.locks (armed_list q res) (c.requires.laid_out.armed.linked res) at c.insert_reserved-at.ensures.was_vacant)
     (armed_lists q.resources q3.resources
@@ -69,11 +69,11 @@ join_armed-requires-clause-last c =
     let others = c.insert_reserved-at.ensures.updates.others in
     let linked = c.requires.laid_out.placed.linked in
     let unlisted : (p : Place) → ¬ IsIn at (handles_at q p) = λ p. vacant_unlisted queue_links q.locks (list_at q p) (linked p) at c.insert_reserved-at.ensures.was_vacant in
-    let handles1 = updated_handles q q1 at _ c.insert_reserved-at.ensures.updates linked unlisted (lists_same q q1 refl refl) in
-    let handles3 = counted_handles q2 q3 None put.placed counts.rest counts.loose counts.locks in
+    let handles1 = updated_handles q q1 at _ c.insert_reserved-at.ensures.updates linked unlisted (lists_same q q1 refl) in
+    let handles3 = counted_handles q2 q3 None put.placed counts.rest counts.locks in
     added_last q q3 at (λ k differs. ap (λ s. row_in (get s k)) counts.locks ∙ put.rows k ∙ ap row_in (others k differs)) unlisted c.args.to
     (handles3 c.args.to ∙ put.here ∙ ap (λ ks. ks ++ at ∷ []) (handles1 c.args.to)) (λ p differs. handles3 p ∙ put.elsewhere p differs ∙ handles1 p)
-    (counted_placed q2 q3 None put.placed counts.rest counts.loose counts.locks)
+    (counted_placed q2 q3 None put.placed counts.rest counts.locks)
 
 pub returns-clause-laid_out : goal.returns-clause-laid_out
 returns-clause-laid_out c = record {
@@ -90,11 +90,11 @@ returns-clause-here c =
     let counts = c.count_in.ensures.counts in
     let linked = c.requires.laid_out.placed.linked in
     c.join_armed.ensures.places.handles c.args.to
-    ∙ counted_handles c.push_at.new.self c.count_in.new.self None c.push_at.ensures.placed counts.rest counts.loose counts.locks c.args.to
+    ∙ counted_handles c.push_at.new.self c.count_in.new.self None c.push_at.ensures.placed counts.rest counts.locks c.args.to
     ∙ c.push_at.ensures.here
     ∙ ap (λ ks. ks ++ at ∷ [])
     (updated_handles q q1 at _ c.insert_reserved-at.ensures.updates linked (λ p. vacant_unlisted queue_links q.locks (list_at q p) (linked p) at c.insert_reserved-at.ensures.was_vacant)
-    (lists_same q q1 refl refl) c.args.to)
+    (lists_same q q1 refl) c.args.to)
 
 pub returns-clause-elsewhere : goal.returns-clause-elsewhere
 returns-clause-elsewhere c p differs =
@@ -104,10 +104,10 @@ returns-clause-elsewhere c p differs =
     let counts = c.count_in.ensures.counts in
     let linked = c.requires.laid_out.placed.linked in
     c.join_armed.ensures.places.handles p
-    ∙ counted_handles c.push_at.new.self c.count_in.new.self None c.push_at.ensures.placed counts.rest counts.loose counts.locks p
+    ∙ counted_handles c.push_at.new.self c.count_in.new.self None c.push_at.ensures.placed counts.rest counts.locks p
     ∙ c.push_at.ensures.elsewhere p differs
     ∙ updated_handles q q1 at _ c.insert_reserved-at.ensures.updates linked (λ p. vacant_unlisted queue_links q.locks (list_at q p) (linked p) at c.insert_reserved-at.ensures.was_vacant)
-    (lists_same q q1 refl refl) p
+    (lists_same q q1 refl) p
 
 pub returns-clause-lock : goal.returns-clause-lock
 returns-clause-lock c =

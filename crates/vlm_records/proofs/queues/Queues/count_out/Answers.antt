@@ -1,10 +1,10 @@
-use Rattle.std.proofs.Common.{ap, refl, ◌∙◌, arith}
+use Rattle.std.proofs.Common.{ap, refl, arith}
 use Rattle.std.specs.Option.{option_map}
 use Rattle.slab.specs.Slab.{get, with_value}
 use Rattle.vlm_tallies.specs.Tallies.{how_many, weight_of}
 use Rattle.vlm_records.specs.declared.queues.Queues.{Queues}
 use Rattle.vlm_records.specs.Shown.{SameBut, but_tally, tally_in}
-use Rattle.vlm_records.proofs.Counting.{counted_out, loose_weighs, tally_less, weighs_here}
+use Rattle.vlm_records.proofs.Counting.{counted_out, tally_less, weighs_here}
 use Rattle.vlm_records.proofs.OwnLocks.{written_same}
 use Rattle.vlm_records.proofs.Places.{lists_but_tally, noted_stands}
 use Rattle.vlm_records.proofs.Rooms.{room_written}
@@ -13,7 +13,7 @@ use Rattle.vlm_records.proofs.queues.Queues.count_out.Goals as goal
 pub index_mut-requires : goal.index_mut-requires
 index_mut-requires c =
     rw c.slot.ensures
-    (noted_stands c.args.self.now c.args.at c.index.result.now c.in-Queued.res c.in-Queued.queue c.requires.placed c.index.ensures c.in-Queued.is)
+    (noted_stands c.args.self.now c.args.at c.index.result.now c.parts-res.result.0 c.parts-res.result.1 c.requires.placed c.index.ensures c.parts-res.ensures)
 
 pub remove-requires : goal.remove-requires
 remove-requires c count mode =
@@ -21,16 +21,16 @@ remove-requires c count mode =
     (omega (
       arith,
       ap (λ slot. how_many count (tally_in slot) mode) (rw c.slot.ensures at c.index_mut.ensures.value),
-      c.requires.tallied.counts count c.in-Queued.res mode,
-      weighs_here c.args.self.now c.args.self.now c.args.at c.in-Queued.res c.in-Queued.queue c.index.result.now c.requires.placed c.index.ensures c.in-Queued.is
+      c.requires.tallied.counts count c.parts-res.result.0 mode,
+      weighs_here c.args.self.now c.args.self.now c.args.at c.parts-res.result.0 c.parts-res.result.1 c.index.result.now c.requires.placed c.index.ensures c.parts-res.ensures
           (λ p. refl) refl (weight_of count mode),
     ))
 
-pub returns-in-Queued-clause-tallied : goal.returns-in-Queued-clause-tallied
-returns-in-Queued-clause-tallied c =
+pub returns-clause-tallied : goal.returns-clause-tallied
+returns-clause-tallied c =
     let q = c.args.self.now in
-    let res = c.in-Queued.res in
-    let there = noted_stands q c.args.at c.index.result.now res c.in-Queued.queue c.requires.placed c.index.ensures c.in-Queued.is in
+    let res = c.parts-res.result.0 in
+    let there = noted_stands q c.args.at c.index.result.now res c.parts-res.result.1 c.requires.placed c.index.ensures c.parts-res.ensures in
     let was = c.index_mut.result.now in
     let now = record was { tally = c.remove.new.self } in
     let here = rw c.slot.ensures at c.index_mut.ensures.value in
@@ -39,27 +39,20 @@ returns-in-Queued-clause-tallied c =
     rw c.slot.ensures
     (record {
       counts = λ count r mode.
-          counted_out q q' c.args.at res c.in-Queued.queue c.index.result.now c.requires.placed c.index.ensures c.in-Queued.is (lists_but_tally q q' rest refl)
+          counted_out q q' c.args.at res c.parts-res.result.1 c.index.result.now c.requires.placed c.index.ensures c.parts-res.ensures (lists_but_tally q q' rest)
           refl (weight_of count mode) (λ x. how_many count (tally_in (get q.resources x)) mode) (λ x. how_many count (tally_in (get q'.resources x)) mode)
-          (tally_less (λ t. how_many count t mode) q.resources res was now (weight_of count mode c.in-Queued.queue c.index.result.now.row) there here (rw c.row.ensures at c.remove.ensures count mode))
+          (tally_less (λ t. how_many count t mode) q.resources res was now (weight_of count mode c.parts-res.result.1 c.index.result.now.row) there here (rw c.row.ensures at c.remove.ensures count mode))
           (λ x. c.requires.tallied.counts count x mode) r;
     })
 
-pub returns-in-Queued-clause-counts : goal.returns-in-Queued-clause-counts
-returns-in-Queued-clause-counts c = record {
+pub returns-clause-counts : goal.returns-clause-counts
+returns-clause-counts c = record {
   locks = refl;
-  loose = refl;
   rest =
       let was = c.index_mut.result.now in
       written_same c.args.self.now.resources c.slot.result was (record was { tally = c.remove.new.self }) (option_map but_tally) c.index_mut.ensures.value refl;
   resources_room =
       rw c.slot.ensures
-      (room_written c.args.self.now.resources c.in-Queued.res _
-      (noted_stands c.args.self.now c.args.at c.index.result.now c.in-Queued.res c.in-Queued.queue c.requires.placed c.index.ensures c.in-Queued.is));
+      (room_written c.args.self.now.resources c.parts-res.result.0 _
+      (noted_stands c.args.self.now c.args.at c.index.result.now c.parts-res.result.0 c.parts-res.result.1 c.requires.placed c.index.ensures c.parts-res.ensures));
 }
-
-pub returns-in_default-clause-tallied : goal.returns-in_default-clause-tallied
-returns-in_default-clause-tallied c =
-    record {
-      counts = λ count r mode. c.requires.tallied.counts count r mode ∙ loose_weighs c.args.self.now c.args.at c.index.result.now c.requires.placed c.index.ensures c.in_default.is (weight_of count mode) r;
-    }

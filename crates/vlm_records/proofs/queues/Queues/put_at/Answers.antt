@@ -7,7 +7,7 @@ pub push_at-requires-clause-placed : goal.push_at-requires-clause-placed
 push_at-requires-clause-placed c =
     let q1 = c.set_place.new.self in
     let wrote = c.set_place.ensures in
-    noted-placed c.args.self.now q1 c.args.at c.requires.placed wrote.rest wrote.lock.others (lists_same c.args.self.now q1 wrote.lock.resources wrote.lock.loose)
+    noted-placed c.args.self.now q1 c.args.at c.requires.placed wrote.rest wrote.lock.others (lists_same c.args.self.now q1 wrote.lock.resources)
 
 pub push_at-requires-clause-present : goal.push_at-requires-clause-present
 push_at-requires-clause-present c = there_through but_place c.args.self.now.locks c.set_place.new.self.locks c.set_place.ensures.rest c.args.at c.requires.present
@@ -20,14 +20,14 @@ returns-clause-here c =
     let q1 = c.set_place.new.self in
     let wrote = c.set_place.ensures in
     c.push_at.ensures.here
-    ∙ ap (λ ks. ks ++ c.args.at ∷ []) (noted-handles c.args.self.now q1 c.args.at c.requires.placed wrote.rest wrote.lock.others (lists_same c.args.self.now q1 wrote.lock.resources wrote.lock.loose) c.args.place)
+    ∙ ap (λ ks. ks ++ c.args.at ∷ []) (noted-handles c.args.self.now q1 c.args.at c.requires.placed wrote.rest wrote.lock.others (lists_same c.args.self.now q1 wrote.lock.resources) c.args.place)
 
 pub returns-clause-elsewhere : goal.returns-clause-elsewhere
 returns-clause-elsewhere c p differs =
     let q1 = c.set_place.new.self in
     let wrote = c.set_place.ensures in
     c.push_at.ensures.elsewhere p differs
-    ∙ noted-handles c.args.self.now q1 c.args.at c.requires.placed wrote.rest wrote.lock.others (lists_same c.args.self.now q1 wrote.lock.resources wrote.lock.loose) p
+    ∙ noted-handles c.args.self.now q1 c.args.at c.requires.placed wrote.rest wrote.lock.others (lists_same c.args.self.now q1 wrote.lock.resources) p
 
 pub returns-clause-kept : goal.returns-clause-kept
 returns-clause-kept c = record {

@@ -11,7 +11,7 @@ use Rattle.vlm_records.proofs.queues.Queues.recount.Goals as goal
 pub index_mut-requires : goal.index_mut-requires
 index_mut-requires c =
     rw c.slot.ensures
-    (noted_stands c.args.self.now c.args.at c.index.result.now c.in-Queued.res c.in-Queued.queue c.requires.placed c.index.ensures c.in-Queued.is)
+    (noted_stands c.args.self.now c.args.at c.index.result.now c.parts-res.result.0 c.parts-res.result.1 c.requires.placed c.index.ensures c.parts-res.ensures)
 
 pub remove-requires : goal.remove-requires
 remove-requires c count mode =
@@ -19,8 +19,8 @@ remove-requires c count mode =
     (omega (
       arith,
       ap (λ slot. how_many count (tally_in slot) mode) (rw c.slot.ensures at c.index_mut.ensures.value),
-      c.requires.tallied.counts count c.in-Queued.res mode,
-      weighs_here c.args.self.now c.args.self.now c.args.at c.in-Queued.res c.in-Queued.queue c.index.result.now c.requires.placed c.index.ensures c.in-Queued.is
+      c.requires.tallied.counts count c.parts-res.result.0 mode,
+      weighs_here c.args.self.now c.args.self.now c.args.at c.parts-res.result.0 c.parts-res.result.1 c.index.result.now c.requires.placed c.index.ensures c.parts-res.ensures
           (λ p. refl) refl (weight_of count mode),
     ))
 
@@ -30,27 +30,26 @@ add-requires c count mode =
       arith,
       rw c.row.ensures at c.remove.ensures count mode,
       ap (λ slot. how_many count (tally_in slot) mode) (rw c.slot.ensures at c.index_mut.ensures.value),
-      c.requires.tallied.counts count c.in-Queued.res mode,
-      weighs_here c.args.self.now c.args.self.now c.args.at c.in-Queued.res c.in-Queued.queue c.index.result.now c.requires.placed c.index.ensures c.in-Queued.is
+      c.requires.tallied.counts count c.parts-res.result.0 mode,
+      weighs_here c.args.self.now c.args.self.now c.args.at c.parts-res.result.0 c.parts-res.result.1 c.index.result.now c.requires.placed c.index.ensures c.parts-res.ensures
           (λ p. refl) refl (weight_of count mode),
-      shares-room c.args.self.now (weight_of count mode) (weight_of-le count mode) c.args.at c.index.result.now.place c.requires.placed (ap noted_in c.index.ensures) c.in-Queued.res,
+      shares-room c.args.self.now (weight_of count mode) (weight_of-le count mode) c.args.at c.index.result.now.place c.requires.placed (ap noted_in c.index.ensures) c.parts-res.result.0,
     )
 
-pub returns-in-Queued-clause-counts : goal.returns-in-Queued-clause-counts
-returns-in-Queued-clause-counts c = record {
+pub returns-clause-counts : goal.returns-clause-counts
+returns-clause-counts c = record {
   locks = refl;
-  loose = refl;
   rest =
       let was = c.index_mut.result.now in
       written_same c.args.self.now.resources c.slot.result was (record was { tally = c.add.new.self }) (option_map but_tally) c.index_mut.ensures.value refl;
   resources_room =
       rw c.slot.ensures
-      (room_written c.args.self.now.resources c.in-Queued.res _
-      (noted_stands c.args.self.now c.args.at c.index.result.now c.in-Queued.res c.in-Queued.queue c.requires.placed c.index.ensures c.in-Queued.is));
+      (room_written c.args.self.now.resources c.parts-res.result.0 _
+      (noted_stands c.args.self.now c.args.at c.index.result.now c.parts-res.result.0 c.parts-res.result.1 c.requires.placed c.index.ensures c.parts-res.ensures));
 }
 
-pub returns-in-Queued-clause-change : goal.returns-in-Queued-clause-change
-returns-in-Queued-clause-change c =
+pub returns-clause-change : goal.returns-clause-change
+returns-clause-change c =
     rw c.slot.ensures
-    (recounts c.args.self.now c.args.at c.in-Queued.res c.in-Queued.queue c.index.result.now c.index_mut.result.now c.remove.new.self c.add.new.self c.args.row.now c.index.ensures c.in-Queued.is
-    (rw c.slot.ensures at c.index_mut.ensures.value) (rw c.row.ensures at c.remove.ensures) (rw c.row-in-Queued.ensures at c.add.ensures))
+    (recounts c.args.self.now c.args.at c.parts-res.result.0 c.parts-res.result.1 c.index.result.now c.index_mut.result.now c.remove.new.self c.add.new.self c.args.row.now c.index.ensures c.parts-res.ensures
+    (rw c.slot.ensures at c.index_mut.ensures.value) (rw c.row.ensures at c.remove.ensures) (rw c.row-2.ensures at c.add.ensures))

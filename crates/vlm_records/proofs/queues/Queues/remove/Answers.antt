@@ -12,17 +12,17 @@ use Rattle.vlm_records.proofs.queues.Queues.remove.Goals as goal
 
 pub take_off-requires-clause-placed : goal.take_off-requires-clause-placed
 take_off-requires-clause-placed c =
-    counted_placed c.leave_armed.new.self c.count_out.new.self None c.leave_armed.ensures.places.placed c.count_out.ensures.counts.rest c.count_out.ensures.counts.loose c.count_out.ensures.counts.locks
+    counted_placed c.leave_armed.new.self c.count_out.new.self None c.leave_armed.ensures.places.placed c.count_out.ensures.counts.rest c.count_out.ensures.counts.locks
 
 pub returns-clause-handles : goal.returns-clause-handles
 returns-clause-handles c p =
     let q2 = c.take_off.new.self in
     let placed2 = c.take_off.ensures.placed in
     updated_handles q2 (record q2 { locks = c.remove.new.self }) c.args.at None c.remove.ensures.updates placed2.linked (λ x. placed2.gone x c.args.at refl)
-    (lists_same q2 (record q2 { locks = c.remove.new.self }) refl refl) p
+    (lists_same q2 (record q2 { locks = c.remove.new.self }) refl) p
     ∙ c.take_off.ensures.handles p
     ∙ ap (without c.args.at)
-    (counted_handles c.leave_armed.new.self c.count_out.new.self None c.leave_armed.ensures.places.placed c.count_out.ensures.counts.rest c.count_out.ensures.counts.loose c.count_out.ensures.counts.locks p
+    (counted_handles c.leave_armed.new.self c.count_out.new.self None c.leave_armed.ensures.places.placed c.count_out.ensures.counts.rest c.count_out.ensures.counts.locks p
     ∙ c.leave_armed.ensures.places.handles p)
 
 pub returns-clause-given_back : goal.returns-clause-given_back
@@ -35,14 +35,14 @@ returns-clause-laid_out c = record {
   placed =
       let q2 = c.take_off.new.self in
       let placed2 = c.take_off.ensures.placed in
-      removed_placed q2 (record q2 { locks = c.remove.new.self }) c.args.at None c.remove.ensures.updates placed2.linked (λ p. placed2.gone p c.args.at refl) (lists_same q2 (record q2 { locks = c.remove.new.self }) refl refl) refl placed2;
+      removed_placed q2 (record q2 { locks = c.remove.new.self }) c.args.at None c.remove.ensures.updates placed2.linked (λ p. placed2.gone p c.args.at refl) (lists_same q2 (record q2 { locks = c.remove.new.self }) refl) refl placed2;
   tallied =
       let q2 = c.take_off.new.self in
       let placed2 = c.take_off.ensures.placed in
       let tallied2 = tallied_taken c.count_out.new.self q2 c.args.at c.take_off.ensures.handles (rows_relinked c.count_out.new.self.locks q2.locks c.take_off.ensures.relinks)
       c.take_off.ensures.kept.rest c.count_out.ensures.tallied in
       removed_tallied q2 (record q2 { locks = c.remove.new.self }) c.args.at None c.remove.ensures.updates placed2.linked (λ p. placed2.gone p c.args.at refl)
-      (lists_same q2 (record q2 { locks = c.remove.new.self }) refl refl) refl tallied2;
+      (lists_same q2 (record q2 { locks = c.remove.new.self }) refl) refl tallied2;
   armed =
       let q1 = c.leave_armed.new.self in
       let q2 = c.count_out.new.self in
@@ -57,7 +57,7 @@ returns-clause-laid_out c = record {
       (removed_granted q1 q4 c.args.at
       (λ k differs. ap row_in (others k differs) ∙ rows_relinked q2.locks q3.locks c.take_off.ensures.relinks k ∙ ap (λ s. row_in (get s k)) c.count_out.ensures.counts.locks)
       (λ p.
-      updated_handles q3 q4 c.args.at None c.remove.ensures.updates placed3.linked (λ x. placed3.gone x c.args.at refl) (lists_same q3 q4 refl refl) p
+      updated_handles q3 q4 c.args.at None c.remove.ensures.updates placed3.linked (λ x. placed3.gone x c.args.at refl) (lists_same q3 q4 refl) p
       ∙ c.take_off.ensures.handles p
-      ∙ ap (without c.args.at) (counted_handles q1 q2 None c.leave_armed.ensures.places.placed c.count_out.ensures.counts.rest c.count_out.ensures.counts.loose c.count_out.ensures.counts.locks p)));
+      ∙ ap (without c.args.at) (counted_handles q1 q2 None c.leave_armed.ensures.places.placed c.count_out.ensures.counts.rest c.count_out.ensures.counts.locks p)));
 }

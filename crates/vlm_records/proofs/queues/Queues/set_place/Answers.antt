@@ -10,6 +10,5 @@ returns-clause-lock c = record {
   others = search rules;
   kin = written_same c.args.self.now.locks c.args.at c.index_mut.result.now (record c.index_mut.result.now { place = c.args.place }) (option_map but_requeued) c.index_mut.ensures.value refl;
   resources = refl;
-  loose = refl;
   locks_room = room_written c.args.self.now.locks c.args.at _ c.requires;
 }

@@ -48,7 +48,7 @@ move_to-requires-clause-named c =
     let s = c.self.inside in
     let is = rw (← c.self.view_is) at c.requires.lock in
     ap named_row (kin_rows s.queues c.leave_line.new.locks (line_kin s.queues.locks c.leave_line.new.locks c.leave_line.ensures.rest) c.slot-at.result)
-    ∙ rw c.slot-at.ensures (ap named_row (stored_there s.queues s.order (beside_shown s) c.self.invariant.placed c.args.lock is.0 is.1.0).2 ∙ named_same is.0 c.args.row is.1.1)
+    ∙ rw c.slot-at.ensures (ap named_row (stored_there s.queues s.order (beside_shown s) c.self.invariant.placed c.args.lock is.0 is.1.0).2 ∙ named_same is.0 c.args.row.now is.1.1)
 
 pub join_line-requires-clause-line : goal.join_line-requires-clause-line
 join_line-requires-clause-line c =
@@ -127,9 +127,9 @@ returns c =
     let queued = same_then but_queued s.queues.locks q2.locks locks3 (same_then but_queued s.queues.locks locks1 q2.locks (line_queued s.queues.locks locks1 c.leave_line.ensures.rest) moved.kept.kin)
     (line_queued q2.locks locks3 c.join_line.ensures.rest) in
     rw (← c.self.view_is)
-    (lists_changed (tables s.queues s.order (beside_shown s)) (tables q3 s.order (beside_shown (record s { queues = q3; line = c.join_line.new.line }))) (moving c.args.to (record { at = c.args.lock; row = c.args.row }))
+    (lists_changed (tables s.queues s.order (beside_shown s)) (tables q3 s.order (beside_shown (record s { queues = q3; line = c.join_line.new.line }))) (moving c.args.to (record { at = c.args.lock; row = c.args.row.now }))
     (faces_same s.queues.resources q3.resources rest)
-    (moving-under_handle (rows s.queues) (rows q3) (handles_at s.queues) (handles_at q3) c.args.lock c.args.row c.args.to (rows3 c.args.lock ∙ moved.row) (λ k differs. rows3 k ∙ moved.rows k differs ∙ rows1 k)
+    (moving-under_handle (rows s.queues) (rows q3) (handles_at s.queues) (handles_at q3) c.args.lock c.args.row.now c.args.to (rows3 c.args.lock ∙ moved.row) (λ k differs. rows3 k ∙ moved.rows k differs ∙ rows1 k)
     (handles3 c.args.to ∙ moved.here ∙ ap (λ ks. without c.args.lock ks ++ c.args.lock ∷ []) (handles1 c.args.to)) (λ p differs. handles3 p ∙ moved.elsewhere p differs ∙ ap (without c.args.lock) (handles1 p)))
     (order_handles but_queues (λ r. refl) s.queues.resources q3.resources rest s.order kept.linked)
     (queued_processes s.processes s.queues.locks locks3 queued s.process_order kept.owned kept.below)

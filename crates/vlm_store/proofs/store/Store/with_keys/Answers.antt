@@ -22,39 +22,39 @@ use Rattle.vlm_store.proofs.store.Store.with_keys.Goals as goal
 
 pub invariant_of-result : goal.invariant_of-result
 invariant_of-result c =
-    let q : Queues = record { locks = c.new.result; resources = c.new-2.result; loose = c.new-3.result } in
+    let q : Queues = record { locks = c.new.result; resources = c.new-2.result } in
     let no_locks : (k : ℕ) → get q.locks k ≡ None = λ k. rw c.new.ensures.empty refl in
     let no_resources : (r : ℕ) → get q.resources r ≡ None = λ r. rw c.new-2.ensures.empty refl in
-    let no_processes : (p : ℕ) → get c.new-6.result p ≡ None = λ p. rw c.new-6.ensures.empty refl in
+    let no_processes : (p : ℕ) → get c.new-5.result p ≡ None = λ p. rw c.new-5.ensures.empty refl in
     record {
-      placed = empty_placed q no_locks no_resources c.new-3.ensures;
-      tallied = empty_tallied q no_locks no_resources c.new-3.ensures;
-      armed = empty_armed q no_resources (empty_handles q no_locks no_resources c.new-3.ensures);
-      line = empty_line q.locks c.new-4.result c.new-4.ensures no_locks;
-      linked = empty_linked q no_locks no_resources c.new-3.ensures c.new-5.result c.new-5.ensures;
-      ordered = empty_ordered q no_locks no_resources c.new-3.ensures c.new-5.result c.new-5.ensures;
+      placed = empty_placed q no_locks no_resources;
+      tallied = empty_tallied q no_locks no_resources;
+      armed = empty_armed q no_resources (empty_handles q no_locks no_resources);
+      line = empty_line q.locks c.new-3.result c.new-3.ensures no_locks;
+      linked = empty_linked q no_locks no_resources c.new-4.result c.new-4.ensures;
+      ordered = empty_ordered q no_locks no_resources c.new-4.result c.new-4.ensures;
       locks = Indexes-empty (found nat_eq c.with_hasher.result) (lkid_at q) (λ k. ap (lookup (nat_eq k)) c.with_hasher.ensures.empty) (λ at. ap (option_map lkid_of) (no_locks at));
       resources =
-          hashed_empty (hash_key c.args.keys) c.new-9.result (hashed_at q) c.new-9.ensures (λ r. ap (option_map hashed_in) (no_resources r));
-      owned = empty_owned c.new-6.result q.locks no_processes no_locks;
-      below = empty_below c.new-6.result q.locks no_processes no_locks;
-      named = empty_named c.new-6.result q.locks no_processes no_locks;
-      processes_linked = empty_processes_linked c.new-6.result q.locks no_processes no_locks c.new-7.result c.new-7.ensures;
-      processes_ordered = empty_processes_ordered c.new-6.result q.locks no_processes no_locks c.new-7.result c.new-7.ensures;
+          hashed_empty (hash_key c.args.keys) c.new-8.result (hashed_at q) c.new-8.ensures (λ r. ap (option_map hashed_in) (no_resources r));
+      owned = empty_owned c.new-5.result q.locks no_processes no_locks;
+      below = empty_below c.new-5.result q.locks no_processes no_locks;
+      named = empty_named c.new-5.result q.locks no_processes no_locks;
+      processes_linked = empty_processes_linked c.new-5.result q.locks no_processes no_locks c.new-6.result c.new-6.ensures;
+      processes_ordered = empty_processes_ordered c.new-5.result q.locks no_processes no_locks c.new-6.result c.new-6.ensures;
       processes =
-          let none : (p : ℕ) → pid_at c.new-6.result p ≡ None = λ p. ap (option_map pid_of) (no_processes p) in
+          let none : (p : ℕ) → pid_at c.new-5.result p ≡ None = λ p. ap (option_map pid_of) (no_processes p) in
           record {
-            indexes = Indexes-empty (handle_of c.new-10.result) (pid_at c.new-6.result) c.new-10.ensures none;
+            indexes = Indexes-empty (handle_of c.new-9.result) (pid_at c.new-5.result) c.new-9.ensures none;
             room = λ p number is. absurd (none-some number (sym (none p) ∙ is));
           };
-      marked = empty_marked waits_in c.new-6.result c.new-12.result no_processes c.new-12.ensures;
-      living = empty_marked is_of_nodes c.new-6.result c.new-11.result no_processes c.new-11.ensures;
+      marked = empty_marked waits_in c.new-5.result c.new-11.result no_processes c.new-11.ensures;
+      living = empty_marked is_of_nodes c.new-5.result c.new-10.result no_processes c.new-10.ensures;
     }
 
 pub returns : goal.returns
 returns c =
-    let q : Queues = record { locks = c.new.result; resources = c.new-2.result; loose = c.new-3.result } in
+    let q : Queues = record { locks = c.new.result; resources = c.new-2.result } in
     let no_locks : (k : ℕ) → get q.locks k ≡ None = λ k. rw c.new.ensures.empty refl in
-    let no_processes : (p : ℕ) → get c.new-6.result p ≡ None = λ p. rw c.new-6.ensures.empty refl in
-    empty_records q no_locks (λ r. rw c.new-2.ensures.empty refl) c.new-3.ensures c.new-5.result c.new-5.ensures _
-    (empty_processes c.new-6.result q.locks no_processes no_locks c.new-7.result c.new-7.ensures)
+    let no_processes : (p : ℕ) → get c.new-5.result p ≡ None = λ p. rw c.new-5.ensures.empty refl in
+    empty_records q no_locks (λ r. rw c.new-2.ensures.empty refl) c.new-4.result c.new-4.ensures _
+    (empty_processes c.new-5.result q.locks no_processes no_locks c.new-6.result c.new-6.ensures)
