@@ -9,7 +9,7 @@ ghost use Rattle.vlm_cycle.specs.Leading.{IsFirstOn};
 
 use vlm_queue::head;
 use vlm_store::laws::law_records_are_sound;
-use vlm_store::{LockAt, Place, ResAt, Store};
+use vlm_store::{LockAt, ResAt, Store};
 use vlm_words::resources::Queue;
 
 // The first in line on a resource, if a request is queued there.
@@ -32,9 +32,7 @@ pub(crate) fn resource_led(store: &Store, lock: LockAt) -> Option<ResAt>
     ensures first { (res : ℕ) → IsFirstOn store.now lock res → result ≡ Some res }
 {
     law_records_are_sound(store);
-    let Place::Queued(res, _) = store.lock_record(lock).place else {
-        return None;
-    };
+    let (res, _) = store.lock_record(lock).place.parts();
     let first = first_in_line(store, res)?;
     if first == lock {
         return Some(res);

@@ -6,7 +6,7 @@ ghost use Rattle.vlm_cycle.specs.Notes.{IsWanting};
 
 use crate::notes::Part;
 use crate::waiting::{blocks_those_behind, holds_against};
-use vlm_store::{Lock, LockAt, Place, ResAt, Store, StoredRow};
+use vlm_store::{Lock, LockAt, ResAt, Store, StoredRow};
 use vlm_words::flags::EnqFlags;
 use vlm_words::modes::Mode;
 use vlm_words::resources::Queue;
@@ -40,9 +40,7 @@ pub(crate) fn wanting_of(store: &Store, lock: LockAt) -> Option<Wanting>
 {
     let record = store.lock_record(lock);
     let mode = awaited_mode(&record.row)?;
-    let Place::Queued(res, queue) = record.place else {
-        return None;
-    };
+    let (res, queue) = record.place.parts();
     let is_behind_conversions = match queue {
         Queue::Granted => return None,
         Queue::Conversion => false,
